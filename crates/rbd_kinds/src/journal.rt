@@ -1,0 +1,67 @@
+//! What a journal records, and where.
+use crate::bytes::Bytes;
+use crate::id::{ImageId, SiteId};
+use crate::name::Name;
+use crate::sequence::Sequence;
+
+/// One period of ownership in a journal: the site and the image of the journal that drew it, and a
+/// number, one above the last that this journal drew. So no two journals draw one tag.
+#[derive(Clone, Copy, Debug, PartialEq, Eq, Hash)]
+pub struct Tag {
+    pub site: SiteId,
+    pub image: ImageId,
+    pub no: u64,
+}
+
+/// Where an event stands in a journal. Sequence numbers run from 1 without gaps, across the tags.
+#[derive(Clone, Copy, Debug, PartialEq, Eq, Hash)]
+pub struct Position {
+    pub tag: Tag,
+    pub seq: u64,
+}
+
+/// The sequence numbers `first` to `last` of a journal, which bear one tag.
+#[derive(Clone, Copy, Debug, PartialEq, Eq, Hash)]
+pub struct Span {
+    pub tag: Tag,
+    pub first: u64,
+    pub last: u64,
+}
+
+/// Spans in the order of their numbers.
+pub type Spans = Sequence<Span>;
+
+/// Whose commit position a journal keeps.
+#[derive(Clone, Copy, Debug, PartialEq, Eq, Hash)]
+pub enum JournalClient {
+    /// The image's owner.
+    Local,
+    /// The other site's mirror daemon.
+    Mirror,
+}
+
+/// What a journal tells of itself. Positions are sequence numbers.
+#[derive(Debug, Drop)]
+pub struct JournalView {
+    pub spans: Spans,
+    /// The least number whose frame is held, or one more than the end where none is.
+    pub first: u64,
+    /// The commit position of the owner.
+    pub local: u64,
+    /// The commit position of the mirror daemon, once it is registered.
+    pub mirror: Option<u64>,
+    /// How many tags this journal has drawn.
+    pub drawn: u64,
+}
+
+/// A change of an image as its journal records it. Places and lengths are bytes of the image.
+#[derive(Debug, Drop)]
+pub enum Event {
+    Write { at: u64, bytes: Bytes },
+    Discard { at: u64, len: u64 },
+    Resize { size: u64 },
+    SnapCreate { name: Name },
+    SnapRemove { name: Name },
+    SnapRollback { name: Name },
+    Demote,
+}

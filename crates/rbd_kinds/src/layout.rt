@@ -1,0 +1,33 @@
+//! How an image is cut into objects.
+use crate::sequence::Sequence;
+
+/// How an image's bytes are striped over objects (Ceph: RBD striping). `object` and `unit` are bytes,
+/// `count` is objects: a stripe is one unit in each of `count` objects, and `count` objects that are
+/// filled together are an object set.
+#[derive(Clone, Copy, Debug, PartialEq, Eq, Hash)]
+pub struct Layout {
+    /// The object size in bytes.
+    pub object: u64,
+    /// The stripe unit in bytes.
+    pub unit: u64,
+    /// The stripe count in objects.
+    pub count: u32,
+}
+
+/// `len` bytes of an image from the byte `at` on.
+#[derive(Clone, Copy, Debug, PartialEq, Eq, Hash)]
+pub struct Extent {
+    pub at: u64,
+    pub len: u64,
+}
+
+/// `len` bytes that lie together in an object from its byte `offset` on, and in the image from its
+/// byte `at` on.
+#[derive(Clone, Copy, Debug, PartialEq, Eq, Hash)]
+pub struct Part {
+    pub offset: u64,
+    pub at: u64,
+    pub len: u64,
+}
+
+pub type Parts = Sequence<Part>;

@@ -1,0 +1,26 @@
+//! What sessions tell each other about an image.
+use crate::bytes::Bytes;
+use crate::id::{ImageId, Instance, SiteId};
+
+/// What a notification says.
+#[derive(Debug, Drop)]
+pub enum NoticeKind {
+    /// The sender wants the exclusive lock.
+    RequestLock,
+    /// The sender has released the exclusive lock.
+    ReleasedLock,
+    /// What a client had to tell.
+    Custom(Bytes),
+}
+
+/// One notification to one watcher of an image's header. It may come late, never, or several times.
+#[derive(Debug, Drop)]
+pub struct Notice {
+    /// Its number at its site, from 1.
+    pub number: u64,
+    pub to: Instance,
+    pub from: Instance,
+    pub site: SiteId,
+    pub image: ImageId,
+    pub kind: NoticeKind,
+}

@@ -1,0 +1,139 @@
+//! Why a command may be refused.
+ghost use Rattle.std.specs.Prelude.{◌≡◌, ◌++◌, ◌∷◌, codes, decimal, Some};
+ghost use Rattle.rbd_kinds.specs.Refusal.{errno_of, number_of, word_of, refusal_text};
+
+use std::fmt;
+
+/// Why a command is refused. The numbers, words and conditions are this project's own; the errno is
+/// the one that users of `rbd` see. Which refusal comes where is told by the command's rules; where
+/// several hold at one look, they are tried in an order of their own.
+#[derive(Clone, Copy, Debug, PartialEq, Eq, Hash)]
+pub enum Refusal {
+    /// The extent is empty, or ends past the size.
+    BadRange,
+    /// The directory has no such name, or the image is gone.
+    NoImage,
+    /// The directory has the name.
+    ImageExists,
+    /// The header lists no such snapshot.
+    NoSnap,
+    /// The header lists a snapshot of that name.
+    SnapExists,
+    /// A snapshot concerned isn't unprotected; for `protect`, it is protected.
+    SnapProtected,
+    /// For `clone`, the parent's snapshot isn't protected; for `unprotect`, it is unprotected.
+    NotProtected,
+    /// The snapshot has clones.
+    HasChildren,
+    /// The image has snapshots.
+    HasSnaps,
+    /// Another session watches the image.
+    InUse,
+    /// The image isn't primary.
+    NonPrimary,
+    /// The instance is in the site's blocklist.
+    Fenced,
+    /// A layout, or a count of objects, images or snapshots, passes a limit.
+    BadShape,
+    /// The image isn't mirrored.
+    NotMirrored,
+    /// The image is primary.
+    IsPrimary,
+    /// The image wasn't demoted.
+    NotDemoted,
+    /// The parent is the last of the longest chain of clones.
+    TooDeep,
+    /// The image has no journal.
+    NotJournaled,
+    /// The image has no parent.
+    NoParent,
+}
+
+impl Refusal {
+    /// Its number, from 1.
+    pub fn number(self) -> u8
+        ensures { result ≡ number_of self }
+    {
+        match self {
+            Refusal::BadRange => 1,
+            Refusal::NoImage => 2,
+            Refusal::ImageExists => 3,
+            Refusal::NoSnap => 4,
+            Refusal::SnapExists => 5,
+            Refusal::SnapProtected => 6,
+            Refusal::NotProtected => 7,
+            Refusal::HasChildren => 8,
+            Refusal::HasSnaps => 9,
+            Refusal::InUse => 10,
+            Refusal::NonPrimary => 11,
+            Refusal::Fenced => 12,
+            Refusal::BadShape => 13,
+            Refusal::NotMirrored => 14,
+            Refusal::IsPrimary => 15,
+            Refusal::NotDemoted => 16,
+            Refusal::TooDeep => 17,
+            Refusal::NotJournaled => 18,
+            Refusal::NoParent => 19,
+        }
+    }
+
+    /// The errno that users of `rbd` see.
+    pub fn errno(self) -> u8
+        ensures { result ≡ errno_of self }
+    {
+        match self {
+            Refusal::NoImage | Refusal::NoSnap => 2,
+            Refusal::SnapProtected | Refusal::HasChildren | Refusal::InUse | Refusal::NotDemoted =>
+                16,
+            Refusal::ImageExists | Refusal::SnapExists => 17,
+            Refusal::NonPrimary => 30,
+            Refusal::HasSnaps => 39,
+            Refusal::Fenced => 108,
+            Refusal::BadRange
+            | Refusal::NotProtected
+            | Refusal::BadShape
+            | Refusal::NotMirrored
+            | Refusal::IsPrimary
+            | Refusal::TooDeep
+            | Refusal::NotJournaled
+            | Refusal::NoParent => 22,
+        }
+    }
+
+    /// Its word.
+    pub fn word(self) -> &'static str
+        ensures { result.now ≡ word_of self }
+    {
+        match self {
+            Refusal::BadRange => "BadRange",
+            Refusal::NoImage => "NoImage",
+            Refusal::ImageExists => "ImageExists",
+            Refusal::NoSnap => "NoSnap",
+            Refusal::SnapExists => "SnapExists",
+            Refusal::SnapProtected => "SnapProtected",
+            Refusal::NotProtected => "NotProtected",
+            Refusal::HasChildren => "HasChildren",
+            Refusal::HasSnaps => "HasSnaps",
+            Refusal::InUse => "InUse",
+            Refusal::NonPrimary => "NonPrimary",
+            Refusal::Fenced => "Fenced",
+            Refusal::BadShape => "BadShape",
+            Refusal::NotMirrored => "NotMirrored",
+            Refusal::IsPrimary => "IsPrimary",
+            Refusal::NotDemoted => "NotDemoted",
+            Refusal::TooDeep => "TooDeep",
+            Refusal::NotJournaled => "NotJournaled",
+            Refusal::NoParent => "NoParent",
+        }
+    }
+}
+
+/// As it is printed: `error 22 BadRange`.
+impl fmt::Display for Refusal {
+    ghost output = { λ r. Some (refusal_text r) };
+
+    fn fmt<W: fmt::Write>(&self, f: &mut fmt::Formatter<W>) -> fmt::Result {
+        let (errno, word) = (self.errno(), self.word());
+        write!(f, "error {errno} {word}")
+    }
+}
