@@ -1,0 +1,4 @@
+pub mod Payload
+pub mod Reading
+pub mod SessionName
+pub mod Tokens
