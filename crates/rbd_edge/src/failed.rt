@@ -1,0 +1,14 @@
+use std::error::Error;
+use std::fmt;
+
+/// A read or a write failed outside of the program, and was not done. The device has counted it.
+#[derive(Clone, Copy, Debug, PartialEq, Eq, Hash)]
+pub struct Failed;
+
+impl fmt::Display for Failed {
+    fn fmt<W: fmt::Write>(&self, f: &mut fmt::Formatter<W>) -> fmt::Result {
+        f.write_str("a read or a write failed")
+    }
+}
+
+impl Error for Failed {}
