@@ -8,7 +8,16 @@
 mod effect;
 mod entry;
 mod extents;
+mod fault;
+mod image;
+pub mod laws;
+mod paint;
+mod site;
+#[cfg(test)]
+mod tests;
 
 pub use effect::Effect;
 pub use entry::{Cause, Entry};
 pub use extents::Extents;
+pub use fault::FlatFault;
+pub use site::FlatSite;

@@ -1,0 +1,7 @@
+pub mod Painted
+pub mod Images
+pub mod Steps
+pub mod Parts
+pub mod Maps
+pub mod SiteSteps
+pub mod Shown

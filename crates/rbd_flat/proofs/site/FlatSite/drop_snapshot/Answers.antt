@@ -1,0 +1,23 @@
+use Rattle.std.proofs.Common.{is_some, ap, sym, not, eqb}
+use Rattle.std.specs.List.{filter}
+use Rattle.rbd_flat.specs.Flat.{FlatImage, FlatSnap, painted, places_of, resized, with_status}
+use Rattle.rbd_flat.proofs.SiteSteps.{image_written, image_missing}
+use Rattle.rbd_flat.proofs.site.FlatSite.drop_snapshot.Goals as goal
+
+pub returns-in_default : goal.returns-in_default
+returns-in_default c =
+    let there = c.self.inside.images in
+    let now = c.get_mut.follows.lender-at-none in
+    image_missing c.self.inside.names.entries there.entries now.entries c.self.inside.links.keys c.args.image
+    (λ i. record i { snaps = filter (λ s. not (eqb s.id c.args.snap)) i.snaps })
+    (sym c.in_default.ensures.value) (ap (λ m. m.entries) c.get_mut.follows.holds-at-none) c.args.self.now c.self.view_is
+
+pub returns : goal.returns
+returns c =
+    let there = c.self.inside.images in
+    let made = c.drop_snapshot.new.self in
+    let now = c.get_mut.follows.lender made in
+    image_written c.self.inside.names.entries there.entries now.entries c.self.inside.links.keys c.args.image c.in-Some.found.now made
+    (λ i. record i { snaps = filter (λ s. not (eqb s.id c.args.snap)) i.snaps })
+    (sym c.in-Some.ensures.value) c.drop_snapshot.ensures
+    ((c.get_mut.follows.holds made).3 (ap is_some (sym c.in-Some.ensures.value))).0 c.args.self.now c.self.view_is

@@ -1,0 +1,22 @@
+use Rattle.std.proofs.Common.{is_some, ap, sym, map}
+use Rattle.rbd_flat.specs.Flat.{FlatImage, FlatSnap, painted, places_of, resized, with_status}
+use Rattle.rbd_flat.proofs.SiteSteps.{image_written, image_missing}
+use Rattle.rbd_flat.proofs.site.FlatSite.mark_snapshot.Goals as goal
+
+pub returns-in_default : goal.returns-in_default
+returns-in_default c =
+    let there = c.self.inside.images in
+    let now = c.get_mut.follows.lender-at-none in
+    image_missing c.self.inside.names.entries there.entries now.entries c.self.inside.links.keys c.args.image
+    (λ i. record i { snaps = map (with_status c.args.snap c.args.status) i.snaps })
+    (sym c.in_default.ensures.value) (ap (λ m. m.entries) c.get_mut.follows.holds-at-none) c.args.self.now c.self.view_is
+
+pub returns : goal.returns
+returns c =
+    let there = c.self.inside.images in
+    let made = c.mark_snapshot.new.self in
+    let now = c.get_mut.follows.lender made in
+    image_written c.self.inside.names.entries there.entries now.entries c.self.inside.links.keys c.args.image c.in-Some.found.now made
+    (λ i. record i { snaps = map (with_status c.args.snap c.args.status) i.snaps })
+    (sym c.in-Some.ensures.value) c.mark_snapshot.ensures
+    ((c.get_mut.follows.holds made).3 (ap is_some (sym c.in-Some.ensures.value))).0 c.args.self.now c.self.view_is

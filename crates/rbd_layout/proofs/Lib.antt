@@ -1,0 +1,9 @@
+pub mod Mixed
+pub mod Powers
+pub mod Limits
+pub mod Places
+pub mod Cover
+pub mod Walk
+pub mod Gather
+pub mod Unique
+pub mod Derived

@@ -1,0 +1,9 @@
+use Rattle.rbd_layout.proofs.Derived.{pieces_cover}
+use Rattle.rbd_layout.proofs.Unique.{pieces_once}
+use Rattle.rbd_layout.proofs.laws.pieces_are_the_bytes.Goals as goal
+
+pub returns-clause-cover : goal.returns-clause-cover
+returns-clause-cover c = pieces_cover
+
+pub returns-clause-once : goal.returns-clause-once
+returns-clause-once c = pieces_once
