@@ -1,0 +1,5 @@
+pub mod ContentsLemmas
+pub mod KeptLemmas
+pub mod MappedLemmas
+pub mod SoundLemmas
+pub mod StepLemmas

@@ -1,0 +1,117 @@
+//! The bytes of a head or of a version.
+ghost use Rattle.std.specs.Prelude.{◌≡◌, ℕ, ◌+◌, ◌≤◌, [], List, length, IfOk, OnOk, OnErr};
+ghost use Rattle.rbd_object.specs.Contents.{window, overwritten, zeroed};
+
+use rbd_kinds::NoMemory;
+use std::alloc::Global;
+use std::marker::Model;
+
+/// The greatest size of an object in bytes (Ceph: 32 MiB for RBD's objects).
+pub const LARGEST_OBJECT: u64 = 33_554_432;
+
+/// Bytes that an object holds, seen by contracts as the list of them. They are changed in place.
+#[derive(Debug, Drop)]
+pub struct Content {
+    bytes: Vec<u8>,
+}
+
+impl Model for Content {
+    ghost Value = { List ℕ };
+
+    ghost view = { λ c. c.bytes.items };
+}
+
+impl Content {
+    /// No bytes. It takes no memory.
+    pub fn new(alloc: Global) -> Self
+        ensures { result ≡ [] }
+    {
+        Content {
+            bytes: Vec::new(alloc),
+        }
+    }
+
+    pub fn from_slice(alloc: Global, bytes: &[u8]) -> Result<Self, NoMemory>
+        ensures { IfOk result (λ copy. copy ≡ bytes.now) }
+    {
+        Ok(Content {
+            bytes: Vec::from_slice(alloc, bytes)?,
+        })
+    }
+
+    pub fn try_clone(&self) -> Result<Self, NoMemory>
+        ensures { IfOk result (λ copy. copy ≡ self.now) }
+    {
+        Ok(Content {
+            bytes: self.bytes.clone()?,
+        })
+    }
+
+    /// Fills a buffer with the bytes from offset `at` on, and with zeros past the last.
+    pub fn read(&self, at: u64, into: &mut [u8])
+        ensures { into.new ≡ window self.now at (length into.old) }
+    {
+        copy_window(self.bytes.as_slice(), at as usize, into);
+    }
+
+    /// Writes bytes from offset `at` on. Where that is past the end, there are zeros between.
+    pub fn overwrite(&mut self, at: u64, bytes: &[u8]) -> Result<(), NoMemory>
+        requires { at + length bytes.now ≤ LARGEST_OBJECT }
+        ensures ok { OnOk result (self.new ≡ overwritten self.old at bytes.now) }
+        ensures err { OnErr result (self.new ≡ self.old) }
+    {
+        self.lengthen(at as usize + bytes.len())?;
+        self.put(at as usize, bytes);
+        Ok(())
+    }
+
+    /// Adds zeros at the end until there are `len` bytes.
+    fn lengthen(&mut self, len: usize) -> Result<(), NoMemory>
+        ensures ok { OnOk result (self.new ≡ overwritten self.old len []) }
+        ensures err { OnErr result (self.new ≡ self.old) }
+    {
+        if self.bytes.len() < len {
+            self.bytes.resize(len, 0)?;
+        }
+        Ok(())
+    }
+
+    fn put(&mut self, at: usize, bytes: &[u8])
+        requires { at + length bytes.now ≤ length self.old }
+        ensures { self.new ≡ overwritten self.old at bytes.now }
+    {
+        copy_over(self.bytes.as_mut_slice(), at, bytes);
+    }
+
+    /// Makes `len` bytes from offset `at` on zero, as far as there are bytes.
+    pub fn zero(&mut self, at: u64, len: u64)
+        ensures { self.new ≡ zeroed self.old at len }
+    {
+        clear(self.bytes.as_mut_slice(), at as usize, len as usize);
+    }
+}
+
+fn copy_window(bytes: &[u8], at: usize, into: &mut [u8])
+    ensures { into.new ≡ window bytes.now at (length into.old) }
+{
+    let held = &bytes[at.min(bytes.len())..];
+    let count = held.len().min(into.len());
+    let (front, past) = into.split_at_mut(count);
+    front.copy_from_slice(&held[..count]);
+    past.fill(0);
+}
+
+fn copy_over(bytes: &mut [u8], at: usize, new: &[u8])
+    requires { at + length new.now ≤ length bytes.old }
+    ensures { bytes.new ≡ overwritten bytes.old at new.now }
+{
+    bytes[at..at + new.len()].copy_from_slice(new);
+}
+
+fn clear(bytes: &mut [u8], at: usize, len: usize)
+    ensures { bytes.new ≡ zeroed bytes.old at len }
+{
+    let from = at.min(bytes.len());
+    let count = len.min(bytes.len() - from);
+    bytes[from..from + count].fill(0);
+}

@@ -1,0 +1,58 @@
+//! Objects with self-managed snapshots, as RADOS has them: the object remembers what it was for each
+//! snapshot that it was told of, and each change says which snapshots there are.
+//!
+//! ```text
+//! let mut object = Object::new(alloc);                 // the head is absent, and its number `seq` is 0
+//! object.write(&context(0, []), 0, b"old")?;
+//! object.write(&context(1, [1]), 0, b"new")?;          // snapshot 1 was taken between
+//! object.read(None, 0, &mut buffer)                    // new
+//! object.read(Some(SnapId(1)), 0, &mut buffer)         // old
+//! object.trim(&[]);                                    // snapshot 1 was removed: it shows nothing
+//! ```
+//!
+//! # Rules
+//!
+//! Ceph: RADOS self-managed snapshots. A change carries a context: a number, and the snapshots that exist.
+//!
+//! 1. The head as it was is kept for each listed snapshot above `seq` and up to the number. An absent
+//!    head is not kept.
+//! 2. `seq` becomes the greater of `seq` and the number.
+//! 3. The head is changed.
+//!
+//! A snapshot above `seq` shows the head, any other what is kept for it, and is absent where that is
+//! nothing. A copy-up carries no context: it fills an absent head, and each snapshot above `seq` with it
+//! (own; Ceph: RBD layering). Past its last byte an object reads as zeros.
+//!
+//! # Contracts
+//!
+//! Contracts see an [`Object`] as a value with `head`, `seq` and `kept`, a finite map from snapshots to
+//! bytes. Each change says what the whole value becomes, and that it stays where memory is refused. What
+//! that means for each view is said once, in [`laws`], of versioned objects, whose `kept` is a function:
+//! the value stands for one (`looked`), and both change alike. The first law to read is
+//! [`laws::views_of_snapshots_stay`].
+//!
+//! # Cost
+//!
+//! A write costs the bytes that it writes and the gap before them. The first change after a snapshot adds
+//! the object's length where the head stays in place (`write`, `zero`), and nothing where it is replaced
+//! (`write_full`, `empty`, `remove`): the old head moves into the version. A context whose number isn't
+//! above `seq` costs nothing. A read copies into the caller's buffer alone; that of a snapshot looks
+//! through the versions first, newest first. A trim looks at each snapshot that something is kept for.
+//!
+//! # How it works
+//!
+//! The head is a vector of bytes, changed in place. Beside it stands a queue of versions, newest first:
+//! bytes that the head once had, and the snapshots that they are kept for. No version is left that no
+//! snapshot needs.
+#![tactic(auto)]
+
+mod content;
+pub mod laws;
+mod object;
+#[cfg(test)]
+mod tests;
+mod version;
+mod versions;
+
+pub use content::LARGEST_OBJECT;
+pub use object::Object;
