@@ -1,4 +1,8 @@
+pub mod ObjectMap
 pub mod Payload
+pub mod Pieces
+pub mod Put
 pub mod Reading
 pub mod SessionName
+pub mod Standing
 pub mod Tokens

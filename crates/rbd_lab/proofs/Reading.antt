@@ -44,10 +44,10 @@ onto_some b (p ∷ parts) = (b ∷ p, parts, refl)
 some_line : (text : List ℕ) → (first : List ℕ) × (more : List (List ℕ)) × (lines_of text ≡ first ∷ more)
 some_line [] = ([], [], refl)
 some_line (b ∷ text) = go (eqb b 10) refl
-    where
-  go : (t : Bool) → eqb b 10 ≡ t → (first : List ℕ) × (more : List (List ℕ)) × (lines_of (b ∷ text) ≡ first ∷ more)
-  go true is = ([], lines_of text, rw is refl)
-  go false is = let p = onto_some b (lines_of text) in (p.0, p.1, rw is p.2)
+  where
+    go : (t : Bool) → eqb b 10 ≡ t → (first : List ℕ) × (more : List (List ℕ)) × (lines_of (b ∷ text) ≡ first ∷ more)
+    go true is = ([], lines_of text, rw is refl)
+    go false is = let p = onto_some b (lines_of text) in (p.0, p.1, rw is p.2)
 
 pub whole_lines : (line text rest : List ℕ) → lines_of text ≡ line ∷ lines_of rest → without_last (lines_of text) ≡ line ∷ without_last (lines_of rest)
 whole_lines line text rest is =

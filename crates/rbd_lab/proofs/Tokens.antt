@@ -24,11 +24,12 @@ blanks_at line i within before here =
 pub place_at : (wanted : ℕ) (text : List ℕ) (i : ℕ) → i ≤ length text → ((k : ℕ) → k < i → get_or text k 0 ≢ wanted) → (i < length text → get_or text i 0 ≡ wanted) → i ≡ position_or_len (λ b. eqb b wanted) text
 place_at wanted text i within before here =
     sym (position_or_len_is (λ b. eqb b wanted) text i 0 within (λ k h. differs _ wanted (before k h)) (λ h. same _ wanted (here h)))
-    where
-  same : (a b : ℕ) → a ≡ b → eqb a b ≡ true
-  same a b e = grind arith
-  differs : (a b : ℕ) → a ≢ b → eqb a b ≡ false
-  differs a b ne = grind arith
+  where
+    same : (a b : ℕ) → a ≡ b → eqb a b ≡ true
+    same a b e = grind arith
+
+    differs : (a b : ℕ) → a ≢ b → eqb a b ≡ false
+    differs a b ne = grind arith
 
 one_more : (n : ℕ) → 1 + n ≡ suc n
 one_more n = omega arith

@@ -2,5 +2,7 @@
 #![tactic(auto)]
 
 mod script;
+mod store;
+mod text;
 
 fn main() {}

@@ -18,8 +18,8 @@ mod command;
 mod line;
 mod lines;
 mod number;
-mod place;
 mod payload;
+mod place;
 mod session;
 mod token;
 

@@ -28,11 +28,11 @@ returns-in_err-take_line-clause-fault c =
     let whole = whole_lines line c.loop-line.rest.now behind all in
     let p = err_from_is_err_and c.from_residual.result c.from_residual.ensures.1 in
     rw (p.1, p.2) (at_line_weaker
-      (λ number. Stops (lines_of c.args.text.now) no_lines number × Stops (without_last (lines_of c.args.text.now)) no_lines number)
-      (λ number. ((t : Script) → ¬ (Adds line c.loop-line.script t)) × (number ≡ c.loop-line.script.lines + 1))
-      (λ number stops. (
-        stops_here line (lines_of behind) _ c.loop-line.script number (rw all at c.loop-line.invariant.all) stops.0 stops.1,
-        stops_here line (without_last (lines_of behind)) _ c.loop-line.script number (rw whole at c.loop-line.invariant.whole) stops.0 stops.1,
-      ))
-      c.in_err-take_line.field-0.0
-      c.in_err-take_line.ensures.fault)
+    (λ number. Stops (lines_of c.args.text.now) no_lines number × Stops (without_last (lines_of c.args.text.now)) no_lines number)
+    (λ number. ((t : Script) → ¬ (Adds line c.loop-line.script t)) × (number ≡ c.loop-line.script.lines + 1))
+    (λ number stops. (
+      stops_here line (lines_of behind) _ c.loop-line.script number (rw all at c.loop-line.invariant.all) stops.0 stops.1,
+      stops_here line (without_last (lines_of behind)) _ c.loop-line.script number (rw whole at c.loop-line.invariant.whole) stops.0 stops.1,
+    ))
+    c.in_err-take_line.field-0.0
+    c.in_err-take_line.ensures.fault)
