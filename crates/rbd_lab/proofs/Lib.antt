@@ -1,8 +1,11 @@
 pub mod ObjectMap
 pub mod Payload
 pub mod Pieces
+pub mod Played
 pub mod Put
 pub mod Reading
 pub mod SessionName
 pub mod Standing
 pub mod Tokens
+pub mod OneWord
+pub mod Taken

@@ -5,3 +5,4 @@ pub mod Objects
 pub mod ScriptFault
 pub mod Store
 pub mod Text
+pub mod Run

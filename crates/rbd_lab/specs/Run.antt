@@ -1,0 +1,85 @@
+-- What a run of the program answers, and what it leaves.
+use Rattle.std.specs.Prelude.{◌≡◌, ◌≢◌, ◌⊎◌, ◌↔◌, ℕ, ◌+◌, List, [], ◌∷◌, drop, codes, Option, Some, IfSome}
+use Rattle.rbd_edge.specs.Sink.{held_with, GainsFront}
+use Rattle.rbd_lab.specs.Grammar.{IsFaulty, IsScript}
+use Rattle.rbd_lab.specs.Text.{fault_text, output_of, usage_text}
+use Rattle.rbd_lab.specs.declared.run.Status.{Status}
+use Rattle.rbd_lab.specs.declared.run.Status.TheVariants.{Done, Usage, BadLine, ReadFault, WriteFault, NoMemory}
+use Rattle.rbd_lab.specs.declared.script.Script.{Script}
+use Rattle.rbd_lab.specs.declared.script.TheConstants.{SCRIPT_LIMIT}
+
+-- the one list of words that is built
+abbrev pub AreRun : List (List ℕ) → Type 0
+AreRun words = words ≡ codes "run" ∷ []
+
+-- the bytes are a script, and the text has each command's reply over the flat site that the commands before it left
+pub record IsOutput (bytes text : List ℕ) : Type 0 where
+  pub script : Script
+  pub is_script : IsScript bytes script
+  pub output : text ≡ output_of script
+
+-- the bytes are no script, and the text tells the first line that doesn't fit
+pub record IsComplaint (bytes text : List ℕ) : Type 0 where
+  pub line : ℕ
+  pub faulty : IsFaulty bytes line
+  pub output : text ≡ fault_text line
+
+-- what is to be printed for these bytes, and the status that goes with it
+abbrev pub Answers : (bytes : List ℕ) → Status → (text : List ℕ) → Type 0
+Answers bytes Done text = IsOutput bytes text
+Answers bytes BadLine text = IsComplaint bytes text
+Answers bytes Usage text = ⊥
+Answers bytes ReadFault text = ⊥
+Answers bytes WriteFault text = ⊥
+Answers bytes NoMemory text = ⊥
+
+-- what is to be printed for these words and bytes
+abbrev pub IsText : (words : List (List ℕ)) → (bytes text : List ℕ) → Type 0
+IsText words bytes text = (¬ (AreRun words) × (text ≡ usage_text)) ⊎ (AreRun words × (IsOutput bytes text ⊎ IsComplaint bytes text))
+
+-- a text of which this holds was printed, whole or a first part of it
+abbrev pub Prints : (List ℕ → Type 0) → Option (List ℕ) → Option (List ℕ) → Type 0
+Prints P old new = (text : List ℕ) × P text × (new ≡ held_with text old)
+
+abbrev pub PrintsFront : (List ℕ → Type 0) → Option (List ℕ) → Option (List ℕ) → Type 0
+PrintsFront P old new = (text : List ℕ) × P text × GainsFront text old new
+
+-- The ends of a run. `left` and `held` are what the source has left and the sink holds before it, where they
+-- tell, and `left'` and `held'` after it.
+
+-- The source was read to its end, its bytes are a script, and its output was printed.
+abbrev pub IsDone : (words : List (List ℕ)) → (left left' held held' : Option (List ℕ)) → Type 0
+IsDone words left left' held held' = AreRun words × IfSome left (λ bytes. Prints (IsOutput bytes) held held' × (left' ≡ Some []))
+
+-- The source was read to its end or one byte past the limit, and the first line that doesn't fit was printed.
+abbrev pub IsBadLine : (words : List (List ℕ)) → (left left' held held' : Option (List ℕ)) → Type 0
+IsBadLine words left left' held held' = AreRun words × IfSome left (λ bytes. Prints (IsComplaint bytes) held held' × (left' ≡ Some (drop (SCRIPT_LIMIT + 1) bytes)))
+
+-- The words are others, and the usage line was printed.
+abbrev pub IsUsage : (words : List (List ℕ)) → (held held' : Option (List ℕ)) → Type 0
+IsUsage words held held' = ¬ (AreRun words) × (held' ≡ held_with usage_text held)
+
+-- The source is left as it was, and the usage line was printed or begun.
+abbrev pub IsForOthers : {S : Type 0} → (words : List (List ℕ)) → Status → (old new : S) → Type 0
+IsForOthers words status old new = ¬ (AreRun words) → ((status ≡ Usage) ⊎ (status ≡ WriteFault)) × (new ≡ old)
+
+-- The sink has some first part of what was to be printed, and not all of it.
+abbrev pub IsCut : (words : List (List ℕ)) → (left held held' : Option (List ℕ)) → Type 0
+IsCut words left held held' = IfSome left (λ bytes. PrintsFront (IsText words bytes) held held')
+
+-- The script was asked for, and nothing was printed.
+abbrev pub IsSilent : (words : List (List ℕ)) → (held held' : Option (List ℕ)) → Type 0
+IsSilent words held held' = AreRun words × (held' ≡ held)
+
+-- the status tells whether a count of faults rose
+abbrev pub Tells : Status → Status → (faults faults' : ℕ) → Type 0
+Tells fault status faults faults' = ((status ≡ fault) ↔ (faults' ≡ faults + 1)) × (status ≢ fault → faults' ≡ faults)
+
+-- the exit statuses
+abbrev pub code_of : Status → ℕ
+code_of Done = 0
+code_of Usage = 1
+code_of BadLine = 2
+code_of ReadFault = 3
+code_of WriteFault = 4
+code_of NoMemory = 5

@@ -1,0 +1,160 @@
+//! The top call.
+ghost use Rattle.std.specs.Prelude.{◌≡◌, ◌≢◌, [], drop, Some, ◌+◌, ◌-◌, ◌^◌, ◌<◌, ◌≤◌, ◌⊎◌, ◌↔◌, List, ℕ, codes, length, map, take, IsTrue, IfOk, IfSome};
+ghost use Rattle.std.specs.String.{string_bytes};
+ghost use Rattle.rbd_edge.specs.Sink.{held_with, GainsFront};
+ghost use Rattle.rbd_lab.specs.Run.{Answers, AreRun, IsBadLine, IsCut, IsDone, IsForOthers, IsSilent, IsUsage, Tells, code_of};
+
+use crate::play::play;
+use crate::script;
+use crate::script::{SCRIPT_LIMIT, ScriptFault};
+use crate::text::{USAGE, fault_line};
+use rbd_edge::{ReadFault, Sink, Source, read_to, write_all};
+use rbd_kinds::NoMemory;
+use std::alloc::Global;
+use std::sync::Wait;
+use std::thread::Threads;
+
+/// How a run ended.
+#[derive(Clone, Copy, Debug, PartialEq, Eq, Hash)]
+pub enum Status {
+    /// The script was played, and each command's reply is printed.
+    Done,
+    /// The words aren't understood. The usage line is printed.
+    Usage,
+    /// A line of the script doesn't fit. The first is printed, and nothing was played.
+    BadLine,
+    /// The script's source failed. Nothing is printed.
+    ReadFault,
+    /// The sink failed. It has some first part of what was to be printed.
+    WriteFault,
+    /// A growth of memory was refused. Nothing is printed.
+    NoMemory,
+}
+
+impl Status {
+    /// The exit status.
+    pub fn code(self) -> u8
+        ensures { result ≡ code_of self }
+    {
+        match self {
+            Status::Done => 0,
+            Status::Usage => 1,
+            Status::BadLine => 2,
+            Status::ReadFault => 3,
+            Status::WriteFault => 4,
+            Status::NoMemory => 5,
+        }
+    }
+}
+
+/// Whether the words are the one word `run`.
+fn are_run(words: &[String]) -> bool
+    ensures { IsTrue result ↔ AreRun (map (λ w. string_bytes w) words.now) }
+{
+    match words {
+        [word] => is_run(word),
+        _ => false,
+    }
+}
+
+fn is_run(word: &String) -> bool
+    ensures { IsTrue result ↔ (string_bytes word.now ≡ codes "run") }
+{
+    word.as_str() == "run"
+}
+
+/// Runs the program, as [`run_alone`] does. It may start threads and wait for them; no words that are
+/// built do.
+pub fn run<R: Threads + Wait + Sync, S: Source, K: Sink>(
+    _rt: &R,
+    alloc: Global,
+    words: &[String],
+    source: &mut S,
+    sink: &mut K,
+) -> Status
+    requires source_countable { S.faults source.old < 2 ^ 64 - 1 }
+    requires sink_countable { K.faults sink.old < 2 ^ 64 - 1 }
+
+    // What is printed, and what is read.
+    ensures done { result ≡ Status.Done → IsDone (map (λ w. string_bytes w) words.now) (S.left source.old) (S.left source.new) (K.held sink.old) (K.held sink.new) }
+    ensures bad_line { result ≡ Status.BadLine → IsBadLine (map (λ w. string_bytes w) words.now) (S.left source.old) (S.left source.new) (K.held sink.old) (K.held sink.new) }
+    ensures usage { result ≡ Status.Usage → IsUsage (map (λ w. string_bytes w) words.now) (K.held sink.old) (K.held sink.new) }
+    ensures other_words { IsForOthers (map (λ w. string_bytes w) words.now) result source.old source.new }
+
+    // The faults come exactly where a device counted one.
+    ensures read_fault { Tells Status.ReadFault result (S.faults source.old) (S.faults source.new) }
+    ensures write_fault { Tells Status.WriteFault result (K.faults sink.old) (K.faults sink.new) }
+
+    // What these and the want of memory leave.
+    ensures unread { result ≡ Status.ReadFault → IsSilent (map (λ w. string_bytes w) words.now) (K.held sink.old) (K.held sink.new) }
+    ensures cut { result ≡ Status.WriteFault → IsCut (map (λ w. string_bytes w) words.now) (S.left source.old) (K.held sink.old) (K.held sink.new) }
+    ensures no_memory { result ≡ Status.NoMemory → IsSilent (map (λ w. string_bytes w) words.now) (K.held sink.old) (K.held sink.new) }
+{
+    run_alone(alloc, words, source, sink)
+}
+
+/// Runs the program: the words without the program's name, a source that has the script, and a sink for
+/// all that is printed.
+///
+/// The script is read to its end, or to one byte past the limit, before it is judged; a script that isn't
+/// one plays nothing. What is printed is whole before printing begins.
+pub fn run_alone<S: Source, K: Sink>(
+    alloc: Global,
+    words: &[String],
+    source: &mut S,
+    sink: &mut K,
+) -> Status
+    requires source_countable { S.faults source.old < 2 ^ 64 - 1 }
+    requires sink_countable { K.faults sink.old < 2 ^ 64 - 1 }
+
+    // What is printed, and what is read.
+    ensures done { result ≡ Status.Done → IsDone (map (λ w. string_bytes w) words.now) (S.left source.old) (S.left source.new) (K.held sink.old) (K.held sink.new) }
+    ensures bad_line { result ≡ Status.BadLine → IsBadLine (map (λ w. string_bytes w) words.now) (S.left source.old) (S.left source.new) (K.held sink.old) (K.held sink.new) }
+    ensures usage { result ≡ Status.Usage → IsUsage (map (λ w. string_bytes w) words.now) (K.held sink.old) (K.held sink.new) }
+    ensures other_words { IsForOthers (map (λ w. string_bytes w) words.now) result source.old source.new }
+
+    // The faults come exactly where a device counted one.
+    ensures read_fault { Tells Status.ReadFault result (S.faults source.old) (S.faults source.new) }
+    ensures write_fault { Tells Status.WriteFault result (K.faults sink.old) (K.faults sink.new) }
+
+    // What these and the want of memory leave.
+    ensures unread { result ≡ Status.ReadFault → IsSilent (map (λ w. string_bytes w) words.now) (K.held sink.old) (K.held sink.new) }
+    ensures cut { result ≡ Status.WriteFault → IsCut (map (λ w. string_bytes w) words.now) (S.left source.old) (K.held sink.old) (K.held sink.new) }
+    ensures no_memory { result ≡ Status.NoMemory → IsSilent (map (λ w. string_bytes w) words.now) (K.held sink.old) (K.held sink.new) }
+{
+    if !are_run(words) {
+        return print(sink, USAGE.as_bytes(), Status::Usage);
+    }
+    let bytes = match read_to(alloc, source, SCRIPT_LIMIT + 1) {
+        Ok(bytes) => bytes,
+        Err(ReadFault::Failed) => return Status::ReadFault,
+        Err(ReadFault::NoMemory) => return Status::NoMemory,
+    };
+    match answer(alloc, bytes.as_slice()) {
+        Ok((status, text)) => print(sink, text.as_slice(), status),
+        Err(NoMemory) => Status::NoMemory,
+    }
+}
+
+/// Prints a text, and ends with the status.
+fn print<K: Sink>(sink: &mut K, text: &[u8], status: Status) -> Status
+    requires { K.faults sink.old < 2 ^ 64 - 1 }
+    ensures printed { result ≢ Status.WriteFault → (result ≡ status) × (K.held sink.new ≡ held_with text.now (K.held sink.old)) × (K.faults sink.new ≡ K.faults sink.old) }
+    ensures failed { status ≢ Status.WriteFault → result ≡ Status.WriteFault → GainsFront text.now (K.held sink.old) (K.held sink.new) × (K.faults sink.new ≡ K.faults sink.old + 1) }
+{
+    match write_all(sink, text) {
+        Ok(()) => status,
+        Err(_) => Status::WriteFault,
+    }
+}
+
+/// What is to be printed for the bytes of a source, and the status that goes with it.
+fn answer(alloc: Global, bytes: &[u8]) -> Result<(Status, Vec<u8>), NoMemory>
+    ensures { IfOk result (λ x. Answers bytes.now x.0 x.1.items) }
+{
+    match script::read(alloc, bytes) {
+        Ok(script) => Ok((Status::Done, play(alloc, &script)?)),
+        Err(ScriptFault::Line(line)) => Ok((Status::BadLine, fault_line(alloc, line)?)),
+        Err(ScriptFault::NoMemory) => Err(NoMemory),
+    }
+}
