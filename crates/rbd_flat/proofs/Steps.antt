@@ -13,7 +13,7 @@ use Rattle.rbd_kinds.specs.declared.header.SnapStatus.TheVariants.{Unprotected}
 use Rattle.rbd_kinds.specs.declared.layout.Extent.{Extent}
 use Rattle.rbd_flat.specs.declared.effect.Effect.{Effect}
 use Rattle.rbd_flat.specs.declared.effect.Effect.TheVariants as effect
-use Rattle.rbd_flat.specs.Flat.{Flat, FlatImage, FlatSnap, image_at, snap_of, snap_in, painted, places_of, resized, with_status, after, id_of, renamed, changed, with_image, cloned}
+use Rattle.rbd_flat.specs.Flat.{Flat, FlatImage, FlatSnap, image_at, snap_of, snap_in, painted, places_of, resized, with_status, after, after_all, id_of, renamed, changed, with_image, cloned}
 use Rattle.rbd_flat.specs.Laws.{covered, painted_at, size_in, size_at, byte_in, byte_at, role_at, snap_at, snap_byte, snap_size, byte_after, size_after, role_after, snap_after, taken_of, image_of, is_on_names, is_on_links}
 use Rattle.rbd_flat.proofs.Painted.{length_painted, painted_extents, painted_at_zeros}
 use Rattle.rbd_flat.proofs.Images.{clone_of, image_after, image_law}
@@ -465,3 +465,8 @@ other_image (effect.Gone image) f j ne = at_other image j _ (image_at f j) ne
 
 pub images_stay : (f : Flat) (e : Effect) (j : ℕ) → image_of e ≢ Some j → image_at (after f e) j ≡ image_at f j
 images_stay f e j ne = image_law f e j ∙ other_image e f j ne
+
+-- effects one after another
+pub steps_in_turn : (f : Flat) (front rest : List Effect) → after_all f (front ++ rest) ≡ after_all (after_all f front) rest
+steps_in_turn f [] rest = refl
+steps_in_turn f (e ∷ front) rest = steps_in_turn (after f e) front rest

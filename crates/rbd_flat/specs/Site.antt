@@ -1,5 +1,5 @@
 -- A flat site as the code keeps it, in lists of entries, and how a value of it is told apart.
-use Rattle.std.specs.Prelude.{◌≡◌, ℕ, zero, suc, List, refl}
+use Rattle.std.specs.Prelude.{Bool, true, false, ◌≡◌, ℕ, zero, suc, List, refl}
 use Rattle.std.specs.Ordering.{nat_cmp}
 use Rattle.std.specs.Cmp.Lexicographic.{slice_cmp}
 use Rattle.std.specs.Coded.{Coded, code_by, coded×, coded_ℕ, coded_list}
@@ -9,11 +9,24 @@ use Rattle.rbd_kinds.specs.declared.header.Role.{Role}
 use Rattle.rbd_kinds.specs.declared.header.Role.TheVariants.{Plain, Primary, Secondary}
 use Rattle.rbd_kinds.specs.declared.header.SnapStatus.{SnapStatus}
 use Rattle.rbd_kinds.specs.declared.header.SnapStatus.TheVariants.{Unprotected, Unprotecting, Protected}
+use Rattle.rbd_flat.specs.declared.effect.Effect.{Effect}
+use Rattle.rbd_flat.specs.declared.effect.Effect.TheVariants as effect
 use Rattle.rbd_flat.specs.Flat.{Flat, FlatImage, FlatSnap, Link, link_cmp}
 
 -- the flat site of these names, images and links
 abbrev pub site_of : List (List ℕ × ℕ) → List (ℕ × FlatImage) → List Link → Flat
 site_of names images links = record { names = finmap.from_entries names; images = finmap.from_entries images; links = finset.from_list links }
+
+-- whether a step may want memory: it adds something, or makes something longer
+abbrev pub wants_memory : Effect → Bool
+wants_memory (effect.Name name image) = true
+wants_memory (effect.Rename from to) = true
+wants_memory (effect.Create image size role) = true
+wants_memory (effect.Clone image parent snap) = true
+wants_memory (effect.Size image size) = true
+wants_memory (effect.Snap image snap name) = true
+wants_memory (effect.Link parent snap child) = true
+wants_memory _ = false
 
 -- ---- codes, by which a proof tells values apart
 

@@ -1,16 +1,18 @@
 //! What one step leaves and what it does not touch: laws of the definition `after`, each the contract of a
 //! function that does nothing. They say no more than `after`, and say it of one byte, one image or one
 //! snapshot, as the proofs that stand on this crate need it.
-ghost use Rattle.std.specs.Prelude.{◌≡◌, ◌≢◌, ℕ, ◌+◌, ◌-◌, ◌<◌, ◌≤◌, ◌++◌, length, drop, slice_index, List, false, Some};
+ghost use Rattle.std.specs.Prelude.{◌≡◌, ◌≢◌, ℕ, ◌+◌, ◌-◌, ◌<◌, ◌≤◌, ◌++◌, length, drop, slice_index, List, false, Some, ◌==◌, if◌then◌else◌};
+ghost use Rattle.std.specs.Option.{option_map};
 ghost use Rattle.std.specs.List.{range_with_len};
 ghost use Rattle.rbd_kinds.specs.declared.layout.Extent.{Extent};
 ghost use Rattle.rbd_flat.specs.declared.effect.Effect.{Effect};
-ghost use Rattle.rbd_flat.specs.Flat.{Flat, FlatSnap, after, painted, places_of, image_at, resized};
+ghost use Rattle.rbd_flat.specs.Flat.{Flat, FlatImage, FlatSnap, after, after_all, painted, places_of, image_at, with_image};
 ghost use Rattle.rbd_flat.specs.Laws.{painted_at, painted_byte, byte_at, byte_after, size_at, size_after, role_at, role_after, snap_at, snap_after, image_of, is_on_names, is_on_links};
 
-/// What is painted. `inside` and `outside` are one extent at one place; `extents` are several, of which
-/// the last that has the place tells it; `places` are places that are listed one by one. Painting a front
-/// and then the rest with the bytes that are left is painting both, as for two neighbours.
+/// What is painted. `inside`, `before` and `behind` are one extent at one place; `extents` are several, of
+/// which the last that has the place tells it; `places` are places that are listed one by one. Painting a
+/// front and then the rest with the bytes that are left is painting both (`in_turn`), as for two
+/// `neighbours`.
 pub fn painting()
     ensures len { (places new old : List ℕ) → length (painted places new old) ≡ length old }
     ensures inside { (at len : ℕ) (new old : List ℕ) (x : ℕ) → x < length old → at ≤ x → x < at + len → slice_index (painted (range_with_len at len) new old) x ≡ slice_index new (x - at) }
@@ -22,12 +24,14 @@ pub fn painting()
     ensures neighbours { (at m n : ℕ) (new old : List ℕ) → painted (range_with_len at (m + n)) new old ≡ painted (range_with_len (at + m) n) (drop m new) (painted (range_with_len at m) new old) }
 {}
 
-/// What stands after one step: the byte at a place of an image, its size, its role, a snapshot of it.
+/// What stands after one step: the byte at a place of an image, its size, its role, a snapshot of it; and
+/// the whole image where it is changed by a function of it.
 pub fn step()
     ensures bytes { (f : Flat) (e : Effect) (i x : ℕ) → byte_at (after f e) i x ≡ byte_after e f i x }
     ensures sizes { (f : Flat) (e : Effect) (i : ℕ) → size_at (after f e) i ≡ size_after e f i }
     ensures roles { (f : Flat) (e : Effect) (i : ℕ) → role_at (after f e) i ≡ role_after e f i }
     ensures snaps { (f : Flat) (e : Effect) (i t : ℕ) → snap_at (after f e) i t ≡ snap_after e f i t }
+    ensures images { (f : Flat) (image : ℕ) (change : FlatImage → FlatImage) (i : ℕ) → image_at (with_image f image change) i ≡ (if i == image then option_map change (image_at f i) else image_at f i) }
 {}
 
 /// What one step does not touch: the names and the links unless it is an effect on them, every image but
@@ -37,4 +41,9 @@ pub fn elsewhere()
     ensures links { (f : Flat) (e : Effect) → is_on_links e ≡ false → (after f e).links ≡ f.links }
     ensures images { (f : Flat) (e : Effect) (j : ℕ) → image_of e ≢ Some j → image_at (after f e) j ≡ image_at f j }
     ensures snaps { (f : Flat) (e : Effect) (i t : ℕ) (s s' : FlatSnap) → snap_at f i t ≡ Some s → snap_at (after f e) i t ≡ Some s' → (s'.bytes ≡ s.bytes) × (s'.name ≡ s.name) }
+{}
+
+/// Several steps are the first of them and then the others.
+pub fn steps()
+    ensures in_turn { (f : Flat) (front rest : List Effect) → after_all f (front ++ rest) ≡ after_all (after_all f front) rest }
 {}

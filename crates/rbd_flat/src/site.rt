@@ -1,5 +1,6 @@
 ghost use Rattle.std.specs.Prelude.{◌≡◌, ◌↔◌, Some, None, Ok, OnOk, OnErr, IfOk, IsOk, IsErrOf, length, false};
 ghost use Rattle.rbd_flat.specs.Flat.{no_images, after, id_of, image_at};
+ghost use Rattle.rbd_flat.specs.Site.{wants_memory};
 ghost use Rattle.rbd_flat.specs.Read.{read_of, read_view, is_within, IsUnlisted, IsOutside};
 
 mod images;
@@ -56,11 +57,12 @@ impl FlatSite {
         self.names.get(name).copied()
     }
 
-    /// One step of the machine. Where it is refused memory, nothing changes. Effects that make or lengthen
-    /// something want memory: Name, Rename, Create, Clone, Size, Snap and Link.
+    /// One step of the machine. Where it is refused memory, nothing changes. Only a step that adds
+    /// something or makes something longer may want memory, so all others are always done.
     pub fn after(&mut self, effect: &Effect) -> Result<(), NoMemory>
         ensures ok { OnOk result (self.new ≡ after self.old effect.now) }
         ensures err { OnErr result (self.new ≡ self.old) }
+        ensures always { wants_memory effect.now ≡ false → IsOk result }
     {
         match effect {
             Effect::Name { name, image } => return self.add_name(name, *image),
