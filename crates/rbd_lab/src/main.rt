@@ -2,6 +2,8 @@
 #![tactic(auto)]
 
 use rbd_edge::{StdSink, StdSource};
+use run::Status;
+use std::io::ErrorKind;
 use std::process::ExitCode;
 use std::rt::Env;
 use std::{env, io};
@@ -10,6 +12,8 @@ mod play;
 mod run;
 mod script;
 mod store;
+#[cfg(test)]
+mod tests;
 mod text;
 
 /// The words of the command line without the program's name.
@@ -27,6 +31,7 @@ fn main(rt: HostRuntime) -> ExitCode {
     let mut sink = StdSink::new(io::writer(&rt));
     let status = match words(&rt) {
         Ok(words) => run::run(&rt, alloc, words.as_slice(), &mut source, &mut sink),
+        Err(error) if error.kind() == ErrorKind::OutOfMemory => Status::NoMemory,
         // A word that isn't UTF-8 is a word that isn't understood.
         Err(_) => run::run(&rt, alloc, &[], &mut source, &mut sink),
     };
