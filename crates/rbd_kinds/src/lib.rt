@@ -20,6 +20,8 @@ mod notice;
 mod refusal;
 mod reply;
 mod sequence;
+#[cfg(test)]
+mod tests;
 
 pub use bytes::Bytes;
 pub use command::Command;

@@ -1,0 +1,118 @@
+use crate::*;
+use std::alloc::Global;
+use std::cmp::Ordering;
+use std::test::Fail;
+
+fn name(alloc: Global, text: &str) -> Result<Option<Name>, Fail> {
+    Ok(Name::parse(Bytes::from_slice(alloc, text.as_bytes())?))
+}
+
+#[test]
+fn names_are_one_to_sixty_four_bytes(rt: HostRuntime) -> Result<(), Fail> {
+    for text in ["a", "Z", "0", "_", "a.b-c_d", "_.", "0-", "vm-1.disk_0"] {
+        let got = name(rt.alloc(), text)?;
+        assert!(rt; got.is_some(), "{text}");
+    }
+    for text in ["", ".", "-", ".a", "-a", "a/b", "a@b", "a b", "a\n", "\u{e9}"] {
+        let got = name(rt.alloc(), text)?;
+        assert!(rt; got.is_none(), "{text}");
+    }
+    for (len, valid) in [(63, true), (64, true), (65, false)] {
+        let text = Bytes::from_vec(vec![in rt.alloc(); b'a'; len]?);
+        assert_eq!(rt; Name::parse(text).is_some(), valid, "{len}");
+    }
+    Ok(())
+}
+
+#[test]
+fn names_are_ordered_by_their_bytes(rt: HostRuntime) -> Result<(), Fail> {
+    for (left, right, order) in [
+        ("a", "a", Ordering::Equal),
+        ("a", "aa", Ordering::Less),
+        ("b", "aa", Ordering::Greater),
+        ("Z", "a", Ordering::Less),
+        ("disk10", "disk9", Ordering::Less),
+    ] {
+        let left = name(rt.alloc(), left)?;
+        let right = name(rt.alloc(), right)?;
+        assert_eq!(rt; left == right, order == Ordering::Equal);
+        assert_eq!(rt; left.cmp(&right), order);
+    }
+    Ok(())
+}
+
+#[test]
+fn a_name_and_its_copy_have_the_bytes(rt: HostRuntime) -> Result<(), Fail> {
+    if let Some(name) = name(rt.alloc(), "disk")? {
+        let copy = name.try_clone()?;
+        assert_eq!(rt; name.as_slice(), b"disk".as_slice());
+        assert_eq!(rt; copy.as_slice(), b"disk".as_slice());
+    }
+    Ok(())
+}
+
+#[test]
+fn bytes_are_kept(rt: HostRuntime) -> Result<(), Fail> {
+    let none = Bytes::new(rt.alloc());
+    assert!(rt; none.is_empty());
+    assert_eq!(rt; none.len(), 0);
+    let some = Bytes::from_slice(rt.alloc(), b"abc")?;
+    let copy = some.try_clone()?;
+    assert!(rt; !some.is_empty());
+    assert_eq!(rt; some.len(), 3);
+    assert_eq!(rt; some.as_slice(), b"abc".as_slice());
+    assert_eq!(rt; some.into_vec().as_slice(), b"abc".as_slice());
+    assert_eq!(rt; copy.as_slice(), b"abc".as_slice());
+    Ok(())
+}
+
+#[test]
+fn a_sequence_grows_at_its_end(rt: HostRuntime) -> Result<(), Fail> {
+    let mut ids = Sequence::new(rt.alloc());
+    assert!(rt; ids.is_empty());
+    ids.push(7u32)?;
+    ids.push(5)?;
+    assert!(rt; !ids.is_empty());
+    assert_eq!(rt; ids.len(), 2);
+    assert_eq!(rt; ids.as_slice(), [7, 5].as_slice());
+    let same = Sequence::from_vec(ids.into_vec());
+    assert_eq!(rt; same.as_slice(), [7, 5].as_slice());
+    Ok(())
+}
+
+/// The numbers are this project's; the errno are those of Linux.
+#[test]
+fn refusals_have_their_numbers_and_words(rt: HostRuntime) {
+    for (refusal, number, errno, word) in [
+        (Refusal::BadRange, 1, 22, "BadRange"),
+        (Refusal::NoImage, 2, 2, "NoImage"),
+        (Refusal::ImageExists, 3, 17, "ImageExists"),
+        (Refusal::NoSnap, 4, 2, "NoSnap"),
+        (Refusal::SnapExists, 5, 17, "SnapExists"),
+        (Refusal::SnapProtected, 6, 16, "SnapProtected"),
+        (Refusal::NotProtected, 7, 22, "NotProtected"),
+        (Refusal::HasChildren, 8, 16, "HasChildren"),
+        (Refusal::HasSnaps, 9, 39, "HasSnaps"),
+        (Refusal::InUse, 10, 16, "InUse"),
+        (Refusal::NonPrimary, 11, 30, "NonPrimary"),
+        (Refusal::Fenced, 12, 108, "Fenced"),
+        (Refusal::BadShape, 13, 22, "BadShape"),
+        (Refusal::NotMirrored, 14, 22, "NotMirrored"),
+        (Refusal::IsPrimary, 15, 22, "IsPrimary"),
+        (Refusal::NotDemoted, 16, 16, "NotDemoted"),
+        (Refusal::TooDeep, 17, 22, "TooDeep"),
+        (Refusal::NotJournaled, 18, 22, "NotJournaled"),
+        (Refusal::NoParent, 19, 22, "NoParent"),
+    ] {
+        assert_eq!(rt; refusal.number(), number);
+        assert_eq!(rt; refusal.errno(), errno);
+        assert_eq!(rt; refusal.word(), word);
+    }
+}
+
+#[test]
+fn a_refusal_is_printed_with_its_errno(rt: HostRuntime) -> Result<(), Fail> {
+    let text = format!(in rt.alloc(); "{}", Refusal::Fenced)?;
+    assert_eq!(rt; text.as_str(), "error 108 Fenced");
+    Ok(())
+}
