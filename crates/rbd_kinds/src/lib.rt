@@ -6,6 +6,16 @@
 //!
 //! Contracts see an id as its number, a [`Name`] and [`Bytes`] as the list of their bytes, and a
 //! [`Sequence`] as the list of its items.
+//!
+//! ```text
+//! Name::parse(Bytes::from_slice(alloc, b"disk")?)     the name `disk`
+//! Name::parse(Bytes::from_slice(alloc, b".disk")?)    None
+//! Refusal::BadRange.to_string()                       error 22 BadRange
+//! ```
+//!
+//! Nothing is copied that isn't asked for: `from_vec` and `into_vec` hand a vector on, `try_clone`
+//! copies once. A copy, and a growth of a list, can be refused memory ([`NoMemory`]), which leaves the
+//! list as it was.
 #![tactic(auto)]
 
 mod bytes;

@@ -13,7 +13,9 @@ fn names_are_one_to_sixty_four_bytes(rt: HostRuntime) -> Result<(), Fail> {
         let got = name(rt.alloc(), text)?;
         assert!(rt; got.is_some(), "{text}");
     }
-    for text in ["", ".", "-", ".a", "-a", "a/b", "a@b", "a b", "a\n", "\u{e9}"] {
+    for text in [
+        "", ".", "-", ".a", "-a", "a/b", "a@b", "a b", "a\n", "\u{e9}",
+    ] {
         let got = name(rt.alloc(), text)?;
         assert!(rt; got.is_none(), "{text}");
     }

@@ -4,14 +4,20 @@ use std::alloc::Global;
 use std::test::Fail;
 
 /// A session of one image.
-const FIRST: &str = "client c1 a\nc1 create disk 10 object 4096\nc1 write disk 2 abcd\nc1 read disk 0 6\nc1 write disk 9 abcd\nc1 read none 0 1\nc1 create disk 10 object 4096\n";
-const FIRST_REPLIES: &str = "2 c1 ok\n3 c1 ok\n4 c1 ok 0000abcd0000\n5 c1 error 22 BadRange\n6 c1 error 2 NoImage\n7 c1 error 17 ImageExists\n";
+const FIRST: &str =
+    "client c1 a\nc1 create disk 10 object 4096\nc1 write disk 2 abcd\nc1 read disk 0 6\nc1 write disk 9 abcd\nc1 read none 0 1\nc1 create disk 10 object 4096\n";
+
+const FIRST_REPLIES: &str =
+    "2 c1 ok\n3 c1 ok\n4 c1 ok 0000abcd0000\n5 c1 error 22 BadRange\n6 c1 error 2 NoImage\n7 c1 error 17 ImageExists\n";
 
 /// The write lies in two objects.
-const TWO_PIECES: &str = "client c1 a\nc1 create disk 8192 object 4096\nc1 write disk 4095 abcd\nc1 read disk 4094 4\nc1 read disk 4096 2\n";
+const TWO_PIECES: &str =
+    "client c1 a\nc1 create disk 8192 object 4096\nc1 write disk 4095 abcd\nc1 read disk 4094 4\nc1 read disk 4096 2\n";
+
 const TWO_PIECES_REPLIES: &str = "2 c1 ok\n3 c1 ok\n4 c1 ok 00abcd00\n5 c1 ok cd00\n";
 
-const USAGE: &str = "usage: rbd_lab run [--trace] | threads [--trace] [--turns N] | gen --seed N --clients C --commands K\n";
+const USAGE: &str =
+    "usage: rbd_lab run [--trace] | threads [--trace] [--turns N] | gen --seed N --clients C --commands K\n";
 
 fn words(alloc: Global, text: &str) -> Result<Vec<String>, Fail> {
     let mut words = Vec::new(alloc);
@@ -65,9 +71,18 @@ fn the_first_bad_line_is_told(rt: HostRuntime) -> Result<(), Fail> {
         ("c", "line 1: unknown word\n"),
         ("client", "line 1: unknown word\n"),
         ("client c1 a\nc1 wri", "line 2: unknown word\n"),
-        ("client c1 a\n\n# c1\nc1 walk disk", "line 4: unknown word\n"),
-        ("client c1 a\nc1 read disk 00 1\nc1 walk", "line 2: unknown word\n"),
-        ("client c1 a\nc1 read disk 1 65537", "line 2: unknown word\n"),
+        (
+            "client c1 a\n\n# c1\nc1 walk disk",
+            "line 4: unknown word\n",
+        ),
+        (
+            "client c1 a\nc1 read disk 00 1\nc1 walk",
+            "line 2: unknown word\n",
+        ),
+        (
+            "client c1 a\nc1 read disk 1 65537",
+            "line 2: unknown word\n",
+        ),
         ("client c1 a\nc1 write disk 1 AB", "line 2: unknown word\n"),
         ("client c1 a\nc1 write disk 1 abc", "line 2: unknown word\n"),
         ("client c1 a\nc2 read disk 1 1", "line 2: unknown word\n"),

@@ -1,0 +1,34 @@
+-- What the steps of decoding find in the bytes.
+use Rattle.std.specs.Prelude.{◌≡◌, ℕ, ◌+◌, List, ◌∷◌, ◌++◌, length, drop, IsTrue}
+use Rattle.std.specs.Int.{w32, to_be_bytes}
+use Rattle.rbd_kinds.specs.declared.journal.Event as journal
+use Rattle.rbd_kinds.specs.declared.journal.Event.TheVariants as event
+use Rattle.rbd_frame.specs.declared.kind.Kind.{Kind}
+use Rattle.rbd_frame.specs.declared.kind.Kind.TheVariants.{Write, Discard, Resize, SnapCreate, SnapRemove, SnapRollback, Demote}
+use Rattle.rbd_frame.specs.Spelling.{body_of, IsInRange}
+use Rattle.rbd_frame.specs.Faults.{allows_length, byte_of}
+
+abbrev pub kind_of : journal.Event → Kind
+kind_of (event.Write at bytes) = Write
+kind_of (event.Discard at len) = Discard
+kind_of (event.Resize size) = Resize
+kind_of (event.SnapCreate name) = SnapCreate
+kind_of (event.SnapRemove name) = SnapRemove
+kind_of (event.SnapRollback name) = SnapRollback
+kind_of event.Demote = Demote
+
+-- an event of this kind, in range, whose body is this one
+pub record HasBody (kind : Kind) (body : List ℕ) (e : journal.Event) : Type 0 where
+  pub in_range : IsInRange e
+  pub kind_is : kind_of e ≡ kind
+  pub body_is : body_of e ≡ body
+
+-- at the front stand the length of this body in four bytes, and the body; its kind allows the length
+pub record HasBodyAfter (bytes : List ℕ) (kind : Kind) (body : List ℕ) : Type 0 where
+  pub allowed : IsTrue (allows_length kind (length body))
+  pub parts : bytes ≡ to_be_bytes w32 (length body) ++ body ++ drop (4 + length body) bytes
+
+-- the same behind the byte of the kind
+pub record HasHeader (bytes : List ℕ) (kind : Kind) (body : List ℕ) : Type 0 where
+  pub allowed : IsTrue (allows_length kind (length body))
+  pub parts : bytes ≡ byte_of kind ∷ to_be_bytes w32 (length body) ++ body ++ drop (5 + length body) bytes

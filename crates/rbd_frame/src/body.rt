@@ -1,0 +1,139 @@
+//! From the body of a frame to the event. Each function finds the first fault of its kind, if there is one.
+ghost use Rattle.std.specs.Prelude.{◌≡◌, ◌≤◌, length, IfOk, IfErr, Err, Some, None, IsTrue, not, ◌==◌, ◌||◌};
+ghost use Rattle.std.specs.List.{position};
+ghost use Rattle.rbd_frame.specs.Faults.{IsNoMemory, allows_length, body_fault, ends_too_far, misplaced, name_fault};
+ghost use Rattle.rbd_frame.specs.Parts.{HasBody};
+ghost use Rattle.rbd_kinds.specs.Name.{IsName, name_byte};
+ghost use Rattle.rbd_frame.specs.declared.fault.FrameFault.{FrameFault};
+ghost use Rattle.rbd_frame.specs.declared.kind.Kind.TheVariants.{Write, Discard, Resize};
+
+use crate::fault::FrameFault;
+use crate::kind::Kind;
+use crate::layout::{FURTHEST, HEADER};
+use byteorder::{BigEndian, ByteOrder};
+use rbd_kinds::{Bytes, Event, Name};
+use std::alloc::Global;
+
+/// The event of a body whose length its kind allows, or the body's first fault.
+pub fn event_of(alloc: Global, kind: Kind, body: &[u8]) -> Result<Event, FrameFault>
+    requires { IsTrue (allows_length kind (length body.now)) }
+    ensures found { IfOk result (HasBody kind body.now) }
+    ensures fault { (fault : FrameFault) → body_fault kind body.now ≡ Some fault → result ≡ Err fault }
+    ensures no_fault { body_fault kind body.now ≡ None → IfErr result IsNoMemory }
+{
+    match kind {
+        Kind::Write => write_of(alloc, body),
+        Kind::Discard => discard_of(body),
+        Kind::Resize => resize_of(body),
+        Kind::SnapCreate => match name_of(alloc, body) {
+            Ok(name) => Ok(Event::SnapCreate { name }),
+            Err(fault) => Err(fault),
+        },
+        Kind::SnapRemove => match name_of(alloc, body) {
+            Ok(name) => Ok(Event::SnapRemove { name }),
+            Err(fault) => Err(fault),
+        },
+        Kind::SnapRollback => match name_of(alloc, body) {
+            Ok(name) => Ok(Event::SnapRollback { name }),
+            Err(fault) => Err(fault),
+        },
+        Kind::Demote => Ok(Event::Demote),
+    }
+}
+
+fn write_of(alloc: Global, body: &[u8]) -> Result<Event, FrameFault>
+    requires { IsTrue (allows_length Write (length body.now)) }
+    ensures found { IfOk result (HasBody Write body.now) }
+    ensures fault { (fault : FrameFault) → body_fault Write body.now ≡ Some fault → result ≡ Err fault }
+    ensures no_fault { body_fault Write body.now ≡ None → IfErr result IsNoMemory }
+{
+    let (field, bytes) = body.split_at(8);
+    let at = BigEndian::read_u64(field);
+    if ends_too_far(at, bytes.len() as u64) {
+        return Err(FrameFault::BadLength(body.len() as u64));
+    }
+    let bytes = Bytes::from_slice(alloc, bytes)?;
+    Ok(Event::Write { at, bytes })
+}
+
+fn discard_of(body: &[u8]) -> Result<Event, FrameFault>
+    requires { IsTrue (allows_length Discard (length body.now)) }
+    ensures found { IfOk result (HasBody Discard body.now) }
+    ensures fault { (fault : FrameFault) → body_fault Discard body.now ≡ Some fault → result ≡ Err fault }
+    ensures no_fault { body_fault Discard body.now ≡ None → IfErr result IsNoMemory }
+{
+    let (at, len) = body.split_at(8);
+    let at = BigEndian::read_u64(at);
+    let len = BigEndian::read_u64(len);
+    if !is_discard(at, len) {
+        return Err(FrameFault::BadLength(len));
+    }
+    Ok(Event::Discard { at, len })
+}
+
+fn resize_of(body: &[u8]) -> Result<Event, FrameFault>
+    requires { IsTrue (allows_length Resize (length body.now)) }
+    ensures found { IfOk result (HasBody Resize body.now) }
+    ensures fault { (fault : FrameFault) → body_fault Resize body.now ≡ Some fault → result ≡ Err fault }
+    ensures no_fault { body_fault Resize body.now ≡ None → IfErr result IsNoMemory }
+{
+    let size = BigEndian::read_u64(body);
+    if size > FURTHEST {
+        return Err(FrameFault::BadLength(size));
+    }
+    Ok(Event::Resize { size })
+}
+
+fn name_of(alloc: Global, text: &[u8]) -> Result<Name, FrameFault>
+    requires some { 1 ≤ length text.now }
+    requires few { length text.now ≤ 64 }
+    ensures found { IfOk result (λ name. name ≡ text.now) }
+    ensures name { IfOk result IsName }
+    ensures fault { (fault : FrameFault) → name_fault text.now ≡ Some fault → result ≡ Err fault }
+    ensures no_fault { name_fault text.now ≡ None → IfErr result IsNoMemory }
+{
+    match misplaced(text) {
+        Some(place) => Err(FrameFault::BadText(HEADER + place)),
+        None => {
+            let text = Bytes::from_slice(alloc, text)?;
+            Ok(Name::parse(text).unwrap())
+        }
+    }
+}
+
+/// The place of the first byte that isn't of a name, which doesn't begin with `.` or `-`.
+fn misplaced(text: &[u8]) -> Option<usize>
+    requires { 1 ≤ length text.now }
+    ensures { result ≡ misplaced text.now }
+{
+    if text[0] == b'.' || text[0] == b'-' {
+        return Some(0);
+    }
+    first_strange(text)
+}
+
+fn first_strange(text: &[u8]) -> Option<usize>
+    ensures { result ≡ position (λ byte. not (name_byte byte)) text.now }
+{
+    text.iter().position(|&byte| !is_name_byte(byte))
+}
+
+fn is_name_byte(byte: u8) -> bool
+    ensures { result ≡ name_byte byte }
+{
+    byte.is_ascii_alphanumeric() || byte == b'.' || byte == b'_' || byte == b'-'
+}
+
+/// Whether there are bytes to discard, and none passes the furthest byte of an image.
+fn is_discard(at: u64, len: u64) -> bool
+    ensures { result ≡ not (len == 0 || ends_too_far at len) }
+{
+    len > 0 && !ends_too_far(at, len)
+}
+
+/// Whether `len` bytes from `at` on pass the furthest byte of an image.
+fn ends_too_far(at: u64, len: u64) -> bool
+    ensures { result ≡ ends_too_far at len }
+{
+    at > FURTHEST || len > FURTHEST - at
+}

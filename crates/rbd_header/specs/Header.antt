@@ -1,0 +1,66 @@
+-- What a header tells, and what each change of it does.
+use Rattle.std.specs.Prelude.{ℕ, ◌+◌, ◌==◌, nat_eq, nat_le, min, not, Bool, ◌||◌, false, List, [], ◌∷◌, ◌++◌, length, map, Option, None, Some, if◌then◌else◌}
+use Rattle.std.specs.List.{filter}
+use Rattle.std.specs.Cmp.Lexicographic.{pointwise}
+use Rattle.rbd_kinds.specs.declared.header.HeaderView.{HeaderView}
+use Rattle.rbd_kinds.specs.declared.header.SnapView.{SnapView}
+use Rattle.rbd_kinds.specs.declared.header.ParentLink.{ParentLink}
+use Rattle.rbd_kinds.specs.declared.header.GlobalName.{GlobalName}
+use Rattle.rbd_kinds.specs.declared.header.Role.{Role}
+use Rattle.rbd_kinds.specs.declared.header.Role.TheVariants.{Primary}
+use Rattle.rbd_kinds.specs.declared.header.SnapStatus.{SnapStatus}
+use Rattle.rbd_kinds.specs.declared.header.SnapStatus.TheVariants.{Unprotected}
+
+-- the first snapshot with an id
+abbrev pub snap_in : List SnapView → ℕ → Option SnapView
+snap_in [] t = None
+snap_in (s ∷ snaps) t = if s.id == t then Some s else snap_in snaps t
+
+-- the first snapshot with a name
+abbrev pub snap_named : List SnapView → List ℕ → Option SnapView
+snap_named [] name = None
+snap_named (s ∷ snaps) name = if pointwise nat_eq s.name name then Some s else snap_named snaps name
+
+-- 256 snapshots are listed, or the ids are used up
+abbrev pub is_full : HeaderView → Bool
+is_full h = nat_le 256 (length h.snaps) || (h.snap_seq == 4294967295)
+
+-- a parent whose overlap ends at a size
+abbrev pub cut : ℕ → Option ParentLink → Option ParentLink
+cut size None = None
+cut size (Some p) = Some (record p { overlap = min p.overlap size })
+
+-- Each change raises the generation by one.
+
+abbrev pub with_size : ℕ → HeaderView → HeaderView
+with_size size h = record h { size = size; parent = cut size h.parent; generation = h.generation + 1 }
+
+-- the snapshot is the newest, and has the head's size and parent
+abbrev pub snap_taken : List ℕ → HeaderView → SnapView
+snap_taken name h = record { id = h.snap_seq + 1; name = name; size = h.size; status = Unprotected; parent = h.parent }
+
+abbrev pub with_snap : List ℕ → HeaderView → HeaderView
+with_snap name h = record h { snaps = h.snaps ++ snap_taken name h ∷ []; snap_seq = h.snap_seq + 1; generation = h.generation + 1 }
+
+-- the status, where the snapshot has the id
+abbrev pub marked : ℕ → SnapStatus → SnapView → SnapView
+marked t status s = if s.id == t then record s { status = status } else s
+
+abbrev pub with_status : ℕ → SnapStatus → HeaderView → HeaderView
+with_status t status h = record h { snaps = map (marked t status) h.snaps; generation = h.generation + 1 }
+
+abbrev pub without_snap : ℕ → HeaderView → HeaderView
+without_snap t h = record h { snaps = filter (λ s. not (s.id == t)) h.snaps; generation = h.generation + 1 }
+
+abbrev pub detached : HeaderView → HeaderView
+detached h = record h { parent = None; generation = h.generation + 1 }
+
+abbrev pub with_role : Role → HeaderView → HeaderView
+with_role role h = record h { role = role; generation = h.generation + 1 }
+
+-- mirrored under a global name, as the primary
+abbrev pub with_global : GlobalName → HeaderView → HeaderView
+with_global global h = record h { global = Some global; role = Primary; generation = h.generation + 1 }
+
+abbrev pub in_step : HeaderView → HeaderView
+in_step h = record h { syncing = false; generation = h.generation + 1 }

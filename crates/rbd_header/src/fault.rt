@@ -1,0 +1,38 @@
+use rbd_kinds::Instance;
+use std::error::Error;
+use std::fmt;
+
+/// Why a header takes no new snapshot.
+#[derive(Clone, Copy, Debug, PartialEq, Eq, Hash)]
+pub enum SnapAddFault {
+    /// A snapshot of that name is listed.
+    Exists,
+    /// 256 snapshots are listed, or the ids are used up.
+    Full,
+    /// A growth of memory was refused.
+    NoMemory,
+}
+
+impl fmt::Display for SnapAddFault {
+    fn fmt<W: fmt::Write>(&self, f: &mut fmt::Formatter<W>) -> fmt::Result {
+        f.write_str(match self {
+            SnapAddFault::Exists => "the snapshot exists",
+            SnapAddFault::Full => "the header is full of snapshots",
+            SnapAddFault::NoMemory => "out of memory",
+        })
+    }
+}
+
+impl Error for SnapAddFault {}
+
+/// The lock has another owner, this one.
+#[derive(Clone, Copy, Debug, PartialEq, Eq, Hash)]
+pub struct Held(pub Instance);
+
+impl fmt::Display for Held {
+    fn fmt<W: fmt::Write>(&self, f: &mut fmt::Formatter<W>) -> fmt::Result {
+        f.write_str("the lock is held")
+    }
+}
+
+impl Error for Held {}

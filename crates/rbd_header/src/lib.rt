@@ -1,0 +1,34 @@
+//! An image's header: its size, snapshots, parent, role and lock.
+//!
+//! ```text
+//! let mut header = Header::make(view);
+//! header.lock(instance)?;                         // this instance owns the image
+//! let first = header.snap_add(&name)?;            // snapshot 1, with the head's size and parent
+//! header.snap_status(first, SnapStatus::Protected);
+//! header.set_size(4096);                          // cuts the head's overlap too
+//! named(header.as_view(), &name)                  // the snapshot, still with its own size
+//! header.unlock(instance);
+//! ```
+//!
+//! Contracts see a [`Header`] as the [`HeaderView`](rbd_kinds::HeaderView) that it tells, and each call's
+//! contract is one equation: the view after it is this function of the view before.
+//!
+//! Costs: a look-up of a snapshot, by id or by name, and a change of one read the list of snapshots,
+//! which are 256 at most; all other calls are a few words. [`Header::view`] copies the list, and
+//! [`Header::as_view`] lends it. Only `view` and `snap_add` want memory.
+//!
+//! How it works: the header is the view and the allocator of its list. Each change that is done raises
+//! the generation by one; taking and giving up the lock don't (own). The id of a snapshot is one above
+//! the last that this header drew, so it is never drawn twice (own).
+#![tactic(auto)]
+
+mod fault;
+mod header;
+mod lookup;
+mod snaps;
+#[cfg(test)]
+mod tests;
+
+pub use fault::{Held, SnapAddFault};
+pub use header::Header;
+pub use lookup::{named, snapshot};

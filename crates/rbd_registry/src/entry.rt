@@ -1,0 +1,20 @@
+use rbd_kinds::{ImageId, SnapId};
+use std::marker::Model;
+
+/// A child that was cloned of a parent's snapshot.
+#[derive(Clone, Copy, Debug, PartialEq, Eq, PartialOrd, Ord)]
+pub struct Entry {
+    pub parent: ImageId,
+    pub snap: SnapId,
+    pub child: ImageId,
+}
+
+impl Model for Entry {
+    ghost use Rattle.rbd_registry.specs.Children as children;
+
+    ghost Value = { children.Entry };
+
+    ghost view = { λ e. record { parent = e.parent; snap = e.snap; child = e.child } };
+
+    ghost inverse = { λ e. record { parent = e.parent; snap = e.snap; child = e.child } };
+}
