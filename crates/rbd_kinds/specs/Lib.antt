@@ -1,3 +1,5 @@
+pub mod Frame
+pub mod Header
 pub mod Name
 pub mod Refusal
 pub mod Striping

@@ -1,4 +1,7 @@
 //! What an image's header tells.
+ghost use Rattle.std.specs.Prelude.{◌≡◌, option_copied};
+ghost use Rattle.rbd_kinds.specs.Header.{snap_named};
+
 use crate::id::{ImageId, Instance, SiteId, SnapId};
 use crate::layout::Layout;
 use crate::name::Name;
@@ -90,4 +93,25 @@ pub struct HeaderView {
     pub owner: Option<Instance>,
     pub global: Option<GlobalName>,
     pub role: Role,
+}
+
+impl HeaderView {
+    /// The snapshot of a name: `None` exactly where no listed snapshot has it, else the first that has.
+    /// It takes no memory. Every look-up by name goes through it.
+    pub fn named(&self, name: &Name) -> Option<&SnapView>
+        ensures { option_copied result ≡ snap_named self.now.snaps name.now }
+    {
+        first_named(self.snaps.as_slice(), name)
+    }
+}
+
+fn first_named<'s>(snaps: &'s [SnapView], name: &Name) -> Option<&'s SnapView>
+    ensures { option_copied result ≡ snap_named snaps.now name.now }
+{
+    for found in snaps {
+        if found.name == *name {
+            return Some(found);
+        }
+    }
+    None
 }

@@ -118,3 +118,61 @@ fn a_refusal_is_printed_with_its_errno(rt: HostRuntime) -> Result<(), Fail> {
     assert_eq!(rt; text.as_str(), "error 108 Fenced");
     Ok(())
 }
+
+fn snapshot(alloc: Global, id: u32, text: &str) -> Result<Option<SnapView>, Fail> {
+    let found = name(alloc, text)?;
+    let (status, parent) = (SnapStatus::Unprotected, None);
+    let (id, size) = (SnapId(id), 4_096);
+    Ok(found.map(|name| SnapView {
+        id,
+        name,
+        size,
+        status,
+        parent,
+    }))
+}
+
+fn header(snaps: Snaps) -> HeaderView {
+    HeaderView {
+        layout: Layout {
+            object: 4_096,
+            unit: 4_096,
+            count: 1,
+        },
+        size: 8_192,
+        generation: 2,
+        snap_seq: 2,
+        snaps,
+        parent: None,
+        depth: 0,
+        born: 8_192,
+        born_clone: false,
+        journal: false,
+        syncing: false,
+        owner: None,
+        global: None,
+        role: Role::Plain,
+    }
+}
+
+#[test]
+fn a_snapshot_is_found_by_its_name(rt: HostRuntime) -> Result<(), Fail> {
+    let mut snaps = Sequence::new(rt.alloc());
+    for (id, text) in [(1, "monday"), (2, "tuesday")] {
+        if let Some(snap) = snapshot(rt.alloc(), id, text)? {
+            snaps.push(snap)?;
+        }
+    }
+    let view = header(snaps);
+    for (text, id) in [
+        ("monday", Some(SnapId(1))),
+        ("tuesday", Some(SnapId(2))),
+        ("mon", None),
+    ] {
+        if let Some(name) = name(rt.alloc(), text)? {
+            let found = view.named(&name).map(|snap| snap.id);
+            assert_eq!(rt; found, id, "{text}");
+        }
+    }
+    Ok(())
+}

@@ -1,5 +1,5 @@
 -- The commands that were played, and those that are left.
-use Rattle.std.proofs.Common.{◌≡◌, ℕ, ◌+◌, ◌<◌, suc, List, [], ◌∷◌, ◌++◌, length, take, drop, get_or, append_assoc, append-nil, add-one, drop-cons, refl, sym, ap, ◌∙◌, arith}
+use Rattle.std.proofs.Common.{◌≡◌, ℕ, ◌+◌, ◌<◌, suc, List, [], ◌∷◌, ◌++◌, length, drop, get_or, append_assoc, append-nil, add-one, drop-cons, refl, sym, ap, ◌∙◌}
 use Rattle.rbd_lab.specs.Meaning.{FlatState, at_first, reply_to, state_after}
 use Rattle.rbd_lab.specs.Store.{StandsFor}
 use Rattle.rbd_lab.specs.Text.{reply_line, lines_from}

@@ -1,7 +1,6 @@
 -- Lines that don't fit, and the steps of a reader of lines.
-use Rattle.std.proofs.Common.{◌≡◌, ◌≢◌, ℕ, ◌+◌, ◌-◌, ◌<◌, ◌≤◌, Bool, true, false, cond, eqb, List, [], ◌∷◌, length, get_or, take, drop, Option, Some, None, inl, inr, refl, sym, ap, ◌∙◌, arith, rules}
-use Rattle.std.specs.Prelude.{◌⊎◌}
-use Rattle.std.specs.List.{slice_split, position_or_len, onto_first}
+use Rattle.std.proofs.Common.{◌≡◌, ℕ, ◌+◌, ◌-◌, ◌<◌, ◌≤◌, Bool, true, false, eqb, List, [], ◌∷◌, length, take, drop, None, inl, inr, refl, sym, ap, ◌∙◌, arith}
+use Rattle.std.specs.List.{position_or_len, onto_first}
 use Rattle.std.proofs.lemmas.List.Sums.{fails_before_first}
 use Rattle.std.proofs.lemmas.List.Splits.{slice_split_first, slice_split_none}
 use Rattle.std.proofs.lemmas.List.{drop-drop, take_all}
@@ -11,7 +10,7 @@ use Rattle.rbd_lab.specs.declared.script.ScriptFault.{ScriptFault}
 use Rattle.rbd_lab.specs.declared.script.ScriptFault.TheVariants.{Line, NoMemory}
 use Rattle.rbd_lab.specs.ScriptFault.{AtLine}
 use Rattle.rbd_lab.specs.Line.{lines_of, without_last}
-use Rattle.rbd_lab.specs.Grammar.{Adds, Asks, Declares, IsDeclaration, IsPassedOver, Reads, Stops, no_lines}
+use Rattle.rbd_lab.specs.Grammar.{Adds, IsDeclaration, IsPassedOver, Reads, Stops, no_lines}
 
 -- before the session is declared, a line that is neither passed over nor a declaration doesn't fit
 pub undeclared_stops : (line : List ℕ) (s : Script) → ¬ (IsPassedOver line) → s.session ≡ None → ((name : List ℕ) → ¬ (IsDeclaration line name)) → (t : Script) → ¬ (Adds line s t)

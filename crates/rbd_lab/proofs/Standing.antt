@@ -1,15 +1,15 @@
 -- The store goes on standing for the flat state, and answers as it does.
-use Rattle.std.proofs.Common.{◌≡◌, ◌≢◌, ℕ, ◌+◌, ◌-◌, ◌<◌, ◌≤◌, Bool, true, false, cond, eqb, ltb, leb, ◌&&◌, List, [], ◌∷◌, length, take, drop, get_or, Option, Some, None, Result, Ok, Err, inl, inr, refl, sym, ap, ◌∙◌, subst, arith}
+use Rattle.std.proofs.Common.{◌≡◌, ℕ, ◌+◌, ◌<◌, ◌≤◌, Bool, true, false, cond, eqb, ltb, leb, ◌&&◌, List, [], length, take, drop, Option, Some, None, Result, Ok, Err, refl, sym, ap, ◌∙◌, subst, arith}
 use Rattle.std.proofs.Common.{length-take, length-drop, add-zero}
-use Rattle.std.specs.Prelude.{◌⊎◌, slice_index, is_some, replicate, IsSome}
+use Rattle.std.specs.Prelude.{slice_index, is_some, replicate}
 use Rattle.std.specs.Option.{option_map}
-use Rattle.std.specs.Ordering.{nat_cmp, eq_by_cmp}
+use Rattle.std.specs.Ordering.{nat_cmp}
 use Rattle.std.specs.Cmp.{eq_by_cmp_equiv}
 use Rattle.std.specs.Cmp.Lexicographic.{slice_cmp, nat_list_cmp_total}
 use Rattle.std.specs.BTreeMap.{is_at}
 use Rattle.std.specs.Map.{lookup}
-use Rattle.std.specs.FinMap.{FinMap, get, insert, get-insert, get-empty}
-use Rattle.std.proofs.lemmas.Bool.{and_parts, cases_lt, ltb-true, leb-true, le-leb, cases_eq, eq-eqb}
+use Rattle.std.specs.FinMap.{get, get-insert, get-empty}
+use Rattle.std.proofs.lemmas.Bool.{and_parts, ltb-true, leb-true, eq-eqb}
 use Rattle.std.proofs.lemmas.Bool.Decides.{nat_tests}
 use Rattle.std.proofs.lemmas.List.{get_or-take, get_or-drop, get_or_default, same_lists}
 use Rattle.rbd_kinds.specs.declared.layout.Extent.{Extent}
@@ -25,8 +25,8 @@ use Rattle.rbd_flat.specs.Laws.{byte_at, size_at, byte_in, size_in}
 use Rattle.rbd_flat.specs.Read.{is_within, bytes_in}
 use Rattle.rbd_flat.proofs.Steps.{byte_law, size_law}
 use Rattle.rbd_flat.proofs.Images.{get_insert}
-use Rattle.rbd_lab.specs.Meaning.{FlatState, at_first, image_of, named, reply_within, reply_to, state_after, unless_refused, written, pieces_of, effects_of, first_object, objects_touched}
-use Rattle.rbd_lab.specs.Objects.{stored, put_over, put_in}
+use Rattle.rbd_lab.specs.Meaning.{FlatState, at_first, image_of, named, reply_within, reply_to, state_after, unless_refused, written, pieces_of}
+use Rattle.rbd_lab.specs.Objects.{stored, put_over}
 use Rattle.rbd_lab.specs.Store.{header_of, header_within, StandsFor, IsHeld, AddsHeader, PutsBytes, IsShown}
 use Rattle.rbd_lab.specs.declared.store.Header.{Header}
 use Rattle.rbd_lab.specs.declared.store.Store.{Store}

@@ -1,17 +1,16 @@
 -- What is judged of the bytes that were taken, one past the limit at most, holds of all bytes.
-use Rattle.std.proofs.Common.{◌≡◌, ℕ, ◌+◌, ◌<◌, ◌≤◌, List, [], length, take, drop, Option, Some, None, inl, inr, refl, sym, ap, ◌∙◌, subst, arith}
+use Rattle.std.proofs.Common.{◌≡◌, ℕ, ◌+◌, ◌≤◌, List, [], length, take, drop, Option, Some, None, inl, inr, ap, ◌∙◌, subst, arith}
 use Rattle.std.proofs.Common.{length-take}
 use Rattle.std.specs.Prelude.{IfSome, ◌⊎◌}
 use Rattle.std.proofs.lemmas.List.{take_all, drop_all, take-take}
 use Rattle.rbd_edge.specs.Sink.{held_with, GainsFront}
 use Rattle.rbd_edge.specs.Source.{left_after}
-use Rattle.rbd_lab.specs.Grammar.{IsFaulty, IsScript, Stops, Reads, no_lines, lines_before}
+use Rattle.rbd_lab.specs.Grammar.{IsFaulty, Stops, Reads, no_lines, lines_before}
 use Rattle.rbd_lab.specs.Line.{lines_of, without_last}
 use Rattle.rbd_lab.specs.Run.{Answers, AreRun, IsComplaint, IsOutput, IsText, Prints, PrintsFront}
 use Rattle.rbd_lab.specs.declared.run.Status.{Status}
 use Rattle.rbd_lab.specs.declared.run.Status.TheVariants.{Done, Usage, BadLine, ReadFault, WriteFault, NoMemory}
 use Rattle.rbd_lab.specs.declared.script.Script.{Script}
-use Rattle.rbd_lab.specs.declared.script.TheConstants.{SCRIPT_LIMIT}
 
 abbrev pub limit : ℕ
 limit = 16777216

@@ -1,5 +1,5 @@
 -- Which bytes are which script, and which line is the first that isn't one's.
-use Rattle.std.specs.Prelude.{◌≡◌, ◌≢◌, ◌⊎◌, ◌↔◌, ℕ, ◌+◌, ◌<◌, ◌≤◌, ◌^◌, nat_le, Bool, ◌&&◌, ◌||◌, MatchBool, List, [], ◌∷◌, ◌++◌, length, take, slice_index, slice_get, codes, decimal, IsTrue, Option, Some, None, All}
+use Rattle.std.specs.Prelude.{◌≡◌, ◌≢◌, ◌⊎◌, ℕ, ◌+◌, ◌<◌, ◌≤◌, ◌^◌, nat_le, Bool, ◌&&◌, ◌||◌, List, [], ◌∷◌, ◌++◌, length, take, slice_index, slice_get, codes, decimal, IsTrue, Some, None}
 use Rattle.std.specs.List.{list_all}
 use Rattle.hex.specs.Hex.{encode_lower, IsBytes}
 use Rattle.rbd_kinds.specs.Name.{IsName}
@@ -7,7 +7,6 @@ use Rattle.rbd_kinds.specs.declared.command.Command.{Command}
 use Rattle.rbd_kinds.specs.declared.command.Command.TheVariants.{Create, Write, Read}
 use Rattle.rbd_lab.specs.Line.{lines_of, tokens_of, without_last}
 use Rattle.rbd_lab.specs.declared.script.Script.{Script}
-use Rattle.rbd_lab.specs.declared.script.Numbered.{Numbered}
 use Rattle.rbd_lab.specs.declared.script.TheConstants.{SCRIPT_LIMIT}
 
 -- the tokens that ask for a command

@@ -1,5 +1,5 @@
 -- What a command does to the flat site, and what it is answered.
-use Rattle.std.specs.Prelude.{ℕ, ◌+◌, ◌-◌, ◌*◌, ◌/◌, min, max, nat_lt, Bool, true, false, if◌then◌else◌, List, [], ◌∷◌, map, length, is_some, Option, Some, None}
+use Rattle.std.specs.Prelude.{ℕ, ◌+◌, ◌-◌, ◌*◌, ◌/◌, min, max, if◌then◌else◌, List, [], ◌∷◌, map, length, is_some, Option, Some, None}
 use Rattle.std.specs.List.{range_with_len}
 use Rattle.rbd_kinds.specs.declared.command.Command.{Command}
 use Rattle.rbd_kinds.specs.declared.command.Command.TheVariants.{Create, Write, Read}

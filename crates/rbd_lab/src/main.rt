@@ -1,4 +1,26 @@
 //! `rbd_lab` plays a script of client sessions on block images and prints what each command is answered.
+//!
+//! ```text
+//! $ printf 'client c1 a\nc1 create disk 8192 object 4096\nc1 write disk 4094 68656c6c6f\nc1 read disk 4094 5\n' | rbd_lab run
+//! 2 c1 ok
+//! 3 c1 ok
+//! 4 c1 ok 68656c6c6f
+//! ```
+//!
+//! The script is read from the standard input to its end and judged as a whole: one that has a bad line
+//! plays nothing. Its commands are then answered in order, each by single operations on the objects of
+//! the image, and the replies are printed at the end, all of them or, where the output fails, a first
+//! part.
+//!
+//! ```text
+//! Source -> read_to -> script::read -> play: Store::answer, line by line -> write_all -> Sink
+//!           bytes      lines, tokens         header, then object by object   text
+//! ```
+//!
+//! [`run::run_alone`] has the contract: each reply is the flat-copy machine's. Reading and printing take
+//! time in proportion to the text; a command's work grows with the objects that it touches and the
+//! logarithm of their number, not with the image's size or with what was done before. The script, its
+//! commands, the objects and the output lie in memory at the same time.
 #![tactic(auto)]
 
 use rbd_edge::{StdSink, StdSource};

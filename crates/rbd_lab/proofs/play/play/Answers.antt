@@ -1,6 +1,6 @@
-use Rattle.std.proofs.Common.{◌+◌, drop, ap, arith}
+use Rattle.std.proofs.Common.{ap, arith}
 use Rattle.rbd_lab.specs.Text.{reply_line}
-use Rattle.rbd_lab.proofs.Played.{IsPlayed, played_none, played_more}
+use Rattle.rbd_lab.proofs.Played.{played_none, played_more}
 use Rattle.rbd_lab.proofs.play.play.Goals as goal
 
 pub loop-numbered-init : goal.loop-numbered-init

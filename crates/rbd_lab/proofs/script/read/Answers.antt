@@ -1,6 +1,5 @@
-use Rattle.std.proofs.Common.{ℕ, take, inl, inr, arith}
+use Rattle.std.proofs.Common.{inl, inr}
 use Rattle.std.proofs.lemmas.Result.{err_from_is_err_and}
-use Rattle.rbd_lab.specs.declared.script.TheConstants.{SCRIPT_LIMIT}
 use Rattle.rbd_lab.specs.Line.{lines_of, without_last}
 use Rattle.rbd_lab.specs.Grammar.{IsFaulty, Stops, no_lines}
 use Rattle.rbd_lab.proofs.Reading.{at_line_weaker}

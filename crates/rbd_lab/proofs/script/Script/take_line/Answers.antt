@@ -1,4 +1,4 @@
-use Rattle.std.proofs.Common.{◌≡◌, ℕ, true, false, None, refl}
+use Rattle.std.proofs.Common.{◌≡◌, true, false, refl}
 use Rattle.rbd_lab.proofs.Reading.{undeclared_stops}
 use Rattle.rbd_lab.proofs.script.Script.take_line.Goals as goal
 

@@ -1,4 +1,4 @@
-use Rattle.std.proofs.Common.{◌≡◌, length, take, drop, refl, sym, ap, ◌∙◌, ◌∷◌, ◌-◌, arith}
+use Rattle.std.proofs.Common.{length, take, drop, refl, sym, ap, ◌∙◌, ◌∷◌, ◌-◌, arith}
 use Rattle.rbd_lab.specs.Line.{lines_of}
 use Rattle.rbd_lab.proofs.Reading.{one_line, more_lines}
 use Rattle.rbd_lab.proofs.script.lines.first_line.Goals as goal

@@ -1,4 +1,4 @@
-use Rattle.std.proofs.Common.{◌≡◌, ℕ, List, true, false, Ok, sym, ap, ◌∙◌, arith, rules}
+use Rattle.std.proofs.Common.{◌≡◌, true, false, Ok, sym, ap, ◌∙◌, arith}
 use Rattle.hex.specs.Hex.{encode_lower, decode_of}
 use Rattle.rbd_lab.proofs.Payload.{length_of_data, decoded_data, not_refused, data_of_decoded}
 use Rattle.rbd_lab.proofs.script.payload.payload.Goals as goal

@@ -1,4 +1,4 @@
-use Rattle.std.proofs.Common.{◌≡◌, ◌≢◌, ℕ, ◌<◌, get_or}
+use Rattle.std.proofs.Common.{◌≡◌, ℕ, ◌<◌, get_or}
 use Rattle.rbd_lab.proofs.script.token.blanks.Given as goal
 
 abbrev pub invariant-loop-i : goal.invariant-loop-i

@@ -1,4 +1,4 @@
-use Rattle.std.proofs.Common.{◌≡◌, [], unwrap_or, refl, sym, ap, ◌∙◌, arith, rules}
+use Rattle.std.proofs.Common.{◌≡◌, [], unwrap_or, sym, ap, ◌∙◌, rules}
 use Rattle.std.specs.Prelude.{slice_index}
 use Rattle.std.proofs.lemmas.Result.{on_ok_weaker}
 use Rattle.rbd_lab.specs.Objects.{object_in, put_over}
