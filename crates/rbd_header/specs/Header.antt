@@ -1,7 +1,6 @@
 -- What a header tells, and what each change of it does.
-use Rattle.std.specs.Prelude.{ℕ, ◌+◌, ◌==◌, nat_eq, nat_le, min, not, Bool, ◌||◌, false, List, [], ◌∷◌, ◌++◌, length, map, Option, None, Some, if◌then◌else◌}
+use Rattle.std.specs.Prelude.{ℕ, ◌+◌, ◌==◌, nat_le, min, not, Bool, ◌||◌, false, List, [], ◌∷◌, ◌++◌, length, map, Option, None, Some, if◌then◌else◌}
 use Rattle.std.specs.List.{filter}
-use Rattle.std.specs.Cmp.Lexicographic.{pointwise}
 use Rattle.rbd_kinds.specs.declared.header.HeaderView.{HeaderView}
 use Rattle.rbd_kinds.specs.declared.header.SnapView.{SnapView}
 use Rattle.rbd_kinds.specs.declared.header.ParentLink.{ParentLink}
@@ -15,11 +14,6 @@ use Rattle.rbd_kinds.specs.declared.header.SnapStatus.TheVariants.{Unprotected}
 abbrev pub snap_in : List SnapView → ℕ → Option SnapView
 snap_in [] t = None
 snap_in (s ∷ snaps) t = if s.id == t then Some s else snap_in snaps t
-
--- the first snapshot with a name
-abbrev pub snap_named : List SnapView → List ℕ → Option SnapView
-snap_named [] name = None
-snap_named (s ∷ snaps) name = if pointwise nat_eq s.name name then Some s else snap_named snaps name
 
 -- 256 snapshots are listed, or the ids are used up
 abbrev pub is_full : HeaderView → Bool

@@ -1,10 +1,11 @@
 ghost use Rattle.std.specs.Prelude.{◌≡◌, ◌≢◌, ◌+◌, ◌^◌, ◌<◌, ◌↔◌, IsTrue, IsSome, Some, None, is_some, false, IfOk, IfErr, OnOk, OnErr, IsErrOf};
 ghost use Rattle.std.specs.Bool.{OnTrue, OnFalse};
 ghost use Rattle.rbd_kinds.specs.declared.id.Instance as instances;
-ghost use Rattle.rbd_header.specs.Header.{snap_in, snap_named, is_full, cut, with_size, with_snap, with_status, without_snap, detached, with_role, with_global, in_step};
+ghost use Rattle.rbd_kinds.specs.Header.{snap_named};
+ghost use Rattle.rbd_header.specs.Header.{snap_in, is_full, cut, with_size, with_snap, with_status, without_snap, detached, with_role, with_global, in_step};
 
 use crate::fault::{Held, SnapAddFault};
-use crate::lookup::{named, snapshot};
+use crate::lookup::snapshot;
 use crate::snaps::{copy_of, mark, unlist};
 use rbd_kinds::{
     GlobalName, HeaderView, Instance, Name, NoMemory, ParentLink, Role, SnapId, SnapStatus,
@@ -84,7 +85,7 @@ impl Header {
         ensures room { OnOk result (is_full self.old ≡ false) }
         ensures no_memory { IsErrOf result SnapAddFault.NoMemory → (snap_named self.old.snaps name.now ≡ None) × (is_full self.old ≡ false) }
     {
-        if named(&self.view, name).is_some() {
+        if self.view.named(name).is_some() {
             return Err(SnapAddFault::Exists);
         }
         if is_full(&self.view) {

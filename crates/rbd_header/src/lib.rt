@@ -6,7 +6,7 @@
 //! let first = header.snap_add(&name)?;            // snapshot 1, with the head's size and parent
 //! header.snap_status(first, SnapStatus::Protected);
 //! header.set_size(4096);                          // cuts the head's overlap too
-//! named(header.as_view(), &name)                  // the snapshot, still with its own size
+//! header.as_view().named(&name)                   // the snapshot, still with its own size
 //! header.unlock(instance);
 //! ```
 //!
@@ -31,4 +31,4 @@ mod tests;
 
 pub use fault::{Held, SnapAddFault};
 pub use header::Header;
-pub use lookup::{named, snapshot};
+pub use lookup::snapshot;

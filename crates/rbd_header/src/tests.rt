@@ -1,5 +1,5 @@
 //! Each call once, with answers worked out by hand.
-use crate::{Header, Held, SnapAddFault, named, snapshot};
+use crate::{Header, Held, SnapAddFault, snapshot};
 use rbd_kinds::{
     Bytes, GlobalName, HeaderView, ImageId, Instance, Layout, Name, NoMemory, ParentLink, Role,
     SessionNo, SiteId, SnapId, SnapStatus, Snaps,
@@ -95,7 +95,7 @@ fn a_snapshot_keeps_size_and_overlap(rt: HostRuntime) -> Result<(), Fail> {
     assert_eq!(rt; view.size, 8000);
     assert_eq!(rt; view.parent, parent(6000));
     assert_eq!(rt; (view.generation, view.snap_seq), (73, 6));
-    let found = named(view, &first).expect(&rt, "it is listed");
+    let found = view.named(&first).expect(&rt, "it is listed");
     assert_eq!(rt; (found.id, found.size), (SnapId(6), 10000));
     assert_eq!(rt; found.parent, parent(10000));
     assert_eq!(rt; found.status, SnapStatus::Unprotected);
@@ -116,7 +116,7 @@ fn a_snapshot_is_protected_and_removed(rt: HostRuntime) -> Result<(), Fail> {
     assert!(rt; !does(&rt, &mut header, Change::Status(SnapId(6), protected)));
     let view = header.view()?;
     assert_eq!(rt; (view.snaps.len(), view.generation), (1, 74));
-    assert!(rt; named(&view, &first).is_none());
+    assert!(rt; view.named(&first).is_none());
     let left = snapshot(&view, SnapId(7)).expect(&rt, "it is listed");
     assert_eq!(rt; left.name.as_slice(), b"second".as_slice());
     assert_eq!(rt; left.status, SnapStatus::Protected);
