@@ -1,4 +1,6 @@
 pub mod ObjectMap
+pub mod OneReading
+pub mod OneWord
 pub mod Payload
 pub mod Pieces
 pub mod Played
@@ -6,6 +8,5 @@ pub mod Put
 pub mod Reading
 pub mod SessionName
 pub mod Standing
-pub mod Tokens
-pub mod OneWord
 pub mod Taken
+pub mod Tokens
