@@ -13,7 +13,7 @@ use Rattle.rbd_frame.specs.declared.fault.FrameFault.{FrameFault}
 use Rattle.rbd_frame.specs.declared.fault.FrameFault.TheVariants.{Short, BadLength, BadText}
 use Rattle.rbd_frame.specs.declared.kind.Kind.{Kind}
 use Rattle.rbd_frame.specs.declared.kind.Kind.TheVariants.{Write, Discard, Resize, SnapCreate, SnapRemove, SnapRollback, Demote}
-use Rattle.rbd_frame.specs.Spelling.{IsInRange, frame, furthest}
+use Rattle.rbd_kinds.specs.Frame.{IsInRange, frame, furthest}
 use Rattle.rbd_frame.specs.Faults.{allows_length, body_fault, discard_fault, ends_too_far, fault_after, fault_of_kind, first_fault, kind_at, misplaced, name_fault, resize_fault, write_fault}
 use Rattle.rbd_frame.specs.Parts.{HasBody, HasBodyAfter}
 use Rattle.rbd_frame.proofs.Fields.{IsBytes, IsBytes-take, IsBytes-drop, back_64, discard_has, body_has, header_has}

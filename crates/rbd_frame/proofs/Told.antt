@@ -13,7 +13,7 @@ use Rattle.rbd_frame.specs.declared.fault.FrameFault.{FrameFault}
 use Rattle.rbd_frame.specs.declared.fault.FrameFault.TheVariants.{Short, BadLength}
 use Rattle.rbd_frame.specs.declared.kind.Kind.{Kind}
 use Rattle.rbd_frame.specs.declared.kind.Kind.TheVariants.{Write, Discard, Resize, SnapCreate, SnapRemove, SnapRollback, Demote}
-use Rattle.rbd_frame.specs.Spelling.{IsInRange, IsWrite, IsDiscard, kind_byte, body_of, frame, furthest}
+use Rattle.rbd_kinds.specs.Frame.{IsInRange, IsWrite, IsDiscard, kind_byte, body_of, frame, furthest}
 use Rattle.rbd_frame.specs.Faults.{allows_length, byte_of, kind_at, body_fault, fault_after, fault_of_kind, first_fault, write_fault, discard_fault, resize_fault, name_fault, ends_too_far}
 use Rattle.rbd_frame.specs.Parts.{HasBody, HasHeader, kind_of}
 use Rattle.rbd_frame.proofs.Names.{nothing_misplaced}

@@ -7,7 +7,7 @@ use Rattle.rbd_frame.specs.declared.fault.FrameFault.{FrameFault}
 use Rattle.rbd_frame.specs.declared.fault.FrameFault.TheVariants.{Short, BadKind, BadLength, BadText, NoMemory}
 use Rattle.rbd_frame.specs.declared.kind.Kind.{Kind}
 use Rattle.rbd_frame.specs.declared.kind.Kind.TheVariants.{Write, Discard, Resize, SnapCreate, SnapRemove, SnapRollback, Demote}
-use Rattle.rbd_frame.specs.Spelling.{furthest}
+use Rattle.rbd_kinds.specs.Frame.{furthest}
 
 abbrev pub IsNoMemory : FrameFault → Type 0
 IsNoMemory fault = fault ≡ NoMemory

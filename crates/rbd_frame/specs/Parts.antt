@@ -5,7 +5,7 @@ use Rattle.rbd_kinds.specs.declared.journal.Event as journal
 use Rattle.rbd_kinds.specs.declared.journal.Event.TheVariants as event
 use Rattle.rbd_frame.specs.declared.kind.Kind.{Kind}
 use Rattle.rbd_frame.specs.declared.kind.Kind.TheVariants.{Write, Discard, Resize, SnapCreate, SnapRemove, SnapRollback, Demote}
-use Rattle.rbd_frame.specs.Spelling.{body_of, IsInRange}
+use Rattle.rbd_kinds.specs.Frame.{body_of, IsInRange}
 use Rattle.rbd_frame.specs.Faults.{allows_length, byte_of}
 
 abbrev pub kind_of : journal.Event → Kind

@@ -3,7 +3,7 @@ ghost use Rattle.std.specs.Prelude.{◌≡◌, ℕ, ◌++◌, List, length, drop
 ghost use Rattle.rbd_kinds.specs.declared.journal.Event.{Event};
 ghost use Rattle.rbd_frame.specs.Faults.{IsNoMemory, body_fault, fault_after, first_fault};
 ghost use Rattle.rbd_frame.specs.Parts.{HasBodyAfter, HasHeader};
-ghost use Rattle.rbd_frame.specs.Spelling.{IsInRange, frame};
+ghost use Rattle.rbd_kinds.specs.Frame.{IsInRange, frame};
 ghost use Rattle.rbd_frame.specs.declared.fault.FrameFault.{FrameFault};
 
 use crate::body::event_of;

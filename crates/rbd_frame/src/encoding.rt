@@ -2,7 +2,7 @@
 ghost use Rattle.std.specs.Prelude.{◌≡◌, ◌+◌, ◌<◌, ◌^◌, ◌++◌, ◌∷◌, length, IfOk};
 ghost use Rattle.std.specs.Int.{w32, to_be_bytes};
 ghost use Rattle.rbd_frame.specs.Faults.{byte_of};
-ghost use Rattle.rbd_frame.specs.Spelling.{IsInRange, frame};
+ghost use Rattle.rbd_kinds.specs.Frame.{IsInRange, frame};
 
 use crate::kind::Kind;
 use crate::layout::HEADER;

@@ -2,7 +2,7 @@
 ghost use Rattle.std.specs.Prelude.{◌≡◌, ℕ, ◌<◌, List, [], ◌++◌, None, slice_index};
 ghost use Rattle.rbd_kinds.specs.declared.journal.Event.{Event};
 ghost use Rattle.rbd_frame.specs.Faults.{first_fault};
-ghost use Rattle.rbd_frame.specs.Spelling.{IsInRange, frame};
+ghost use Rattle.rbd_kinds.specs.Frame.{IsInRange, frame};
 
 /// No frame is a proper prefix of another, so the bytes alone say where a frame ends. What stands at the front
 /// tells the event, and what follows it.

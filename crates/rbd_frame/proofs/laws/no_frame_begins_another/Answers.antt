@@ -1,6 +1,6 @@
 use Rattle.std.proofs.Common.{sym, ◌∙◌, []}
 use Rattle.std.proofs.lemmas.List.{append-nil}
-use Rattle.rbd_frame.specs.Spelling.{frame}
+use Rattle.rbd_kinds.specs.Frame.{frame}
 use Rattle.rbd_frame.proofs.Told.{one_frame}
 use Rattle.rbd_frame.proofs.laws.no_frame_begins_another.Goals as goal
 
