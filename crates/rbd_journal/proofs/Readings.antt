@@ -105,3 +105,15 @@ uncommitted_held j seq is after_local within_end =
     let le : first ≤ seq = omega (arith, is.uncommitted, after_local) in
     let index : seq - first < length j.held = omega (arith, is.held, is.uncommitted, after_local, within_end) in
     subst IsSome (sym (at_held first seq j.held le)) (some_mapped (positioned seq) (slice_get j.held (seq - first)) (within j.held (seq - first) index))
+
+position_is : (o : Option Held) (seq : ℕ) (p : Position) (frame : List ℕ) → option_map (positioned seq) o ≡ Some (p, frame) → p.seq ≡ seq
+position_is None seq p frame e = absurd cc
+position_is (Some h) seq p frame e = let same : (record { tag = h.tag; seq = seq }, h.frame) ≡ (p, frame) = cc in sym (ap (λ (x : Position × List ℕ). x.0.seq) same)
+
+pub reads_number : (j : Records) (seq : ℕ) (p : Position) (frame : List ℕ) → frame_at j seq ≡ Some (p, frame) → p.seq ≡ seq
+reads_number j seq p frame e =
+    let first = first_held j in
+    elim (cases_lt seq first) [
+      | inl lt ↦ position_is None seq p frame (sym (before_held first seq j.held lt) ∙ e)
+      | inr le ↦ position_is (slice_get j.held (seq - first)) seq p frame (sym (at_held first seq j.held le) ∙ e)
+    ]

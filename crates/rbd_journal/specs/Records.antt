@@ -108,7 +108,17 @@ trimmed j = record j { held = drop (least_commit j + 1 - first_held j) j.held }
 abbrev pub tag_drawn : Records → Records
 tag_drawn j = record j { drawn = j.drawn + 1 }
 
--- What holds of a journal at every moment. What Local hasn't committed is held.
+-- whether a number is one of a span's
+abbrev pub has : Span → (seq : ℕ) → Bool
+has s seq = nat_le s.first seq && nat_le seq s.last
+
+-- the tag of the span that has a number
+abbrev pub tag_of : List Span → (seq : ℕ) → Option Tag
+tag_of [] seq = None
+tag_of (s ∷ spans) seq = if has s seq then Some s.tag else tag_of spans seq
+
+-- What holds of a journal at every moment. What Local hasn't committed is held, and each held frame has the
+-- tag of the span that has its number.
 pub record IsSound (j : Records) : Type 0 where
   pub run : RunFrom 1 j.spans
   pub end : j.end ≡ end_after 0 j.spans
@@ -116,3 +126,4 @@ pub record IsSound (j : Records) : Type 0 where
   pub local : j.local ≤ j.end
   pub mirror : IfSome j.mirror (λ seq. seq ≤ j.end)
   pub uncommitted : j.end ≤ j.local + length j.held
+  pub tags : (seq : ℕ) → IfSome (frame_at j seq) (λ x. tag_of j.spans seq ≡ Some x.0.tag)

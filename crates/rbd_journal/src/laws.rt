@@ -1,8 +1,10 @@
 //! What the definitions of a journal mean for its readers: each law is the contract of a function that does
 //! nothing. `frame_at` is what `read` answers.
-ghost use Rattle.std.specs.Prelude.{◌≡◌, ◌≢◌, ℕ, ◌+◌, ◌<◌, ◌≤◌, List, None, Some, IsSome};
+ghost use Rattle.std.specs.Prelude.{◌≡◌, ◌≢◌, ℕ, ◌+◌, ◌<◌, ◌≤◌, List, None, Some, IsSome, slice_get};
+ghost use Rattle.rbd_kinds.specs.declared.journal.JournalClient.{JournalClient};
 ghost use Rattle.rbd_kinds.specs.declared.journal.Position.{Position};
-ghost use Rattle.rbd_journal.specs.Records.{IsSound, Records, appended, frame_at, least_commit, trimmed};
+ghost use Rattle.rbd_kinds.specs.declared.journal.Span.{Span};
+ghost use Rattle.rbd_journal.specs.Records.{IsSound, Records, RunFrom, appended, based_on, committed, frame_at, least_commit, registered, tag_drawn, tag_of, trimmed, view_of};
 
 /// After an append its position and frame are read at its number, and what was read at each other number
 /// before.
@@ -26,4 +28,33 @@ pub fn reads_after_a_trim()
 /// Each frame that the owner hasn't committed is held, so a new owner can always replay the rest.
 pub fn uncommitted_frames_are_held()
     ensures { (j : Records) (seq : ℕ) → IsSound j → j.local < seq → seq ≤ j.end → IsSome (frame_at j seq) }
+{}
+
+/// What is read with a number has that number, and the tag of the span that has it in the view: there is such
+/// a span, and whichever has it bears that tag.
+pub fn tags_of_held_frames()
+    ensures number { (j : Records) (seq : ℕ) (p : Position) (frame : List ℕ)
+        → frame_at j seq ≡ Some (p, frame) → p.seq ≡ seq }
+
+    ensures tag { (j : Records) (seq : ℕ) (p : Position) (frame : List ℕ)
+        → IsSound j → frame_at j seq ≡ Some (p, frame) → tag_of (view_of j).spans seq ≡ Some p.tag }
+
+    ensures only { (j : Records) (k seq : ℕ) (s : Span)
+        → IsSound j → slice_get (view_of j).spans k ≡ Some s → s.first ≤ seq → seq ≤ s.last
+        → tag_of (view_of j).spans seq ≡ Some s.tag }
+{}
+
+/// What holds of a journal at every moment holds at its beginning, and after each call.
+pub fn soundness_is_kept()
+    ensures based { (spans : List Span) → RunFrom 1 spans → IsSound (based_on spans) }
+
+    ensures appended { (j : Records) (p : Position) (frame : List ℕ)
+        → IsSound j → p.seq ≡ j.end + 1 → IsSound (appended p frame j) }
+
+    ensures committed { (j : Records) (client : JournalClient) (seq : ℕ)
+        → IsSound j → seq ≤ j.end → IsSound (committed client seq j) }
+
+    ensures registered { (j : Records) → IsSound j → IsSound (registered j) }
+    ensures trimmed { (j : Records) → IsSound j → IsSound (trimmed j) }
+    ensures tag_drawn { (j : Records) → IsSound j → IsSound (tag_drawn j) }
 {}

@@ -15,6 +15,7 @@
 //! - Sequence numbers run from 1 without gaps over the whole journal, across its tags (own).
 //! - A span is a run of numbers that bear one tag. A journal can begin on the spans of another: then it
 //!   ends where they end and holds no frame, and its owner has come that far.
+//! - A held frame has the tag of the span that has its number, so a reader of the spans knows whose it is.
 //! - A tag has the site and the image of the journal that drew it, and a number that is one above the last:
 //!   so no journal draws a tag twice, and no two journals draw one.
 //! - A commit position never goes back. The mirror daemon has none until it registers, or commits.
