@@ -8,5 +8,4 @@ pub fn one_reading()
     ensures script { (text : List ℕ) (s t : Script) → IsScript text s → IsScript text t → s ≡ t }
     ensures either { (text : List ℕ) (s : Script) (line : ℕ) → IsScript text s → ¬ (IsFaulty text line) }
     ensures fault { (text : List ℕ) (line line' : ℕ) → IsFaulty text line → IsFaulty text line' → line ≡ line' }
-{
-}
+{}

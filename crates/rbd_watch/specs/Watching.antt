@@ -1,0 +1,23 @@
+-- Who watches an image's header, in order of registration.
+use Rattle.std.specs.Prelude.{ℕ, Bool, not, ◌&&◌, ◌==◌, List, [], ◌∷◌, ◌++◌, if◌then◌else◌}
+use Rattle.std.specs.List.{filter, list_any}
+use Rattle.rbd_kinds.specs.declared.id.Instance.{Instance}
+
+-- one life of one session
+abbrev pub same : Instance → Instance → Bool
+same a b = (a.session == b.session) && (a.life == b.life)
+
+abbrev pub watches : Instance → List Instance → Bool
+watches instance watchers = list_any (same instance) watchers
+
+-- a new watcher stands at the end, and one that watches keeps its place
+abbrev pub registered : Instance → List Instance → List Instance
+registered instance watchers = if watches instance watchers then watchers else watchers ++ instance ∷ []
+
+-- the others, in their order
+abbrev pub without : Instance → List Instance → List Instance
+without instance watchers = filter (λ w. not (same instance w)) watchers
+
+-- whether an instance of another session watches
+abbrev pub other_watches : (session : ℕ) → List Instance → Bool
+other_watches session watchers = list_any (λ w. not (w.session == session)) watchers

@@ -1,0 +1,81 @@
+//! The watchers of one image.
+ghost use Rattle.std.specs.Prelude.{◌≡◌, [], IfOk, OnOk, OnErr};
+ghost use Rattle.std.specs.List.{IsDistinct};
+ghost use Rattle.rbd_watch.specs.Watching.{other_watches, registered, same, watches, without};
+
+use indexmap::IndexSet;
+use rbd_kinds::{Instance, Instances, NoMemory, SessionNo};
+use std::alloc::Global;
+use std::marker::Model;
+
+/// The instances that watch an image's header (Ceph: watch). Contracts see the list of them, in order of
+/// registration and without repetition.
+#[derive(Debug, Drop)]
+pub struct Watchers {
+    alloc: Global,
+    instances: IndexSet<Instance>,
+}
+
+impl Model for Watchers {
+    ghost use Rattle.std.specs.Prelude.{List};
+    ghost use Rattle.rbd_kinds.specs.declared.id.Instance.{Instance};
+
+    ghost Value = { List Instance };
+
+    ghost view = { λ w. w.instances.keys };
+}
+
+impl Watchers {
+    /// Nobody watches. It takes no memory.
+    pub fn new(alloc: Global) -> Self
+        ensures { result ≡ [] }
+    {
+        Watchers {
+            alloc,
+            instances: IndexSet::new(alloc),
+        }
+    }
+
+    /// Registers an instance, behind the others. A second time changes nothing. Refused memory, nothing
+    /// changes.
+    pub fn watch(&mut self, instance: Instance) -> Result<(), NoMemory>
+        ensures ok { OnOk result (self.new ≡ registered instance self.old) }
+        ensures err { OnErr result (self.new ≡ self.old) }
+    {
+        self.instances.insert(instance)?;
+        Ok(())
+    }
+
+    /// Ends an instance's watch, and answers whether it watched. The others keep their order. It takes no
+    /// memory.
+    pub fn unwatch(&mut self, instance: Instance) -> bool
+        ensures found { result ≡ watches instance self.old }
+        ensures others { self.new ≡ without instance self.old }
+    {
+        // The length is asked for its clause that no instance stands twice.
+        let _count = self.instances.len();
+        self.instances.shift_remove(&instance)
+    }
+
+    /// The watchers, in order of registration.
+    pub fn list(&self) -> Result<Instances, NoMemory>
+        ensures list { IfOk result (λ list. list ≡ self.now) }
+        ensures distinct { IsDistinct same self.now }
+    {
+        let instances = self.instances.as_slice();
+        Ok(Instances::from_vec(Vec::from_slice(self.alloc, instances)?))
+    }
+
+    /// Whether an instance of another session watches. It takes no memory.
+    pub fn others(&self, session: SessionNo) -> bool
+        ensures { result ≡ other_watches session self.now }
+    {
+        any_other(self.instances.as_slice(), session)
+    }
+}
+
+fn any_other(instances: &[Instance], session: SessionNo) -> bool
+    ensures { result ≡ other_watches session instances.now }
+{
+    instances.iter().any(|instance| instance.session != session)
+}
