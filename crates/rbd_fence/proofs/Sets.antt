@@ -8,6 +8,7 @@ use Rattle.std.proofs.lemmas.Cmp.{on_total, then_total}
 use Rattle.std.proofs.lemmas.Map.Lookups.{CmpEqualImpliesEq, exact_pairs, exact_unsigned}
 use Rattle.std.proofs.lemmas.Map.Views.{tells_apart}
 use Rattle.std.specs.FinSet.{FinSet, contains, insert, from_list, same_set, contains-insert, contains-from_list}
+use Rattle.rbd_kinds.proofs.Ordered as ordered
 use Rattle.rbd_kinds.specs.declared.id.Instance.{Instance}
 use Rattle.rbd_fence.specs.Instances.{instance_cmp}
 
@@ -19,17 +20,10 @@ exact a b h =
     ap (λ (p : ℕ × ℕ). let i : Instance = record { session = p.0; life = p.1 } in i)
     (exact_pairs nat_cmp nat_cmp exact_unsigned exact_unsigned (a.session, a.life) (b.session, b.life) h)
 
-or_true : (b x : Bool) → cond b true x ≡ (b || x)
-or_true true x = refl
-or_true false x = refl
-
 -- keys that differ at one, which is there
 pub one_added : (ks ls : List Instance) (k : Instance) → ((q : Instance) → list_any (is_at (instance_cmp q)) ls ≡ cond (is_at (instance_cmp k) q) true (list_any (is_at (instance_cmp q)) ks))
     → from_list {R = instance_cmp} ls ≡ insert (from_list ks) k
-one_added ks ls k h = same_set total exact _ _ (λ q.
-    contains-from_list total ls q ∙ h q ∙ ap (λ b. cond b true (list_any (is_at (instance_cmp q)) ks)) ((eq_by_cmp_equiv total).symm k q)
-    ∙ or_true (is_at (instance_cmp q) k) (list_any (is_at (instance_cmp q)) ks)
-    ∙ sym (contains-insert total (from_list ks) k q ∙ ap (λ b. is_at (instance_cmp q) k || b) (contains-from_list total ks q)))
+one_added = ordered.one_added total exact
 
 -- ---- what the set of an addition has
 

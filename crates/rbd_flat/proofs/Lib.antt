@@ -2,6 +2,5 @@ pub mod Painted
 pub mod Images
 pub mod Steps
 pub mod Parts
-pub mod Maps
 pub mod SiteSteps
 pub mod Shown

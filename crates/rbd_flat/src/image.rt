@@ -8,7 +8,7 @@ ghost use Rattle.rbd_flat.specs.Flat.{FlatSnap, FlatImage, painted, places_of, r
 ghost use Rattle.rbd_flat.specs.Read.{view_of};
 
 use crate::paint::paint;
-use rbd_kinds::{Bytes, Extent, Name, NoMemory, Role, SnapId, SnapStatus};
+use rbd_kinds::{Bytes, Extent, Name, NoMemory, Role, SnapId, SnapStatus, TryClone};
 use std::alloc::Global;
 use std::marker::Model;
 

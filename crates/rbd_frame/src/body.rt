@@ -11,7 +11,7 @@ use crate::fault::FrameFault;
 use crate::kind::Kind;
 use crate::layout::{FURTHEST, HEADER};
 use byteorder::{BigEndian, ByteOrder};
-use rbd_kinds::{Bytes, Event, Name};
+use rbd_kinds::{Bytes, Event, Name, is_name_byte};
 use std::alloc::Global;
 
 /// The event of a body whose length its kind allows, or the body's first fault.
@@ -116,12 +116,6 @@ fn first_strange(text: &[u8]) -> Option<usize>
     ensures { result ≡ position (λ byte. not (name_byte byte)) text.now }
 {
     text.iter().position(|&byte| !is_name_byte(byte))
-}
-
-fn is_name_byte(byte: u8) -> bool
-    ensures { result ≡ name_byte byte }
-{
-    byte.is_ascii_alphanumeric() || byte == b'.' || byte == b'_' || byte == b'-'
 }
 
 /// Whether there are bytes to discard, and none passes the furthest byte of an image.

@@ -6,10 +6,10 @@ ghost use Rattle.rbd_header.specs.Header.{snap_in, is_full, cut, with_size, with
 
 use crate::fault::{Held, SnapAddFault};
 use crate::lookup::snapshot;
-use crate::snaps::{copy_of, mark, unlist};
+use crate::snaps::{mark, unlist};
 use rbd_kinds::{
     GlobalName, HeaderView, Instance, Name, NoMemory, ParentLink, Role, SnapId, SnapStatus,
-    SnapView, Snaps,
+    SnapView, Snaps, TryClone,
 };
 use std::alloc::Global;
 use std::marker::Model;
@@ -50,8 +50,7 @@ impl Header {
     pub fn view(&self) -> Result<HeaderView, NoMemory>
         ensures { IfOk result (λ copy. copy ≡ self.now) }
     {
-        let snaps = copy_of(self.alloc, self.view.snaps.as_slice())?;
-        Ok(HeaderView { snaps, ..self.view })
+        self.view.try_clone()
     }
 
     /// What it tells.

@@ -1,33 +1,11 @@
-//! The list of snapshots: a copy of it, one marked, one removed.
-ghost use Rattle.std.specs.Prelude.{◌≡◌, ◌==◌, not, map, IfOk};
+//! The list of snapshots: one marked, one removed.
+ghost use Rattle.std.specs.Prelude.{◌≡◌, ◌==◌, not, map};
 ghost use Rattle.std.specs.List.{filter};
 ghost use Rattle.rbd_header.specs.Header.{marked};
 
-use rbd_kinds::{NoMemory, SnapId, SnapStatus, SnapView, Snaps};
+use rbd_kinds::{SnapId, SnapStatus, SnapView, Snaps};
 use std::alloc::Global;
 use std::mem;
-
-pub fn copy_of(alloc: Global, snaps: &[SnapView]) -> Result<Snaps, NoMemory>
-    ensures { IfOk result (λ copy. copy ≡ snaps.now) }
-{
-    let mut copy = Snaps::new(alloc);
-    for snap in snaps {
-        copy.push(copy_of_one(snap)?)?;
-    }
-    Ok(copy)
-}
-
-fn copy_of_one(snap: &SnapView) -> Result<SnapView, NoMemory>
-    ensures { IfOk result (λ copy. copy ≡ snap.now) }
-{
-    Ok(SnapView {
-        id: snap.id,
-        name: snap.name.try_clone()?,
-        size: snap.size,
-        status: snap.status,
-        parent: snap.parent,
-    })
-}
 
 /// Gives a snapshot a status.
 pub fn mark(alloc: Global, snaps: &mut Snaps, snap: SnapId, status: SnapStatus)

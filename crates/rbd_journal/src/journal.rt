@@ -69,10 +69,10 @@ impl Journal {
         }
     }
 
-    /// Records a frame at the next position. Refused memory, nothing changes.
+    /// Records a frame at the next position, which may be the last that 64 bits count. Refused memory, nothing
+    /// changes.
     pub fn append(&mut self, position: Position, frame: &[u8]) -> Result<(), NoMemory>
         requires next { position.seq ≡ self.old.end + 1 }
-        requires below { position.seq < 2 ^ 64 - 1 }
         ensures ok { OnOk result (self.new ≡ appended position frame.now self.old) }
         ensures err { OnErr result (self.new ≡ self.old) }
     {

@@ -1,5 +1,10 @@
+pub mod Answer
+pub mod Command
+pub mod Form
 pub mod Frame
 pub mod Header
 pub mod Name
+pub mod Operation
+pub mod OperationKind
 pub mod Refusal
 pub mod Striping

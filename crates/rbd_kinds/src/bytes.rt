@@ -1,5 +1,6 @@
 ghost use Rattle.std.specs.Prelude.{◌≡◌, [], length, List, ℕ, IsTrue, ◌↔◌, IfOk};
 
+use crate::copies::TryClone;
 use crate::memory::NoMemory;
 use std::alloc::Global;
 use std::marker::Model;
@@ -66,11 +67,10 @@ impl Bytes {
     {
         self.bytes.is_empty()
     }
+}
 
-    /// A copy, on the same allocator.
-    pub fn try_clone(&self) -> Result<Self, NoMemory>
-        ensures { IfOk result (λ copy. copy ≡ self.now) }
-    {
+impl TryClone for Bytes {
+    fn try_clone(&self) -> Result<Self, NoMemory> {
         Ok(Bytes {
             bytes: self.bytes.clone()?,
         })

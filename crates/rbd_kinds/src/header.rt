@@ -2,8 +2,10 @@
 ghost use Rattle.std.specs.Prelude.{◌≡◌, option_copied};
 ghost use Rattle.rbd_kinds.specs.Header.{snap_named};
 
+use crate::copies::TryClone;
 use crate::id::{ImageId, Instance, SiteId, SnapId};
 use crate::layout::Layout;
+use crate::memory::NoMemory;
 use crate::name::Name;
 use crate::sequence::Sequence;
 
@@ -114,4 +116,31 @@ fn first_named<'s>(snaps: &'s [SnapView], name: &Name) -> Option<&'s SnapView>
         }
     }
     None
+}
+
+impl TryClone for SnapContext {
+    fn try_clone(&self) -> Result<Self, NoMemory> {
+        Ok(SnapContext {
+            seq: self.seq,
+            snaps: self.snaps.try_clone()?,
+        })
+    }
+}
+
+impl TryClone for SnapView {
+    fn try_clone(&self) -> Result<Self, NoMemory> {
+        Ok(SnapView {
+            name: self.name.try_clone()?,
+            ..*self
+        })
+    }
+}
+
+impl TryClone for HeaderView {
+    fn try_clone(&self) -> Result<Self, NoMemory> {
+        Ok(HeaderView {
+            snaps: self.snaps.try_clone()?,
+            ..*self
+        })
+    }
 }

@@ -1,6 +1,8 @@
 //! Who and what: sites, sessions and their lives, images and their snapshots.
 ghost use Rattle.std.specs.Prelude.{ℕ};
 
+use crate::copies::TryClone;
+use crate::memory::NoMemory;
 use crate::sequence::Sequence;
 use std::marker::Model;
 
@@ -69,4 +71,22 @@ impl Model for SnapId {
     ghost view = { λ s. s.0 };
 
     ghost inverse = { λ n. record { 0 = n } };
+}
+
+impl TryClone for Instance {
+    fn try_clone(&self) -> Result<Self, NoMemory> {
+        Ok(*self)
+    }
+}
+
+impl TryClone for ImageId {
+    fn try_clone(&self) -> Result<Self, NoMemory> {
+        Ok(*self)
+    }
+}
+
+impl TryClone for SnapId {
+    fn try_clone(&self) -> Result<Self, NoMemory> {
+        Ok(*self)
+    }
 }

@@ -1,6 +1,8 @@
 //! What a journal records, and where.
 use crate::bytes::Bytes;
+use crate::copies::TryClone;
 use crate::id::{ImageId, SiteId};
+use crate::memory::NoMemory;
 use crate::name::Name;
 use crate::sequence::Sequence;
 
@@ -64,4 +66,19 @@ pub enum Event {
     SnapRemove { name: Name },
     SnapRollback { name: Name },
     Demote,
+}
+
+impl TryClone for Span {
+    fn try_clone(&self) -> Result<Self, NoMemory> {
+        Ok(*self)
+    }
+}
+
+impl TryClone for JournalView {
+    fn try_clone(&self) -> Result<Self, NoMemory> {
+        Ok(JournalView {
+            spans: self.spans.try_clone()?,
+            ..*self
+        })
+    }
 }

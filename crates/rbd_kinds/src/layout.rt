@@ -1,4 +1,6 @@
 //! How an image is cut into objects.
+use crate::copies::TryClone;
+use crate::memory::NoMemory;
 use crate::sequence::Sequence;
 
 /// How an image's bytes are striped over objects (Ceph: RBD striping). `object` and `unit` are bytes,
@@ -31,3 +33,9 @@ pub struct Part {
 }
 
 pub type Parts = Sequence<Part>;
+
+impl TryClone for Part {
+    fn try_clone(&self) -> Result<Self, NoMemory> {
+        Ok(*self)
+    }
+}

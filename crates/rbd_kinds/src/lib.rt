@@ -18,32 +18,56 @@
 //! list as it was.
 #![tactic(auto)]
 
+mod answer;
 mod bytes;
+mod children_op;
 mod command;
+mod copies;
+mod data_op;
+mod directory_op;
 mod header;
+mod header_op;
 mod id;
 mod journal;
+mod journal_op;
 mod layout;
+mod machine;
+mod map_op;
 mod memory;
 mod name;
 mod notice;
+mod number;
+mod operation;
+mod operation_kind;
 mod refusal;
 mod reply;
 mod sequence;
 #[cfg(test)]
 mod tests;
 
+pub use answer::Answer;
 pub use bytes::Bytes;
-pub use command::Command;
+pub use children_op::ChildrenOp;
+pub use command::{Command, FillLength, Payload, ReadLength, Shape};
+pub use copies::TryClone;
+pub use data_op::DataOp;
+pub use directory_op::DirectoryOp;
 pub use header::{
     GlobalName, HeaderView, ParentLink, Role, SnapContext, SnapIds, SnapStatus, SnapView, Snaps,
 };
+pub use header_op::HeaderOp;
 pub use id::{Ids, ImageId, Instance, Instances, SessionNo, SiteId, Slot, SnapId};
 pub use journal::{Event, JournalClient, JournalView, Position, Span, Spans, Tag};
+pub use journal_op::JournalOp;
 pub use layout::{Extent, Layout, Part, Parts};
+pub use machine::{Fed, Turn, Want};
+pub use map_op::MapOp;
 pub use memory::NoMemory;
-pub use name::{Name, Names};
+pub use name::{Name, Names, is_name_byte};
 pub use notice::{Notice, NoticeKind};
+pub use number::{AtMost, Number};
+pub use operation::Op;
+pub use operation_kind::OpKind;
 pub use refusal::Refusal;
-pub use reply::Reply;
+pub use reply::{MirrorState, Reply};
 pub use sequence::Sequence;

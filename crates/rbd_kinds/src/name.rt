@@ -1,8 +1,9 @@
-ghost use Rattle.std.specs.Prelude.{◌≡◌, ℕ, List, IfOk, IsSome, IfSome, IsTrue, ◌↔◌};
+ghost use Rattle.std.specs.Prelude.{◌≡◌, ℕ, List, IsSome, IfSome, IsTrue, ◌↔◌};
 ghost use Rattle.std.specs.List.{list_all};
 ghost use Rattle.rbd_kinds.specs.Name.{IsName, name_byte};
 
 use crate::bytes::Bytes;
+use crate::copies::TryClone;
 use crate::memory::NoMemory;
 use crate::sequence::Sequence;
 use std::cmp::Ordering;
@@ -47,11 +48,10 @@ impl Name {
     {
         self.text.as_slice()
     }
+}
 
-    /// A copy, on the same allocator.
-    pub fn try_clone(&self) -> Result<Self, NoMemory>
-        ensures { IfOk result (λ copy. copy ≡ self.now) }
-    {
+impl TryClone for Name {
+    fn try_clone(&self) -> Result<Self, NoMemory> {
         Ok(Name {
             text: self.text.try_clone()?,
         })
@@ -77,7 +77,8 @@ fn are_name_bytes(text: &[u8]) -> bool
     text.iter().all(|&byte| is_name_byte(byte))
 }
 
-fn is_name_byte(byte: u8) -> bool
+/// Whether a byte may stand in a name.
+pub fn is_name_byte(byte: u8) -> bool
     ensures { result ≡ name_byte byte }
 {
     byte.is_ascii_alphanumeric() || byte == b'.' || byte == b'_' || byte == b'-'

@@ -1,6 +1,8 @@
 //! What sessions tell each other about an image.
 use crate::bytes::Bytes;
+use crate::copies::TryClone;
 use crate::id::{ImageId, Instance, SiteId};
+use crate::memory::NoMemory;
 
 /// What a notification says.
 #[derive(Debug, Drop)]
@@ -23,4 +25,14 @@ pub struct Notice {
     pub site: SiteId,
     pub image: ImageId,
     pub kind: NoticeKind,
+}
+
+impl TryClone for NoticeKind {
+    fn try_clone(&self) -> Result<Self, NoMemory> {
+        Ok(match self {
+            NoticeKind::RequestLock => NoticeKind::RequestLock,
+            NoticeKind::ReleasedLock => NoticeKind::ReleasedLock,
+            NoticeKind::Custom(bytes) => NoticeKind::Custom(bytes.try_clone()?),
+        })
+    }
 }

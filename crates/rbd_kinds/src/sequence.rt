@@ -1,5 +1,6 @@
 ghost use Rattle.std.specs.Prelude.{◌≡◌, [], ◌∷◌, ◌++◌, length, List, IsTrue, ◌↔◌, OnOk, OnErr};
 
+use crate::copies::TryClone;
 use crate::memory::NoMemory;
 use std::alloc::Global;
 use std::marker::Model;
@@ -67,5 +68,15 @@ impl<T> Sequence<T> {
     {
         self.items.push(item)?;
         Ok(())
+    }
+}
+
+impl<T: TryClone> TryClone for Sequence<T> {
+    fn try_clone(&self) -> Result<Self, NoMemory> {
+        let mut copies = Vec::new(*self.items.allocator());
+        for item in self.as_slice() {
+            copies.push(item.try_clone()?)?;
+        }
+        Ok(Sequence { items: copies })
     }
 }

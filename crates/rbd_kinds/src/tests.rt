@@ -1,6 +1,7 @@
 use crate::*;
 use std::alloc::Global;
 use std::cmp::Ordering;
+use std::process::Abort;
 use std::test::Fail;
 
 fn name(alloc: Global, text: &str) -> Result<Option<Name>, Fail> {
@@ -173,6 +174,141 @@ fn a_snapshot_is_found_by_its_name(rt: HostRuntime) -> Result<(), Fail> {
             let found = view.named(&name).map(|snap| snap.id);
             assert_eq!(rt; found, id, "{text}");
         }
+    }
+    Ok(())
+}
+
+fn words_are_those_of_their_kinds(rt: &impl Abort, table: &[(OpKind, &str)]) {
+    for (kind, word) in table {
+        assert_eq!(rt; kind.word(), *word);
+        let found = OpKind::from_word(word.as_bytes());
+        assert_eq!(rt; found, Some(*kind), "{word}");
+    }
+}
+
+#[test]
+fn operations_on_names_and_headers_have_their_words(rt: HostRuntime) {
+    words_are_those_of_their_kinds(
+        &rt,
+        &[
+            (OpKind::DirFind, "dir-find"),
+            (OpKind::DirAdd, "dir-add"),
+            (OpKind::DirRemove, "dir-remove"),
+            (OpKind::DirRename, "dir-rename"),
+            (OpKind::DirList, "dir-list"),
+            (OpKind::ChildAdd, "child-add"),
+            (OpKind::ChildRemove, "child-remove"),
+            (OpKind::ChildList, "child-list"),
+            (OpKind::BlockAdd, "block-add"),
+            (OpKind::HeaderCreate, "header-create"),
+            (OpKind::HeaderGet, "header-get"),
+            (OpKind::HeaderSetSize, "header-set-size"),
+            (OpKind::HeaderSnapAdd, "header-snap-add"),
+            (OpKind::HeaderSnapRemove, "header-snap-remove"),
+            (OpKind::HeaderSnapStatus, "header-snap-status"),
+            (OpKind::HeaderDetach, "header-detach"),
+            (OpKind::HeaderRole, "header-role"),
+            (OpKind::HeaderMirror, "header-mirror"),
+            (OpKind::HeaderSynced, "header-synced"),
+            (OpKind::HeaderRemove, "header-remove"),
+            (OpKind::LockTake, "lock-take"),
+            (OpKind::LockDrop, "lock-drop"),
+            (OpKind::LockBreak, "lock-break"),
+            (OpKind::Watch, "watch"),
+            (OpKind::Unwatch, "unwatch"),
+            (OpKind::WatchersGet, "watchers-get"),
+            (OpKind::Notify, "notify"),
+        ],
+    );
+}
+
+#[test]
+fn operations_on_data_maps_and_journals_have_their_words(rt: HostRuntime) {
+    words_are_those_of_their_kinds(
+        &rt,
+        &[
+            (OpKind::DataRead, "data-read"),
+            (OpKind::DataWrite, "data-write"),
+            (OpKind::DataWriteFull, "data-write-full"),
+            (OpKind::DataZero, "data-zero"),
+            (OpKind::DataEmpty, "data-empty"),
+            (OpKind::DataRemove, "data-remove"),
+            (OpKind::DataCopyUp, "data-copy-up"),
+            (OpKind::MapResize, "map-resize"),
+            (OpKind::MapGet, "map-get"),
+            (OpKind::MapPut, "map-put"),
+            (OpKind::MapSet, "map-set"),
+            (OpKind::MapRemove, "map-remove"),
+            (OpKind::JournalCreate, "journal-create"),
+            (OpKind::JournalTag, "journal-tag"),
+            (OpKind::JournalAppend, "journal-append"),
+            (OpKind::JournalRead, "journal-read"),
+            (OpKind::JournalSpans, "journal-spans"),
+            (OpKind::JournalRegister, "journal-register"),
+            (OpKind::JournalCommit, "journal-commit"),
+            (OpKind::JournalRemove, "journal-remove"),
+        ],
+    );
+    for word in [
+        "",
+        "dir",
+        "dir-find ",
+        "DIR-FIND",
+        "data-writes",
+        "locktake",
+    ] {
+        let found = OpKind::from_word(word.as_bytes());
+        assert!(rt; found.is_none(), "{word}");
+    }
+}
+
+#[test]
+fn numbers_end_at_their_limit(rt: HostRuntime) {
+    for (value, valid) in [(0, true), (65_536, true), (65_537, false)] {
+        let number = ReadLength::new(value);
+        assert_eq!(rt; number.map(|number| number.get()), valid.then_some(value));
+    }
+    assert!(rt; Number::new(9_223_372_036_854_775_807).is_some());
+    assert!(rt; Number::new(9_223_372_036_854_775_808).is_none());
+}
+
+#[test]
+fn a_payload_has_a_byte_and_not_too_many(rt: HostRuntime) -> Result<(), Fail> {
+    for (len, valid) in [(0, false), (1, true), (65_536, true), (65_537, false)] {
+        let bytes = Bytes::from_vec(vec![in rt.alloc(); b'a'; len]?);
+        let payload = Payload::new(bytes);
+        assert_eq!(rt; payload.is_some(), valid, "{len}");
+    }
+    Ok(())
+}
+
+#[test]
+fn an_operation_and_its_copy_are_of_one_kind(rt: HostRuntime) -> Result<(), Fail> {
+    let view = header(Sequence::new(rt.alloc()));
+    let image = ImageId(7);
+    let create = Op::Header {
+        image,
+        op: HeaderOp::Create { view },
+    };
+    let copy = create.try_clone()?;
+    assert_eq!(rt; create.kind(), OpKind::HeaderCreate);
+    assert_eq!(rt; copy.kind(), OpKind::HeaderCreate);
+    Ok(())
+}
+
+#[test]
+fn an_answer_has_its_word(rt: HostRuntime) -> Result<(), Fail> {
+    let ids = Sequence::from_vec(vec![in rt.alloc(); ImageId(3); 2]?);
+    let answer = Answer::Ids(ids);
+    let copy = answer.try_clone()?;
+    assert_eq!(rt; copy.word(), "ids");
+    for (answer, word) in [
+        (Answer::Absent, "none"),
+        (Answer::Changed, "changed"),
+        (Answer::Fenced, "fenced"),
+        (Answer::Id(ImageId(1)), "id"),
+    ] {
+        assert_eq!(rt; answer.word(), word);
     }
     Ok(())
 }

@@ -6,8 +6,8 @@ use Rattle.std.proofs.lemmas.Fmt.{decimal_injective}
 use Rattle.hex.specs.Hex.{encode_lower, decode_of}
 use Rattle.hex.specs.declared.FromHexError.{FromHexError}
 use Rattle.hex.proofs.HexLemmas.{decode_of-encode_lower}
-use Rattle.rbd_kinds.specs.declared.command.Command.{Command}
-use Rattle.rbd_kinds.specs.declared.command.Command.TheVariants.{Create, Write, Read}
+use Rattle.rbd_lab.specs.declared.command.Command.{Command}
+use Rattle.rbd_lab.specs.declared.command.Command.TheVariants.{Create, Write, Read}
 use Rattle.rbd_lab.specs.declared.script.Script.{Script}
 use Rattle.rbd_lab.specs.declared.script.TheConstants.{SCRIPT_LIMIT}
 use Rattle.rbd_lab.specs.Line.{has_bytes, lines_of, tokens_of}

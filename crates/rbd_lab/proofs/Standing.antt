@@ -15,9 +15,9 @@ use Rattle.std.proofs.lemmas.List.{get_or-take, get_or-drop, get_or_default, sam
 use Rattle.rbd_kinds.specs.declared.layout.Extent.{Extent}
 use Rattle.rbd_kinds.specs.declared.refusal.Refusal.{Refusal}
 use Rattle.rbd_kinds.specs.declared.refusal.Refusal.TheVariants.{BadRange, NoImage, ImageExists}
-use Rattle.rbd_kinds.specs.declared.reply.Reply.{Reply}
-use Rattle.rbd_kinds.specs.declared.reply.Reply.TheVariants.{Done, Bytes, Refused}
-use Rattle.rbd_kinds.specs.declared.command.Command.TheVariants.{Create, Write, Read}
+use Rattle.rbd_lab.specs.declared.command.Reply.{Reply}
+use Rattle.rbd_lab.specs.declared.command.Reply.TheVariants.{Done, Bytes, Refused}
+use Rattle.rbd_lab.specs.declared.command.Command.TheVariants.{Create, Write, Read}
 use Rattle.rbd_kinds.specs.declared.header.Role.TheVariants.{Plain}
 use Rattle.rbd_flat.specs.declared.effect.Effect.TheVariants as effect
 use Rattle.rbd_flat.specs.Flat.{Flat, FlatImage, image_at, id_of, after, after_all}

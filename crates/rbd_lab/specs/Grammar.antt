@@ -3,8 +3,8 @@ use Rattle.std.specs.Prelude.{◌≡◌, ◌≢◌, ◌⊎◌, ℕ, ◌+◌, ◌
 use Rattle.std.specs.List.{list_all}
 use Rattle.hex.specs.Hex.{encode_lower, IsBytes}
 use Rattle.rbd_kinds.specs.Name.{IsName}
-use Rattle.rbd_kinds.specs.declared.command.Command.{Command}
-use Rattle.rbd_kinds.specs.declared.command.Command.TheVariants.{Create, Write, Read}
+use Rattle.rbd_lab.specs.declared.command.Command.{Command}
+use Rattle.rbd_lab.specs.declared.command.Command.TheVariants.{Create, Write, Read}
 use Rattle.rbd_lab.specs.Line.{lines_of, tokens_of, without_last}
 use Rattle.rbd_lab.specs.declared.script.Script.{Script}
 use Rattle.rbd_lab.specs.declared.script.TheConstants.{SCRIPT_LIMIT}

@@ -1,13 +1,13 @@
 -- What a command does to the flat site, and what it is answered.
 use Rattle.std.specs.Prelude.{ℕ, ◌+◌, ◌-◌, ◌*◌, ◌/◌, min, max, if◌then◌else◌, List, [], ◌∷◌, map, length, is_some, Option, Some, None}
 use Rattle.std.specs.List.{range_with_len}
-use Rattle.rbd_kinds.specs.declared.command.Command.{Command}
-use Rattle.rbd_kinds.specs.declared.command.Command.TheVariants.{Create, Write, Read}
+use Rattle.rbd_lab.specs.declared.command.Command.{Command}
+use Rattle.rbd_lab.specs.declared.command.Command.TheVariants.{Create, Write, Read}
 use Rattle.rbd_kinds.specs.declared.header.Role.TheVariants.{Plain}
 use Rattle.rbd_kinds.specs.declared.layout.Extent.{Extent}
 use Rattle.rbd_kinds.specs.declared.refusal.Refusal.TheVariants.{BadRange, NoImage, ImageExists}
-use Rattle.rbd_kinds.specs.declared.reply.Reply.{Reply}
-use Rattle.rbd_kinds.specs.declared.reply.Reply.TheVariants.{Done, Bytes, Refused}
+use Rattle.rbd_lab.specs.declared.command.Reply.{Reply}
+use Rattle.rbd_lab.specs.declared.command.Reply.TheVariants.{Done, Bytes, Refused}
 use Rattle.rbd_flat.specs.declared.effect.Effect.{Effect}
 use Rattle.rbd_flat.specs.declared.effect.Effect.TheVariants as effect
 use Rattle.rbd_flat.specs.Flat.{Flat, FlatImage, no_images, image_at, id_of, after_all}

@@ -2,8 +2,8 @@
 use Rattle.std.specs.Prelude.{ℕ, ◌++◌, List, [], ◌∷◌, codes, decimal, Option, Some, None}
 use Rattle.hex.specs.Hex.{encode_lower}
 use Rattle.rbd_kinds.specs.Refusal.{refusal_text}
-use Rattle.rbd_kinds.specs.declared.reply.Reply.{Reply}
-use Rattle.rbd_kinds.specs.declared.reply.Reply.TheVariants.{Done, Bytes, Refused}
+use Rattle.rbd_lab.specs.declared.command.Reply.{Reply}
+use Rattle.rbd_lab.specs.declared.command.Reply.TheVariants.{Done, Bytes, Refused}
 use Rattle.rbd_lab.specs.Meaning.{FlatState, at_first, reply_to, state_after}
 use Rattle.rbd_lab.specs.declared.script.Numbered.{Numbered}
 use Rattle.rbd_lab.specs.declared.script.Script.{Script}

@@ -30,6 +30,7 @@ use std::process::ExitCode;
 use std::rt::Env;
 use std::{env, io};
 
+mod command;
 mod laws;
 mod play;
 mod run;

@@ -10,8 +10,9 @@ ghost use Rattle.rbd_lab.specs.Grammar.{Adds, IsFaulty, IsScript, Reads, Stops, 
 ghost use Rattle.rbd_lab.specs.Line.{lines_of, without_last};
 ghost use Rattle.rbd_lab.specs.ScriptFault.{AtLine};
 
+use crate::command::Command;
 use lines::first_line;
-use rbd_kinds::{Command, Name, NoMemory, Sequence};
+use rbd_kinds::{Name, NoMemory, Sequence};
 use std::alloc::Global;
 
 mod command;

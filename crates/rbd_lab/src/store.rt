@@ -3,8 +3,9 @@ ghost use Rattle.std.specs.Prelude.{◌≡◌, ◌+◌, ◌-◌, ◌^◌, ◌<�
 ghost use Rattle.rbd_lab.specs.Meaning.{FlatState, at_first, reply_to, state_after};
 ghost use Rattle.rbd_lab.specs.Store.{header_of, header_within, AddsHeader, IsShown, PutsBytes, StandsFor};
 
+use crate::command::{Command, Reply};
 use objects::Objects;
-use rbd_kinds::{Bytes, Command, Extent, ImageId, Name, NoMemory, Refusal, Reply};
+use rbd_kinds::{Bytes, Extent, ImageId, Name, NoMemory, Refusal, TryClone};
 use std::alloc::Global;
 use std::collections::BTreeMap;
 

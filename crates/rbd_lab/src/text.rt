@@ -4,8 +4,9 @@ ghost use Rattle.hex.specs.Hex.{encode_lower};
 ghost use Rattle.rbd_kinds.specs.Refusal.{refusal_text};
 ghost use Rattle.rbd_lab.specs.Text.{fault_text, reply_text, reply_line};
 
+use crate::command::Reply;
 use itoa::Buffer;
-use rbd_kinds::{Name, NoMemory, Refusal, Reply};
+use rbd_kinds::{Name, NoMemory, Refusal};
 use std::alloc::Global;
 
 /// What is printed where the words aren't understood.

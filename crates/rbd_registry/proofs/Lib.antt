@@ -1,3 +1,2 @@
-pub mod Maps
 pub mod Listings
 pub mod Entries

@@ -5,7 +5,7 @@ ghost use Rattle.std.specs.BTreeMap.{IsUnchanged, Updates};
 ghost use Rattle.rbd_registry.specs.Directory.{name_cmp, nothing_listed, id_of, but, is_full, added, freed, renamed, IsNamed, IsSound};
 
 use crate::fault::{AddFault, RenameFault};
-use rbd_kinds::{ImageId, Name, Names, NoMemory};
+use rbd_kinds::{ImageId, Name, Names, NoMemory, TryClone};
 use std::alloc::Global;
 use std::collections::BTreeMap;
 use std::marker::Model;

@@ -2,7 +2,7 @@
 ghost use Rattle.std.specs.Prelude.{◌≡◌, ◌+◌, ◌≤◌, ◌^◌, [], ◌++◌, length, IfOk, OnOk, OnErr, option_copied, slice_get};
 ghost use Rattle.rbd_watch.specs.Posting.{AreNumberedFrom, notices, numbered};
 
-use rbd_kinds::{ImageId, Instance, NoMemory, Notice, NoticeKind, SiteId};
+use rbd_kinds::{ImageId, Instance, NoMemory, Notice, NoticeKind, SiteId, TryClone};
 use std::alloc::Global;
 use std::marker::Model;
 
@@ -101,18 +101,8 @@ fn notices_from(
             from,
             site,
             image,
-            kind: copy_of(kind)?,
+            kind: kind.try_clone()?,
         })?;
     }
     Ok(made)
-}
-
-fn copy_of(kind: &NoticeKind) -> Result<NoticeKind, NoMemory>
-    ensures { IfOk result (λ copy. copy ≡ kind.now) }
-{
-    match kind {
-        NoticeKind::RequestLock => Ok(NoticeKind::RequestLock),
-        NoticeKind::ReleasedLock => Ok(NoticeKind::ReleasedLock),
-        NoticeKind::Custom(bytes) => Ok(NoticeKind::Custom(bytes.try_clone()?)),
-    }
 }

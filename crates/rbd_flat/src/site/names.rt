@@ -4,7 +4,7 @@ ghost use Rattle.rbd_flat.specs.declared.effect.Effect.TheVariants as effect;
 ghost use Rattle.rbd_flat.specs.Flat.{after};
 
 use super::FlatSite;
-use rbd_kinds::{ImageId, Name, NoMemory};
+use rbd_kinds::{ImageId, Name, NoMemory, TryClone};
 
 impl FlatSite {
     pub fn add_name(&mut self, name: &Name, image: ImageId) -> Result<(), NoMemory>

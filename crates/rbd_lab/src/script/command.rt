@@ -1,13 +1,14 @@
 ghost use Rattle.std.specs.Prelude.{◌≡◌, ◌≢◌, ◌∷◌, ℕ, List, codes, IsTrue, ◌↔◌, IfOk, IfSome, IfNone};
 ghost use Rattle.rbd_kinds.specs.Name.{IsName};
-ghost use Rattle.rbd_kinds.specs.declared.command.Command.{Command};
+ghost use Rattle.rbd_lab.specs.declared.command.Command.{Command};
 ghost use Rattle.rbd_lab.specs.Grammar.{IsInRange, spelling};
 ghost use Rattle.rbd_lab.specs.Line.{tokens_of};
 
+use crate::command::Command;
 use crate::script::number::{number, number_up_to};
 use crate::script::payload::payload;
 use crate::script::token::Tokens;
-use rbd_kinds::{Bytes, Command, Name, NoMemory};
+use rbd_kinds::{Bytes, Name, NoMemory};
 use std::alloc::Global;
 
 /// The greatest size of an image, in bytes: 2^20 objects of 4,096 bytes.

@@ -1,12 +1,13 @@
 ghost use Rattle.std.specs.Prelude.{◌≡◌, ◌≢◌, ◌∷◌, ◌↔◌, ℕ, List, IsTrue, IfOk, IfSome, IfNone};
-ghost use Rattle.rbd_kinds.specs.declared.command.Command.{Command};
+ghost use Rattle.rbd_lab.specs.declared.command.Command.{Command};
 ghost use Rattle.rbd_lab.specs.Grammar.{IsDeclaration, IsInRange, IsPassedOver, IsSite, spelling};
 ghost use Rattle.rbd_lab.specs.Line.{tokens_of};
 
+use crate::command::Command;
 use crate::script::command::{command, is};
 use crate::script::session::session_name;
 use crate::script::token::Tokens;
-use rbd_kinds::{Command, Name, NoMemory};
+use rbd_kinds::{Name, NoMemory};
 use std::alloc::Global;
 
 /// Whether the line has no token, or begins with `#`.

@@ -1,5 +1,5 @@
 use Rattle.std.proofs.Common.{sym}
-use Rattle.rbd_kinds.specs.declared.reply.Reply.TheVariants.{Bytes}
+use Rattle.rbd_lab.specs.declared.command.Reply.TheVariants.{Bytes}
 use Rattle.rbd_flat.specs.Read.{bytes_in}
 use Rattle.rbd_lab.proofs.Standing.{refused, found, shown}
 use Rattle.rbd_lab.proofs.store.Store.read.Goals as goal

@@ -1,5 +1,5 @@
 use Rattle.std.proofs.Common.{length, sym}
-use Rattle.rbd_kinds.specs.declared.reply.Reply.TheVariants.{Done}
+use Rattle.rbd_lab.specs.declared.command.Reply.TheVariants.{Done}
 use Rattle.rbd_lab.proofs.Standing.{refused, refused_stands, found, answered, put_stands}
 use Rattle.rbd_lab.proofs.store.Store.write.Goals as goal
 

@@ -1,0 +1,2 @@
+mod EachKind
+pub mod Ordered

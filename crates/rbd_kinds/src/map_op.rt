@@ -1,0 +1,77 @@
+//! Operations on an image's object maps.
+ghost use Rattle.std.specs.Prelude.{◌≡◌};
+ghost use Rattle.rbd_kinds.specs.OperationKind.{map_kind};
+
+use crate::bytes::Bytes;
+use crate::copies::TryClone;
+use crate::id::SnapId;
+use crate::memory::NoMemory;
+use crate::operation_kind::OpKind;
+
+/// An operation on the object map of an image's head, or of a snapshot (Ceph: `rbd_object_map.<id>`, and with
+/// `.<snap>` behind it).
+#[derive(Debug, Drop)]
+pub enum MapOp {
+    /// Makes the head's map, or lengthens it to so many objects.
+    Resize {
+        count: u64,
+    },
+    /// The states, two bits an object.
+    Get {
+        snap: Option<SnapId>,
+    },
+    /// Makes a map of four objects a byte.
+    Put {
+        snap: Option<SnapId>,
+        bits: Bytes,
+    },
+    Set {
+        snap: Option<SnapId>,
+        object: u64,
+        state: u8,
+    },
+    Remove {
+        snap: Option<SnapId>,
+    },
+}
+
+impl MapOp {
+    pub fn kind(&self) -> OpKind
+        ensures { result ≡ map_kind self.now }
+    {
+        match self {
+            MapOp::Resize { count: _ } => OpKind::MapResize,
+            MapOp::Get { snap: _ } => OpKind::MapGet,
+            MapOp::Put { snap: _, bits: _ } => OpKind::MapPut,
+            MapOp::Set {
+                snap: _,
+                object: _,
+                state: _,
+            } => OpKind::MapSet,
+            MapOp::Remove { snap: _ } => OpKind::MapRemove,
+        }
+    }
+}
+
+impl TryClone for MapOp {
+    fn try_clone(&self) -> Result<Self, NoMemory> {
+        Ok(match self {
+            MapOp::Put { snap, bits } => MapOp::Put {
+                snap: *snap,
+                bits: bits.try_clone()?,
+            },
+            MapOp::Resize { count } => MapOp::Resize { count: *count },
+            MapOp::Get { snap } => MapOp::Get { snap: *snap },
+            MapOp::Set {
+                snap,
+                object,
+                state,
+            } => MapOp::Set {
+                snap: *snap,
+                object: *object,
+                state: *state,
+            },
+            MapOp::Remove { snap } => MapOp::Remove { snap: *snap },
+        })
+    }
+}

@@ -1,0 +1,98 @@
+//! Single operations on single objects of a site.
+ghost use Rattle.std.specs.Prelude.{◌≡◌};
+ghost use Rattle.rbd_kinds.specs.OperationKind.{kind_of};
+
+use crate::children_op::ChildrenOp;
+use crate::copies::TryClone;
+use crate::data_op::DataOp;
+use crate::directory_op::DirectoryOp;
+use crate::header_op::HeaderOp;
+use crate::id::{ImageId, Instance};
+use crate::journal_op::JournalOp;
+use crate::map_op::MapOp;
+use crate::memory::NoMemory;
+use crate::operation_kind::OpKind;
+
+/// One operation on one object of a site: which object, and what is done to it. Each is one step, whole or not
+/// at all (Ceph: the operations of librados and of the object class `rbd`). There are 47 kinds.
+#[derive(Debug, Drop)]
+pub enum Op {
+    /// On `rbd_directory`.
+    Directory(DirectoryOp),
+    /// On `rbd_children`.
+    Children(ChildrenOp),
+    /// Puts an instance into the site's blocklist.
+    BlockAdd {
+        instance: Instance,
+    },
+    /// On the header of an image.
+    Header {
+        image: ImageId,
+        op: HeaderOp,
+    },
+    /// On a data object of an image, by its number.
+    Data {
+        image: ImageId,
+        object: u64,
+        op: DataOp,
+    },
+    /// On an object map of an image.
+    Map {
+        image: ImageId,
+        op: MapOp,
+    },
+    /// On the journal of an image.
+    Journal {
+        image: ImageId,
+        op: JournalOp,
+    },
+}
+
+impl Op {
+    pub fn kind(&self) -> OpKind
+        ensures { result ≡ kind_of self.now }
+    {
+        match self {
+            Op::Directory(op) => op.kind(),
+            Op::Children(op) => op.kind(),
+            Op::BlockAdd { instance: _ } => OpKind::BlockAdd,
+            Op::Header { image: _, op } => op.kind(),
+            Op::Data {
+                image: _,
+                object: _,
+                op,
+            } => op.kind(),
+            Op::Map { image: _, op } => op.kind(),
+            Op::Journal { image: _, op } => op.kind(),
+        }
+    }
+}
+
+impl TryClone for Op {
+    fn try_clone(&self) -> Result<Self, NoMemory> {
+        Ok(match self {
+            Op::Directory(op) => Op::Directory(op.try_clone()?),
+            Op::Children(op) => Op::Children(*op),
+            Op::BlockAdd { instance } => Op::BlockAdd {
+                instance: *instance,
+            },
+            Op::Header { image, op } => Op::Header {
+                image: *image,
+                op: op.try_clone()?,
+            },
+            Op::Data { image, object, op } => Op::Data {
+                image: *image,
+                object: *object,
+                op: op.try_clone()?,
+            },
+            Op::Map { image, op } => Op::Map {
+                image: *image,
+                op: op.try_clone()?,
+            },
+            Op::Journal { image, op } => Op::Journal {
+                image: *image,
+                op: op.try_clone()?,
+            },
+        })
+    }
+}
