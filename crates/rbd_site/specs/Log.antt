@@ -1,0 +1,58 @@
+-- The log of a site: what each operation did to the records, from none on, and what it was answered.
+use Rattle.std.specs.Prelude.{◌≡◌, ℕ, ◌+◌, List, [], ◌∷◌, length, Option, Some, None, option_map, map}
+use Rattle.rbd_kinds.specs.declared.answer.Answer.{Answer}
+use Rattle.rbd_kinds.specs.declared.answer.Answer.TheVariants as answer
+use Rattle.rbd_kinds.specs.declared.header.HeaderView.{HeaderView}
+use Rattle.rbd_kinds.specs.declared.header.SnapView.{SnapView}
+use Rattle.rbd_kinds.specs.declared.id.Instance.{Instance}
+use Rattle.rbd_kinds.specs.declared.id.SiteId.{SiteId}
+use Rattle.rbd_object.specs.Mapped.{Mapped, mapped_trim}
+use Rattle.rbd_site.specs.declared.done.Done.{Done}
+use Rattle.rbd_site.specs.declared.done.DoneOp.{DoneOp}
+use Rattle.rbd_site.specs.declared.done.DoneOp.TheVariants as done
+use Rattle.rbd_site.specs.Records.{Records, no_records, with_object}
+use Rattle.rbd_site.specs.Step.{answer_to, after}
+
+-- the ids that a header lists, none where it is gone
+abbrev pub live_in : Option HeaderView → List ℕ
+live_in None = []
+live_in (Some h) = map (λ (s : SnapView). s.id) h.snaps
+
+-- the store drops what an object keeps for other snapshots
+abbrev pub trimmed : (image number : ℕ) → Records → Records
+trimmed image number r = with_object image number (option_map (mapped_trim (live_in (r.headers image))) (r.objects image number)) r
+
+-- the records after one operation of the log
+abbrev pub after_op : Records → Option Instance → DoneOp → Records
+after_op r (Some me) (done.Op op) = after r me op
+after_op r None (done.Op op) = r
+after_op r instance (done.Trim image number) = trimmed image number r
+after_op r instance (done.Expire image i) = r
+
+abbrev pub after_all : Records → List Done → Records
+after_all r [] = r
+after_all r (d ∷ log) = after_all (after_op r d.instance d.op) log
+
+-- an operation's answer is that of the records before it; a step of the store is done
+abbrev pub IsAnswer : Records → Option Instance → DoneOp → Answer → Type 0
+IsAnswer r (Some me) (done.Op op) a = a ≡ answer_to r me op
+IsAnswer r None (done.Op op) a = ⊥
+IsAnswer r instance (done.Trim image number) a = (instance ≡ None) × (a ≡ answer.Done)
+IsAnswer r instance (done.Expire image i) a = ⊥
+
+abbrev pub AreAnswered : Records → List Done → Type 0
+AreAnswered r [] = Unit {0}
+AreAnswered r (d ∷ log) = IsAnswer r d.instance d.op d.answer × AreAnswered (after_op r d.instance d.op) log
+
+-- numbers from 1 on
+abbrev pub AreNumbered : (next : ℕ) → List Done → Type 0
+AreNumbered next [] = Unit {0}
+AreNumbered next (d ∷ log) = (d.number ≡ next) × AreNumbered (next + 1) log
+
+-- a site is its id and its log: the records are what the log leaves
+pub record SiteLog : Type 0 where
+  pub id : SiteId
+  pub log : List Done
+
+abbrev pub records_of : SiteLog → Records
+records_of s = after_all no_records s.log

@@ -1,0 +1,34 @@
+-- What a site keeps: its directory, the header of each image, and the data objects of each image by number.
+use Rattle.std.specs.Prelude.{ℕ, ◌==◌, if◌then◌else◌, Option, Some, None}
+use Rattle.rbd_kinds.specs.declared.header.HeaderView.{HeaderView}
+use Rattle.rbd_registry.specs.Directory.{Listing, nothing_listed}
+use Rattle.rbd_object.specs.Mapped.{Mapped, mapped_blank}
+
+pub record Records : Type 0 where
+  pub directory : Listing
+  pub headers : (image : ℕ) → Option HeaderView
+  pub objects : (image number : ℕ) → Option Mapped
+
+abbrev pub no_records : Records
+no_records = record { directory = nothing_listed; headers = λ image. None; objects = λ image number. None }
+
+-- f with another value at one place
+abbrev pub put : {T : Type 0} → (ℕ → T) → (place : ℕ) → T → ℕ → T
+put f place value n = if n == place then value else f n
+
+-- an object that nothing was done to is blank
+abbrev pub or_blank : Option Mapped → Mapped
+or_blank None = mapped_blank
+or_blank (Some o) = o
+
+abbrev pub object_at : Records → (image number : ℕ) → Mapped
+object_at r image number = or_blank (r.objects image number)
+
+abbrev pub with_directory : Listing → Records → Records
+with_directory listing r = record r { directory = listing }
+
+abbrev pub with_header : (image : ℕ) → Option HeaderView → Records → Records
+with_header image header r = record r { headers = put r.headers image header }
+
+abbrev pub with_object : (image number : ℕ) → Option Mapped → Records → Records
+with_object image number object r = record r { objects = put r.objects image (put (r.objects image) number object) }
