@@ -71,6 +71,13 @@ impl Header {
         self.view.generation += 1;
     }
 
+    /// Whether no snapshot may be taken: 256 are listed, or the ids are used up (own). It takes no memory.
+    pub fn is_full(&self) -> bool
+        ensures { result ≡ is_full self.now }
+    {
+        is_full(&self.view)
+    }
+
     /// Takes a snapshot: the newest, unprotected, with the head's size and parent. `Exists` where the name is
     /// listed; else `Full` where 256 are listed or the last id is `u32::MAX` (own).
     pub fn snap_add(&mut self, name: &Name) -> Result<SnapId, SnapAddFault>
@@ -87,7 +94,7 @@ impl Header {
         if self.view.named(name).is_some() {
             return Err(SnapAddFault::Exists);
         }
-        if is_full(&self.view) {
+        if self.is_full() {
             return Err(SnapAddFault::Full);
         }
         match push_snap(&mut self.view, name) {

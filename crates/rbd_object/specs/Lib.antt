@@ -1,4 +1,5 @@
 pub mod Contents
 pub mod Kept
 pub mod Mapped
+pub mod Parts
 pub mod Versioned

@@ -1,8 +1,10 @@
 //! The bytes of a head or of a version.
-ghost use Rattle.std.specs.Prelude.{◌≡◌, ℕ, ◌+◌, ◌≤◌, [], List, length, IfOk, OnOk, OnErr};
+ghost use Rattle.std.specs.Prelude.{◌≡◌, ℕ, ◌+◌, ◌≤◌, [], ◌++◌, List, length, IfOk, OnOk, OnErr};
 ghost use Rattle.rbd_object.specs.Contents.{window, overwritten, zeroed};
+ghost use Rattle.rbd_object.specs.Parts.{parts_len, parts_of, parts_written, parts_zeroed, AreWithin, EndWithin, last_end};
 
-use rbd_kinds::NoMemory;
+use crate::parts::{copy_over, copy_window, gather, scatter};
+use rbd_kinds::{NoMemory, Part};
 use std::alloc::Global;
 use std::marker::Model;
 
@@ -65,6 +67,34 @@ impl Content {
         Ok(())
     }
 
+    /// A copy of the bytes of the parts, one part after another, with zeros past the last byte.
+    pub fn read_parts(&self, parts: &[Part]) -> Result<Vec<u8>, NoMemory>
+        ensures { IfOk result (λ read. read.items ≡ parts_of parts.now self.now) }
+    {
+        gather(*self.bytes.allocator(), self.bytes.as_slice(), parts)
+    }
+
+    /// Writes bytes into the parts, one part after another. Where one is past the end, there are zeros
+    /// between.
+    pub fn overwrite_parts(&mut self, parts: &[Part], bytes: &[u8]) -> Result<(), NoMemory>
+        requires within { AreWithin parts.now }
+        requires long { length bytes.now ≡ parts_len parts.now }
+        ensures ok { OnOk result (self.new ≡ parts_written parts.now bytes.now self.old) }
+        ensures err { OnErr result (self.new ≡ self.old) }
+    {
+        self.lengthen(last_end(parts))?;
+        self.put_parts(parts, bytes);
+        Ok(())
+    }
+
+    fn put_parts(&mut self, parts: &[Part], bytes: &[u8])
+        requires within { EndWithin (length self.old) parts.now }
+        requires long { length bytes.now ≡ parts_len parts.now }
+        ensures { self.new ≡ parts_written parts.now bytes.now self.old }
+    {
+        scatter(self.bytes.as_mut_slice(), parts, bytes);
+    }
+
     /// Adds zeros at the end until there are `len` bytes.
     fn lengthen(&mut self, len: usize) -> Result<(), NoMemory>
         ensures ok { OnOk result (self.new ≡ overwritten self.old len []) }
@@ -89,23 +119,27 @@ impl Content {
     {
         clear(self.bytes.as_mut_slice(), at as usize, len as usize);
     }
+
+    /// Makes the parts zero, as far as there are bytes.
+    pub fn zero_parts(&mut self, parts: &[Part])
+        ensures { self.new ≡ parts_zeroed parts.now self.old }
+    {
+        for part in parts {
+            self.zero(part.offset, part.len);
+        }
+    }
 }
 
-fn copy_window(bytes: &[u8], at: usize, into: &mut [u8])
-    ensures { into.new ≡ window bytes.now at (length into.old) }
+/// Where the part that ends last ends.
+fn last_end(parts: &[Part]) -> usize
+    requires { AreWithin parts.now }
+    ensures { result ≡ last_end parts.now }
 {
-    let held = &bytes[at.min(bytes.len())..];
-    let count = held.len().min(into.len());
-    let (front, past) = into.split_at_mut(count);
-    front.copy_from_slice(&held[..count]);
-    past.fill(0);
-}
-
-fn copy_over(bytes: &mut [u8], at: usize, new: &[u8])
-    requires { at + length new.now ≤ length bytes.old }
-    ensures { bytes.new ≡ overwritten bytes.old at new.now }
-{
-    bytes[at..at + new.len()].copy_from_slice(new);
+    let mut end = 0;
+    for part in parts {
+        end = end.max((part.offset + part.len) as usize);
+    }
+    end
 }
 
 fn clear(bytes: &mut [u8], at: usize, len: usize)

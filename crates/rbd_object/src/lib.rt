@@ -49,6 +49,7 @@
 mod content;
 pub mod laws;
 mod object;
+mod parts;
 #[cfg(test)]
 mod tests;
 mod version;
@@ -56,3 +57,4 @@ mod versions;
 
 pub use content::LARGEST_OBJECT;
 pub use object::Object;
+pub use parts::{gather, scatter};

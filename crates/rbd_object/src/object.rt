@@ -4,11 +4,12 @@ ghost use Rattle.rbd_object.specs.Contents.{window, overwritten, zeroed};
 ghost use Rattle.rbd_object.specs.Versioned.{view, IsTidy};
 ghost use Rattle.rbd_object.specs.Mapped.{looked, mapped_blank, mapped_change, mapped_copy_up, mapped_trim, due_snaps};
 ghost use Rattle.rbd_object.specs.Kept.{new_version};
+ghost use Rattle.rbd_object.specs.Parts.{parts_len, parts_of, parts_written, parts_zeroed, AreWithin};
 
 use crate::content::{Content, LARGEST_OBJECT};
 use crate::version::Version;
 use crate::versions;
-use rbd_kinds::{NoMemory, SnapContext, SnapId};
+use rbd_kinds::{Bytes, NoMemory, Part, SnapContext, SnapId};
 use std::alloc::Global;
 use std::collections::VecDeque;
 use std::marker::Model;
@@ -73,6 +74,21 @@ impl Object {
         }
     }
 
+    /// A copy of the bytes of the parts, one part after another, in the head (None) or in a snapshot, with
+    /// zeros past the last one. It is `None` exactly where the object is absent there.
+    pub fn read_parts(
+        &self,
+        snap: Option<SnapId>,
+        parts: &[Part],
+    ) -> Result<Option<Bytes>, NoMemory>
+        ensures { IfOk result (λ read. read ≡ option_map (parts_of parts.now) (view (looked self.now) snap)) }
+    {
+        match self.shown(snap) {
+            Some(content) => Ok(Some(Bytes::from_vec(content.read_parts(parts)?))),
+            None => Ok(None),
+        }
+    }
+
     /// Writes bytes into the head, from the byte `at` on. A gap is zeros, and an absent head begins with
     /// no bytes. Refused memory, nothing changes; so it is for each change.
     pub fn write(&mut self, context: &SnapContext, at: u64, bytes: &[u8]) -> Result<(), NoMemory>
@@ -86,6 +102,30 @@ impl Object {
         let version = versions::copied(&self.head, snaps)?;
         versions::make_room(&mut self.versions, version.is_some())?;
         write_head(alloc, &mut self.head, at, bytes)?;
+        versions::add(&mut self.versions, version);
+        self.seq = later(self.seq, context.seq);
+        Ok(())
+    }
+
+    /// Writes bytes into parts of the head, one part after another, as `write` does into one. All parts are
+    /// written, or none.
+    pub fn write_parts(
+        &mut self,
+        context: &SnapContext,
+        parts: &[Part],
+        bytes: &[u8],
+    ) -> Result<(), NoMemory>
+        requires within { AreWithin parts.now }
+        requires long { length bytes.now ≡ parts_len parts.now }
+        ensures ok { let head = parts_written parts.now bytes.now (unwrap_or self.old.head []) in
+            OnOk result (self.new ≡ mapped_change context.now (Some head) self.old) }
+        ensures err { OnErr result (self.new ≡ self.old) }
+    {
+        let alloc = self.alloc();
+        let snaps = self.snaps_to_keep(context)?;
+        let version = versions::copied(&self.head, snaps)?;
+        versions::make_room(&mut self.versions, version.is_some())?;
+        write_head_parts(alloc, &mut self.head, parts, bytes)?;
         versions::add(&mut self.versions, version);
         self.seq = later(self.seq, context.seq);
         Ok(())
@@ -112,6 +152,21 @@ impl Object {
         let version = versions::copied(&self.head, snaps)?;
         versions::make_room(&mut self.versions, version.is_some())?;
         zero_head(&mut self.head, at, len);
+        versions::add(&mut self.versions, version);
+        self.seq = later(self.seq, context.seq);
+        Ok(())
+    }
+
+    /// Makes parts of the head zero, as `zero` does with one.
+    pub fn zero_parts(&mut self, context: &SnapContext, parts: &[Part]) -> Result<(), NoMemory>
+        ensures ok { let head = option_map (parts_zeroed parts.now) self.old.head in
+            OnOk result (self.new ≡ mapped_change context.now head self.old) }
+        ensures err { OnErr result (self.new ≡ self.old) }
+    {
+        let snaps = self.snaps_to_keep(context)?;
+        let version = versions::copied(&self.head, snaps)?;
+        versions::make_room(&mut self.versions, version.is_some())?;
+        zero_head_parts(&mut self.head, parts);
         versions::add(&mut self.versions, version);
         self.seq = later(self.seq, context.seq);
         Ok(())
@@ -250,5 +305,37 @@ fn zero_head(head: &mut Option<Content>, at: u64, len: u64)
 {
     if let Some(content) = head {
         content.zero(at, len);
+    }
+}
+
+/// Writes into parts of a head, which is there afterwards.
+fn write_head_parts(
+    alloc: Global,
+    head: &mut Option<Content>,
+    parts: &[Part],
+    bytes: &[u8],
+) -> Result<(), NoMemory>
+    requires within { AreWithin parts.now }
+    requires long { length bytes.now ≡ parts_len parts.now }
+    ensures ok { OnOk result (head.new ≡ Some (parts_written parts.now bytes.now (unwrap_or head.old []))) }
+    ensures err { OnErr result (head.new ≡ head.old) }
+{
+    match head {
+        Some(content) => content.overwrite_parts(parts, bytes),
+        None => {
+            let mut content = Content::new(alloc);
+            content.overwrite_parts(parts, bytes)?;
+            *head = Some(content);
+            Ok(())
+        }
+    }
+}
+
+/// Makes parts of a head zero, if it is there.
+fn zero_head_parts(head: &mut Option<Content>, parts: &[Part])
+    ensures { head.new ≡ option_map (parts_zeroed parts.now) head.old }
+{
+    if let Some(content) = head {
+        content.zero_parts(parts);
     }
 }

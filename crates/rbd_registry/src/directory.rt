@@ -83,14 +83,21 @@ impl Directory {
         self.names.get(name).copied()
     }
 
-    /// Whether no name may be added.
-    fn is_full(&self) -> bool
+    /// Whether no name may be added: 4,096 are held, or the ids are used up (own). It takes no memory.
+    pub fn is_full(&self) -> bool
         ensures { result ≡ is_full self.now }
     {
         if self.names.len() >= MOST_NAMES {
             return true;
         }
         self.drawn == u32::MAX
+    }
+
+    /// The id that was drawn last, 0 for none. It takes no memory.
+    pub fn drawn(&self) -> u32
+        ensures { result ≡ self.now.drawn }
+    {
+        self.drawn
     }
 
     /// Takes the name of an image away, and answers whether it had one. It takes no memory, and reads each

@@ -1,25 +1,16 @@
 -- Operations on a data object: the answer, and the object after it. An object that nothing was done to is
 -- blank, and one to which a change was done stands for good.
-use Rattle.std.specs.Prelude.{◌≡◌, ℕ, ◌+◌, ◌≤◌, ◌&&◌, ◌||◌, not, Bool, List, [], ◌∷◌, ◌++◌, length, take, drop, if◌then◌else◌, Option, Some, None, is_some, option_map, unwrap_or, slice_get}
+use Rattle.std.specs.Prelude.{◌≡◌, ℕ, ◌≤◌, ◌||◌, not, Bool, List, [], length, if◌then◌else◌, Option, Some, None, is_some, option_map, unwrap_or}
 use Rattle.rbd_kinds.specs.declared.answer.Answer.{Answer}
 use Rattle.rbd_kinds.specs.declared.answer.Answer.TheVariants as answer
 use Rattle.rbd_kinds.specs.declared.data_op.DataOp.{DataOp}
 use Rattle.rbd_kinds.specs.declared.data_op.DataOp.TheVariants.{Read, Write, WriteFull, Zero, Empty, Remove, CopyUp}
 use Rattle.rbd_kinds.specs.declared.layout.Part.{Part}
-use Rattle.rbd_object.specs.Contents.{window, overwritten, zeroed}
+use Rattle.rbd_object.specs.Parts.{AreWithin, parts_len, parts_of, parts_written, parts_zeroed}
 use Rattle.rbd_object.specs.Mapped.{Mapped, looked, mapped_change, mapped_copy_up}
 use Rattle.rbd_object.specs.Versioned.{view}
 use Rattle.rbd_object.specs.declared.content.TheConstants.{LARGEST_OBJECT}
 use Rattle.rbd_site.specs.Records.{or_blank}
-
--- how many bytes the parts have together
-abbrev pub parts_len : List Part → ℕ
-parts_len [] = 0
-parts_len (p ∷ parts) = p.len + parts_len parts
-
--- each part ends within the largest object
-abbrev pub AreWithin : List Part → Type 0
-AreWithin parts = (k : ℕ) (p : Part) → slice_get parts k ≡ Some p → p.offset + p.len ≤ LARGEST_OBJECT
 
 -- The operations that are built, and their conditions: parts within the largest object, with as many bytes
 -- as they have.
@@ -32,24 +23,9 @@ MayDoOnData (Write context must parts bytes) = MayWrite parts bytes
 MayDoOnData (WriteFull context bytes) = length bytes ≤ LARGEST_OBJECT
 MayDoOnData op = Unit {0}
 
--- the bytes of the parts, one part after another
-abbrev pub parts_of : List Part → (bytes : List ℕ) → List ℕ
-parts_of [] bytes = []
-parts_of (p ∷ parts) bytes = window bytes p.offset p.len ++ parts_of parts bytes
-
 abbrev pub parts_read : List Part → Option (List ℕ) → Answer
 parts_read parts None = answer.Absent
 parts_read parts (Some bytes) = answer.Bytes (parts_of parts bytes)
-
--- a head with the bytes put into the parts, one part after another
-abbrev pub parts_written : List Part → (bytes head : List ℕ) → List ℕ
-parts_written [] bytes head = head
-parts_written (p ∷ parts) bytes head = parts_written parts (drop p.len bytes) (overwritten head p.offset (take p.len bytes))
-
--- a head with the parts zeroed
-abbrev pub parts_zeroed : List Part → (head : List ℕ) → List ℕ
-parts_zeroed [] head = head
-parts_zeroed (p ∷ parts) head = parts_zeroed parts (zeroed head p.offset p.len)
 
 -- whether a change with `must` finds a head
 abbrev pub finds : (must : Bool) → Mapped → Bool

@@ -1,6 +1,9 @@
 pub mod DataStep
 pub mod DirectoryStep
 pub mod HeaderStep
+pub mod InForm
+pub mod Laws
 pub mod Log
+pub mod Maps
 pub mod Records
 pub mod Step

@@ -6,17 +6,22 @@ use Rattle.rbd_kinds.specs.declared.header.HeaderView.{HeaderView}
 use Rattle.rbd_kinds.specs.declared.header.SnapView.{SnapView}
 use Rattle.rbd_kinds.specs.declared.id.Instance.{Instance}
 use Rattle.rbd_kinds.specs.declared.id.SiteId.{SiteId}
-use Rattle.rbd_object.specs.Mapped.{Mapped, mapped_trim}
+use Rattle.rbd_kinds.specs.declared.operation.Op.{Op}
+use Rattle.rbd_object.specs.Mapped.{mapped_trim}
 use Rattle.rbd_site.specs.declared.done.Done.{Done}
 use Rattle.rbd_site.specs.declared.done.DoneOp.{DoneOp}
 use Rattle.rbd_site.specs.declared.done.DoneOp.TheVariants as done
+use Rattle.rbd_site.specs.InForm.{AreInForm}
 use Rattle.rbd_site.specs.Records.{Records, no_records, with_object}
 use Rattle.rbd_site.specs.Step.{answer_to, after}
+
+abbrev pub ids_of : List SnapView → List ℕ
+ids_of snaps = map (λ (s : SnapView). s.id) snaps
 
 -- the ids that a header lists, none where it is gone
 abbrev pub live_in : Option HeaderView → List ℕ
 live_in None = []
-live_in (Some h) = map (λ (s : SnapView). s.id) h.snaps
+live_in (Some h) = ids_of h.snaps
 
 -- the store drops what an object keeps for other snapshots
 abbrev pub trimmed : (image number : ℕ) → Records → Records
@@ -44,6 +49,13 @@ abbrev pub AreAnswered : Records → List Done → Type 0
 AreAnswered r [] = Unit {0}
 AreAnswered r (d ∷ log) = IsAnswer r d.instance d.op d.answer × AreAnswered (after_op r d.instance d.op) log
 
+-- the line of an operation of an instance, and that of a trim
+abbrev pub line_of : (number : ℕ) → Instance → Op → Answer → Done
+line_of number me op a = record { number = number; instance = Some me; op = done.Op op; answer = a }
+
+abbrev pub trim_line : (number image object : ℕ) → Done
+trim_line number image object = record { number = number; instance = None; op = done.Trim image object; answer = answer.Done }
+
 -- numbers from 1 on
 abbrev pub AreNumbered : (next : ℕ) → List Done → Type 0
 AreNumbered next [] = Unit {0}
@@ -56,3 +68,10 @@ pub record SiteLog : Type 0 where
 
 abbrev pub records_of : SiteLog → Records
 records_of s = after_all no_records s.log
+
+-- What holds of a site at every moment: it keeps the records that its log leaves.
+pub record IsSound (r : Records) (log : List Done) : Type 0 where
+  pub kept : r ≡ after_all no_records log
+  pub answered : AreAnswered no_records log
+  pub numbered : AreNumbered 1 log
+  pub form : AreInForm r (length log)

@@ -1,5 +1,4 @@
 -- One operation on one object of a site: its condition, its answer, and the records after it.
-use Rattle.std.specs.Prelude.{ℕ}
 use Rattle.rbd_kinds.specs.declared.answer.Answer.{Answer}
 use Rattle.rbd_kinds.specs.declared.answer.Answer.TheVariants as answer
 use Rattle.rbd_kinds.specs.declared.id.Instance.{Instance}

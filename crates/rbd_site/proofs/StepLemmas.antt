@@ -1,0 +1,107 @@
+-- What one operation leaves as it is.
+use Rattle.std.proofs.Common.{◌≡◌, ℕ, Bool, true, false, cond, eqb, ◌&&◌, Option, Some, None, is_some, refl, sym, ap, ◌∙◌}
+use Rattle.std.specs.Prelude.{◌+◌, IsFalse}
+use Rattle.std.proofs.lemmas.Bool.{eqb-true}
+use Rattle.rbd_kinds.specs.declared.answer.Answer.{Answer}
+use Rattle.rbd_kinds.specs.declared.answer.Answer.TheVariants as answer
+use Rattle.rbd_kinds.specs.declared.data_op.DataOp.{DataOp}
+use Rattle.rbd_kinds.specs.declared.directory_op.DirectoryOp.{DirectoryOp}
+use Rattle.rbd_kinds.specs.declared.directory_op.DirectoryOp.TheVariants as dir
+use Rattle.rbd_kinds.specs.declared.header.HeaderView.{HeaderView}
+use Rattle.rbd_kinds.specs.declared.header_op.HeaderOp.{HeaderOp}
+use Rattle.rbd_kinds.specs.declared.header_op.HeaderOp.TheVariants as head
+use Rattle.rbd_kinds.specs.declared.id.Instance.{Instance}
+use Rattle.rbd_kinds.specs.declared.operation.Op.{Op}
+use Rattle.rbd_kinds.specs.declared.operation.Op.TheVariants as on
+use Rattle.rbd_kinds.specs.Header.{snap_named}
+use Rattle.rbd_header.specs.Header.{is_full, snap_in, with_snap, with_status, without_snap}
+use Rattle.rbd_registry.specs.Directory.{Listing, id_of, is_full as is_full_directory, added, renamed}
+use Rattle.rbd_object.specs.Mapped.{Mapped}
+use Rattle.rbd_site.specs.DataStep.{blank_answer, data_change, where_object_done, data_after}
+use Rattle.rbd_site.specs.DirectoryStep.{directory_answer, directory_after, name_added, name_changed, where_added, where_done}
+use Rattle.rbd_site.specs.HeaderStep.{header_answer, header_after, is_owner, lock_taken, snap_added, where_made}
+use Rattle.rbd_site.specs.Laws.{is_change, is_on_directory, is_on_header, is_on_object}
+use Rattle.rbd_site.specs.Records.{Records, or_blank, put, with_directory}
+use Rattle.rbd_site.specs.Step.{answer_to, after}
+use Rattle.rbd_site.proofs.TrimLemmas.{put_same, with_object_same}
+
+pub other_directory : (r : Records) (me : Instance) (op : Op) → IsFalse (is_on_directory op) → (after r me op).directory ≡ r.directory
+other_directory r me (on.Directory op) other = cc
+other_directory r me op other = refl
+
+at_other : {T : Type 0} (f : ℕ → T) (place : ℕ) (value : T) (n : ℕ) → eqb n place ≡ false → put f place value n ≡ f n
+at_other f place value n other = ap (λ b. cond b value (f n)) other
+
+pub other_header : (r : Records) (me : Instance) (op : Op) (image : ℕ) → IsFalse (is_on_header image op) → (after r me op).headers image ≡ r.headers image
+other_header r me (on.Header image op) i other = at_other r.headers image (header_after me (r.headers image) op) i other
+other_header r me op i other = refl
+
+pub other_object : (r : Records) (me : Instance) (op : Op) (image number : ℕ) → IsFalse (is_on_object image number op) → (after r me op).objects image number ≡ r.objects image number
+other_object r me (on.Data image number op) i n other = go (eqb i image) (eqb n number) refl refl other
+  where
+    after_it : Option Mapped
+    after_it = data_after (r.objects image number) op
+
+    go : (s t : Bool) → eqb i image ≡ s → eqb n number ≡ t → s && t ≡ false → cond s (put (r.objects image) number after_it) (r.objects i) n ≡ r.objects i n
+    go true true a b other = cc
+    go true false a b other = at_other (r.objects image) number after_it n b ∙ ap (λ image. r.objects image n) (sym (eqb-true i image a))
+    go false t a b other = refl
+other_object r me op i n other = refl
+
+pub refused_directory : (d : Listing) (op : DirectoryOp) → IsFalse (is_change (directory_answer d op)) → directory_after d op ≡ d
+refused_directory d (dir.Add name) other = go (id_of d name) (is_full_directory d) other
+  where
+    go : (held : Option ℕ) (full : Bool) → is_change (name_added held full (d.drawn + 1)) ≡ false → where_added (name_added held full (d.drawn + 1)) (added name d) d ≡ d
+    go (Some image) full other = refl
+    go None true other = refl
+    go None false other = cc
+refused_directory d (dir.Rename from to) other = go (id_of d from) (id_of d to) other
+  where
+    go : (a b : Option ℕ) → is_change (name_changed a b) ≡ false → where_done (name_changed a b) (renamed (id_of d from) from to d) d ≡ d
+    go None b other = refl
+    go (Some image) None other = cc
+    go (Some image) (Some held) other = refl
+refused_directory d op other = refl
+
+-- what wasn't done left the header
+not_done : (done : Bool) (refusal : Answer) (changed old : HeaderView) → is_change (cond done answer.Done refusal) ≡ false → Some (cond done changed old) ≡ Some old
+not_done true refusal changed old other = cc
+not_done false refusal changed old other = refl
+
+pub refused_header : (me : Instance) (o : Option HeaderView) (op : HeaderOp) → IsFalse (is_change (header_answer me o op)) → header_after me o op ≡ o
+refused_header me None (head.Create view) other = cc
+refused_header me None op other = refl
+refused_header me (Some h) (head.Create view) other = refl
+refused_header me (Some h) head.Get other = refl
+refused_header me (Some h) (head.SnapAdd name) other = go (is_some (snap_named h.snaps name)) (is_full h) other
+  where
+    go : (listed full : Bool) → is_change (snap_added listed full (h.snap_seq + 1)) ≡ false → Some (where_made listed full (with_snap name h) h) ≡ Some h
+    go true full other = refl
+    go false true other = refl
+    go false false other = cc
+refused_header me (Some h) (head.SnapRemove snap) other = not_done (is_some (snap_in h.snaps snap)) answer.Absent (without_snap snap h) h other
+refused_header me (Some h) (head.SnapStatus snap status) other = not_done (is_some (snap_in h.snaps snap)) answer.Absent (with_status snap status h) h other
+refused_header me (Some h) head.LockTake other = ap (λ owner. Some (record h { owner = owner })) (go h.owner other)
+  where
+    go : (owner : Option Instance) → is_change (lock_taken me owner) ≡ false → cond (is_some owner) owner (Some me) ≡ owner
+    go None other = cc
+    go (Some owner) other = refl
+refused_header me (Some h) head.LockDrop other = not_done (is_owner me h.owner) answer.Changed (record h { owner = None }) h other
+refused_header me (Some h) (head.LockBreak owner) other = not_done (is_owner owner h.owner) answer.Changed (record h { owner = None }) h other
+refused_header me (Some h) op other = cc
+
+pub refused_object : (o : Option Mapped) (op : DataOp) → IsFalse (is_change (blank_answer (or_blank o) op)) → data_after o op ≡ o
+refused_object o op other = go (blank_answer (or_blank o) op) other
+  where
+    go : (a : Answer) → is_change a ≡ false → where_object_done a (data_change (or_blank o) op) o ≡ o
+    go answer.Done other = cc
+    go a other = refl
+
+pub refused : (r : Records) (me : Instance) (op : Op) → IsFalse (is_change (answer_to r me op)) → after r me op ≡ r
+refused r me (on.Directory op) other = ap (λ d. with_directory d r) (refused_directory r.directory op other)
+refused r me (on.Header image op) other =
+    ap (λ (headers : ℕ → Option HeaderView). record { directory = r.directory; headers = headers; objects = r.objects })
+    (put_same r.headers image (header_after me (r.headers image) op) (refused_header me (r.headers image) op other))
+refused r me (on.Data image number op) other =
+    with_object_same image number (data_after (r.objects image number) op) r (refused_object (r.objects image number) op other)
+refused r me op other = refl

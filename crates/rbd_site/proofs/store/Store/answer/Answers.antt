@@ -1,0 +1,4 @@
+use Rattle.rbd_site.proofs.store.Store.answer.Goals as goal
+
+pub returns-in-Data : goal.returns-in-Data
+returns-in-Data c = rw c.in-Data.is c.answer-in-Data.ensures

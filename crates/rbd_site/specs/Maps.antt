@@ -1,0 +1,27 @@
+-- What the maps of a site hold, as its records.
+use Rattle.std.specs.Prelude.{ℕ, Option}
+use Rattle.std.specs.Ordering.{nat_cmp, ordering_then}
+use Rattle.std.specs.declared.cmp.Ordering.{Ordering}
+use Rattle.std.specs.BTreeMap.{BTreeMap, get}
+use Rattle.rbd_kinds.specs.declared.header.HeaderView.{HeaderView}
+use Rattle.rbd_object.specs.Mapped.{Mapped}
+use Rattle.rbd_site.specs.declared.object_key.ObjectKey.{ObjectKey}
+use Rattle.rbd_site.specs.declared.store.Store.{Store}
+use Rattle.rbd_site.specs.Records.{Records}
+
+-- objects are kept by image, and then by number
+abbrev pub key_cmp : ObjectKey → ObjectKey → Ordering
+key_cmp a b = ordering_then (nat_cmp a.image b.image) (nat_cmp a.number b.number)
+
+abbrev pub key : (image number : ℕ) → ObjectKey
+key image number = record { image = image; number = number }
+
+abbrev pub header_in : BTreeMap ℕ HeaderView → (image : ℕ) → Option HeaderView
+header_in headers image = get nat_cmp headers image
+
+abbrev pub object_in : BTreeMap ObjectKey Mapped → (image number : ℕ) → Option Mapped
+object_in objects image number = get key_cmp objects (key image number)
+
+-- the records that a store keeps
+abbrev pub kept : Store → Records
+kept s = record { directory = s.directory; headers = header_in s.headers; objects = object_in s.objects }

@@ -1,0 +1,284 @@
+//! Operations on the header of an image.
+ghost use Rattle.std.specs.Prelude.{◌≡◌, ℕ, ◌+◌, ◌^◌, ◌<◌, if◌then◌else◌, Some, None, is_some, option_map, unwrap_or, IfSome, IfOk, OnOk, OnErr};
+ghost use Rattle.rbd_site.specs.Records.{put};
+ghost use Rattle.rbd_site.specs.Maps.{header_in};
+ghost use Rattle.rbd_site.specs.Log.{ids_of, live_in};
+ghost use Rattle.rbd_kinds.specs.Header.{snap_named};
+ghost use Rattle.rbd_header.specs.Header.{snap_in, is_full, with_snap};
+ghost use Rattle.rbd_site.specs.HeaderStep.{MayDoOnHeader, is_owner, lock_taken, lock_left, done_where, snap_added, where_made, there_answer, missing_answer, header_answer, header_then, header_after};
+
+use rbd_header::{Header, SnapAddFault, snapshot};
+use rbd_kinds::{
+    Answer, HeaderOp, HeaderView, ImageId, Instance, Name, NoMemory, SnapId, SnapView, TryClone,
+};
+use std::alloc::Global;
+use std::collections::BTreeMap;
+
+/// What an operation is answered now.
+pub fn answer(
+    headers: &BTreeMap<ImageId, Header>,
+    image: ImageId,
+    instance: Instance,
+    op: &HeaderOp,
+) -> Result<Answer, NoMemory>
+    requires { MayDoOnHeader (header_in headers.now image) op.now }
+    ensures { IfOk result (λ answer. answer ≡ header_answer instance (header_in headers.now image) op.now) }
+{
+    match headers.get(&image) {
+        Some(header) => answer_there(header, instance, op),
+        None => Ok(answer_missing(op)),
+    }
+}
+
+/// Does an operation, or nothing at all.
+pub fn change(
+    headers: &mut BTreeMap<ImageId, Header>,
+    image: ImageId,
+    instance: Instance,
+    op: &HeaderOp,
+) -> Result<(), NoMemory>
+    requires may { MayDoOnHeader (header_in headers.old image) op.now }
+    requires generation { IfSome (header_in headers.old image) (λ h. h.generation + 1 < 2 ^ 64) }
+    ensures ok { OnOk result ((i : ℕ) → header_in headers.new i ≡ put (header_in headers.old) image (header_after instance (header_in headers.old image) op.now) i) }
+    ensures err { OnErr result ((i : ℕ) → header_in headers.new i ≡ header_in headers.old i) }
+{
+    match op {
+        HeaderOp::Remove => {
+            headers.remove(&image);
+            Ok(())
+        }
+        HeaderOp::Create { view } => create(headers, image, view),
+        _ => change_kept(headers, image, instance, op),
+    }
+}
+
+/// The ids of the snapshots that a header lists: none where it is gone.
+pub fn live_snaps(
+    alloc: Global,
+    headers: &BTreeMap<ImageId, Header>,
+    image: ImageId,
+) -> Result<Vec<SnapId>, NoMemory>
+    ensures { IfOk result (λ live. live.items ≡ live_in (header_in headers.now image)) }
+{
+    match headers.get(&image) {
+        Some(header) => ids(alloc, header.as_view().snaps.as_slice()),
+        None => Ok(Vec::new(alloc)),
+    }
+}
+
+fn ids(alloc: Global, snaps: &[SnapView]) -> Result<Vec<SnapId>, NoMemory>
+    ensures { IfOk result (λ ids. ids.items ≡ ids_of snaps.now) }
+{
+    Ok(snaps.iter().map(|snap| snap.id).collect(alloc)?)
+}
+
+/// Makes a header where there is none.
+fn create(
+    headers: &mut BTreeMap<ImageId, Header>,
+    image: ImageId,
+    view: &HeaderView,
+) -> Result<(), NoMemory>
+    ensures ok { OnOk result ((i : ℕ) → header_in headers.new i ≡ put (header_in headers.old) image (Some (unwrap_or (header_in headers.old image) view.now)) i) }
+    ensures err { OnErr result ((i : ℕ) → header_in headers.new i ≡ header_in headers.old i) }
+{
+    if headers.contains_key(&image) {
+        return Ok(());
+    }
+    headers.insert(image, Header::make(view.try_clone()?))?;
+    Ok(())
+}
+
+/// Changes a header that stays, if it is there.
+fn change_kept(
+    headers: &mut BTreeMap<ImageId, Header>,
+    image: ImageId,
+    instance: Instance,
+    op: &HeaderOp,
+) -> Result<(), NoMemory>
+    requires may { MayDoOnHeader (header_in headers.old image) op.now }
+    requires generation { IfSome (header_in headers.old image) (λ h. h.generation + 1 < 2 ^ 64) }
+    ensures ok { OnOk result ((i : ℕ) → header_in headers.new i ≡ put (header_in headers.old) image (option_map (λ h. header_then instance h op.now) (header_in headers.old image)) i) }
+    ensures err { OnErr result ((i : ℕ) → header_in headers.new i ≡ header_in headers.old i) }
+{
+    let Some(header) = headers.get_mut(&image) else {
+        return Ok(());
+    };
+    change_header(header, instance, op)?;
+    Ok(())
+}
+
+fn change_header(header: &mut Header, instance: Instance, op: &HeaderOp) -> Result<(), NoMemory>
+    requires may { MayDoOnHeader (Some header.old) op.now }
+    requires generation { header.old.generation + 1 < 2 ^ 64 }
+    ensures ok { OnOk result (header.new ≡ header_then instance header.old op.now) }
+    ensures err { OnErr result (header.new ≡ header.old) }
+{
+    match op {
+        HeaderOp::SnapAdd { name } => add_snap(header, name),
+        HeaderOp::SnapRemove { snap } => {
+            let _found = header.snap_remove(*snap);
+            Ok(())
+        }
+        HeaderOp::SnapStatus { snap, status } => {
+            let _found = header.snap_status(*snap, *status);
+            Ok(())
+        }
+        HeaderOp::SetSize { size } => {
+            header.set_size(*size);
+            Ok(())
+        }
+        HeaderOp::Detach => {
+            header.detach();
+            Ok(())
+        }
+        HeaderOp::Role { role } => {
+            header.set_role(*role);
+            Ok(())
+        }
+        HeaderOp::Synced => {
+            header.synced();
+            Ok(())
+        }
+        HeaderOp::LockTake => {
+            take_lock(header, instance);
+            Ok(())
+        }
+        HeaderOp::LockDrop => {
+            leave_lock(header, instance);
+            Ok(())
+        }
+        HeaderOp::LockBreak { owner } => {
+            leave_lock(header, *owner);
+            Ok(())
+        }
+        HeaderOp::Create { view: _ } => Ok(()),
+        HeaderOp::Get => Ok(()),
+        HeaderOp::Remove => Ok(()),
+        HeaderOp::Mirror => unreachable!(),
+        HeaderOp::Watch => unreachable!(),
+        HeaderOp::Unwatch => unreachable!(),
+        HeaderOp::WatchersGet => unreachable!(),
+        HeaderOp::Notify { kind: _ } => unreachable!(),
+    }
+}
+
+fn add_snap(header: &mut Header, name: &Name) -> Result<(), NoMemory>
+    requires { header.old.generation + 1 < 2 ^ 64 }
+    ensures ok { OnOk result (header.new ≡ where_made (is_some (snap_named header.old.snaps name.now)) (is_full header.old) (with_snap name.now header.old) header.old) }
+    ensures err { OnErr result (header.new ≡ header.old) }
+{
+    match header.snap_add(name) {
+        Ok(_) => Ok(()),
+        Err(fault) => match fault {
+            SnapAddFault::Exists => Ok(()),
+            SnapAddFault::Full => Ok(()),
+            SnapAddFault::NoMemory => Err(NoMemory),
+        },
+    }
+}
+
+fn take_lock(header: &mut Header, instance: Instance)
+    ensures { header.new ≡ record header.old { owner = if is_some header.old.owner then header.old.owner else Some instance } }
+{
+    let _taken = header.lock(instance);
+}
+
+fn leave_lock(header: &mut Header, owner: Instance)
+    ensures { header.new ≡ (if is_owner owner header.old.owner then record header.old { owner = None } else header.old) }
+{
+    let _left = header.unlock(owner);
+}
+
+/// What an operation on a header that is there is answered.
+fn answer_there(header: &Header, instance: Instance, op: &HeaderOp) -> Result<Answer, NoMemory>
+    requires { MayDoOnHeader (Some header.now) op.now }
+    ensures { IfOk result (λ answer. answer ≡ there_answer instance header.now op.now) }
+{
+    match op {
+        HeaderOp::Create { view: _ } => Ok(Answer::Exists),
+        HeaderOp::Get => Ok(Answer::Header(header.view()?)),
+        HeaderOp::SnapAdd { name } => Ok(snap_added(header, name)),
+        HeaderOp::SnapRemove { snap } => Ok(done_where(lists(header, *snap))),
+        HeaderOp::SnapStatus { snap, status: _ } => Ok(done_where(lists(header, *snap))),
+        HeaderOp::LockTake => Ok(lock_taken(instance, header.as_view().owner)),
+        HeaderOp::LockDrop => Ok(lock_left(instance, header.as_view().owner)),
+        HeaderOp::LockBreak { owner } => Ok(lock_left(*owner, header.as_view().owner)),
+        HeaderOp::SetSize { size: _ } => Ok(Answer::Done),
+        HeaderOp::Detach => Ok(Answer::Done),
+        HeaderOp::Role { role: _ } => Ok(Answer::Done),
+        HeaderOp::Synced => Ok(Answer::Done),
+        HeaderOp::Remove => Ok(Answer::Done),
+        HeaderOp::Mirror => unreachable!(),
+        HeaderOp::Watch => unreachable!(),
+        HeaderOp::Unwatch => unreachable!(),
+        HeaderOp::WatchersGet => unreachable!(),
+        HeaderOp::Notify { kind: _ } => unreachable!(),
+    }
+}
+
+/// What an operation on a header that isn't there is answered.
+fn answer_missing(op: &HeaderOp) -> Answer
+    ensures { result ≡ missing_answer op.now }
+{
+    match op {
+        HeaderOp::Create { view: _ } => Answer::Done,
+        _ => Answer::Absent,
+    }
+}
+
+fn snap_added(header: &Header, name: &Name) -> Answer
+    ensures { result ≡ snap_added (is_some (snap_named header.now.snaps name.now)) (is_full header.now) (header.now.snap_seq + 1) }
+{
+    let view = header.as_view();
+    if view.named(name).is_some() {
+        return Answer::Exists;
+    }
+    if header.is_full() {
+        return Answer::Full;
+    }
+    Answer::Snap(SnapId(view.snap_seq + 1))
+}
+
+fn lists(header: &Header, snap: SnapId) -> bool
+    ensures { result ≡ is_some (snap_in header.now.snaps snap) }
+{
+    snapshot(header.as_view(), snap).is_some()
+}
+
+fn done_where(there: bool) -> Answer
+    ensures { result ≡ done_where there }
+{
+    if there { Answer::Done } else { Answer::Absent }
+}
+
+fn lock_taken(instance: Instance, owner: Option<Instance>) -> Answer
+    ensures { result ≡ lock_taken instance owner }
+{
+    match owner {
+        None => Answer::Done,
+        Some(owner) => {
+            if owner == instance {
+                return Answer::Done;
+            }
+            Answer::Held(owner)
+        }
+    }
+}
+
+fn lock_left(instance: Instance, owner: Option<Instance>) -> Answer
+    ensures { result ≡ lock_left instance owner }
+{
+    if is_owner(instance, owner) {
+        return Answer::Done;
+    }
+    Answer::Changed
+}
+
+fn is_owner(instance: Instance, owner: Option<Instance>) -> bool
+    ensures { result ≡ is_owner instance owner }
+{
+    match owner {
+        None => false,
+        Some(owner) => owner == instance,
+    }
+}

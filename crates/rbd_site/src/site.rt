@@ -1,0 +1,125 @@
+//! One site.
+ghost use Rattle.std.specs.Prelude.{◌≡◌, ◌+◌, [], ◌∷◌, ◌++◌, length, if◌then◌else◌, is_some, IfOk, OnOk, OnErr};
+ghost use Rattle.rbd_site.specs.InForm.{AreInForm};
+ghost use Rattle.rbd_site.specs.Log.{records_of, line_of, trim_line, trimmed, AreAnswered, AreNumbered};
+ghost use Rattle.rbd_site.specs.Records.{no_records};
+ghost use Rattle.rbd_site.specs.Step.{MayDo, answer_to, after};
+
+use crate::done::{Done, DoneOp};
+use crate::object_key::ObjectKey;
+use crate::store::Store;
+use rbd_kinds::{Answer, ImageId, Instance, NoMemory, Op, SiteId, TryClone};
+use std::alloc::Global;
+use std::marker::Model;
+
+/// A site (a cluster): its records and the log of the operations that made them. Contracts see it as its
+/// id and its log; the records are what the log leaves.
+#[derive(Debug, Drop)]
+pub struct Site {
+    id: SiteId,
+    store: Store,
+    log: Vec<Done>,
+}
+
+impl Model for Site {
+    ghost use Rattle.rbd_site.specs.Log.{SiteLog, IsSound};
+    ghost use Rattle.rbd_site.specs.Maps.{kept};
+
+    ghost Value = { SiteLog };
+
+    ghost view = { λ s. record { id = s.id; log = s.log.items } };
+
+    ghost invariant = { λ s. IsSound (kept s.store) s.log.items };
+}
+
+impl Site {
+    /// A site without images, and with an empty log.
+    pub fn new(alloc: Global, id: SiteId) -> Result<Self, NoMemory>
+        ensures { IfOk result (λ site. site ≡ record { id = id; log = [] }) }
+    {
+        Ok(Site {
+            id,
+            store: Store::new(alloc),
+            log: Vec::new(alloc),
+        })
+    }
+
+    pub fn id(&self) -> SiteId
+        ensures { result ≡ self.now.id }
+    {
+        self.id
+    }
+
+    /// The operations that were done, numbered from 1. Each has the answer and the change that the records
+    /// have for it which the earlier ones left, and each header of these records is in form.
+    pub fn log(&self) -> &[Done]
+        ensures log { result.now ≡ self.now.log }
+        ensures answered { AreAnswered no_records self.now.log }
+        ensures numbered { AreNumbered 1 self.now.log }
+        ensures form { AreInForm (records_of self.now) (length self.now.log) }
+    {
+        self.log.as_slice()
+    }
+
+    /// The answer that `apply` would give now. Nothing changes and nothing is logged.
+    pub fn answer(&self, instance: Instance, op: &Op) -> Result<Answer, NoMemory>
+        requires { MayDo (records_of self.now) op.now }
+        ensures { IfOk result (λ answer. answer ≡ answer_to (records_of self.now) instance op.now) }
+    {
+        self.store.answer(instance, op)
+    }
+
+    /// Does one operation on one object, and logs it with its answer. Refused memory, nothing is done and
+    /// nothing is logged.
+    pub fn apply(&mut self, instance: Instance, op: &Op) -> Result<Answer, NoMemory>
+        requires { MayDo (records_of self.old) op.now }
+        ensures answer { IfOk result (λ answer. answer ≡ answer_to (records_of self.old) instance op.now) }
+        ensures ok { let number = length self.old.log + 1 in
+            IfOk result (λ answer. self.new ≡ record self.old { log = self.old.log ++ line_of number instance op.now answer ∷ [] }) }
+        ensures records { OnOk result (records_of self.new ≡ after (records_of self.old) instance op.now) }
+        ensures form { AreInForm (records_of self.new) (length self.new.log) }
+        ensures err { OnErr result (self.new ≡ self.old) }
+    {
+        let answer = self.store.answer(instance, op)?;
+        let done = Done {
+            number: self.log.len() as u64 + 1,
+            instance: Some(instance),
+            op: DoneOp::Op(op.try_clone()?),
+            answer: answer.try_clone()?,
+        };
+        self.log.reserve(1)?;
+        self.store.change(instance, op)?;
+        self.log.push_reserved(done);
+        Ok(answer)
+    }
+
+    /// The store's own step: drops what an object keeps for snapshots that the image's header doesn't list
+    /// (Ceph: snapshot trimming), which is all where the header is gone. It is `false` exactly where there is
+    /// no such object, and then nothing is logged. Refused memory, nothing changes.
+    pub fn trim(&mut self, image: ImageId, object: u64) -> Result<bool, NoMemory>
+        ensures found { IfOk result (λ found. found ≡ is_some ((records_of self.old).objects image object)) }
+        ensures ok { let line = trim_line (length self.old.log + 1) image object in
+            IfOk result (λ found. self.new ≡ (if found then record self.old { log = self.old.log ++ line ∷ [] } else self.old)) }
+        ensures records { OnOk result (records_of self.new ≡ trimmed image object (records_of self.old)) }
+        ensures err { OnErr result (self.new ≡ self.old) }
+    {
+        let key = ObjectKey {
+            image,
+            number: object,
+        };
+        if !self.store.has(&key) {
+            return Ok(false);
+        }
+        let live = self.store.live_snaps(image)?;
+        let done = Done {
+            number: self.log.len() as u64 + 1,
+            instance: None,
+            op: DoneOp::Trim { image, object },
+            answer: Answer::Done,
+        };
+        self.log.reserve(1)?;
+        self.store.trim(key, live.as_slice());
+        self.log.push_reserved(done);
+        Ok(true)
+    }
+}

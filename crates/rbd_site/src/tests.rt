@@ -1,0 +1,243 @@
+//! What a site answers and logs. The wanted answers were worked out from the rules in prose.
+ghost use Rattle.std.specs.Prelude.{◌≡◌, IfOk, ◌+◌, ◌≤◌};
+ghost use Rattle.rbd_kinds.specs.Form.{IsNewHeader};
+ghost use Rattle.rbd_object.specs.Parts.{AreWithin, parts_len};
+ghost use Rattle.rbd_site.specs.DataStep.{MayDoOnData};
+
+use crate::{Done, DoneOp, Site};
+use rbd_kinds::{
+    Answer, Bytes, DataOp, DirectoryOp, HeaderOp, HeaderView, ImageId, Instance, Layout, Name,
+    NoMemory, Op, Part, Parts, Role, SessionNo, SiteId, SnapContext, SnapId, SnapIds, Snaps,
+};
+use std::alloc::Global;
+use std::process::Abort;
+use std::test::Fail;
+
+const C1: Instance = Instance {
+    session: SessionNo(0),
+    life: 0,
+};
+
+const IMAGE: ImageId = ImageId(1);
+
+fn name(rt: &impl Abort, alloc: Global, text: &[u8]) -> Result<Name, NoMemory> {
+    Ok(Name::parse(Bytes::from_slice(alloc, text)?).expect(rt, "a name"))
+}
+
+/// A new image of 4,096 bytes in one object.
+fn disk(alloc: Global) -> HeaderView
+    ensures { IsNewHeader result }
+{
+    HeaderView {
+        layout: Layout {
+            object: 4096,
+            unit: 4096,
+            count: 1,
+        },
+        size: 4096,
+        generation: 0,
+        snap_seq: 0,
+        snaps: Snaps::new(alloc),
+        parent: None,
+        depth: 0,
+        born: 4096,
+        born_clone: false,
+        journal: false,
+        syncing: false,
+        owner: None,
+        global: None,
+        role: Role::Plain,
+    }
+}
+
+/// `len` bytes of an object from its first on.
+fn front(alloc: Global, len: u64) -> Result<Parts, NoMemory>
+    ensures within { len ≤ 4096 → IfOk result AreWithin }
+    ensures long { IfOk result (λ parts. parts_len parts ≡ len) }
+{
+    let mut parts = Vec::new(alloc);
+    parts.push(Part {
+        offset: 0,
+        at: 0,
+        len,
+    })?;
+    Ok(Parts::from_vec(parts))
+}
+
+fn create(site: &mut Site, alloc: Global) -> Result<Answer, NoMemory> {
+    site.apply(
+        C1,
+        &Op::Header {
+            image: IMAGE,
+            op: HeaderOp::Create { view: disk(alloc) },
+        },
+    )
+}
+
+fn take_snap(site: &mut Site, name: Name) -> Result<Answer, NoMemory> {
+    site.apply(
+        C1,
+        &Op::Header {
+            image: IMAGE,
+            op: HeaderOp::SnapAdd { name },
+        },
+    )
+}
+
+/// The context of a change while there are the snapshots from 1 up to a number, of which there is one at most.
+fn context(alloc: Global, number: u32) -> Result<SnapContext, NoMemory> {
+    let mut snaps = Vec::new(alloc);
+    if number > 0 {
+        snaps.push(SnapId(number))?;
+    }
+    Ok(SnapContext {
+        seq: SnapId(number),
+        snaps: SnapIds::from_vec(snaps),
+    })
+}
+
+fn on_object(site: &mut Site, object: u64, op: DataOp) -> Result<Answer, NoMemory>
+    requires { MayDoOnData op }
+{
+    site.apply(
+        C1,
+        &Op::Data {
+            image: IMAGE,
+            object,
+            op,
+        },
+    )
+}
+
+/// Writes one byte at the front of object 0, while there are snapshots up to a number.
+fn write(site: &mut Site, alloc: Global, number: u32, byte: u8) -> Result<Answer, NoMemory> {
+    let op = DataOp::Write {
+        context: context(alloc, number)?,
+        must: false,
+        parts: front(alloc, 1)?,
+        bytes: Bytes::from_slice(alloc, &[byte])?,
+    };
+    on_object(site, 0, op)
+}
+
+/// Reads the first bytes of an object.
+fn read(
+    site: &mut Site,
+    alloc: Global,
+    object: u64,
+    snap: Option<SnapId>,
+    len: u64,
+) -> Result<Answer, NoMemory> {
+    let parts = front(alloc, len)?;
+    on_object(site, object, DataOp::Read { snap, parts })
+}
+
+fn is_done(answer: &Answer) -> bool {
+    matches!(answer, Answer::Done)
+}
+
+fn is_absent(answer: &Answer) -> bool {
+    matches!(answer, Answer::Absent)
+}
+
+fn are_bytes(answer: &Answer, wanted: &[u8]) -> bool {
+    match answer {
+        Answer::Bytes(bytes) => bytes.as_slice() == wanted,
+        _ => false,
+    }
+}
+
+/// Whether a line has this number, is the operation of an instance, and has these words.
+fn is_line(line: &Done, number: u64, kind: &str, answer: &str) -> bool {
+    if line.number != number {
+        return false;
+    }
+    if line.instance != Some(C1) {
+        return false;
+    }
+    match &line.op {
+        DoneOp::Op(op) => op.kind().word() == kind && line.answer.word() == answer,
+        _ => false,
+    }
+}
+
+fn has_line(site: &Site, number: u64, kind: &str, answer: &str) -> bool {
+    for line in site.log() {
+        if is_line(line, number, kind, answer) {
+            return true;
+        }
+    }
+    false
+}
+
+/// A site with one image, whose object 0 begins with 17.
+fn with_image(rt: &impl Abort, alloc: Global) -> Result<Site, NoMemory> {
+    let mut site = Site::new(alloc, SiteId::A)?;
+    let name = name(rt, alloc, b"d")?;
+    let added = site.apply(C1, &Op::Directory(DirectoryOp::Add { name }))?;
+    assert!(rt; matches!(added, Answer::Id(IMAGE)));
+    let made = create(&mut site, alloc)?;
+    assert!(rt; is_done(&made));
+    let written = write(&mut site, alloc, 0, 17)?;
+    assert!(rt; is_done(&written));
+    Ok(site)
+}
+
+/// The same with snapshot 1, after which the byte became 34.
+fn with_snapshot(rt: &impl Abort, alloc: Global) -> Result<Site, NoMemory> {
+    let mut site = with_image(rt, alloc)?;
+    let taken = take_snap(&mut site, name(rt, alloc, b"s")?)?;
+    assert!(rt; matches!(taken, Answer::Snap(SnapId(1))));
+    let written = write(&mut site, alloc, 1, 34)?;
+    assert!(rt; is_done(&written));
+    Ok(site)
+}
+
+#[test]
+fn an_unknown_name_is_absent(rt: HostRuntime) -> Result<(), Fail> {
+    let site = Site::new(rt.alloc(), SiteId::A)?;
+    let find = Op::Directory(DirectoryOp::Find {
+        name: name(&rt, rt.alloc(), b"disk")?,
+    });
+    let answer = site.answer(C1, &find)?;
+    assert!(rt; is_absent(&answer));
+    assert!(rt; site.log().is_empty());
+    Ok(())
+}
+
+#[test]
+fn a_snapshot_shows_what_was_written_before(rt: HostRuntime) -> Result<(), Fail> {
+    let alloc = rt.alloc();
+    let mut site = with_snapshot(&rt, alloc)?;
+    let old = read(&mut site, alloc, 0, Some(SnapId(1)), 2)?;
+    assert!(rt; are_bytes(&old, &[17, 0]));
+    let new = read(&mut site, alloc, 0, None, 2)?;
+    assert!(rt; are_bytes(&new, &[34, 0]));
+    Ok(())
+}
+
+#[test]
+fn each_operation_is_a_line(rt: HostRuntime) -> Result<(), Fail> {
+    let alloc = rt.alloc();
+    let mut site = with_snapshot(&rt, alloc)?;
+    let _unknown = read(&mut site, alloc, 7, None, 2)?;
+    assert_eq!(rt; site.log().len(), 6);
+    assert!(rt; has_line(&site, 1, "dir-add", "id"));
+    assert!(rt; has_line(&site, 2, "header-create", "done"));
+    assert!(rt; has_line(&site, 3, "data-write", "done"));
+    assert!(rt; has_line(&site, 4, "header-snap-add", "snap"));
+    assert!(rt; has_line(&site, 5, "data-write", "done"));
+    assert!(rt; has_line(&site, 6, "data-read", "none"));
+    Ok(())
+}
+
+#[test]
+fn an_object_is_there_once_it_was_changed(rt: HostRuntime) -> Result<(), Fail> {
+    let alloc = rt.alloc();
+    let mut site = with_snapshot(&rt, alloc)?;
+    let first = site.trim(IMAGE, 0)?;
+    let seventh = site.trim(IMAGE, 7)?;
+    assert!(rt; first && !seventh);
+    assert_eq!(rt; site.log().len(), 6);
+    Ok(())
+}

@@ -1,0 +1,148 @@
+-- Size, status, role and parent of a header are set, and what it then stands for.
+use Rattle.std.proofs.Common.{◌≡◌, ℕ, ◌<◌, ◌≤◌, min, cond, ltb, inl, inr, List, [], length, map, get_or, Option, Some, None, unwrap_or, refl, sym, ◌∙◌, ap, arith}
+use Rattle.std.proofs.lemmas.Bool.{cases_lt, lt-ltb, le-ltb}
+use Rattle.std.proofs.lemmas.List.{get_or_past}
+use Rattle.std.proofs.lemmas.List.FromFn.{length-map-range_with_len, get_or-map-range_with_len}
+use Rattle.rbd_kinds.specs.declared.header.HeaderView.{HeaderView}
+use Rattle.rbd_kinds.specs.declared.header.ParentLink.{ParentLink}
+use Rattle.rbd_kinds.specs.declared.header.Role.{Role}
+use Rattle.rbd_kinds.specs.declared.header.SnapStatus.{SnapStatus}
+use Rattle.rbd_kinds.specs.Form.{IsOverlapWithin}
+use Rattle.rbd_kinds.specs.Striping.{object_of, offset_of, byte_at}
+use Rattle.rbd_layout.proofs.Places.{first_below}
+use Rattle.rbd_header.specs.Header.{cut, with_size, with_status, with_role, detached}
+use Rattle.rbd_object.specs.Mapped.{Mapped}
+use Rattle.rbd_flat.specs.Flat.{FlatImage, FlatSnap, resized}
+use Rattle.rbd_flat.specs.Flat as flat
+use Rattle.rbd_flat.specs.Laws.{snap_byte}
+use Rattle.rbd_stands.specs.View.{flat_bytes}
+use Rattle.rbd_stands.specs.Shown.{Snapshots, HasParent, inherited, shown}
+use Rattle.rbd_stands.specs.Image.{ImageStands}
+use Rattle.rbd_stands.specs.Condition.{IsCopiedUp, IsZeroedFrom}
+use Rattle.rbd_stands.proofs.DataSteps.{own_bytes}
+use Rattle.rbd_stands.proofs.Lookups.{lines_marked, flat_bytes_marked}
+use Rattle.rbd_stands.proofs.Views.{each_marked}
+
+-- ---- the parent is cut at the size
+
+cut_test : (a size x : ℕ) → x < size → ltb x (min a size) ≡ ltb x a
+cut_test a size x within = elim (cases_lt x a) [
+  | inl less ↦ lt-ltb x (min a size) (omega arith) ∙ sym (lt-ltb x a less)
+  | inr past ↦ le-ltb x (min a size) (omega arith) ∙ sym (le-ltb x a past)
+]
+
+cut_inherited : (below : Snapshots) (parent : Option ParentLink) (size x : ℕ) → x < size → inherited below (cut size parent) x ≡ inherited below parent x
+cut_inherited below None size x within = refl
+cut_inherited below (Some link) size x within = ap (λ b. cond b (snap_byte (below link.image link.snap) 0 x) 0) (cut_test link.overlap size x within)
+
+cut_shown : (below : Snapshots) (parent : Option ParentLink) (size : ℕ) (content : Option (List ℕ)) (offset x : ℕ) → x < size → shown below (cut size parent) content offset x ≡ shown below parent content offset x
+cut_shown below parent size None offset x within = cut_inherited below parent size x within
+cut_shown below parent size (Some bytes) offset x within = refl
+
+-- past the old size nothing is inherited
+grown_inherited : (below : Snapshots) (parent : Option ParentLink) (old size x : ℕ) → IsOverlapWithin old parent → old ≤ x → inherited below (cut size parent) x ≡ 0
+grown_inherited below None old size x within past = refl
+grown_inherited below (Some link) old size x within past = ap (λ b. cond b (snap_byte (below link.image link.snap) 0 x) 0) (le-ltb x (min link.overlap size) (omega arith))
+
+grown_shown : (below : Snapshots) (parent : Option ParentLink) (old size : ℕ) (content : Option (List ℕ)) (offset x : ℕ) → IsOverlapWithin old parent → old ≤ x → get_or (unwrap_or content []) offset 0 ≡ 0
+    → shown below (cut size parent) content offset x ≡ 0
+grown_shown below parent old size None offset x within past clear = grown_inherited below parent old size x within past
+grown_shown below parent old size (Some bytes) offset x within past clear = clear
+
+cut_parent : (below : Snapshots) (parent : Option ParentLink) (size : ℕ) → HasParent below parent → HasParent below (cut size parent)
+cut_parent below None size has = tt
+cut_parent below (Some link) size has = record { snap = has.snap; is = has.is; long = (let l = has.long in omega arith); kept = has.kept }
+
+cut_within : (parent : Option ParentLink) (size : ℕ) → IsOverlapWithin size (cut size parent)
+cut_within None size = tt
+cut_within (Some link) size = omega arith
+
+module _ (below : Snapshots) (h : HeaderView) (objects : ℕ → Mapped) (i : FlatImage) (stands : ImageStands below h objects i) where
+  -- ---- a size
+
+  resized_byte : (size x : ℕ) → x < size → get_or (resized size i.bytes) x 0 ≡ get_or i.bytes x 0
+  resized_byte size x within = get_or-map-range_with_len (λ y. get_or i.bytes y 0) 0 size x x 0 within (omega arith)
+
+  resized_shown : (size x : ℕ) → x < size → get_or (resized size i.bytes) x 0 ≡ shown below (cut size h.parent) (objects (object_of h.layout x)).head (offset_of h.layout x) x
+  resized_shown size x within = elim (cases_lt x h.size) [
+    | inl old ↦ resized_byte size x within ∙ stands.bytes.head x old ∙ sym (cut_shown below h.parent size (objects (object_of h.layout x)).head (offset_of h.layout x) x within)
+    | inr new ↦ resized_byte size x within ∙ get_or_past i.bytes x 0 (let long = stands.long.head in omega arith)
+        ∙ sym (grown_shown below h.parent h.size size (objects (object_of h.layout x)).head (offset_of h.layout x) x stands.within.head new (stands.clear x new))
+  ]
+
+  pub size_set : (size : ℕ) → IsZeroedFrom h size objects → ImageStands below (with_size size h) objects (record i { bytes = resized size i.bytes })
+  size_set size zeroed = record {
+    same = stands.same;
+    role = stands.role;
+    long = record { head = length-map-range_with_len (λ y. get_or i.bytes y 0) 0 size; snap = stands.long.snap };
+    bytes = record { head = λ x within. resized_shown size x within; snap = stands.bytes.snap };
+    parents = record { head = cut_parent below h.parent size stands.parents.head; snap = stands.parents.snap };
+    within = record { head = cut_within h.parent size; snap = stands.within.snap };
+    clear = λ x past. elim (cases_lt x h.size) [
+      | inl old ↦ zeroed.zeros x past old
+      | inr new ↦ stands.clear x new
+    ];
+    tidy = stands.tidy;
+    seen = stands.seen;
+    numbered = record { head = stands.numbered.head; snap = stands.numbered.snap };
+    laid = stands.laid;
+  }
+
+  -- ---- a role
+
+  pub role_set : (role : Role) → ImageStands below (with_role role h) objects (record i { role = role })
+  role_set role = record {
+    same = stands.same;
+    role = refl;
+    long = record { head = stands.long.head; snap = stands.long.snap };
+    bytes = record { head = stands.bytes.head; snap = stands.bytes.snap };
+    parents = record { head = stands.parents.head; snap = stands.parents.snap };
+    within = record { head = stands.within.head; snap = stands.within.snap };
+    clear = stands.clear;
+    tidy = stands.tidy;
+    seen = stands.seen;
+    numbered = record { head = stands.numbered.head; snap = stands.numbered.snap };
+    laid = stands.laid;
+  }
+
+  -- ---- the status of a snapshot
+
+  status_bytes : (t : ℕ) (status : SnapStatus) (u : ℕ) → flat_bytes (record i { snaps = map (flat.with_status t status) i.snaps }) (Some u) ≡ flat_bytes i (Some u)
+  status_bytes t status u = ap (λ (o : Option (List ℕ)). unwrap_or o []) (flat_bytes_marked t status i.snaps u)
+
+  pub status_set : (t : ℕ) (status : SnapStatus) → ImageStands below (with_status t status h) objects (record i { snaps = map (flat.with_status t status) i.snaps })
+  status_set t status = record {
+    same = lines_marked t status h.snaps i.snaps stands.same;
+    role = stands.role;
+    long = each_marked t status h (λ p. p) (λ u s is p. ap length (status_bytes t status u) ∙ p) stands.long;
+    bytes = each_marked t status h (λ p. p) (λ u s is p x within. ap (λ bytes. get_or bytes x 0) (status_bytes t status u) ∙ p x within) stands.bytes;
+    parents = each_marked t status h (λ p. p) (λ u s is p. p) stands.parents;
+    within = each_marked t status h (λ p. p) (λ u s is p. p) stands.within;
+    clear = stands.clear;
+    tidy = stands.tidy;
+    seen = stands.seen;
+    numbered = each_marked t status h (λ p. p) (λ u s is p. p) stands.numbered;
+    laid = stands.laid;
+  }
+
+  -- ---- the parent is taken away
+
+  pub parent_taken : ((n : ℕ) → IsCopiedUp h n (objects n)) → ImageStands below (detached h) objects i
+  parent_taken up = record {
+    same = stands.same;
+    role = stands.role;
+    long = record { head = stands.long.head; snap = stands.long.snap };
+    bytes = record {
+      head = λ x within. stands.bytes.head x within
+          ∙ own_bytes below h.parent (byte_at h.layout (object_of h.layout x) 0) (objects (object_of h.layout x)).head (up (object_of h.layout x)) (offset_of h.layout x) x (first_below h.layout stands.laid x)
+          ∙ sym (own_bytes below None (byte_at h.layout (object_of h.layout x) 0) (objects (object_of h.layout x)).head (λ none. absurd none) (offset_of h.layout x) x (first_below h.layout stands.laid x));
+      snap = stands.bytes.snap;
+    };
+    parents = record { head = tt; snap = stands.parents.snap };
+    within = record { head = tt; snap = stands.within.snap };
+    clear = stands.clear;
+    tidy = stands.tidy;
+    seen = stands.seen;
+    numbered = record { head = stands.numbered.head; snap = stands.numbered.snap };
+    laid = stands.laid;
+  }

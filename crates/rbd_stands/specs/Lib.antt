@@ -1,0 +1,8 @@
+pub mod View
+pub mod Shown
+pub mod Image
+pub mod Site
+pub mod Condition
+pub mod Same
+pub mod Reading
+pub mod Writing

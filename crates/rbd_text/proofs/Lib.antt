@@ -1,0 +1,5 @@
+pub mod Counted
+pub mod Digits
+pub mod Gone
+pub mod Last
+pub mod Spoken

@@ -1,0 +1,10 @@
+pub mod Entries
+pub mod Names
+pub mod Numbers
+pub mod Objects
+pub mod Operations
+pub mod Progress
+pub mod Replies
+pub mod Speakers
+pub mod Text
+pub mod Unanswered

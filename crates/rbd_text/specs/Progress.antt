@@ -1,0 +1,33 @@
+-- What is kept of the commands while a history is gone over.
+use Rattle.std.specs.Prelude.{◌≡◌, ℕ, ◌||◌, List, Option, None}
+use Rattle.std.specs.Option.{unwrap_or}
+use Rattle.std.specs.Ordering.{nat_cmp}
+use Rattle.std.specs.BTreeMap.{get}
+use Rattle.std.specs.BTreeSet.{contains}
+use Rattle.rbd_flat.specs.declared.entry.Entry.{Entry}
+use Rattle.rbd_site.specs.declared.done.Done.{Done}
+use Rattle.rbd_text.specs.Unanswered.{progress_of, starts, answers, loses, found_in}
+use Rattle.rbd_text.specs.declared.progress.Progress.{Progress}
+use Rattle.rbd_text.specs.declared.progress.Progresses.{Progresses}
+
+-- what is kept of the command of a line
+abbrev pub progress_at : Progresses → (line : ℕ) → Progress
+progress_at all line = record {
+  started = contains nat_cmp all.started line;
+  answered = contains nat_cmp all.answered line;
+  lost = contains nat_cmp all.lost line;
+  holder = unwrap_or (get nat_cmp all.holders line) None;
+}
+
+-- what one more entry tells of the command of a line
+abbrev pub heard : (a b : List Done) → (line : ℕ) → Entry → Progress → Progress
+heard a b line entry progress = record {
+  started = starts line entry || progress.started;
+  answered = answers line entry || progress.answered;
+  lost = loses line entry || progress.lost;
+  holder = unwrap_or (found_in a b line entry) progress.holder;
+}
+
+-- all is kept that a history tells
+pub record AreOf (a b : List Done) (history : List Entry) (all : Progresses) : Type 0 where
+  pub each : (line : ℕ) → progress_at all line ≡ progress_of a b history line

@@ -1,0 +1,188 @@
+//! How far each command of a script has come.
+ghost use Rattle.std.specs.Prelude.{◌≡◌, ◌==◌, ◌||◌, ℕ, Some, None, OnOk, IfOk, if◌then◌else◌, option_copied};
+ghost use Rattle.std.specs.Option.{unwrap_or};
+ghost use Rattle.std.specs.Ordering.{nat_cmp};
+ghost use Rattle.std.specs.BTreeMap.{get};
+ghost use Rattle.std.specs.BTreeSet.{contains};
+ghost use Rattle.rbd_text.specs.Unanswered.{line_of, log_of, logged, is_lock_take, held_by, found_by, where_for};
+ghost use Rattle.rbd_text.specs.Progress.{progress_at, heard, AreOf};
+
+use rbd_flat::{Cause, Entry};
+use rbd_kinds::{Answer, HeaderOp, Instance, NoMemory, Op, SiteId};
+use rbd_site::{Done, DoneOp};
+use std::alloc::Global;
+use std::collections::{BTreeMap, BTreeSet};
+
+/// What a history tells of one command.
+#[derive(Clone, Copy, Debug)]
+pub struct Progress {
+    pub started: bool,
+    pub answered: bool,
+    pub lost: bool,
+    /// Whom its last attempt at a lock found to have it.
+    pub holder: Option<Instance>,
+}
+
+/// What a history tells of all commands, by their lines.
+#[derive(Drop)]
+pub struct Progresses {
+    started: BTreeSet<u32>,
+    answered: BTreeSet<u32>,
+    lost: BTreeSet<u32>,
+    /// Whom the last attempt of each line at a lock found to have it.
+    holders: BTreeMap<u32, Option<Instance>>,
+}
+
+impl Progresses {
+    /// Goes over a history once. An operation is found in its site's log by its number.
+    pub fn of(alloc: Global, history: &[Entry], a: &[Done], b: &[Done]) -> Result<Self, NoMemory>
+        ensures { IfOk result (λ all. AreOf a.now b.now history.now all) }
+    {
+        let mut all = Progresses {
+            started: BTreeSet::new(alloc),
+            answered: BTreeSet::new(alloc),
+            lost: BTreeSet::new(alloc),
+            holders: BTreeMap::new(alloc),
+        };
+        for entry in history {
+            all.hear(a, b, entry)?;
+        }
+        Ok(all)
+    }
+
+    /// What the history tells of the command of a line.
+    pub fn at(&self, line: u32) -> Progress
+        ensures { result ≡ progress_at self.now line }
+    {
+        Progress {
+            started: self.started.contains(&line),
+            answered: self.answered.contains(&line),
+            lost: self.lost.contains(&line),
+            holder: self.holders.get(&line).copied().unwrap_or(None),
+        }
+    }
+
+    fn hear(&mut self, a: &[Done], b: &[Done], entry: &Entry) -> Result<(), NoMemory>
+        ensures { OnOk result ((line : ℕ) → progress_at self.new line ≡ heard a.now b.now line entry.now (progress_at self.old line)) }
+    {
+        match entry {
+            Entry::Start { line, instance: _ } => note(&mut self.started, *line),
+            Entry::Effect {
+                cause,
+                site,
+                number,
+                effect: _,
+            } => find(&mut self.holders, *cause, operation(a, b, *site, *number)),
+            Entry::Look {
+                cause,
+                site,
+                number,
+            } => find(&mut self.holders, *cause, operation(a, b, *site, *number)),
+            Entry::Fence {
+                cause,
+                site,
+                number,
+                instance: _,
+            } => find(&mut self.holders, *cause, operation(a, b, *site, *number)),
+            Entry::Reply { line, reply: _ } => note(&mut self.answered, *line),
+            Entry::Stop { session: _ } => Ok(()),
+            Entry::Lost { line } => note(&mut self.lost, *line),
+        }
+    }
+}
+
+fn note(lines: &mut BTreeSet<u32>, line: u32) -> Result<(), NoMemory>
+    ensures { OnOk result ((q : ℕ) → contains nat_cmp lines.new q ≡ ((line == q) || contains nat_cmp lines.old q)) }
+{
+    lines.insert(line)?;
+    Ok(())
+}
+
+/// Keeps whom an operation found to have the lock, where it was an attempt at one for a line.
+fn find(
+    holders: &mut BTreeMap<u32, Option<Instance>>,
+    cause: Cause,
+    done: Option<&Done>,
+) -> Result<(), NoMemory>
+    ensures { OnOk result ((q : ℕ) → unwrap_or (get nat_cmp holders.new q) None ≡ unwrap_or (where_for q (line_of cause) (found_by (option_copied done.entry))) (unwrap_or (get nat_cmp holders.old q) None)) }
+{
+    let Some(line) = line(cause) else {
+        return Ok(());
+    };
+    let Some(holder) = found(done) else {
+        return Ok(());
+    };
+    keep(holders, line, holder)
+}
+
+fn keep(
+    holders: &mut BTreeMap<u32, Option<Instance>>,
+    line: u32,
+    holder: Option<Instance>,
+) -> Result<(), NoMemory>
+    ensures { OnOk result ((q : ℕ) → get nat_cmp holders.new q ≡ (if line == q then Some holder else get nat_cmp holders.old q)) }
+{
+    holders.insert(line, holder)?;
+    Ok(())
+}
+
+/// For which line an operation was done.
+fn line(cause: Cause) -> Option<u32>
+    ensures { result ≡ line_of cause }
+{
+    match cause {
+        Cause::Line(line) => Some(line),
+        Cause::Late(_) => None,
+        Cause::Replay { line, seq: _ } => Some(line),
+        Cause::House(_) => None,
+    }
+}
+
+/// An operation of a site's log, by its number.
+fn operation<'l>(a: &'l [Done], b: &'l [Done], site: SiteId, number: u64) -> Option<&'l Done>
+    ensures { option_copied result ≡ logged (log_of a.now b.now site) number }
+{
+    let log = match site {
+        SiteId::A => a,
+        SiteId::B => b,
+    };
+    if number == 0 {
+        return None;
+    }
+    log.get((number - 1) as usize)
+}
+
+/// Whom an attempt at a lock found to have it, where the operation was one.
+fn found(done: Option<&Done>) -> Option<Option<Instance>>
+    ensures { result ≡ found_by (option_copied done.entry) }
+{
+    let done = done?;
+    if takes_lock(&done.op) {
+        Some(holder(&done.answer))
+    } else {
+        None
+    }
+}
+
+fn takes_lock(op: &DoneOp) -> bool
+    ensures { result ≡ is_lock_take op.now }
+{
+    match op {
+        DoneOp::Op(
+            Op::Header {
+                image: _,
+                op: HeaderOp::LockTake,
+            },
+        ) => true,
+        _ => false,
+    }
+}
+
+fn holder(answer: &Answer) -> Option<Instance>
+    ensures { result ≡ held_by answer.now }
+{
+    match answer {
+        Answer::Held(owner) => Some(*owner),
+        _ => None,
+    }
+}
