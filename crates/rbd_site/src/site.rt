@@ -81,15 +81,15 @@ impl Site {
         ensures err { OnErr result (self.new ≡ self.old) }
     {
         let answer = self.store.answer(instance, op)?;
-        let done = Done {
-            number: self.log.len() as u64 + 1,
+        let line = Done {
+            number: self.next_number(),
             instance: Some(instance),
             op: DoneOp::Op(op.try_clone()?),
             answer: answer.try_clone()?,
         };
         self.log.reserve(1)?;
         self.store.change(instance, op)?;
-        self.log.push_reserved(done);
+        self.log.push_reserved(line);
         Ok(answer)
     }
 
@@ -111,15 +111,22 @@ impl Site {
             return Ok(false);
         }
         let live = self.store.live_snaps(image)?;
-        let done = Done {
-            number: self.log.len() as u64 + 1,
+        let line = Done {
+            number: self.next_number(),
             instance: None,
             op: DoneOp::Trim { image, object },
             answer: Answer::Done,
         };
         self.log.reserve(1)?;
         self.store.trim(key, live.as_slice());
-        self.log.push_reserved(done);
+        self.log.push_reserved(line);
         Ok(true)
+    }
+
+    /// The number of the next line of the log.
+    fn next_number(&self) -> u64
+        ensures { result ≡ length self.now.log + 1 }
+    {
+        self.log.len() as u64 + 1
     }
 }

@@ -1,7 +1,7 @@
 use Rattle.std.proofs.Common.{◌≡◌, ◌+◌, length, Some, sym, ap, ◌∙◌, subst, arith}
 use Rattle.rbd_site.specs.declared.done.DoneOp.TheVariants as done
 use Rattle.rbd_site.specs.InForm.{AreInForm}
-use Rattle.rbd_site.specs.Log.{records_of}
+use Rattle.rbd_site.specs.Log.{SiteLog, records_of}
 use Rattle.rbd_site.specs.Maps.{kept}
 use Rattle.rbd_site.specs.Step.{MayDo, answer_to, after}
 use Rattle.rbd_site.proofs.FormLemmas.{form_after}
@@ -16,11 +16,11 @@ invariant_of-self-2 c =
     let may : MayDo r c.args.op.now = subst (λ x. MayDo x c.args.op.now) (sym stands) c.requires in
     rw (c.push_reserved.ensures.items, c.in_ok-reserve.ensures.items)
     (sound_more r (kept c.change.new.self) c.self.inside.log.items
-    (record { number = c.len.result + 1; instance = Some me; op = done.Op c.in_ok-try_clone.field-0; answer = c.in_ok-try_clone-2.field-0 })
+    (record { number = c.next_number.result; instance = Some me; op = done.Op c.in_ok-try_clone.field-0; answer = c.in_ok-try_clone-2.field-0 })
     c.self.invariant
     (c.in_ok-change.ensures.ok ∙ ap (after r me) (sym c.in_ok-try_clone.ensures))
     (c.in_ok-try_clone-2.ensures ∙ c.in_ok-answer.ensures ∙ ap (answer_to r me) (sym c.in_ok-try_clone.ensures))
-    (omega (arith, c.len.ensures))
+    (c.next_number.ensures ∙ ap (λ (s : SiteLog). length s.log + 1) (sym c.self.view_is))
     (subst (λ x. AreInForm x (length c.self.inside.log.items + 1)) (sym c.in_ok-change.ensures.ok)
     (form_after r me c.args.op.now (length c.self.inside.log.items) c.self.invariant.form may)))
 

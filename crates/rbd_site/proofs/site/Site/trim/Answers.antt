@@ -1,7 +1,7 @@
 use Rattle.std.proofs.Common.{◌≡◌, ◌+◌, List, ℕ, length, sym, ap, ◌∙◌, option_map, subst, arith, refl}
 use Rattle.rbd_object.specs.Mapped.{mapped_trim}
 use Rattle.rbd_site.specs.InForm.{AreInForm}
-use Rattle.rbd_site.specs.Log.{records_of, trim_line, trimmed}
+use Rattle.rbd_site.specs.Log.{SiteLog, records_of, trim_line, trimmed}
 use Rattle.rbd_site.specs.Maps.{kept}
 use Rattle.rbd_site.specs.Records.{with_object}
 use Rattle.rbd_site.proofs.LogLemmas.{sound_more}
@@ -17,8 +17,8 @@ invariant_of-self-2 c =
     c.trim.ensures
     ∙ ap (λ (live : List ℕ). with_object image object (option_map (mapped_trim live) (r.objects image object)) r) (c.as_slice.ensures.value ∙ c.in_ok-live.ensures) in
     rw (c.push_reserved.ensures.items, c.in_ok-reserve.ensures.items)
-    (sound_more r (kept c.trim.new.self) c.self.inside.log.items (trim_line (c.len.result + 1) image object) c.self.invariant
-    done (refl, refl) (omega (arith, c.len.ensures))
+    (sound_more r (kept c.trim.new.self) c.self.inside.log.items (trim_line (c.next_number.result) image object) c.self.invariant
+    done (refl, refl) (c.next_number.ensures ∙ ap (λ (s : SiteLog). length s.log + 1) (sym c.self.view_is))
     (subst (λ x. AreInForm x (length c.self.inside.log.items + 1)) (sym done)
     (form_trimmed image object r (length c.self.inside.log.items) c.self.invariant.form)))
 

@@ -1,0 +1,38 @@
+-- Tokens of pairs of lower-case hexadecimal digits.
+use Rattle.std.specs.Prelude.{ℕ, ◌+◌, ◌-◌, ◌*◌, ◌%◌, ◌==◌, ◌&&◌, ◌||◌, nat_le, Bool, if◌then◌else◌, List, [], ◌∷◌, length, Result, Ok, Err}
+use Rattle.std.specs.List.{list_all}
+use Rattle.rbd_script.specs.declared.fault.LineCause.{LineCause}
+use Rattle.rbd_script.specs.declared.fault.LineCause.TheVariants.{BadNumber}
+use Rattle.rbd_script.specs.Number.{is_digit}
+
+-- `0` to `9`, `a` to `f`
+abbrev pub is_hex_digit : ℕ → Bool
+is_hex_digit b = is_digit b || (nat_le 97 b && nat_le b 102)
+
+abbrev pub hex_digit : ℕ → ℕ
+hex_digit b = if is_digit b then b - 48 else b - 87
+
+-- an even number of digits
+abbrev pub are_pairs : List ℕ → Bool
+are_pairs token = list_all is_hex_digit token && (length token % 2 == 0)
+
+-- the byte of a pair
+abbrev pub pair : (high low : ℕ) → ℕ
+pair high low = hex_digit high * 16 + hex_digit low
+
+-- the bytes of some pairs
+abbrev pub bytes_of_pairs : List ℕ → List ℕ
+bytes_of_pairs [] = []
+bytes_of_pairs (high ∷ []) = []
+bytes_of_pairs (high ∷ low ∷ digits) = pair high low ∷ bytes_of_pairs digits
+
+-- 1 to 65,536 pairs
+unfoldable pub bytes_of : List ℕ → Result (List ℕ) LineCause
+bytes_of token = if nat_le (length token) 131072 && nat_le 2 (length token) && are_pairs token then Ok (bytes_of_pairs token) else Err BadNumber
+
+-- one pair
+unfoldable pub byte_of : List ℕ → Result ℕ LineCause
+byte_of [] = Err BadNumber
+byte_of (high ∷ []) = Err BadNumber
+byte_of (high ∷ low ∷ []) = if is_hex_digit high && is_hex_digit low then Ok (pair high low) else Err BadNumber
+byte_of (high ∷ low ∷ b ∷ bytes) = Err BadNumber

@@ -1,0 +1,13 @@
+pub mod Command
+pub mod Fault
+pub mod Form
+pub mod Hex
+pub mod Line
+pub mod Name
+pub mod Number
+pub mod Part
+pub mod Reading
+pub mod Schedule
+pub mod Session
+pub mod Token
+pub mod Word

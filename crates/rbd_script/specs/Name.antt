@@ -1,0 +1,39 @@
+-- Tokens that name images and snapshots.
+use Rattle.std.specs.Prelude.{ℕ, ◌==◌, ◌&&◌, nat_le, not, Bool, if◌then◌else◌, List, length, slice_index, Option, Some, None, Result, Ok, Err}
+use Rattle.std.specs.List.{list_all, list_any, before_first, after_first}
+use Rattle.rbd_kinds.specs.Name.{name_byte}
+use Rattle.rbd_script.specs.declared.fault.LineCause.{LineCause}
+use Rattle.rbd_script.specs.declared.fault.LineCause.TheVariants.{BadName}
+
+-- 1 to 64 bytes of a name, the first not `.` or `-`
+abbrev pub is_name : List ℕ → Bool
+is_name token = nat_le 1 (length token) && nat_le (length token) 64 && list_all name_byte token && not (slice_index token 0 == 46) && not (slice_index token 0 == 45)
+
+-- `NAME`
+unfoldable pub name_of : List ℕ → Result (List ℕ) LineCause
+name_of token = if is_name token then Ok token else Err BadName
+
+-- `@`
+abbrev pub is_at : ℕ → Bool
+is_at b = b == 64
+
+abbrev pub both : {A B : Type 0} → Result A LineCause → Result B LineCause → Result (A × B) LineCause
+both (Ok a) (Ok b) = Ok (a, b)
+both (Ok a) (Err cause) = Err cause
+both (Err cause) second = Err cause
+
+-- `IMAGE@SNAP`: two names. Where there is no `@` nothing stands behind it, which is no name.
+unfoldable pub snap_of : List ℕ → Result (List ℕ × List ℕ) LineCause
+snap_of token = both (name_of (before_first is_at token)) (name_of (after_first is_at token))
+
+-- `IMAGE` or `IMAGE@SNAP`
+abbrev pub of_image : Result (List ℕ) LineCause → Result (List ℕ × Option (List ℕ)) LineCause
+of_image (Ok image) = Ok (image, None)
+of_image (Err cause) = Err cause
+
+abbrev pub of_snap : Result (List ℕ × List ℕ) LineCause → Result (List ℕ × Option (List ℕ)) LineCause
+of_snap (Ok (image, snap)) = Ok (image, Some snap)
+of_snap (Err cause) = Err cause
+
+unfoldable pub target_of : List ℕ → Result (List ℕ × Option (List ℕ)) LineCause
+target_of token = if list_any is_at token then of_snap (snap_of token) else of_image (name_of token)
