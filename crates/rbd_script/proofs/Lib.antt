@@ -1,7 +1,12 @@
+pub mod CommandRead
+pub mod CommandSaid
 pub mod Halves
 pub mod HexPairs
+pub mod HexSpelling
 pub mod KindWords
 pub mod LineLemmas
 pub mod Numerals
+pub mod PartSpelling
 pub mod SessionNames
 pub mod TokenLemmas
+pub mod TokenSpelling

@@ -34,10 +34,10 @@ place_at wanted text i within before here =
 one_more : (n : ℕ) → 1 + n ≡ suc n
 one_more n = omega arith
 
-take_one_more : (n b : ℕ) (line : List ℕ) → take (1 + n) (b ∷ line) ≡ b ∷ take n line
+pub take_one_more : (n b : ℕ) (line : List ℕ) → take (1 + n) (b ∷ line) ≡ b ∷ take n line
 take_one_more n b line = rw (one_more n) refl
 
-drop_one_more : (n b : ℕ) (line : List ℕ) → drop (1 + n) (b ∷ line) ≡ drop n line
+pub drop_one_more : (n b : ℕ) (line : List ℕ) → drop (1 + n) (b ∷ line) ≡ drop n line
 drop_one_more n b line = rw (one_more n) refl
 
 -- what stands before the first space is a part, and the parts behind it are those of the rest

@@ -9,5 +9,6 @@ pub mod Part
 pub mod Reading
 pub mod Schedule
 pub mod Session
+pub mod Spelling
 pub mod Token
 pub mod Word

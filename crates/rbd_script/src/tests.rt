@@ -1,9 +1,9 @@
-mod events;
 mod faults;
 mod forms;
 mod limits;
 mod order;
 mod prefixes;
+mod sessions;
 mod taken;
 
 use crate::{Line, LineCause, Said, Script, ScriptFault, read};

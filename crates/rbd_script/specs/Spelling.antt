@@ -1,0 +1,114 @@
+-- How commands are written, and how a schedule's lines are.
+use Rattle.std.specs.Prelude.{◌≡◌, ℕ, ◌<◌, ◌≤◌, ◌++◌, Bool, true, false, List, [], ◌∷◌, codes, decimal, Option, Some, None, IfSome}
+use Rattle.hex.specs.Hex.{encode_lower, IsBytes}
+use Rattle.rbd_kinds.specs.Command.{IsPayload}
+use Rattle.rbd_kinds.specs.Name.{IsName}
+use Rattle.rbd_kinds.specs.declared.command.Command.{Command}
+use Rattle.rbd_kinds.specs.declared.command.Command.TheVariants as command
+use Rattle.rbd_kinds.specs.declared.command.Shape.{Shape}
+use Rattle.rbd_script.specs.Number.{greatest}
+
+-- `[WORD N]`
+abbrev pub option_tokens : (word : List ℕ) → Option ℕ → List (List ℕ)
+option_tokens word None = []
+option_tokens word (Some n) = word ∷ decimal n ∷ []
+
+-- `[WORD]`
+abbrev pub flag_tokens : (word : List ℕ) → Bool → List (List ℕ)
+flag_tokens word true = word ∷ []
+flag_tokens word false = []
+
+-- `[object N] [unit N] [count N] [journal]`
+abbrev pub shape_tokens : Shape → List (List ℕ)
+shape_tokens s =
+    option_tokens (codes "object") s.object
+    ++ (option_tokens (codes "unit") s.unit ++ (option_tokens (codes "count") s.count ++ flag_tokens (codes "journal") s.journal))
+
+-- `IMAGE@SNAP`
+abbrev pub snap_token : (image snap : List ℕ) → List ℕ
+snap_token image snap = image ++ 64 ∷ snap
+
+-- `IMAGE[@SNAP]`
+abbrev pub target_token : (image : List ℕ) → Option (List ℕ) → List ℕ
+target_token image None = image
+target_token image (Some snap) = snap_token image snap
+
+-- the tokens of a command
+abbrev pub spelling : Command → List (List ℕ)
+spelling (command.Create image size shape) = codes "create" ∷ image ∷ decimal size ∷ shape_tokens shape
+spelling (command.Clone parent snap image shape) = codes "clone" ∷ snap_token parent snap ∷ image ∷ shape_tokens shape
+spelling (command.Write image at bytes) = codes "write" ∷ image ∷ decimal at ∷ encode_lower bytes ∷ []
+spelling (command.Fill image at len byte) = codes "fill" ∷ image ∷ decimal at ∷ decimal len ∷ encode_lower (byte ∷ []) ∷ []
+spelling (command.Discard image at len) = codes "discard" ∷ image ∷ decimal at ∷ decimal len ∷ []
+spelling (command.Read image snap at len) = codes "read" ∷ target_token image snap ∷ decimal at ∷ decimal len ∷ []
+spelling (command.Resize image size) = codes "resize" ∷ image ∷ decimal size ∷ []
+spelling (command.Rename from to) = codes "rename" ∷ from ∷ to ∷ []
+spelling (command.Remove image) = codes "rm" ∷ image ∷ []
+spelling (command.Info image) = codes "info" ∷ image ∷ []
+spelling (command.Used image) = codes "du" ∷ image ∷ []
+spelling (command.Flatten image) = codes "flatten" ∷ image ∷ []
+spelling (command.Quiesce image) = codes "quiesce" ∷ image ∷ []
+spelling (command.Resume image) = codes "resume" ∷ image ∷ []
+spelling (command.Close image) = codes "close" ∷ image ∷ []
+spelling command.List = codes "ls" ∷ []
+spelling (command.Children image snap) = codes "children" ∷ snap_token image snap ∷ []
+spelling (command.Tell image bytes) = codes "tell" ∷ image ∷ encode_lower bytes ∷ []
+spelling (command.SnapCreate image snap) = codes "snap" ∷ codes "create" ∷ snap_token image snap ∷ []
+spelling (command.SnapRemove image snap) = codes "snap" ∷ codes "rm" ∷ snap_token image snap ∷ []
+spelling (command.SnapProtect image snap) = codes "snap" ∷ codes "protect" ∷ snap_token image snap ∷ []
+spelling (command.SnapUnprotect image snap) = codes "snap" ∷ codes "unprotect" ∷ snap_token image snap ∷ []
+spelling (command.SnapRollback image snap) = codes "snap" ∷ codes "rollback" ∷ snap_token image snap ∷ []
+spelling (command.SnapList image) = codes "snap" ∷ codes "ls" ∷ image ∷ []
+spelling (command.MirrorEnable image) = codes "mirror" ∷ codes "enable" ∷ image ∷ []
+spelling (command.MirrorDemote image) = codes "mirror" ∷ codes "demote" ∷ image ∷ []
+spelling (command.MirrorPromote image force) = codes "mirror" ∷ codes "promote" ∷ image ∷ flag_tokens (codes "force") force
+spelling (command.MirrorResync image) = codes "mirror" ∷ codes "resync" ∷ image ∷ []
+spelling (command.MirrorStatus image) = codes "mirror" ∷ codes "status" ∷ image ∷ []
+spelling (command.MirrorFollow image) = codes "mirror" ∷ codes "follow" ∷ image ∷ []
+
+pub record IsShape (s : Shape) : Type 0 where
+  pub object : IfSome s.object (λ n. n ≤ greatest)
+  pub unit : IfSome s.unit (λ n. n ≤ greatest)
+  pub count : IfSome s.count (λ n. n ≤ 4294967295)
+
+-- 1 to 65,536 bytes
+pub record IsHex (bytes : List ℕ) : Type 0 where
+  pub long : IsPayload bytes
+  pub each : IsBytes bytes
+
+-- the ranges of a command's parts
+abbrev pub IsInRange : Command → Type 0
+IsInRange (command.Create image size shape) = IsName image × (size ≤ greatest) × IsShape shape
+IsInRange (command.Clone parent snap image shape) = (IsName parent × IsName snap) × IsName image × IsShape shape
+IsInRange (command.Write image at bytes) = IsName image × (at ≤ greatest) × IsHex bytes
+IsInRange (command.Fill image at len byte) = IsName image × (at ≤ greatest) × (len ≤ 1048576) × (byte < 256)
+IsInRange (command.Discard image at len) = IsName image × (at ≤ greatest) × (len ≤ greatest)
+IsInRange (command.Read image snap at len) = (IsName image × IfSome snap IsName) × (at ≤ greatest) × (len ≤ 65536)
+IsInRange (command.Resize image size) = IsName image × (size ≤ greatest)
+IsInRange (command.Rename from to) = IsName from × IsName to
+IsInRange (command.Remove image) = IsName image
+IsInRange (command.Info image) = IsName image
+IsInRange (command.Used image) = IsName image
+IsInRange (command.Flatten image) = IsName image
+IsInRange (command.Quiesce image) = IsName image
+IsInRange (command.Resume image) = IsName image
+IsInRange (command.Close image) = IsName image
+IsInRange command.List = Unit {0}
+IsInRange (command.Children image snap) = IsName image × IsName snap
+IsInRange (command.Tell image bytes) = IsName image × IsHex bytes
+IsInRange (command.SnapCreate image snap) = IsName image × IsName snap
+IsInRange (command.SnapRemove image snap) = IsName image × IsName snap
+IsInRange (command.SnapProtect image snap) = IsName image × IsName snap
+IsInRange (command.SnapUnprotect image snap) = IsName image × IsName snap
+IsInRange (command.SnapRollback image snap) = IsName image × IsName snap
+IsInRange (command.SnapList image) = IsName image
+IsInRange (command.MirrorEnable image) = IsName image
+IsInRange (command.MirrorDemote image) = IsName image
+IsInRange (command.MirrorPromote image force) = IsName image
+IsInRange (command.MirrorResync image) = IsName image
+IsInRange (command.MirrorStatus image) = IsName image
+IsInRange (command.MirrorFollow image) = IsName image
+
+-- the tokens spell the command, which is in range
+abbrev pub Spells : List (List ℕ) → Command → Type 0
+Spells tokens c = (tokens ≡ spelling c) × IsInRange c

@@ -1,0 +1,61 @@
+//! Who asks for a command, and where.
+use super::{last_line, said};
+use crate::{Declared, Said};
+use rbd_kinds::SiteId;
+use std::alloc::Global;
+
+/// Whether the session of this number is the one that asks, beside the others or not.
+fn asks(found: Option<Said>, number: u8, by_its_side: bool) -> bool {
+    match found {
+        Some(
+            Said::Command {
+                session,
+                beside,
+                ..
+            },
+        ) => session.0 == number && beside == by_its_side,
+        _ => false,
+    }
+}
+
+#[test]
+fn a_command_has_its_session(rt: HostRuntime) {
+    assert!(rt; asks(said(rt.alloc(), "c1 ls"), 0, false));
+    assert!(rt; asks(said(rt.alloc(), "& c1 ls"), 0, true));
+    assert!(rt; asks(said(rt.alloc(), "client c2 b\nc2 ls"), 1, false));
+}
+
+/// The number of the last line.
+fn number(alloc: Global, line: &str) -> u32 {
+    match last_line(alloc, line) {
+        Some(line) => line.number,
+        None => 0,
+    }
+}
+
+#[test]
+fn lines_are_numbered_from_one(rt: HostRuntime) {
+    assert_eq!(rt; number(rt.alloc(), "c1 ls"), 2);
+    assert_eq!(rt; number(rt.alloc(), "\n# c1\nc1 ls"), 4);
+}
+
+fn is_declared(found: &Declared, name: &str, home: SiteId) -> bool {
+    found.name.as_slice() == name.as_bytes() && found.home == home
+}
+
+/// Whether the declarations of the script are these two.
+fn declares(alloc: Global, text: &str) -> bool {
+    let Some(script) = super::script_of(alloc, text.as_bytes(), false) else {
+        return false;
+    };
+    match script.sessions.as_slice() {
+        [first, second] => is_declared(first, "c1", SiteId::A)
+            && is_declared(second, "z9", SiteId::B),
+        _ => false,
+    }
+}
+
+#[test]
+fn sessions_are_in_the_order_of_declaration(rt: HostRuntime) {
+    assert!(rt; declares(rt.alloc(), "client c1 a\nclient z9 b"));
+}
