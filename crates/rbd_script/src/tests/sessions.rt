@@ -1,28 +1,29 @@
 //! Who asks for a command, and where.
 use super::{last_line, said};
 use crate::{Declared, Said};
-use rbd_kinds::SiteId;
+use rbd_kinds::{SessionNo, SiteId};
 use std::alloc::Global;
 
-/// Whether the session of this number is the one that asks, beside the others or not.
-fn asks(found: Option<Said>, number: u8, by_its_side: bool) -> bool {
-    match found {
-        Some(
-            Said::Command {
-                session,
-                beside,
-                ..
-            },
-        ) => session.0 == number && beside == by_its_side,
+/// Whether the session of this number asks in the line, beside the others or not.
+fn asks(alloc: Global, line: &str, number: u8, by_its_side: bool) -> bool {
+    let Some(found) = said(alloc, line) else {
+        return false;
+    };
+    match &found {
+        Said::Command {
+            session,
+            beside,
+            ..
+        } => *session == SessionNo(number) && *beside == by_its_side,
         _ => false,
     }
 }
 
 #[test]
 fn a_command_has_its_session(rt: HostRuntime) {
-    assert!(rt; asks(said(rt.alloc(), "c1 ls"), 0, false));
-    assert!(rt; asks(said(rt.alloc(), "& c1 ls"), 0, true));
-    assert!(rt; asks(said(rt.alloc(), "client c2 b\nc2 ls"), 1, false));
+    assert!(rt; asks(rt.alloc(), "c1 ls", 0, false));
+    assert!(rt; asks(rt.alloc(), "& c1 ls", 0, true));
+    assert!(rt; asks(rt.alloc(), "client c2 b\nc2 ls", 1, false));
 }
 
 /// The number of the last line.
