@@ -1,0 +1,27 @@
+-- The snapshot context of a header, its ids newest first.
+use Rattle.std.proofs.Common.{◌≡◌, ℕ, Bool, true, false, ◌||◌, eqb, List, [], ◌∷◌, ◌++◌, Some, reverse, refl, sym, ap, ◌∙◌}
+use Rattle.std.specs.Prelude.{IsTrue}
+use Rattle.std.specs.List.{list_any}
+use Rattle.std.proofs.lemmas.List.{reverse-append}
+use Rattle.rbd_kinds.specs.declared.header.HeaderView.{HeaderView}
+use Rattle.rbd_kinds.specs.declared.header.SnapContext.{SnapContext}
+use Rattle.rbd_object.specs.Kept.{is_listed}
+use Rattle.rbd_site.specs.Log.{ids_of}
+use Rattle.rbd_stands.specs.Condition.{IsContextOf}
+use Rattle.rbd_stands.proofs.StoreSteps.{context_from}
+
+listed_more : (xs : List ℕ) (y t : ℕ) → is_listed (xs ++ y ∷ []) t ≡ (eqb y t || is_listed xs t)
+listed_more [] y t = refl
+listed_more (x ∷ xs) y t = ap (λ b. eqb x t || b) (listed_more xs y t) ∙ swapped (eqb x t) (eqb y t) (is_listed xs t)
+  where
+    swapped : (a b c : Bool) → (a || (b || c)) ≡ (b || (a || c))
+    swapped true true c = refl
+    swapped true false c = refl
+    swapped false b c = refl
+
+listed_reversed : (xs : List ℕ) (t : ℕ) → is_listed (reverse xs) t ≡ is_listed xs t
+listed_reversed [] t = refl
+listed_reversed (x ∷ xs) t = ap (λ ys. is_listed ys t) (reverse-append (x ∷ []) xs) ∙ listed_more (reverse xs) x t ∙ ap (λ b. eqb x t || b) (listed_reversed xs t)
+
+pub reversed_context : (h : HeaderView) (context : SnapContext) → context.seq ≡ h.snap_seq → context.snaps ≡ reverse (ids_of h.snaps) → IsContextOf h context
+reversed_context h context seq snaps = context_from h context seq (λ t listed. ap (λ xs. is_listed xs t) snaps ∙ listed_reversed (ids_of h.snaps) t ∙ listed)

@@ -1,0 +1,5 @@
+pub mod Meaning
+pub mod History
+pub mod Built
+pub mod Steps
+pub mod Story

@@ -1,0 +1,41 @@
+//! One command, done to its end.
+ghost use Rattle.std.specs.Prelude.{◌≡◌, true, IfOk};
+ghost use Rattle.rbd_solo.specs.Steps.{IsAnswered};
+ghost use Rattle.rbd_solo.specs.Built.{is_built};
+
+use crate::create::create;
+use crate::list::list;
+use crate::read::read;
+use crate::snap::{snap_create, snap_remove};
+use crate::write::write;
+use rbd_kinds::{Command, Instance, NoMemory, Refusal, Reply};
+use rbd_site::Site;
+use std::alloc::Global;
+
+/// Does a command to its end, and answers it.
+pub fn answer(
+    alloc: Global,
+    site: &mut Site,
+    me: &Instance,
+    command: &Command,
+) -> Result<Reply, NoMemory>
+    requires { is_built command.now ≡ true }
+    ensures { IfOk result (IsAnswered site.old site.new command.now) }
+{
+    match command {
+        Command::Create { image, size, shape } => create(alloc, site, me, image, *size, shape),
+        Command::Write { image, at, bytes } => {
+            write(alloc, site, me, image, at.get(), bytes.as_slice())
+        }
+        Command::Read {
+            image,
+            snap,
+            at,
+            len,
+        } => read(alloc, site, me, image, snap.as_ref(), at.get(), len.get()),
+        Command::SnapCreate { image, snap } => snap_create(site, me, image, snap),
+        Command::SnapRemove { image, snap } => snap_remove(site, me, image, snap),
+        Command::List => list(alloc, site, me),
+        _ => Ok(Reply::Refused(Refusal::NoImage)),
+    }
+}

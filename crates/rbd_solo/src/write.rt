@@ -1,0 +1,143 @@
+//! `write`
+ghost use Rattle.std.specs.Prelude.{◌≡◌, ◌+◌, ◌≤◌, [], ◌∷◌, length, map, Some, IfOk, OnOk};
+ghost use Rattle.rbd_kinds.specs.declared.command.Command.TheVariants.{Write};
+ghost use Rattle.rbd_kinds.specs.Form.{IsHeaderInForm};
+ghost use Rattle.rbd_layout.specs.Pieces.{IsPartsOf};
+ghost use Rattle.rbd_flat.specs.Read.{is_within};
+ghost use Rattle.rbd_site.specs.Log.{records_of, ids_of as listed_ids};
+ghost use Rattle.rbd_stands.specs.Condition.{IsContextOf};
+ghost use Rattle.rbd_stands.specs.Writing.{shifted, AreBehind};
+ghost use Rattle.rbd_solo.specs.Steps.{IsAnswered, Writes, WritesAll};
+
+use crate::look::{Opened, open};
+use crate::operate::operate;
+use rbd_kinds::{
+    Bytes, DataOp, Extent, HeaderView, Instance, Name, NoMemory, Op, Part, Refusal, Reply,
+    SnapContext, SnapId, SnapIds, SnapView, TryClone,
+};
+use rbd_layout::{Piece, pieces};
+use rbd_object::gather;
+use rbd_site::Site;
+use std::alloc::Global;
+
+/// Puts bytes into an image: `dir-find`, `header-get`, and a `data-write` for each object that they touch.
+pub fn write(
+    alloc: Global,
+    site: &mut Site,
+    me: &Instance,
+    name: &Name,
+    at: u64,
+    bytes: &[u8],
+) -> Result<Reply, NoMemory>
+    ensures { IfOk result (IsAnswered site.old site.new (Write name.now at bytes.now)) }
+{
+    let Some(opened) = open(site, me, name)? else {
+        return Ok(Reply::Refused(Refusal::NoImage));
+    };
+    let extent = Extent {
+        at,
+        len: bytes.len() as u64,
+    };
+    if !fits(&extent, opened.header.size) {
+        return Ok(Reply::Refused(Refusal::BadRange));
+    }
+    write_pieces(alloc, site, me, &opened, &extent, bytes)?;
+    Ok(Reply::Done)
+}
+
+/// Whether an extent isn't empty and ends within a size.
+pub fn fits(extent: &Extent, size: u64) -> bool
+    ensures { result ≡ is_within extent.now size }
+{
+    extent.len > 0 && extent.len <= size && extent.at <= size - extent.len
+}
+
+/// Writes each piece of an extent within the image.
+fn write_pieces(
+    alloc: Global,
+    site: &mut Site,
+    me: &Instance,
+    opened: &Opened,
+    extent: &Extent,
+    bytes: &[u8],
+) -> Result<(), NoMemory>
+    requires form { IsHeaderInForm opened.now.header }
+    requires there { (records_of site.old).headers opened.now.image ≡ Some opened.now.header }
+    requires within { extent.now.at + extent.now.len ≤ opened.now.header.size }
+    requires long { length bytes.now ≡ extent.now.len }
+    ensures { OnOk result (WritesAll site.old site.new opened.now extent.now.at bytes.now) }
+{
+    let pieces = pieces(alloc, &opened.header.layout, extent)?;
+    for piece in pieces.as_slice() {
+        write_piece(alloc, site, me, opened, extent, bytes, piece)?;
+    }
+    Ok(())
+}
+
+/// Writes one piece: those of the bytes that go to its object.
+fn write_piece(
+    alloc: Global,
+    site: &mut Site,
+    me: &Instance,
+    opened: &Opened,
+    extent: &Extent,
+    bytes: &[u8],
+    piece: &Piece,
+) -> Result<(), NoMemory>
+    requires form { IsHeaderInForm opened.now.header }
+    requires there { (records_of site.old).headers opened.now.image ≡ Some opened.now.header }
+    requires within { extent.now.at + extent.now.len ≤ opened.now.header.size }
+    requires long { length bytes.now ≡ extent.now.len }
+    requires parts { IsPartsOf opened.now.header.layout extent.now piece.now.object piece.now.parts }
+    ensures { OnOk result (Writes site.old site.new opened.now extent.now.at bytes.now (piece.now ∷ [])) }
+{
+    let parts = shifted_parts(alloc, extent.at, piece.parts.as_slice())?;
+    let op = DataOp::Write {
+        context: context_of(alloc, &opened.header)?,
+        must: false,
+        parts: piece.parts.try_clone()?,
+        bytes: Bytes::from_vec(gather(alloc, bytes, parts.as_slice())?),
+    };
+    let (image, object) = (opened.image, piece.object);
+    let _done = operate(site, me, Op::Data { image, object, op })?;
+    Ok(())
+}
+
+/// The parts as they lie in bytes that begin at the image byte `from`.
+pub fn shifted_parts(alloc: Global, from: u64, parts: &[Part]) -> Result<Vec<Part>, NoMemory>
+    requires { AreBehind from parts.now }
+    ensures { IfOk result (λ shifts. shifts.items ≡ map (shifted from) parts.now) }
+{
+    let mut shifts = Vec::new(alloc);
+    for part in parts {
+        shifts.push(Part {
+            offset: part.at - from,
+            ..*part
+        })?;
+    }
+    Ok(shifts)
+}
+
+/// The snapshot context of a change: the number of the snapshot that was taken last, and those that the
+/// header lists, newest first.
+fn context_of(alloc: Global, header: &HeaderView) -> Result<SnapContext, NoMemory>
+    ensures { IfOk result (IsContextOf header.now) }
+{
+    let mut snaps = ids_of(alloc, header.snaps.as_slice())?;
+    snaps.as_mut_slice().reverse();
+    Ok(SnapContext {
+        seq: SnapId(header.snap_seq),
+        snaps: SnapIds::from_vec(snaps),
+    })
+}
+
+/// The ids of snapshots, in their order.
+fn ids_of(alloc: Global, snaps: &[SnapView]) -> Result<Vec<SnapId>, NoMemory>
+    ensures { IfOk result (λ ids. ids.items ≡ listed_ids snaps.now) }
+{
+    let mut ids = Vec::new(alloc);
+    for snap in snaps {
+        ids.push(snap.id)?;
+    }
+    Ok(ids)
+}
