@@ -38,15 +38,15 @@ abbrev pub saying : Script → (number : ℕ) → Result Said LineCause → Resu
 saying s number (Ok what) = Ok (record s { lines = s.lines ++ record { number = number; said = what } ∷ [] })
 saying s number (Err cause) = Err cause
 
--- `client NAME SITE`, behind its first word
-unfoldable pub declaration_of : List Declared → List (List ℕ) → Result Declared LineCause
-declaration_of sessions tokens = form (NewSession sessions ∷ Site ∷ []) (λ name home. record { name = name; home = home }) tokens
+-- `client NAME SITE` on the line of this number, behind its first word
+unfoldable pub declaration_of : List Declared → (number : ℕ) → List (List ℕ) → Result Declared LineCause
+declaration_of sessions number tokens = form (NewSession sessions ∷ Site ∷ []) (λ name home. record { line = number; name = name; home = home }) tokens
 
 -- A line without tokens is passed over.
 abbrev pub with_tokens : (threads : Bool) (number : ℕ) → Script → List (List ℕ) → Result Script LineCause
 with_tokens threads number s [] = Ok s
 with_tokens threads number s (first ∷ tokens) =
-    if is (codes "client") first then declaring s (declaration_of s.sessions tokens)
+    if is (codes "client") first then declaring s (declaration_of s.sessions number tokens)
     else saying s number (said_behind threads s.sessions first tokens)
 
 -- A script with one line more, the line of this number. A line whose first byte is `#` is passed over, too.

@@ -35,7 +35,7 @@ impl Script {
             return Ok(());
         };
         if is(first, "client") {
-            let declared = declaration_of(&self.sessions, behind)?;
+            let declared = declaration_of(&self.sessions, number, behind)?;
             self.sessions.push(declared)?;
             return Ok(());
         }
@@ -45,15 +45,23 @@ impl Script {
     }
 }
 
-/// `client NAME SITE`, behind its first word.
+/// `client NAME SITE` on the line of this number, behind its first word.
 #[tactic(auto, unfolding(crate::specs::Form::form, crate::specs::Line::declaration_of))]
-fn declaration_of(sessions: &Sessions, mut tokens: Tokens<'_>) -> Result<Declared, PartFault>
-    ensures declared { Gives result (declaration_in sessions.now (tokens_of tokens.entry.rest.now)) }
+fn declaration_of(
+    sessions: &Sessions,
+    number: u32,
+    mut tokens: Tokens<'_>,
+) -> Result<Declared, PartFault>
+    ensures declared { Gives result (declaration_in sessions.now number (tokens_of tokens.entry.rest.now)) }
     ensures few { OnOk result (length sessions.now < 32) }
 {
     let name = tokens.new_session(sessions)?;
     let home = tokens.site()?;
-    tokens.end(Declared { name, home })
+    tokens.end(Declared {
+        line: number,
+        name,
+        home,
+    })
 }
 
 /// What a line says that declares no session: `[&] NAME COMMAND`, or a line of a schedule.

@@ -10,9 +10,11 @@ pub struct Script {
     pub lines: Lines,
 }
 
-/// A session: its name, and its home site.
+/// A session: where it is declared, its name, and its home site.
 #[derive(Debug, Drop)]
 pub struct Declared {
+    /// The number of the line that declares it, from 1.
+    pub line: u32,
     pub name: Name,
     pub home: SiteId,
 }

@@ -1,5 +1,5 @@
 -- What is kept of the commands while a history is gone over.
-use Rattle.std.specs.Prelude.{◌≡◌, ℕ, ◌||◌, List, Option, None}
+use Rattle.std.specs.Prelude.{◌≡◌, ℕ, ◌||◌, List, None}
 use Rattle.std.specs.Option.{unwrap_or}
 use Rattle.std.specs.Ordering.{nat_cmp}
 use Rattle.std.specs.BTreeMap.{get}

@@ -5,7 +5,7 @@ use Rattle.std.specs.List.{list_any}
 use Rattle.rbd_flat.specs.declared.entry.Cause.{Cause}
 use Rattle.rbd_flat.specs.declared.entry.Cause.TheVariants as cause
 use Rattle.rbd_flat.specs.declared.entry.Entry.{Entry}
-use Rattle.rbd_flat.specs.declared.entry.Entry.TheVariants.{Start, Effect, Look, Fence, Reply, Stop, Lost}
+use Rattle.rbd_flat.specs.declared.entry.Entry.TheVariants.{Start, Effect, Look, Fence, Reply, Lost}
 use Rattle.rbd_kinds.specs.declared.answer.Answer.{Answer}
 use Rattle.rbd_kinds.specs.declared.answer.Answer.TheVariants.{Held}
 use Rattle.rbd_kinds.specs.declared.header_op.HeaderOp.{HeaderOp}

@@ -27,18 +27,19 @@ fn name(rt: &impl Abort, alloc: Global, text: &[u8]) -> Result<Name, NoMemory> {
     Ok(Name::parse(Bytes::from_slice(alloc, text)?).expect(rt, "a name"))
 }
 
-fn declared(rt: &impl Abort, alloc: Global, text: &[u8]) -> Result<Declared, NoMemory> {
+fn declared(rt: &impl Abort, alloc: Global, line: u32, text: &[u8]) -> Result<Declared, NoMemory> {
     Ok(Declared {
+        line,
         name: name(rt, alloc, text)?,
         home: SiteId::A,
     })
 }
 
-/// The sessions `c1` and `c2`.
+/// The sessions `c1` and `c2`, declared on the first two lines.
 fn sessions(rt: &impl Abort, alloc: Global) -> Result<Vec<Declared>, NoMemory> {
     let mut sessions = Vec::new(alloc);
-    sessions.push(declared(rt, alloc, b"c1")?)?;
-    sessions.push(declared(rt, alloc, b"c2")?)?;
+    sessions.push(declared(rt, alloc, 1, b"c1")?)?;
+    sessions.push(declared(rt, alloc, 2, b"c2")?)?;
     Ok(sessions)
 }
 

@@ -40,23 +40,28 @@ fn lines_are_numbered_from_one(rt: HostRuntime) {
     assert_eq!(rt; number(rt.alloc(), "\n# c1\nc1 ls"), 4);
 }
 
-fn is_declared(found: &Declared, name: &str, home: SiteId) -> bool {
-    found.name.as_slice() == name.as_bytes() && found.home == home
+fn is_declared(found: &Declared, line: u32, name: &str, home: SiteId) -> bool {
+    found.line == line && found.name.as_slice() == name.as_bytes() && found.home == home
 }
 
-/// Whether the declarations of the script are these two.
-fn declares(alloc: Global, text: &str) -> bool {
+/// Whether the script declares `c1` at `a` on its first line and `z9` at `b` on this line, and nothing else.
+fn declares(alloc: Global, text: &str, line: u32) -> bool {
     let Some(script) = super::script_of(alloc, text.as_bytes(), false) else {
         return false;
     };
     match script.sessions.as_slice() {
-        [first, second] => is_declared(first, "c1", SiteId::A)
-            && is_declared(second, "z9", SiteId::B),
+        [first, second] => is_declared(first, 1, "c1", SiteId::A)
+            && is_declared(second, line, "z9", SiteId::B),
         _ => false,
     }
 }
 
 #[test]
 fn sessions_are_in_the_order_of_declaration(rt: HostRuntime) {
-    assert!(rt; declares(rt.alloc(), "client c1 a\nclient z9 b"));
+    assert!(rt; declares(rt.alloc(), "client c1 a\nclient z9 b", 2));
+}
+
+#[test]
+fn a_session_knows_the_line_that_declares_it(rt: HostRuntime) {
+    assert!(rt; declares(rt.alloc(), "client c1 a\n# c1\n\nclient z9 b", 4));
 }

@@ -1,4 +1,4 @@
-use Rattle.std.proofs.Common.{◌≡◌, ◌+◌, ◌++◌, drop, suc, length}
+use Rattle.std.proofs.Common.{◌≡◌, ◌++◌, drop, suc}
 use Rattle.rbd_text.specs.Entries.{history_from, history_text}
 use Rattle.rbd_text.proofs.entries.push_history.Given as goal
 
