@@ -1,12 +1,4 @@
-pub mod ObjectMap
-pub mod OneReading
-pub mod OneWord
-pub mod Payload
-pub mod Pieces
-pub mod Played
-pub mod Put
-pub mod Reading
-pub mod SessionName
-pub mod Standing
-pub mod Taken
-pub mod Tokens
+mod Taken
+mod WordLists
+mod Shown
+mod Lines

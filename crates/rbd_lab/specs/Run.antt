@@ -1,41 +1,57 @@
 -- What a run of the program answers, and what it leaves.
-use Rattle.std.specs.Prelude.{◌≡◌, ◌≢◌, ◌⊎◌, ◌↔◌, ℕ, ◌+◌, List, [], ◌∷◌, drop, codes, Option, Some, IfSome}
+use Rattle.std.specs.Prelude.{◌≡◌, ◌≢◌, ◌⊎◌, ◌↔◌, ℕ, ◌+◌, List, [], ◌∷◌, drop, codes, Option, Some, None, IfSome, Ok, Err}
 use Rattle.rbd_edge.specs.Sink.{held_with, GainsFront}
-use Rattle.rbd_lab.specs.Grammar.{IsFaulty, IsScript}
-use Rattle.rbd_lab.specs.Text.{fault_text, output_of, usage_text}
+use Rattle.rbd_script.specs.declared.fault.LineFault.{LineFault}
+use Rattle.rbd_script.specs.declared.script.Script.{Script}
+use Rattle.rbd_script.specs.Reading.{limit}
+use Rattle.rbd_text.specs.Text.{usage_text}
+use Rattle.rbd_lab.specs.Script.{judged, fault_text}
+use Rattle.rbd_lab.specs.Output.{IsTold}
+use Rattle.rbd_lab.specs.declared.mode.Mode.{Mode}
+use Rattle.rbd_lab.specs.declared.mode.Mode.TheVariants.{Replies, Trace}
 use Rattle.rbd_lab.specs.declared.run.Status.{Status}
 use Rattle.rbd_lab.specs.declared.run.Status.TheVariants.{Done, Usage, BadLine, ReadFault, WriteFault, NoMemory}
-use Rattle.rbd_lab.specs.declared.script.Script.{Script}
-use Rattle.rbd_lab.specs.declared.script.TheConstants.{SCRIPT_LIMIT}
 
--- the one list of words that is built
+-- the words that ask for a mode
+abbrev pub words_of : Mode → List (List ℕ)
+words_of Replies = codes "run" ∷ []
+words_of Trace = codes "run" ∷ codes "--trace" ∷ []
+
+-- the words that are built
 abbrev pub AreRun : List (List ℕ) → Type 0
-AreRun words = words ≡ codes "run" ∷ []
+AreRun words = (words ≡ words_of Replies) ⊎ (words ≡ words_of Trace)
 
--- the bytes are a script, and the text has each command's reply over the flat site that the commands before it left
-pub record IsOutput (bytes text : List ℕ) : Type 0 where
+-- the mode that words ask for, none where they are others
+abbrev pub IsAskedBy : List (List ℕ) → Option Mode → Type 0
+IsAskedBy words None = ¬ (AreRun words)
+IsAskedBy words (Some mode) = words ≡ words_of mode
+
+-- The bytes are a script of built forms, and the text tells a play of it, in the mode that the words ask for.
+pub record IsOutput (words : List (List ℕ)) (bytes text : List ℕ) : Type 0 where
+  pub mode : Mode
+  pub asked : words ≡ words_of mode
   pub script : Script
-  pub is_script : IsScript bytes script
-  pub output : text ≡ output_of script
+  pub is_script : judged bytes ≡ Ok script
+  pub told : IsTold mode script text
 
--- the bytes are no script, and the text tells the first line that doesn't fit
+-- The bytes are no such script, and the text tells the first fault of a line.
 pub record IsComplaint (bytes text : List ℕ) : Type 0 where
-  pub line : ℕ
-  pub faulty : IsFaulty bytes line
-  pub output : text ≡ fault_text line
+  pub fault : LineFault
+  pub faulty : judged bytes ≡ Err fault
+  pub output : text ≡ fault_text fault
 
 -- what is to be printed for these bytes, and the status that goes with it
-abbrev pub Answers : (bytes : List ℕ) → Status → (text : List ℕ) → Type 0
-Answers bytes Done text = IsOutput bytes text
-Answers bytes BadLine text = IsComplaint bytes text
-Answers bytes Usage text = ⊥
-Answers bytes ReadFault text = ⊥
-Answers bytes WriteFault text = ⊥
-Answers bytes NoMemory text = ⊥
+abbrev pub Answers : (words : List (List ℕ)) → (bytes : List ℕ) → Status → (text : List ℕ) → Type 0
+Answers words bytes Done text = IsOutput words bytes text
+Answers words bytes BadLine text = IsComplaint bytes text
+Answers words bytes Usage text = ⊥
+Answers words bytes ReadFault text = ⊥
+Answers words bytes WriteFault text = ⊥
+Answers words bytes NoMemory text = ⊥
 
 -- what is to be printed for these words and bytes
 abbrev pub IsText : (words : List (List ℕ)) → (bytes text : List ℕ) → Type 0
-IsText words bytes text = (¬ (AreRun words) × (text ≡ usage_text)) ⊎ (AreRun words × (IsOutput bytes text ⊎ IsComplaint bytes text))
+IsText words bytes text = (¬ (AreRun words) × (text ≡ usage_text)) ⊎ (AreRun words × (IsOutput words bytes text ⊎ IsComplaint bytes text))
 
 -- a text of which this holds was printed, whole or a first part of it
 abbrev pub Prints : (List ℕ → Type 0) → Option (List ℕ) → Option (List ℕ) → Type 0
@@ -49,11 +65,11 @@ PrintsFront P old new = (text : List ℕ) × P text × GainsFront text old new
 
 -- The source was read to its end, its bytes are a script, and its output was printed.
 abbrev pub IsDone : (words : List (List ℕ)) → (left left' held held' : Option (List ℕ)) → Type 0
-IsDone words left left' held held' = AreRun words × IfSome left (λ bytes. Prints (IsOutput bytes) held held' × (left' ≡ Some []))
+IsDone words left left' held held' = AreRun words × IfSome left (λ bytes. Prints (IsOutput words bytes) held held' × (left' ≡ Some []))
 
 -- The source was read to its end or one byte past the limit, and the first line that doesn't fit was printed.
 abbrev pub IsBadLine : (words : List (List ℕ)) → (left left' held held' : Option (List ℕ)) → Type 0
-IsBadLine words left left' held held' = AreRun words × IfSome left (λ bytes. Prints (IsComplaint bytes) held held' × (left' ≡ Some (drop (SCRIPT_LIMIT + 1) bytes)))
+IsBadLine words left left' held held' = AreRun words × IfSome left (λ bytes. Prints (IsComplaint bytes) held held' × (left' ≡ Some (drop (limit + 1) bytes)))
 
 -- The words are others, and the usage line was printed.
 abbrev pub IsUsage : (words : List (List ℕ)) → (held held' : Option (List ℕ)) → Type 0

@@ -30,15 +30,12 @@ use std::process::ExitCode;
 use std::rt::Env;
 use std::{env, io};
 
-mod command;
-mod laws;
+mod mode;
 mod play;
 mod run;
 mod script;
-mod store;
 #[cfg(test)]
 mod tests;
-mod text;
 
 /// The words of the command line without the program's name.
 fn words(rt: &(impl Env + AllocGlobal)) -> io::Result<Vec<String>> {

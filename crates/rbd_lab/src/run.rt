@@ -2,14 +2,15 @@
 ghost use Rattle.std.specs.Prelude.{◌≡◌, ◌≢◌, [], drop, Some, ◌+◌, ◌-◌, ◌^◌, ◌<◌, ◌≤◌, ◌⊎◌, ◌↔◌, List, ℕ, codes, length, map, take, IsTrue, IfOk, IfSome};
 ghost use Rattle.std.specs.String.{string_bytes};
 ghost use Rattle.rbd_edge.specs.Sink.{held_with, GainsFront};
-ghost use Rattle.rbd_lab.specs.Run.{Answers, AreRun, IsBadLine, IsCut, IsDone, IsForOthers, IsSilent, IsUsage, Tells, code_of};
+ghost use Rattle.rbd_lab.specs.Run.{Answers, AreRun, IsBadLine, IsCut, IsDone, IsForOthers, IsSilent, IsUsage, Tells, code_of, words_of};
 
-use crate::play::play;
-use crate::script;
-use crate::script::{SCRIPT_LIMIT, ScriptFault};
-use crate::text::{USAGE, fault_line};
+use crate::mode::Mode;
+use crate::play::output;
+use crate::script::{fault_line, judged};
 use rbd_edge::{ReadFault, Sink, Source, read_to, write_all};
 use rbd_kinds::NoMemory;
+use rbd_script::{SCRIPT_LIMIT, ScriptFault};
+use rbd_text::usage;
 use std::alloc::Global;
 use std::sync::Wait;
 use std::thread::Threads;
@@ -45,22 +46,6 @@ impl Status {
             Status::NoMemory => 5,
         }
     }
-}
-
-/// Whether the words are the one word `run`.
-fn are_run(words: &[String]) -> bool
-    ensures { IsTrue result ↔ AreRun (map (λ w. string_bytes w) words.now) }
-{
-    match words {
-        [word] => is_run(word),
-        _ => false,
-    }
-}
-
-fn is_run(word: &String) -> bool
-    ensures { IsTrue result ↔ (string_bytes word.now ≡ codes "run") }
-{
-    word.as_str() == "run"
 }
 
 /// Runs the program, as [`run_alone`] does. It may start threads and wait for them; no words that are
@@ -122,15 +107,15 @@ pub fn run_alone<S: Source, K: Sink>(
     ensures cut { result ≡ Status.WriteFault → IsCut (map (λ w. string_bytes w) words.now) (S.left source.old) (K.held sink.old) (K.held sink.new) }
     ensures no_memory { result ≡ Status.NoMemory → IsSilent (map (λ w. string_bytes w) words.now) (K.held sink.old) (K.held sink.new) }
 {
-    if !are_run(words) {
-        return print(sink, USAGE.as_bytes(), Status::Usage);
-    }
+    let Some(mode) = Mode::asked(words) else {
+        return print(sink, usage().as_bytes(), Status::Usage);
+    };
     let bytes = match read_to(alloc, source, SCRIPT_LIMIT + 1) {
         Ok(bytes) => bytes,
         Err(ReadFault::Failed) => return Status::ReadFault,
         Err(ReadFault::NoMemory) => return Status::NoMemory,
     };
-    match answer(alloc, bytes.as_slice()) {
+    match answer(alloc, mode, bytes.as_slice()) {
         Ok((status, text)) => print(sink, text.as_slice(), status),
         Err(NoMemory) => Status::NoMemory,
     }
@@ -149,12 +134,12 @@ fn print<K: Sink>(sink: &mut K, text: &[u8], status: Status) -> Status
 }
 
 /// What is to be printed for the bytes of a source, and the status that goes with it.
-fn answer(alloc: Global, bytes: &[u8]) -> Result<(Status, Vec<u8>), NoMemory>
-    ensures { IfOk result (λ x. Answers bytes.now x.0 x.1.items) }
+fn answer(alloc: Global, mode: Mode, bytes: &[u8]) -> Result<(Status, Vec<u8>), NoMemory>
+    ensures { IfOk result (λ x. Answers (words_of mode) bytes.now x.0 x.1.items) }
 {
-    match script::read(alloc, bytes) {
-        Ok(script) => Ok((Status::Done, play(alloc, &script)?)),
-        Err(ScriptFault::Line(line)) => Ok((Status::BadLine, fault_line(alloc, line)?)),
+    match judged(alloc, bytes) {
+        Ok(script) => Ok((Status::Done, output(alloc, mode, &script)?)),
+        Err(ScriptFault::Line(fault)) => Ok((Status::BadLine, fault_line(alloc, &fault)?)),
         Err(ScriptFault::NoMemory) => Err(NoMemory),
     }
 }
