@@ -1,13 +1,10 @@
 -- The lines of a script of built forms, one after another.
-use Rattle.std.proofs.Common.{◌≡◌, ℕ, suc, zero, ◌+◌, ◌<◌, Bool, true, false, cond, List, [], ◌∷◌, ◌++◌, length, take, get_or, append_assoc, append-nil, Option, Some, None, Result, Ok, Err, refl, sym, ap, ◌∙◌, subst, arith}
+use Rattle.std.proofs.Common.{◌≡◌, ℕ, suc, zero, ◌+◌, ◌<◌, Bool, true, false, cond, List, [], ◌∷◌, ◌++◌, length, take, get_or, append_assoc, append-nil, Option, Some, None, Result, Ok, Err, refl, sym, ap, ◌∙◌, arith}
 use Rattle.std.specs.Prelude.{OnOk}
-use Rattle.std.specs.List.{flat_map}
 use Rattle.std.proofs.lemmas.List.{take_more}
 use Rattle.std.proofs.lemmas.Option.{none-some}
-use Rattle.rbd_script.specs.declared.script.Declared.{Declared}
 use Rattle.rbd_script.specs.declared.script.Line.{Line}
 use Rattle.rbd_script.specs.declared.script.Script.{Script}
-use Rattle.rbd_solo.specs.Story.{Asked, Played, IsPlayed}
 use Rattle.rbd_lab.specs.Script.{is_said, unbuilt_line, second_session, earlier, first_unbuilt, asked_by, commands_of}
 
 commands_append : (a : List Line) (x : Line) → commands_of (a ++ x ∷ []) ≡ commands_of a ++ asked_by x.number x.said

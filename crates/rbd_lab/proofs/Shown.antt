@@ -16,7 +16,7 @@ use Rattle.rbd_flat.specs.declared.entry.Entry.TheVariants as entry
 use Rattle.rbd_flat.specs.Flat.{FlatImage, FlatSnap, id_of}
 use Rattle.rbd_flat.specs.Read.{is_within, bytes_in}
 use Rattle.rbd_stands.specs.Reading.{flat_snap_named}
-use Rattle.rbd_solo.specs.Meaning.{FlatState, Found, named, IsReply, IsCreateReply, is_full, lists_all, write_reply, read_reply, view_reply, snap_bytes_reply, bytes_reply, reply_within, snap_create_reply, snap_remove_reply, name_reply, KeepsLimits, layout_of}
+use Rattle.rbd_solo.specs.Meaning.{FlatState, Found, named, IsReply, IsCreateReply, is_full, lists_all, write_reply, read_reply, view_reply, snap_bytes_reply, reply_within, snap_create_reply, snap_remove_reply, name_reply}
 use Rattle.rbd_solo.specs.Story.{Asked, AreOperationsFor, IsRequest, IsHistory, Played, IsPlayed}
 use Rattle.rbd_text.specs.Replies.{IsShowable}
 use Rattle.rbd_text.specs.Text.{IsShown, AreShown}
