@@ -1,8 +1,7 @@
 -- The command that makes an image.
-use Rattle.std.proofs.Common.{◌≡◌, ℕ, ◌+◌, ◌≤◌, ◌<◌, Bool, true, false, cond, eqb, leb, ◌||◌, List, [], ◌∷◌, ◌++◌, Option, Some, None, Result, Ok, Err, is_some, refl, sym, ap, ◌∙◌, subst, arith}
+use Rattle.std.proofs.Common.{◌≡◌, ℕ, ◌+◌, ◌≤◌, Bool, true, false, cond, eqb, leb, ◌||◌, List, [], ◌∷◌, Option, Some, None, Ok, Err, is_some, refl, sym, ap, ◌∙◌, subst, arith}
 use Rattle.std.specs.Prelude.{IsSome, slice_get}
-use Rattle.std.specs.Ordering.{nat_cmp}
-use Rattle.std.specs.Cmp.Lexicographic.{slice_cmp, nat_list_cmp_total}
+use Rattle.std.specs.Cmp.Lexicographic.{nat_list_cmp_total}
 use Rattle.std.specs.FinMap as finmap
 use Rattle.std.proofs.lemmas.Bool.Decides.{nat_tests}
 use Rattle.std.proofs.lemmas.Option.{none-some, same_Some}
@@ -20,7 +19,6 @@ use Rattle.rbd_kinds.specs.declared.operation.Op.{Op}
 use Rattle.rbd_kinds.specs.declared.operation.Op.TheVariants as op
 use Rattle.rbd_kinds.specs.declared.refusal.Refusal.{Refusal}
 use Rattle.rbd_kinds.specs.declared.refusal.Refusal.TheVariants as refusal
-use Rattle.rbd_kinds.specs.declared.reply.Reply.{Reply}
 use Rattle.rbd_kinds.specs.declared.reply.Reply.TheVariants.{Done, Refused}
 use Rattle.rbd_kinds.specs.Form.{IsNewHeader}
 use Rattle.rbd_registry.specs.Directory.{Listing, id_of, is_full, added}
@@ -29,22 +27,21 @@ use Rattle.rbd_flat.specs.declared.effect.Effect.TheVariants as effect
 use Rattle.rbd_flat.specs.Flat.{Flat}
 use Rattle.rbd_flat.specs.Flat as flat
 use Rattle.rbd_flat.proofs.Steps.{names_stay}
-use Rattle.rbd_site.specs.declared.done.Done.{Done as Line}
-use Rattle.rbd_site.specs.DirectoryStep.{name_added, where_added, directory_answer}
+use Rattle.rbd_site.specs.DirectoryStep.{name_added, where_added}
 use Rattle.rbd_site.specs.HeaderStep.{header_answer, header_after}
 use Rattle.rbd_site.specs.Log.{SiteLog, records_of, line_of}
 use Rattle.rbd_site.specs.Records.{Records, put}
 use Rattle.rbd_site.specs.Step.{answer_to, after}
 use Rattle.rbd_stands.specs.Condition.{IsDrawn}
 use Rattle.rbd_stands.specs.Same.{AreSame, tells_change}
-use Rattle.rbd_stands.specs.Site.{StandsFor, IsUntouched}
+use Rattle.rbd_stands.specs.Site.{IsUntouched}
 use Rattle.rbd_stands.proofs.DirectorySteps.{name_stands}
 use Rattle.rbd_stands.proofs.EditSteps.{untouched_stays}
 use Rattle.rbd_stands.proofs.ImageSteps.{create_stands}
 use Rattle.rbd_stands.proofs.Refusals.{refused}
-use Rattle.rbd_solo.specs.History.{where_some, effect_of_op, log_effects}
-use Rattle.rbd_solo.specs.Meaning.{FlatState, KeepsLimits, layout_of, name_reply, is_full as all_held, state_after, IsReply}
-use Rattle.rbd_solo.specs.Steps.{Holds, IsOwn, IsAnswered, Looks, Means, drawn_for, with_lines}
+use Rattle.rbd_solo.specs.History.{where_some, effect_of_op}
+use Rattle.rbd_solo.specs.Meaning.{FlatState, KeepsLimits, layout_of, name_reply, is_full as all_held, state_after}
+use Rattle.rbd_solo.specs.Steps.{Holds, IsAnswered, Means, drawn_for, with_lines}
 use Rattle.rbd_solo.proofs.Found.{same_id, answered_after, answered_refused}
 use Rattle.rbd_solo.proofs.Growing.{looks_none, grown_on}
 use Rattle.rbd_solo.proofs.Snapped.{headers_own, headers_made}

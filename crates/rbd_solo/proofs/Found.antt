@@ -1,5 +1,5 @@
 -- What a name leads to, in the records and on the flat site, and commands that only looked.
-use Rattle.std.proofs.Common.{◌≡◌, ℕ, true, false, List, [], ◌++◌, Option, Some, None, option_map, length, refl, sym, ap, ◌∙◌, subst}
+use Rattle.std.proofs.Common.{◌≡◌, ℕ, true, false, List, [], ◌++◌, Option, Some, None, refl, sym, ap, ◌∙◌, subst}
 use Rattle.std.specs.Prelude.{IsSome}
 use Rattle.std.specs.FinMap as finmap
 use Rattle.std.proofs.lemmas.Option.{none-some, same_Some}
@@ -9,7 +9,6 @@ use Rattle.rbd_kinds.specs.declared.refusal.Refusal.{Refusal}
 use Rattle.rbd_kinds.specs.declared.reply.Reply.{Reply}
 use Rattle.rbd_kinds.specs.declared.reply.Reply.TheVariants.{Bytes, Names, Refused}
 use Rattle.rbd_registry.specs.Directory.{id_of}
-use Rattle.rbd_object.specs.Mapped.{Mapped}
 use Rattle.rbd_flat.specs.Flat.{Flat, FlatImage, image_at}
 use Rattle.rbd_flat.specs.Flat as flat
 use Rattle.rbd_site.specs.declared.done.Done.{Done}
@@ -23,7 +22,7 @@ use Rattle.rbd_stands.proofs.Refusals.{stands_same}
 use Rattle.rbd_stands.proofs.SiteSteps.{here}
 use Rattle.rbd_stands.proofs.Telling.{told}
 use Rattle.rbd_solo.specs.History.{log_effects}
-use Rattle.rbd_solo.specs.Meaning.{FlatState, Found, named, found_by, found_at, IsReply, AreEffects, state_after}
+use Rattle.rbd_solo.specs.Meaning.{FlatState, named, found_by, found_at, IsReply, AreEffects, state_after}
 use Rattle.rbd_solo.specs.Steps.{Looks, Holds, IsOwn, IsAnswered, Means, opened_in, opened_by, opened_at, with_lines}
 use Rattle.rbd_solo.proofs.Growing.{grown_on, effects_append}
 use Rattle.rbd_solo.specs.declared.look.Opened.{Opened}

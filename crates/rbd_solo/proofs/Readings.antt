@@ -1,9 +1,8 @@
 -- Pieces of a read, one after another.
-use Rattle.std.proofs.Common.{◌≡◌, ℕ, suc, ◌+◌, ◌-◌, ◌<◌, ◌≤◌, Bool, true, false, cond, ◌||◌, List, [], ◌∷◌, ◌++◌, length, map, take, drop, get_or, zero, Option, Some, None, option_map, unwrap_or, is_some, replicate, length-append, length-drop, length-take-le, refl, sym, ap, ◌∙◌, subst, arith}
+use Rattle.std.proofs.Common.{◌≡◌, ℕ, suc, ◌+◌, ◌-◌, ◌<◌, ◌≤◌, Bool, true, false, cond, ◌||◌, List, [], ◌∷◌, ◌++◌, length, map, take, drop, get_or, zero, Option, Some, None, option_map, replicate, length-append, length-drop, length-take-le, refl, sym, ap, ◌∙◌, subst, arith}
 use Rattle.std.specs.Prelude.{IfSome, Any, slice_get}
-use Rattle.std.specs.List.{list_any}
 use Rattle.std.proofs.lemmas.List.Folds.{Any-from_list_any}
-use Rattle.std.proofs.lemmas.List.{ext_get_or, get_or_default, get_or-take, get_or-drop, take_more, length-map}
+use Rattle.std.proofs.lemmas.List.{ext_get_or, get_or-take, get_or-drop, take_more}
 use Rattle.std.proofs.lemmas.Option.{none-some, same_Some, slice_get_within, get_or_from_slice_get, slice_get-map}
 use Rattle.rbd_kinds.specs.declared.answer.Answer.{Answer}
 use Rattle.rbd_kinds.specs.declared.answer.Answer.TheVariants as answer
@@ -18,15 +17,13 @@ use Rattle.rbd_kinds.specs.declared.layout.Layout.{Layout}
 use Rattle.rbd_kinds.specs.declared.layout.Part.{Part}
 use Rattle.rbd_kinds.specs.declared.operation.Op.TheVariants as op
 use Rattle.rbd_kinds.specs.declared.refusal.Refusal.TheVariants as refusal
-use Rattle.rbd_kinds.specs.declared.reply.Reply.{Reply}
 use Rattle.rbd_kinds.specs.declared.reply.Reply.TheVariants.{Bytes, Refused}
 use Rattle.rbd_kinds.specs.Form.{IsHeaderInForm, IsSnapInForm}
 use Rattle.rbd_kinds.specs.Header.{snap_named}
-use Rattle.rbd_layout.specs.Pieces.{IsPartsOf, IsPieces, IsWithin}
+use Rattle.rbd_layout.specs.Pieces.{IsPartsOf, IsPieces}
 use Rattle.rbd_layout.specs.declared.types.Piece.{Piece}
 use Rattle.rbd_header.specs.Header.{snap_in}
 use Rattle.rbd_object.specs.Contents.{window}
-use Rattle.rbd_object.specs.Mapped.{Mapped}
 use Rattle.rbd_object.specs.Parts.{EndWithin, parts_len, parts_of, parts_written}
 use Rattle.rbd_object.proofs.ContentsLemmas.{length-window}
 use Rattle.rbd_flat.specs.Flat.{Flat, FlatImage, FlatSnap, image_at}
@@ -45,15 +42,15 @@ use Rattle.rbd_stands.specs.Site.{StandsFor}
 use Rattle.rbd_stands.specs.View.{Shape, shape_of, shape_of_head, shape_of_snap}
 use Rattle.rbd_stands.specs.Writing.{shifted}
 use Rattle.rbd_stands.proofs.Lookups.{a_value, no_value}
-use Rattle.rbd_stands.proofs.ReadPieces.{Before, bytes_put, length_put}
+use Rattle.rbd_stands.proofs.ReadPieces.{Before, bytes_put}
 use Rattle.rbd_stands.proofs.Telling.{told as tells_image, bytes_told as flat_bytes_told, absence_told}
 use Rattle.rbd_stands.proofs.SiteSteps.{here}
 use Rattle.rbd_stands.proofs.WritePieces.{Behind, are_behind, hit, hits, hits_extent, last_tells, within_covers, is_in}
-use Rattle.rbd_solo.specs.Meaning.{FlatState, named, read_reply, view_reply, bytes_reply, snap_bytes_reply}
-use Rattle.rbd_solo.specs.Steps.{Holds, IsPlain, IsAnswered, Looks, opened_in, bytes_told, viewed, view_of_snap, IsViewOf, HasNoParent, IsFlatView, IsRead, is_at}
+use Rattle.rbd_solo.specs.Meaning.{FlatState, read_reply, view_reply, bytes_reply, snap_bytes_reply}
+use Rattle.rbd_solo.specs.Steps.{IsPlain, IsAnswered, Looks, opened_in, bytes_told, viewed, view_of_snap, IsViewOf, HasNoParent, IsFlatView, IsRead, is_at}
 use Rattle.rbd_solo.specs.declared.look.Opened.{Opened}
 use Rattle.rbd_solo.specs.declared.read.View.{View}
-use Rattle.rbd_solo.proofs.Found.{IsFound, found_some, found_none, answered_refused, answered_bytes, opened_same}
+use Rattle.rbd_solo.proofs.Found.{IsFound, found_some, found_none, answered_refused, answered_bytes}
 use Rattle.rbd_solo.proofs.Growing.{looks_on}
 use Rattle.rbd_stands.proofs.Refusals.{stands_same}
 use Rattle.rbd_solo.proofs.Snapshots.{of_in, of_named, named_in, flat_named_in}

@@ -1,5 +1,5 @@
 -- A change of one header: what the records hold after it. And the commands that take a snapshot and remove one.
-use Rattle.std.proofs.Common.{◌≡◌, ◌≢◌, ℕ, ◌+◌, Bool, true, false, cond, eqb, leb, ◌||◌, List, [], ◌∷◌, ◌++◌, length, map, filter, not, Bor, Option, Some, None, option_map, is_some, refl, sym, ap, ◌∙◌, subst, arith}
+use Rattle.std.proofs.Common.{◌≡◌, ℕ, ◌+◌, Bool, true, false, cond, eqb, leb, ◌||◌, List, [], ◌∷◌, length, map, not, Bor, Option, Some, None, option_map, is_some, refl, sym, ap, ◌∙◌, subst, arith}
 use Rattle.std.specs.Prelude.{IsSome, option_copied}
 use Rattle.std.specs.FinMap as finmap
 use Rattle.std.proofs.lemmas.List.{length-map}
@@ -11,37 +11,33 @@ use Rattle.rbd_kinds.specs.declared.answer.Answer.TheVariants as answer
 use Rattle.rbd_kinds.specs.declared.command.Command.TheVariants.{SnapCreate, SnapRemove}
 use Rattle.rbd_kinds.specs.declared.header.HeaderView.{HeaderView}
 use Rattle.rbd_kinds.specs.declared.header.SnapView.{SnapView}
-use Rattle.rbd_kinds.specs.declared.header_op.HeaderOp.{HeaderOp}
 use Rattle.rbd_kinds.specs.declared.header_op.HeaderOp.TheVariants as header_op
 use Rattle.rbd_kinds.specs.declared.id.Instance.{Instance}
 use Rattle.rbd_kinds.specs.declared.operation.Op.TheVariants as op
 use Rattle.rbd_kinds.specs.declared.refusal.Refusal.TheVariants as refusal
-use Rattle.rbd_kinds.specs.declared.reply.Reply.{Reply}
 use Rattle.rbd_kinds.specs.declared.reply.Reply.TheVariants.{Done, Refused}
 use Rattle.rbd_kinds.specs.Header.{snap_named}
 use Rattle.rbd_header.specs.Header.{snap_in, is_full, with_snap, without_snap, snap_taken}
-use Rattle.rbd_flat.specs.declared.effect.Effect.{Effect}
 use Rattle.rbd_flat.specs.declared.effect.Effect.TheVariants as effect
 use Rattle.rbd_flat.specs.Flat.{Flat, FlatImage, FlatSnap}
 use Rattle.rbd_flat.specs.Flat as flat
-use Rattle.rbd_flat.specs.Laws.{is_on_names}
 use Rattle.rbd_flat.proofs.Steps.{names_stay}
 use Rattle.rbd_site.specs.HeaderStep.{header_answer, header_after, snap_added, done_where, where_made}
 use Rattle.rbd_site.specs.Log.{SiteLog, records_of, line_of}
 use Rattle.rbd_site.specs.Records.{Records, put}
 use Rattle.rbd_site.specs.Step.{answer_to, after}
-use Rattle.rbd_site.proofs.SnapLists.{OfEach, each_appended, each_filtered}
+use Rattle.rbd_site.proofs.SnapLists.{each_appended, each_filtered}
 use Rattle.rbd_stands.specs.Image.{line_of_snap, line_of_flat}
 use Rattle.rbd_stands.specs.Reading.{flat_snap_named}
 use Rattle.rbd_stands.proofs.EditSteps.{unnamed}
 use Rattle.rbd_stands.proofs.ImageSteps.{snap_stands, unsnap_stands}
-use Rattle.rbd_stands.proofs.Lookups.{no_value, a_value}
+use Rattle.rbd_stands.proofs.Lookups.{a_value}
 use Rattle.rbd_solo.specs.History.{where_some, effect_of_op}
-use Rattle.rbd_solo.specs.Meaning.{FlatState, Found, named, lists_all, snap_create_reply, snap_remove_reply, state_after, taken_by}
+use Rattle.rbd_solo.specs.Meaning.{FlatState, named, lists_all, snap_create_reply, snap_remove_reply, state_after, taken_by}
 use Rattle.rbd_solo.specs.Steps.{Holds, IsOwn, IsPlain, IsAnswered, Looks, Means, opened_in, with_lines}
 use Rattle.rbd_solo.specs.declared.look.Opened.{Opened}
 use Rattle.rbd_solo.proofs.Found.{IsFound, found_some, found_none, answered_after, answered_refused, opened_same}
-use Rattle.rbd_solo.proofs.Snapshots.{of_in, of_named, named_in_some}
+use Rattle.rbd_solo.proofs.Snapshots.{of_in, named_in_some}
 
 -- ---- one header
 

@@ -13,17 +13,16 @@ use Rattle.rbd_kinds.specs.declared.reply.Reply.{Reply}
 use Rattle.rbd_flat.specs.declared.effect.Effect.{Effect}
 use Rattle.rbd_flat.specs.declared.entry.Entry.{Entry}
 use Rattle.rbd_flat.specs.declared.entry.Entry.TheVariants as entry
-use Rattle.rbd_flat.specs.Flat.{after_all, no_images}
+use Rattle.rbd_flat.specs.Flat.{after_all}
 use Rattle.rbd_flat.proofs.Steps.{steps_in_turn}
 use Rattle.rbd_site.specs.declared.done.Done.{Done}
 use Rattle.rbd_site.specs.Log.{SiteLog, records_of}
-use Rattle.rbd_site.specs.Records.{no_records}
 use Rattle.rbd_stands.proofs.Refusals.{nothing_stands}
 use Rattle.rbd_solo.specs.History.{operation_entry, entry_of, effect_of, request_entries, effects_in, log_effects, operations_in, operations_of}
-use Rattle.rbd_solo.specs.Meaning.{FlatState, at_first, IsReply, AreEffects, state_after}
-use Rattle.rbd_solo.specs.Steps.{Holds, IsAnswered, Means, with_lines}
-use Rattle.rbd_solo.specs.Story.{Asked, AreOperationsFor, IsRequest, IsHistory, Played, IsPlayed}
-use Rattle.rbd_solo.proofs.HistoryLemmas.{history_effects_append, history_operations_append, operations_of_append, request_effects, request_operations, middle_effects}
+use Rattle.rbd_solo.specs.Meaning.{FlatState, at_first, AreEffects, state_after}
+use Rattle.rbd_solo.specs.Steps.{IsAnswered, Means}
+use Rattle.rbd_solo.specs.Story.{Asked, AreOperationsFor, IsRequest, IsHistory, IsPlayed}
+use Rattle.rbd_solo.proofs.HistoryLemmas.{history_effects_append, history_operations_append, operations_of_append, request_operations, middle_effects}
 
 -- ---- histories
 

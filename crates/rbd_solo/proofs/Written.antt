@@ -1,11 +1,10 @@
 -- Pieces of a write, one after another.
-use Rattle.std.proofs.Common.{◌≡◌, ℕ, suc, ◌+◌, ◌-◌, ◌<◌, ◌≤◌, Bool, true, false, cond, List, [], ◌∷◌, ◌++◌, length, map, take, get_or, Option, Some, None, ◌^◌, append-nil, length-append, refl, sym, ap, ◌∙◌, subst, arith}
-use Rattle.std.specs.Prelude.{All, IsSome, slice_get}
+use Rattle.std.proofs.Common.{◌≡◌, ℕ, ◌+◌, ◌-◌, ◌<◌, ◌≤◌, true, false, cond, List, [], ◌∷◌, ◌++◌, length, take, get_or, Option, Some, None, append-nil, length-append, refl, sym, ap, ◌∙◌, subst, arith}
+use Rattle.std.specs.Prelude.{IsSome}
 use Rattle.std.specs.FinMap as finmap
 use Rattle.std.proofs.lemmas.List.{map-append, get_or_default, take_more}
-use Rattle.std.proofs.lemmas.Option.{none-some, same_Some, slice_get_within, get_or_from_slice_get}
+use Rattle.std.proofs.lemmas.Option.{slice_get_within, get_or_from_slice_get}
 use Rattle.rbd_kinds.specs.declared.answer.Answer.{Answer}
-use Rattle.rbd_kinds.specs.declared.answer.Answer.TheVariants as answer
 use Rattle.rbd_kinds.specs.declared.command.Command.TheVariants.{Write}
 use Rattle.rbd_kinds.specs.declared.data_op.DataOp.TheVariants as data_op
 use Rattle.rbd_kinds.specs.declared.header.HeaderView.{HeaderView}
@@ -15,22 +14,19 @@ use Rattle.rbd_kinds.specs.declared.id.Instance.{Instance}
 use Rattle.rbd_kinds.specs.declared.layout.Extent.{Extent}
 use Rattle.rbd_kinds.specs.declared.layout.Layout.{Layout}
 use Rattle.rbd_kinds.specs.declared.layout.Part.{Part}
-use Rattle.rbd_kinds.specs.declared.operation.Op.{Op}
 use Rattle.rbd_kinds.specs.declared.operation.Op.TheVariants as op
 use Rattle.rbd_kinds.specs.declared.refusal.Refusal.TheVariants as refusal
 use Rattle.rbd_kinds.specs.declared.reply.Reply.TheVariants.{Done, Refused}
 use Rattle.rbd_kinds.specs.Form.{IsHeaderInForm}
 use Rattle.rbd_kinds.specs.Striping.{IsLayout, byte_at}
-use Rattle.rbd_layout.specs.Pieces.{IsPart, IsPartsOf, IsPieces, IsWithin}
+use Rattle.rbd_layout.specs.Pieces.{IsPart, IsPartsOf}
 use Rattle.rbd_layout.specs.declared.types.Piece.{Piece}
 use Rattle.rbd_layout.proofs.Derived.{parts_cover}
 use Rattle.rbd_layout.proofs.Limits.{shape_of}
-use Rattle.rbd_object.specs.Mapped.{Mapped}
-use Rattle.rbd_object.specs.Parts.{AreWithin, EndWithin, parts_len, parts_of}
+use Rattle.rbd_object.specs.Parts.{parts_len}
 use Rattle.rbd_object.proofs.ContentsLemmas.{length-window}
 use Rattle.rbd_object.specs.Contents.{window}
 use Rattle.rbd_object.specs.declared.content.TheConstants.{LARGEST_OBJECT}
-use Rattle.rbd_flat.specs.declared.effect.Effect.{Effect}
 use Rattle.rbd_flat.specs.declared.effect.Effect.TheVariants as effect
 use Rattle.rbd_flat.specs.Flat.{Flat, FlatImage, after_all}
 use Rattle.rbd_flat.specs.Flat as flat
@@ -39,18 +35,18 @@ use Rattle.rbd_flat.proofs.Steps.{steps_in_turn, names_stay}
 use Rattle.rbd_site.specs.declared.done.Done.{Done as Line}
 use Rattle.rbd_site.specs.DataStep.{MayWrite}
 use Rattle.rbd_site.specs.Log.{SiteLog, records_of, line_of}
-use Rattle.rbd_site.specs.Records.{Records, object_at}
+use Rattle.rbd_site.specs.Records.{Records}
 use Rattle.rbd_site.specs.Step.{answer_to, after}
-use Rattle.rbd_stands.specs.Condition.{IsContextOf, IsPartBelow, ArePartsBelow, IsInside, IsCopiedUp, extents_of}
+use Rattle.rbd_stands.specs.Condition.{IsContextOf, ArePartsBelow, extents_of}
 use Rattle.rbd_stands.specs.Shown.{Covers}
 use Rattle.rbd_stands.specs.Site.{StandsFor}
-use Rattle.rbd_stands.specs.Writing.{shifted, AreBehind, bytes_for, piece_effect, piece_effects}
+use Rattle.rbd_stands.specs.Writing.{AreBehind, bytes_for, piece_effect, piece_effects}
 use Rattle.rbd_stands.proofs.DataSteps.{write_stands}
 use Rattle.rbd_solo.specs.History.{where_some, effect_of_op, log_effects}
-use Rattle.rbd_solo.specs.Meaning.{FlatState, named, write_reply, reply_within, state_after}
-use Rattle.rbd_solo.specs.Steps.{Holds, IsOwn, IsAnswered, Looks, Means, Writes, WritesAll, with_lines, opened_in}
+use Rattle.rbd_solo.specs.Meaning.{FlatState, write_reply, state_after}
+use Rattle.rbd_solo.specs.Steps.{Holds, IsAnswered, Looks, Means, Writes, WritesAll, with_lines, opened_in}
 use Rattle.rbd_solo.specs.declared.look.Opened.{Opened}
-use Rattle.rbd_solo.proofs.Found.{IsFound, found_some, found_none, answered_after, answered_refused, opened_same}
+use Rattle.rbd_solo.proofs.Found.{found_some, found_none, answered_after, answered_refused, opened_same}
 use Rattle.rbd_solo.proofs.Growing.{grown_on, effects_append}
 
 -- ---- where the parts of an extent lie

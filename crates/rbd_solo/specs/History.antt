@@ -1,5 +1,5 @@
 -- The history of requests: what each entry stands for, and which entries a request has.
-use Rattle.std.specs.Prelude.{◌≡◌, ℕ, List, [], ◌∷◌, ◌++◌, map, Option, Some, None}
+use Rattle.std.specs.Prelude.{ℕ, List, [], ◌∷◌, ◌++◌, map, Option, Some, None}
 use Rattle.rbd_kinds.specs.declared.answer.Answer.{Answer}
 use Rattle.rbd_kinds.specs.declared.answer.Answer.TheVariants as answer
 use Rattle.rbd_kinds.specs.declared.data_op.DataOp.TheVariants as data_op
@@ -12,7 +12,6 @@ use Rattle.rbd_kinds.specs.declared.operation.Op.TheVariants as op
 use Rattle.rbd_kinds.specs.declared.reply.Reply.{Reply}
 use Rattle.rbd_flat.specs.declared.effect.Effect.{Effect}
 use Rattle.rbd_flat.specs.declared.effect.Effect.TheVariants as effect
-use Rattle.rbd_flat.specs.declared.entry.Cause.{Cause}
 use Rattle.rbd_flat.specs.declared.entry.Cause.TheVariants as cause
 use Rattle.rbd_flat.specs.declared.entry.Entry.{Entry}
 use Rattle.rbd_flat.specs.declared.entry.Entry.TheVariants as entry

@@ -62,6 +62,8 @@ mod read;
 mod request;
 mod snap;
 mod solo;
+#[cfg(test)]
+mod tests;
 mod write;
 
 pub use built::is_built;

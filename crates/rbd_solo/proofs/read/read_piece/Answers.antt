@@ -1,4 +1,4 @@
-use Rattle.std.proofs.Common.{sym, ap, ◌∙◌, subst, length, map, ◌≡◌}
+use Rattle.std.proofs.Common.{sym, ap, ◌∙◌, subst, length, map}
 use Rattle.rbd_object.specs.Parts.{EndWithin, parts_len, parts_written}
 use Rattle.rbd_site.specs.Log.{records_of}
 use Rattle.rbd_stands.specs.Writing.{AreBehind, shifted}

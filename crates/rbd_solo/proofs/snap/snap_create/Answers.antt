@@ -1,4 +1,4 @@
-use Rattle.std.proofs.Common.{◌≡◌, true, false, sym, ap, ◌∙◌, subst, is_some}
+use Rattle.std.proofs.Common.{sym, ap, ◌∙◌, subst, is_some}
 use Rattle.rbd_kinds.specs.declared.command.Command.TheVariants.{SnapCreate}
 use Rattle.rbd_kinds.specs.declared.reply.Reply.TheVariants.{Done}
 use Rattle.rbd_kinds.specs.Header.{snap_named}

@@ -1,4 +1,4 @@
-use Rattle.std.proofs.Common.{◌≡◌, sym, ap, ◌∙◌}
+use Rattle.std.proofs.Common.{sym, ap, ◌∙◌}
 use Rattle.std.specs.Prelude.{option_copied}
 use Rattle.rbd_solo.proofs.Snapped.{snap_remove_missing, snap_remove_unlisted, snap_remove_done}
 use Rattle.rbd_solo.proofs.snap.snap_remove.Goals as goal

@@ -1,4 +1,4 @@
-use Rattle.std.proofs.Common.{◌≡◌, refl, sym, ap, ◌∙◌, length, reverse, arith}
+use Rattle.std.proofs.Common.{◌≡◌, refl, ap, ◌∙◌, length, reverse, arith}
 use Rattle.std.proofs.lemmas.List.{take_at}
 use Rattle.rbd_site.specs.Log.{ids_of}
 use Rattle.rbd_solo.proofs.Contexts.{reversed_context}

@@ -1,7 +1,7 @@
 use Rattle.std.proofs.Common.{sym, ap, ◌∙◌, subst, map}
 use Rattle.rbd_object.specs.Parts.{parts_of}
 use Rattle.rbd_site.specs.DataStep.{MayWrite}
-use Rattle.rbd_stands.specs.Writing.{AreBehind, bytes_for, shifted}
+use Rattle.rbd_stands.specs.Writing.{AreBehind, shifted}
 use Rattle.rbd_solo.proofs.Written.{parts_behind, may_write, piece_written}
 use Rattle.rbd_solo.proofs.write.write_piece.Goals as goal
 

@@ -1,4 +1,4 @@
-use Rattle.std.proofs.Common.{◌≡◌, ◌+◌, ◌≤◌, sym, ap, ◌∙◌, subst, arith, ◌∷◌, []}
+use Rattle.std.proofs.Common.{◌+◌, ◌≤◌, subst, arith, ◌∷◌, []}
 use Rattle.rbd_solo.specs.Steps.{Writes}
 use Rattle.rbd_solo.proofs.Bounds.{few_bytes}
 use Rattle.rbd_solo.proofs.Written.{writes_next}
