@@ -42,8 +42,8 @@
 //!
 //! Time and memory are linear in script, history, logs and text, times the logarithm of the number of commands. The
 //! history is gone over once for the replies and once for the others, and an operation is found by its number. The text
-//! grows by doubling; what a read showed is held a second time while it is printed. Nothing of what is printed is
-//! copied.
+//! is given room for about its length at once, and what a read showed is held a second time while it is printed. Nothing
+//! of what is printed is copied.
 //!
 //! # How it works
 //!
@@ -63,6 +63,7 @@ mod operations;
 mod output;
 mod progress;
 mod reply;
+mod room;
 mod snaps;
 mod speakers;
 #[cfg(test)]

@@ -8,6 +8,7 @@ use crate::entries::push_history;
 use crate::lines::{push_reply_line, push_unanswered};
 use crate::operations::push_log;
 use crate::progress::Progresses;
+use crate::room;
 use crate::speakers::Speakers;
 use rbd_flat::Entry;
 use rbd_kinds::{NoMemory, SiteId};
@@ -37,6 +38,7 @@ pub fn replies(
     ensures { IfOk result (λ text. text.items ≡ replies_text script.now history.now a.now b.now) }
 {
     let mut text = Vec::new(alloc);
+    text.reserve(room::of_replies(history))?;
     push_commands(&mut text, script, history, a, b)?;
     Ok(text)
 }
@@ -53,6 +55,8 @@ pub fn trace(
     ensures { IfOk result (λ text. text.items ≡ trace_text script.now history.now a.now b.now) }
 {
     let mut text = Vec::new(alloc);
+    let events = room::of_events(history, a, b);
+    text.reserve(events.saturating_add(room::of_replies(history)))?;
     let sessions = script.sessions.as_slice();
     push_history(&mut text, sessions, history)?;
     push_log(&mut text, sessions, SiteId::A, a)?;
