@@ -1,0 +1,67 @@
+-- Bounds of plans, step by step.
+use Rattle.std.proofs.Common.{rules, ℕ, ◌≤◌, ◌≡◌, ◌+◌, zero, suc, List, length, Bool, Option, Some, None, [], ◌∷◌, arith}
+use Rattle.rbd_kinds.specs.declared.answer.Answer.{Answer}
+use Rattle.rbd_kinds.specs.declared.answer.Answer.TheVariants as answer
+use Rattle.rbd_kinds.specs.declared.header.HeaderView.{HeaderView}
+use Rattle.rbd_kinds.specs.declared.id.SiteId.{SiteId}
+use Rattle.rbd_kinds.specs.declared.refusal.Refusal.{Refusal}
+use Rattle.rbd_machine.specs.Plan.{Plan, Ask, Await, Note, Return, Goto}
+use Rattle.rbd_machine.specs.Path.{Answered, IsPass, IsStep, IsBounded, at_operation, after_answer}
+use Rattle.rbd_machine.specs.Steps.{unless, not_there, on_id, on_header, on_done, change, joining, looking, looked, holding, owning, owned}
+
+-- ---- paths
+
+pub bounded_at : (plan : Plan) (n : ℕ) → IsBounded plan n → IsBounded (at_operation Goto plan) n
+bounded_at (Ask site op next) n b = b
+bounded_at (Await want next) n b = bounded_at next n b
+bounded_at (Note site image event next) n b = bounded_at next n b
+bounded_at (Return reply) n b = b
+bounded_at (Goto label) n b = b
+
+pub bounded_step : (at : Plan) (n : ℕ) (step : Answered) (more : List Answered) → ((plan : Plan) (m : ℕ) → IsBounded plan m → IsPass plan more → length more ≤ m)
+    → IsBounded at n → IsStep at step → IsPass (after_answer at step.answer) more → suc (length more) ≤ n
+bounded_step (Ask site op next) zero step more shorter b is rest = absurd b
+bounded_step (Ask site op next) (suc n) step more shorter b is rest = let short : length more ≤ n = shorter (next step.answer) n (b step.answer) rest in omega arith
+bounded_step (Await want next) n step more shorter b is rest = absurd is
+bounded_step (Note site image event next) n step more shorter b is rest = absurd is
+bounded_step (Return reply) n step more shorter b is rest = absurd is
+bounded_step (Goto label) n step more shorter b is rest = absurd is
+
+pub bounded_path : (path : List Answered) (plan : Plan) (n : ℕ) → IsBounded plan n → IsPass plan path → length path ≤ n
+bounded_path [] plan n b p = omega arith
+bounded_path (step ∷ more) plan n b (is, rest) = bounded_step (at_operation Goto plan) n step more (bounded_path more) (bounded_at plan n b) is rest
+
+-- ---- steps
+
+pub bounded_not_there : (a : Answer) (n : ℕ) → IsBounded (not_there a) n
+bounded_not_there answer.Fenced n = tt
+bounded_not_there _ n = tt
+
+pub bounded_on_id : (next : ℕ → Plan) (n : ℕ) → ((image : ℕ) → IsBounded (next image) n) → (a : Answer) → IsBounded (on_id next a) n
+bounded_on_id next n b (answer.Id image) = b image
+bounded_on_id next n b answer.Fenced = tt
+bounded_on_id next n b _ = tt
+
+pub bounded_on_header : (next : HeaderView → Plan) (n : ℕ) → ((h : HeaderView) → IsBounded (next h) n) → (a : Answer) → IsBounded (on_header next a) n
+bounded_on_header next n b (answer.Header h) = b h
+bounded_on_header next n b answer.Fenced = tt
+bounded_on_header next n b _ = tt
+
+pub bounded_on_done : (next : Plan) (n : ℕ) → IsBounded next n → (a : Answer) → IsBounded (on_done next a) n
+bounded_on_done next n b answer.Done = b
+bounded_on_done next n b answer.Fenced = tt
+bounded_on_done next n b _ = tt
+
+pub bounded_unless : (r : Option Refusal) (next : Plan) (n : ℕ) → IsBounded next n → IsBounded (unless r next) n
+bounded_unless None next n b = b
+bounded_unless (Some r) next n b = tt
+
+module _ (site : SiteId) (refuses : HeaderView → Option Refusal) (act : ℕ → HeaderView → Plan) (n : ℕ) (acts : (image : ℕ) (h : HeaderView) → IsBounded (act image h) n) where
+  bounded_owning : (image : ℕ) → IsBounded (owning site refuses act image) (suc n)
+  bounded_owning image = bounded_on_header (owned refuses act image) n (λ h. bounded_unless (refuses h) (act image h) n (acts image h))
+
+  bounded_looking : (image : ℕ) → IsBounded (looking site refuses act image) (suc (suc n))
+  bounded_looking image = bounded_on_header (looked site refuses act image) (suc n) (λ h. bounded_unless (refuses h) (holding site refuses act image) (suc n) (bounded_owning image))
+
+  pub bounded_change : (name : List ℕ) (alone : Bool) → IsBounded (change site name alone refuses act) (suc (suc (suc n)))
+  bounded_change name alone = bounded_on_id (joining site alone refuses act) (suc (suc n)) bounded_looking

@@ -1,0 +1,36 @@
+-- Where a change is on its way to its own look.
+use Rattle.std.specs.Prelude.{◌≡◌, ℕ, Option}
+use Rattle.rbd_kinds.specs.declared.answer.Answer.TheVariants as answer
+use Rattle.rbd_kinds.specs.declared.header.HeaderView.{HeaderView}
+use Rattle.rbd_kinds.specs.declared.machine.Fed.{Fed}
+use Rattle.rbd_kinds.specs.declared.machine.Fed.TheVariants as fed
+use Rattle.rbd_kinds.specs.declared.refusal.Refusal.{Refusal}
+use Rattle.rbd_machine.specs.Plan.{Plan}
+use Rattle.rbd_machine.specs.Steps.{refused, change, joining, looking, holding, owning}
+use Rattle.rbd_machine.specs.declared.approach.Approach.{Approach}
+use Rattle.rbd_machine.specs.declared.approach.Course.{Course}
+use Rattle.rbd_machine.specs.declared.approach.Course.TheVariants as course
+use Rattle.rbd_machine.specs.declared.approach.Place.{Place}
+use Rattle.rbd_machine.specs.declared.approach.Place.TheVariants as place
+
+-- what is left of it, with what the change does then
+abbrev pub rest_from : Place → Approach → (HeaderView → Option Refusal) → (act : ℕ → HeaderView → Plan) → Plan
+rest_from place.Finding a refuses act = change a.site a.name a.alone refuses act
+rest_from (place.Joining image) a refuses act = joining a.site a.alone refuses act image
+rest_from (place.Looking image) a refuses act = looking a.site refuses act image
+rest_from (place.Holding image) a refuses act = holding a.site refuses act image
+rest_from (place.Owning image) a refuses act = owning a.site refuses act image
+
+abbrev pub rest_of : Approach → (HeaderView → Option Refusal) → (act : ℕ → HeaderView → Plan) → Plan
+rest_of a refuses act = rest_from a.at a refuses act
+
+-- the own look told a header
+abbrev pub ActsOn : (act : ℕ → HeaderView → Plan) → (image : ℕ) → Fed → (to : Plan) → Type 0
+ActsOn act image (fed.Answer (answer.Header h)) to = to ≡ act image h
+ActsOn act image _ to = ⊥
+
+-- It went on, or has ended, or the change may do what it does.
+abbrev pub Approaches : (HeaderView → Option Refusal) → (act : ℕ → HeaderView → Plan) → Fed → (to : Plan) → Course → (new : Approach) → Type 0
+Approaches refuses act f to course.More new = rest_of new refuses act ≡ to
+Approaches refuses act f to (course.Refused r) new = to ≡ refused r
+Approaches refuses act f to (course.Owned image) new = ActsOn act image f to

@@ -1,0 +1,46 @@
+-- Paths: the operations of a request, with their answers, and how many they are.
+use Rattle.std.specs.Prelude.{◌≡◌, ℕ, zero, suc, List, [], ◌∷◌}
+use Rattle.rbd_kinds.specs.declared.answer.Answer.{Answer}
+use Rattle.rbd_kinds.specs.declared.id.SiteId.{SiteId}
+use Rattle.rbd_kinds.specs.declared.operation.Op.{Op}
+use Rattle.rbd_machine.specs.Plan.{Plan, Ask, Await, Note, Return, Goto}
+
+-- an operation that was done at a site, and its answer
+pub record Answered : Type 0 where
+  pub site : SiteId
+  pub op : Op
+  pub answer : Answer
+
+-- the plan at its next operation: what it waits for is passed over, and a label gone to
+abbrev pub at_operation : (ℕ → Plan) → Plan → Plan
+at_operation labels (Await want next) = at_operation labels next
+at_operation labels (Note site image event next) = at_operation labels next
+at_operation labels (Goto label) = labels label
+at_operation labels plan = plan
+
+abbrev pub IsStep : Plan → Answered → Type 0
+IsStep (Ask site op next) step = (step.site ≡ site) × (step.op ≡ op)
+IsStep _ step = ⊥
+
+abbrev pub after_answer : Plan → Answer → Plan
+after_answer (Ask site op next) answer = next answer
+after_answer plan answer = plan
+
+-- Each operation is the one that the plan names after the answers before it.
+abbrev pub IsPath : (ℕ → Plan) → Plan → List Answered → Type 0
+IsPath labels plan [] = Unit {0}
+IsPath labels plan (step ∷ more) =
+    IsStep (at_operation labels plan) step × IsPath labels (after_answer (at_operation labels plan) step.answer) more
+
+-- a path on which no label is gone to
+abbrev pub IsPass : Plan → List Answered → Type 0
+IsPass = IsPath Goto
+
+-- The plan has at most n operations, whatever they are answered, up to its end or to a label.
+abbrev pub IsBounded : Plan → (n : ℕ) → Type 0
+IsBounded (Ask site op next) zero = ⊥
+IsBounded (Ask site op next) (suc n) = (answer : Answer) → IsBounded (next answer) n
+IsBounded (Await want next) n = IsBounded next n
+IsBounded (Note site image event next) n = IsBounded next n
+IsBounded (Return reply) n = Unit {0}
+IsBounded (Goto label) n = Unit {0}

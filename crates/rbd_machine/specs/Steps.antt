@@ -1,0 +1,100 @@
+-- Steps that many requests share, as plans with what comes next.
+use Rattle.std.specs.Prelude.{ℕ, List, Bool, Option, Some, None, Result, Ok, Err}
+use Rattle.rbd_kinds.specs.declared.answer.Answer.{Answer}
+use Rattle.rbd_kinds.specs.declared.answer.Answer.TheVariants as answer
+use Rattle.rbd_kinds.specs.declared.directory_op.DirectoryOp.TheVariants as directory
+use Rattle.rbd_kinds.specs.declared.header.HeaderView.{HeaderView}
+use Rattle.rbd_kinds.specs.declared.header.Role.{Role}
+use Rattle.rbd_kinds.specs.declared.header.Role.TheVariants as role
+use Rattle.rbd_kinds.specs.declared.header_op.HeaderOp.TheVariants as header
+use Rattle.rbd_kinds.specs.declared.id.SiteId.{SiteId}
+use Rattle.rbd_kinds.specs.declared.machine.Want.TheVariants as want
+use Rattle.rbd_kinds.specs.declared.operation.Op.TheVariants as op
+use Rattle.rbd_kinds.specs.declared.refusal.Refusal.{Refusal}
+use Rattle.rbd_kinds.specs.declared.refusal.Refusal.TheVariants as refusal
+use Rattle.rbd_kinds.specs.declared.reply.Reply.TheVariants as reply
+use Rattle.rbd_machine.specs.Plan.{Plan, Ask, Await, Return}
+
+-- ---- ends
+
+abbrev pub refused : Refusal → Plan
+refused r = Return (reply.Refused r)
+
+-- it ends where a refusal holds
+abbrev pub unless : Option Refusal → Plan → Plan
+unless None next = next
+unless (Some r) next = refused r
+
+-- ---- what an answer means: the fence ends a request, and what isn't there is no image
+
+abbrev pub not_there : Answer → Plan
+not_there answer.Fenced = refused refusal.Fenced
+not_there _ = refused refusal.NoImage
+
+abbrev pub on_id : (ℕ → Plan) → Answer → Plan
+on_id next (answer.Id image) = next image
+on_id next a = not_there a
+
+abbrev pub on_header : (HeaderView → Plan) → Answer → Plan
+on_header next (answer.Header h) = next h
+on_header next a = not_there a
+
+abbrev pub on_done : Plan → Answer → Plan
+on_done next answer.Done = next
+on_done next a = not_there a
+
+-- ---- look-ups
+
+-- the image of a name
+abbrev pub find : SiteId → (name : List ℕ) → (ℕ → Plan) → Plan
+find site name next = Ask site (op.Directory (directory.Find name)) (on_id next)
+
+-- the header of an image
+abbrev pub look : SiteId → (image : ℕ) → (HeaderView → Plan) → Plan
+look site image next = Ask site (op.Header image header.Get) (on_header next)
+
+-- ---- the way of a change to its own look
+--
+-- It finds its image and joins the line of the image's requests, looks at the header, and waits for the lock.
+-- Then it looks again, since the header may have changed meanwhile, and what it sees now can't change as long as
+-- the lock is its session's. Its refusals are tested at both looks.
+
+abbrev pub owned : (HeaderView → Option Refusal) → (act : ℕ → HeaderView → Plan) → (image : ℕ) → HeaderView → Plan
+owned refuses act image h = unless (refuses h) (act image h)
+
+abbrev pub owning : SiteId → (HeaderView → Option Refusal) → (act : ℕ → HeaderView → Plan) → (image : ℕ) → Plan
+owning site refuses act image = look site image (owned refuses act image)
+
+abbrev pub holding : SiteId → (HeaderView → Option Refusal) → (act : ℕ → HeaderView → Plan) → (image : ℕ) → Plan
+holding site refuses act image = Await (want.Hold site image) (owning site refuses act image)
+
+abbrev pub looked : SiteId → (HeaderView → Option Refusal) → (act : ℕ → HeaderView → Plan) → (image : ℕ) → HeaderView → Plan
+looked site refuses act image h = unless (refuses h) (holding site refuses act image)
+
+abbrev pub looking : SiteId → (HeaderView → Option Refusal) → (act : ℕ → HeaderView → Plan) → (image : ℕ) → Plan
+looking site refuses act image = look site image (looked site refuses act image)
+
+abbrev pub joining : SiteId → (alone : Bool) → (HeaderView → Option Refusal) → (act : ℕ → HeaderView → Plan) → (image : ℕ) → Plan
+joining site alone refuses act image = Await (want.Join site image alone) (looking site refuses act image)
+
+abbrev pub change : SiteId → (name : List ℕ) → (alone : Bool) → (HeaderView → Option Refusal) → (act : ℕ → HeaderView → Plan) → Plan
+change site name alone refuses act = find site name (joining site alone refuses act)
+
+-- ---- refusals
+
+-- the first that holds
+abbrev pub or_else : Option Refusal → Option Refusal → Option Refusal
+or_else None r = r
+or_else (Some r) later = Some r
+
+-- clients don't change a secondary
+abbrev pub non_primary : Role → Option Refusal
+non_primary role.Secondary = Some refusal.NonPrimary
+non_primary _ = None
+
+-- ---- what is told
+
+-- goes on with what was told, or ends refused
+abbrev pub going : {T : Type 0} → (T → Plan) → Result T Refusal → Plan
+going next (Ok told) = next told
+going next (Err r) = refused r

@@ -1,0 +1,204 @@
+//! The way of a change to its own look.
+ghost use Rattle.std.specs.Prelude.{◌≡◌, ℕ, Option, IfOk};
+ghost use Rattle.rbd_kinds.specs.declared.header.HeaderView.{HeaderView};
+ghost use Rattle.rbd_kinds.specs.declared.machine.Fed.TheVariants as fed_with;
+ghost use Rattle.rbd_kinds.specs.declared.refusal.Refusal.{Refusal};
+ghost use Rattle.rbd_machine.specs.Plan.{Plan, Wants, Asks, plan_after};
+ghost use Rattle.rbd_machine.specs.Steps.{change};
+ghost use Rattle.rbd_machine.specs.Approach.{rest_of, Approaches};
+ghost use Rattle.rbd_kinds.specs.declared.operation.Op.TheVariants.{Header};
+ghost use Rattle.rbd_kinds.specs.declared.header_op.HeaderOp.TheVariants.{Get};
+
+use crate::told::{told_header, told_image};
+use rbd_kinds::{
+    Answer, DirectoryOp, Fed, HeaderOp, HeaderView, ImageId, Name, NoMemory, Op, OpKind, Refusal,
+    SiteId, TryClone, Want,
+};
+
+/// What a change refuses by the header that it looks at.
+pub trait Refuses {
+    ghost refuses: { Self → HeaderView → Option Refusal };
+
+    /// The refusal that holds, the first of several in the order of the rules.
+    fn refusal(&self, header: &HeaderView) -> Option<Refusal>
+        ensures { result ≡ refuses self.now header.now };
+}
+
+/// Where a change of an image is on its way to its own look.
+///
+/// ```text
+/// Finding   dir-find     ──none──▶ NoImage
+///    │ id
+/// Joining   the line of the image's requests
+///    │
+/// Looking   header-get   ──none──▶ NoImage, or a refusal by this header
+///    │ header
+/// Holding   the lock
+///    │
+/// Owning    header-get   ──none──▶ NoImage, or a refusal by this header
+///    │ header
+///    ▼
+/// what the change does
+/// ```
+///
+/// Any operation may be answered `fenced`, which ends the request with Fenced.
+#[derive(Debug, Drop)]
+pub struct Approach {
+    site: SiteId,
+    name: Name,
+    alone: bool,
+    at: Place,
+}
+
+/// A step of the way, with the image once it is found.
+#[derive(Debug, Drop)]
+pub enum Place {
+    Finding,
+    Joining(ImageId),
+    Looking(ImageId),
+    Holding(ImageId),
+    Owning(ImageId),
+}
+
+/// What comes of a step.
+#[derive(Debug, Drop)]
+pub enum Course {
+    /// It wants more.
+    More,
+    /// The request has ended.
+    Refused(Refusal),
+    /// The own look told a header that refuses nothing.
+    Owned(ImageId),
+}
+
+impl Approach {
+    /// The way of a change of the image of a name at a site. It is alone in the image's line, or goes beside other
+    /// changes. It takes no memory.
+    pub fn new(site: SiteId, name: Name, alone: bool) -> Self
+        ensures { (refuses : HeaderView → Option Refusal) (act : ℕ → HeaderView → Plan) → rest_of result refuses act ≡ change site name alone refuses act }
+    {
+        Approach {
+            site,
+            name,
+            alone,
+            at: Place::Finding,
+        }
+    }
+
+    /// What it wants.
+    pub fn wants(&self) -> Want
+        ensures { (refuses : HeaderView → Option Refusal) (act : ℕ → HeaderView → Plan) → Wants (rest_of self.now refuses act) result }
+    {
+        let site = self.site;
+        match &self.at {
+            Place::Finding => Want::Op {
+                site,
+                kind: OpKind::DirFind,
+            },
+            Place::Joining(image) => Want::Join {
+                site,
+                image: *image,
+                alone: self.alone,
+            },
+            Place::Looking(_) => Want::Op {
+                site,
+                kind: OpKind::HeaderGet,
+            },
+            Place::Holding(image) => Want::Hold {
+                site,
+                image: *image,
+            },
+            Place::Owning(_) => Want::Op {
+                site,
+                kind: OpKind::HeaderGet,
+            },
+        }
+    }
+
+    /// The operation that it wants. Where it wants none, nothing is said of the answer.
+    pub fn next(&self) -> Result<Op, NoMemory>
+        ensures { (refuses : HeaderView → Option Refusal) (act : ℕ → HeaderView → Plan) → IfOk result (Asks (rest_of self.now refuses act)) }
+    {
+        match &self.at {
+            Place::Finding => Ok(Op::Directory(DirectoryOp::Find {
+                name: self.name.try_clone()?,
+            })),
+            Place::Joining(image) => Ok(header_get(*image)),
+            Place::Looking(image) => Ok(header_get(*image)),
+            Place::Holding(image) => Ok(header_get(*image)),
+            Place::Owning(image) => Ok(header_get(*image)),
+        }
+    }
+
+    /// Goes on with what it is fed, by the refusals of a rule. It takes no memory.
+    pub fn feed<R: Refuses>(&mut self, rule: &R, fed: &Fed) -> Course
+        ensures { (act : ℕ → HeaderView → Plan) → Approaches (R.refuses rule.now) act fed.now (plan_after (rest_of self.old (R.refuses rule.now) act) fed.now) result self.new }
+    {
+        match fed {
+            Fed::Passed => self.pass(),
+            Fed::Answer(answer) => self.answer(rule, answer),
+        }
+    }
+
+    /// Goes on, where it waits for something else than an answer.
+    fn pass(&mut self) -> Course
+        ensures { (refuses : HeaderView → Option Refusal) (act : ℕ → HeaderView → Plan)
+            → Approaches refuses act fed_with.Passed (plan_after (rest_of self.old refuses act) fed_with.Passed) result self.new }
+    {
+        match &self.at {
+            Place::Joining(image) => {
+                self.at = Place::Looking(*image);
+                Course::More
+            }
+            Place::Holding(image) => {
+                self.at = Place::Owning(*image);
+                Course::More
+            }
+            _ => Course::More,
+        }
+    }
+
+    /// Goes on with the answer to its operation.
+    fn answer<R: Refuses>(&mut self, rule: &R, answer: &Answer) -> Course
+        ensures { (act : ℕ → HeaderView → Plan)
+            → Approaches (R.refuses rule.now) act (fed_with.Answer answer.now) (plan_after (rest_of self.old (R.refuses rule.now) act) (fed_with.Answer answer.now)) result self.new }
+    {
+        match &self.at {
+            Place::Finding => match told_image(answer) {
+                Ok(image) => {
+                    self.at = Place::Joining(image);
+                    Course::More
+                }
+                Err(refusal) => Course::Refused(refusal),
+            },
+            Place::Looking(image) => match told_header(answer) {
+                Ok(header) => match rule.refusal(header) {
+                    None => {
+                        self.at = Place::Holding(*image);
+                        Course::More
+                    }
+                    Some(refusal) => Course::Refused(refusal),
+                },
+                Err(refusal) => Course::Refused(refusal),
+            },
+            Place::Owning(image) => match told_header(answer) {
+                Ok(header) => match rule.refusal(header) {
+                    None => Course::Owned(*image),
+                    Some(refusal) => Course::Refused(refusal),
+                },
+                Err(refusal) => Course::Refused(refusal),
+            },
+            _ => Course::More,
+        }
+    }
+}
+
+/// A look at a header.
+fn header_get(image: ImageId) -> Op
+    ensures { result ≡ Header image Get }
+{
+    Op::Header {
+        image,
+        op: HeaderOp::Get,
+    }
+}

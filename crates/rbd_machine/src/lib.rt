@@ -1,0 +1,11 @@
+//! Requests as machines that want one thing at a time.
+#![tactic(auto)]
+
+mod approach;
+pub mod laws;
+mod machine;
+mod told;
+
+pub use approach::{Approach, Course, Refuses};
+pub use machine::Machine;
+pub use told::{refusal_of, told_done, told_header, told_image};

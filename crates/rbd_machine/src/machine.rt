@@ -1,0 +1,59 @@
+//! What every request is.
+ghost use Rattle.std.specs.Prelude.{◌≡◌, IfOk, OnOk, OnErr};
+ghost use Rattle.rbd_kinds.specs.declared.answer.Answer.{Answer};
+ghost use Rattle.rbd_machine.specs.Plan.{Standing, Wants, IsAsking, Asks, IsNoting, Notes, plan_after, GoesOn};
+ghost use Rattle.rbd_machine.specs.Answers.{CanBeFed};
+ghost use Rattle.rbd_machine.specs.Ready.{IsReadyFor};
+
+use rbd_kinds::{Event, Fed, NoMemory, Op, Turn, Want};
+use std::alloc::Global;
+
+/// A request as a machine that wants one thing at a time. It does nothing itself: whoever holds it asks what it
+/// wants, does that, and feeds it what came of it, until it is done with its reply (etcd's raft is a core of this
+/// kind).
+///
+/// ```text
+///        ┌──────────────────────────────────────────────────────────────┐
+///        ▼                                                              │
+///      wants ──Op──────▶ next ──▶ the operation is done ──answer──▶ ready, feed ──More──┐
+///        │                                                              ▲              │
+///        ├──Note───────▶ event ──▶ it is noted ─────────────────────────┤              │
+///        └──Join, Hold, Turn, Applied, Leave ──▶ it may go on ──Passed──┘     ┌─Done───┴──▶ its reply
+/// ```
+///
+/// Contracts see where it stands: the plan that is left. What it wants stays the same until it is fed. Once it is
+/// done it has no plan left, and nothing is said of it.
+pub trait Machine {
+    /// What is left of the request.
+    ghost stands: { Self → Standing };
+
+    /// It has the memory that an answer needs.
+    ghost is_ready: { Self → Answer → Type 0 };
+
+    /// What it wants. It takes no memory.
+    fn wants(&self) -> Want
+        ensures { Wants (stands self.now).plan result };
+
+    /// The operation that it wants.
+    fn next(&self, alloc: Global) -> Result<Op, NoMemory>
+        requires { IsAsking (stands self.now).plan }
+        ensures { IfOk result (Asks (stands self.now).plan) };
+
+    /// The event that it wants noted.
+    fn event(&self, alloc: Global) -> Result<Event, NoMemory>
+        requires { IsNoting (stands self.now).plan }
+        ensures { IfOk result (Notes (stands self.now).plan) };
+
+    /// Takes the memory for a feeding, and changes nothing else. Refused, it changes nothing at all.
+    fn ready(&mut self, alloc: Global, fed: &Fed) -> Result<(), NoMemory>
+        requires { CanBeFed (stands self.old).plan fed.now }
+        ensures stands { stands self.new ≡ stands self.old }
+        ensures ready { OnOk result (IsReadyFor (is_ready self.new) fed.now) }
+        ensures err { OnErr result (self.new ≡ self.old) };
+
+    /// Goes on with what it is fed. It takes no memory.
+    fn feed(&mut self, fed: &Fed) -> Turn
+        requires can { CanBeFed (stands self.old).plan fed.now }
+        requires ready { IsReadyFor (is_ready self.old) fed.now }
+        ensures { GoesOn (stands self.old).labels (plan_after (stands self.old).plan fed.now) result (stands self.new) };
+}
