@@ -1,7 +1,8 @@
 -- What a header tells, and what each change of it does.
-use Rattle.std.specs.Prelude.{ℕ, ◌+◌, ◌==◌, nat_le, min, not, Bool, ◌||◌, false, List, [], ◌∷◌, ◌++◌, length, map, Option, None, Some, if◌then◌else◌}
+use Rattle.std.specs.Prelude.{reverse, ℕ, ◌+◌, ◌==◌, nat_le, min, not, Bool, ◌||◌, false, List, [], ◌∷◌, ◌++◌, length, map, Option, None, Some, if◌then◌else◌}
 use Rattle.std.specs.List.{filter}
 use Rattle.rbd_kinds.specs.declared.header.HeaderView.{HeaderView}
+use Rattle.rbd_kinds.specs.declared.header.SnapContext.{SnapContext}
 use Rattle.rbd_kinds.specs.declared.header.SnapView.{SnapView}
 use Rattle.rbd_kinds.specs.declared.header.ParentLink.{ParentLink}
 use Rattle.rbd_kinds.specs.declared.header.GlobalName.{GlobalName}
@@ -18,6 +19,15 @@ snap_in (s ∷ snaps) t = if s.id == t then Some s else snap_in snaps t
 -- 256 snapshots are listed, or the ids are used up
 abbrev pub is_full : HeaderView → Bool
 is_full h = nat_le 256 (length h.snaps) || (h.snap_seq == 4294967295)
+
+-- the ids of the snapshots, in their order
+abbrev pub ids_of : List SnapView → List ℕ
+ids_of snaps = map (λ (s : SnapView). s.id) snaps
+
+-- The snapshot context of a change of the image's data: the id of the snapshot that was taken last, and the ids
+-- of those that are listed, newest first.
+abbrev pub context_of : HeaderView → SnapContext
+context_of h = record { seq = h.snap_seq; snaps = reverse (ids_of h.snaps) }
 
 -- a parent whose overlap ends at a size
 abbrev pub cut : ℕ → Option ParentLink → Option ParentLink

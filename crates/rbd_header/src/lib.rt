@@ -22,6 +22,7 @@
 //! the last that this header drew, so it is never drawn twice (own).
 #![tactic(auto)]
 
+mod context;
 mod fault;
 mod header;
 mod lookup;
@@ -29,6 +30,7 @@ mod snaps;
 #[cfg(test)]
 mod tests;
 
+pub use context::{context_of, ids_of};
 pub use fault::{Held, SnapAddFault};
 pub use header::Header;
 pub use lookup::snapshot;

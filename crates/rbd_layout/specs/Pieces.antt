@@ -1,5 +1,5 @@
 -- Which bytes of an extent lie in which object (Ceph: RBD striping).
-use Rattle.std.specs.Prelude.{◌≡◌, ℕ, ◌+◌, ◌<◌, ◌≤◌, ◌==◌, ◌↔◌, List, length, filter, All, AllPairs, Any}
+use Rattle.std.specs.Prelude.{◌≡◌, ℕ, ◌+◌, ◌<◌, ◌≤◌, ◌==◌, ◌↔◌, nat_lt, Bool, if◌then◌else◌, List, [], ◌∷◌, length, map, filter, All, AllPairs, Any}
 use Rattle.std.specs.List.{range_with_len, flat_map}
 use Rattle.rbd_kinds.specs.declared.layout.Layout.{Layout}
 use Rattle.rbd_kinds.specs.declared.layout.Extent.{Extent}
@@ -37,6 +37,31 @@ pub record IsPieces (l : Layout) (e : Extent) (pieces : List Piece) : Type 0 whe
   pub touched : All (λ p. 0 < length p.parts) pieces
   pub ascending : AllPairs (λ p q. p.object < q.object) pieces
   pub whole : (x : ℕ) → IsWithin e x → Any (λ p. p.object ≡ object_of l x) pieces
+
+-- ---- the one list of pieces
+
+-- a place, and the parts behind it: it lengthens the first where the two touch
+abbrev pub part_at : Layout → (x len : ℕ) → Part
+part_at l x len = record { offset = offset_of l x; at = x; len = len }
+
+abbrev pub with_place : Layout → (x : ℕ) → List Part → List Part
+with_place l x [] = part_at l x 1 ∷ []
+with_place l x (p ∷ parts) = if x + 1 == p.at then part_at l x (p.len + 1) ∷ parts else part_at l x 1 ∷ p ∷ parts
+
+-- the parts that places of one object make, ascending
+abbrev pub parts_at : Layout → List ℕ → List Part
+parts_at l [] = []
+parts_at l (x ∷ places) = with_place l x (parts_at l places)
+
+abbrev pub piece_in : Layout → Extent → (object : ℕ) → Piece
+piece_in l e object = record { object = object; parts = parts_at l (places_in l e object) }
+
+abbrev pub is_touched : Piece → Bool
+is_touched p = nat_lt 0 (length p.parts)
+
+-- One piece for each object that the extent touches. No byte has an object whose number is above its own.
+abbrev pub pieces_of : Layout → Extent → List Piece
+pieces_of l e = filter is_touched (map (piece_in l e) (range_with_len 0 (e.at + e.len)))
 
 -- How many bytes of an object lie below an image byte: they are its first ones.
 pub record IsHeld (l : Layout) (object below held : ℕ) : Type 0 where

@@ -36,6 +36,7 @@
 //! its bytes, each once, and are one list ([`parts_are_the_bytes`], [`pieces_are_the_bytes`]).
 #![tactic(auto)]
 
+mod asked;
 mod count;
 mod extent;
 mod laws;
@@ -45,6 +46,7 @@ mod striping;
 mod tests;
 mod types;
 
+pub use asked::{keeps_limits, layout_of};
 pub use count::objects;
 pub use extent::{parts_in, pieces};
 pub use laws::{

@@ -1,5 +1,5 @@
 -- Parts of an object, each some bytes that lie together, and what is read of them and done to them.
-use Rattle.std.specs.Prelude.{◌≡◌, ℕ, ◌+◌, ◌≤◌, max, List, [], ◌∷◌, ◌++◌, take, drop, Some, slice_get}
+use Rattle.std.specs.Prelude.{◌≡◌, ℕ, ◌+◌, ◌-◌, ◌≤◌, max, map, All, List, [], ◌∷◌, ◌++◌, take, drop, Some, slice_get}
 use Rattle.rbd_kinds.specs.declared.layout.Part.{Part}
 use Rattle.rbd_object.specs.Contents.{window, overwritten, zeroed}
 use Rattle.rbd_object.specs.declared.content.TheConstants.{LARGEST_OBJECT}
@@ -36,3 +36,20 @@ parts_written (p ∷ parts) bytes head = parts_written parts (drop p.len bytes) 
 abbrev pub parts_zeroed : List Part → (head : List ℕ) → List ℕ
 parts_zeroed [] head = head
 parts_zeroed (p ∷ parts) head = parts_zeroed parts (zeroed head p.offset p.len)
+
+-- ---- parts of bytes that begin at the image byte `from`
+
+-- the part as it lies in them
+abbrev pub shifted : (from : ℕ) → Part → Part
+shifted from p = record p { offset = p.at - from }
+
+-- the parts begin at `from` or behind it, and end within `len` bytes of it
+abbrev pub AreBehind : (from : ℕ) → List Part → Type 0
+AreBehind from parts = All (λ p. from ≤ p.at) parts
+
+abbrev pub EndBefore : (from len : ℕ) → List Part → Type 0
+EndBefore from len parts = All (λ p. p.at + p.len ≤ from + len) parts
+
+-- those of the bytes that the parts have, one part after another
+abbrev pub bytes_for : (parts : List Part) → (from : ℕ) → (bytes : List ℕ) → List ℕ
+bytes_for parts from bytes = parts_of (map (shifted from) parts) bytes

@@ -57,4 +57,4 @@ mod versions;
 
 pub use content::LARGEST_OBJECT;
 pub use object::Object;
-pub use parts::{gather, scatter};
+pub use parts::{gather, scatter, shifted_parts};

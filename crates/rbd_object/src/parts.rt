@@ -1,7 +1,7 @@
 //! Bytes out of parts and into them.
-ghost use Rattle.std.specs.Prelude.{◌≡◌, ◌+◌, ◌≤◌, ◌++◌, length, IfOk, OnOk};
+ghost use Rattle.std.specs.Prelude.{◌≡◌, ◌+◌, ◌≤◌, ◌++◌, length, map, IfOk, OnOk};
 ghost use Rattle.rbd_object.specs.Contents.{window, overwritten};
-ghost use Rattle.rbd_object.specs.Parts.{parts_len, parts_of, parts_written, EndWithin};
+ghost use Rattle.rbd_object.specs.Parts.{parts_len, parts_of, parts_written, EndWithin, shifted, AreBehind};
 
 use rbd_kinds::{NoMemory, Part};
 use std::alloc::Global;
@@ -29,6 +29,21 @@ pub fn scatter(into: &mut [u8], parts: &[Part], bytes: &[u8])
         copy_over(into, part.offset as usize, first);
         rest = others;
     }
+}
+
+/// The parts as they lie in bytes that begin at the image byte `from`.
+pub fn shifted_parts(alloc: Global, from: u64, parts: &[Part]) -> Result<Vec<Part>, NoMemory>
+    requires { AreBehind from parts.now }
+    ensures { IfOk result (λ shifts. shifts.items ≡ map (shifted from) parts.now) }
+{
+    let mut shifts = Vec::new(alloc);
+    for part in parts {
+        shifts.push(Part {
+            offset: part.at - from,
+            ..*part
+        })?;
+    }
+    Ok(shifts)
 }
 
 /// Adds the bytes of a part, with zeros past the last byte.
