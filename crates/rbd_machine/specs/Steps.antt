@@ -1,5 +1,5 @@
 -- Steps that many requests share, as plans with what comes next.
-use Rattle.std.specs.Prelude.{ℕ, List, Bool, Option, Some, None, Result, Ok, Err}
+use Rattle.std.specs.Prelude.{◌≡◌, ℕ, List, Bool, Option, Some, None, Result, Ok, Err}
 use Rattle.rbd_kinds.specs.declared.answer.Answer.{Answer}
 use Rattle.rbd_kinds.specs.declared.answer.Answer.TheVariants as answer
 use Rattle.rbd_kinds.specs.declared.directory_op.DirectoryOp.TheVariants as directory
@@ -14,6 +14,8 @@ use Rattle.rbd_kinds.specs.declared.refusal.Refusal.{Refusal}
 use Rattle.rbd_kinds.specs.declared.refusal.Refusal.TheVariants as refusal
 use Rattle.rbd_kinds.specs.declared.reply.Reply.TheVariants as reply
 use Rattle.rbd_machine.specs.Plan.{Plan, Ask, Await, Return}
+use Rattle.rbd_machine.specs.declared.progress.Progress.{Progress}
+use Rattle.rbd_machine.specs.declared.progress.Progress.TheVariants as progress
 
 -- ---- ends
 
@@ -98,3 +100,11 @@ non_primary _ = None
 abbrev pub going : {T : Type 0} → (T → Plan) → Result T Refusal → Plan
 going next (Ok told) = next told
 going next (Err r) = refused r
+
+-- ---- a part of a request, which goes on with what comes next
+
+-- The part went on, or has ended and leaves what comes next, or ended the request.
+abbrev pub Progresses : (next to : Plan) → Progress → (left : Plan) → Type 0
+Progresses next to progress.More left = left ≡ to
+Progresses next to progress.Ended left = to ≡ next
+Progresses next to (progress.Refused r) left = to ≡ refused r

@@ -4,8 +4,10 @@
 mod approach;
 pub mod laws;
 mod machine;
+mod progress;
 mod told;
 
 pub use approach::{Approach, Course, Refuses};
 pub use machine::Machine;
+pub use progress::Progress;
 pub use told::{refusal_of, told_done, told_header, told_image};

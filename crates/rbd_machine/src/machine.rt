@@ -1,5 +1,5 @@
 //! What every request is.
-ghost use Rattle.std.specs.Prelude.{◌≡◌, IfOk, OnOk, OnErr};
+ghost use Rattle.std.specs.Prelude.{◌≡◌, IfOk, OnOk};
 ghost use Rattle.rbd_kinds.specs.declared.answer.Answer.{Answer};
 ghost use Rattle.rbd_machine.specs.Plan.{Standing, Wants, IsAsking, Asks, IsNoting, Notes, plan_after, GoesOn};
 ghost use Rattle.rbd_machine.specs.Answers.{CanBeFed};
@@ -44,12 +44,11 @@ pub trait Machine {
         requires { IsNoting (stands self.now).plan }
         ensures { IfOk result (Notes (stands self.now).plan) };
 
-    /// Takes the memory for a feeding, and changes nothing else. Refused, it changes nothing at all.
+    /// Takes the memory for a feeding, and changes nothing else, also where it is refused.
     fn ready(&mut self, alloc: Global, fed: &Fed) -> Result<(), NoMemory>
         requires { CanBeFed (stands self.old).plan fed.now }
         ensures stands { stands self.new ≡ stands self.old }
-        ensures ready { OnOk result (IsReadyFor (is_ready self.new) fed.now) }
-        ensures err { OnErr result (self.new ≡ self.old) };
+        ensures ready { OnOk result (IsReadyFor (is_ready self.new) fed.now) };
 
     /// Goes on with what it is fed. It takes no memory.
     fn feed(&mut self, fed: &Fed) -> Turn

@@ -1,0 +1,56 @@
+-- Reading the pieces of a view, one after another.
+use Rattle.std.specs.Prelude.{◌≡◌, ◌+◌, ◌≤◌, length, vec_len, vec_capacity, ℕ, List, [], ◌∷◌, ◌++◌, replicate, Option, Some, None}
+use Rattle.rbd_kinds.specs.declared.answer.Answer.{Answer}
+use Rattle.rbd_kinds.specs.declared.answer.Answer.TheVariants as answer
+use Rattle.rbd_kinds.specs.declared.data_op.DataOp.TheVariants as object
+use Rattle.rbd_kinds.specs.declared.id.SiteId.{SiteId}
+use Rattle.rbd_kinds.specs.declared.layout.Part.{Part}
+use Rattle.rbd_kinds.specs.declared.operation.Op.{Op}
+use Rattle.rbd_kinds.specs.declared.operation.Op.TheVariants as op
+use Rattle.rbd_layout.specs.declared.types.Piece.{Piece}
+use Rattle.rbd_object.specs.Parts.{parts_len}
+use Rattle.rbd_machine.specs.Plan.{Plan, Ask}
+use Rattle.rbd_machine.specs.Steps.{not_there, refused}
+use Rattle.rbd_machine.specs.declared.progress.Progress.{Progress}
+use Rattle.rbd_machine.specs.declared.progress.Progress.TheVariants as progress
+use Rattle.rbd_piece.specs.declared.gather.Gather.{Gather}
+
+-- An object that isn't there at the view shows zeros.
+abbrev pub on_bytes : List Part → (List ℕ → Plan) → Answer → Plan
+on_bytes parts next (answer.Bytes bytes) = next bytes
+on_bytes parts next answer.Absent = next (replicate (parts_len parts) 0)
+on_bytes parts next a = not_there a
+
+abbrev pub data_read : (image : ℕ) → (snap : Option ℕ) → Piece → Op
+data_read image snap piece = op.Data image piece.object (object.Read snap piece.parts)
+
+-- The bytes of the pieces, one piece after another and in it one part after another, behind those that were read
+-- before.
+abbrev pub gather : SiteId → (image : ℕ) → (snap : Option ℕ) → List Piece → (read : List ℕ) → (next : List ℕ → Plan) → Plan
+gather site image snap [] read next = next read
+gather site image snap (p ∷ pieces) read next =
+    Ask site (data_read image snap p) (on_bytes p.parts (λ bytes. gather site image snap pieces (read ++ bytes) next))
+
+-- what is left of one
+abbrev pub rest_of_gather : Gather → (next : List ℕ → Plan) → Plan
+rest_of_gather g next = gather g.site g.image g.snap (g.piece ∷ g.pieces.items) g.bytes.items next
+
+-- one that begins; where there are no pieces, what comes next
+abbrev pub IsGathering : (next : List ℕ → Plan) → (plan : Plan) → Option Gather → Type 0
+IsGathering next plan None = plan ≡ next []
+IsGathering next plan (Some g) = rest_of_gather g next ≡ plan
+
+-- Pieces were read, and it goes on, or all were, or the request has ended.
+abbrev pub Gathers : (next : List ℕ → Plan) → (to : Plan) → Progress → (new : Gather) → Type 0
+Gathers next to progress.More new = rest_of_gather new next ≡ to
+Gathers next to progress.Ended new = to ≡ next new.bytes.items
+Gathers next to (progress.Refused r) new = to ≡ refused r
+
+-- the memory that an answer needs, where so many bytes are held and may be held
+abbrev pub IsRoomFor : (held may : ℕ) → List Part → Answer → Type 0
+IsRoomFor held may parts (answer.Bytes more) = held + length more ≤ may
+IsRoomFor held may parts answer.Absent = held + parts_len parts ≤ may
+IsRoomFor held may parts a = Unit {0}
+
+abbrev pub HasRoom : Gather → Answer → Type 0
+HasRoom g a = IsRoomFor (vec_len g.bytes) (vec_capacity g.bytes) g.piece.parts a

@@ -1,0 +1,224 @@
+//! Reading the pieces of a view.
+ghost use Rattle.std.specs.Prelude.{◌≡◌, ℕ, ◌+◌, ◌≤◌, ◌^◌, None, ◌∷◌, ◌++◌, replicate, List, [], length, vec_capacity, vec_len, IfOk, IfSome, OnOk, OnErr};
+ghost use Rattle.rbd_kinds.specs.declared.machine.Fed.TheVariants as fed_with;
+ghost use Rattle.rbd_kinds.specs.declared.reply.Reply.TheVariants.{Done};
+ghost use Rattle.rbd_object.specs.Parts.{parts_len};
+ghost use Rattle.rbd_machine.specs.Answers.{CanBeFed};
+ghost use Rattle.rbd_machine.specs.Plan.{Plan, Return, Wants, Asks, plan_after, without_labels};
+ghost use Rattle.rbd_machine.specs.Steps.{Progresses, going};
+ghost use Rattle.rbd_piece.specs.Gather.{gather, rest_of_gather, IsGathering, Gathers, HasRoom, IsRoomFor, on_bytes};
+
+use rbd_kinds::{
+    Answer, Bytes, DataOp, Event, Fed, ImageId, NoMemory, Op, OpKind, Part, Refusal, Reply, SiteId,
+    SnapId, TryClone, Turn, Want,
+};
+use rbd_layout::Piece;
+use rbd_machine::{Machine, Progress, refusal_of};
+use std::alloc::Global;
+use std::collections::VecDeque;
+
+/// The bytes of some pieces of a view, the head or a snapshot, read one object after another.
+///
+/// ```text
+///   ┌─▶ data-read ──none──▶ zeros ──┐
+///   │      │ bytes                  │
+///   │      ▼                        │
+///   └── the next piece ◀────────────┘
+///          │ no piece is left
+///          ▼
+///       the end
+/// ```
+#[derive(Debug, Drop)]
+pub struct Gather {
+    site: SiteId,
+    image: ImageId,
+    snap: Option<SnapId>,
+    /// The piece that is read next.
+    piece: Piece,
+    /// Those after it.
+    pieces: VecDeque<Piece>,
+    /// What was read.
+    bytes: Vec<u8>,
+}
+
+impl Gather {
+    /// Reads these pieces, one at least. It is `None` exactly where there is none. It takes no memory.
+    pub fn new(
+        alloc: Global,
+        site: SiteId,
+        image: ImageId,
+        snap: Option<SnapId>,
+        pieces: Vec<Piece>,
+    ) -> Option<Self>
+        ensures { (next : List ℕ → Plan) → IsGathering next (gather site image snap pieces.items [] next) result }
+    {
+        let mut pieces = VecDeque::from_vec(pieces);
+        let piece = pieces.pop_front()?;
+        Some(Gather {
+            site,
+            image,
+            snap,
+            piece,
+            pieces,
+            bytes: Vec::new(alloc),
+        })
+    }
+
+    /// What was read so far, in the order of the pieces and of their parts.
+    pub fn bytes(&self) -> &[u8]
+        ensures { result.now ≡ self.now.bytes.items }
+    {
+        self.bytes.as_slice()
+    }
+
+    /// What it wants.
+    pub fn wants(&self) -> Want
+        ensures { (next : List ℕ → Plan) → Wants (rest_of_gather self.now next) result }
+    {
+        Want::Op {
+            site: self.site,
+            kind: OpKind::DataRead,
+        }
+    }
+
+    /// The operation that it wants.
+    pub fn next(&self) -> Result<Op, NoMemory>
+        ensures { (next : List ℕ → Plan) → IfOk result (Asks (rest_of_gather self.now next)) }
+    {
+        let op = DataOp::Read {
+            snap: self.snap,
+            parts: self.piece.parts.try_clone()?,
+        };
+        Ok(Op::Data {
+            image: self.image,
+            object: self.piece.object,
+            op,
+        })
+    }
+
+    /// Takes the memory for an answer.
+    pub fn ready(&mut self, answer: &Answer) -> Result<(), NoMemory>
+        ensures rest { (next : List ℕ → Plan) → rest_of_gather self.new next ≡ rest_of_gather self.old next }
+        ensures ready { OnOk result (HasRoom self.new answer.now) }
+    {
+        let room = match answer {
+            Answer::Bytes(bytes) => bytes.len(),
+            _ => total(self.piece.parts.as_slice()).ok_or(NoMemory)?,
+        };
+        self.bytes.reserve(room)?;
+        Ok(())
+    }
+
+    /// Goes on with an answer that it has the memory for.
+    pub fn feed(&mut self, answer: &Answer) -> Progress
+        requires { HasRoom self.old answer.now }
+        ensures { (next : List ℕ → Plan) → Gathers next (plan_after (rest_of_gather self.old next) (fed_with.Answer answer.now)) result self.new }
+    {
+        match read_into(&mut self.bytes, self.piece.parts.as_slice(), answer) {
+            Ok(()) => self.go_on(),
+            Err(refusal) => Progress::Refused(refusal),
+        }
+    }
+
+    /// Goes on to the next piece.
+    fn go_on(&mut self) -> Progress
+        ensures { (next : List ℕ → Plan) → Gathers next (gather self.old.site self.old.image self.old.snap self.old.pieces.items self.old.bytes.items next) result self.new }
+    {
+        match self.pieces.pop_front() {
+            None => Progress::Ended,
+            Some(piece) => {
+                self.piece = piece;
+                Progress::More
+            }
+        }
+    }
+}
+
+/// How many bytes the parts have together, or `None` where they are 2^64 or more.
+fn total(parts: &[Part]) -> Option<usize>
+    ensures some { IfSome result (λ len. len ≡ parts_len parts.now) }
+    ensures none { result ≡ None → 2 ^ 64 ≤ parts_len parts.now }
+{
+    let mut len = 0usize;
+    for part in parts {
+        match len.checked_add(part.len as usize) {
+            Some(longer) => len = longer,
+            None => return None,
+        }
+    }
+    Some(len)
+}
+
+/// Adds what an answer shows of the parts, or tells why the request ends.
+fn read_into(bytes: &mut Vec<u8>, parts: &[Part], answer: &Answer) -> Result<(), Refusal>
+    requires { IsRoomFor (vec_len bytes.old) (vec_capacity bytes.old) parts.now answer.now }
+    ensures { (next : List ℕ → Plan) → on_bytes parts.now (λ more. next (bytes.old.items ++ more)) answer.now ≡ going (λ done. next bytes.new.items) result }
+{
+    match answer {
+        Answer::Bytes(more) => {
+            add_bytes(bytes, more.as_slice());
+            Ok(())
+        }
+        Answer::Absent => {
+            add_zeros(bytes, parts);
+            Ok(())
+        }
+        _ => Err(refusal_of(answer)),
+    }
+}
+
+/// Adds bytes for which there is room.
+fn add_bytes(bytes: &mut Vec<u8>, more: &[u8])
+    requires { vec_len bytes.old + length more.now ≤ vec_capacity bytes.old }
+    ensures { bytes.new.items ≡ bytes.old.items ++ more.now }
+{
+    bytes.extend_from_slice(more).unwrap();
+}
+
+/// Adds as many zeros as the parts have bytes together.
+fn add_zeros(bytes: &mut Vec<u8>, parts: &[Part])
+    requires { vec_len bytes.old + parts_len parts.now ≤ vec_capacity bytes.old }
+    ensures { bytes.new.items ≡ bytes.old.items ++ replicate (parts_len parts.now) 0 }
+{
+    let Some(added) = total(parts) else {
+        unreachable!()
+    };
+    let len = bytes.len() + added;
+    bytes.resize(len, 0).unwrap();
+}
+
+impl Machine for Gather {
+    ghost stands = { λ g. without_labels (rest_of_gather g (λ bytes. Return Done)) };
+
+    ghost is_ready = { HasRoom };
+
+    fn wants(&self) -> Want {
+        Gather::wants(self)
+    }
+
+    fn next(&self, _alloc: Global) -> Result<Op, NoMemory> {
+        Gather::next(self)
+    }
+
+    fn event(&self, _alloc: Global) -> Result<Event, NoMemory> {
+        unreachable!()
+    }
+
+    fn ready(&mut self, _alloc: Global, fed: &Fed) -> Result<(), NoMemory> {
+        let Fed::Answer(answer) = fed else {
+            unreachable!()
+        };
+        Gather::ready(self, answer)
+    }
+
+    fn feed(&mut self, fed: &Fed) -> Turn {
+        let Fed::Answer(answer) = fed else {
+            unreachable!()
+        };
+        match Gather::feed(self, answer) {
+            Progress::More => Turn::More,
+            Progress::Ended => Turn::Done(Reply::Done),
+            Progress::Refused(refusal) => Turn::Done(Reply::Refused(refusal)),
+        }
+    }
+}

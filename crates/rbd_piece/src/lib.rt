@@ -1,0 +1,8 @@
+//! Pieces of requests: each is what a request does to one object.
+#![tactic(auto)]
+
+mod gather;
+mod write_piece;
+
+pub use gather::Gather;
+pub use write_piece::WritePiece;

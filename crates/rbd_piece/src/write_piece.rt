@@ -1,0 +1,132 @@
+//! One piece of a write.
+ghost use Rattle.std.specs.Prelude.{◌≡◌, IfOk};
+ghost use Rattle.rbd_kinds.specs.declared.machine.Fed.TheVariants as fed_with;
+ghost use Rattle.rbd_kinds.specs.declared.reply.Reply.TheVariants.{Done};
+ghost use Rattle.rbd_machine.specs.Plan.{Plan, Return, Wants, Asks, plan_after, without_labels};
+ghost use Rattle.rbd_machine.specs.Steps.{Progresses};
+ghost use Rattle.rbd_piece.specs.Write.{write_piece, rest_of_write};
+
+use rbd_header::context_of;
+use rbd_kinds::{
+    Answer, Bytes, DataOp, Event, Fed, HeaderView, ImageId, NoMemory, Op, OpKind, Reply, SiteId,
+    SnapContext, TryClone, Turn, Want,
+};
+use rbd_layout::Piece;
+use rbd_machine::{Machine, Progress, told_done};
+use std::alloc::Global;
+
+/// One piece of a write: those of its bytes that go to one object.
+///
+/// ```text
+/// data-write ──none──▶ NoImage
+///    │ done
+///    ▼
+/// the end
+/// ```
+#[derive(Debug, Drop)]
+pub struct WritePiece {
+    site: SiteId,
+    image: ImageId,
+    context: SnapContext,
+    piece: Piece,
+    bytes: Bytes,
+}
+
+impl WritePiece {
+    /// Puts bytes into a piece of an image by its header: as many bytes as its parts have together.
+    pub fn new(
+        alloc: Global,
+        site: SiteId,
+        image: ImageId,
+        header: &HeaderView,
+        piece: Piece,
+        bytes: Bytes,
+    ) -> Result<Self, NoMemory>
+        ensures { IfOk result (λ w. (next : Plan) → rest_of_write w next ≡ write_piece site image header.now piece bytes next) }
+    {
+        Ok(WritePiece {
+            site,
+            image,
+            context: context_of(alloc, header)?,
+            piece,
+            bytes,
+        })
+    }
+
+    /// The number of its object.
+    pub fn object(&self) -> u64
+        ensures { result ≡ self.now.piece.object }
+    {
+        self.piece.object
+    }
+
+    /// What it wants.
+    pub fn wants(&self) -> Want
+        ensures { (next : Plan) → Wants (rest_of_write self.now next) result }
+    {
+        Want::Op {
+            site: self.site,
+            kind: OpKind::DataWrite,
+        }
+    }
+
+    /// The operation that it wants.
+    pub fn next(&self) -> Result<Op, NoMemory>
+        ensures { (next : Plan) → IfOk result (Asks (rest_of_write self.now next)) }
+    {
+        let op = DataOp::Write {
+            context: self.context.try_clone()?,
+            must: false,
+            parts: self.piece.parts.try_clone()?,
+            bytes: self.bytes.try_clone()?,
+        };
+        Ok(Op::Data {
+            image: self.image,
+            object: self.piece.object,
+            op,
+        })
+    }
+
+    /// Goes on with an answer. It takes no memory.
+    pub fn feed(&mut self, answer: &Answer) -> Progress
+        ensures { (next : Plan) → Progresses next (plan_after (rest_of_write self.old next) (fed_with.Answer answer.now)) result (rest_of_write self.new next) }
+    {
+        match told_done(answer) {
+            Ok(()) => Progress::Ended,
+            Err(refusal) => Progress::Refused(refusal),
+        }
+    }
+}
+
+impl Machine for WritePiece {
+    ghost stands = { λ w. without_labels (rest_of_write w (Return Done)) };
+
+    ghost is_ready = { λ w answer. Unit {0} };
+
+    fn wants(&self) -> Want {
+        WritePiece::wants(self)
+    }
+
+    fn next(&self, _alloc: Global) -> Result<Op, NoMemory> {
+        WritePiece::next(self)
+    }
+
+    fn event(&self, _alloc: Global) -> Result<Event, NoMemory> {
+        unreachable!()
+    }
+
+    fn ready(&mut self, _alloc: Global, _fed: &Fed) -> Result<(), NoMemory> {
+        Ok(())
+    }
+
+    fn feed(&mut self, fed: &Fed) -> Turn {
+        let Fed::Answer(answer) = fed else {
+            unreachable!()
+        };
+        match WritePiece::feed(self, answer) {
+            Progress::More => Turn::More,
+            Progress::Ended => Turn::Done(Reply::Done),
+            Progress::Refused(refusal) => Turn::Done(Reply::Refused(refusal)),
+        }
+    }
+}
