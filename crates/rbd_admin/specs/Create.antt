@@ -1,0 +1,65 @@
+-- `create`: the plan that makes an image.
+use Rattle.std.specs.Prelude.{◌≡◌, ℕ, List, [], Bool, true, false, not, None}
+use Rattle.rbd_kinds.specs.declared.answer.Answer.{Answer}
+use Rattle.rbd_kinds.specs.declared.answer.Answer.TheVariants as answer
+use Rattle.rbd_kinds.specs.declared.command.Command.{Command}
+use Rattle.rbd_kinds.specs.declared.command.Command.TheVariants as command
+use Rattle.rbd_kinds.specs.declared.command.Shape.{Shape}
+use Rattle.rbd_kinds.specs.declared.directory_op.DirectoryOp.TheVariants as directory
+use Rattle.rbd_kinds.specs.declared.header.HeaderView.{HeaderView}
+use Rattle.rbd_kinds.specs.declared.header.Role.TheVariants.{Plain}
+use Rattle.rbd_kinds.specs.declared.header_op.HeaderOp.TheVariants as header
+use Rattle.rbd_kinds.specs.declared.id.SiteId.{SiteId}
+use Rattle.rbd_kinds.specs.declared.layout.Layout.{Layout}
+use Rattle.rbd_kinds.specs.declared.operation.Op.TheVariants as op
+use Rattle.rbd_kinds.specs.declared.refusal.Refusal.TheVariants as refusal
+use Rattle.rbd_kinds.specs.declared.reply.Reply.TheVariants as reply
+use Rattle.rbd_layout.specs.Asked.{layout_of, KeepsLimits}
+use Rattle.rbd_machine.specs.Plan.{Plan, Ask, Return}
+use Rattle.rbd_machine.specs.Steps.{refused, not_there, on_done}
+
+-- the commands that it serves: an image with a journal isn't built yet
+abbrev pub is_create : Command → Bool
+is_create (command.Create image size shape) = not shape.journal
+is_create _ = false
+
+-- the header of a new image of zeros
+abbrev pub new_header : Layout → (size : ℕ) → HeaderView
+new_header layout size = record {
+  layout = layout;
+  size = size;
+  generation = 0;
+  snap_seq = 0;
+  snaps = [];
+  parent = None;
+  depth = 0;
+  born = size;
+  born_clone = false;
+  journal = false;
+  syncing = false;
+  owner = None;
+  global = None;
+  role = Plain;
+}
+
+-- the id that was drawn for a name, or why none was: the name is held, or no more names or ids are left
+abbrev pub on_drawn : (ℕ → Plan) → Answer → Plan
+on_drawn next (answer.Id image) = next image
+on_drawn next answer.Exists = refused refusal.ImageExists
+on_drawn next answer.Full = refused refusal.BadShape
+on_drawn next a = not_there a
+
+abbrev pub making : SiteId → HeaderView → (image : ℕ) → Plan
+making site h image = Ask site (op.Header image (header.Create h)) (on_done (Return reply.Done))
+
+abbrev pub drawing : SiteId → (name : List ℕ) → HeaderView → Plan
+drawing site name h = Ask site (op.Directory (directory.Add name)) (on_drawn (making site h))
+
+-- A shape outside the limits is refused before any operation.
+pub record IsCreate (site : SiteId) (name : List ℕ) (size : ℕ) (shape : Shape) (plan : Plan) : Type 0 where
+  pub outside : (KeepsLimits (layout_of shape) size → ⊥) → plan ≡ refused refusal.BadShape
+  pub within : KeepsLimits (layout_of shape) size → plan ≡ drawing site name (new_header (layout_of shape) size)
+
+abbrev pub IsCreatePlan : SiteId → Command → Plan → Type 0
+IsCreatePlan site (command.Create image size shape) plan = IsCreate site image size shape plan
+IsCreatePlan site _ plan = ⊥

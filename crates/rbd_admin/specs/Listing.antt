@@ -1,0 +1,46 @@
+-- `ls`, `info` and `snap ls`: plans that show what a site has, and change nothing.
+use Rattle.std.specs.Prelude.{ℕ, List, Bool, true, false}
+use Rattle.rbd_kinds.specs.declared.answer.Answer.{Answer}
+use Rattle.rbd_kinds.specs.declared.answer.Answer.TheVariants as answer
+use Rattle.rbd_kinds.specs.declared.command.Command.{Command}
+use Rattle.rbd_kinds.specs.declared.command.Command.TheVariants as command
+use Rattle.rbd_kinds.specs.declared.directory_op.DirectoryOp.TheVariants as directory
+use Rattle.rbd_kinds.specs.declared.header.HeaderView.{HeaderView}
+use Rattle.rbd_kinds.specs.declared.id.SiteId.{SiteId}
+use Rattle.rbd_kinds.specs.declared.operation.Op.TheVariants as op
+use Rattle.rbd_kinds.specs.declared.refusal.Refusal.TheVariants as refusal
+use Rattle.rbd_kinds.specs.declared.reply.Reply.{Reply}
+use Rattle.rbd_kinds.specs.declared.reply.Reply.TheVariants as reply
+use Rattle.rbd_machine.specs.Plan.{Plan, Ask, Return}
+use Rattle.rbd_machine.specs.Steps.{refused, not_there, find, look}
+
+-- the commands that it serves
+abbrev pub is_listing : Command → Bool
+is_listing command.List = true
+is_listing (command.Info image) = true
+is_listing (command.SnapList image) = true
+is_listing _ = false
+
+abbrev pub on_names : (List (List ℕ) → Plan) → Answer → Plan
+on_names next (answer.Names names) = next names
+on_names next a = not_there a
+
+-- the names of all images
+abbrev pub list_names : SiteId → Plan
+list_names site = Ask site (op.Directory directory.List) (on_names (λ names. Return (reply.Names names)))
+
+-- what an image's header tells
+abbrev pub showing : SiteId → (HeaderView → Reply) → (image : ℕ) → Plan
+showing site shown image = look site image (λ h. Return (shown h))
+
+abbrev pub show_header : SiteId → (name : List ℕ) → (HeaderView → Reply) → Plan
+show_header site name shown = find site name (showing site shown)
+
+abbrev pub shown_snaps : HeaderView → Reply
+shown_snaps h = reply.Snaps h.snaps
+
+abbrev pub listing_plan : SiteId → Command → Plan
+listing_plan site command.List = list_names site
+listing_plan site (command.Info image) = show_header site image reply.Info
+listing_plan site (command.SnapList image) = show_header site image shown_snaps
+listing_plan site _ = refused refusal.NoImage

@@ -1,0 +1,82 @@
+-- `snap create` and `snap rm`: plans of changes that are alone on their image.
+use Rattle.std.specs.Prelude.{ℕ, List, Bool, true, false, if◌then◌else◌, Option, Some, None, is_some}
+use Rattle.rbd_kinds.specs.declared.answer.Answer.{Answer}
+use Rattle.rbd_kinds.specs.declared.answer.Answer.TheVariants as answer
+use Rattle.rbd_kinds.specs.declared.command.Command.{Command}
+use Rattle.rbd_kinds.specs.declared.command.Command.TheVariants as command
+use Rattle.rbd_kinds.specs.declared.header.HeaderView.{HeaderView}
+use Rattle.rbd_kinds.specs.declared.header.SnapStatus.{SnapStatus}
+use Rattle.rbd_kinds.specs.declared.header.SnapStatus.TheVariants.{Unprotected}
+use Rattle.rbd_kinds.specs.declared.header.SnapView.{SnapView}
+use Rattle.rbd_kinds.specs.declared.header_op.HeaderOp.TheVariants as header
+use Rattle.rbd_kinds.specs.declared.id.SiteId.{SiteId}
+use Rattle.rbd_kinds.specs.declared.journal.Event.TheVariants as event
+use Rattle.rbd_kinds.specs.declared.machine.Want.TheVariants as want
+use Rattle.rbd_kinds.specs.declared.operation.Op.TheVariants as op
+use Rattle.rbd_kinds.specs.declared.refusal.Refusal.{Refusal}
+use Rattle.rbd_kinds.specs.declared.refusal.Refusal.TheVariants as refusal
+use Rattle.rbd_kinds.specs.declared.reply.Reply.TheVariants as reply
+use Rattle.rbd_kinds.specs.Header.{snap_named}
+use Rattle.rbd_header.specs.Header.{is_full}
+use Rattle.rbd_machine.specs.Plan.{Plan, Ask, Await, Note, Return}
+use Rattle.rbd_machine.specs.Steps.{refused, not_there, on_done, change, or_else, non_primary}
+
+-- the commands that it serves
+abbrev pub is_snap : Command → Bool
+is_snap (command.SnapCreate image snap) = true
+is_snap (command.SnapRemove image snap) = true
+is_snap _ = false
+
+-- ---- refusals
+
+-- the name is listed, or no more snapshots can be
+abbrev pub create_refuses : (snap : List ℕ) → HeaderView → Option Refusal
+create_refuses snap h =
+    or_else (non_primary h.role)
+    (if is_some (snap_named h.snaps snap) then Some refusal.SnapExists
+    else if is_full h then Some refusal.BadShape
+    else None)
+
+abbrev pub is_unprotected : SnapStatus → Bool
+is_unprotected Unprotected = true
+is_unprotected _ = false
+
+-- the name isn't listed, or its snapshot may have clones
+abbrev pub removal_refusal : Option SnapView → Option Refusal
+removal_refusal None = Some refusal.NoSnap
+removal_refusal (Some snap) = if is_unprotected snap.status then None else Some refusal.SnapProtected
+
+abbrev pub remove_refuses : (snap : List ℕ) → HeaderView → Option Refusal
+remove_refuses snap h = or_else (non_primary h.role) (removal_refusal (snap_named h.snaps snap))
+
+-- ---- what they do once they may
+
+-- the event counts as applied, and the request is done
+abbrev pub applied : SiteId → (image : ℕ) → Plan
+applied site image = Await (want.Applied site image) (Return reply.Done)
+
+abbrev pub on_snap : Plan → Answer → Plan
+on_snap next (answer.Snap snap) = next
+on_snap next a = not_there a
+
+abbrev pub taking : SiteId → (snap : List ℕ) → (image : ℕ) → Plan
+taking site snap image = Ask site (op.Header image (header.SnapAdd snap)) (on_snap (applied site image))
+
+abbrev pub take : SiteId → (snap : List ℕ) → (image : ℕ) → HeaderView → Plan
+take site snap image h = Note site image (event.SnapCreate snap) (taking site snap image)
+
+abbrev pub removing : SiteId → (image snap : ℕ) → Plan
+removing site image snap = Ask site (op.Header image (header.SnapRemove snap)) (on_done (applied site image))
+
+-- by the id that the own look lists under the name
+abbrev pub remove_listed : SiteId → (snap : List ℕ) → (image : ℕ) → Option SnapView → Plan
+remove_listed site snap image None = refused refusal.NoSnap
+remove_listed site snap image (Some listed) = Note site image (event.SnapRemove snap) (removing site image listed.id)
+
+abbrev pub remove : SiteId → (snap : List ℕ) → (image : ℕ) → HeaderView → Plan
+remove site snap image h = remove_listed site snap image (snap_named h.snaps snap)
+
+abbrev pub snap_plan : SiteId → Command → Plan
+snap_plan site (command.SnapCreate image snap) = change site image true (create_refuses snap) (take site snap)
+snap_plan site (command.SnapRemove image snap) = change site image true (remove_refuses snap) (remove site snap)
+snap_plan site _ = refused refusal.NoImage
