@@ -7,3 +7,5 @@ pub mod Walk
 pub mod Gather
 pub mod Unique
 pub mod Derived
+pub mod Bounds
+pub mod Within

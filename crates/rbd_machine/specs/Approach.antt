@@ -1,5 +1,5 @@
 -- Where a change is on its way to its own look.
-use Rattle.std.specs.Prelude.{◌≡◌, ℕ, Option}
+use Rattle.std.specs.Prelude.{◌≡◌, ℕ, Option, Some, None}
 use Rattle.rbd_kinds.specs.declared.answer.Answer.TheVariants as answer
 use Rattle.rbd_kinds.specs.declared.header.HeaderView.{HeaderView}
 use Rattle.rbd_kinds.specs.declared.machine.Fed.{Fed}
@@ -24,13 +24,23 @@ rest_from (place.Owning image) a refuses act = owning a.site refuses act image
 abbrev pub rest_of : Approach → (HeaderView → Option Refusal) → (act : ℕ → HeaderView → Plan) → Plan
 rest_of a refuses act = rest_from a.at a refuses act
 
--- the own look told a header
-abbrev pub ActsOn : (act : ℕ → HeaderView → Plan) → (image : ℕ) → Fed → (to : Plan) → Type 0
-ActsOn act image (fed.Answer (answer.Header h)) to = to ≡ act image h
-ActsOn act image _ to = ⊥
+-- It is at its own look, and was told a header that refuses nothing.
+pub record IsOwned (refuses : HeaderView → Option Refusal) (act : ℕ → HeaderView → Plan) (image : ℕ) (h : HeaderView) (to : Plan) (old : Approach) : Type 0 where
+  pub at : old.at ≡ place.Owning image
+  pub may : refuses h ≡ None
+  pub acts : to ≡ act image h
+
+abbrev pub OwnedBy : (HeaderView → Option Refusal) → (act : ℕ → HeaderView → Plan) → (image : ℕ) → Fed → (to : Plan) → (old : Approach) → Type 0
+OwnedBy refuses act image (fed.Answer (answer.Header h)) to old = IsOwned refuses act image h to old
+OwnedBy refuses act image _ to old = ⊥
 
 -- It went on, or has ended, or the change may do what it does.
-abbrev pub Approaches : (HeaderView → Option Refusal) → (act : ℕ → HeaderView → Plan) → Fed → (to : Plan) → Course → (new : Approach) → Type 0
-Approaches refuses act f to course.More new = rest_of new refuses act ≡ to
-Approaches refuses act f to (course.Refused r) new = to ≡ refused r
-Approaches refuses act f to (course.Owned image) new = ActsOn act image f to
+abbrev pub Approaches : (HeaderView → Option Refusal) → (act : ℕ → HeaderView → Plan) → Fed → (to : Plan) → Course → (old new : Approach) → Type 0
+Approaches refuses act f to course.More old new = rest_of new refuses act ≡ to
+Approaches refuses act f to (course.Refused r) old new = to ≡ refused r
+Approaches refuses act f to (course.Owned image) old new = OwnedBy refuses act image f to old
+
+-- the image, where it is at its own look
+abbrev pub owning_at : Place → Option ℕ
+owning_at (place.Owning image) = Some image
+owning_at _ = None

@@ -45,6 +45,10 @@ abbrev pub on_done : Plan → Answer → Plan
 on_done next answer.Done = next
 on_done next a = not_there a
 
+-- the event of the request counts as applied, and the request is done
+abbrev pub applied : SiteId → (image : ℕ) → Plan
+applied site image = Await (want.Applied site image) (Return reply.Done)
+
 -- ---- look-ups
 
 -- the image of a name

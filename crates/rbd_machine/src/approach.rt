@@ -5,7 +5,7 @@ ghost use Rattle.rbd_kinds.specs.declared.machine.Fed.TheVariants as fed_with;
 ghost use Rattle.rbd_kinds.specs.declared.refusal.Refusal.{Refusal};
 ghost use Rattle.rbd_machine.specs.Plan.{Plan, Wants, Asks, plan_after};
 ghost use Rattle.rbd_machine.specs.Steps.{change};
-ghost use Rattle.rbd_machine.specs.Approach.{rest_of, Approaches};
+ghost use Rattle.rbd_machine.specs.Approach.{rest_of, Approaches, owning_at};
 ghost use Rattle.rbd_kinds.specs.declared.operation.Op.TheVariants.{Header};
 ghost use Rattle.rbd_kinds.specs.declared.header_op.HeaderOp.TheVariants.{Get};
 
@@ -130,9 +130,19 @@ impl Approach {
         }
     }
 
+    /// The image, where it is at its own look.
+    pub fn owning(&self) -> Option<ImageId>
+        ensures { result ≡ owning_at self.now.at }
+    {
+        match &self.at {
+            Place::Owning(image) => Some(*image),
+            _ => None,
+        }
+    }
+
     /// Goes on with what it is fed, by the refusals of a rule. It takes no memory.
     pub fn feed<R: Refuses>(&mut self, rule: &R, fed: &Fed) -> Course
-        ensures { (act : ℕ → HeaderView → Plan) → Approaches (R.refuses rule.now) act fed.now (plan_after (rest_of self.old (R.refuses rule.now) act) fed.now) result self.new }
+        ensures { (act : ℕ → HeaderView → Plan) → Approaches (R.refuses rule.now) act fed.now (plan_after (rest_of self.old (R.refuses rule.now) act) fed.now) result self.old self.new }
     {
         match fed {
             Fed::Passed => self.pass(),
@@ -143,7 +153,7 @@ impl Approach {
     /// Goes on, where it waits for something else than an answer.
     fn pass(&mut self) -> Course
         ensures { (refuses : HeaderView → Option Refusal) (act : ℕ → HeaderView → Plan)
-            → Approaches refuses act fed_with.Passed (plan_after (rest_of self.old refuses act) fed_with.Passed) result self.new }
+            → Approaches refuses act fed_with.Passed (plan_after (rest_of self.old refuses act) fed_with.Passed) result self.old self.new }
     {
         match &self.at {
             Place::Joining(image) => {
@@ -161,7 +171,7 @@ impl Approach {
     /// Goes on with the answer to its operation.
     fn answer<R: Refuses>(&mut self, rule: &R, answer: &Answer) -> Course
         ensures { (act : ℕ → HeaderView → Plan)
-            → Approaches (R.refuses rule.now) act (fed_with.Answer answer.now) (plan_after (rest_of self.old (R.refuses rule.now) act) (fed_with.Answer answer.now)) result self.new }
+            → Approaches (R.refuses rule.now) act (fed_with.Answer answer.now) (plan_after (rest_of self.old (R.refuses rule.now) act) (fed_with.Answer answer.now)) result self.old self.new }
     {
         match &self.at {
             Place::Finding => match told_image(answer) {

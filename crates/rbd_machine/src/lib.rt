@@ -10,4 +10,4 @@ mod told;
 pub use approach::{Approach, Course, Refuses};
 pub use machine::Machine;
 pub use progress::Progress;
-pub use told::{refusal_of, told_done, told_header, told_image};
+pub use told::{non_primary, refusal_of, told_done, told_header, told_image};

@@ -2,10 +2,10 @@
 ghost use Rattle.std.specs.Prelude.{◌≡◌, ℕ, IfOk};
 ghost use Rattle.rbd_kinds.specs.declared.header.HeaderView.{HeaderView};
 ghost use Rattle.rbd_machine.specs.Plan.{Plan};
-ghost use Rattle.rbd_machine.specs.Steps.{on_id, on_header, on_done, not_there, going, refused};
+ghost use Rattle.rbd_machine.specs.Steps.{on_id, on_header, on_done, not_there, going, refused, non_primary as refused_role};
 ghost use Rattle.rbd_kinds.specs.declared.answer.Answer.TheVariants.{Header};
 
-use rbd_kinds::{Answer, HeaderView, ImageId, Refusal};
+use rbd_kinds::{Answer, HeaderView, ImageId, Refusal, Role};
 
 /// The image that a name has, or why the request ends: it is fenced, or there is no such name.
 pub fn told_image(answer: &Answer) -> Result<ImageId, Refusal>
@@ -45,5 +45,15 @@ pub fn refusal_of(answer: &Answer) -> Refusal
     match answer {
         Answer::Fenced => Refusal::Fenced,
         _ => Refusal::NoImage,
+    }
+}
+
+/// NonPrimary where the role is Secondary: clients don't change what follows the other site.
+pub fn non_primary(role: Role) -> Option<Refusal>
+    ensures { result ≡ refused_role role }
+{
+    match role {
+        Role::Secondary => Some(Refusal::NonPrimary),
+        _ => None,
     }
 }
