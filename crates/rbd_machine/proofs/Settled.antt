@@ -1,6 +1,7 @@
--- A plan without labels stays where it is.
-use Rattle.std.proofs.Common.{◌≡◌, refl}
-use Rattle.rbd_machine.specs.Plan.{Plan, Ask, Await, Note, Return, Goto, settled}
+-- How a machine without labels goes on.
+use Rattle.std.proofs.Common.{◌≡◌, refl, sym, ap, ◌∙◌}
+use Rattle.rbd_kinds.specs.declared.machine.Turn.TheVariants as turn
+use Rattle.rbd_machine.specs.Plan.{Plan, Ask, Await, Note, Return, Goto, settled, without_labels, GoesOn}
 
 pub settled_goto : (plan : Plan) → settled Goto plan ≡ plan
 settled_goto (Ask site op next) = refl
@@ -8,3 +9,7 @@ settled_goto (Await want next) = refl
 settled_goto (Note site image event next) = refl
 settled_goto (Return reply) = refl
 settled_goto (Goto label) = refl
+
+-- it stands where it was to go on
+pub goes_more : (to plan : Plan) → plan ≡ to → GoesOn Goto to turn.More (without_labels plan)
+goes_more to plan is = ap without_labels (is ∙ sym (settled_goto to))

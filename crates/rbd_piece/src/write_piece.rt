@@ -42,7 +42,8 @@ impl WritePiece {
         piece: Piece,
         bytes: Bytes,
     ) -> Result<Self, NoMemory>
-        ensures { IfOk result (λ w. (next : Plan) → rest_of_write w next ≡ write_piece site image header.now piece bytes next) }
+        ensures plan { IfOk result (λ w. (next : Plan) → rest_of_write w next ≡ write_piece site image header.now piece bytes next) }
+        ensures object { IfOk result (λ w. w.piece.object ≡ piece.object) }
     {
         Ok(WritePiece {
             site,

@@ -16,6 +16,7 @@ use Rattle.rbd_layout.specs.declared.types.Piece.{Piece}
 use Rattle.rbd_object.specs.Parts.{bytes_for}
 use Rattle.rbd_flat.specs.Read.{is_within}
 use Rattle.rbd_machine.specs.Approach.{rest_of, owning_at}
+use Rattle.rbd_machine.specs.declared.approach.Place.{Place}
 use Rattle.rbd_machine.specs.Plan.{Plan, Await, Note}
 use Rattle.rbd_machine.specs.Steps.{refused, change, or_else, non_primary, applied}
 use Rattle.rbd_piece.specs.Write.{write_piece, rest_of_write}
@@ -85,6 +86,14 @@ HasPieces w h = (image : ℕ) → owning_at w.approach.at ≡ Some image → wri
     → rest_of_pieces w.pieces.items (applied w.site image)
     ≡ write_pieces w.site image h w.at w.bytes (pieces_of h.layout (extent_at w.at w.bytes)) (applied w.site image)
 
+abbrev pub IsReadyAt : Stage → WriteRequest → Answer → Type 0
+IsReadyAt stage.Approaching w (answer.Header h) = HasPieces w h
+IsReadyAt _ w _ = Unit {0}
+
 abbrev pub IsReady : WriteRequest → Answer → Type 0
-IsReady w (answer.Header h) = HasPieces w h
-IsReady w _ = Unit {0}
+IsReady w a = IsReadyAt w.stage w a
+
+-- the image, where it approaches and is at its own look
+abbrev pub owning_in : Stage → Place → Option ℕ
+owning_in stage.Approaching at = owning_at at
+owning_in _ at = None

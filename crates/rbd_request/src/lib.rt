@@ -2,6 +2,7 @@
 #![tactic(auto)]
 
 mod extent;
+mod pieces;
 mod write;
 
 pub use write::WriteRequest;

@@ -1,18 +1,22 @@
 //! `write` and `fill`
-ghost use Rattle.std.specs.Prelude.{◌≡◌, ℕ, ◌+◌, ◌≤◌, true, length, Option, IfOk, OnOk};
+ghost use Rattle.std.specs.Prelude.{◌≡◌, ℕ, ◌+◌, ◌≤◌, true, length, replicate, Option, IfOk, OnOk};
 ghost use Rattle.rbd_kinds.specs.declared.header.HeaderView.{HeaderView};
 ghost use Rattle.rbd_kinds.specs.declared.refusal.Refusal.{Refusal};
 ghost use Rattle.rbd_kinds.specs.Form.{IsHeaderInForm};
 ghost use Rattle.rbd_layout.specs.Pieces.{pieces_of, IsPieces, IsPartsOf};
-ghost use Rattle.rbd_machine.specs.Plan.{Plan, without_labels, IsAsking};
-ghost use Rattle.rbd_machine.specs.Steps.{change};
+ghost use Rattle.rbd_machine.specs.Plan.{Plan, Goto, without_labels, Wants, GoesOn, plan_after};
+ghost use Rattle.rbd_machine.specs.Ready.{IsReadyFor};
+ghost use Rattle.rbd_kinds.specs.declared.machine.Fed.TheVariants as fed_with;
+ghost use Rattle.rbd_request.specs.declared.write.Stage.TheVariants as stage;
+ghost use Rattle.rbd_machine.specs.Steps.{Progresses};
 ghost use Rattle.rbd_piece.specs.Write.{write_piece, rest_of_write};
 ghost use Rattle.rbd_request.specs.Write as of_write;
 
 use crate::extent::out_of_range;
+use crate::pieces::write_pieces;
 use rbd_kinds::{
-    Answer, Bytes, Command, Event, Extent, Fed, HeaderView, ImageId, Name, NoMemory, Op, Refusal,
-    Reply, SiteId, TryClone, Turn, Want,
+    Answer, Bytes, Command, Event, Extent, Fed, FillLength, HeaderView, ImageId, Name, NoMemory,
+    Op, Refusal, Reply, SiteId, TryClone, Turn, Want,
 };
 use rbd_layout::{Piece, pieces};
 use rbd_machine::{Approach, Course, Machine, Progress, Refuses, non_primary};
@@ -59,6 +63,7 @@ pub enum Stage {
 }
 
 /// What a write refuses by a header.
+#[derive(Debug, Drop)]
 struct Range {
     extent: Extent,
 }
@@ -68,5 +73,199 @@ impl Refuses for Range {
 
     fn refusal(&self, header: &HeaderView) -> Option<Refusal> {
         non_primary(header.role).or(out_of_range(&self.extent, header.size))
+    }
+}
+
+impl WriteRequest {
+    /// A `write` or a `fill` of an image of the session's home site.
+    pub fn new(alloc: Global, home: SiteId, command: Command) -> Result<Self, NoMemory>
+        requires { of_write.is_write command ≡ true }
+        ensures { IfOk result (λ w. of_write.rest_of_request w ≡ of_write.write_plan home command) }
+    {
+        match command {
+            Command::Write { image, at, bytes } => {
+                let bytes = Bytes::from_slice(alloc, bytes.as_slice())?;
+                Ok(WriteRequest::of(alloc, home, image, at.get(), bytes))
+            }
+            Command::Fill {
+                image,
+                at,
+                len,
+                byte,
+            } => {
+                let bytes = filled(alloc, len, byte)?;
+                Ok(WriteRequest::of(alloc, home, image, at.get(), bytes))
+            }
+            _ => unreachable!(),
+        }
+    }
+
+    /// A write of bytes to the image of a name.
+    fn of(alloc: Global, site: SiteId, name: Name, at: u64, bytes: Bytes) -> Self
+        ensures { of_write.rest_of_request result ≡ of_write.write site name at bytes }
+    {
+        WriteRequest {
+            site,
+            at,
+            bytes,
+            approach: Approach::new(site, name, false),
+            stage: Stage::Approaching,
+            pieces: VecDeque::new(alloc),
+        }
+    }
+
+    /// What it waits for behind a piece: its turn at the next, or that its event counts as applied.
+    fn waits_for(&self, image: ImageId) -> Want
+        ensures { Wants (of_write.rest_at (stage.Waiting image) self.now) result }
+    {
+        match self.pieces.front() {
+            Some(piece) => Want::Turn {
+                object: piece.object(),
+            },
+            None => Want::Applied {
+                site: self.site,
+                image,
+            },
+        }
+    }
+
+    /// The image, where it approaches and is at its own look.
+    fn owning(&self) -> Option<ImageId>
+        ensures { result ≡ of_write.owning_in self.now.stage self.now.approach.at }
+    {
+        match &self.stage {
+            Stage::Approaching => self.approach.owning(),
+            _ => None,
+        }
+    }
+
+    /// Goes on, where it approaches.
+    fn feed_approach(&mut self, fed: &Fed) -> Turn
+        requires at { self.old.stage ≡ stage.Approaching }
+        requires ready { IsReadyFor (of_write.IsReady self.old) fed.now }
+        ensures { GoesOn Goto (plan_after (of_write.rest_of_request self.old) fed.now) result (without_labels (of_write.rest_of_request self.new)) }
+    {
+        let range = self.range();
+        match self.approach.feed(&range, fed) {
+            Course::More => Turn::More,
+            Course::Refused(refusal) => Turn::Done(Reply::Refused(refusal)),
+            Course::Owned(image) => {
+                self.stage = Stage::Noting(image);
+                Turn::More
+            }
+        }
+    }
+
+    /// Goes on, where it waited.
+    fn begin_piece(&mut self, image: ImageId) -> Turn
+        ensures { GoesOn Goto (plan_after (of_write.rest_at (stage.Waiting image) self.old) fed_with.Passed) result (without_labels (of_write.rest_of_request self.new)) }
+    {
+        match self.pieces.pop_front() {
+            Some(piece) => {
+                self.stage = Stage::Writing(image, piece);
+                Turn::More
+            }
+            None => Turn::Done(Reply::Done),
+        }
+    }
+
+    fn range(&self) -> Range
+        ensures { result.extent ≡ of_write.extent_at self.now.at self.now.bytes }
+    {
+        Range {
+            extent: Extent {
+                at: self.at,
+                len: self.bytes.len() as u64,
+            },
+        }
+    }
+}
+
+/// As many bytes as a fill puts.
+fn filled(alloc: Global, len: FillLength, byte: u8) -> Result<Bytes, NoMemory>
+    ensures { IfOk result (λ bytes. bytes ≡ replicate len byte) }
+{
+    let bytes = vec![in alloc; byte; len.get() as usize]?;
+    Ok(Bytes::from_vec(bytes))
+}
+
+impl Machine for WriteRequest {
+    ghost stands = { λ w. without_labels (of_write.rest_of_request w) };
+
+    ghost is_ready = { of_write.IsReady };
+
+    fn wants(&self) -> Want {
+        let site = self.site;
+        match &self.stage {
+            Stage::Approaching => self.approach.wants(),
+            Stage::Noting(image) => Want::Note {
+                site,
+                image: *image,
+            },
+            Stage::Waiting(image) => self.waits_for(*image),
+            Stage::Writing(_, piece) => piece.wants(),
+        }
+    }
+
+    fn next(&self, _alloc: Global) -> Result<Op, NoMemory> {
+        match &self.stage {
+            Stage::Approaching => self.approach.next(),
+            Stage::Writing(_, piece) => piece.next(),
+            _ => unreachable!(),
+        }
+    }
+
+    fn event(&self, _alloc: Global) -> Result<Event, NoMemory> {
+        Ok(Event::Write {
+            at: self.at,
+            bytes: self.bytes.try_clone()?,
+        })
+    }
+
+    fn ready(&mut self, alloc: Global, fed: &Fed) -> Result<(), NoMemory> {
+        let Some(image) = self.owning() else {
+            return Ok(());
+        };
+        let Fed::Answer(Answer::Header(header)) = fed else {
+            return Ok(());
+        };
+        if self.range().refusal(header).is_some() {
+            return Ok(());
+        }
+        let bytes = self.bytes.as_slice();
+        self.pieces = write_pieces(alloc, self.site, image, header, self.at, bytes)?;
+        Ok(())
+    }
+
+    fn feed(&mut self, fed: &Fed) -> Turn {
+        match &mut self.stage {
+            Stage::Approaching => self.feed_approach(fed),
+            Stage::Noting(image) => {
+                self.stage = Stage::Waiting(*image);
+                Turn::More
+            }
+            Stage::Waiting(image) => {
+                let image = *image;
+                self.begin_piece(image)
+            }
+            Stage::Writing(image, piece) => match feed_piece(piece, fed) {
+                Progress::More => Turn::More,
+                Progress::Ended => {
+                    self.stage = Stage::Waiting(*image);
+                    Turn::More
+                }
+                Progress::Refused(refusal) => Turn::Done(Reply::Refused(refusal)),
+            },
+        }
+    }
+}
+
+/// Goes on with a piece.
+fn feed_piece(piece: &mut WritePiece, fed: &Fed) -> Progress
+    ensures { (next : Plan) → Progresses next (plan_after (rest_of_write piece.old next) fed.now) result (rest_of_write piece.new next) }
+{
+    match fed {
+        Fed::Answer(answer) => piece.feed(answer),
+        Fed::Passed => Progress::More,
     }
 }

@@ -1,0 +1,36 @@
+use Rattle.std.proofs.Common.{◌≡◌, sym, ap, ◌∙◌, subst}
+use Rattle.rbd_kinds.specs.declared.machine.Fed.TheVariants as fed
+use Rattle.rbd_machine.specs.Answers.{CanBeFed}
+use Rattle.rbd_machine.specs.Plan.{Goto, GoesOn, plan_after, without_labels}
+use Rattle.rbd_machine.specs.Steps.{applied}
+use Rattle.rbd_machine.proofs.Settled.{goes_more}
+use Rattle.rbd_piece.specs.Write.{rest_of_write}
+use Rattle.rbd_request.specs.Write.{rest_at, rest_of_pieces, rest_of_request}
+use Rattle.rbd_request.specs.declared.write.Stage.TheVariants as stage
+use Rattle.rbd_request.proofs.Writes.{waiting_passes}
+use Rattle.rbd_request.proofs.write.WriteRequestMachine.feed.Goals as goal
+
+pub returns-in-Waiting : goal.returns-in-Waiting
+returns-in-Waiting c =
+    let w = c.args.self.now in
+    let passed : c.args.fed.now ≡ fed.Passed = waiting_passes w.pieces.items w.site c.in-Waiting.image c.args.fed.now (subst (λ s. CanBeFed (rest_at s w) c.args.fed.now) c.in-Waiting.is c.requires.can) in
+    subst (λ s. GoesOn Goto (plan_after (rest_at s w) c.args.fed.now) c.begin_piece.result (without_labels (rest_of_request c.begin_piece.new.self))) (sym c.in-Waiting.is)
+    (subst (λ f. GoesOn Goto (plan_after (rest_at (stage.Waiting c.in-Waiting.image) w) f) c.begin_piece.result (without_labels (rest_of_request c.begin_piece.new.self))) (sym passed) c.begin_piece.ensures)
+
+pub returns-in-More : goal.returns-in-More
+returns-in-More c =
+    let w = c.args.self.now in
+    let next = rest_of_pieces w.pieces.items (applied w.site c.in-Writing.image) in
+    goes_more _ (rest_of_write c.feed_piece.new.piece next) (c.in-More.ensures next ∙ ap (λ s. plan_after (rest_at s w) c.args.fed.now) (sym c.in-Writing.is))
+
+pub returns-in-Ended : goal.returns-in-Ended
+returns-in-Ended c =
+    let w = c.args.self.now in
+    let next = rest_of_pieces w.pieces.items (applied w.site c.in-Writing.image) in
+    goes_more _ next (sym (c.in-Ended.ensures next) ∙ ap (λ s. plan_after (rest_at s w) c.args.fed.now) (sym c.in-Writing.is))
+
+pub returns-in-Refused : goal.returns-in-Refused
+returns-in-Refused c =
+    let w = c.args.self.now in
+    let next = rest_of_pieces w.pieces.items (applied w.site c.in-Writing.image) in
+    ap (λ s. plan_after (rest_at s w) c.args.fed.now) c.in-Writing.is ∙ c.in-Refused.ensures next

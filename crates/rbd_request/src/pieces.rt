@@ -1,0 +1,60 @@
+//! The pieces of a write, made before the first is written.
+ghost use Rattle.std.specs.Prelude.{◌≡◌, ◌+◌, ◌≤◌, None, length, IfOk};
+ghost use Rattle.rbd_kinds.specs.Form.{IsHeaderInForm};
+ghost use Rattle.rbd_layout.specs.Pieces.{pieces_of};
+ghost use Rattle.rbd_object.specs.Parts.{AreBehind, bytes_for};
+ghost use Rattle.rbd_machine.specs.Plan.{Plan};
+ghost use Rattle.rbd_piece.specs.Write.{write_piece as piece_of_write, rest_of_write};
+ghost use Rattle.rbd_request.specs.Write as of_write;
+
+use rbd_kinds::{Bytes, Extent, HeaderView, ImageId, NoMemory, SiteId};
+use rbd_layout::{Piece, pieces};
+use rbd_object::{gather, shifted_parts};
+use rbd_piece::WritePiece;
+use std::alloc::Global;
+use std::collections::VecDeque;
+
+/// The pieces of a write of bytes from the image byte `at` on, by ascending object.
+pub fn write_pieces(
+    alloc: Global,
+    site: SiteId,
+    image: ImageId,
+    header: &HeaderView,
+    at: u64,
+    bytes: &[u8],
+) -> Result<VecDeque<WritePiece>, NoMemory>
+    requires form { IsHeaderInForm header.now }
+    requires fits { of_write.out_of_range (of_write.extent_at at bytes.now) header.now.size ≡ None }
+    ensures { IfOk result (λ made. (next : Plan) → of_write.rest_of_pieces made.items next
+        ≡ of_write.write_pieces site image header.now at bytes.now (pieces_of header.now.layout (of_write.extent_at at bytes.now)) next) }
+{
+    let extent = Extent {
+        at,
+        len: bytes.len() as u64,
+    };
+    let listed = pieces(alloc, &header.layout, &extent)?;
+    let mut made = VecDeque::new(alloc);
+    for piece in listed {
+        made.push_back(write_piece(alloc, site, image, header, at, bytes, piece)?)?;
+    }
+    Ok(made)
+}
+
+/// One piece of the write, with those of the bytes that go to its object.
+fn write_piece(
+    alloc: Global,
+    site: SiteId,
+    image: ImageId,
+    header: &HeaderView,
+    at: u64,
+    bytes: &[u8],
+    piece: Piece,
+) -> Result<WritePiece, NoMemory>
+    requires { AreBehind at piece.parts }
+    ensures plan { IfOk result (λ w. (next : Plan) → rest_of_write w next ≡ piece_of_write site image header.now piece (bytes_for piece.parts at bytes.now) next) }
+    ensures object { IfOk result (λ w. w.piece.object ≡ piece.object) }
+{
+    let parts = shifted_parts(alloc, at, piece.parts.as_slice())?;
+    let bytes = Bytes::from_vec(gather(alloc, bytes, parts.as_slice())?);
+    WritePiece::new(alloc, site, image, header, piece, bytes)
+}
