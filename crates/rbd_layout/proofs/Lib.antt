@@ -7,3 +7,4 @@ pub mod Walk
 pub mod Gather
 pub mod Unique
 pub mod Derived
+pub mod Listed
