@@ -10,6 +10,9 @@
 //! header.unlock(instance);
 //! ```
 //!
+//! [`context_of`] is the snapshot context that a header gives to changes of the image's data, and
+//! [`ids_of`] lists the ids of its snapshots.
+//!
 //! Contracts see a [`Header`] as the [`HeaderView`](rbd_kinds::HeaderView) that it tells, and each call's
 //! contract is one equation: the view after it is this function of the view before.
 //!

@@ -92,10 +92,10 @@ counted_begin l h size count object is = (forth (cases_lt 0 size), back)
 abbrev Holds : ℕ → Part → Type 0
 Holds x p = (p.at ≤ x) × (x < p.at + p.len)
 
-Any-here : {X : Type 0} (P : X → Type 0) (x : X) (xs : List X) → P x → Any P (x ∷ xs)
+pub Any-here : {X : Type 0} (P : X → Type 0) (x : X) (xs : List X) → P x → Any P (x ∷ xs)
 Any-here P x xs h = (0, x, omega arith, refl, h)
 
-Any-there : {X : Type 0} (P : X → Type 0) (x : X) (xs : List X) → Any P xs → Any P (x ∷ xs)
+pub Any-there : {X : Type 0} (P : X → Type 0) (x : X) (xs : List X) → Any P xs → Any P (x ∷ xs)
 Any-there P x xs (k, y, less, is, h) = (suc k, y, omega arith, is, h)
 
 Any-cases : {X : Type 0} (P : X → Type 0) (x : X) (xs : List X) → Any P (x ∷ xs) → P x ⊎ Any P xs

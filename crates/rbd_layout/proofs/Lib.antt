@@ -9,3 +9,4 @@ pub mod Unique
 pub mod Derived
 pub mod Bounds
 pub mod Within
+pub mod Listed

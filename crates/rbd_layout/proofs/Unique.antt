@@ -14,7 +14,7 @@ use Rattle.rbd_layout.proofs.Gather.{Among, among_place}
 -- ---- one list of runs
 
 -- a list's first number, if it has one, is above k
-abbrev Above : ℕ → List ℕ → Type 0
+abbrev pub Above : ℕ → List ℕ → Type 0
 Above k [] = Unit {0}
 Above k (x ∷ xs) = k < x
 

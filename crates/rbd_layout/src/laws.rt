@@ -5,7 +5,7 @@ ghost use Rattle.rbd_kinds.specs.declared.layout.Extent.{Extent};
 ghost use Rattle.rbd_kinds.specs.declared.layout.Part.{Part};
 ghost use Rattle.rbd_kinds.specs.Striping.{IsLayout, IsObjectCount, object_of, offset_of, byte_at};
 ghost use Rattle.rbd_layout.specs.declared.types.Piece.{Piece};
-ghost use Rattle.rbd_layout.specs.Pieces.{IsPartsOf, IsPieces, IsWithin};
+ghost use Rattle.rbd_layout.specs.Pieces.{IsPartsOf, IsPieces, IsWithin, parts_at, pieces_of, places_in};
 
 /// A byte's object and offset determine it, and lie within their bounds.
 pub fn place_of_a_byte()
@@ -71,4 +71,13 @@ pub fn pieces_are_the_bytes()
         ↔ IsWithin e x }
     ensures once { (l : Layout) (e : Extent) (some others : List Piece)
         → IsPieces l e some → IsPieces l e others → some ≡ others }
+{}
+
+/// The pieces of an extent are this one list, and the parts in one object are these.
+pub fn pieces_are_listed()
+    ensures parts { (l : Layout) → IsLayout l → (e : Extent) (object : ℕ)
+        → IsPartsOf l e object (parts_at l (places_in l e object)) }
+    ensures pieces { (l : Layout) → IsLayout l → (e : Extent) (pieces : List Piece) → IsPieces l e pieces
+        → pieces ≡ pieces_of l e }
+    ensures are { (l : Layout) → IsLayout l → (e : Extent) → IsPieces l e (pieces_of l e) }
 {}

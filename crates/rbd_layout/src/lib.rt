@@ -14,7 +14,8 @@
 //! [`check`] says whether a layout keeps the limits. For such a layout [`place`] says in which object an
 //! image byte lies and at which offset, [`back`] which image byte lies at a place, [`objects`] how many
 //! objects an image of a size has, [`pieces`] which parts of which objects an extent touches, and
-//! [`parts_in`] which parts of one object.
+//! [`parts_in`] which parts of one object. [`layout_of`] is the layout that the shape of a new image asks
+//! for, and [`keeps_limits`] says whether an image with a layout and a size may be made.
 //!
 //! # Cost
 //!
@@ -33,7 +34,8 @@
 //! The laws are public functions with an empty body. Their contracts say what the layers above rely on:
 //! places and bytes are inverse ([`place_of_a_byte`], [`byte_at_a_place`]), which bytes an object has
 //! ([`bytes_ascend`], [`bytes_of_an_object`], [`first_byte_decides`]), and that the pieces of an extent are
-//! its bytes, each once, and are one list ([`parts_are_the_bytes`], [`pieces_are_the_bytes`]).
+//! its bytes, each once, and are one list ([`parts_are_the_bytes`], [`pieces_are_the_bytes`]), which a
+//! definition computes ([`pieces_are_listed`]).
 #![tactic(auto)]
 
 mod asked;
@@ -51,7 +53,7 @@ pub use count::objects;
 pub use extent::{parts_in, pieces};
 pub use laws::{
     byte_at_a_place, bytes_ascend, bytes_of_an_object, first_byte_decides, objects_grow,
-    parts_are_the_bytes, pieces_are_the_bytes, place_of_a_byte,
+    parts_are_the_bytes, pieces_are_listed, pieces_are_the_bytes, place_of_a_byte,
 };
 pub use shape::{BadShape, check};
 pub use striping::{back, place};

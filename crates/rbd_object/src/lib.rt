@@ -31,6 +31,12 @@
 //! the value stands for one (`looked`), and both change alike. The first law to read is
 //! [`laws::views_of_snapshots_stay`].
 //!
+//! # Parts
+//!
+//! A request names *parts* of an object, each some bytes that lie together. [`gather`] takes the bytes at the
+//! parts out of some bytes, [`scatter`] puts bytes at the parts, and [`shifted_parts`] are the parts as they
+//! lie in bytes that begin at a byte of the image, such as the bytes that a caller gave for an extent.
+//!
 //! # Cost
 //!
 //! A write costs the bytes that it writes and the gap before them. The first change after a snapshot adds

@@ -1,12 +1,12 @@
 -- The log of a site: what each operation did to the records, from none on, and what it was answered.
-use Rattle.std.specs.Prelude.{◌≡◌, ℕ, ◌+◌, List, [], ◌∷◌, length, Option, Some, None, option_map, map}
+use Rattle.std.specs.Prelude.{◌≡◌, ℕ, ◌+◌, List, [], ◌∷◌, length, Option, Some, None, option_map}
 use Rattle.rbd_kinds.specs.declared.answer.Answer.{Answer}
 use Rattle.rbd_kinds.specs.declared.answer.Answer.TheVariants as answer
 use Rattle.rbd_kinds.specs.declared.header.HeaderView.{HeaderView}
-use Rattle.rbd_kinds.specs.declared.header.SnapView.{SnapView}
 use Rattle.rbd_kinds.specs.declared.id.Instance.{Instance}
 use Rattle.rbd_kinds.specs.declared.id.SiteId.{SiteId}
 use Rattle.rbd_kinds.specs.declared.operation.Op.{Op}
+use Rattle.rbd_header.specs.Header.{ids_of}
 use Rattle.rbd_object.specs.Mapped.{mapped_trim}
 use Rattle.rbd_site.specs.declared.done.Done.{Done}
 use Rattle.rbd_site.specs.declared.done.DoneOp.{DoneOp}
@@ -14,9 +14,6 @@ use Rattle.rbd_site.specs.declared.done.DoneOp.TheVariants as done
 use Rattle.rbd_site.specs.InForm.{AreInForm}
 use Rattle.rbd_site.specs.Records.{Records, no_records, with_object}
 use Rattle.rbd_site.specs.Step.{answer_to, after}
-
-abbrev pub ids_of : List SnapView → List ℕ
-ids_of snaps = map (λ (s : SnapView). s.id) snaps
 
 -- the ids that a header lists, none where it is gone
 abbrev pub live_in : Option HeaderView → List ℕ

@@ -2,12 +2,12 @@
 ghost use Rattle.std.specs.Prelude.{◌≡◌, ℕ, ◌+◌, ◌^◌, ◌<◌, if◌then◌else◌, Some, None, is_some, option_map, unwrap_or, IfSome, IfOk, OnOk, OnErr};
 ghost use Rattle.rbd_site.specs.Records.{put};
 ghost use Rattle.rbd_site.specs.Maps.{header_in};
-ghost use Rattle.rbd_site.specs.Log.{ids_of, live_in};
+ghost use Rattle.rbd_site.specs.Log.{live_in};
 ghost use Rattle.rbd_kinds.specs.Header.{snap_named};
 ghost use Rattle.rbd_header.specs.Header.{snap_in, is_full, with_snap};
 ghost use Rattle.rbd_site.specs.HeaderStep.{MayDoOnHeader, is_owner, lock_taken, lock_left, done_where, snap_added, where_made, there_answer, missing_answer, header_answer, header_then, header_after};
 
-use rbd_header::{Header, SnapAddFault, snapshot};
+use rbd_header::{Header, SnapAddFault, ids_of, snapshot};
 use rbd_kinds::{
     Answer, HeaderOp, HeaderView, ImageId, Instance, Name, NoMemory, SnapId, SnapView, TryClone,
 };
@@ -61,15 +61,9 @@ pub fn live_snaps(
     ensures { IfOk result (λ live. live.items ≡ live_in (header_in headers.now image)) }
 {
     match headers.get(&image) {
-        Some(header) => ids(alloc, header.as_view().snaps.as_slice()),
+        Some(header) => ids_of(alloc, header.as_view().snaps.as_slice()),
         None => Ok(Vec::new(alloc)),
     }
-}
-
-fn ids(alloc: Global, snaps: &[SnapView]) -> Result<Vec<SnapId>, NoMemory>
-    ensures { IfOk result (λ ids. ids.items ≡ ids_of snaps.now) }
-{
-    Ok(snaps.iter().map(|snap| snap.id).collect(alloc)?)
 }
 
 /// Makes a header where there is none.

@@ -40,7 +40,8 @@ use Rattle.rbd_stands.proofs.EditSteps.{untouched_stays}
 use Rattle.rbd_stands.proofs.ImageSteps.{create_stands}
 use Rattle.rbd_stands.proofs.Refusals.{refused}
 use Rattle.rbd_solo.specs.History.{where_some, effect_of_op}
-use Rattle.rbd_solo.specs.Meaning.{FlatState, KeepsLimits, layout_of, name_reply, is_full as all_held, state_after}
+use Rattle.rbd_layout.specs.Asked.{KeepsLimits, layout_of}
+use Rattle.rbd_solo.specs.Meaning.{FlatState, name_reply, is_full as all_held, state_after}
 use Rattle.rbd_solo.specs.Steps.{Holds, IsAnswered, Means, drawn_for, with_lines}
 use Rattle.rbd_solo.proofs.Found.{same_id, answered_after, answered_refused}
 use Rattle.rbd_solo.proofs.Growing.{looks_none, grown_on}

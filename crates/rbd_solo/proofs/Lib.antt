@@ -4,7 +4,6 @@ mod Snapshots
 mod Snapped
 mod Created
 mod Bounds
-mod Contexts
 mod Written
 mod Readings
 pub mod HistoryLemmas

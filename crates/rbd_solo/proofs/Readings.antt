@@ -24,7 +24,7 @@ use Rattle.rbd_layout.specs.Pieces.{IsPartsOf, IsPieces}
 use Rattle.rbd_layout.specs.declared.types.Piece.{Piece}
 use Rattle.rbd_header.specs.Header.{snap_in}
 use Rattle.rbd_object.specs.Contents.{window}
-use Rattle.rbd_object.specs.Parts.{EndWithin, parts_len, parts_of, parts_written}
+use Rattle.rbd_object.specs.Parts.{EndWithin, parts_len, parts_of, parts_written, shifted}
 use Rattle.rbd_object.proofs.ContentsLemmas.{length-window}
 use Rattle.rbd_flat.specs.Flat.{Flat, FlatImage, FlatSnap, image_at}
 use Rattle.rbd_flat.specs.Flat as flat
@@ -40,7 +40,6 @@ use Rattle.rbd_stands.specs.Reading.{flat_snap_named, bytes_at_parts, IsAt, IsTo
 use Rattle.rbd_stands.specs.Shown.{Covers, snapshots_of}
 use Rattle.rbd_stands.specs.Site.{StandsFor}
 use Rattle.rbd_stands.specs.View.{Shape, shape_of, shape_of_head, shape_of_snap}
-use Rattle.rbd_stands.specs.Writing.{shifted}
 use Rattle.rbd_stands.proofs.Lookups.{a_value, no_value}
 use Rattle.rbd_stands.proofs.ReadPieces.{Before, bytes_put}
 use Rattle.rbd_stands.proofs.Telling.{told as tells_image, bytes_told as flat_bytes_told, absence_told}

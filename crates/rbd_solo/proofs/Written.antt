@@ -23,7 +23,7 @@ use Rattle.rbd_layout.specs.Pieces.{IsPart, IsPartsOf}
 use Rattle.rbd_layout.specs.declared.types.Piece.{Piece}
 use Rattle.rbd_layout.proofs.Derived.{parts_cover}
 use Rattle.rbd_layout.proofs.Limits.{shape_of}
-use Rattle.rbd_object.specs.Parts.{parts_len}
+use Rattle.rbd_object.specs.Parts.{parts_len, AreBehind, bytes_for}
 use Rattle.rbd_object.proofs.ContentsLemmas.{length-window}
 use Rattle.rbd_object.specs.Contents.{window}
 use Rattle.rbd_object.specs.declared.content.TheConstants.{LARGEST_OBJECT}
@@ -40,7 +40,7 @@ use Rattle.rbd_site.specs.Step.{answer_to, after}
 use Rattle.rbd_stands.specs.Condition.{IsContextOf, ArePartsBelow, extents_of}
 use Rattle.rbd_stands.specs.Shown.{Covers}
 use Rattle.rbd_stands.specs.Site.{StandsFor}
-use Rattle.rbd_stands.specs.Writing.{AreBehind, bytes_for, piece_effect, piece_effects}
+use Rattle.rbd_stands.specs.Writing.{piece_effect, piece_effects}
 use Rattle.rbd_stands.proofs.DataSteps.{write_stands}
 use Rattle.rbd_solo.specs.History.{where_some, effect_of_op, log_effects}
 use Rattle.rbd_solo.specs.Meaning.{FlatState, write_reply, state_after}

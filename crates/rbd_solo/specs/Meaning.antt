@@ -1,5 +1,5 @@
 -- What a command is answered over a flat site, and what it does to it.
-use Rattle.std.specs.Prelude.{◌≡◌, ℕ, ◌+◌, ◌==◌, nat_le, ◌||◌, Bool, true, false, if◌then◌else◌, List, [], ◌∷◌, length, is_some, Option, Some, None, unwrap_or}
+use Rattle.std.specs.Prelude.{◌≡◌, ℕ, ◌+◌, ◌==◌, nat_le, ◌||◌, Bool, true, false, if◌then◌else◌, List, [], ◌∷◌, length, is_some, Option, Some, None}
 use Rattle.std.specs.FinMap as finmap
 use Rattle.rbd_kinds.specs.declared.command.Command.{Command}
 use Rattle.rbd_kinds.specs.declared.command.Command.TheVariants.{Create, Write, Read, List as ListAll, SnapCreate, SnapRemove}
@@ -10,8 +10,7 @@ use Rattle.rbd_kinds.specs.declared.layout.Layout.{Layout}
 use Rattle.rbd_kinds.specs.declared.refusal.Refusal.TheVariants as refusal
 use Rattle.rbd_kinds.specs.declared.reply.Reply.{Reply}
 use Rattle.rbd_kinds.specs.declared.reply.Reply.TheVariants.{Done, Bytes, Names, Refused}
-use Rattle.rbd_kinds.specs.Form.{HasFewObjects}
-use Rattle.rbd_kinds.specs.Striping.{IsLayout}
+use Rattle.rbd_layout.specs.Asked.{KeepsLimits, layout_of}
 use Rattle.rbd_layout.specs.Pieces.{IsPieces}
 use Rattle.rbd_layout.specs.declared.types.Piece.{Piece}
 use Rattle.rbd_flat.specs.declared.effect.Effect.{Effect}
@@ -32,19 +31,6 @@ pub record FlatState : Type 0 where
 
 abbrev pub at_first : FlatState
 at_first = record { site = no_images; drawn = 0; taken = λ image. 0; laid = λ image. None }
-
--- ---- the shape of a new image
-
--- objects of 4 MiB, the stripe unit the whole object, and one object in a stripe, where nothing else is asked for
-abbrev pub layout_of : Shape → Layout
-layout_of shape =
-    let object : ℕ = unwrap_or shape.object 4194304 in
-    record { object = object; unit = unwrap_or shape.unit object; count = unwrap_or shape.count 1 }
-
--- the layout is within its limits, and a size has at most 2^20 objects
-pub record KeepsLimits (layout : Layout) (size : ℕ) : Type 0 where
-  pub is_layout : IsLayout layout
-  pub objects : HasFewObjects layout size
 
 -- 4,096 names are held, or the ids are used up
 abbrev pub is_full : FlatState → Bool

@@ -1,9 +1,9 @@
 //! `create`
-ghost use Rattle.std.specs.Prelude.{◌≡◌, ◌↔◌, ◌+◌, ◌^◌, ◌<◌, None, IsTrue, IfOk, OnOk};
+ghost use Rattle.std.specs.Prelude.{◌≡◌, None, IfOk};
 ghost use Rattle.rbd_kinds.specs.Form.{IsNewHeader};
 ghost use Rattle.rbd_kinds.specs.declared.header.Role.TheVariants.{Plain};
 ghost use Rattle.rbd_kinds.specs.declared.command.Command.TheVariants.{Create};
-ghost use Rattle.rbd_solo.specs.Meaning.{layout_of as asked_layout, KeepsLimits};
+ghost use Rattle.rbd_layout.specs.Asked.{KeepsLimits};
 ghost use Rattle.rbd_solo.specs.Steps.{IsAnswered};
 
 use crate::operate::{drawn_id, operate};
@@ -11,15 +11,9 @@ use rbd_kinds::{
     DirectoryOp, HeaderOp, HeaderView, Instance, Layout, Name, NoMemory, Number, Op, Refusal,
     Reply, Role, Shape, Snaps, TryClone,
 };
-use rbd_layout::{check, objects};
+use rbd_layout::{keeps_limits, layout_of};
 use rbd_site::Site;
 use std::alloc::Global;
-
-/// The object size in bytes where none is asked for (Ceph: 4 MiB).
-const USUAL_OBJECT: u64 = 4_194_304;
-
-/// How many objects an image has at most.
-const MOST_OBJECTS: u64 = 1_048_576;
 
 /// Makes an image of zeros: `dir-add` draws its id, `header-create` makes it. A shape outside the limits is
 /// refused before any operation.
@@ -34,7 +28,7 @@ pub fn create(
     ensures { IfOk result (IsAnswered site.old site.new (Create name.now size shape.now)) }
 {
     let layout = layout_of(shape);
-    if !keeps_limits(&layout, size) {
+    if !keeps_limits(&layout, size.get()) {
         return Ok(Reply::Refused(Refusal::BadShape));
     }
     let op = DirectoryOp::Add {
@@ -49,25 +43,6 @@ pub fn create(
             Ok(Reply::Done)
         }
     }
-}
-
-/// The layout that a shape asks for.
-fn layout_of(shape: &Shape) -> Layout
-    ensures { result ≡ asked_layout shape.now }
-{
-    let object = shape.object.map_or(USUAL_OBJECT, |object| object.get());
-    Layout {
-        object,
-        unit: shape.unit.map_or(object, |unit| unit.get()),
-        count: shape.count.unwrap_or(1),
-    }
-}
-
-/// Whether the layout is within its limits, and a size has few enough objects.
-fn keeps_limits(layout: &Layout, size: Number) -> bool
-    ensures { IsTrue result ↔ KeepsLimits layout.now size }
-{
-    check(layout).is_ok() && objects(layout, size.get()) <= MOST_OBJECTS
 }
 
 /// The header of a new image.

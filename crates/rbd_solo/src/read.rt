@@ -11,13 +11,13 @@ ghost use Rattle.rbd_solo.specs.Steps.{IsAnswered, Looks, viewed, IsViewOf, HasN
 
 use crate::look::{Opened, open};
 use crate::operate::{look, told_bytes};
-use crate::write::{fits, shifted_parts};
+use crate::write::fits;
 use rbd_kinds::{
     Bytes, DataOp, Extent, HeaderView, Instance, Name, NoMemory, Op, Refusal, Reply, SnapId,
     TryClone,
 };
 use rbd_layout::{Piece, pieces};
-use rbd_object::scatter;
+use rbd_object::{scatter, shifted_parts};
 use rbd_site::Site;
 use std::alloc::Global;
 

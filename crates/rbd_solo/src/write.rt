@@ -1,22 +1,18 @@
 //! `write`
-ghost use Rattle.std.specs.Prelude.{◌≡◌, ◌+◌, ◌≤◌, [], ◌∷◌, length, map, Some, IfOk, OnOk};
+ghost use Rattle.std.specs.Prelude.{◌≡◌, ◌+◌, ◌≤◌, [], ◌∷◌, length, Some, IfOk, OnOk};
 ghost use Rattle.rbd_kinds.specs.declared.command.Command.TheVariants.{Write};
 ghost use Rattle.rbd_kinds.specs.Form.{IsHeaderInForm};
 ghost use Rattle.rbd_layout.specs.Pieces.{IsPartsOf};
 ghost use Rattle.rbd_flat.specs.Read.{is_within};
-ghost use Rattle.rbd_site.specs.Log.{records_of, ids_of as listed_ids};
-ghost use Rattle.rbd_stands.specs.Condition.{IsContextOf};
-ghost use Rattle.rbd_stands.specs.Writing.{shifted, AreBehind};
+ghost use Rattle.rbd_site.specs.Log.{records_of};
 ghost use Rattle.rbd_solo.specs.Steps.{IsAnswered, Writes, WritesAll};
 
 use crate::look::{Opened, open};
 use crate::operate::operate;
-use rbd_kinds::{
-    Bytes, DataOp, Extent, HeaderView, Instance, Name, NoMemory, Op, Part, Refusal, Reply,
-    SnapContext, SnapId, SnapIds, SnapView, TryClone,
-};
+use rbd_header::context_of;
+use rbd_kinds::{Bytes, DataOp, Extent, Instance, Name, NoMemory, Op, Refusal, Reply, TryClone};
 use rbd_layout::{Piece, pieces};
-use rbd_object::gather;
+use rbd_object::{gather, shifted_parts};
 use rbd_site::Site;
 use std::alloc::Global;
 
@@ -101,43 +97,4 @@ fn write_piece(
     let (image, object) = (opened.image, piece.object);
     let _done = operate(site, me, Op::Data { image, object, op })?;
     Ok(())
-}
-
-/// The parts as they lie in bytes that begin at the image byte `from`.
-pub fn shifted_parts(alloc: Global, from: u64, parts: &[Part]) -> Result<Vec<Part>, NoMemory>
-    requires { AreBehind from parts.now }
-    ensures { IfOk result (λ shifts. shifts.items ≡ map (shifted from) parts.now) }
-{
-    let mut shifts = Vec::new(alloc);
-    for part in parts {
-        shifts.push(Part {
-            offset: part.at - from,
-            ..*part
-        })?;
-    }
-    Ok(shifts)
-}
-
-/// The snapshot context of a change: the number of the snapshot that was taken last, and those that the
-/// header lists, newest first.
-fn context_of(alloc: Global, header: &HeaderView) -> Result<SnapContext, NoMemory>
-    ensures { IfOk result (IsContextOf header.now) }
-{
-    let mut snaps = ids_of(alloc, header.snaps.as_slice())?;
-    snaps.as_mut_slice().reverse();
-    Ok(SnapContext {
-        seq: SnapId(header.snap_seq),
-        snaps: SnapIds::from_vec(snaps),
-    })
-}
-
-/// The ids of snapshots, in their order.
-fn ids_of(alloc: Global, snaps: &[SnapView]) -> Result<Vec<SnapId>, NoMemory>
-    ensures { IfOk result (λ ids. ids.items ≡ listed_ids snaps.now) }
-{
-    let mut ids = Vec::new(alloc);
-    for snap in snaps {
-        ids.push(snap.id)?;
-    }
-    Ok(ids)
 }

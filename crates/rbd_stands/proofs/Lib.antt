@@ -8,6 +8,7 @@ pub mod Whole
 pub mod SiteSteps
 pub mod Refusals
 pub mod StoreSteps
+pub mod Contexts
 pub mod DirectorySteps
 pub mod ImageSteps
 pub mod Telling

@@ -20,6 +20,7 @@ use Rattle.rbd_layout.specs.declared.types.Piece.{Piece}
 use Rattle.rbd_layout.specs.Pieces.{IsPartsOf, IsPieces, IsWithin}
 use Rattle.rbd_layout.proofs.Derived.{pieces_cover}
 use Rattle.rbd_object.specs.Contents.{window}
+use Rattle.rbd_object.specs.Parts.{bytes_for}
 use Rattle.rbd_flat.specs.declared.effect.Effect.{Effect}
 use Rattle.rbd_flat.specs.declared.effect.Effect.TheVariants as effect
 use Rattle.rbd_flat.specs.Flat.{Flat, FlatImage, image_at, painted, places_of, changed, with_image, after, after_all}
@@ -27,7 +28,7 @@ use Rattle.rbd_flat.specs.Laws.{covers, painted_at}
 use Rattle.rbd_flat.proofs.Images.{get_insert, with_image_at}
 use Rattle.rbd_flat.proofs.Painted.{length_painted, painted_extents}
 use Rattle.rbd_stands.specs.Condition.{extent_of, extents_of}
-use Rattle.rbd_stands.specs.Writing.{bytes_for, piece_effect, piece_effects}
+use Rattle.rbd_stands.specs.Writing.{piece_effect, piece_effects}
 
 -- ---- changes of one image, one after another
 

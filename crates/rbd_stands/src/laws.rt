@@ -22,7 +22,7 @@ ghost use Rattle.rbd_kinds.specs.declared.operation.Op.{Op};
 ghost use Rattle.rbd_kinds.specs.declared.operation.Op.TheVariants as op;
 ghost use Rattle.rbd_kinds.specs.Form.{IsNewHeader};
 ghost use Rattle.rbd_layout.specs.Pieces.{IsPart};
-ghost use Rattle.rbd_header.specs.Header.{snap_in};
+ghost use Rattle.rbd_header.specs.Header.{context_of, snap_in};
 ghost use Rattle.rbd_object.specs.Kept.{is_listed};
 ghost use Rattle.rbd_object.specs.Mapped.{mapped_change};
 ghost use Rattle.rbd_flat.specs.declared.effect.Effect.TheVariants as effect;
@@ -200,10 +200,12 @@ pub fn removing_a_header()
 
 // ---- changes of an object
 
-/// The context of a header: its number, and any list that has each snapshot that the header lists.
+/// The context of a header: its number, and any list that has each snapshot that the header lists, as that with
+/// just these has, newest first.
 pub fn context_of_a_header()
-    ensures { (h : HeaderView) (context : SnapContext) → context.seq ≡ h.snap_seq
+    ensures any { (h : HeaderView) (context : SnapContext) → context.seq ≡ h.snap_seq
         → ((snap : ℕ) → IsTrue (is_listed (live_in (Some h)) snap) → IsTrue (is_listed context.snaps snap)) → IsContextOf h context }
+    ensures told { (h : HeaderView) → IsContextOf h (context_of h) }
 {}
 
 /// Any change of an object's head under the header's context: where the flat bytes change as `IsChanged`

@@ -1,7 +1,6 @@
 use Rattle.std.proofs.Common.{sym, ap, ◌∙◌, subst, length, map}
-use Rattle.rbd_object.specs.Parts.{EndWithin, parts_len, parts_written}
+use Rattle.rbd_object.specs.Parts.{EndWithin, parts_len, parts_written, AreBehind, shifted}
 use Rattle.rbd_site.specs.Log.{records_of}
-use Rattle.rbd_stands.specs.Writing.{AreBehind, shifted}
 use Rattle.rbd_solo.proofs.Written.{parts_behind}
 use Rattle.rbd_solo.proofs.Readings.{ends_within, long_told, absent_read, bytes_read}
 use Rattle.rbd_solo.proofs.read.read_piece.Goals as goal

@@ -2,9 +2,8 @@
 use Rattle.std.proofs.Common.{◌≡◌, ℕ, Bool, true, false, ◌||◌, eqb, List, [], ◌∷◌, ◌++◌, reverse, refl, ap, ◌∙◌}
 use Rattle.std.proofs.lemmas.List.{reverse-append}
 use Rattle.rbd_kinds.specs.declared.header.HeaderView.{HeaderView}
-use Rattle.rbd_kinds.specs.declared.header.SnapContext.{SnapContext}
+use Rattle.rbd_header.specs.Header.{context_of, ids_of}
 use Rattle.rbd_object.specs.Kept.{is_listed}
-use Rattle.rbd_site.specs.Log.{ids_of}
 use Rattle.rbd_stands.specs.Condition.{IsContextOf}
 use Rattle.rbd_stands.proofs.StoreSteps.{context_from}
 
@@ -21,5 +20,5 @@ listed_reversed : (xs : List ℕ) (t : ℕ) → is_listed (reverse xs) t ≡ is_
 listed_reversed [] t = refl
 listed_reversed (x ∷ xs) t = ap (λ ys. is_listed ys t) (reverse-append (x ∷ []) xs) ∙ listed_more (reverse xs) x t ∙ ap (λ b. eqb x t || b) (listed_reversed xs t)
 
-pub reversed_context : (h : HeaderView) (context : SnapContext) → context.seq ≡ h.snap_seq → context.snaps ≡ reverse (ids_of h.snaps) → IsContextOf h context
-reversed_context h context seq snaps = context_from h context seq (λ t listed. ap (λ xs. is_listed xs t) snaps ∙ listed_reversed (ids_of h.snaps) t ∙ listed)
+pub reversed_context : (h : HeaderView) → IsContextOf h (context_of h)
+reversed_context h = context_from h (context_of h) refl (λ t listed. listed_reversed (ids_of h.snaps) t ∙ listed)

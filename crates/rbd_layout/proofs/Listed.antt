@@ -1,0 +1,241 @@
+-- The one list of an extent's pieces: what is computed keeps the rules.
+use Rattle.std.proofs.Common.{◌≡◌, ◌≢◌, ◌*◌, get_or, ℕ, zero, suc, ◌+◌, ◌<◌, ◌≤◌, ◌⊎◌, inl, inr, refl, sym, ap, ◌∙◌, subst, arith, List, [], ◌∷◌, ◌++◌, map, length, cond, true, false, Bool}
+use Rattle.std.specs.Prelude.{All, AllPairs, Any, filter, ◌==◌}
+use Rattle.std.specs.List.{range_with_len, flat_map}
+use Rattle.std.proofs.lemmas.List.Elements.{All-nil, All-cons, All-head, All-tail, All-map, All-weaker, All-filter, filter_passes}
+use Rattle.std.proofs.lemmas.List.Kept.{AllPairs-cons, AllPairs-filter}
+use Rattle.std.proofs.lemmas.Bool.Decides.{eqb_tells, nat_tests}
+use Rattle.std.proofs.Math.Nat.{mul-le-mul_left}
+use Rattle.rbd_kinds.specs.declared.layout.Layout.{Layout}
+use Rattle.rbd_kinds.specs.declared.layout.Part.{Part}
+use Rattle.rbd_kinds.specs.declared.layout.Extent.{Extent}
+use Rattle.rbd_kinds.specs.Striping.{IsLayout, object_of, offset_of, byte_at}
+use Rattle.rbd_layout.specs.declared.types.Piece.{Piece}
+use Rattle.rbd_layout.specs.Pieces.{IsPart, IsPartsOf, IsPieces, IsWithin, places_in, places_of, part_at, with_place, parts_at, piece_in, is_touched, pieces_of}
+use Rattle.rbd_layout.proofs.Limits.{shape_of}
+use Rattle.rbd_layout.proofs.Mixed.{cases_lt}
+use Rattle.rbd_layout.proofs.Places.{byte_of_place, offset_within, ascends, ascends_back, number_bounded}
+use Rattle.rbd_layout.proofs.Gather.{Among, filter_among, range_bounds, place_among}
+use Rattle.rbd_layout.proofs.Unique.{Above, AllPairs-head, AllPairs-tail, pieces_once}
+use Rattle.rbd_layout.proofs.Derived.{Any-here, Any-there}
+
+-- ---- places and parts
+
+-- where a byte and the next lie in one object, they lie together there
+next_offset : (l : Layout) → IsLayout l → (x : ℕ) → object_of l x ≡ object_of l (x + 1) → offset_of l (x + 1) ≡ offset_of l x + 1
+next_offset l h x same = go (cases_lt (offset_of l x + 1) (offset_of l (x + 1)))
+  where
+    here : byte_at l (object_of l (x + 1)) (offset_of l x) ≡ x
+    here = ap (λ k. byte_at l k (offset_of l x)) (sym same) ∙ byte_of_place l h x
+
+    there : byte_at l (object_of l (x + 1)) (offset_of l (x + 1)) ≡ x + 1
+    there = byte_of_place l h (x + 1)
+
+    later : offset_of l x < offset_of l (x + 1)
+    later = ascends_back l h (object_of l (x + 1)) (offset_of l x) (offset_of l (x + 1)) (omega (arith, here, there))
+
+    go : (offset_of l x + 1 < offset_of l (x + 1)) ⊎ ((offset_of l x + 1 ≡ offset_of l (x + 1)) ⊎ (offset_of l (x + 1) < offset_of l x + 1)) → offset_of l (x + 1) ≡ offset_of l x + 1
+    go (inl more) =
+        let up = ascends l h (object_of l (x + 1)) (offset_of l x) (offset_of l x + 1) (omega arith) in
+        let on = ascends l h (object_of l (x + 1)) (offset_of l x + 1) (offset_of l (x + 1)) more in
+        absurd (omega (arith, here, there, up, on))
+    go (inr (inl e)) = sym e
+    go (inr (inr less)) = absurd (omega (arith, later))
+
+none_below : (j : ℕ) → j < 0 → ⊥
+none_below j less = omega arith
+
+-- the parts of some places of one object
+record Listed (l : Layout) (n : ℕ) (xs : List ℕ) (parts : List Part) : Type 0 where
+  each : All (IsPart l n) parts
+  cover : flat_map places_of parts ≡ xs
+  apart : AllPairs (λ p q. p.at + p.len < q.at) parts
+
+one_part : (l : Layout) → IsLayout l → (n x : ℕ) → object_of l x ≡ n → IsPart l n (part_at l x 1)
+one_part l h n x this = record {
+  some = omega arith;
+  within = omega (arith, offset_within l h x);
+  lies = λ k less. go k less;
+}
+  where
+    go : (k : ℕ) → k < 1 → (object_of l (x + k) ≡ n) × (offset_of l (x + k) ≡ offset_of l x + k)
+    go zero less =
+        let a : x + 0 ≡ x = omega arith in
+        let b : offset_of l x + 0 ≡ offset_of l x = omega arith in
+        rw (a, b) (this, refl)
+    go (suc k) less = absurd (omega arith)
+
+-- a part with the place before it
+longer_part : (l : Layout) → IsLayout l → (n x : ℕ) (p : Part) → object_of l x ≡ n → x + 1 ≡ p.at → IsPart l n p → IsPart l n (part_at l x (p.len + 1))
+longer_part l h n x p this touch is = record {
+  some = omega arith;
+  within = omega (arith, is.within, begins);
+  lies = λ k less. go k less;
+}
+  where
+    first : (object_of l p.at ≡ n) × (offset_of l p.at ≡ p.offset)
+    first =
+        let a : p.at + 0 ≡ p.at = omega arith in
+        let b : p.offset + 0 ≡ p.offset = omega arith in
+        rw (a, b) at (is.lies 0 is.some)
+
+    begins : p.offset ≡ offset_of l x + 1
+    begins =
+        let object : object_of l x ≡ object_of l (x + 1) = this ∙ sym first.0 ∙ ap (object_of l) (sym touch) in
+        sym first.1 ∙ ap (offset_of l) (sym touch) ∙ next_offset l h x object
+
+    go : (k : ℕ) → k < p.len + 1 → (object_of l (x + k) ≡ n) × (offset_of l (x + k) ≡ offset_of l x + k)
+    go zero less =
+        let a : x + 0 ≡ x = omega arith in
+        let b : offset_of l x + 0 ≡ offset_of l x = omega arith in
+        rw (a, b) (this, refl)
+    go (suc k) less =
+        let a : x + suc k ≡ p.at + k = omega arith in
+        let b : offset_of l x + suc k ≡ p.offset + k = omega (arith, begins) in
+        rw (a, b) (is.lies k (omega arith))
+
+-- the first place of parts is the first one's
+first_above : (x len a : ℕ) (ys : List ℕ) → 0 < len → Above x (range_with_len a len ++ ys) → x < a
+first_above x zero a ys some above = absurd (omega arith)
+first_above x (suc len) a ys some above = above
+
+place_more : (l : Layout) → IsLayout l → (n x : ℕ) (xs : List ℕ) (parts : List Part) → object_of l x ≡ n → Above x xs → Listed l n xs parts → Listed l n (x ∷ xs) (with_place l x parts)
+place_more l h n x xs [] this above is = record {
+  each = All-cons (IsPart l n) (part_at l x 1) [] (one_part l h n x this) is.each;
+  cover = ap (λ ys. x ∷ ys) is.cover;
+  apart = AllPairs-cons (λ p q. p.at + p.len < q.at) (part_at l x 1) [] (All-nil (λ q. x + 1 < q.at)) is.apart;
+}
+place_more l h n x xs (p ∷ parts) this above is = go (eqb_tells (x + 1) p.at)
+  where
+    head : IsPart l n p
+    head = All-head (IsPart l n) p parts is.each
+
+    tail : All (IsPart l n) parts
+    tail = All-tail (IsPart l n) p parts is.each
+
+    far : All (λ q. p.at + p.len < q.at) parts
+    far = AllPairs-head (λ p q. p.at + p.len < q.at) p parts is.apart
+
+    below : x < p.at
+    below = first_above x p.len p.at (flat_map places_of parts) head.some (subst (Above x) (sym is.cover) above)
+
+    joined : x + 1 ≡ p.at → range_with_len x (p.len + 1) ++ flat_map places_of parts ≡ x ∷ xs
+    joined touch =
+        let more : p.len + 1 ≡ suc p.len = omega arith in
+        rw (more, touch) (ap (λ ys. x ∷ ys) is.cover)
+
+    farther : (k : ℕ) → k ≤ p.at + p.len → All (λ q. k < q.at) parts
+    farther k le = All-weaker (λ q. p.at + p.len < q.at) (λ q. k < q.at) (λ q less. omega (arith, le)) parts far
+
+    go : ((x + 1 == p.at ≡ true) × (x + 1 ≡ p.at)) ⊎ ((x + 1 == p.at ≡ false) × (x + 1 ≢ p.at)) → Listed l n (x ∷ xs) (with_place l x (p ∷ parts))
+    go (inl (is_true, touch)) = rw is_true (record {
+      each = All-cons (IsPart l n) (part_at l x (p.len + 1)) parts (longer_part l h n x p this touch head) tail;
+      cover = joined touch;
+      apart = AllPairs-cons (λ p q. p.at + p.len < q.at) (part_at l x (p.len + 1)) parts (farther (x + (p.len + 1)) (omega arith))
+          (AllPairs-tail (λ p q. p.at + p.len < q.at) p parts is.apart);
+    })
+    go (inr (is_false, gap)) = rw is_false (record {
+      each = All-cons (IsPart l n) (part_at l x 1) (p ∷ parts) (one_part l h n x this) is.each;
+      cover = ap (λ ys. x ∷ ys) is.cover;
+      apart = AllPairs-cons (λ p q. p.at + p.len < q.at) (part_at l x 1) (p ∷ parts)
+          (All-cons (λ q. x + 1 < q.at) p parts (omega (arith, below, gap)) (farther (x + 1) (omega (arith, below)))) is.apart;
+    })
+
+-- a number below each of a list's is below its first
+first_is_above : (k : ℕ) (xs : List ℕ) → ((y : ℕ) → Among y xs → k < y) → Above k xs
+first_is_above k [] each = tt
+first_is_above k (x ∷ xs) each = each x (inl refl)
+
+listed_at : (l : Layout) → IsLayout l → (n a len : ℕ) → Listed l n (filter (λ x. object_of l x == n) (range_with_len a len)) (parts_at l (filter (λ x. object_of l x == n) (range_with_len a len)))
+listed_at l h n a zero = record {
+  each = All-nil (IsPart l n);
+  cover = refl;
+  apart = λ i j d _ less. absurd (none_below j less);
+}
+listed_at l h n a (suc len) = go (eqb_tells (object_of l a) n) (listed_at l h n (a + 1) len)
+  where
+    above : Above a (filter (λ x. object_of l x == n) (range_with_len (a + 1) len))
+    above = first_is_above a (filter (λ x. object_of l x == n) (range_with_len (a + 1) len)) each
+      where
+        each : (y : ℕ) → Among y (filter (λ x. object_of l x == n) (range_with_len (a + 1) len)) → a < y
+        each y among =
+            let in_range = filter_among (λ x. object_of l x == n) y (range_with_len (a + 1) len) among in
+            let bounds = range_bounds y (a + 1) len in_range.0 in
+            omega (arith, bounds.0)
+
+    go : ((object_of l a == n ≡ true) × (object_of l a ≡ n)) ⊎ ((object_of l a == n ≡ false) × (object_of l a ≢ n))
+        → Listed l n (filter (λ x. object_of l x == n) (range_with_len (a + 1) len)) (parts_at l (filter (λ x. object_of l x == n) (range_with_len (a + 1) len)))
+        → Listed l n (filter (λ x. object_of l x == n) (a ∷ range_with_len (a + 1) len)) (parts_at l (filter (λ x. object_of l x == n) (a ∷ range_with_len (a + 1) len)))
+    go (inl (is_true, this)) rec = rw is_true (place_more l h n a (filter (λ x. object_of l x == n) (range_with_len (a + 1) len)) (parts_at l (filter (λ x. object_of l x == n) (range_with_len (a + 1) len))) this above rec)
+    go (inr (is_false, other)) rec = rw is_false rec
+
+pub parts_listed : (l : Layout) → IsLayout l → (e : Extent) (object : ℕ) → IsPartsOf l e object (parts_at l (places_in l e object))
+parts_listed l h e object =
+    let listed = listed_at l h object e.at e.len in
+    record { each = listed.each; cover = listed.cover; apart = listed.apart }
+
+-- ---- pieces
+
+-- the pieces of objects that come one after another
+ascending_pieces : (l : Layout) (e : Extent) (a n : ℕ) → AllPairs (λ p q. p.object < q.object) (map (piece_in l e) (range_with_len a n))
+ascending_pieces l e a zero = λ i j d _ less. absurd (none_below j less)
+ascending_pieces l e a (suc n) =
+    AllPairs-cons (λ p q. p.object < q.object) (piece_in l e a) (map (piece_in l e) (range_with_len (a + 1) n)) (above (a + 1) n (omega arith)) (ascending_pieces l e (a + 1) n)
+  where
+    above : (b m : ℕ) → a < b → All (λ q. a < q.object) (map (piece_in l e) (range_with_len b m))
+    above b zero less = All-nil (λ q. a < q.object)
+    above b (suc m) less = All-cons (λ q. a < q.object) (piece_in l e b) (map (piece_in l e) (range_with_len (b + 1) m)) less (above (b + 1) m (omega (arith, less)))
+
+-- where an object has places, it has parts
+placed : (l : Layout) (xs : List ℕ) (parts : List Part) (x : ℕ) → Among x xs → flat_map places_of parts ≡ xs → 0 < length parts
+placed l xs [] x among is = absurd (subst (λ (ys : List ℕ). Among x ys) (sym is) among)
+placed l xs (p ∷ parts) x among is = omega arith
+
+-- the piece of an object among those of a range of objects
+piece_listed : (l : Layout) (e : Extent) (n a len : ℕ) → is_touched (piece_in l e n) ≡ true → a ≤ n → n < a + len → Any (λ p. p.object ≡ n) (filter is_touched (map (piece_in l e) (range_with_len a len)))
+piece_listed l e n a zero touched le less = absurd (omega arith)
+piece_listed l e n a (suc len) touched le less = go (cases_lt a n) (piece_listed l e n (a + 1) len touched)
+  where
+    kept : (b : Bool) (p : Piece) (ps : List Piece) → Any (λ p. p.object ≡ n) ps → Any (λ p. p.object ≡ n) (cond b (p ∷ ps) ps)
+    kept true p ps any = Any-there (λ p. p.object ≡ n) p ps any
+    kept false p ps any = any
+
+    go : (a < n) ⊎ ((a ≡ n) ⊎ (n < a)) → (a + 1 ≤ n → n < a + 1 + len → Any (λ p. p.object ≡ n) (filter is_touched (map (piece_in l e) (range_with_len (a + 1) len))))
+        → Any (λ p. p.object ≡ n) (filter is_touched (piece_in l e a ∷ map (piece_in l e) (range_with_len (a + 1) len)))
+    go (inl lt) rec = kept (is_touched (piece_in l e a)) (piece_in l e a) (filter is_touched (map (piece_in l e) (range_with_len (a + 1) len))) (rec (omega arith) (omega arith))
+    go (inr (inl same)) rec =
+        let this : is_touched (piece_in l e a) ≡ true = ap (λ (k : ℕ). is_touched (piece_in l e k)) same ∙ touched in
+        rw this (Any-here (λ p. p.object ≡ n) (piece_in l e a) (filter is_touched (map (piece_in l e) (range_with_len (a + 1) len))) same)
+    go (inr (inr gt)) rec = absurd (omega arith)
+
+pub pieces_listed : (l : Layout) → IsLayout l → (e : Extent) → IsPieces l e (pieces_of l e)
+pieces_listed l h e = record {
+  parts = All-filter is_touched (λ p. IsPartsOf l e p.object p.parts) (map (piece_in l e) objects)
+      (All-map (λ p. IsPartsOf l e p.object p.parts) (piece_in l e) objects (λ k d _. parts_listed l h e (get_or objects k d)));
+  touched = All-weaker (λ p. is_touched p ≡ true) (λ p. 0 < length p.parts) (λ p is. grind (arith, nat_tests)) (pieces_of l e) (filter_passes is_touched (map (piece_in l e) objects));
+  ascending = AllPairs-filter (λ p q. p.object < q.object) is_touched (map (piece_in l e) objects) (ascending_pieces l e 0 (e.at + e.len));
+  whole = λ x within. whole x within;
+}
+  where
+    objects : List ℕ
+    objects = range_with_len 0 (e.at + e.len)
+
+    number : (x : ℕ) → object_of l x ≤ x
+    number x =
+        let s = shape_of l h in
+        let product : object_of l x * l.unit ≤ x = number_bounded l h x in
+        let unit : 1 ≤ l.unit = omega (arith, s.unit_least) in
+        let times : object_of l x * 1 ≤ object_of l x * l.unit = mul-le-mul_left (object_of l x) unit in
+        omega (arith, product, times)
+
+    touched : (x : ℕ) → IsWithin e x → is_touched (piece_in l e (object_of l x)) ≡ true
+    touched x within =
+        let some : 0 < length (parts_at l (places_in l e (object_of l x))) =
+        placed l (places_in l e (object_of l x)) (parts_at l (places_in l e (object_of l x))) x (place_among l e (object_of l x) x within.0 within.1 refl) (parts_listed l h e (object_of l x)).cover in
+        grind (arith, nat_tests)
+
+    whole : (x : ℕ) → IsWithin e x → Any (λ p. p.object ≡ object_of l x) (pieces_of l e)
+    whole x within = piece_listed l e (object_of l x) 0 (e.at + e.len) (touched x within) (omega arith) (omega (arith, number x, within.1))
+
+pub pieces_of_alone : (l : Layout) → IsLayout l → (e : Extent) (pieces : List Piece) → IsPieces l e pieces → pieces ≡ pieces_of l e
+pieces_of_alone l h e pieces are = pieces_once l e pieces (pieces_of l e) are (pieces_listed l h e)
