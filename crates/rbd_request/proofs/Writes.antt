@@ -1,10 +1,16 @@
 -- Where a write stands, and what it can be fed there.
-use Rattle.std.proofs.Common.{◌≡◌, ℕ, ◌+◌, ◌≤◌, true, false, Bool, List, [], ◌∷◌, ◌++◌, Option, Some, None, refl, sym, ap, ◌∙◌, subst, arith}
+use Rattle.std.proofs.Common.{◌≡◌, ℕ, ◌+◌, ◌≤◌, ◌<◌, suc, length, get_or, All, true, false, Bool, List, [], ◌∷◌, ◌++◌, Option, Some, None, refl, sym, ap, ◌∙◌, subst, arith}
 use Rattle.std.proofs.lemmas.Bool.Decides.{nat_tests}
 use Rattle.rbd_kinds.specs.declared.id.SiteId.{SiteId}
 use Rattle.rbd_kinds.specs.declared.journal.Event.{Event}
 use Rattle.rbd_kinds.specs.declared.journal.Event.TheVariants as event
+use Rattle.rbd_kinds.specs.declared.header.HeaderView.{HeaderView}
 use Rattle.rbd_kinds.specs.declared.layout.Extent.{Extent}
+use Rattle.rbd_kinds.specs.declared.layout.Layout.{Layout}
+use Rattle.rbd_layout.specs.Pieces.{IsPieces}
+use Rattle.rbd_layout.specs.declared.types.Piece.{Piece}
+use Rattle.rbd_layout.proofs.Within.{lies_in}
+use Rattle.rbd_object.specs.Parts.{AreBehind, bytes_for}
 use Rattle.rbd_kinds.specs.declared.machine.Fed.{Fed}
 use Rattle.rbd_kinds.specs.declared.machine.Fed.TheVariants as fed
 use Rattle.rbd_kinds.specs.declared.machine.Want.TheVariants as want
@@ -13,10 +19,10 @@ use Rattle.rbd_flat.specs.Read.{is_within}
 use Rattle.rbd_machine.specs.Answers.{CanBeFed}
 use Rattle.rbd_machine.specs.Plan.{Plan, Await, IsAsking, Notes}
 use Rattle.rbd_machine.specs.Steps.{applied}
-use Rattle.rbd_piece.specs.Write.{rest_of_write}
+use Rattle.rbd_piece.specs.Write.{write_piece, rest_of_write}
 use Rattle.rbd_piece.specs.declared.write_piece.WritePiece.{WritePiece}
 use Rattle.rbd_machine.proofs.Approached.{approach_notes_nothing}
-use Rattle.rbd_request.specs.Write.{rest_of_pieces, rest_at, out_of_range, write_refuses, extent_at, put}
+use Rattle.rbd_request.specs.Write.{rest_of_pieces, write_pieces, rest_at, out_of_range, write_refuses, extent_at, put}
 use Rattle.rbd_request.specs.declared.write.WriteRequest.{WriteRequest}
 use Rattle.rbd_request.specs.declared.write.Stage.{Stage}
 use Rattle.rbd_request.specs.declared.write.Stage.TheVariants as stage
@@ -67,3 +73,23 @@ within_size e size none = go (is_within e size) refl
     go : (b : Bool) → is_within e size ≡ b → e.at + e.len ≤ size
     go true is = grind (arith, nat_tests)
     go false is = let some : out_of_range e size ≡ Some refusal.BadRange = rw is refl in cc
+
+-- ---- pieces that are made
+
+pub pieces_behind : (l : Layout) (e : Extent) (pieces : List Piece) → IsPieces l e pieces → All (λ (p : Piece). AreBehind e.at p.parts) pieces
+pieces_behind l e pieces are = λ k d below k' d' below'. (lies_in l e (get_or pieces k d).object (get_or pieces k d).parts (are.parts k d below) k' d' below').behind
+
+pub behind_first : (at : ℕ) (p : Piece) (pieces : List Piece) → All (λ (q : Piece). AreBehind at q.parts) (p ∷ pieces) → AreBehind at p.parts
+behind_first at p pieces behind = behind 0 p (let some : 0 < length pieces + 1 = omega arith in omega arith)
+
+pub behind_rest : (at : ℕ) (p : Piece) (pieces : List Piece) → All (λ (q : Piece). AreBehind at q.parts) (p ∷ pieces) → All (λ (q : Piece). AreBehind at q.parts) pieces
+behind_rest at p pieces behind = λ k d below. behind (suc k) d (omega arith)
+
+pub next_made : (site : SiteId) (image : ℕ) (h : HeaderView) (at : ℕ) (bytes : List ℕ) (made : List WritePiece) (w : WritePiece) (p : Piece) (pieces : List Piece) (next : Plan)
+    → ((rest : Plan) → rest_of_write w rest ≡ write_piece site image h p (bytes_for p.parts at bytes) rest) → w.piece.object ≡ p.object
+    → rest_of_pieces (made ++ w ∷ []) (write_pieces site image h at bytes pieces next) ≡ rest_of_pieces made (write_pieces site image h at bytes (p ∷ pieces) next)
+next_made site image h at bytes made w p pieces next is object =
+    rest_of_more made w (write_pieces site image h at bytes pieces next)
+    ∙ ap (rest_of_pieces made)
+    (ap (λ n. Await (want.Turn n) (rest_of_write w (write_pieces site image h at bytes pieces next))) object
+    ∙ ap (Await (want.Turn p.object)) (is (write_pieces site image h at bytes pieces next)))

@@ -1,7 +1,11 @@
-use Rattle.std.proofs.Common.{◌+◌, ◌≤◌, length, arith}
+use Rattle.std.proofs.Common.{◌≡◌, ◌+◌, ◌≤◌, ◌∷◌, List, length, All, arith, sym, ap, ◌∙◌, subst}
 use Rattle.rbd_layout.proofs.Bounds.{few_bytes}
-use Rattle.rbd_request.specs.Write.{extent_at}
-use Rattle.rbd_request.proofs.Writes.{within_size}
+use Rattle.rbd_layout.proofs.Listed.{pieces_of_alone}
+use Rattle.rbd_layout.specs.Pieces.{pieces_of}
+use Rattle.rbd_layout.specs.declared.types.Piece.{Piece}
+use Rattle.rbd_object.specs.Parts.{AreBehind}
+use Rattle.rbd_request.specs.Write.{extent_at, rest_of_pieces, write_pieces}
+use Rattle.rbd_request.proofs.Writes.{within_size, pieces_behind, behind_first, behind_rest, next_made}
 use Rattle.rbd_request.proofs.pieces.write_pieces.Goals as goal
 
 pub pieces-requires-clause-end : goal.pieces-requires-clause-end
@@ -9,3 +13,28 @@ pieces-requires-clause-end c =
     let few : c.args.header.now.size ≤ 35184372088832 = few_bytes c.args.header.now.layout c.requires.form.layout c.args.header.now.size c.requires.form.objects in
     let within : c.args.at + length c.args.bytes.now ≤ c.args.header.now.size = within_size (extent_at c.args.at c.args.bytes.now) c.args.header.now.size c.requires.fits in
     omega arith
+
+pub loop-piece-init : goal.loop-piece-init
+loop-piece-init c =
+    let e = extent_at c.args.at c.args.bytes.now in
+    let h = c.args.header.now in
+    let given : c.into_iter-piece-iterator.result.rest.items ≡ c.in_ok-listed.listed.items = c.into_iter-piece-iterator.ensures.into_iter_gives.0 in
+    record {
+      made = λ next. rw c.new-made.ensures.items (ap (λ pieces. write_pieces c.args.site c.args.image h c.args.at c.args.bytes.now pieces next) (given ∙ pieces_of_alone h.layout c.requires.form.layout e c.in_ok-listed.listed.items c.in_ok-listed.ensures.pieces));
+      behind = subst (All (λ (p : Piece). AreBehind c.args.at p.parts)) (sym given) (pieces_behind h.layout e c.in_ok-listed.listed.items c.in_ok-listed.ensures.pieces);
+    }
+
+pub write_piece-requires : goal.write_piece-requires
+write_piece-requires c = behind_first c.args.at c.in-Some.piece c.next.new.self.rest.items (subst (All (λ (p : Piece). AreBehind c.args.at p.parts)) c.in-Some.ensures.steps.0 c.loop-piece.invariant.behind)
+
+pub loop-piece-preserved : goal.loop-piece-preserved
+loop-piece-preserved c =
+    let h = c.args.header.now in
+    record {
+      made = λ next.
+          subst (λ made. rest_of_pieces made (write_pieces c.args.site c.args.image h c.args.at c.args.bytes.now c.next.new.self.rest.items next) ≡ write_pieces c.args.site c.args.image h c.args.at c.args.bytes.now (pieces_of h.layout (extent_at c.args.at c.args.bytes.now)) next) (sym c.in_ok-push_back.ensures.items)
+          (next_made c.args.site c.args.image h c.args.at c.args.bytes.now c.loop-piece.made.items c.in_ok-write_piece.field-0 c.in-Some.piece c.next.new.self.rest.items next c.in_ok-write_piece.ensures.plan c.in_ok-write_piece.ensures.object
+          ∙ ap (λ pieces. rest_of_pieces c.loop-piece.made.items (write_pieces c.args.site c.args.image h c.args.at c.args.bytes.now pieces next)) (sym c.in-Some.ensures.steps.0)
+          ∙ c.loop-piece.invariant.made next);
+      behind = behind_rest c.args.at c.in-Some.piece c.next.new.self.rest.items (subst (All (λ (p : Piece). AreBehind c.args.at p.parts)) c.in-Some.ensures.steps.0 c.loop-piece.invariant.behind);
+    }
