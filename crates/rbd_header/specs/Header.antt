@@ -1,5 +1,5 @@
 -- What a header tells, and what each change of it does.
-use Rattle.std.specs.Prelude.{reverse, ℕ, ◌+◌, ◌==◌, nat_le, min, not, Bool, ◌||◌, false, List, [], ◌∷◌, ◌++◌, length, map, Option, None, Some, if◌then◌else◌}
+use Rattle.std.specs.Prelude.{option_map, reverse, ℕ, ◌+◌, ◌==◌, nat_le, min, not, Bool, ◌||◌, false, List, [], ◌∷◌, ◌++◌, length, map, Option, None, Some, if◌then◌else◌}
 use Rattle.std.specs.List.{filter}
 use Rattle.rbd_kinds.specs.declared.header.HeaderView.{HeaderView}
 use Rattle.rbd_kinds.specs.declared.header.SnapContext.{SnapContext}
@@ -10,6 +10,8 @@ use Rattle.rbd_kinds.specs.declared.header.Role.{Role}
 use Rattle.rbd_kinds.specs.declared.header.Role.TheVariants.{Primary}
 use Rattle.rbd_kinds.specs.declared.header.SnapStatus.{SnapStatus}
 use Rattle.rbd_kinds.specs.declared.header.SnapStatus.TheVariants.{Unprotected}
+use Rattle.rbd_kinds.specs.Header.{snap_named}
+use Rattle.rbd_header.specs.declared.view.View.{View}
 
 -- the first snapshot with an id
 abbrev pub snap_in : List SnapView → ℕ → Option SnapView
@@ -68,3 +70,13 @@ with_global global h = record h { global = Some global; role = Primary; generati
 
 abbrev pub in_step : HeaderView → HeaderView
 in_step h = record h { syncing = false; generation = h.generation + 1 }
+
+-- ---- views
+
+-- the view of a name, the head where there is none
+abbrev pub view_of_snap : SnapView → View
+view_of_snap snap = record { snap = Some snap.id; size = snap.size }
+
+abbrev pub view_of : HeaderView → (name : Option (List ℕ)) → Option View
+view_of h None = Some (record { snap = None; size = h.size })
+view_of h (Some name) = option_map view_of_snap (snap_named h.snaps name)

@@ -32,8 +32,10 @@ mod lookup;
 mod snaps;
 #[cfg(test)]
 mod tests;
+mod view;
 
 pub use context::{context_of, ids_of};
 pub use fault::{Held, SnapAddFault};
 pub use header::Header;
 pub use lookup::snapshot;
+pub use view::{View, view_of};

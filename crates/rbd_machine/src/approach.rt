@@ -6,13 +6,11 @@ ghost use Rattle.rbd_kinds.specs.declared.refusal.Refusal.{Refusal};
 ghost use Rattle.rbd_machine.specs.Plan.{Plan, Wants, Asks, plan_after};
 ghost use Rattle.rbd_machine.specs.Steps.{change};
 ghost use Rattle.rbd_machine.specs.Approach.{rest_of, Approaches, owning_at};
-ghost use Rattle.rbd_kinds.specs.declared.operation.Op.TheVariants.{Header};
-ghost use Rattle.rbd_kinds.specs.declared.header_op.HeaderOp.TheVariants.{Get};
 
+use crate::looks::{dir_find, header_get};
 use crate::told::{told_header, told_image};
 use rbd_kinds::{
-    Answer, DirectoryOp, Fed, HeaderOp, HeaderView, ImageId, Name, NoMemory, Op, OpKind, Refusal,
-    SiteId, TryClone, Want,
+    Answer, Fed, HeaderView, ImageId, Name, NoMemory, Op, OpKind, Refusal, SiteId, Want,
 };
 
 /// What a change refuses by the header that it looks at.
@@ -120,9 +118,7 @@ impl Approach {
         ensures { (refuses : HeaderView → Option Refusal) (act : ℕ → HeaderView → Plan) → IfOk result (Asks (rest_of self.now refuses act)) }
     {
         match &self.at {
-            Place::Finding => Ok(Op::Directory(DirectoryOp::Find {
-                name: self.name.try_clone()?,
-            })),
+            Place::Finding => dir_find(&self.name),
             Place::Joining(image) => Ok(header_get(*image)),
             Place::Looking(image) => Ok(header_get(*image)),
             Place::Holding(image) => Ok(header_get(*image)),
@@ -200,15 +196,5 @@ impl Approach {
             },
             _ => Course::More,
         }
-    }
-}
-
-/// A look at a header.
-fn header_get(image: ImageId) -> Op
-    ensures { result ≡ Header image Get }
-{
-    Op::Header {
-        image,
-        op: HeaderOp::Get,
     }
 }

@@ -63,4 +63,4 @@ mod versions;
 
 pub use content::LARGEST_OBJECT;
 pub use object::Object;
-pub use parts::{gather, scatter, shifted_parts};
+pub use parts::{copy_window, gather, scatter, shifted_parts};

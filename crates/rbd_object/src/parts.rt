@@ -60,6 +60,7 @@ fn append_window(read: &mut Vec<u8>, bytes: &[u8], part: &Part) -> Result<(), No
     Ok(())
 }
 
+/// Fills a buffer with the bytes from `at` on, and with zeros past the last. It takes no memory.
 pub fn copy_window(bytes: &[u8], at: usize, into: &mut [u8])
     ensures { into.new ≡ window bytes.now at (length into.old) }
 {

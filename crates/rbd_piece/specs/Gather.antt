@@ -1,5 +1,5 @@
 -- Reading the pieces of a view, one after another.
-use Rattle.std.specs.Prelude.{◌≡◌, ◌+◌, ◌≤◌, length, vec_len, vec_capacity, ℕ, List, [], ◌∷◌, ◌++◌, replicate, Option, Some, None}
+use Rattle.std.specs.Prelude.{◌≡◌, ◌+◌, ◌≤◌, length, vec_len, vec_capacity, ℕ, List, [], ◌∷◌, ◌++◌, replicate, Option}
 use Rattle.rbd_kinds.specs.declared.answer.Answer.{Answer}
 use Rattle.rbd_kinds.specs.declared.answer.Answer.TheVariants as answer
 use Rattle.rbd_kinds.specs.declared.data_op.DataOp.TheVariants as object
@@ -34,11 +34,6 @@ gather site image snap (p ∷ pieces) read next =
 -- what is left of one
 abbrev pub rest_of_gather : Gather → (next : List ℕ → Plan) → Plan
 rest_of_gather g next = gather g.site g.image g.snap (g.piece ∷ g.pieces.items) g.bytes.items next
-
--- one that begins; where there are no pieces, what comes next
-abbrev pub IsGathering : (next : List ℕ → Plan) → (plan : Plan) → Option Gather → Type 0
-IsGathering next plan None = plan ≡ next []
-IsGathering next plan (Some g) = rest_of_gather g next ≡ plan
 
 -- Pieces were read, and it goes on, or all were, or the request has ended.
 abbrev pub Gathers : (next : List ℕ → Plan) → (to : Plan) → Progress → (new : Gather) → Type 0

@@ -1,12 +1,12 @@
 //! Reading the pieces of a view.
-ghost use Rattle.std.specs.Prelude.{◌≡◌, ℕ, ◌+◌, ◌≤◌, ◌^◌, None, ◌∷◌, ◌++◌, replicate, List, [], length, vec_capacity, vec_len, IfOk, IfSome, OnOk, OnErr};
+ghost use Rattle.std.specs.Prelude.{◌≡◌, ℕ, ◌+◌, ◌<◌, ◌≤◌, ◌^◌, None, ◌∷◌, ◌++◌, replicate, List, [], length, vec_capacity, vec_len, IfOk, IfSome, OnOk, OnErr};
 ghost use Rattle.rbd_kinds.specs.declared.machine.Fed.TheVariants as fed_with;
 ghost use Rattle.rbd_kinds.specs.declared.reply.Reply.TheVariants.{Done};
 ghost use Rattle.rbd_object.specs.Parts.{parts_len};
 ghost use Rattle.rbd_machine.specs.Answers.{CanBeFed};
 ghost use Rattle.rbd_machine.specs.Plan.{Plan, Return, Wants, Asks, plan_after, without_labels};
 ghost use Rattle.rbd_machine.specs.Steps.{Progresses, going};
-ghost use Rattle.rbd_piece.specs.Gather.{gather, rest_of_gather, IsGathering, Gathers, HasRoom, IsRoomFor, on_bytes};
+ghost use Rattle.rbd_piece.specs.Gather.{gather, rest_of_gather, Gathers, HasRoom, IsRoomFor, on_bytes};
 
 use rbd_kinds::{
     Answer, Bytes, DataOp, Event, Fed, ImageId, NoMemory, Op, OpKind, Part, Refusal, Reply, SiteId,
@@ -16,6 +16,7 @@ use rbd_layout::Piece;
 use rbd_machine::{Machine, Progress, refusal_of};
 use std::alloc::Global;
 use std::collections::VecDeque;
+use std::mem::replace;
 
 /// The bytes of some pieces of a view, the head or a snapshot, read one object after another.
 ///
@@ -42,26 +43,27 @@ pub struct Gather {
 }
 
 impl Gather {
-    /// Reads these pieces, one at least. It is `None` exactly where there is none. It takes no memory.
+    /// Reads these pieces, one at least. It takes no memory.
     pub fn new(
         alloc: Global,
         site: SiteId,
         image: ImageId,
         snap: Option<SnapId>,
         pieces: Vec<Piece>,
-    ) -> Option<Self>
-        ensures { (next : List ℕ → Plan) → IsGathering next (gather site image snap pieces.items [] next) result }
+    ) -> Self
+        requires { 0 < length pieces.items }
+        ensures { (next : List ℕ → Plan) → rest_of_gather result next ≡ gather site image snap pieces.items [] next }
     {
         let mut pieces = VecDeque::from_vec(pieces);
-        let piece = pieces.pop_front()?;
-        Some(Gather {
+        let piece = pieces.pop_front().unwrap();
+        Gather {
             site,
             image,
             snap,
             piece,
             pieces,
             bytes: Vec::new(alloc),
-        })
+        }
     }
 
     /// What was read so far, in the order of the pieces and of their parts.
@@ -69,6 +71,14 @@ impl Gather {
         ensures { result.now ≡ self.now.bytes.items }
     {
         self.bytes.as_slice()
+    }
+
+    /// Takes what was read so far out of it, without a copy.
+    pub fn take_bytes(&mut self) -> Bytes
+        ensures { result ≡ self.old.bytes.items }
+    {
+        let none = Vec::new(*self.bytes.allocator());
+        Bytes::from_vec(replace(&mut self.bytes, none))
     }
 
     /// What it wants.

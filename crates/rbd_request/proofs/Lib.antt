@@ -1,1 +1,3 @@
+pub mod Arranged
+pub mod Looks
 pub mod Writes

@@ -1,1 +1,3 @@
+pub mod Arrange
+pub mod Read
 pub mod Write

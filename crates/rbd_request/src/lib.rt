@@ -1,8 +1,11 @@
 //! Requests that read and write bytes.
 #![tactic(auto)]
 
+mod arrange;
 mod extent;
 mod pieces;
+mod read;
 mod write;
 
+pub use read::ReadRequest;
 pub use write::WriteRequest;

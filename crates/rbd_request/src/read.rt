@@ -1,0 +1,186 @@
+//! `read`
+ghost use Rattle.std.specs.Prelude.{◌≡◌, ℕ, true, false, Option, Some, None, List, [], IfOk, OnOk, OnErr};
+ghost use Rattle.rbd_kinds.specs.declared.machine.Fed.TheVariants as fed_with;
+ghost use Rattle.rbd_kinds.specs.declared.header.HeaderView.{HeaderView};
+ghost use Rattle.rbd_kinds.specs.Form.{IsHeaderInForm};
+ghost use Rattle.rbd_header.specs.Header.{view_of as named_view};
+ghost use Rattle.rbd_header.specs.declared.view.View.{View};
+ghost use Rattle.rbd_layout.specs.Pieces.{pieces_of};
+ghost use Rattle.rbd_piece.specs.Gather.{gather as gathered, rest_of_gather};
+ghost use Rattle.rbd_machine.specs.Plan.{Plan, Wants, Asks, GoesOn, plan_after};
+ghost use Rattle.rbd_machine.specs.Ready.{IsReadyFor};
+ghost use Rattle.rbd_machine.specs.Steps.{going};
+ghost use Rattle.rbd_request.specs.Read as of_read;
+ghost use Rattle.rbd_request.specs.Write.{out_of_range};
+ghost use Rattle.rbd_request.specs.declared.read.Phase.TheVariants as phase;
+
+use crate::arrange::arrange;
+use crate::extent::out_of_range as refused_range;
+use rbd_header::{View, view_of};
+use rbd_kinds::{
+    Answer, Bytes, Command, DirectoryOp, Event, Extent, Fed, HeaderOp, HeaderView, ImageId, Layout,
+    Name, NoMemory, Op, OpKind, Refusal, Reply, SiteId, TryClone, Turn, Want,
+};
+use rbd_layout::pieces;
+use rbd_machine::{Machine, Progress, refusal_of, told_header, told_image};
+use rbd_piece::Gather;
+use std::alloc::Global;
+
+/// A read of bytes of an image or of a snapshot. It needs no lock: that nothing changed while it went from object to
+/// object is shown by the header's generation, before and after.
+///
+/// ```text
+///    ┌─────────▶ Finding    dir-find     ──none──▶ NoImage
+///    │              │ id
+///    │           Looking    header-get   ──none──▶ NoImage; or NoSnap, BadRange by this header
+///    │              │ header
+///    │           Gathering  a data-read for each object   (see `Gather`)
+///    │              │
+///    └── none ── Closing    header-get
+///        or another │ the same generation
+///        generation ▼
+///                the bytes
+/// ```
+#[derive(Debug, Drop)]
+pub struct ReadRequest {
+    site: SiteId,
+    name: Name,
+    snap: Option<Name>,
+    extent: Extent,
+    phase: Phase,
+    /// The pieces that are read, made ready for the first look.
+    prepared: Option<Gather>,
+    /// The reply's bytes, made ready for the closing look.
+    shown: Option<Bytes>,
+}
+
+/// A phase of a read, with what it found out.
+#[derive(Debug, Drop)]
+pub enum Phase {
+    Finding,
+    Looking(ImageId),
+    Gathering(ImageId, Looked, Gather),
+    Closing(ImageId, Looked, Bytes),
+}
+
+/// What a read keeps of the header that it looked at.
+#[derive(Clone, Copy, Debug)]
+pub struct Looked {
+    pub layout: Layout,
+    pub generation: u64,
+}
+
+impl ReadRequest {
+    /// A `read` at the session's home site. It takes no memory.
+    pub fn new(home: SiteId, command: Command) -> Self
+        requires { of_read.is_read command ≡ true }
+        ensures { of_read.IsReadOf home command (of_read.standing_of result) }
+    {
+        match command {
+            Command::Read {
+                image,
+                snap,
+                at,
+                len,
+            } => ReadRequest {
+                site: home,
+                name: image,
+                snap,
+                extent: Extent {
+                    at: at.get(),
+                    len: len.get(),
+                },
+                phase: Phase::Finding,
+                prepared: None,
+                shown: None,
+            },
+            _ => unreachable!(),
+        }
+    }
+
+    /// The view that a header shows, or why the read is refused.
+    fn view(&self, header: &HeaderView) -> Result<View, Refusal>
+        ensures plan { (image : ℕ) → of_read.reading self.now.site self.now.snap self.now.extent image header.now
+            ≡ going (of_read.gathering self.now.site image header.now self.now.extent) result }
+        ensures view { IfOk result (λ view. named_view header.now self.now.snap ≡ Some view) }
+        ensures fits { IfOk result (λ view. out_of_range self.now.extent view.size ≡ None) }
+        ensures none { OnErr result ((view : View) → named_view header.now self.now.snap ≡ Some view → out_of_range self.now.extent view.size ≡ None → ⊥) }
+    {
+        let Some(view) = view_of(header, self.snap.as_ref()) else {
+            return Err(Refusal::NoSnap);
+        };
+        match refused_range(&self.extent, view.size) {
+            Some(refusal) => Err(refusal),
+            None => Ok(view),
+        }
+    }
+}
+
+impl ReadRequest {
+    /// Takes the memory for the first look: the pieces that are read, where it isn't refused.
+    fn prepare(
+        &mut self,
+        alloc: Global,
+        image: ImageId,
+        header: &HeaderView,
+    ) -> Result<(), NoMemory>
+        requires { IsHeaderInForm header.now }
+        ensures same { of_read.standing_of self.new ≡ of_read.standing_of self.old }
+        ensures phase { self.new.phase ≡ self.old.phase }
+        ensures prepared { OnOk result (of_read.IsPrepared self.new image header.now) }
+    {
+        match self.view(header) {
+            Ok(view) => {
+                let gather = self.gather(alloc, image, header, &view)?;
+                self.prepared = Some(gather);
+                Ok(())
+            }
+            Err(_refusal) => Ok(()),
+        }
+    }
+
+    /// The pieces of a view that are read.
+    fn gather(
+        &self,
+        alloc: Global,
+        image: ImageId,
+        header: &HeaderView,
+        view: &View,
+    ) -> Result<Gather, NoMemory>
+        requires form { IsHeaderInForm header.now }
+        requires view { named_view header.now self.now.snap ≡ Some view.now }
+        requires fits { out_of_range self.now.extent view.now.size ≡ None }
+        ensures { IfOk result (λ g. (next : List ℕ → Plan) → rest_of_gather g next ≡ gathered self.now.site image view.now.snap (pieces_of header.now.layout self.now.extent) [] next) }
+    {
+        let listed = pieces(alloc, &header.layout, &self.extent)?;
+        Ok(Gather::new(alloc, self.site, image, view.snap, listed))
+    }
+
+    /// Goes on with the answer to the first look.
+    fn look(&mut self, image: ImageId, answer: &Answer) -> Turn
+        requires at { self.old.phase ≡ phase.Looking image }
+        requires ready { of_read.IsReady self.old answer.now }
+        ensures { GoesOn (of_read.standing_of self.old).labels (plan_after (of_read.rest_at (phase.Looking image) self.old) (fed_with.Answer answer.now)) result (of_read.standing_of self.new) }
+    {
+        let header = match told_header(answer) {
+            Ok(header) => header,
+            Err(refusal) => return Turn::Done(Reply::Refused(refusal)),
+        };
+        match self.view(header) {
+            Err(refusal) => Turn::Done(Reply::Refused(refusal)),
+            Ok(_view) => {
+                let looked = Looked {
+                    layout: header.layout,
+                    generation: header.generation,
+                };
+                match self.prepared.take() {
+                    Some(gather) => {
+                        self.phase = Phase::Gathering(image, looked, gather);
+                        Turn::More
+                    }
+                    None => unreachable!(),
+                }
+            }
+        }
+    }
+}
