@@ -16,7 +16,9 @@ use Rattle.rbd_layout.specs.declared.types.Piece.{Piece}
 use Rattle.rbd_flat.specs.Read.{is_within}
 use Rattle.rbd_header.specs.Header.{view_of, view_of_snap}
 use Rattle.rbd_header.specs.declared.view.View.{View}
+use Rattle.rbd_layout.proofs.Bounds.{few_bytes}
 use Rattle.rbd_request.specs.Write.{out_of_range}
+use Rattle.rbd_request.proofs.Writes.{within_size}
 
 -- an extent that fits has a byte
 pub some_bytes : (e : Extent) (size : ℕ) → out_of_range e size ≡ None → 0 < e.len
@@ -54,3 +56,10 @@ few_in_view h (Some name) view form is = go (snap_named h.snaps name) refl
         let some : Some (view_of_snap s) ≡ Some view = sym (ap (option_map view_of_snap) there) ∙ is in
         let same : s.size ≡ view.size = cc in
         subst (HasFewObjects h.layout) same (named_in_form h.layout h.snaps name s form.snaps there).objects
+
+-- so an extent that fits into one ends early
+pub ends_early : (h : HeaderView) (snap : Option (List ℕ)) (view : View) (e : Extent) → IsHeaderInForm h → view_of h snap ≡ Some view → out_of_range e view.size ≡ None → e.at + e.len ≤ 35184372088832
+ends_early h snap view e form is fits =
+    let few : view.size ≤ 35184372088832 = few_bytes h.layout form.layout view.size (few_in_view h snap view form is) in
+    let within : e.at + e.len ≤ view.size = within_size e view.size fits in
+    omega arith

@@ -1,3 +1,4 @@
 pub mod Arrange
 pub mod Read
+pub mod Seen
 pub mod Write

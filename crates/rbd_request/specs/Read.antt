@@ -1,5 +1,5 @@
 -- `read`: a pass over the objects between two looks at the header, which is made again where the header changed.
-use Rattle.std.specs.Prelude.{◌≡◌, ℕ, zero, ◌==◌, List, [], ◌∷◌, length, replicate, Bool, true, false, if◌then◌else◌, Option, Some, None}
+use Rattle.std.specs.Prelude.{◌≡◌, ℕ, ◌==◌, List, [], Bool, true, false, if◌then◌else◌, Option, Some, None}
 use Rattle.rbd_kinds.specs.declared.answer.Answer.{Answer}
 use Rattle.rbd_kinds.specs.declared.answer.Answer.TheVariants as answer
 use Rattle.rbd_kinds.specs.declared.command.Command.{Command}
@@ -11,6 +11,7 @@ use Rattle.rbd_kinds.specs.declared.layout.Extent.{Extent}
 use Rattle.rbd_kinds.specs.declared.operation.Op.TheVariants as op
 use Rattle.rbd_kinds.specs.declared.refusal.Refusal.TheVariants as refusal
 use Rattle.rbd_kinds.specs.declared.reply.Reply.TheVariants as reply
+use Rattle.rbd_kinds.specs.Form.{IsHeaderInForm}
 use Rattle.rbd_layout.specs.Pieces.{pieces_of}
 use Rattle.rbd_header.specs.Header.{view_of}
 use Rattle.rbd_header.specs.declared.view.View.{View}
@@ -18,9 +19,8 @@ use Rattle.rbd_machine.specs.Plan.{Plan, Ask, Return, Goto, Standing}
 use Rattle.rbd_machine.specs.Steps.{refused, not_there, unless, find, look}
 use Rattle.rbd_piece.specs.Gather.{gather, rest_of_gather, HasRoom}
 use Rattle.rbd_piece.specs.declared.gather.Gather.{Gather}
-use Rattle.rbd_request.specs.Arrange.{arranged}
+use Rattle.rbd_request.specs.Seen.{Seen, seen_at, shown}
 use Rattle.rbd_request.specs.Write.{out_of_range}
-use Rattle.rbd_request.specs.declared.read.Looked.{Looked}
 use Rattle.rbd_request.specs.declared.read.ReadRequest.{ReadRequest}
 use Rattle.rbd_request.specs.declared.read.Phase.{Phase}
 use Rattle.rbd_request.specs.declared.read.Phase.TheVariants as phase
@@ -32,25 +32,18 @@ is_read _ = false
 
 -- ---- the steps of a pass
 
--- the bytes of an extent, by a layout, out of those that were read object by object
-abbrev pub shown : Looked → Extent → (read : List ℕ) → List ℕ
-shown looked e read = arranged e.at (pieces_of looked.layout e) read (replicate e.len 0)
-
 -- The closing look. Where the header is still what it was, the bytes are the reply. Where it changed, or is gone,
 -- the read begins again.
-abbrev pub on_closing : Looked → Extent → (read : List ℕ) → Answer → Plan
-on_closing looked e read (answer.Header h) = if h.generation == looked.generation then Return (reply.Bytes (shown looked e read)) else Goto 0
-on_closing looked e read answer.Absent = Goto 0
-on_closing looked e read a = not_there a
+abbrev pub on_closing : Seen → (read : List ℕ) → Answer → Plan
+on_closing seen read (answer.Header h) = if h.generation == seen.generation then Return (reply.Bytes (shown seen read)) else Goto 0
+on_closing seen read answer.Absent = Goto 0
+on_closing seen read a = not_there a
 
-abbrev pub closing : SiteId → (image : ℕ) → Looked → Extent → (read : List ℕ) → Plan
-closing site image looked e read = Ask site (op.Header image header.Get) (on_closing looked e read)
-
-abbrev pub looked_at : HeaderView → Looked
-looked_at h = record { layout = h.layout; generation = h.generation }
+abbrev pub closing : SiteId → (image : ℕ) → Seen → (read : List ℕ) → Plan
+closing site image seen read = Ask site (op.Header image header.Get) (on_closing seen read)
 
 abbrev pub gathering : SiteId → (image : ℕ) → HeaderView → Extent → View → Plan
-gathering site image h e view = gather site image view.snap (pieces_of h.layout e) [] (closing site image (looked_at h) e)
+gathering site image h e view = gather site image view.snap (pieces_of h.layout e) [] (closing site image (seen_at h e))
 
 abbrev pub viewing : SiteId → (image : ℕ) → HeaderView → Extent → Option View → Plan
 viewing site image h e None = refused refusal.NoSnap
@@ -79,8 +72,8 @@ IsReadOf site _ standing = ⊥
 abbrev pub rest_at : Phase → ReadRequest → Plan
 rest_at phase.Finding r = pass r.site r.name r.snap r.extent
 rest_at (phase.Looking image) r = looking r.site r.snap r.extent image
-rest_at (phase.Gathering image looked g) r = rest_of_gather g (closing r.site image looked r.extent)
-rest_at (phase.Closing image looked read) r = closing r.site image looked r.extent read
+rest_at (phase.Gathering image seen g) r = rest_of_gather g (closing r.site image seen)
+rest_at (phase.Closing image seen read) r = closing r.site image seen read
 
 abbrev pub standing_of : ReadRequest → Standing
 standing_of r = read_standing r.site r.name r.snap r.extent (rest_at r.phase r)
@@ -97,14 +90,19 @@ IsPrepared r image h = (view : View) → view_of h r.snap ≡ Some view → out_
     → IsPreparedBy (λ next. gather r.site image view.snap (pieces_of h.layout r.extent) [] next) r.prepared
 
 -- the closing look: the reply
-abbrev pub IsShown : ReadRequest → Looked → (read : List ℕ) → HeaderView → Type 0
-IsShown r looked read h = (h.generation == looked.generation) ≡ true → r.shown ≡ Some (shown looked r.extent read)
+abbrev pub IsShown : ReadRequest → Seen → (read : List ℕ) → HeaderView → Type 0
+IsShown r seen read h = (h.generation == seen.generation) ≡ true → r.shown ≡ Some (shown seen read)
 
 abbrev pub IsReadyAt : Phase → ReadRequest → Answer → Type 0
 IsReadyAt (phase.Looking image) r (answer.Header h) = IsPrepared r image h
-IsReadyAt (phase.Gathering image looked g) r a = HasRoom g a
-IsReadyAt (phase.Closing image looked read) r (answer.Header h) = IsShown r looked read h
+IsReadyAt (phase.Gathering image seen g) r a = HasRoom g a
+IsReadyAt (phase.Closing image seen read) r (answer.Header h) = IsShown r seen read h
 IsReadyAt _ r _ = Unit {0}
 
 abbrev pub IsReady : ReadRequest → Answer → Type 0
 IsReady r a = IsReadyAt r.phase r a
+
+-- a header that is told is in form
+abbrev pub IsHeaderToldInForm : Answer → Type 0
+IsHeaderToldInForm (answer.Header h) = IsHeaderInForm h
+IsHeaderToldInForm _ = Unit {0}

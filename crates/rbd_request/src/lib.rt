@@ -3,6 +3,7 @@
 
 mod arrange;
 mod extent;
+mod looked;
 mod pieces;
 mod read;
 mod write;

@@ -1,5 +1,5 @@
 //! `read`
-ghost use Rattle.std.specs.Prelude.{◌≡◌, ℕ, true, false, Option, Some, None, List, [], IfOk, OnOk, OnErr};
+ghost use Rattle.std.specs.Prelude.{◌≡◌, ◌==◌, ℕ, true, false, Option, Some, None, List, [], IfOk, OnOk, OnErr};
 ghost use Rattle.rbd_kinds.specs.declared.machine.Fed.TheVariants as fed_with;
 ghost use Rattle.rbd_kinds.specs.declared.header.HeaderView.{HeaderView};
 ghost use Rattle.rbd_kinds.specs.Form.{IsHeaderInForm};
@@ -11,18 +11,19 @@ ghost use Rattle.rbd_machine.specs.Plan.{Plan, Wants, Asks, GoesOn, plan_after};
 ghost use Rattle.rbd_machine.specs.Ready.{IsReadyFor};
 ghost use Rattle.rbd_machine.specs.Steps.{going};
 ghost use Rattle.rbd_request.specs.Read as of_read;
+ghost use Rattle.rbd_request.specs.Seen as of_seen;
 ghost use Rattle.rbd_request.specs.Write.{out_of_range};
 ghost use Rattle.rbd_request.specs.declared.read.Phase.TheVariants as phase;
 
-use crate::arrange::arrange;
 use crate::extent::out_of_range as refused_range;
+use crate::looked::Looked;
 use rbd_header::{View, view_of};
 use rbd_kinds::{
     Answer, Bytes, Command, DirectoryOp, Event, Extent, Fed, HeaderOp, HeaderView, ImageId, Layout,
     Name, NoMemory, Op, OpKind, Refusal, Reply, SiteId, TryClone, Turn, Want,
 };
 use rbd_layout::pieces;
-use rbd_machine::{Machine, Progress, refusal_of, told_header, told_image};
+use rbd_machine::{Machine, Progress, dir_find, header_get, refusal_of, told_header, told_image};
 use rbd_piece::Gather;
 use std::alloc::Global;
 
@@ -61,13 +62,6 @@ pub enum Phase {
     Looking(ImageId),
     Gathering(ImageId, Looked, Gather),
     Closing(ImageId, Looked, Bytes),
-}
-
-/// What a read keeps of the header that it looked at.
-#[derive(Clone, Copy, Debug)]
-pub struct Looked {
-    pub layout: Layout,
-    pub generation: u64,
 }
 
 impl ReadRequest {
@@ -159,6 +153,7 @@ impl ReadRequest {
     /// Goes on with the answer to the first look.
     fn look(&mut self, image: ImageId, answer: &Answer) -> Turn
         requires at { self.old.phase ≡ phase.Looking image }
+        requires form { of_read.IsHeaderToldInForm answer.now }
         requires ready { of_read.IsReady self.old answer.now }
         ensures { GoesOn (of_read.standing_of self.old).labels (plan_after (of_read.rest_at (phase.Looking image) self.old) (fed_with.Answer answer.now)) result (of_read.standing_of self.new) }
     {
@@ -169,10 +164,7 @@ impl ReadRequest {
         match self.view(header) {
             Err(refusal) => Turn::Done(Reply::Refused(refusal)),
             Ok(_view) => {
-                let looked = Looked {
-                    layout: header.layout,
-                    generation: header.generation,
-                };
+                let looked = Looked::new(header, &self.extent);
                 match self.prepared.take() {
                     Some(gather) => {
                         self.phase = Phase::Gathering(image, looked, gather);
@@ -181,6 +173,134 @@ impl ReadRequest {
                     None => unreachable!(),
                 }
             }
+        }
+    }
+}
+
+/// Takes the memory for the closing look: the reply's bytes, where the header is still what it was.
+fn show(
+    alloc: Global,
+    shown: &mut Option<Bytes>,
+    looked: &Looked,
+    read: &[u8],
+    header: &HeaderView,
+) -> Result<(), NoMemory>
+    ensures { OnOk result ((header.now.generation == looked.now.generation) ≡ true → shown.new ≡ Some (of_seen.shown looked.now read.now)) }
+{
+    if !looked.is_still(header) {
+        return Ok(());
+    }
+    *shown = Some(looked.arranged(alloc, read)?);
+    Ok(())
+}
+
+impl Machine for ReadRequest {
+    ghost stands = { of_read.standing_of };
+
+    ghost is_ready = { of_read.IsReady };
+
+    fn wants(&self) -> Want {
+        let site = self.site;
+        match &self.phase {
+            Phase::Finding => Want::Op {
+                site,
+                kind: OpKind::DirFind,
+            },
+            Phase::Looking(_) => Want::Op {
+                site,
+                kind: OpKind::HeaderGet,
+            },
+            Phase::Gathering(_, _, gather) => gather.wants(),
+            Phase::Closing(_, _, _) => Want::Op {
+                site,
+                kind: OpKind::HeaderGet,
+            },
+        }
+    }
+
+    fn next(&self, _alloc: Global) -> Result<Op, NoMemory> {
+        match &self.phase {
+            Phase::Finding => dir_find(&self.name),
+            Phase::Looking(image) => Ok(header_get(*image)),
+            Phase::Gathering(_, _, gather) => gather.next(),
+            Phase::Closing(image, _, _) => Ok(header_get(*image)),
+        }
+    }
+
+    fn event(&self, _alloc: Global) -> Result<Event, NoMemory> {
+        match &self.phase {
+            Phase::Finding => unreachable!(),
+            Phase::Looking(_) => unreachable!(),
+            Phase::Gathering(_, _, _) => unreachable!(),
+            Phase::Closing(_, _, _) => unreachable!(),
+        }
+    }
+
+    fn ready(&mut self, alloc: Global, fed: &Fed) -> Result<(), NoMemory> {
+        let Fed::Answer(answer) = fed else {
+            return Ok(());
+        };
+        match &mut self.phase {
+            Phase::Finding => Ok(()),
+            Phase::Looking(image) => {
+                let image = *image;
+                let Answer::Header(header) = answer else {
+                    return Ok(());
+                };
+                self.prepare(alloc, image, header)
+            }
+            Phase::Gathering(_, _, gather) => gather.ready(answer),
+            Phase::Closing(_, looked, read) => {
+                let Answer::Header(header) = answer else {
+                    return Ok(());
+                };
+                show(alloc, &mut self.shown, looked, read.as_slice(), header)
+            }
+        }
+    }
+
+    fn feed(&mut self, fed: &Fed) -> Turn {
+        let Fed::Answer(answer) = fed else {
+            return Turn::More;
+        };
+        match &mut self.phase {
+            Phase::Finding => match told_image(answer) {
+                Ok(image) => {
+                    self.phase = Phase::Looking(image);
+                    Turn::More
+                }
+                Err(refusal) => Turn::Done(Reply::Refused(refusal)),
+            },
+            Phase::Looking(image) => {
+                let image = *image;
+                self.look(image, answer)
+            }
+            Phase::Gathering(image, looked, gather) => match gather.feed(answer) {
+                Progress::More => Turn::More,
+                Progress::Ended => {
+                    self.phase = Phase::Closing(*image, looked.again(), gather.take_bytes());
+                    Turn::More
+                }
+                Progress::Refused(refusal) => Turn::Done(Reply::Refused(refusal)),
+            },
+            Phase::Closing(_, looked, _) => match answer {
+                Answer::Header(header) => {
+                    if looked.is_still(header) {
+                        match self.shown.take() {
+                            Some(bytes) => Turn::Done(Reply::Bytes(bytes)),
+                            None => unreachable!(),
+                        }
+                    } else {
+                        self.phase = Phase::Finding;
+                        Turn::More
+                    }
+                }
+                Answer::Absent => {
+                    self.phase = Phase::Finding;
+                    Turn::More
+                }
+                _ => Turn::Done(Reply::Refused(refusal_of(answer))),
+            },
         }
     }
 }
