@@ -201,8 +201,8 @@ pub fn removing_a_header()
 
 // ---- changes of an object
 
-/// The context of a header: its number, and any list that has each snapshot that the header lists, as that with
-/// just these has, newest first.
+/// The context of a header: its number, and any list that has each snapshot that the header lists. One of these is
+/// `context_of`, which has just those, newest first.
 pub fn context_of_a_header()
     ensures any { (h : HeaderView) (context : SnapContext) → context.seq ≡ h.snap_seq
         → ((snap : ℕ) → IsTrue (is_listed (live_in (Some h)) snap) → IsTrue (is_listed context.snaps snap)) → IsContextOf h context }
