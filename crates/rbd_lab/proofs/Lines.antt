@@ -1,6 +1,5 @@
 -- The lines of a script of built forms, one after another.
-use Rattle.std.proofs.Common.{◌≡◌, ℕ, suc, zero, ◌+◌, ◌<◌, Bool, true, false, cond, List, [], ◌∷◌, ◌++◌, length, take, get_or, append_assoc, append-nil, Option, Some, None, Result, Ok, Err, refl, sym, ap, ◌∙◌, arith}
-use Rattle.std.specs.Prelude.{OnOk}
+use Rattle.std.proofs.Common.{◌≡◌, ℕ, suc, zero, ◌+◌, ◌<◌, Bool, true, false, cond, List, [], ◌∷◌, ◌++◌, length, take, get_or, append_assoc, append-nil, Option, Some, None, refl, sym, ap, ◌∙◌, arith}
 use Rattle.std.proofs.lemmas.List.{take_more}
 use Rattle.std.proofs.lemmas.Option.{none-some}
 use Rattle.rbd_script.specs.declared.script.Line.{Line}
@@ -32,11 +31,6 @@ said_each (x ∷ lines) is k d below = go (is_said x.said) refl is k below (said
 
 pub built_line : (script : Script) (k : ℕ) (d : Line) → first_unbuilt script ≡ None → k < length script.lines → is_said (get_or script.lines k d).said ≡ true
 built_line script k d is below = said_each script.lines (both_none (second_session script.sessions) (unbuilt_line script.lines) is) k d below
-
--- what follows of an Ok
-pub on_ok_more : {A E : Type 0} {P Q : Type 0} (result : Result A E) → OnOk result P → (P → Q) → OnOk result Q
-on_ok_more (Ok x) p f = f p
-on_ok_more (Err e) p f = tt
 
 pub built_item : (script : Script) (items : List Line) (k : ℕ) (d : Line) → items ≡ script.lines → first_unbuilt script ≡ None → k < length items → is_said (get_or items k d).said ≡ true
 built_item script items k d same is below = said_each items (ap unbuilt_line same ∙ both_none (second_session script.sessions) (unbuilt_line script.lines) is) k d below

@@ -9,7 +9,7 @@ ghost use Rattle.rbd_site.specs.HeaderStep.{MayDoOnHeader, is_owner, lock_taken,
 
 use rbd_header::{Header, SnapAddFault, ids_of, snapshot};
 use rbd_kinds::{
-    Answer, HeaderOp, HeaderView, ImageId, Instance, Name, NoMemory, SnapId, SnapView, TryClone,
+    Answer, HeaderOp, HeaderView, ImageId, Instance, Name, NoMemory, SnapId, TryClone,
 };
 use std::alloc::Global;
 use std::collections::BTreeMap;

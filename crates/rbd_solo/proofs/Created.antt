@@ -1,9 +1,8 @@
 -- The command that makes an image.
-use Rattle.std.proofs.Common.{◌≡◌, ℕ, ◌+◌, ◌≤◌, Bool, true, false, cond, eqb, leb, ◌||◌, List, [], ◌∷◌, Option, Some, None, Ok, Err, is_some, refl, sym, ap, ◌∙◌, subst, arith}
+use Rattle.std.proofs.Common.{◌≡◌, ℕ, ◌+◌, ◌≤◌, Bool, true, false, cond, eqb, leb, ◌||◌, List, [], ◌∷◌, Option, Some, None, Ok, Err, is_some, refl, sym, ap, ◌∙◌, subst, arith, eq-eqb}
 use Rattle.std.specs.Prelude.{IsSome, slice_get}
 use Rattle.std.specs.Cmp.Lexicographic.{nat_list_cmp_total}
 use Rattle.std.specs.FinMap as finmap
-use Rattle.std.proofs.lemmas.Bool.Decides.{nat_tests}
 use Rattle.std.proofs.lemmas.Option.{none-some, same_Some}
 use Rattle.rbd_kinds.specs.declared.answer.Answer.{Answer}
 use Rattle.rbd_kinds.specs.declared.answer.Answer.TheVariants as answer
@@ -33,7 +32,8 @@ use Rattle.rbd_site.specs.Log.{SiteLog, records_of, line_of}
 use Rattle.rbd_site.specs.Records.{Records, put}
 use Rattle.rbd_site.specs.Step.{answer_to, after}
 use Rattle.rbd_stands.specs.Condition.{IsDrawn}
-use Rattle.rbd_stands.specs.Same.{AreSame, tells_change}
+use Rattle.rbd_site.specs.Laws.{is_change}
+use Rattle.rbd_stands.specs.Same.{AreSame}
 use Rattle.rbd_stands.specs.Site.{IsUntouched}
 use Rattle.rbd_stands.proofs.DirectorySteps.{name_stands}
 use Rattle.rbd_stands.proofs.EditSteps.{untouched_stays}
@@ -58,7 +58,7 @@ create_outside site name size shape outside =
 -- the answer where no id was drawn
 pub record IsUndrawn (held : Option ℕ) (full : Bool) (a : Answer) (x : Refusal) : Type 0 where
   pub quiet : (name : List ℕ) → effect_of_op (op.Directory (directory_op.Add name)) a ≡ None
-  pub still : tells_change a ≡ false
+  pub still : is_change a ≡ false
   pub why : Refused x ≡ cond (is_some held) (Refused refusal.ImageExists) (cond full (Refused refusal.BadShape) Done)
 
 undrawn : (held : Option ℕ) (full : Bool) (next : ℕ) (a : Answer) (x : Refusal) → a ≡ name_added held full next → drawn_for a ≡ Err x → IsUndrawn held full a x
@@ -81,7 +81,7 @@ create_refused old new me name size shape number a x keeps answered grown record
       lines = line_of number me (op.Directory (directory_op.Add name)) a ∷ [];
       grown = grown;
       quiet = ap (λ o. where_some o []) (un.quiet name);
-      same = subst (AreSame r) (sym records) (refused r me (op.Directory (directory_op.Add name)) (ap tells_change (sym answered) ∙ un.still));
+      same = subst (AreSame r) (sym records) (refused r me (op.Directory (directory_op.Add name)) (ap is_change (sym answered) ∙ un.still));
     })
     (λ s holds. record {
       outside = λ o. absurd (o keeps);
@@ -170,9 +170,6 @@ module _ (r : Records) (s : FlatState) (me : Instance) (name : List ℕ) (size :
     abbrev pub after_it : FlatState
     after_it = state_after s (Create name size shape) Done effects
 
-    eqb_itself : (n : ℕ) → eqb n n ≡ true
-    eqb_itself n = grind (arith, nat_tests)
-
     create_holds : Holds (after mid me create) after_it
     create_holds = record {
       stands = create_stands mid named me image view (name_stands r s.site me name image holds.stands id_answer) drawn untouched new alone;
@@ -199,7 +196,7 @@ module _ (r : Records) (s : FlatState) (me : Instance) (name : List ℕ) (size :
         elsewhere j other = ap (eqb j) (sym next) ∙ other
 
         here : eqb image (s.drawn + 1) ≡ true
-        here = ap (eqb image) (sym next) ∙ eqb_itself image
+        here = ap (eqb image) (sym next) ∙ eq-eqb image image refl
 
         nothing : (k : ℕ) (snap : SnapView) → slice_get [] k ≡ Some snap → ⊥
         nothing k snap is = none-some snap is
@@ -210,7 +207,7 @@ module _ (r : Records) (s : FlatState) (me : Instance) (name : List ℕ) (size :
           where
             go : (t : Bool) → cond t (Some image) (flat.id_of s.site n) ≡ Some j → IsSome (put r.headers image (header_after me (r.headers image) (header_op.Create view)) j)
             go true e = subst (λ i. IsSome (put r.headers image (header_after me (r.headers image) (header_op.Create view)) i)) (same_Some image j e)
-                (subst (λ t. IsSome (cond t (header_after me (r.headers image) (header_op.Create view)) (r.headers image))) (sym (eqb_itself image)) (ap is_some header))
+                (subst (λ t. IsSome (cond t (header_after me (r.headers image) (header_op.Create view)) (r.headers image))) (sym (eq-eqb image image refl)) (ap is_some header))
             go false e = headers_made r.headers image (header_after me (r.headers image) (header_op.Create view)) view header j (holds.made n j e)
 
     same_effects : effects ≡ effect.Name name (s.drawn + 1) ∷ effect.Create (s.drawn + 1) size Plain ∷ []

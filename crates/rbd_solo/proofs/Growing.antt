@@ -22,12 +22,9 @@ use Rattle.rbd_stands.proofs.Refusals.{same_header, same_object}
 use Rattle.rbd_stands.specs.Same.{AreSame, is_look}
 use Rattle.rbd_solo.specs.History.{where_some, effect_of, effect_of_op, log_effects}
 use Rattle.rbd_solo.specs.Steps.{Looks, with_lines}
+use Rattle.rbd_solo.proofs.HistoryLemmas.{where_some_append}
 
 -- ---- lists
-
-where_some_append : {X : Type 0} (o : Option X) (xs ys : List X) → where_some o (xs ++ ys) ≡ where_some o xs ++ ys
-where_some_append None xs ys = refl
-where_some_append (Some x) xs ys = refl
 
 pub effects_append : (a b : List Done) → log_effects (a ++ b) ≡ log_effects a ++ log_effects b
 effects_append [] b = refl

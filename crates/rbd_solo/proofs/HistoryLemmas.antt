@@ -11,7 +11,7 @@ use Rattle.rbd_solo.specs.History.{where_some, effect_of, log_effects, operation
 
 -- ---- one history after another
 
-where_some_append : {X : Type 0} (o : Option X) (xs ys : List X) → where_some o (xs ++ ys) ≡ where_some o xs ++ ys
+pub where_some_append : {X : Type 0} (o : Option X) (xs ys : List X) → where_some o (xs ++ ys) ≡ where_some o xs ++ ys
 where_some_append None xs ys = refl
 where_some_append (Some x) xs ys = refl
 

@@ -8,3 +8,4 @@ mod Written
 mod Readings
 pub mod HistoryLemmas
 mod Stories
+mod OneReply

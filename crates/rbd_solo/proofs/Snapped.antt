@@ -1,10 +1,9 @@
 -- A change of one header: what the records hold after it. And the commands that take a snapshot and remove one.
-use Rattle.std.proofs.Common.{◌≡◌, ℕ, ◌+◌, Bool, true, false, cond, eqb, leb, ◌||◌, List, [], ◌∷◌, length, map, not, Bor, Option, Some, None, option_map, is_some, refl, sym, ap, ◌∙◌, subst, arith}
+use Rattle.std.proofs.Common.{◌≡◌, ℕ, ◌+◌, Bool, true, false, cond, eqb, leb, ◌||◌, List, [], ◌∷◌, length, map, not, Bor, Option, Some, None, option_map, is_some, refl, sym, ap, ◌∙◌, subst, eq-eqb}
 use Rattle.std.specs.Prelude.{IsSome, option_copied}
 use Rattle.std.specs.FinMap as finmap
 use Rattle.std.proofs.lemmas.List.{length-map}
 use Rattle.std.proofs.lemmas.Bool.{eqb-true}
-use Rattle.std.proofs.lemmas.Bool.Decides.{nat_tests}
 use Rattle.std.proofs.lemmas.Option.{none-some, same_Some}
 use Rattle.rbd_kinds.specs.declared.answer.Answer.{Answer}
 use Rattle.rbd_kinds.specs.declared.answer.Answer.TheVariants as answer
@@ -64,11 +63,8 @@ headers_made headers image new k is j there = go (eqb j image)
 taken_elsewhere : (s : FlatState) (image : ℕ) (id : Option ℕ) → id ≡ Some image → (j : ℕ) → eqb j image ≡ false → taken_by s id j ≡ s.taken j
 taken_elsewhere s image id is j other = ap (λ i. taken_by s i j) is ∙ ap (λ b. cond b (s.taken image + 1) (s.taken j)) other
 
-eqb_itself : (n : ℕ) → eqb n n ≡ true
-eqb_itself n = grind (arith, nat_tests)
-
 taken_here : (s : FlatState) (image : ℕ) (id : Option ℕ) → id ≡ Some image → taken_by s id image ≡ s.taken image + 1
-taken_here s image id is = ap (λ i. taken_by s i image) is ∙ ap (λ b. cond b (s.taken image + 1) (s.taken image)) (eqb_itself image)
+taken_here s image id is = ap (λ i. taken_by s i image) is ∙ ap (λ b. cond b (s.taken image + 1) (s.taken image)) (eq-eqb image image refl)
 
 -- ---- `snap create`
 

@@ -1,5 +1,5 @@
 -- Snapshots by name and by id.
-use Rattle.std.proofs.Common.{◌≡◌, ℕ, zero, suc, ◌<◌, Bool, true, false, cond, eqb, List, [], ◌∷◌, map, Some, refl, ap, ◌∙◌, subst, arith}
+use Rattle.std.proofs.Common.{◌≡◌, ℕ, zero, suc, ◌<◌, Bool, true, false, cond, eqb, List, [], ◌∷◌, map, Some, refl, ap, ◌∙◌, subst, arith, eq-eqb}
 use Rattle.std.specs.Prelude.{nat_eq}
 use Rattle.std.specs.Cmp.Lexicographic.{pointwise}
 use Rattle.std.proofs.lemmas.Bool.Decides.{nat_tests}
@@ -13,9 +13,6 @@ use Rattle.rbd_flat.specs.Flat as flat
 use Rattle.rbd_site.proofs.SnapLists.{OfEach}
 use Rattle.rbd_stands.specs.Image.{SnapLine, line_of_snap, line_of_flat}
 use Rattle.rbd_stands.specs.Reading.{flat_snap_named}
-
-eqb_itself : (n : ℕ) → eqb n n ≡ true
-eqb_itself n = grind (arith, nat_tests)
 
 differs : (a b : ℕ) → a < b → eqb a b ≡ false
 differs a b less = grind (arith, nat_tests)
@@ -54,7 +51,7 @@ named_in below most [] name s rising is = absurd (none-some s is)
 named_in below most (x ∷ snaps) name s rising is = go (pointwise nat_eq x.name name) (named_in x.id most snaps name s rising.1) is
   where
     go : (b : Bool) → (snap_named snaps name ≡ Some s → snap_in snaps s.id ≡ Some s) → cond b (Some x) (snap_named snaps name) ≡ Some s → cond (eqb x.id s.id) (Some x) (snap_in snaps s.id) ≡ Some s
-    go true rest e = subst (λ (t : SnapView). cond (eqb x.id t.id) (Some x) (snap_in snaps t.id) ≡ Some t) (same_Some x s e) (ap (λ b. cond b (Some x) (snap_in snaps x.id)) (eqb_itself x.id))
+    go true rest e = subst (λ (t : SnapView). cond (eqb x.id t.id) (Some x) (snap_in snaps t.id) ≡ Some t) (same_Some x s e) (ap (λ b. cond b (Some x) (snap_in snaps x.id)) (eq-eqb x.id x.id refl))
     go false rest e = ap (λ b. cond b (Some x) (snap_in snaps s.id)) (differs x.id s.id (named_above x.id most snaps name s rising.1 e)) ∙ rest e
 
 -- the same of the flat snapshots, which have the same ids
@@ -86,7 +83,7 @@ flat_named_in below most (x ∷ hs) (y ∷ fs) name f same rising is =
     line = cc
 
     go : (b : Bool) → (flat_snap_named fs name ≡ Some f → flat.snap_in fs f.id ≡ Some f) → cond b (Some y) (flat_snap_named fs name) ≡ Some f → cond (eqb y.id f.id) (Some y) (flat.snap_in fs f.id) ≡ Some f
-    go true found e = subst (λ (t : FlatSnap). cond (eqb y.id t.id) (Some y) (flat.snap_in fs t.id) ≡ Some t) (same_Some y f e) (ap (λ b. cond b (Some y) (flat.snap_in fs y.id)) (eqb_itself y.id))
+    go true found e = subst (λ (t : FlatSnap). cond (eqb y.id t.id) (Some y) (flat.snap_in fs t.id) ≡ Some t) (same_Some y f e) (ap (λ b. cond b (Some y) (flat.snap_in fs y.id)) (eq-eqb y.id y.id refl))
     go false found e =
         let more : x.id < f.id = flat_above x.id most hs fs name f (let rest : map line_of_snap hs ≡ map line_of_flat fs = cc in rest) rising.1 e in
         let less : y.id < f.id = subst (λ n. n < f.id) (ap (λ (l : SnapLine). l.id) line) more in
@@ -102,5 +99,5 @@ named_in_some (x ∷ snaps) name s is = go (pointwise nat_eq x.name name) (named
     first false e rest = rest
 
     go : (b : Bool) → (snap_named snaps name ≡ Some s → (t : SnapView) × (snap_in snaps s.id ≡ Some t)) → cond b (Some x) (snap_named snaps name) ≡ Some s → (t : SnapView) × (cond (eqb x.id s.id) (Some x) (snap_in snaps s.id) ≡ Some t)
-    go true rest e = (x, subst (λ (t : SnapView). cond (eqb x.id t.id) (Some x) (snap_in snaps t.id) ≡ Some x) (same_Some x s e) (ap (λ b. cond b (Some x) (snap_in snaps x.id)) (eqb_itself x.id)))
+    go true rest e = (x, subst (λ (t : SnapView). cond (eqb x.id t.id) (Some x) (snap_in snaps t.id) ≡ Some x) (same_Some x s e) (ap (λ b. cond b (Some x) (snap_in snaps x.id)) (eq-eqb x.id x.id refl)))
     go false rest e = first (eqb x.id s.id) refl (rest e)

@@ -1,6 +1,5 @@
 -- One request after another.
-use Rattle.std.proofs.Common.{◌≡◌, ℕ, List, [], ◌∷◌, ◌++◌, map, drop, length, append_assoc, append-nil, Option, Some, None, Result, Ok, Err, refl, sym, ap, ◌∙◌, subst}
-use Rattle.std.specs.Prelude.{OnOk}
+use Rattle.std.proofs.Common.{◌≡◌, ℕ, List, [], ◌∷◌, ◌++◌, map, drop, length, append_assoc, append-nil, Option, Some, None, refl, sym, ap, ◌∙◌, subst}
 use Rattle.std.specs.FinMap as finmap
 use Rattle.std.specs.Ordering.{nat_cmp}
 use Rattle.std.specs.Cmp.Lexicographic.{slice_cmp}
@@ -112,8 +111,3 @@ played_on old new me line c reply history after commands done answered same told
           ∙ sym (ap (operations_of new.id) log ∙ operations_of_append new.id old.log answered.lines);
       holds = meant.holds;
     }
-
--- what follows of an Ok
-pub on_ok_more : {A E : Type 0} {P Q : Type 0} (result : Result A E) → OnOk result P → (P → Q) → OnOk result Q
-on_ok_more (Ok x) p f = f p
-on_ok_more (Err e) p f = tt

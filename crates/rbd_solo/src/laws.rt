@@ -16,3 +16,8 @@ pub fn flat_sites_are_folds()
     ensures { (me : Instance) (site : SiteId) (s t : FlatState) (commands : List Asked) (history : List Entry)
         → IsHistory me site s commands history t → t.site ≡ after_all s.site (effects_in history) }
 {}
+
+/// A command has one reply: `create` too, whatever its shape.
+pub fn replies_are_unique()
+    ensures { (s : FlatState) (command : Command) (one other : Reply) → IsReply s command one → IsReply s command other → one ≡ other }
+{}

@@ -34,7 +34,8 @@
 //! its operations are those of the site's log, and the records that the log leaves stand for the flat state at its end.
 //! [`Solo::play`] carries `IsPlayed` over one command more.
 //!
-//! [`laws::flat_sites_are_folds`] says that the flat site at the end of a history is the fold of its effects.
+//! [`laws::flat_sites_are_folds`] says that the flat site at the end of a history is the fold of its effects, and
+//! [`laws::replies_are_unique`] that `IsReply` leaves one reply to each command.
 //!
 //! # Cost
 //!

@@ -26,7 +26,8 @@ use Rattle.rbd_site.specs.DataStep.{data_answer, data_after, where_object_done}
 use Rattle.rbd_site.specs.Step.{answer_to, after}
 use Rattle.rbd_stands.specs.Shown.{snapshots_of}
 use Rattle.rbd_stands.specs.Site.{StandsAt, StandsFor}
-use Rattle.rbd_stands.specs.Same.{AreSame, tells_change}
+use Rattle.rbd_site.specs.Laws.{is_change}
+use Rattle.rbd_stands.specs.Same.{AreSame}
 use Rattle.rbd_stands.proofs.ObjectSteps.{put_both}
 
 -- ---- records that nothing tells apart
@@ -66,15 +67,15 @@ same_object r image number o e = record {
 
 -- ---- the directory
 
-not_added : (a : Answer) (changed old : Listing) → tells_change a ≡ false → where_added a changed old ≡ old
+not_added : (a : Answer) (changed old : Listing) → is_change a ≡ false → where_added a changed old ≡ old
 not_added (answer.Id image) changed old e = absurd (true≢false e)
 not_added _ changed old e = refl
 
-not_done : (a : Answer) (changed old : Listing) → tells_change a ≡ false → where_done a changed old ≡ old
+not_done : (a : Answer) (changed old : Listing) → is_change a ≡ false → where_done a changed old ≡ old
 not_done answer.Done changed old e = absurd (true≢false e)
 not_done _ changed old e = refl
 
-directory_refused : (d : Listing) (o : DirectoryOp) → tells_change (directory_answer d o) ≡ false → directory_after d o ≡ d
+directory_refused : (d : Listing) (o : DirectoryOp) → is_change (directory_answer d o) ≡ false → directory_after d o ≡ d
 directory_refused d (directory_op.Find name) e = refl
 directory_refused d (directory_op.Add name) e = not_added (directory_answer d (directory_op.Add name)) _ d e
 directory_refused d (directory_op.Remove image) e = refl
@@ -83,24 +84,24 @@ directory_refused d directory_op.List e = refl
 
 -- ---- a header
 
-not_made : (listed full : Bool) (next : ℕ) (made old : HeaderView) → tells_change (snap_added listed full next) ≡ false → where_made listed full made old ≡ old
+not_made : (listed full : Bool) (next : ℕ) (made old : HeaderView) → is_change (snap_added listed full next) ≡ false → where_made listed full made old ≡ old
 not_made true full next made old e = refl
 not_made false true next made old e = refl
 not_made false false next made old e = absurd (true≢false e)
 
-not_there : (there : Bool) (changed old : HeaderView) → tells_change (done_where there) ≡ false → cond there changed old ≡ old
+not_there : (there : Bool) (changed old : HeaderView) → is_change (done_where there) ≡ false → cond there changed old ≡ old
 not_there true changed old e = absurd (true≢false e)
 not_there false changed old e = refl
 
-not_taken : (me : Instance) (owner : Option Instance) → tells_change (lock_taken me owner) ≡ false → cond (is_some owner) owner (Some me) ≡ owner
+not_taken : (me : Instance) (owner : Option Instance) → is_change (lock_taken me owner) ≡ false → cond (is_some owner) owner (Some me) ≡ owner
 not_taken me None e = absurd (true≢false e)
 not_taken me (Some owner) e = refl
 
-not_left : (mine : Bool) (changed old : HeaderView) → tells_change (cond mine answer.Done answer.Changed) ≡ false → cond mine changed old ≡ old
+not_left : (mine : Bool) (changed old : HeaderView) → is_change (cond mine answer.Done answer.Changed) ≡ false → cond mine changed old ≡ old
 not_left true changed old e = absurd (true≢false e)
 not_left false changed old e = refl
 
-header_refused : (me : Instance) (h : HeaderView) (o : HeaderOp) → tells_change (there_answer me h o) ≡ false → there_after me h o ≡ Some h
+header_refused : (me : Instance) (h : HeaderView) (o : HeaderOp) → is_change (there_answer me h o) ≡ false → there_after me h o ≡ Some h
 header_refused me h (header_op.Create view) e = refl
 header_refused me h header_op.Get e = refl
 header_refused me h (header_op.SnapAdd name) e = ap Some (not_made (is_some (snap_named h.snaps name)) (is_full h) (h.snap_seq + 1) (with_snap name h) h e)
@@ -111,21 +112,21 @@ header_refused me h header_op.LockDrop e = ap Some (not_left (is_owner me h.owne
 header_refused me h (header_op.LockBreak owner) e = ap Some (not_left (is_owner owner h.owner) _ h e)
 header_refused me h _ e = absurd (true≢false e)
 
-missing_refused : (me : Instance) (o : HeaderOp) → tells_change (header_answer me None o) ≡ false → header_after me None o ≡ None
+missing_refused : (me : Instance) (o : HeaderOp) → is_change (header_answer me None o) ≡ false → header_after me None o ≡ None
 missing_refused me (header_op.Create view) e = absurd (true≢false e)
 missing_refused me _ e = refl
 
-refused_at : (me : Instance) (header : Option HeaderView) (o : HeaderOp) → tells_change (header_answer me header o) ≡ false → header_after me header o ≡ header
+refused_at : (me : Instance) (header : Option HeaderView) (o : HeaderOp) → is_change (header_answer me header o) ≡ false → header_after me header o ≡ header
 refused_at me None o e = missing_refused me o e
 refused_at me (Some h) o e = header_refused me h o e
 
 -- ---- an object
 
-data_refused : (a : Answer) (changed : Mapped) (old : Option Mapped) → tells_change a ≡ false → where_object_done a changed old ≡ old
+data_refused : (a : Answer) (changed : Mapped) (old : Option Mapped) → is_change a ≡ false → where_object_done a changed old ≡ old
 data_refused answer.Done changed old e = absurd (true≢false e)
 data_refused _ changed old e = refl
 
-pub refused : (r : Records) (me : Instance) (o : Op) → tells_change (answer_to r me o) ≡ false → AreSame r (after r me o)
+pub refused : (r : Records) (me : Instance) (o : Op) → is_change (answer_to r me o) ≡ false → AreSame r (after r me o)
 refused r me (op.Directory o) e = same_directory r (directory_after r.directory o) (directory_refused r.directory o e)
 refused r me (op.Header image o) e = same_header r image (header_after me (r.headers image) o) (refused_at me (r.headers image) o e)
 refused r me (op.Data image number o) e = same_object r image number (data_after (r.objects image number) o) (ap or_blank (data_refused (data_answer (r.objects image number) o) _ (r.objects image number) e))

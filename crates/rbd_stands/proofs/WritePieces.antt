@@ -1,12 +1,10 @@
 -- The pieces of a write, one after another, are the write.
-use Rattle.std.proofs.Common.{◌≡◌, ℕ, suc, ◌+◌, ◌-◌, ◌<◌, ◌≤◌, Bool, true, false, cond, eqb, leb, ltb, ◌&&◌, ◌||◌, List, [], ◌∷◌, ◌++◌, length, map, drop, get_or, Option, Some, None, inl, inr, refl, sym, ap, ◌∙◌, subst, arith, eqb-true, leb-true, leb-false, ltb-true, ltb-false}
-use Rattle.std.specs.Prelude.{◌⊎◌, slice_index, All, Any, ◌↔◌}
-use Rattle.std.specs.List.{range_with_len, list_any}
-use Rattle.std.specs.Option.{option_map}
+use Rattle.std.proofs.Common.{◌≡◌, ℕ, suc, ◌+◌, ◌-◌, ◌<◌, ◌≤◌, Bool, true, false, cond, eqb, leb, ltb, ◌&&◌, ◌||◌, List, [], ◌∷◌, ◌++◌, length, drop, get_or, Option, Some, None, refl, sym, ap, ◌∙◌, subst, arith, eqb-true, leb-true, ltb-true, eq-eqb}
+use Rattle.std.specs.Prelude.{Any}
+use Rattle.std.specs.List.{list_any}
 use Rattle.std.specs.Ordering.{nat_cmp}
-use Rattle.std.specs.Cmp.{nat_cmp_total, unsigned_tied}
+use Rattle.std.specs.Cmp.{nat_cmp_total}
 use Rattle.std.specs.FinMap as finmap
-use Rattle.std.proofs.lemmas.Bool.{cases_Bool}
 use Rattle.std.proofs.lemmas.Bool.Decides.{nat_tests}
 use Rattle.std.proofs.lemmas.List.Folds.{Any-from_list_any, list_any-from_Any}
 use Rattle.std.proofs.lemmas.List.{ext_get_or, get_or_append_left}
@@ -21,11 +19,10 @@ use Rattle.rbd_layout.specs.Pieces.{IsPartsOf, IsPieces, IsWithin}
 use Rattle.rbd_layout.proofs.Derived.{pieces_cover}
 use Rattle.rbd_object.specs.Contents.{window}
 use Rattle.rbd_object.specs.Parts.{bytes_for}
-use Rattle.rbd_flat.specs.declared.effect.Effect.{Effect}
 use Rattle.rbd_flat.specs.declared.effect.Effect.TheVariants as effect
 use Rattle.rbd_flat.specs.Flat.{Flat, FlatImage, image_at, painted, places_of, changed, with_image, after, after_all}
 use Rattle.rbd_flat.specs.Laws.{covers, painted_at}
-use Rattle.rbd_flat.proofs.Images.{get_insert, with_image_at}
+use Rattle.rbd_flat.proofs.Images.{get_insert}
 use Rattle.rbd_flat.proofs.Painted.{length_painted, painted_extents}
 use Rattle.rbd_stands.specs.Condition.{extent_of, extents_of}
 use Rattle.rbd_stands.specs.Writing.{piece_effect, piece_effects}
@@ -43,15 +40,12 @@ insert_again m k v w = finmap.same_map nat_cmp_total exact_unsigned _ _ (λ q.
     ∙ twice v w (eqb q k) (finmap.get m q)
     ∙ sym (get_insert m k w q))
 
-eqb_itself : (n : ℕ) → eqb n n ≡ true
-eqb_itself n = grind (arith, nat_tests)
-
 changed_again : (g h : FlatImage → FlatImage) (k : ℕ) (o : Option FlatImage) (f : Flat) → image_at f k ≡ o
     → with_image (changed g k o f) k h ≡ changed (λ i. h (g i)) k o f
 changed_again g h k None f is = ap (λ o. changed h k o f) is
 changed_again g h k (Some i) f is =
     ap (λ o. changed h k o (record f { images = finmap.insert f.images k (g i) }))
-    (get_insert f.images k (g i) k ∙ ap (λ b. cond b (Some (g i)) (finmap.get f.images k)) (eqb_itself k))
+    (get_insert f.images k (g i) k ∙ ap (λ b. cond b (Some (g i)) (finmap.get f.images k)) (eq-eqb k k refl))
     ∙ ap (λ (m : finmap.FinMap nat_cmp FlatImage). record f { images = m }) (insert_again f.images k (g i) (h (g i)))
 
 with_image_again : (f : Flat) (k : ℕ) (g h : FlatImage → FlatImage) → with_image (with_image f k g) k h ≡ with_image f k (λ i. h (g i))

@@ -1,7 +1,5 @@
 -- Records that nothing tells apart, and operations that leave them so.
 use Rattle.std.specs.Prelude.{◌≡◌, ◌==◌, ℕ, Bool, true, false}
-use Rattle.rbd_kinds.specs.declared.answer.Answer.{Answer}
-use Rattle.rbd_kinds.specs.declared.answer.Answer.TheVariants as answer
 use Rattle.rbd_kinds.specs.declared.data_op.DataOp.TheVariants as data_op
 use Rattle.rbd_kinds.specs.declared.directory_op.DirectoryOp.TheVariants as directory_op
 use Rattle.rbd_kinds.specs.declared.header_op.HeaderOp.{HeaderOp}
@@ -23,13 +21,6 @@ is_look (op.Directory directory_op.List) = true
 is_look (op.Header image header_op.Get) = true
 is_look (op.Data image number (data_op.Read snap parts)) = true
 is_look _ = false
-
--- an answer that tells of a change: what was done, drawn or taken
-abbrev pub tells_change : Answer → Bool
-tells_change answer.Done = true
-tells_change (answer.Id image) = true
-tells_change (answer.Snap snap) = true
-tells_change _ = false
 
 -- an operation on what a flat image doesn't have: the lock, and whether a full copy is under way
 abbrev pub is_unseen : HeaderOp → Bool

@@ -32,12 +32,13 @@ ghost use Rattle.rbd_layout.specs.Pieces.{IsPieces};
 ghost use Rattle.rbd_layout.specs.declared.types.Piece.{Piece};
 ghost use Rattle.rbd_site.specs.DataStep.{MayWrite};
 ghost use Rattle.rbd_site.specs.DirectoryStep.{image_found};
+ghost use Rattle.rbd_site.specs.Laws.{is_change};
 ghost use Rattle.rbd_site.specs.Log.{live_in, trimmed};
 ghost use Rattle.rbd_site.specs.Records.{Records, no_records, object_at, with_object};
 ghost use Rattle.rbd_site.specs.Step.{answer_to, after};
 ghost use Rattle.rbd_stands.specs.Condition.{IsContextOf, ArePartsBelow, AreWhole, IsInside, IsCopiedUp, IsChanged, IsZeroPast, IsZeroedFrom, IsUnnamed, IsDrawn, extents_of};
 ghost use Rattle.rbd_stands.specs.Reading.{Tells, AreFlatBytes, AreInherited};
-ghost use Rattle.rbd_stands.specs.Same.{AreSame, is_look, is_about, is_unseen, tells_change};
+ghost use Rattle.rbd_stands.specs.Same.{AreSame, is_look, is_about, is_unseen};
 ghost use Rattle.rbd_stands.specs.Shown.{snapshots_of};
 ghost use Rattle.rbd_stands.specs.Site.{StandsFor, IsUntouched};
 ghost use Rattle.rbd_stands.specs.Writing.{piece_effects};
@@ -55,7 +56,7 @@ pub fn no_records_stand()
 pub fn nothing_is_changed()
     ensures same { (r s : Records) (f : Flat) → AreSame r s → StandsFor r f → StandsFor s f }
     ensures looks { (r : Records) (me : Instance) (o : Op) → is_look o ≡ true → AreSame r (after r me o) }
-    ensures refusals { (r : Records) (me : Instance) (o : Op) → tells_change (answer_to r me o) ≡ false → AreSame r (after r me o) }
+    ensures refusals { (r : Records) (me : Instance) (o : Op) → is_change (answer_to r me o) ≡ false → AreSame r (after r me o) }
 {}
 
 /// The flat image doesn't have what these operations change: the lock, and whether a copy is under way.
@@ -200,8 +201,8 @@ pub fn removing_a_header()
 
 // ---- changes of an object
 
-/// The context of a header: its number, and any list that has each snapshot that the header lists, as that with
-/// just these has, newest first.
+/// The context of a header: its number, and any list that has each snapshot that the header lists. One of these is
+/// `context_of`, which has just those, newest first.
 pub fn context_of_a_header()
     ensures any { (h : HeaderView) (context : SnapContext) → context.seq ≡ h.snap_seq
         → ((snap : ℕ) → IsTrue (is_listed (live_in (Some h)) snap) → IsTrue (is_listed context.snaps snap)) → IsContextOf h context }

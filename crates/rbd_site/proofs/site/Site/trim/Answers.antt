@@ -1,4 +1,4 @@
-use Rattle.std.proofs.Common.{◌≡◌, ◌+◌, List, ℕ, length, sym, ap, ◌∙◌, option_map, subst, arith, refl}
+use Rattle.std.proofs.Common.{◌≡◌, ◌+◌, List, ℕ, length, sym, ap, ◌∙◌, option_map, subst, refl}
 use Rattle.rbd_object.specs.Mapped.{mapped_trim}
 use Rattle.rbd_site.specs.InForm.{AreInForm}
 use Rattle.rbd_site.specs.Log.{SiteLog, records_of, trim_line, trimmed}
