@@ -65,3 +65,14 @@ module _ (site : SiteId) (refuses : HeaderView → Option Refusal) (act : ℕ �
 
   pub bounded_change : (name : List ℕ) (alone : Bool) → IsBounded (change site name alone refuses act) (suc (suc (suc n)))
   bounded_change name alone = bounded_on_id (joining site alone refuses act) (suc (suc n)) bounded_looking
+
+-- ---- more than enough
+
+pub bounded_more : (plan : Plan) (n m : ℕ) → n ≤ m → IsBounded plan n → IsBounded plan m
+bounded_more (Ask site op next) zero m most b = absurd b
+bounded_more (Ask site op next) (suc n) zero most b = absurd (let none : suc n ≤ zero = most in omega arith)
+bounded_more (Ask site op next) (suc n) (suc m) most b = λ a. bounded_more (next a) n m (omega arith) (b a)
+bounded_more (Await want next) n m most b = bounded_more next n m most b
+bounded_more (Note site image event next) n m most b = bounded_more next n m most b
+bounded_more (Return reply) n m most b = tt
+bounded_more (Goto label) n m most b = tt

@@ -2,6 +2,7 @@
 #![tactic(auto)]
 
 mod gather;
+pub mod laws;
 mod write_piece;
 
 pub use gather::Gather;

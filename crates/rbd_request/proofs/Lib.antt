@@ -1,3 +1,4 @@
 pub mod Arranged
+pub mod Bounded
 pub mod Looks
 pub mod Writes

@@ -3,6 +3,7 @@
 
 mod arrange;
 mod extent;
+pub mod laws;
 mod looked;
 mod pieces;
 mod read;

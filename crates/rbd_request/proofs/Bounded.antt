@@ -1,0 +1,64 @@
+-- How many operations requests have.
+use Rattle.std.proofs.Common.{◌≡◌, ℕ, ◌+◌, ◌≤◌, suc, List, [], ◌∷◌, length, Bool, true, false, cond, eqb, Option, Some, None, refl, subst, arith}
+use Rattle.rbd_kinds.specs.declared.answer.Answer.{Answer}
+use Rattle.rbd_kinds.specs.declared.answer.Answer.TheVariants as answer
+use Rattle.rbd_kinds.specs.declared.header.HeaderView.{HeaderView}
+use Rattle.rbd_kinds.specs.declared.id.SiteId.{SiteId}
+use Rattle.rbd_kinds.specs.declared.layout.Extent.{Extent}
+use Rattle.rbd_kinds.specs.declared.reply.Reply.TheVariants as reply
+use Rattle.rbd_layout.specs.Pieces.{pieces_of}
+use Rattle.rbd_layout.specs.declared.types.Piece.{Piece}
+use Rattle.rbd_object.specs.Parts.{bytes_for}
+use Rattle.rbd_header.specs.Header.{view_of}
+use Rattle.rbd_header.specs.declared.view.View.{View}
+use Rattle.rbd_machine.specs.Path.{IsBounded}
+use Rattle.rbd_machine.specs.Plan.{Plan, Return, Goto}
+use Rattle.rbd_machine.specs.Steps.{applied}
+use Rattle.rbd_machine.proofs.Bounds.{bounded_change, bounded_more, bounded_on_id, bounded_on_header, bounded_unless}
+use Rattle.rbd_piece.proofs.Bounded.{bounded_write, bounded_gather}
+use Rattle.rbd_request.specs.Read.{pass, looking, reading, viewing, gathering, closing, on_closing}
+use Rattle.rbd_request.specs.Seen.{Seen, seen_at, shown}
+use Rattle.rbd_request.specs.Write.{extent_at, out_of_range, put, write, write_pieces, write_refuses}
+
+-- ---- writes
+
+bounded_pieces : (pieces : List Piece) (site : SiteId) (image : ℕ) (h : HeaderView) (at : ℕ) (bytes : List ℕ) → IsBounded (write_pieces site image h at bytes pieces (applied site image)) (length pieces)
+bounded_pieces [] site image h at bytes = tt
+bounded_pieces (p ∷ pieces) site image h at bytes =
+    bounded_write site image h p (bytes_for p.parts at bytes) (write_pieces site image h at bytes pieces (applied site image)) (length pieces) (bounded_pieces pieces site image h at bytes)
+
+pub bounded_put : (site : SiteId) (at : ℕ) (bytes : List ℕ) (image : ℕ) (h : HeaderView) → IsBounded (put site at bytes image h) (length (pieces_of h.layout (extent_at at bytes)))
+bounded_put site at bytes image h = bounded_pieces (pieces_of h.layout (extent_at at bytes)) site image h at bytes
+
+pub bounded_write_request : (site : SiteId) (name : List ℕ) (at : ℕ) (bytes : List ℕ) (most : ℕ) → ((h : HeaderView) → length (pieces_of h.layout (extent_at at bytes)) ≤ most) → IsBounded (write site name at bytes) (most + 3)
+bounded_write_request site name at bytes most few =
+    let three_more : suc (suc (suc most)) ≡ most + 3 = omega arith in
+    subst (IsBounded (write site name at bytes)) three_more
+    (bounded_change site (write_refuses (extent_at at bytes)) (put site at bytes) most
+    (λ image h. bounded_more (put site at bytes image h) (length (pieces_of h.layout (extent_at at bytes))) most (few h) (bounded_put site at bytes image h)) name false)
+
+-- ---- reads
+
+bounded_closing : (site : SiteId) (image : ℕ) (seen : Seen) (read : List ℕ) → IsBounded (closing site image seen read) 1
+bounded_closing site image seen read (answer.Header h) = go (eqb h.generation seen.generation)
+  where
+    go : (b : Bool) → IsBounded (cond b (Return (reply.Bytes (shown seen read))) (Goto 0)) 0
+    go true = tt
+    go false = tt
+bounded_closing site image seen read answer.Absent = tt
+bounded_closing site image seen read answer.Fenced = tt
+bounded_closing site image seen read _ = tt
+
+bounded_viewing : (site : SiteId) (image : ℕ) (h : HeaderView) (e : Extent) (view : Option View) (most : ℕ) → length (pieces_of h.layout e) ≤ most → IsBounded (viewing site image h e view) (suc most)
+bounded_viewing site image h e None most few = tt
+bounded_viewing site image h e (Some view) most few =
+    bounded_unless (out_of_range e view.size) (gathering site image h e view) (suc most)
+    (bounded_more (gathering site image h e view) (1 + length (pieces_of h.layout e)) (suc most) (omega arith)
+    (bounded_gather (pieces_of h.layout e) site image view.snap [] (closing site image (seen_at h e)) 1 (bounded_closing site image (seen_at h e))))
+
+pub bounded_pass : (site : SiteId) (name : List ℕ) (snap : Option (List ℕ)) (e : Extent) (most : ℕ) → ((h : HeaderView) → length (pieces_of h.layout e) ≤ most) → IsBounded (pass site name snap e) (most + 3)
+bounded_pass site name snap e most few =
+    let three_more : suc (suc (suc most)) ≡ most + 3 = omega arith in
+    subst (IsBounded (pass site name snap e)) three_more
+    (bounded_on_id (looking site snap e) (suc (suc most))
+    (λ image. bounded_on_header (reading site snap e image) (suc most) (λ h. bounded_viewing site image h e (view_of h snap) most (few h))))

@@ -1,0 +1,26 @@
+//! How many operations requests have: laws, each the contract of a function that does nothing.
+ghost use Rattle.std.specs.Prelude.{ℕ, ◌+◌, ◌≤◌, List, length, Option};
+ghost use Rattle.rbd_kinds.specs.declared.header.HeaderView.{HeaderView};
+ghost use Rattle.rbd_kinds.specs.declared.id.SiteId.{SiteId};
+ghost use Rattle.rbd_kinds.specs.declared.layout.Extent.{Extent};
+ghost use Rattle.rbd_layout.specs.Pieces.{pieces_of};
+ghost use Rattle.rbd_machine.specs.Path.{IsBounded};
+ghost use Rattle.rbd_request.specs.Read.{pass};
+ghost use Rattle.rbd_request.specs.Write.{extent_at, put, write};
+
+/// A write has one operation for each piece behind its own look, and three before.
+pub fn writes_are_bounded()
+    ensures pieces { (site : SiteId) (at : ℕ) (bytes : List ℕ) (image : ℕ) (h : HeaderView)
+        → IsBounded (put site at bytes image h) (length (pieces_of h.layout (extent_at at bytes))) }
+    ensures all { (site : SiteId) (name : List ℕ) (at : ℕ) (bytes : List ℕ) (most : ℕ)
+        → ((h : HeaderView) → length (pieces_of h.layout (extent_at at bytes)) ≤ most)
+        → IsBounded (write site name at bytes) (most + 3) }
+{}
+
+/// A pass of a read has one operation for each piece, and three beside: it finds its image, and looks at the
+/// header before and after.
+pub fn passes_are_bounded()
+    ensures { (site : SiteId) (name : List ℕ) (snap : Option (List ℕ)) (e : Extent) (most : ℕ)
+        → ((h : HeaderView) → length (pieces_of h.layout e) ≤ most)
+        → IsBounded (pass site name snap e) (most + 3) }
+{}
