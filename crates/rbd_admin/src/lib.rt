@@ -1,0 +1,6 @@
+//! Requests that make, show and snapshot images.
+#![tactic(auto)]
+
+mod create;
+
+pub use create::CreateRequest;
