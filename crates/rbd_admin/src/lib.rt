@@ -2,5 +2,7 @@
 #![tactic(auto)]
 
 mod create;
+mod listing;
 
 pub use create::CreateRequest;
+pub use listing::ListRequest;
