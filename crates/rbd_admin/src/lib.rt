@@ -3,6 +3,8 @@
 
 mod create;
 mod listing;
+mod snap;
 
 pub use create::CreateRequest;
 pub use listing::ListRequest;
+pub use snap::SnapRequest;

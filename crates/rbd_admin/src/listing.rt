@@ -169,8 +169,7 @@ impl Machine for ListRequest {
         let Fed::Answer(answer) = fed else {
             unreachable!()
         };
-        let readied = reply_to(&self.at, answer)?;
-        self.readied = readied;
+        self.readied = reply_to(&self.at, answer)?;
         Ok(())
     }
 
