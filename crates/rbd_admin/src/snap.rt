@@ -109,13 +109,15 @@ impl SnapRequest {
         match way.feed(&self.change, fed) {
             Course::More => Turn::More,
             Course::Refused(refusal) => Turn::Done(Reply::Refused(refusal)),
-            Course::Owned(image) => match fed {
-                Fed::Answer(answer) => match answer {
-                    Answer::Header(header) => self.own(image, header),
-                    _ => unreachable!(),
-                },
-                Fed::Passed => unreachable!(),
-            },
+            Course::Owned(image) => {
+                let Fed::Answer(answer) = fed else {
+                    unreachable!()
+                };
+                let Answer::Header(header) = answer else {
+                    unreachable!()
+                };
+                self.own(image, header)
+            }
         }
     }
 
