@@ -2,6 +2,7 @@
 #![tactic(auto)]
 
 mod create;
+pub mod laws;
 mod listing;
 mod snap;
 

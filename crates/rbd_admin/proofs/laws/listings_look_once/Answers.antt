@@ -1,0 +1,6 @@
+use Rattle.std.proofs.Common.{rules}
+use Rattle.rbd_admin.proofs.Bounds.{bounded_listing}
+use Rattle.rbd_admin.proofs.laws.listings_look_once.Goals as goal
+
+pub returns : goal.returns
+returns c = bounded_listing
