@@ -1,0 +1,124 @@
+//! Each request is fed by hand, on its way to its end and to a refusal. What it has to want was worked out from the
+//! rules in prose.
+ghost use Rattle.std.specs.Prelude.{◌≡◌, IfOk, OnOk};
+ghost use Rattle.rbd_kinds.specs.declared.id.SiteId.TheVariants as site;
+ghost use Rattle.rbd_kinds.specs.Form.{IsHeaderInForm};
+ghost use Rattle.rbd_machine.specs.Answers.{CanBeFed};
+ghost use Rattle.rbd_machine.specs.Plan.{GoesOn, plan_after};
+ghost use Rattle.rbd_admin.specs.Create.{drawing, new_header, rest_of_create};
+
+use crate::{CreateRequest, ListRequest, SnapRequest};
+use rbd_kinds::{
+    Answer, Bytes, Command, Fed, HeaderView, ImageId, Layout, Name, NoMemory, Number, OpKind,
+    Refusal, Reply, Role, Shape, SiteId, SnapId, Snaps, Turn, Want,
+};
+use rbd_machine::Machine;
+use std::alloc::Global;
+use std::process::Abort;
+use std::test::Fail;
+
+const IMAGE: ImageId = ImageId(7);
+
+/// A shape that asks for nothing: objects of 4 MiB.
+const USUAL: Shape = Shape {
+    object: None,
+    unit: None,
+    count: None,
+    journal: false,
+};
+
+fn name(rt: &impl Abort, alloc: Global, text: &[u8]) -> Result<Name, NoMemory> {
+    Ok(Name::parse(Bytes::from_slice(alloc, text)?).expect(rt, "a name"))
+}
+
+/// Feeds a request, which wants more.
+fn go_on<M: Machine>(
+    rt: &impl Abort,
+    alloc: Global,
+    request: &mut M,
+    fed: Fed,
+) -> Result<(), NoMemory>
+    requires { CanBeFed (M.stands request.old).plan fed }
+    ensures { OnOk result (GoesOn (M.stands request.old).labels (plan_after (M.stands request.old).plan fed) Turn.More (M.stands request.new)) }
+{
+    request.ready(alloc, &fed)?;
+    match request.feed(&fed) {
+        Turn::More => Ok(()),
+        Turn::Done(_) => panic!(rt; "it has ended"),
+    }
+}
+
+/// Feeds a request, which ends.
+fn end<M: Machine>(
+    rt: &impl Abort,
+    alloc: Global,
+    request: &mut M,
+    fed: Fed,
+) -> Result<Reply, NoMemory>
+    requires { CanBeFed (M.stands request.old).plan fed }
+{
+    request.ready(alloc, &fed)?;
+    match request.feed(&fed) {
+        Turn::More => panic!(rt; "it wants more"),
+        Turn::Done(reply) => Ok(reply),
+    }
+}
+
+/// Whether a request wants an operation of a kind.
+fn wants_op<M: Machine>(request: &M, kind: OpKind) -> bool {
+    let site = SiteId::A;
+    request.wants() == Want::Op { site, kind }
+}
+
+fn is_done(reply: Reply) -> bool {
+    match reply {
+        Reply::Done => true,
+        _ => false,
+    }
+}
+
+fn is_refused(reply: Reply, why: Refusal) -> bool {
+    match reply {
+        Reply::Refused(refusal) => refusal == why,
+        _ => false,
+    }
+}
+
+/// A create of an image of 4,096 bytes.
+fn create_request(name: Name, size: Number) -> CreateRequest
+    requires { size ≡ 4096 }
+    ensures { rest_of_create result ≡ drawing site.A name (new_header (record { object = 4194304; unit = 4194304; count = 1 }) 4096) }
+{
+    let command = Command::Create {
+        image: name,
+        size,
+        shape: USUAL,
+    };
+    CreateRequest::new(SiteId::A, command)
+}
+
+#[test]
+fn create_draws_an_id_and_makes_a_header(rt: HostRuntime) -> Result<(), Fail> {
+    let size = Number::new(4096).expect(&rt, "a size");
+    let mut request = create_request(name(&rt, rt.alloc(), b"disk")?, size);
+    assert!(rt; wants_op(&request, OpKind::DirAdd));
+    go_on(
+        &rt,
+        rt.alloc(),
+        &mut request,
+        Fed::Answer(Answer::Id(IMAGE)),
+    )?;
+    assert!(rt; wants_op(&request, OpKind::HeaderCreate));
+    let reply = end(&rt, rt.alloc(), &mut request, Fed::Answer(Answer::Done))?;
+    assert!(rt; is_done(reply));
+    Ok(())
+}
+
+#[test]
+fn a_held_name_is_refused(rt: HostRuntime) -> Result<(), Fail> {
+    let size = Number::new(4096).expect(&rt, "a size");
+    let mut request = create_request(name(&rt, rt.alloc(), b"disk")?, size);
+    let reply = end(&rt, rt.alloc(), &mut request, Fed::Answer(Answer::Exists))?;
+    assert!(rt; is_refused(reply, Refusal::ImageExists));
+    Ok(())
+}
