@@ -9,8 +9,8 @@ ghost use Rattle.rbd_admin.specs.Create.{drawing, new_header, rest_of_create};
 
 use crate::{CreateRequest, ListRequest, SnapRequest};
 use rbd_kinds::{
-    Answer, Bytes, Command, Fed, HeaderView, ImageId, Layout, Name, NoMemory, Number, OpKind,
-    Refusal, Reply, Role, Shape, SiteId, SnapId, Snaps, Turn, Want,
+    Answer, Bytes, Command, Fed, HeaderView, ImageId, Layout, Name, Names, NoMemory, Number,
+    OpKind, Refusal, Reply, Role, Shape, SiteId, SnapId, Snaps, Turn, Want,
 };
 use rbd_machine::Machine;
 use std::alloc::Global;
@@ -120,5 +120,132 @@ fn a_held_name_is_refused(rt: HostRuntime) -> Result<(), Fail> {
     let mut request = create_request(name(&rt, rt.alloc(), b"disk")?, size);
     let reply = end(&rt, rt.alloc(), &mut request, Fed::Answer(Answer::Exists))?;
     assert!(rt; is_refused(reply, Refusal::ImageExists));
+    Ok(())
+}
+
+/// The header of an image of 4,096 bytes in one object, without snapshots.
+fn disk(alloc: Global) -> HeaderView
+    ensures new { result ≡ new_header (record { object = 4096; unit = 4096; count = 1 }) 4096 }
+    ensures form { IsHeaderInForm result }
+{
+    HeaderView {
+        layout: Layout {
+            object: 4096,
+            unit: 4096,
+            count: 1,
+        },
+        size: 4096,
+        generation: 0,
+        snap_seq: 0,
+        snaps: Snaps::new(alloc),
+        parent: None,
+        depth: 0,
+        born: 4096,
+        born_clone: false,
+        journal: false,
+        syncing: false,
+        owner: None,
+        global: None,
+        role: Role::Plain,
+    }
+}
+
+/// Whether a reply shows a header of a size.
+fn shows_size(reply: Reply, size: u64) -> bool {
+    match reply {
+        Reply::Info(header) => header.size == size,
+        _ => false,
+    }
+}
+
+fn is_empty(reply: Reply) -> bool {
+    match reply {
+        Reply::Names(names) => names.is_empty(),
+        _ => false,
+    }
+}
+
+#[test]
+fn ls_shows_the_names(rt: HostRuntime) -> Result<(), Fail> {
+    let mut request = ListRequest::new(SiteId::A, Command::List);
+    assert!(rt; wants_op(&request, OpKind::DirList));
+    let names = Answer::Names(Names::new(rt.alloc()));
+    let reply = end(&rt, rt.alloc(), &mut request, Fed::Answer(names))?;
+    assert!(rt; is_empty(reply));
+    Ok(())
+}
+
+#[test]
+fn info_finds_an_image_and_shows_its_header(rt: HostRuntime) -> Result<(), Fail> {
+    let image = name(&rt, rt.alloc(), b"disk")?;
+    let mut request = ListRequest::new(SiteId::A, Command::Info { image });
+    assert!(rt; wants_op(&request, OpKind::DirFind));
+    go_on(
+        &rt,
+        rt.alloc(),
+        &mut request,
+        Fed::Answer(Answer::Id(IMAGE)),
+    )?;
+    assert!(rt; wants_op(&request, OpKind::HeaderGet));
+    let header = Answer::Header(disk(rt.alloc()));
+    let reply = end(&rt, rt.alloc(), &mut request, Fed::Answer(header))?;
+    assert!(rt; shows_size(reply, 4096));
+    Ok(())
+}
+
+#[test]
+fn info_of_no_image_is_refused(rt: HostRuntime) -> Result<(), Fail> {
+    let image = name(&rt, rt.alloc(), b"disk")?;
+    let mut request = ListRequest::new(SiteId::A, Command::Info { image });
+    let reply = end(&rt, rt.alloc(), &mut request, Fed::Answer(Answer::Absent))?;
+    assert!(rt; is_refused(reply, Refusal::NoImage));
+    Ok(())
+}
+
+#[test]
+fn snap_create_takes_a_snapshot(rt: HostRuntime) -> Result<(), Fail> {
+    let alloc = rt.alloc();
+    let image = name(&rt, alloc, b"disk")?;
+    let snap = name(&rt, alloc, b"first")?;
+    let mut request = SnapRequest::new(SiteId::A, Command::SnapCreate { image, snap });
+    go_on(&rt, alloc, &mut request, Fed::Answer(Answer::Id(IMAGE)))?;
+    go_on(&rt, alloc, &mut request, Fed::Passed)?;
+    go_on(
+        &rt,
+        alloc,
+        &mut request,
+        Fed::Answer(Answer::Header(disk(alloc))),
+    )?;
+    go_on(&rt, alloc, &mut request, Fed::Passed)?;
+    go_on(
+        &rt,
+        alloc,
+        &mut request,
+        Fed::Answer(Answer::Header(disk(alloc))),
+    )?;
+    go_on(&rt, alloc, &mut request, Fed::Passed)?;
+    assert!(rt; wants_op(&request, OpKind::HeaderSnapAdd));
+    go_on(
+        &rt,
+        alloc,
+        &mut request,
+        Fed::Answer(Answer::Snap(SnapId(1))),
+    )?;
+    let reply = end(&rt, alloc, &mut request, Fed::Passed)?;
+    assert!(rt; is_done(reply));
+    Ok(())
+}
+
+#[test]
+fn snap_rm_of_an_unlisted_name_is_refused(rt: HostRuntime) -> Result<(), Fail> {
+    let alloc = rt.alloc();
+    let image = name(&rt, alloc, b"disk")?;
+    let snap = name(&rt, alloc, b"first")?;
+    let mut request = SnapRequest::new(SiteId::A, Command::SnapRemove { image, snap });
+    go_on(&rt, alloc, &mut request, Fed::Answer(Answer::Id(IMAGE)))?;
+    go_on(&rt, alloc, &mut request, Fed::Passed)?;
+    let header = Answer::Header(disk(alloc));
+    let reply = end(&rt, alloc, &mut request, Fed::Answer(header))?;
+    assert!(rt; is_refused(reply, Refusal::NoSnap));
     Ok(())
 }
