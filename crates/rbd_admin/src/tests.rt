@@ -9,7 +9,7 @@ ghost use Rattle.rbd_admin.specs.Create.{drawing, new_header, rest_of_create};
 
 use crate::{CreateRequest, ListRequest, SnapRequest};
 use rbd_kinds::{
-    Answer, Bytes, Command, Fed, HeaderView, ImageId, Layout, Name, Names, NoMemory, Number,
+    Answer, Bytes, Command, Event, Fed, HeaderView, ImageId, Layout, Name, Names, NoMemory, Number,
     OpKind, Refusal, Reply, Role, Shape, SiteId, SnapId, Snaps, Turn, Want,
 };
 use rbd_machine::Machine;
@@ -18,6 +18,27 @@ use std::process::Abort;
 use std::test::Fail;
 
 const IMAGE: ImageId = ImageId(7);
+
+const JOIN: Want = Want::Join {
+    site: SiteId::A,
+    image: IMAGE,
+    alone: true,
+};
+
+const HOLD: Want = Want::Hold {
+    site: SiteId::A,
+    image: IMAGE,
+};
+
+const NOTE: Want = Want::Note {
+    site: SiteId::A,
+    image: IMAGE,
+};
+
+const APPLIED: Want = Want::Applied {
+    site: SiteId::A,
+    image: IMAGE,
+};
 
 /// A shape that asks for nothing: objects of 4 MiB.
 const USUAL: Shape = Shape {
@@ -31,16 +52,24 @@ fn name(rt: &impl Abort, alloc: Global, text: &[u8]) -> Result<Name, NoMemory> {
     Ok(Name::parse(Bytes::from_slice(alloc, text)?).expect(rt, "a name"))
 }
 
-/// Feeds a request, which wants more.
+/// An operation of a kind, at the site of these tests.
+fn op(kind: OpKind) -> Want {
+    let site = SiteId::A;
+    Want::Op { site, kind }
+}
+
+/// A request wants this, is fed, and wants more.
 fn go_on<M: Machine>(
     rt: &impl Abort,
     alloc: Global,
     request: &mut M,
+    want: Want,
     fed: Fed,
 ) -> Result<(), NoMemory>
     requires { CanBeFed (M.stands request.old).plan fed }
     ensures { OnOk result (GoesOn (M.stands request.old).labels (plan_after (M.stands request.old).plan fed) Turn.More (M.stands request.new)) }
 {
+    assert!(rt; request.wants() == want);
     request.ready(alloc, &fed)?;
     match request.feed(&fed) {
         Turn::More => Ok(()),
@@ -48,26 +77,22 @@ fn go_on<M: Machine>(
     }
 }
 
-/// Feeds a request, which ends.
+/// A request wants this, is fed, and ends.
 fn end<M: Machine>(
     rt: &impl Abort,
     alloc: Global,
     request: &mut M,
+    want: Want,
     fed: Fed,
 ) -> Result<Reply, NoMemory>
     requires { CanBeFed (M.stands request.old).plan fed }
 {
+    assert!(rt; request.wants() == want);
     request.ready(alloc, &fed)?;
     match request.feed(&fed) {
         Turn::More => panic!(rt; "it wants more"),
         Turn::Done(reply) => Ok(reply),
     }
-}
-
-/// Whether a request wants an operation of a kind.
-fn wants_op<M: Machine>(request: &M, kind: OpKind) -> bool {
-    let site = SiteId::A;
-    request.wants() == Want::Op { site, kind }
 }
 
 fn is_done(reply: Reply) -> bool {
@@ -99,27 +124,42 @@ fn create_request(name: Name, size: Number) -> CreateRequest
 
 #[test]
 fn create_draws_an_id_and_makes_a_header(rt: HostRuntime) -> Result<(), Fail> {
+    let alloc = rt.alloc();
     let size = Number::new(4096).expect(&rt, "a size");
-    let mut request = create_request(name(&rt, rt.alloc(), b"disk")?, size);
-    assert!(rt; wants_op(&request, OpKind::DirAdd));
-    go_on(
-        &rt,
-        rt.alloc(),
-        &mut request,
-        Fed::Answer(Answer::Id(IMAGE)),
-    )?;
-    assert!(rt; wants_op(&request, OpKind::HeaderCreate));
-    let reply = end(&rt, rt.alloc(), &mut request, Fed::Answer(Answer::Done))?;
+    let mut request = create_request(name(&rt, alloc, b"disk")?, size);
+    let drawn = Fed::Answer(Answer::Id(IMAGE));
+    go_on(&rt, alloc, &mut request, op(OpKind::DirAdd), drawn)?;
+    let made = Fed::Answer(Answer::Done);
+    let reply = end(&rt, alloc, &mut request, op(OpKind::HeaderCreate), made)?;
     assert!(rt; is_done(reply));
     Ok(())
 }
 
 #[test]
 fn a_held_name_is_refused(rt: HostRuntime) -> Result<(), Fail> {
+    let alloc = rt.alloc();
     let size = Number::new(4096).expect(&rt, "a size");
-    let mut request = create_request(name(&rt, rt.alloc(), b"disk")?, size);
-    let reply = end(&rt, rt.alloc(), &mut request, Fed::Answer(Answer::Exists))?;
+    let mut request = create_request(name(&rt, alloc, b"disk")?, size);
+    assert!(rt; request.refusal().is_none());
+    let held = Fed::Answer(Answer::Exists);
+    let reply = end(&rt, alloc, &mut request, op(OpKind::DirAdd), held)?;
     assert!(rt; is_refused(reply, Refusal::ImageExists));
+    Ok(())
+}
+
+/// Objects of 4,097 bytes, which is no power of two.
+#[test]
+fn a_shape_outside_the_limits_is_refused(rt: HostRuntime) -> Result<(), Fail> {
+    let command = Command::Create {
+        image: name(&rt, rt.alloc(), b"disk")?,
+        size: Number::new(4096).expect(&rt, "a size"),
+        shape: Shape {
+            object: Number::new(4097),
+            ..USUAL
+        },
+    };
+    let request = CreateRequest::new(SiteId::A, command);
+    assert!(rt; request.refusal() == Some(Refusal::BadShape));
     Ok(())
 }
 
@@ -167,71 +207,66 @@ fn is_empty(reply: Reply) -> bool {
 
 #[test]
 fn ls_shows_the_names(rt: HostRuntime) -> Result<(), Fail> {
+    let alloc = rt.alloc();
     let mut request = ListRequest::new(SiteId::A, Command::List);
-    assert!(rt; wants_op(&request, OpKind::DirList));
-    let names = Answer::Names(Names::new(rt.alloc()));
-    let reply = end(&rt, rt.alloc(), &mut request, Fed::Answer(names))?;
+    let names = Fed::Answer(Answer::Names(Names::new(alloc)));
+    let reply = end(&rt, alloc, &mut request, op(OpKind::DirList), names)?;
     assert!(rt; is_empty(reply));
     Ok(())
 }
 
 #[test]
 fn info_finds_an_image_and_shows_its_header(rt: HostRuntime) -> Result<(), Fail> {
-    let image = name(&rt, rt.alloc(), b"disk")?;
+    let alloc = rt.alloc();
+    let image = name(&rt, alloc, b"disk")?;
     let mut request = ListRequest::new(SiteId::A, Command::Info { image });
-    assert!(rt; wants_op(&request, OpKind::DirFind));
-    go_on(
-        &rt,
-        rt.alloc(),
-        &mut request,
-        Fed::Answer(Answer::Id(IMAGE)),
-    )?;
-    assert!(rt; wants_op(&request, OpKind::HeaderGet));
-    let header = Answer::Header(disk(rt.alloc()));
-    let reply = end(&rt, rt.alloc(), &mut request, Fed::Answer(header))?;
+    let found = Fed::Answer(Answer::Id(IMAGE));
+    go_on(&rt, alloc, &mut request, op(OpKind::DirFind), found)?;
+    let header = Fed::Answer(Answer::Header(disk(alloc)));
+    let reply = end(&rt, alloc, &mut request, op(OpKind::HeaderGet), header)?;
     assert!(rt; shows_size(reply, 4096));
     Ok(())
 }
 
 #[test]
 fn info_of_no_image_is_refused(rt: HostRuntime) -> Result<(), Fail> {
-    let image = name(&rt, rt.alloc(), b"disk")?;
+    let alloc = rt.alloc();
+    let image = name(&rt, alloc, b"disk")?;
     let mut request = ListRequest::new(SiteId::A, Command::Info { image });
-    let reply = end(&rt, rt.alloc(), &mut request, Fed::Answer(Answer::Absent))?;
+    let absent = Fed::Answer(Answer::Absent);
+    let reply = end(&rt, alloc, &mut request, op(OpKind::DirFind), absent)?;
     assert!(rt; is_refused(reply, Refusal::NoImage));
     Ok(())
+}
+
+fn is_taking(event: Event, snap: &[u8]) -> bool {
+    match event {
+        Event::SnapCreate { name } => name.as_slice() == snap,
+        _ => false,
+    }
 }
 
 #[test]
 fn snap_create_takes_a_snapshot(rt: HostRuntime) -> Result<(), Fail> {
     let alloc = rt.alloc();
-    let image = name(&rt, alloc, b"disk")?;
-    let snap = name(&rt, alloc, b"first")?;
-    let mut request = SnapRequest::new(SiteId::A, Command::SnapCreate { image, snap });
-    go_on(&rt, alloc, &mut request, Fed::Answer(Answer::Id(IMAGE)))?;
-    go_on(&rt, alloc, &mut request, Fed::Passed)?;
-    go_on(
-        &rt,
-        alloc,
-        &mut request,
-        Fed::Answer(Answer::Header(disk(alloc))),
-    )?;
-    go_on(&rt, alloc, &mut request, Fed::Passed)?;
-    go_on(
-        &rt,
-        alloc,
-        &mut request,
-        Fed::Answer(Answer::Header(disk(alloc))),
-    )?;
-    go_on(&rt, alloc, &mut request, Fed::Passed)?;
-    assert!(rt; wants_op(&request, OpKind::HeaderSnapAdd));
-    go_on(
-        &rt,
-        alloc,
-        &mut request,
-        Fed::Answer(Answer::Snap(SnapId(1))),
-    )?;
-    let reply = end(&rt, alloc, &mut request, Fed::Passed)?;
+    let command = Command::SnapCreate {
+        image: name(&rt, alloc, b"disk")?,
+        snap: name(&rt, alloc, b"first")?,
+    };
+    let mut request = SnapRequest::new(SiteId::A, command);
+    let found = Fed::Answer(Answer::Id(IMAGE));
+    go_on(&rt, alloc, &mut request, op(OpKind::DirFind), found)?;
+    go_on(&rt, alloc, &mut request, JOIN, Fed::Passed)?;
+    let looked = Fed::Answer(Answer::Header(disk(alloc)));
+    go_on(&rt, alloc, &mut request, op(OpKind::HeaderGet), looked)?;
+    go_on(&rt, alloc, &mut request, HOLD, Fed::Passed)?;
+    let owned = Fed::Answer(Answer::Header(disk(alloc)));
+    go_on(&rt, alloc, &mut request, op(OpKind::HeaderGet), owned)?;
+    assert!(rt; is_taking(request.event(alloc)?, b"first"));
+    go_on(&rt, alloc, &mut request, NOTE, Fed::Passed)?;
+    let taken = Fed::Answer(Answer::Snap(SnapId(1)));
+    go_on(&rt, alloc, &mut request, op(OpKind::HeaderSnapAdd), taken)?;
+    let reply = end(&rt, alloc, &mut request, APPLIED, Fed::Passed)?;
     assert!(rt; is_done(reply));
     Ok(())
 }
@@ -239,13 +274,16 @@ fn snap_create_takes_a_snapshot(rt: HostRuntime) -> Result<(), Fail> {
 #[test]
 fn snap_rm_of_an_unlisted_name_is_refused(rt: HostRuntime) -> Result<(), Fail> {
     let alloc = rt.alloc();
-    let image = name(&rt, alloc, b"disk")?;
-    let snap = name(&rt, alloc, b"first")?;
-    let mut request = SnapRequest::new(SiteId::A, Command::SnapRemove { image, snap });
-    go_on(&rt, alloc, &mut request, Fed::Answer(Answer::Id(IMAGE)))?;
-    go_on(&rt, alloc, &mut request, Fed::Passed)?;
-    let header = Answer::Header(disk(alloc));
-    let reply = end(&rt, alloc, &mut request, Fed::Answer(header))?;
+    let command = Command::SnapRemove {
+        image: name(&rt, alloc, b"disk")?,
+        snap: name(&rt, alloc, b"first")?,
+    };
+    let mut request = SnapRequest::new(SiteId::A, command);
+    let found = Fed::Answer(Answer::Id(IMAGE));
+    go_on(&rt, alloc, &mut request, op(OpKind::DirFind), found)?;
+    go_on(&rt, alloc, &mut request, JOIN, Fed::Passed)?;
+    let looked = Fed::Answer(Answer::Header(disk(alloc)));
+    let reply = end(&rt, alloc, &mut request, op(OpKind::HeaderGet), looked)?;
     assert!(rt; is_refused(reply, Refusal::NoSnap));
     Ok(())
 }
