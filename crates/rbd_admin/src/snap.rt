@@ -1,11 +1,12 @@
 //! `snap create` and `snap rm`
-ghost use Rattle.std.specs.Prelude.{◌≡◌, ℕ, List, true, Some, None, if◌then◌else◌, IfOk};
+ghost use Rattle.std.specs.Prelude.{◌≡◌, ℕ, List, true, Some, None, is_some, if◌then◌else◌, IfOk};
 ghost use Rattle.rbd_kinds.specs.declared.id.SiteId.{SiteId};
+ghost use Rattle.rbd_kinds.specs.Header.{snap_named};
 ghost use Rattle.rbd_kinds.specs.OperationKind.{header_kind};
 ghost use Rattle.rbd_header.specs.Header.{is_full as lists_all};
 ghost use Rattle.rbd_machine.specs.Plan.{Plan, GoesOn, Goto, plan_after, without_labels};
 ghost use Rattle.rbd_machine.specs.Steps.{going, change as change_of};
-ghost use Rattle.rbd_admin.specs.Snap.{is_snap, snap_plan, rest_of_snap, IsApproaching, create_refuses, remove_refuses, is_unprotected, refuses_by, does_by, refuses_of, does, noting, event_of, operation_of, on_act};
+ghost use Rattle.rbd_admin.specs.Snap.{is_snap, snap_plan, rest_of_snap, IsApproaching, removal_refusal, is_unprotected, refuses_by, does_by, refuses_of, does, noting, event_of, operation_of, on_act};
 
 use rbd_kinds::{
     Answer, Command, Event, Fed, HeaderOp, HeaderView, ImageId, Name, NoMemory, Op, OpKind,
@@ -153,7 +154,11 @@ impl SnapChange {
 impl Refuses for SnapChange {
     ghost refuses = { refuses_of };
 
+    /// NonPrimary at a secondary, which clients don't change, and then what the kind of change refuses.
     fn refusal(&self, header: &HeaderView) -> Option<Refusal> {
+        if header.role == Role::Secondary {
+            return Some(Refusal::NonPrimary);
+        }
         match self.kind {
             ChangeKind::Create => create_refusal(&self.snap, header),
             ChangeKind::Remove => remove_refusal(&self.snap, header),
@@ -161,14 +166,11 @@ impl Refuses for SnapChange {
     }
 }
 
-/// Why no snapshot of a name may be taken: NonPrimary at a secondary, SnapExists where the name is listed,
+/// Why no snapshot of a name may be taken of an image that clients change: SnapExists where the name is listed,
 /// BadShape where no more snapshots can be.
 fn create_refusal(snap: &Name, header: &HeaderView) -> Option<Refusal>
-    ensures { result ≡ create_refuses snap.now header.now }
+    ensures { result ≡ (if is_some (snap_named header.now.snaps snap.now) then Some Refusal.SnapExists else if lists_all header.now then Some Refusal.BadShape else None) }
 {
-    if header.role == Role::Secondary {
-        return Some(Refusal::NonPrimary);
-    }
     if header.named(snap).is_some() {
         return Some(Refusal::SnapExists);
     }
@@ -178,14 +180,11 @@ fn create_refusal(snap: &Name, header: &HeaderView) -> Option<Refusal>
     None
 }
 
-/// Why the snapshot of a name may not be removed: NonPrimary at a secondary, NoSnap where the name isn't listed,
-/// SnapProtected where the snapshot may have clones.
+/// Why the snapshot of a name may not be removed of an image that clients change: NoSnap where the name isn't
+/// listed, SnapProtected where the snapshot may have clones.
 fn remove_refusal(snap: &Name, header: &HeaderView) -> Option<Refusal>
-    ensures { result ≡ remove_refuses snap.now header.now }
+    ensures { result ≡ removal_refusal (snap_named header.now.snaps snap.now) }
 {
-    if header.role == Role::Secondary {
-        return Some(Refusal::NonPrimary);
-    }
     match header.named(snap) {
         None => Some(Refusal::NoSnap),
         Some(listed) => protection(listed.status),
