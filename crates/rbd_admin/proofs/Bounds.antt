@@ -1,5 +1,5 @@
 -- Bounds of the plans.
-use Rattle.std.proofs.Common.{◌≡◌, ℕ, zero, suc, List, Option, Some, None, sym, subst}
+use Rattle.std.proofs.Common.{ℕ, zero, suc, List, Option, Some, None, sym, subst}
 use Rattle.rbd_kinds.specs.declared.answer.Answer.{Answer}
 use Rattle.rbd_kinds.specs.declared.answer.Answer.TheVariants as answer
 use Rattle.rbd_kinds.specs.declared.command.Command.{Command}
@@ -16,7 +16,7 @@ use Rattle.rbd_machine.specs.Path.{IsBounded}
 use Rattle.rbd_machine.proofs.Bounds.{bounded_on_id, bounded_on_header, bounded_on_done, bounded_change}
 use Rattle.rbd_admin.specs.Create.{IsCreate, IsCreatePlan, on_drawn, making, drawing, new_header}
 use Rattle.rbd_admin.specs.Listing.{on_names, list_names, showing, show_header, shown_snaps, listing_plan}
-use Rattle.rbd_admin.specs.Snap.{on_snap, applied, taking, take, removing, remove_listed, remove, create_refuses, remove_refuses, snap_plan}
+use Rattle.rbd_admin.specs.Snap.{on_snap, applied, take, remove_listed, remove, create_refuses, remove_refuses, snap_plan}
 
 -- ---- create
 

@@ -1,5 +1,5 @@
 -- `create`: the plan that makes an image.
-use Rattle.std.specs.Prelude.{◌≡◌, ℕ, List, [], Bool, true, false, not, Option, Some, None}
+use Rattle.std.specs.Prelude.{◌≡◌, ℕ, List, [], Bool, false, not, Option, Some, None}
 use Rattle.rbd_admin.specs.declared.create.CreateRequest.{CreateRequest}
 use Rattle.rbd_admin.specs.declared.create.Stage.{Stage}
 use Rattle.rbd_admin.specs.declared.create.Stage.TheVariants as stage

@@ -1,6 +1,5 @@
 //! `create`
 ghost use Rattle.std.specs.Prelude.{◌≡◌, ℕ, true, None};
-ghost use Rattle.rbd_kinds.specs.declared.layout.Layout.{Layout};
 ghost use Rattle.rbd_machine.specs.Plan.{Plan, IsAsking, without_labels};
 ghost use Rattle.rbd_machine.specs.Steps.{going};
 ghost use Rattle.rbd_admin.specs.Create.{is_create, new_header as header_of, on_drawn, rest_of_create, IsCreate, IsCreatePlan, refusal_at};

@@ -21,14 +21,17 @@
 //! | `create` | `dir-add`, `header-create` | BadShape before any operation; then ImageExists, BadShape |
 //! | `ls` | `dir-list` | |
 //! | `info`, `snap ls` | `dir-find`, `header-get` | NoImage |
-//! | `snap create` | `dir-find`, alone in the line, `header-get`, the lock, `header-get`, its event, `header-snap-add`, applied | NoImage, NonPrimary, SnapExists, BadShape |
-//! | `snap rm` | the same, with `header-snap-remove` | NoImage, NonPrimary, NoSnap, SnapProtected |
+//! | `snap create` | to its own look, its event, `header-snap-add`, applied | NoImage, NonPrimary, SnapExists, BadShape |
+//! | `snap rm` | to its own look, its event, `header-snap-remove`, applied | NoImage, NonPrimary, NoSnap, SnapProtected |
 //!
-//! The refusals of `snap create` and `snap rm` are tested at both looks, in this order. The first look spares a request
-//! that is refused the wait for the lock; what the second, its own look, shows can't change as long as its session has
-//! the lock. A shape is outside the limits by its layout, or by more than 2^20 objects (own). `dir-add` is answered
-//! `full` where no more names or ids are left, which is BadShape too (own). Any operation may be answered `fenced`, which
-//! ends the request with Fenced.
+//! The way to its own look is `dir-find`, the image's line, alone in it, `header-get`, the lock, and `header-get` again
+//! ([`Approach`](rbd_machine::Approach)). What the own look shows can't change as long as the session has the lock;
+//! the look before spares a request that is refused the wait for it. The refusals of `snap create` and `snap rm` are tested
+//! at both looks, in the order of the table.
+//!
+//! A shape is outside the limits by its layout, or by more than 2^20 objects (own). `dir-add` is answered `full` where no
+//! more names or ids are left, which is BadShape too (own). Any operation may be answered `fenced`, which ends the
+//! request with Fenced.
 //!
 //! # Contracts
 //!

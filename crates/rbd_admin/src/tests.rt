@@ -1,10 +1,10 @@
 //! Each request is fed by hand, on its way to its end and to a refusal. What it has to want was worked out from the
 //! rules in prose.
-ghost use Rattle.std.specs.Prelude.{◌≡◌, IfOk, OnOk};
+ghost use Rattle.std.specs.Prelude.{◌≡◌, OnOk};
 ghost use Rattle.rbd_kinds.specs.declared.id.SiteId.TheVariants as site;
 ghost use Rattle.rbd_kinds.specs.Form.{IsHeaderInForm};
 ghost use Rattle.rbd_machine.specs.Answers.{CanBeFed};
-ghost use Rattle.rbd_machine.specs.Plan.{GoesOn, plan_after};
+ghost use Rattle.rbd_machine.specs.Plan.{GoesOn, IsAsking, plan_after};
 ghost use Rattle.rbd_admin.specs.Create.{drawing, new_header, rest_of_create};
 
 use crate::{CreateRequest, ListRequest, SnapRequest};
@@ -56,6 +56,14 @@ fn name(rt: &impl Abort, alloc: Global, text: &[u8]) -> Result<Name, NoMemory> {
 fn op(kind: OpKind) -> Want {
     let site = SiteId::A;
     Want::Op { site, kind }
+}
+
+/// Whether the operation that a request wants is of a kind.
+fn asks<M: Machine>(alloc: Global, request: &M, kind: OpKind) -> Result<bool, NoMemory>
+    requires { IsAsking (M.stands request.now).plan }
+{
+    let op = request.next(alloc)?;
+    Ok(op.kind() == kind)
 }
 
 /// A request wants this, is fed, and wants more.
@@ -129,6 +137,7 @@ fn create_draws_an_id_and_makes_a_header(rt: HostRuntime) -> Result<(), Fail> {
     let mut request = create_request(name(&rt, alloc, b"disk")?, size);
     let drawn = Fed::Answer(Answer::Id(IMAGE));
     go_on(&rt, alloc, &mut request, op(OpKind::DirAdd), drawn)?;
+    assert!(rt; asks(alloc, &request, OpKind::HeaderCreate)?);
     let made = Fed::Answer(Answer::Done);
     let reply = end(&rt, alloc, &mut request, op(OpKind::HeaderCreate), made)?;
     assert!(rt; is_done(reply));
@@ -209,6 +218,7 @@ fn is_empty(reply: Reply) -> bool {
 fn ls_shows_the_names(rt: HostRuntime) -> Result<(), Fail> {
     let alloc = rt.alloc();
     let mut request = ListRequest::new(SiteId::A, Command::List);
+    assert!(rt; asks(alloc, &request, OpKind::DirList)?);
     let names = Fed::Answer(Answer::Names(Names::new(alloc)));
     let reply = end(&rt, alloc, &mut request, op(OpKind::DirList), names)?;
     assert!(rt; is_empty(reply));
@@ -264,6 +274,7 @@ fn snap_create_takes_a_snapshot(rt: HostRuntime) -> Result<(), Fail> {
     go_on(&rt, alloc, &mut request, op(OpKind::HeaderGet), owned)?;
     assert!(rt; is_taking(request.event(alloc)?, b"first"));
     go_on(&rt, alloc, &mut request, NOTE, Fed::Passed)?;
+    assert!(rt; asks(alloc, &request, OpKind::HeaderSnapAdd)?);
     let taken = Fed::Answer(Answer::Snap(SnapId(1)));
     go_on(&rt, alloc, &mut request, op(OpKind::HeaderSnapAdd), taken)?;
     let reply = end(&rt, alloc, &mut request, APPLIED, Fed::Passed)?;

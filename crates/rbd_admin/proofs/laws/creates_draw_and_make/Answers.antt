@@ -1,4 +1,3 @@
-use Rattle.std.proofs.Common.{rules}
 use Rattle.rbd_admin.proofs.Bounds.{bounded_create}
 use Rattle.rbd_admin.proofs.laws.creates_draw_and_make.Goals as goal
 

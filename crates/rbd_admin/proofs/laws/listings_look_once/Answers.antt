@@ -1,4 +1,3 @@
-use Rattle.std.proofs.Common.{rules}
 use Rattle.rbd_admin.proofs.Bounds.{bounded_listing}
 use Rattle.rbd_admin.proofs.laws.listings_look_once.Goals as goal
 

@@ -1,4 +1,3 @@
-use Rattle.std.proofs.Common.{rules}
 use Rattle.rbd_admin.proofs.Bounds.{bounded_names}
 use Rattle.rbd_admin.proofs.laws.names_are_listed_at_once.Goals as goal
 

@@ -1,4 +1,3 @@
-use Rattle.std.proofs.Common.{rules}
 use Rattle.rbd_admin.proofs.Bounds.{bounded_snap}
 use Rattle.rbd_admin.proofs.laws.snapshots_change_once.Goals as goal
 

@@ -1,4 +1,4 @@
-use Rattle.std.proofs.Common.{◌≡◌, ap, refl, sym, subst, ◌∙◌, arith}
+use Rattle.std.proofs.Common.{ap, refl, sym, subst, ◌∙◌, arith}
 use Rattle.rbd_kinds.specs.declared.id.SiteId.TheVariants as site
 use Rattle.rbd_kinds.specs.declared.layout.Layout.{Layout}
 use Rattle.rbd_layout.specs.Asked.{KeepsLimits}
@@ -14,7 +14,6 @@ kept = record {
   objects = λ x below. omega arith;
 }
 
--- src/tests.rt:88:1
 pub returns : goal.returns
 returns c =
     c.new.ensures.within (subst (KeepsLimits usual) (sym c.requires) kept)

@@ -19,6 +19,5 @@ in_form = record {
   depth = omega arith;
 }
 
--- src/tests.rt:127:1
 pub returns-clause-form : goal.returns-clause-form
 returns-clause-form c = subst (λ snaps. IsHeaderInForm (record disk { snaps = snaps })) (sym c.new.ensures) in_form

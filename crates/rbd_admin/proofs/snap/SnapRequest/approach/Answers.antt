@@ -1,14 +1,13 @@
-use Rattle.std.proofs.Common.{rules}
 use Rattle.rbd_admin.specs.Snap.{does}
 use Rattle.rbd_admin.proofs.Looks.{acts_by_header}
 use Rattle.rbd_admin.proofs.snap.SnapRequest.approach.Goals as goal
 
--- src/snap.rt:114:21
+-- it had waited for an answer
 pub unreachable-requires-in_default-fed : goal.unreachable-requires-in_default-fed
 unreachable-requires-in_default-fed c =
     rw c.in_default-fed.is at (c.in-Owned.ensures (does c.args.self.now.site c.args.self.now.change))
 
--- src/snap.rt:117:21
+-- and the answer was a header
 pub unreachable-requires-in_default-answer : goal.unreachable-requires-in_default-answer
 unreachable-requires-in_default-answer c =
     let act = does c.args.self.now.site c.args.self.now.change in
