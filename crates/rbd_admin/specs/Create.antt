@@ -1,5 +1,8 @@
 -- `create`: the plan that makes an image.
-use Rattle.std.specs.Prelude.{◌≡◌, ℕ, List, [], Bool, true, false, not, None}
+use Rattle.std.specs.Prelude.{◌≡◌, ℕ, List, [], Bool, false, not, Option, Some, None}
+use Rattle.rbd_admin.specs.declared.create.CreateRequest.{CreateRequest}
+use Rattle.rbd_admin.specs.declared.create.Stage.{Stage}
+use Rattle.rbd_admin.specs.declared.create.Stage.TheVariants as stage
 use Rattle.rbd_kinds.specs.declared.answer.Answer.{Answer}
 use Rattle.rbd_kinds.specs.declared.answer.Answer.TheVariants as answer
 use Rattle.rbd_kinds.specs.declared.command.Command.{Command}
@@ -12,6 +15,7 @@ use Rattle.rbd_kinds.specs.declared.header_op.HeaderOp.TheVariants as header
 use Rattle.rbd_kinds.specs.declared.id.SiteId.{SiteId}
 use Rattle.rbd_kinds.specs.declared.layout.Layout.{Layout}
 use Rattle.rbd_kinds.specs.declared.operation.Op.TheVariants as op
+use Rattle.rbd_kinds.specs.declared.refusal.Refusal.{Refusal}
 use Rattle.rbd_kinds.specs.declared.refusal.Refusal.TheVariants as refusal
 use Rattle.rbd_kinds.specs.declared.reply.Reply.TheVariants as reply
 use Rattle.rbd_layout.specs.Asked.{layout_of, KeepsLimits}
@@ -63,3 +67,19 @@ pub record IsCreate (site : SiteId) (name : List ℕ) (size : ℕ) (shape : Shap
 abbrev pub IsCreatePlan : SiteId → Command → Plan → Type 0
 IsCreatePlan site (command.Create image size shape) plan = IsCreate site image size shape plan
 IsCreatePlan site _ plan = ⊥
+
+-- ---- where a request stands
+
+abbrev pub rest_at : Stage → CreateRequest → Plan
+rest_at stage.Outside r = refused refusal.BadShape
+rest_at stage.Drawing r = drawing r.site r.name (new_header r.layout r.size)
+rest_at (stage.Making image) r = making r.site (new_header r.layout r.size) image
+
+-- what is left of one
+abbrev pub rest_of_create : CreateRequest → Plan
+rest_of_create r = rest_at r.at r
+
+-- why a plan has ended, where it has ended refused
+abbrev pub refusal_at : Plan → Option Refusal
+refusal_at (Return (reply.Refused r)) = Some r
+refusal_at _ = None

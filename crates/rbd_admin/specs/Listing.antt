@@ -1,5 +1,10 @@
 -- `ls`, `info` and `snap ls`: plans that show what a site has, and change nothing.
-use Rattle.std.specs.Prelude.{ℕ, List, Bool, true, false}
+use Rattle.std.specs.Prelude.{◌≡◌, ℕ, List, Bool, true, false, Option, Some}
+use Rattle.rbd_admin.specs.declared.listing.ListRequest.{ListRequest}
+use Rattle.rbd_admin.specs.declared.listing.Shown.{Shown}
+use Rattle.rbd_admin.specs.declared.listing.Shown.TheVariants as shown
+use Rattle.rbd_admin.specs.declared.listing.Stage.{Stage}
+use Rattle.rbd_admin.specs.declared.listing.Stage.TheVariants as stage
 use Rattle.rbd_kinds.specs.declared.answer.Answer.{Answer}
 use Rattle.rbd_kinds.specs.declared.answer.Answer.TheVariants as answer
 use Rattle.rbd_kinds.specs.declared.command.Command.{Command}
@@ -44,3 +49,28 @@ listing_plan site command.List = list_names site
 listing_plan site (command.Info image) = show_header site image reply.Info
 listing_plan site (command.SnapList image) = show_header site image shown_snaps
 listing_plan site _ = refused refusal.NoImage
+
+-- ---- where a request stands
+
+-- what it shows of a header
+abbrev pub reply_of : Shown → HeaderView → Reply
+reply_of shown.Header = reply.Info
+reply_of shown.Snaps = shown_snaps
+
+abbrev pub rest_at : Stage → SiteId → Plan
+rest_at stage.Listing site = list_names site
+rest_at (stage.Finding name shown) site = show_header site name (reply_of shown)
+rest_at (stage.Looking image shown) site = showing site (reply_of shown) image
+
+-- what is left of one
+abbrev pub rest_of_list : ListRequest → Plan
+rest_of_list r = rest_at r.at r.site
+
+-- The reply to the last answer is made.
+abbrev pub IsReadied : Stage → Option Reply → Answer → Type 0
+IsReadied stage.Listing readied (answer.Names names) = readied ≡ Some (reply.Names names)
+IsReadied (stage.Looking image shown) readied (answer.Header h) = readied ≡ Some (reply_of shown h)
+IsReadied _ readied a = Unit {0}
+
+abbrev pub HasReply : ListRequest → Answer → Type 0
+HasReply r a = IsReadied r.at r.readied a

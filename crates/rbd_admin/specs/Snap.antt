@@ -1,5 +1,13 @@
 -- `snap create` and `snap rm`: plans of changes that are alone on their image.
 use Rattle.std.specs.Prelude.{ℕ, List, Bool, true, false, if◌then◌else◌, Option, Some, None, is_some}
+use Rattle.rbd_admin.specs.declared.snap.Act.{Act}
+use Rattle.rbd_admin.specs.declared.snap.Act.TheVariants as act
+use Rattle.rbd_admin.specs.declared.snap.ChangeKind.{ChangeKind}
+use Rattle.rbd_admin.specs.declared.snap.ChangeKind.TheVariants as kind
+use Rattle.rbd_admin.specs.declared.snap.SnapChange.{SnapChange}
+use Rattle.rbd_admin.specs.declared.snap.SnapRequest.{SnapRequest}
+use Rattle.rbd_admin.specs.declared.snap.Stage.{Stage}
+use Rattle.rbd_admin.specs.declared.snap.Stage.TheVariants as stage
 use Rattle.rbd_kinds.specs.declared.answer.Answer.{Answer}
 use Rattle.rbd_kinds.specs.declared.answer.Answer.TheVariants as answer
 use Rattle.rbd_kinds.specs.declared.command.Command.{Command}
@@ -8,8 +16,10 @@ use Rattle.rbd_kinds.specs.declared.header.HeaderView.{HeaderView}
 use Rattle.rbd_kinds.specs.declared.header.SnapStatus.{SnapStatus}
 use Rattle.rbd_kinds.specs.declared.header.SnapStatus.TheVariants.{Unprotected}
 use Rattle.rbd_kinds.specs.declared.header.SnapView.{SnapView}
+use Rattle.rbd_kinds.specs.declared.header_op.HeaderOp.{HeaderOp}
 use Rattle.rbd_kinds.specs.declared.header_op.HeaderOp.TheVariants as header
 use Rattle.rbd_kinds.specs.declared.id.SiteId.{SiteId}
+use Rattle.rbd_kinds.specs.declared.journal.Event.{Event}
 use Rattle.rbd_kinds.specs.declared.journal.Event.TheVariants as event
 use Rattle.rbd_kinds.specs.declared.machine.Want.TheVariants as want
 use Rattle.rbd_kinds.specs.declared.operation.Op.TheVariants as op
@@ -18,6 +28,7 @@ use Rattle.rbd_kinds.specs.declared.refusal.Refusal.TheVariants as refusal
 use Rattle.rbd_kinds.specs.declared.reply.Reply.TheVariants as reply
 use Rattle.rbd_kinds.specs.Header.{snap_named}
 use Rattle.rbd_header.specs.Header.{is_full}
+use Rattle.rbd_machine.specs.Approach.{rest_of}
 use Rattle.rbd_machine.specs.Plan.{Plan, Ask, Await, Note, Return}
 use Rattle.rbd_machine.specs.Steps.{refused, not_there, on_done, change, or_else, non_primary}
 
@@ -80,3 +91,53 @@ abbrev pub snap_plan : SiteId → Command → Plan
 snap_plan site (command.SnapCreate image snap) = change site image true (create_refuses snap) (take site snap)
 snap_plan site (command.SnapRemove image snap) = change site image true (remove_refuses snap) (remove site snap)
 snap_plan site _ = refused refusal.NoImage
+
+-- ---- where a request stands
+
+-- what a change refuses, and what it does then
+abbrev pub refuses_by : ChangeKind → (snap : List ℕ) → HeaderView → Option Refusal
+refuses_by kind.Create = create_refuses
+refuses_by kind.Remove = remove_refuses
+
+abbrev pub refuses_of : SnapChange → HeaderView → Option Refusal
+refuses_of change = refuses_by change.kind change.snap
+
+abbrev pub does_by : ChangeKind → SiteId → (snap : List ℕ) → (image : ℕ) → HeaderView → Plan
+does_by kind.Create = take
+does_by kind.Remove = remove
+
+abbrev pub does : SiteId → SnapChange → (image : ℕ) → HeaderView → Plan
+does site change = does_by change.kind site change.snap
+
+-- the event of an act on the snapshot of a name, its operation, and what the answer means
+abbrev pub event_of : (snap : List ℕ) → Act → Event
+event_of snap act.Take = event.SnapCreate snap
+event_of snap (act.Remove listed) = event.SnapRemove snap
+
+abbrev pub operation_of : (snap : List ℕ) → Act → HeaderOp
+operation_of snap act.Take = header.SnapAdd snap
+operation_of snap (act.Remove listed) = header.SnapRemove listed
+
+abbrev pub on_act : Act → Plan → Answer → Plan
+on_act act.Take = on_snap
+on_act (act.Remove listed) = on_done
+
+abbrev pub doing : SiteId → (snap : List ℕ) → (image : ℕ) → Act → Plan
+doing site snap image a = Ask site (op.Header image (operation_of snap a)) (on_act a (applied site image))
+
+abbrev pub noting : SiteId → (snap : List ℕ) → (image : ℕ) → Act → Plan
+noting site snap image a = Note site image (event_of snap a) (doing site snap image a)
+
+abbrev pub rest_at : Stage → SiteId → SnapChange → Plan
+rest_at (stage.Approaching way) site change = rest_of way (refuses_of change) (does site change)
+rest_at (stage.Noting image a) site change = noting site change.snap image a
+rest_at (stage.Doing image a) site change = doing site change.snap image a
+rest_at (stage.Applying image) site change = applied site image
+
+-- what is left of one
+abbrev pub rest_of_snap : SnapRequest → Plan
+rest_of_snap r = rest_at r.at r.site r.change
+
+abbrev pub IsApproaching : Stage → Type 0
+IsApproaching (stage.Approaching way) = Unit {0}
+IsApproaching _ = ⊥

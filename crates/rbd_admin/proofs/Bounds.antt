@@ -1,0 +1,98 @@
+-- Bounds of the plans.
+use Rattle.std.proofs.Common.{ℕ, zero, suc, List, Option, Some, None, sym, subst}
+use Rattle.rbd_kinds.specs.declared.answer.Answer.{Answer}
+use Rattle.rbd_kinds.specs.declared.answer.Answer.TheVariants as answer
+use Rattle.rbd_kinds.specs.declared.command.Command.{Command}
+use Rattle.rbd_kinds.specs.declared.command.Command.TheVariants as command
+use Rattle.rbd_kinds.specs.declared.command.Shape.{Shape}
+use Rattle.rbd_kinds.specs.declared.header.HeaderView.{HeaderView}
+use Rattle.rbd_kinds.specs.declared.header.SnapView.{SnapView}
+use Rattle.rbd_kinds.specs.declared.id.SiteId.{SiteId}
+use Rattle.rbd_kinds.specs.declared.reply.Reply.{Reply}
+use Rattle.rbd_kinds.specs.Header.{snap_named}
+use Rattle.rbd_layout.specs.Asked.{layout_of, KeepsLimits}
+use Rattle.rbd_machine.specs.Plan.{Plan, Ask, Await, Note, Return, Goto}
+use Rattle.rbd_machine.specs.Path.{IsBounded}
+use Rattle.rbd_machine.proofs.Bounds.{bounded_on_id, bounded_on_header, bounded_on_done, bounded_change}
+use Rattle.rbd_admin.specs.Create.{IsCreate, IsCreatePlan, on_drawn, making, drawing, new_header}
+use Rattle.rbd_admin.specs.Listing.{on_names, list_names, showing, show_header, shown_snaps, listing_plan}
+use Rattle.rbd_admin.specs.Snap.{on_snap, applied, take, remove_listed, remove, create_refuses, remove_refuses, snap_plan}
+
+-- ---- create
+
+bounded_on_drawn : (next : ℕ → Plan) (n : ℕ) → ((image : ℕ) → IsBounded (next image) n) → (a : Answer) → IsBounded (on_drawn next a) n
+bounded_on_drawn next n b (answer.Id image) = b image
+bounded_on_drawn next n b answer.Exists = tt
+bounded_on_drawn next n b answer.Full = tt
+bounded_on_drawn next n b answer.Fenced = tt
+bounded_on_drawn next n b _ = tt
+
+bounded_making : (site : SiteId) (h : HeaderView) (image : ℕ) → IsBounded (making site h image) 1
+bounded_making site h image = bounded_on_done _ 0 tt
+
+bounded_drawing : (site : SiteId) (name : List ℕ) (h : HeaderView) → IsBounded (drawing site name h) 2
+bounded_drawing site name h = bounded_on_drawn (making site h) 1 (bounded_making site h)
+
+-- a bound that doesn't fail holds
+bounded_stable : (plan : Plan) (n : ℕ) → ((IsBounded plan n → ⊥) → ⊥) → IsBounded plan n
+bounded_stable (Ask site op next) zero fails = absurd (fails (λ b. b))
+bounded_stable (Ask site op next) (suc n) fails = λ a. bounded_stable (next a) n (λ unbounded. fails (λ b. unbounded (b a)))
+bounded_stable (Await want next) n fails = bounded_stable next n fails
+bounded_stable (Note site image event next) n fails = bounded_stable next n fails
+bounded_stable (Return reply) n fails = tt
+bounded_stable (Goto label) n fails = tt
+
+bounded_is_create : (site : SiteId) (name : List ℕ) (size : ℕ) (shape : Shape) (plan : Plan) → IsCreate site name size shape plan → IsBounded plan 2
+bounded_is_create site name size shape plan is =
+    bounded_stable plan 2 (λ unbounded.
+    let outside : KeepsLimits (layout_of shape) size → ⊥ =
+    λ keeps. unbounded (subst (λ p. IsBounded p 2) (sym (is.within keeps)) (bounded_drawing site name (new_header (layout_of shape) size))) in
+    unbounded (subst (λ p. IsBounded p 2) (sym (is.outside outside)) tt))
+
+pub bounded_create : (site : SiteId) (c : Command) (plan : Plan) → IsCreatePlan site c plan → IsBounded plan 2
+bounded_create site (command.Create image size shape) plan is = bounded_is_create site image size shape plan is
+bounded_create site _ plan is = absurd is
+
+-- ---- ls, info, snap ls
+
+bounded_on_names : (next : List (List ℕ) → Plan) (n : ℕ) → ((names : List (List ℕ)) → IsBounded (next names) n) → (a : Answer) → IsBounded (on_names next a) n
+bounded_on_names next n b (answer.Names names) = b names
+bounded_on_names next n b answer.Fenced = tt
+bounded_on_names next n b _ = tt
+
+pub bounded_names : (site : SiteId) (n : ℕ) → IsBounded (list_names site) (suc n)
+bounded_names site n = bounded_on_names _ n (λ names. tt)
+
+bounded_showing : (site : SiteId) (shown : HeaderView → Reply) (image : ℕ) → IsBounded (showing site shown image) 1
+bounded_showing site shown image = bounded_on_header _ 0 (λ h. tt)
+
+bounded_show_header : (site : SiteId) (name : List ℕ) (shown : HeaderView → Reply) → IsBounded (show_header site name shown) 2
+bounded_show_header site name shown = bounded_on_id (showing site shown) 1 (bounded_showing site shown)
+
+pub bounded_listing : (site : SiteId) (c : Command) → IsBounded (listing_plan site c) 2
+bounded_listing site command.List = bounded_names site 1
+bounded_listing site (command.Info image) = bounded_show_header site image _
+bounded_listing site (command.SnapList image) = bounded_show_header site image shown_snaps
+bounded_listing site _ = tt
+
+-- ---- snap create, snap rm
+
+bounded_on_snap : (next : Plan) (n : ℕ) → IsBounded next n → (a : Answer) → IsBounded (on_snap next a) n
+bounded_on_snap next n b (answer.Snap snap) = b
+bounded_on_snap next n b answer.Fenced = tt
+bounded_on_snap next n b _ = tt
+
+bounded_take : (site : SiteId) (snap : List ℕ) (image : ℕ) (h : HeaderView) → IsBounded (take site snap image h) 1
+bounded_take site snap image h = bounded_on_snap (applied site image) 0 tt
+
+bounded_remove_listed : (site : SiteId) (snap : List ℕ) (image : ℕ) (listed : Option SnapView) → IsBounded (remove_listed site snap image listed) 1
+bounded_remove_listed site snap image None = tt
+bounded_remove_listed site snap image (Some listed) = bounded_on_done (applied site image) 0 tt
+
+bounded_remove : (site : SiteId) (snap : List ℕ) (image : ℕ) (h : HeaderView) → IsBounded (remove site snap image h) 1
+bounded_remove site snap image h = bounded_remove_listed site snap image (snap_named h.snaps snap)
+
+pub bounded_snap : (site : SiteId) (c : Command) → IsBounded (snap_plan site c) 4
+bounded_snap site (command.SnapCreate image snap) = bounded_change site (create_refuses snap) (take site snap) 1 (bounded_take site snap) image _
+bounded_snap site (command.SnapRemove image snap) = bounded_change site (remove_refuses snap) (remove site snap) 1 (bounded_remove site snap) image _
+bounded_snap site _ = tt

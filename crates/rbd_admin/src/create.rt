@@ -1,0 +1,180 @@
+//! `create`
+ghost use Rattle.std.specs.Prelude.{◌≡◌, ℕ, true, None};
+ghost use Rattle.rbd_machine.specs.Plan.{Plan, IsAsking, without_labels};
+ghost use Rattle.rbd_machine.specs.Steps.{going};
+ghost use Rattle.rbd_admin.specs.Create.{is_create, new_header as header_of, on_drawn, rest_of_create, IsCreate, IsCreatePlan, refusal_at};
+
+use rbd_kinds::{
+    Answer, Command, DirectoryOp, Event, Fed, HeaderOp, HeaderView, ImageId, Layout, Name,
+    NoMemory, Number, Op, OpKind, Refusal, Reply, Role, Shape, SiteId, Snaps, TryClone, Turn, Want,
+};
+use rbd_layout::{keeps_limits, layout_of};
+use rbd_machine::{Machine, refusal_of, told_done};
+use std::alloc::Global;
+
+/// Makes an image of zeros.
+///
+/// ```text
+/// Outside   a shape outside the limits: BadShape, and no operation
+///
+/// Drawing   dir-add         ──exists──▶ ImageExists
+///    │ id                   ──full────▶ BadShape
+/// Making    header-create
+///    │ done
+///    ▼
+/// Done
+/// ```
+///
+/// Each operation may be answered `fenced`, which ends the request with Fenced.
+#[derive(Debug, Drop)]
+pub struct CreateRequest {
+    site: SiteId,
+    name: Name,
+    layout: Layout,
+    /// The size in bytes.
+    size: Number,
+    at: Stage,
+}
+
+/// A step of the request.
+#[derive(Debug, Drop)]
+enum Stage {
+    Outside,
+    Drawing,
+    Making(ImageId),
+}
+
+impl CreateRequest {
+    /// The request of a `create` at a site, for an image without a journal.
+    pub fn new(home: SiteId, command: Command) -> Self
+        requires { is_create command ≡ true }
+        ensures { IsCreatePlan home command (rest_of_create result) }
+    {
+        match command {
+            Command::Create { image, size, shape } => Self::asked(home, image, size, &shape),
+            _ => unreachable!(),
+        }
+    }
+
+    /// The request for an image of a name, a size in bytes and a shape.
+    fn asked(site: SiteId, name: Name, size: Number, shape: &Shape) -> Self
+        ensures { IsCreate site name size shape.now (rest_of_create result) }
+    {
+        let layout = layout_of(shape);
+        let at = if keeps_limits(&layout, size.get()) {
+            Stage::Drawing
+        } else {
+            Stage::Outside
+        };
+        CreateRequest {
+            site,
+            name,
+            layout,
+            size,
+            at,
+        }
+    }
+
+    /// Why it ends before any operation: BadShape where the shape is outside the limits. It is `None` where there
+    /// is something to do.
+    pub fn refusal(&self) -> Option<Refusal>
+        ensures refusal { result ≡ refusal_at (rest_of_create self.now) }
+        ensures asking { result ≡ None → IsAsking (rest_of_create self.now) }
+    {
+        match self.at {
+            Stage::Outside => Some(Refusal::BadShape),
+            _ => None,
+        }
+    }
+}
+
+/// The id that was drawn for a name, or why the request ends: the name is held, no more names or ids are left, or
+/// it is fenced.
+fn drawn(answer: &Answer) -> Result<ImageId, Refusal>
+    ensures { (next : ℕ → Plan) → on_drawn next answer.now ≡ going next result }
+{
+    match answer {
+        Answer::Id(image) => Ok(*image),
+        Answer::Exists => Err(Refusal::ImageExists),
+        Answer::Full => Err(Refusal::BadShape),
+        _ => Err(refusal_of(answer)),
+    }
+}
+
+/// The header of a new image of zeros.
+fn new_header(alloc: Global, layout: Layout, size: u64) -> HeaderView
+    ensures { result ≡ header_of layout size }
+{
+    HeaderView {
+        layout,
+        size,
+        generation: 0,
+        snap_seq: 0,
+        snaps: Snaps::new(alloc),
+        parent: None,
+        depth: 0,
+        born: size,
+        born_clone: false,
+        journal: false,
+        syncing: false,
+        owner: None,
+        global: None,
+        role: Role::Plain,
+    }
+}
+
+impl Machine for CreateRequest {
+    ghost stands = { λ r. without_labels (rest_of_create r) };
+
+    ghost is_ready = { λ r answer. Unit {0} };
+
+    fn wants(&self) -> Want {
+        let site = self.site;
+        let kind = match self.at {
+            Stage::Making(_) => OpKind::HeaderCreate,
+            _ => OpKind::DirAdd,
+        };
+        Want::Op { site, kind }
+    }
+
+    fn next(&self, alloc: Global) -> Result<Op, NoMemory> {
+        match self.at {
+            Stage::Making(image) => {
+                let view = new_header(alloc, self.layout, self.size.get());
+                let op = HeaderOp::Create { view };
+                Ok(Op::Header { image, op })
+            }
+            _ => Ok(Op::Directory(DirectoryOp::Add {
+                name: self.name.try_clone()?,
+            })),
+        }
+    }
+
+    fn event(&self, _alloc: Global) -> Result<Event, NoMemory> {
+        unreachable!()
+    }
+
+    fn ready(&mut self, _alloc: Global, _fed: &Fed) -> Result<(), NoMemory> {
+        Ok(())
+    }
+
+    fn feed(&mut self, fed: &Fed) -> Turn {
+        let Fed::Answer(answer) = fed else {
+            unreachable!()
+        };
+        match self.at {
+            Stage::Outside => unreachable!(),
+            Stage::Drawing => match drawn(answer) {
+                Ok(image) => {
+                    self.at = Stage::Making(image);
+                    Turn::More
+                }
+                Err(refusal) => Turn::Done(Reply::Refused(refusal)),
+            },
+            Stage::Making(_) => match told_done(answer) {
+                Ok(()) => Turn::Done(Reply::Done),
+                Err(refusal) => Turn::Done(Reply::Refused(refusal)),
+            },
+        }
+    }
+}

@@ -1,0 +1,38 @@
+//! What the plans of requests keep to: laws, each the contract of a function that does nothing.
+ghost use Rattle.std.specs.Prelude.{ℕ};
+ghost use Rattle.rbd_kinds.specs.declared.command.Command.{Command};
+ghost use Rattle.rbd_kinds.specs.declared.command.Command.TheVariants.{List as ListAll};
+ghost use Rattle.rbd_kinds.specs.declared.id.SiteId.{SiteId};
+ghost use Rattle.rbd_kinds.specs.declared.layout.Layout.{Layout};
+ghost use Rattle.rbd_kinds.specs.Form.{IsNewHeader};
+ghost use Rattle.rbd_layout.specs.Asked.{KeepsLimits};
+ghost use Rattle.rbd_machine.specs.Plan.{Plan};
+ghost use Rattle.rbd_machine.specs.Path.{IsBounded};
+ghost use Rattle.rbd_admin.specs.Create.{IsCreatePlan, new_header};
+ghost use Rattle.rbd_admin.specs.Listing.{listing_plan};
+ghost use Rattle.rbd_admin.specs.Snap.{snap_plan};
+
+/// A `create` has two operations at most: one draws the id, and one makes the header.
+pub fn creates_draw_and_make()
+    ensures { (home : SiteId) (command : Command) (plan : Plan) → IsCreatePlan home command plan → IsBounded plan 2 }
+{}
+
+/// An `ls` has one operation at most, however many images there are.
+pub fn names_are_listed_at_once()
+    ensures { (home : SiteId) → IsBounded (listing_plan home ListAll) 1 }
+{}
+
+/// An `ls`, an `info` and a `snap ls` have two operations at most: an image is found, and its header is looked at.
+pub fn listings_look_once()
+    ensures { (home : SiteId) (command : Command) → IsBounded (listing_plan home command) 2 }
+{}
+
+/// A `snap create` and a `snap rm` have four operations at most: three up to their own look, and one that does it.
+pub fn snapshots_change_once()
+    ensures { (home : SiteId) (command : Command) → IsBounded (snap_plan home command) 4 }
+{}
+
+/// The header of a new image is one that a site may make.
+pub fn new_headers_are_in_form()
+    ensures { (layout : Layout) (size : ℕ) → KeepsLimits layout size → IsNewHeader (new_header layout size) }
+{}

@@ -1,0 +1,64 @@
+//! Requests that make, show and snapshot images, as machines that want one thing at a time.
+//!
+//! ```text
+//! let mut request = SnapRequest::new(SiteId::A, snap_create);     // of the image `disk`, named `first`
+//! request.wants()                   // an operation at site A, of the kind dir-find
+//! request.next(alloc)?              // dir-find disk
+//! request.ready(alloc, &id)?        // memory for the answer `id 1`
+//! request.feed(&id)                 // More
+//! request.wants()                   // to join the line of image 1, alone
+//! request.feed(&Fed::Passed)        // More; then header-get, the lock, header-get
+//! request.wants()                   // its event noted in the journal of image 1
+//! request.event(alloc)?             // SnapCreate first
+//! request.feed(&Fed::Passed)        // More; then header-snap-add, and that the event counts as applied
+//! request.feed(&Fed::Passed)        // Done(Reply::Done)
+//! ```
+//!
+//! # Rules
+//!
+//! | command | steps | refused |
+//! |---|---|---|
+//! | `create` | `dir-add`, `header-create` | BadShape before any operation; then ImageExists, BadShape |
+//! | `ls` | `dir-list` | |
+//! | `info`, `snap ls` | `dir-find`, `header-get` | NoImage |
+//! | `snap create` | to its own look, its event, `header-snap-add`, applied | NoImage, NonPrimary, SnapExists, BadShape |
+//! | `snap rm` | to its own look, its event, `header-snap-remove`, applied | NoImage, NonPrimary, NoSnap, SnapProtected |
+//!
+//! The way to its own look is `dir-find`, the image's line, alone in it, `header-get`, the lock, and `header-get` again
+//! ([`Approach`](rbd_machine::Approach)). What the own look shows can't change as long as the session has the lock;
+//! the look before spares a request that is refused the wait for it. The refusals of `snap create` and `snap rm` are tested
+//! at both looks, in the order of the table.
+//!
+//! A shape is outside the limits by its layout, or by more than 2^20 objects (own). `dir-add` is answered `full` where no
+//! more names or ids are left, which is BadShape too (own). Any operation may be answered `fenced`, which ends the
+//! request with Fenced.
+//!
+//! # Contracts
+//!
+//! `specs/Create.antt`, `specs/Listing.antt` and `specs/Snap.antt` have the plan of each command: what a request wants,
+//! and how it goes on after each answer. A request that is made has this plan left, and each of its calls keeps to it
+//! ([`Machine`](rbd_machine::Machine)). [`laws`] says how many operations each plan has at most, and that the header
+//! of a new image is in form.
+//!
+//! # Cost
+//!
+//! A request holds the names of its command, without a copy. Each operation or event that names something copies that
+//! name once; the header of a new image is made when its operation is asked for. A reply of names, a header or
+//! snapshots is copied once, by `ready`, and handed out by `feed`. Nothing else takes memory.
+//!
+//! # How it works
+//!
+//! Each request has the step at which it stands, and each of its calls is a `match` on the step. `snap create` and
+//! `snap rm` are one machine, since they differ only in what they refuse, in their event and in their operation.
+#![tactic(auto)]
+
+mod create;
+pub mod laws;
+mod listing;
+mod snap;
+#[cfg(test)]
+mod tests;
+
+pub use create::CreateRequest;
+pub use listing::ListRequest;
+pub use snap::SnapRequest;

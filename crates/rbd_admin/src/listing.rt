@@ -1,0 +1,182 @@
+//! `ls`, `info` and `snap ls`
+ghost use Rattle.std.specs.Prelude.{◌≡◌, true, IfOk, IfSome, IsSome};
+ghost use Rattle.rbd_kinds.specs.declared.machine.Fed.TheVariants as fed_with;
+ghost use Rattle.rbd_machine.specs.Plan.{GoesOn, Goto, plan_after, without_labels};
+ghost use Rattle.rbd_admin.specs.Listing.{is_listing, listing_plan, rest_of_list, reply_of, HasReply, IsReadied};
+
+use rbd_kinds::{
+    Answer, Command, DirectoryOp, Event, Fed, HeaderOp, HeaderView, ImageId, Name, NoMemory, Op,
+    OpKind, Refusal, Reply, SiteId, TryClone, Turn, Want,
+};
+use rbd_machine::{Machine, refusal_of, told_image};
+use std::alloc::Global;
+
+/// Shows the names of a site's images (`ls`), or what an image's header tells (`info`), or its snapshots (`snap ls`).
+///
+/// ```text
+/// Listing   dir-list
+///    │ names
+///    ▼
+/// the names
+///
+/// Finding   dir-find     ──none──▶ NoImage
+///    │ id
+/// Looking   header-get   ──none──▶ NoImage
+///    │ header
+///    ▼
+/// the header, or its snapshots
+/// ```
+///
+/// Each operation may be answered `fenced`, which ends the request with Fenced.
+#[derive(Debug, Drop)]
+pub struct ListRequest {
+    site: SiteId,
+    at: Stage,
+    /// The reply, once there is memory for it.
+    readied: Option<Reply>,
+}
+
+/// A step of the request.
+#[derive(Debug, Drop)]
+enum Stage {
+    Listing,
+    Finding(Name, Shown),
+    Looking(ImageId, Shown),
+}
+
+/// What is shown of a header.
+#[derive(Clone, Copy, Debug, PartialEq, Eq)]
+enum Shown {
+    Header,
+    Snaps,
+}
+
+impl ListRequest {
+    /// The request of an `ls`, `info` or `snap ls` at a site. It takes no memory.
+    pub fn new(home: SiteId, command: Command) -> Self
+        requires { is_listing command ≡ true }
+        ensures { rest_of_list result ≡ listing_plan home command }
+    {
+        let at = match command {
+            Command::List => Stage::Listing,
+            Command::Info { image } => Stage::Finding(image, Shown::Header),
+            Command::SnapList { image } => Stage::Finding(image, Shown::Snaps),
+            _ => unreachable!(),
+        };
+        ListRequest {
+            site: home,
+            at,
+            readied: None,
+        }
+    }
+
+    /// Goes on with the answer to its operation.
+    fn answer(&mut self, answer: &Answer) -> Turn
+        requires { HasReply self.old answer.now }
+        ensures { GoesOn Goto (plan_after (rest_of_list self.old) (fed_with.Answer answer.now)) result (without_labels (rest_of_list self.new)) }
+    {
+        match &self.at {
+            Stage::Listing => match answer {
+                Answer::Names(_) => self.reply(),
+                _ => Turn::Done(Reply::Refused(refusal_of(answer))),
+            },
+            Stage::Finding(_, shown) => match told_image(answer) {
+                Ok(image) => {
+                    self.at = Stage::Looking(image, *shown);
+                    Turn::More
+                }
+                Err(refusal) => Turn::Done(Reply::Refused(refusal)),
+            },
+            Stage::Looking(_, _) => match answer {
+                Answer::Header(_) => self.reply(),
+                _ => Turn::Done(Reply::Refused(refusal_of(answer))),
+            },
+        }
+    }
+
+    /// Gives out the reply that was readied.
+    fn reply(&mut self) -> Turn
+        requires { IsSome self.old.readied }
+        ensures { IfSome self.old.readied (λ reply. result ≡ Turn.Done reply) }
+    {
+        match self.readied.take() {
+            Some(reply) => Turn::Done(reply),
+            None => unreachable!(),
+        }
+    }
+}
+
+/// What is shown of a header, as a reply.
+fn reply_with(shown: Shown, header: &HeaderView) -> Result<Reply, NoMemory>
+    ensures { IfOk result (λ reply. reply ≡ reply_of shown header.now) }
+{
+    match shown {
+        Shown::Header => Ok(Reply::Info(header.try_clone()?)),
+        Shown::Snaps => Ok(Reply::Snaps(header.snaps.try_clone()?)),
+    }
+}
+
+/// The reply that an answer brings at a step, if it brings one.
+fn reply_to(at: &Stage, answer: &Answer) -> Result<Option<Reply>, NoMemory>
+    ensures { IfOk result (λ readied. IsReadied at.now readied answer.now) }
+{
+    match at {
+        Stage::Listing => match answer {
+            Answer::Names(names) => Ok(Some(Reply::Names(names.try_clone()?))),
+            _ => Ok(None),
+        },
+        Stage::Looking(_, shown) => match answer {
+            Answer::Header(header) => Ok(Some(reply_with(*shown, header)?)),
+            _ => Ok(None),
+        },
+        Stage::Finding(_, _) => Ok(None),
+    }
+}
+
+impl Machine for ListRequest {
+    ghost stands = { λ r. without_labels (rest_of_list r) };
+
+    ghost is_ready = { HasReply };
+
+    fn wants(&self) -> Want {
+        let site = self.site;
+        let kind = match &self.at {
+            Stage::Listing => OpKind::DirList,
+            Stage::Finding(_, _) => OpKind::DirFind,
+            Stage::Looking(_, _) => OpKind::HeaderGet,
+        };
+        Want::Op { site, kind }
+    }
+
+    fn next(&self, _alloc: Global) -> Result<Op, NoMemory> {
+        match &self.at {
+            Stage::Listing => Ok(Op::Directory(DirectoryOp::List)),
+            Stage::Finding(name, _) => Ok(Op::Directory(DirectoryOp::Find {
+                name: name.try_clone()?,
+            })),
+            Stage::Looking(image, _) => Ok(Op::Header {
+                image: *image,
+                op: HeaderOp::Get,
+            }),
+        }
+    }
+
+    fn event(&self, _alloc: Global) -> Result<Event, NoMemory> {
+        unreachable!()
+    }
+
+    fn ready(&mut self, _alloc: Global, fed: &Fed) -> Result<(), NoMemory> {
+        let Fed::Answer(answer) = fed else {
+            unreachable!()
+        };
+        self.readied = reply_to(&self.at, answer)?;
+        Ok(())
+    }
+
+    fn feed(&mut self, fed: &Fed) -> Turn {
+        let Fed::Answer(answer) = fed else {
+            unreachable!()
+        };
+        self.answer(answer)
+    }
+}
