@@ -14,9 +14,11 @@ use Rattle.rbd_layout.specs.Asked.{layout_of, KeepsLimits}
 use Rattle.rbd_machine.specs.Plan.{Plan, Ask, Await, Note, Return, Goto}
 use Rattle.rbd_machine.specs.Path.{IsBounded}
 use Rattle.rbd_machine.proofs.Bounds.{bounded_on_id, bounded_on_header, bounded_on_done, bounded_change}
-use Rattle.rbd_admin.specs.Create.{IsCreate, IsCreatePlan, on_drawn, making, drawing, new_header}
+use Rattle.rbd_admin.specs.Create.{IsCreate, IsCreatePlan, on_drawn, making, drawing}
+use Rattle.rbd_header.specs.Header.{new_header}
 use Rattle.rbd_admin.specs.Listing.{on_names, list_names, showing, show_header, shown_snaps, listing_plan}
-use Rattle.rbd_admin.specs.Snap.{on_snap, applied, take, remove_listed, remove, create_refuses, remove_refuses, snap_plan}
+use Rattle.rbd_machine.specs.Steps.{applied}
+use Rattle.rbd_admin.specs.Snap.{on_snap, take, remove_listed, remove, create_refuses, remove_refuses, snap_plan}
 
 -- ---- create
 

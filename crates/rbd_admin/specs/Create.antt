@@ -18,6 +18,7 @@ use Rattle.rbd_kinds.specs.declared.operation.Op.TheVariants as op
 use Rattle.rbd_kinds.specs.declared.refusal.Refusal.{Refusal}
 use Rattle.rbd_kinds.specs.declared.refusal.Refusal.TheVariants as refusal
 use Rattle.rbd_kinds.specs.declared.reply.Reply.TheVariants as reply
+use Rattle.rbd_header.specs.Header.{new_header}
 use Rattle.rbd_layout.specs.Asked.{layout_of, KeepsLimits}
 use Rattle.rbd_machine.specs.Plan.{Plan, Ask, Return}
 use Rattle.rbd_machine.specs.Steps.{refused, not_there, on_done}
@@ -26,25 +27,6 @@ use Rattle.rbd_machine.specs.Steps.{refused, not_there, on_done}
 abbrev pub is_create : Command → Bool
 is_create (command.Create image size shape) = not shape.journal
 is_create _ = false
-
--- the header of a new image of zeros
-abbrev pub new_header : Layout → (size : ℕ) → HeaderView
-new_header layout size = record {
-  layout = layout;
-  size = size;
-  generation = 0;
-  snap_seq = 0;
-  snaps = [];
-  parent = None;
-  depth = 0;
-  born = size;
-  born_clone = false;
-  journal = false;
-  syncing = false;
-  owner = None;
-  global = None;
-  role = Plain;
-}
 
 -- the id that was drawn for a name, or why none was: the name is held, or no more names or ids are left
 abbrev pub on_drawn : (ℕ → Plan) → Answer → Plan

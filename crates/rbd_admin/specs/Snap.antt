@@ -30,7 +30,7 @@ use Rattle.rbd_kinds.specs.Header.{snap_named}
 use Rattle.rbd_header.specs.Header.{is_full}
 use Rattle.rbd_machine.specs.Approach.{rest_of}
 use Rattle.rbd_machine.specs.Plan.{Plan, Ask, Await, Note, Return}
-use Rattle.rbd_machine.specs.Steps.{refused, not_there, on_done, change, or_else, non_primary}
+use Rattle.rbd_machine.specs.Steps.{refused, not_there, on_done, change, or_else, non_primary, applied}
 
 -- the commands that it serves
 abbrev pub is_snap : Command → Bool
@@ -61,10 +61,6 @@ abbrev pub remove_refuses : (snap : List ℕ) → HeaderView → Option Refusal
 remove_refuses snap h = or_else (non_primary h.role) (removal_refusal (snap_named h.snaps snap))
 
 -- ---- what they do once they may
-
--- the event counts as applied, and the request is done
-abbrev pub applied : SiteId → (image : ℕ) → Plan
-applied site image = Await (want.Applied site image) (Return reply.Done)
 
 abbrev pub on_snap : Plan → Answer → Plan
 on_snap next (answer.Snap snap) = next

@@ -2,11 +2,12 @@
 ghost use Rattle.std.specs.Prelude.{◌≡◌, ℕ, true, None};
 ghost use Rattle.rbd_machine.specs.Plan.{Plan, IsAsking, without_labels};
 ghost use Rattle.rbd_machine.specs.Steps.{going};
-ghost use Rattle.rbd_admin.specs.Create.{is_create, new_header as header_of, on_drawn, rest_of_create, IsCreate, IsCreatePlan, refusal_at};
+ghost use Rattle.rbd_admin.specs.Create.{is_create, on_drawn, rest_of_create, IsCreate, IsCreatePlan, refusal_at};
 
+use rbd_header::new_header;
 use rbd_kinds::{
-    Answer, Command, DirectoryOp, Event, Fed, HeaderOp, HeaderView, ImageId, Layout, Name,
-    NoMemory, Number, Op, OpKind, Refusal, Reply, Role, Shape, SiteId, Snaps, TryClone, Turn, Want,
+    Answer, Command, DirectoryOp, Event, Fed, HeaderOp, ImageId, Layout, Name, NoMemory, Number,
+    Op, OpKind, Refusal, Reply, Shape, SiteId, TryClone, Turn, Want,
 };
 use rbd_layout::{keeps_limits, layout_of};
 use rbd_machine::{Machine, refusal_of, told_done};
@@ -98,28 +99,6 @@ fn drawn(answer: &Answer) -> Result<ImageId, Refusal>
         Answer::Exists => Err(Refusal::ImageExists),
         Answer::Full => Err(Refusal::BadShape),
         _ => Err(refusal_of(answer)),
-    }
-}
-
-/// The header of a new image of zeros.
-fn new_header(alloc: Global, layout: Layout, size: u64) -> HeaderView
-    ensures { result ≡ header_of layout size }
-{
-    HeaderView {
-        layout,
-        size,
-        generation: 0,
-        snap_seq: 0,
-        snaps: Snaps::new(alloc),
-        parent: None,
-        depth: 0,
-        born: size,
-        born_clone: false,
-        journal: false,
-        syncing: false,
-        owner: None,
-        global: None,
-        role: Role::Plain,
     }
 }
 

@@ -8,7 +8,8 @@ ghost use Rattle.rbd_kinds.specs.Form.{IsNewHeader};
 ghost use Rattle.rbd_layout.specs.Asked.{KeepsLimits};
 ghost use Rattle.rbd_machine.specs.Plan.{Plan};
 ghost use Rattle.rbd_machine.specs.Path.{IsBounded};
-ghost use Rattle.rbd_admin.specs.Create.{IsCreatePlan, new_header};
+ghost use Rattle.rbd_admin.specs.Create.{IsCreatePlan};
+ghost use Rattle.rbd_header.specs.Header.{new_header};
 ghost use Rattle.rbd_admin.specs.Listing.{listing_plan};
 ghost use Rattle.rbd_admin.specs.Snap.{snap_plan};
 

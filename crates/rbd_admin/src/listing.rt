@@ -5,10 +5,10 @@ ghost use Rattle.rbd_machine.specs.Plan.{GoesOn, Goto, plan_after, without_label
 ghost use Rattle.rbd_admin.specs.Listing.{is_listing, listing_plan, rest_of_list, reply_of, HasReply, IsReadied};
 
 use rbd_kinds::{
-    Answer, Command, DirectoryOp, Event, Fed, HeaderOp, HeaderView, ImageId, Name, NoMemory, Op,
-    OpKind, Refusal, Reply, SiteId, TryClone, Turn, Want,
+    Answer, Command, DirectoryOp, Event, Fed, HeaderView, ImageId, Name, NoMemory, Op, OpKind,
+    Refusal, Reply, SiteId, TryClone, Turn, Want,
 };
-use rbd_machine::{Machine, refusal_of, told_image};
+use rbd_machine::{Machine, dir_find, header_get, refusal_of, told_image};
 use std::alloc::Global;
 
 /// Shows the names of a site's images (`ls`), or what an image's header tells (`info`), or its snapshots (`snap ls`).
@@ -151,13 +151,8 @@ impl Machine for ListRequest {
     fn next(&self, _alloc: Global) -> Result<Op, NoMemory> {
         match &self.at {
             Stage::Listing => Ok(Op::Directory(DirectoryOp::List)),
-            Stage::Finding(name, _) => Ok(Op::Directory(DirectoryOp::Find {
-                name: name.try_clone()?,
-            })),
-            Stage::Looking(image, _) => Ok(Op::Header {
-                image: *image,
-                op: HeaderOp::Get,
-            }),
+            Stage::Finding(name, _) => dir_find(name),
+            Stage::Looking(image, _) => Ok(header_get(*image)),
         }
     }
 

@@ -8,15 +8,13 @@ ghost use Rattle.rbd_machine.specs.Plan.{Plan, GoesOn, Goto, plan_after, without
 ghost use Rattle.rbd_machine.specs.Steps.{going, change as change_of};
 ghost use Rattle.rbd_admin.specs.Snap.{is_snap, snap_plan, rest_of_snap, IsApproaching, removal_refusal, is_unprotected, refuses_by, does_by, refuses_of, does, noting, event_of, operation_of, on_act};
 
+use rbd_header::is_full;
 use rbd_kinds::{
     Answer, Command, Event, Fed, HeaderOp, HeaderView, ImageId, Name, NoMemory, Op, OpKind,
-    Refusal, Reply, Role, SiteId, SnapId, SnapStatus, TryClone, Turn, Want,
+    Refusal, Reply, SiteId, SnapId, SnapStatus, TryClone, Turn, Want,
 };
-use rbd_machine::{Approach, Course, Machine, Refuses, refusal_of, told_done};
+use rbd_machine::{Approach, Course, Machine, Refuses, non_primary, refusal_of, told_done};
 use std::alloc::Global;
-
-/// How many snapshots a header lists at most (own).
-const MOST_SNAPS: usize = 256;
 
 /// Takes a snapshot of an image, or removes one.
 ///
@@ -156,12 +154,12 @@ impl Refuses for SnapChange {
 
     /// NonPrimary at a secondary, which clients don't change, and then what the kind of change refuses.
     fn refusal(&self, header: &HeaderView) -> Option<Refusal> {
-        if header.role == Role::Secondary {
-            return Some(Refusal::NonPrimary);
-        }
-        match self.kind {
-            ChangeKind::Create => create_refusal(&self.snap, header),
-            ChangeKind::Remove => remove_refusal(&self.snap, header),
+        match non_primary(header.role) {
+            Some(refusal) => Some(refusal),
+            None => match self.kind {
+                ChangeKind::Create => create_refusal(&self.snap, header),
+                ChangeKind::Remove => remove_refusal(&self.snap, header),
+            },
         }
     }
 }
@@ -199,13 +197,6 @@ fn protection(status: SnapStatus) -> Option<Refusal>
         SnapStatus::Unprotected => None,
         _ => Some(Refusal::SnapProtected),
     }
-}
-
-/// Whether no more snapshots can be taken: as many as may be are listed, or the ids are used up.
-fn is_full(header: &HeaderView) -> bool
-    ensures { result ≡ lists_all header.now }
-{
-    header.snaps.len() >= MOST_SNAPS || header.snap_seq == u32::MAX
 }
 
 impl Act {

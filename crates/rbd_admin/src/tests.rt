@@ -3,9 +3,10 @@
 ghost use Rattle.std.specs.Prelude.{◌≡◌, OnOk};
 ghost use Rattle.rbd_kinds.specs.declared.id.SiteId.TheVariants as site;
 ghost use Rattle.rbd_kinds.specs.Form.{IsHeaderInForm};
+ghost use Rattle.rbd_header.specs.Header.{new_header};
 ghost use Rattle.rbd_machine.specs.Answers.{CanBeFed};
 ghost use Rattle.rbd_machine.specs.Plan.{GoesOn, IsAsking, plan_after};
-ghost use Rattle.rbd_admin.specs.Create.{drawing, new_header, rest_of_create};
+ghost use Rattle.rbd_admin.specs.Create.{drawing, rest_of_create};
 
 use crate::{CreateRequest, ListRequest, SnapRequest};
 use rbd_kinds::{

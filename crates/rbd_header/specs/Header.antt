@@ -7,9 +7,10 @@ use Rattle.rbd_kinds.specs.declared.header.SnapView.{SnapView}
 use Rattle.rbd_kinds.specs.declared.header.ParentLink.{ParentLink}
 use Rattle.rbd_kinds.specs.declared.header.GlobalName.{GlobalName}
 use Rattle.rbd_kinds.specs.declared.header.Role.{Role}
-use Rattle.rbd_kinds.specs.declared.header.Role.TheVariants.{Primary}
+use Rattle.rbd_kinds.specs.declared.header.Role.TheVariants.{Plain, Primary}
 use Rattle.rbd_kinds.specs.declared.header.SnapStatus.{SnapStatus}
 use Rattle.rbd_kinds.specs.declared.header.SnapStatus.TheVariants.{Unprotected}
+use Rattle.rbd_kinds.specs.declared.layout.Layout.{Layout}
 use Rattle.rbd_kinds.specs.Header.{snap_named}
 use Rattle.rbd_header.specs.declared.view.View.{View}
 
@@ -21,6 +22,25 @@ snap_in (s ∷ snaps) t = if s.id == t then Some s else snap_in snaps t
 -- 256 snapshots are listed, or the ids are used up
 abbrev pub is_full : HeaderView → Bool
 is_full h = nat_le 256 (length h.snaps) || (h.snap_seq == 4294967295)
+
+-- the header of a new image of zeros, which has no parent and no journal
+abbrev pub new_header : Layout → (size : ℕ) → HeaderView
+new_header layout size = record {
+  layout = layout;
+  size = size;
+  generation = 0;
+  snap_seq = 0;
+  snaps = [];
+  parent = None;
+  depth = 0;
+  born = size;
+  born_clone = false;
+  journal = false;
+  syncing = false;
+  owner = None;
+  global = None;
+  role = Plain;
+}
 
 -- the ids of the snapshots, in their order
 abbrev pub ids_of : List SnapView → List ℕ

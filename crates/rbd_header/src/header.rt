@@ -221,7 +221,7 @@ fn cut(parent: Option<ParentLink>, size: u64) -> Option<ParentLink>
     }
 }
 
-fn is_full(view: &HeaderView) -> bool
+pub fn is_full(view: &HeaderView) -> bool
     ensures { result ≡ is_full view.now }
 {
     if view.snaps.len() >= MOST_SNAPS {

@@ -27,6 +27,7 @@
 
 mod context;
 mod fault;
+mod fresh;
 mod header;
 mod lookup;
 mod snaps;
@@ -36,6 +37,7 @@ mod view;
 
 pub use context::{context_of, ids_of};
 pub use fault::{Held, SnapAddFault};
-pub use header::Header;
+pub use fresh::new_header;
+pub use header::{Header, is_full};
 pub use lookup::snapshot;
 pub use view::{View, view_of};

@@ -1,4 +1,4 @@
-use Rattle.rbd_admin.specs.Snap.{does}
+use Rattle.rbd_admin.specs.Snap.{does, refuses_of}
 use Rattle.rbd_admin.proofs.Looks.{acts_by_header}
 use Rattle.rbd_admin.proofs.snap.SnapRequest.approach.Goals as goal
 
@@ -12,4 +12,4 @@ pub unreachable-requires-in_default-answer : goal.unreachable-requires-in_defaul
 unreachable-requires-in_default-answer c =
     let act = does c.args.self.now.site c.args.self.now.change in
     let acts = rw c.in-Answer.is at (c.in-Owned.ensures act) in
-    acts_by_header act c.in-Owned.image c.in-Answer.answer _ acts c.in_default-answer.not-Header
+    acts_by_header (refuses_of c.args.self.now.change) act c.in-Owned.image c.in-Answer.answer _ _ acts c.in_default-answer.not-Header
