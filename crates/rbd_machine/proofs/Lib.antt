@@ -1,3 +1,4 @@
 pub mod Bounds
 pub mod Settled
 pub mod Approached
+pub mod Walks

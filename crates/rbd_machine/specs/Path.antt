@@ -2,8 +2,10 @@
 use Rattle.std.specs.Prelude.{◌≡◌, ℕ, zero, suc, List, [], ◌∷◌}
 use Rattle.rbd_kinds.specs.declared.answer.Answer.{Answer}
 use Rattle.rbd_kinds.specs.declared.id.SiteId.{SiteId}
+use Rattle.rbd_kinds.specs.declared.machine.Fed.{Fed}
+use Rattle.rbd_kinds.specs.declared.machine.Fed.TheVariants as fed
 use Rattle.rbd_kinds.specs.declared.operation.Op.{Op}
-use Rattle.rbd_machine.specs.Plan.{Plan, Ask, Await, Note, Return, Goto}
+use Rattle.rbd_machine.specs.Plan.{Plan, Ask, Await, Note, Return, Goto, settled}
 
 -- an operation that was done at a site, and its answer
 pub record Answered : Type 0 where
@@ -35,6 +37,20 @@ IsPath labels plan (step ∷ more) =
 -- a path on which no label is gone to
 abbrev pub IsPass : Plan → List Answered → Type 0
 IsPass = IsPath Goto
+
+-- What a request is fed, one thing after another, leads it from a plan to another; the steps are the operations that
+-- it asked for, each with the answer that it was fed.
+pub record IsFirstStep (site : SiteId) (op : Op) (answer : Answer) (steps : List Answered) : Type 0 where
+  pub rest : List Answered
+  pub is : steps ≡ record { site = site; op = op; answer = answer } ∷ rest
+
+abbrev pub IsWalk : (ℕ → Plan) → Plan → List Fed → (steps : List Answered) → (last : Plan) → Type 0
+IsWalk labels plan [] steps last = (steps ≡ []) × (last ≡ plan)
+IsWalk labels (Ask site op next) (fed.Answer answer ∷ more) steps last =
+    (first : IsFirstStep site op answer steps) × IsWalk labels (settled labels (next answer)) more first.rest last
+IsWalk labels (Await want next) (fed.Passed ∷ more) steps last = IsWalk labels (settled labels next) more steps last
+IsWalk labels (Note site image event next) (fed.Passed ∷ more) steps last = IsWalk labels (settled labels next) more steps last
+IsWalk labels plan (f ∷ more) steps last = ⊥
 
 -- The plan has at most n operations, whatever they are answered, up to its end or to a label.
 abbrev pub IsBounded : Plan → (n : ℕ) → Type 0

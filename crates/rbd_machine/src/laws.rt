@@ -3,9 +3,17 @@ ghost use Rattle.std.specs.Prelude.{ℕ, ◌≤◌, ◌≡◌, ◌+◌, List, le
 ghost use Rattle.rbd_kinds.specs.declared.header.HeaderView.{HeaderView};
 ghost use Rattle.rbd_kinds.specs.declared.id.SiteId.{SiteId};
 ghost use Rattle.rbd_kinds.specs.declared.refusal.Refusal.{Refusal};
-ghost use Rattle.rbd_machine.specs.Plan.{Plan};
-ghost use Rattle.rbd_machine.specs.Path.{Answered, IsPass, IsBounded};
+ghost use Rattle.rbd_kinds.specs.declared.machine.Fed.{Fed};
+ghost use Rattle.rbd_machine.specs.Plan.{Plan, IsAsking};
+ghost use Rattle.rbd_machine.specs.Path.{Answered, IsPath, IsPass, IsWalk, IsBounded};
 ghost use Rattle.rbd_machine.specs.Steps.{change};
+
+/// The operations that a request asks for, with the answers that it is fed, are a path of its plan, whatever it is
+/// fed between. Each label of the plan stands at an operation.
+pub fn walks_are_paths()
+    ensures { (labels : ℕ → Plan) → ((label : ℕ) → IsAsking (labels label))
+        → (feds : List Fed) (plan : Plan) (steps : List Answered) (last : Plan) → IsWalk labels plan feds steps last → IsPath labels plan steps }
+{}
 
 /// A path has at most as many operations as its plan, up to its end or to a label.
 pub fn paths_keep_bounds()
