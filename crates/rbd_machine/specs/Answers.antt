@@ -115,7 +115,8 @@ gives (op.Journal image o) a = journal_gives o a
 
 -- ---- the values
 
--- a header keeps its limits, and the bytes of a read are as many as were asked for
+-- A header keeps its limits, and the bytes of a read are as many as were asked for. What maps and journals keep in
+-- their answers comes with the machines that ask for them.
 abbrev pub IsInForm : Op → Answer → Type 0
 IsInForm (op.Header image header.Get) (answer.Header h) = IsHeaderInForm h
 IsInForm (op.Data image number (object.Read snap parts)) (answer.Bytes bytes) = length bytes ≡ parts_len parts
