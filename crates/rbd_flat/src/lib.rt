@@ -21,6 +21,8 @@
 //!
 //! Contracts see a `FlatSite` as the flat site itself, the record `Flat`.
 //!
+//! [`fits`] is the one test of an extent against a size, for reads here and for the requests above.
+//!
 //! # Cost
 //!
 //! It is the slow form. An image takes its whole size in memory, and so does each snapshot and each clone;
@@ -41,6 +43,7 @@ mod fault;
 mod image;
 pub mod laws;
 mod paint;
+mod range;
 mod site;
 #[cfg(test)]
 mod tests;
@@ -49,4 +52,5 @@ pub use effect::Effect;
 pub use entry::{Cause, Entry};
 pub use extents::Extents;
 pub use fault::FlatFault;
+pub use range::fits;
 pub use site::FlatSite;

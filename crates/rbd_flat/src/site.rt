@@ -11,6 +11,7 @@ mod names;
 use crate::effect::Effect;
 use crate::fault::FlatFault;
 use crate::image::Image;
+use crate::range::fits;
 use link::Link;
 use rbd_kinds::{Bytes, Extent, ImageId, Name, NoMemory, SnapId};
 use std::alloc::Global;
@@ -131,10 +132,10 @@ fn read_bytes(alloc: Global, bytes: &[u8], extent: &Extent) -> Result<Bytes, Fla
     ensures no_image { IsErrOf result FlatFault.NoImage → ⊥ }
     ensures no_snap { IsErrOf result FlatFault.NoSnap → ⊥ }
 {
-    let (at, len) = (extent.at as usize, extent.len as usize);
-    if len == 0 || at > bytes.len() || len > bytes.len() - at {
+    if !fits(extent, bytes.len() as u64) {
         return Err(FlatFault::BadRange);
     }
+    let (at, len) = (extent.at as usize, extent.len as usize);
     match Bytes::from_slice(alloc, &bytes[at..at + len]) {
         Ok(read) => Ok(read),
         Err(_) => Err(FlatFault::NoMemory),

@@ -1,6 +1,6 @@
 //! Places and pieces of five layouts, as a script found them from the formulas of striping.
 use super::*;
-use rbd_kinds::{Extent, Layout, NoMemory};
+use rbd_kinds::{Extent, Layout, NoMemory, Number, Shape};
 use std::alloc::AllocError;
 use std::process::Abort;
 
@@ -31,6 +31,39 @@ fn limits(rt: HostRuntime) {
             check(&layout(object, unit, count)).is_ok(),
             valid,
             "{object} {unit} {count}"
+        );
+    }
+}
+
+#[test]
+fn the_usual_shape(rt: HostRuntime) {
+    let mut shape = Shape {
+        object: None,
+        unit: None,
+        count: None,
+        journal: false,
+    };
+    assert_eq!(rt; layout_of(&shape), layout(4_194_304, 4_194_304, 1));
+    shape.object = Number::new(8_192);
+    assert_eq!(rt; layout_of(&shape), layout(8_192, 8_192, 1));
+    shape.unit = Number::new(512);
+    shape.count = Some(3);
+    assert_eq!(rt; layout_of(&shape), layout(8_192, 512, 3));
+}
+
+/// 4,294,967,296 bytes are 2^20 objects of 4,096 bytes.
+#[test]
+fn limits_of_an_image(rt: HostRuntime) {
+    for (object, size, kept) in [
+        (4_096, 4_294_967_296u64, true),
+        (4_096, 4_294_967_297, false),
+        (5_000, 4_096, false),
+    ] {
+        assert!(rt; size < 1 << 62);
+        assert_eq!(rt;
+            keeps_limits(&layout(object, 512, 1), size),
+            kept,
+            "{object} {size}"
         );
     }
 }

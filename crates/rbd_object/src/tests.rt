@@ -1,7 +1,7 @@
 //! What an object shows after each operation. The wanted views were worked out from the rules in prose.
-use crate::{LARGEST_OBJECT, Object};
+use crate::{LARGEST_OBJECT, Object, gather, shifted_parts};
 use Operation::*;
-use rbd_kinds::{NoMemory, SnapContext, SnapId, SnapIds};
+use rbd_kinds::{NoMemory, Part, SnapContext, SnapId, SnapIds};
 use std::alloc::Global;
 use std::process::Abort;
 use std::test::Fail;
@@ -170,5 +170,34 @@ fn a_copy_up_fills_only_an_absent_head(rt: HostRuntime) -> Result<(), Fail> {
     let mut past = [7];
     assert!(rt; object.read(None, LARGEST_OBJECT, &mut past));
     assert_eq!(rt; past[0], 0);
+    Ok(())
+}
+
+/// Two parts of an object that take bytes 100, 101 and 104 of the image.
+const PARTS: [Part; 2] = [
+    Part {
+        offset: 7,
+        at: 100,
+        len: 2,
+    },
+    Part {
+        offset: 9,
+        at: 104,
+        len: 1,
+    },
+];
+
+#[test]
+fn parts_lie_in_the_bytes_of_an_extent(rt: HostRuntime) -> Result<(), Fail> {
+    let shifts = shifted_parts(rt.alloc(), 99, &PARTS)?;
+    let gathered = gather(rt.alloc(), b"abcdefg", shifts.as_slice())?;
+    assert_eq!(rt; gathered.as_slice(), b"bcf".as_slice());
+    Ok(())
+}
+
+#[test]
+fn bytes_past_the_last_are_gathered_as_zeros(rt: HostRuntime) -> Result<(), Fail> {
+    let gathered = gather(rt.alloc(), b"abcdefgh", &PARTS)?;
+    assert_eq!(rt; gathered.as_slice(), b"h\0\0".as_slice());
     Ok(())
 }

@@ -1,16 +1,9 @@
-//! Whether an extent fits.
+//! What an extent that doesn't fit is refused with.
 ghost use Rattle.std.specs.Prelude.{◌≡◌};
-ghost use Rattle.rbd_flat.specs.Read.{is_within};
 ghost use Rattle.rbd_request.specs.Write as of_write;
 
+use rbd_flat::fits;
 use rbd_kinds::{Extent, Refusal};
-
-/// Whether an extent isn't empty and ends within a size, in bytes.
-pub fn fits(extent: &Extent, size: u64) -> bool
-    ensures { result ≡ is_within extent.now size }
-{
-    extent.len > 0 && extent.len <= size && extent.at <= size - extent.len
-}
 
 /// BadRange, where the extent doesn't fit into a size.
 pub fn out_of_range(extent: &Extent, size: u64) -> Option<Refusal>

@@ -3,7 +3,6 @@ mod Found
 mod Snapshots
 mod Snapped
 mod Created
-mod Bounds
 mod Written
 mod Readings
 pub mod HistoryLemmas

@@ -22,7 +22,10 @@ use Rattle.rbd_kinds.specs.Form.{IsHeaderInForm, IsSnapInForm}
 use Rattle.rbd_kinds.specs.Header.{snap_named}
 use Rattle.rbd_layout.specs.Pieces.{IsPartsOf, IsPieces}
 use Rattle.rbd_layout.specs.declared.types.Piece.{Piece}
-use Rattle.rbd_header.specs.Header.{snap_in}
+use Rattle.rbd_layout.proofs.Bounds.{few_bytes}
+use Rattle.rbd_layout.proofs.Within.{LiesIn, lies_in}
+use Rattle.rbd_header.specs.Header.{snap_in, view_of as named_view, view_of_snap}
+use Rattle.rbd_header.specs.declared.view.View.{View}
 use Rattle.rbd_object.specs.Contents.{window}
 use Rattle.rbd_object.specs.Parts.{EndWithin, parts_len, parts_of, parts_written, shifted}
 use Rattle.rbd_object.proofs.ContentsLemmas.{length-window}
@@ -46,15 +49,13 @@ use Rattle.rbd_stands.proofs.Telling.{told as tells_image, bytes_told as flat_by
 use Rattle.rbd_stands.proofs.SiteSteps.{here}
 use Rattle.rbd_stands.proofs.WritePieces.{Behind, are_behind, hit, hits, hits_extent, last_tells, within_covers, is_in}
 use Rattle.rbd_solo.specs.Meaning.{FlatState, read_reply, view_reply, bytes_reply, snap_bytes_reply}
-use Rattle.rbd_solo.specs.Steps.{IsPlain, IsAnswered, Looks, opened_in, bytes_told, viewed, view_of_snap, IsViewOf, HasNoParent, IsFlatView, IsRead, is_at}
+use Rattle.rbd_solo.specs.Steps.{IsPlain, IsAnswered, Looks, opened_in, bytes_told, IsViewOf, HasNoParent, IsFlatView, IsRead, is_at}
 use Rattle.rbd_solo.specs.declared.look.Opened.{Opened}
-use Rattle.rbd_solo.specs.declared.read.View.{View}
 use Rattle.rbd_solo.proofs.Found.{IsFound, found_some, found_none, answered_refused, answered_bytes}
 use Rattle.rbd_solo.proofs.Growing.{looks_on}
 use Rattle.rbd_stands.proofs.Refusals.{stands_same}
 use Rattle.rbd_solo.proofs.Snapshots.{of_in, of_named, named_in, flat_named_in}
-use Rattle.rbd_solo.proofs.Bounds.{few_bytes}
-use Rattle.rbd_solo.proofs.Written.{LiesIn, lies_in, parts_below}
+use Rattle.rbd_solo.proofs.Written.{parts_below}
 
 -- ---- where the parts lie in the bytes that are read
 
@@ -220,13 +221,13 @@ pub record IsViewed (f : Flat) (o : Opened) (image : FlatImage) (snap : Option (
   pub alone : HasNoParent o.header view
 
 -- the header's part alone
-pub view_there : (h : HeaderView) (snap : Option (List ℕ)) (view : View) → IsHeaderInForm h → viewed h snap ≡ Some view → IsViewOf h view
+pub view_there : (h : HeaderView) (snap : Option (List ℕ)) (view : View) → IsHeaderInForm h → named_view h snap ≡ Some view → IsViewOf h view
 view_there h None view form is = subst (IsViewOf h) (same_Some _ view is) (record { shape = shape_of_head h; is_shape = refl; size = refl })
 view_there h (Some name) view form is =
     let s = a_value view_of_snap (snap_named h.snaps name) view is in
     subst (IsViewOf h) s.2 (record { shape = shape_of_snap s.0; is_shape = ap (option_map shape_of_snap) (named_in 0 h.snap_seq h.snaps name s.0 form.rising s.1); size = refl })
 
-pub flat_viewed : (r : Records) (s : FlatState) (name : List ℕ) (o : Opened) (found : IsFound r s name o) (snap : Option (List ℕ)) (view : View) → IsHeaderInForm o.header → viewed o.header snap ≡ Some view
+pub flat_viewed : (r : Records) (s : FlatState) (name : List ℕ) (o : Opened) (found : IsFound r s name o) (snap : Option (List ℕ)) (view : View) → IsHeaderInForm o.header → named_view o.header snap ≡ Some view
     → IsViewed s.site o found.image snap view
 flat_viewed r s name o found None view form is =
     subst (IsViewed s.site o found.image None) (same_Some _ view is)
@@ -284,11 +285,11 @@ pub read_missing : (old new : SiteLog) (name : List ℕ) (snap : Option (List �
 read_missing old new name snap at len looks none =
     answered_refused old new (Read name snap at len) refusal.NoImage looks (λ s holds. sym (ap (read_reply (record { at = at; len = len }) snap) (found_none (records_of old) s name holds none)))
 
-unviewed : (h : HeaderView) (snap : Option (List ℕ)) → viewed h snap ≡ None → (label : List ℕ) × (snap ≡ Some label) × (snap_named h.snaps label ≡ None)
+unviewed : (h : HeaderView) (snap : Option (List ℕ)) → named_view h snap ≡ None → (label : List ℕ) × (snap ≡ Some label) × (snap_named h.snaps label ≡ None)
 unviewed h None is = absurd (none-some _ (sym is))
 unviewed h (Some label) is = (label, refl, no_value view_of_snap (snap_named h.snaps label) is)
 
-pub read_unlisted : (old new : SiteLog) (name : List ℕ) (snap : Option (List ℕ)) (at len : ℕ) (o : Opened) → Looks old new → opened_in (records_of old) name ≡ Some o → viewed o.header snap ≡ None
+pub read_unlisted : (old new : SiteLog) (name : List ℕ) (snap : Option (List ℕ)) (at len : ℕ) (o : Opened) → Looks old new → opened_in (records_of old) name ≡ Some o → named_view o.header snap ≡ None
     → IsAnswered old new (Read name snap at len) (Refused refusal.NoSnap)
 read_unlisted old new name snap at len o looks is none =
     answered_refused old new (Read name snap at len) refusal.NoSnap looks (λ s holds.
@@ -300,7 +301,7 @@ read_unlisted old new name snap at len o looks is none =
     ∙ ap (snap_bytes_reply (record { at = at; len = len })) missing))
 
 pub read_outside : (old new : SiteLog) (name : List ℕ) (snap : Option (List ℕ)) (at len : ℕ) (o : Opened) (view : View) → Looks old new → opened_in (records_of old) name ≡ Some o → IsHeaderInForm o.header
-    → viewed o.header snap ≡ Some view → is_within (record { at = at; len = len }) view.size ≡ false → IsAnswered old new (Read name snap at len) (Refused refusal.BadRange)
+    → named_view o.header snap ≡ Some view → is_within (record { at = at; len = len }) view.size ≡ false → IsAnswered old new (Read name snap at len) (Refused refusal.BadRange)
 read_outside old new name snap at len o view looks is form is_view outside =
     answered_refused old new (Read name snap at len) refusal.BadRange looks (λ s holds.
     let e : Extent = record { at = at; len = len } in
@@ -311,7 +312,7 @@ read_outside old new name snap at len o view looks is form is_view outside =
     ∙ ap (λ b. cond b (Bytes (bytes_in v.bytes e)) (Refused refusal.BadRange)) outside))
 
 pub read_done : (old mid new : SiteLog) (name : List ℕ) (snap : Option (List ℕ)) (at len : ℕ) (o : Opened) (view : View) (shown : List ℕ) → Looks old mid → Looks mid new → opened_in (records_of old) name ≡ Some o → IsHeaderInForm o.header
-    → viewed o.header snap ≡ Some view → is_within (record { at = at; len = len }) view.size ≡ true
+    → named_view o.header snap ≡ Some view → is_within (record { at = at; len = len }) view.size ≡ true
     → ((f : Flat) (bytes : List ℕ) → StandsFor (records_of mid) f → HasNoParent o.header view → IsFlatView f o view bytes → shown ≡ bytes_in bytes (record { at = at; len = len }))
     → IsAnswered old new (Read name snap at len) (Bytes shown)
 read_done old mid new name snap at len o view shown looks more is form is_view within shows =

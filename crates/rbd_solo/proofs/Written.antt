@@ -2,7 +2,7 @@
 use Rattle.std.proofs.Common.{◌≡◌, ℕ, ◌+◌, ◌-◌, ◌<◌, ◌≤◌, true, false, cond, List, [], ◌∷◌, ◌++◌, length, take, get_or, Option, Some, None, append-nil, length-append, refl, sym, ap, ◌∙◌, subst, arith}
 use Rattle.std.specs.Prelude.{IsSome}
 use Rattle.std.specs.FinMap as finmap
-use Rattle.std.proofs.lemmas.List.{map-append, get_or_default, take_more}
+use Rattle.std.proofs.lemmas.List.{map-append, take_more}
 use Rattle.std.proofs.lemmas.Option.{slice_get_within, get_or_from_slice_get}
 use Rattle.rbd_kinds.specs.declared.answer.Answer.{Answer}
 use Rattle.rbd_kinds.specs.declared.command.Command.TheVariants.{Write}
@@ -21,8 +21,8 @@ use Rattle.rbd_kinds.specs.Form.{IsHeaderInForm}
 use Rattle.rbd_kinds.specs.Striping.{IsLayout, byte_at}
 use Rattle.rbd_layout.specs.Pieces.{IsPart, IsPartsOf}
 use Rattle.rbd_layout.specs.declared.types.Piece.{Piece}
-use Rattle.rbd_layout.proofs.Derived.{parts_cover}
 use Rattle.rbd_layout.proofs.Limits.{shape_of}
+use Rattle.rbd_layout.proofs.Within.{lies_in}
 use Rattle.rbd_object.specs.Parts.{parts_len, AreBehind, bytes_for}
 use Rattle.rbd_object.proofs.ContentsLemmas.{length-window}
 use Rattle.rbd_object.specs.Contents.{window}
@@ -50,23 +50,6 @@ use Rattle.rbd_solo.proofs.Found.{found_some, found_none, answered_after, answer
 use Rattle.rbd_solo.proofs.Growing.{grown_on, effects_append}
 
 -- ---- where the parts of an extent lie
-
-pub record LiesIn (e : Extent) (p : Part) : Type 0 where
-  pub behind : e.at ≤ p.at
-  pub before : p.at + p.len ≤ e.at + e.len
-
--- an element at another default
-same_element : {X : Type 0} (xs : List X) (k : ℕ) (d : X) → k < length xs → get_or xs k (get_or xs k d) ≡ get_or xs k d
-same_element xs k d below = get_or_default xs k (get_or xs k d) d below
-
-pub lies_in : (l : Layout) (e : Extent) (object : ℕ) (parts : List Part) → IsPartsOf l e object parts → (k : ℕ) (d : Part) → k < length parts → LiesIn e (get_or parts k d)
-lies_in l e object parts are k d below =
-    let p = get_or parts k d in
-    let is = same_element parts k d below in
-    let some : 0 < p.len = (are.each k d below).some in
-    let first = ((parts_cover l e object parts are p.at).0 (k, p, below, is, (let a : p.at ≤ p.at = omega arith in a, let b : p.at < p.at + p.len = omega arith in b))).0 in
-    let last = ((parts_cover l e object parts are (p.at + (p.len - 1))).0 (k, p, below, is, (let a : p.at ≤ p.at + (p.len - 1) = omega arith in a, let b : p.at + (p.len - 1) < p.at + p.len = omega arith in b))).0 in
-    record { behind = first.0; before = (let h : p.at + (p.len - 1) < e.at + e.len = last.1 in omega arith) }
 
 pub parts_behind : (l : Layout) (e : Extent) (object : ℕ) (parts : List Part) → IsPartsOf l e object parts → AreBehind e.at parts
 parts_behind l e object parts are = λ k d below. (lies_in l e object parts are k d below).behind

@@ -1,5 +1,5 @@
 -- How operations let a site's log grow, and what they find.
-use Rattle.std.specs.Prelude.{◌≡◌, ℕ, ◌+◌, ◌<◌, Bool, if◌then◌else◌, List, [], ◌++◌, length, slice_index, Option, Some, None, option_map, IsSome, IfSome, Result, Ok, Err, slice_get}
+use Rattle.std.specs.Prelude.{◌≡◌, ℕ, ◌+◌, ◌<◌, Bool, if◌then◌else◌, List, [], ◌++◌, length, slice_index, Option, Some, None, IsSome, IfSome, Result, Ok, Err, slice_get}
 use Rattle.std.specs.List.{list_any}
 use Rattle.rbd_kinds.specs.declared.answer.Answer.{Answer}
 use Rattle.rbd_kinds.specs.declared.answer.Answer.TheVariants as answer
@@ -11,9 +11,9 @@ use Rattle.rbd_kinds.specs.declared.layout.Part.{Part}
 use Rattle.rbd_kinds.specs.declared.refusal.Refusal.{Refusal}
 use Rattle.rbd_kinds.specs.declared.refusal.Refusal.TheVariants as refusal
 use Rattle.rbd_kinds.specs.declared.reply.Reply.{Reply}
-use Rattle.rbd_kinds.specs.Header.{snap_named}
 use Rattle.rbd_layout.specs.declared.types.Piece.{Piece}
 use Rattle.rbd_layout.specs.Pieces.{IsPieces}
+use Rattle.rbd_header.specs.declared.view.View.{View}
 use Rattle.rbd_registry.specs.Directory.{id_of}
 use Rattle.rbd_flat.specs.Flat.{Flat, after_all, image_at}
 use Rattle.rbd_flat.specs.Flat as flat
@@ -31,7 +31,6 @@ use Rattle.rbd_stands.specs.Condition.{extent_of}
 use Rattle.rbd_flat.specs.Laws.{covers}
 use Rattle.rbd_flat.specs.Read.{view_at}
 use Rattle.rbd_solo.specs.declared.look.Opened.{Opened}
-use Rattle.rbd_solo.specs.declared.read.View.{View}
 
 abbrev pub with_lines : List Done → SiteLog → SiteLog
 with_lines lines s = record s { log = s.log ++ lines }
@@ -100,14 +99,6 @@ pub record WritesAll (old new : SiteLog) (opened : Opened) (at : ℕ) (bytes : L
   pub writes : Writes old new opened at bytes pieces
 
 -- ---- reading
-
--- the view of a name, the head where there is none
-abbrev pub view_of_snap : SnapView → View
-view_of_snap snap = record { snap = Some snap.id; size = snap.size }
-
-abbrev pub viewed : HeaderView → Option (List ℕ) → Option View
-viewed h None = Some (record { snap = None; size = h.size })
-viewed h (Some name) = option_map view_of_snap (snap_named h.snaps name)
 
 -- the header has this view, which has no parent
 pub record IsViewOf (h : HeaderView) (view : View) : Type 0 where

@@ -7,26 +7,17 @@ ghost use Rattle.rbd_flat.specs.Flat.{Flat};
 ghost use Rattle.rbd_flat.specs.Read.{bytes_in};
 ghost use Rattle.rbd_site.specs.Log.{records_of};
 ghost use Rattle.rbd_stands.specs.Site.{StandsFor};
-ghost use Rattle.rbd_solo.specs.Steps.{IsAnswered, Looks, viewed, IsViewOf, HasNoParent, IsFlatView, IsRead};
+ghost use Rattle.rbd_solo.specs.Steps.{IsAnswered, Looks, IsViewOf, HasNoParent, IsFlatView, IsRead};
 
 use crate::look::{Opened, open};
 use crate::operate::{look, told_bytes};
-use crate::write::fits;
-use rbd_kinds::{
-    Bytes, DataOp, Extent, HeaderView, Instance, Name, NoMemory, Op, Refusal, Reply, SnapId,
-    TryClone,
-};
+use rbd_flat::fits;
+use rbd_header::{View, view_of};
+use rbd_kinds::{Bytes, DataOp, Extent, Instance, Name, NoMemory, Op, Refusal, Reply, TryClone};
 use rbd_layout::{Piece, pieces};
 use rbd_object::{scatter, shifted_parts};
 use rbd_site::Site;
 use std::alloc::Global;
-
-/// What is read: the head or a snapshot, and its size in bytes.
-#[derive(Clone, Copy, Debug)]
-pub struct View {
-    pub snap: Option<SnapId>,
-    pub size: u64,
-}
 
 /// Shows bytes of an image or of a snapshot: `dir-find`, `header-get`, and a `data-read` for each object that
 /// they touch.
@@ -62,23 +53,6 @@ pub fn read(
         bytes.as_mut_slice(),
     )?;
     Ok(Reply::Bytes(Bytes::from_vec(bytes)))
-}
-
-/// The view of a name, the head where there is none.
-fn view_of(header: &HeaderView, snap: Option<&Name>) -> Option<View>
-    ensures { result ≡ viewed header.now (option_copied snap.entry) }
-{
-    let Some(name) = snap else {
-        return Some(View {
-            snap: None,
-            size: header.size,
-        });
-    };
-    let found = header.named(name)?;
-    Some(View {
-        snap: Some(found.id),
-        size: found.size,
-    })
 }
 
 /// Reads each piece of an extent within the view, into as many zeros.

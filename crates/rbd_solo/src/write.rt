@@ -3,12 +3,12 @@ ghost use Rattle.std.specs.Prelude.{◌≡◌, ◌+◌, ◌≤◌, [], ◌∷◌
 ghost use Rattle.rbd_kinds.specs.declared.command.Command.TheVariants.{Write};
 ghost use Rattle.rbd_kinds.specs.Form.{IsHeaderInForm};
 ghost use Rattle.rbd_layout.specs.Pieces.{IsPartsOf};
-ghost use Rattle.rbd_flat.specs.Read.{is_within};
 ghost use Rattle.rbd_site.specs.Log.{records_of};
 ghost use Rattle.rbd_solo.specs.Steps.{IsAnswered, Writes, WritesAll};
 
 use crate::look::{Opened, open};
 use crate::operate::operate;
+use rbd_flat::fits;
 use rbd_header::context_of;
 use rbd_kinds::{Bytes, DataOp, Extent, Instance, Name, NoMemory, Op, Refusal, Reply, TryClone};
 use rbd_layout::{Piece, pieces};
@@ -39,13 +39,6 @@ pub fn write(
     }
     write_pieces(alloc, site, me, &opened, &extent, bytes)?;
     Ok(Reply::Done)
-}
-
-/// Whether an extent isn't empty and ends within a size.
-pub fn fits(extent: &Extent, size: u64) -> bool
-    ensures { result ≡ is_within extent.now size }
-{
-    extent.len > 0 && extent.len <= size && extent.at <= size - extent.len
 }
 
 /// Writes each piece of an extent within the image.

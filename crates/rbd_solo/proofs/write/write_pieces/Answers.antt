@@ -1,6 +1,6 @@
 use Rattle.std.proofs.Common.{◌+◌, ◌≤◌, subst, arith, ◌∷◌, []}
 use Rattle.rbd_solo.specs.Steps.{Writes}
-use Rattle.rbd_solo.proofs.Bounds.{few_bytes}
+use Rattle.rbd_layout.proofs.Bounds.{few_bytes}
 use Rattle.rbd_solo.proofs.Written.{writes_next}
 use Rattle.rbd_solo.proofs.write.write_pieces.Goals as goal
 
