@@ -1,5 +1,7 @@
 //! The header of a new image.
 ghost use Rattle.std.specs.Prelude.{◌≡◌};
+ghost use Rattle.rbd_kinds.specs.Form.{HasFewObjects, IsNewHeader};
+ghost use Rattle.rbd_kinds.specs.Striping.{IsLayout};
 ghost use Rattle.rbd_header.specs.Header.{new_header as header_of};
 
 use rbd_kinds::{HeaderView, Layout, Role, Snaps};
@@ -7,7 +9,8 @@ use std::alloc::Global;
 
 /// The header of a new image of zeros, of a size in bytes: it has no parent and no journal. It takes no memory.
 pub fn new_header(alloc: Global, layout: Layout, size: u64) -> HeaderView
-    ensures { result ≡ header_of layout size }
+    ensures header { result ≡ header_of layout size }
+    ensures form { IsLayout layout → HasFewObjects layout size → IsNewHeader result }
 {
     HeaderView {
         layout,

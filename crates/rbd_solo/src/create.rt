@@ -1,15 +1,12 @@
 //! `create`
-ghost use Rattle.std.specs.Prelude.{◌≡◌, None, IfOk};
-ghost use Rattle.rbd_kinds.specs.Form.{IsNewHeader};
-ghost use Rattle.rbd_kinds.specs.declared.header.Role.TheVariants.{Plain};
+ghost use Rattle.std.specs.Prelude.{IfOk};
 ghost use Rattle.rbd_kinds.specs.declared.command.Command.TheVariants.{Create};
-ghost use Rattle.rbd_layout.specs.Asked.{KeepsLimits};
 ghost use Rattle.rbd_solo.specs.Steps.{IsAnswered};
 
 use crate::operate::{drawn_id, operate};
+use rbd_header::new_header;
 use rbd_kinds::{
-    DirectoryOp, HeaderOp, HeaderView, Instance, Layout, Name, NoMemory, Number, Op, Refusal,
-    Reply, Role, Shape, Snaps, TryClone,
+    DirectoryOp, HeaderOp, Instance, Name, NoMemory, Number, Op, Refusal, Reply, Shape, TryClone,
 };
 use rbd_layout::{keeps_limits, layout_of};
 use rbd_site::Site;
@@ -42,32 +39,5 @@ pub fn create(
             let _made = operate(site, me, Op::Header { image, op })?;
             Ok(Reply::Done)
         }
-    }
-}
-
-/// The header of a new image.
-fn new_header(alloc: Global, layout: Layout, size: u64) -> HeaderView
-    requires { KeepsLimits layout size }
-    ensures new { IsNewHeader result }
-    ensures layout { result.layout ≡ layout }
-    ensures size { result.size ≡ size }
-    ensures parent { result.parent ≡ None }
-    ensures role { result.role ≡ Plain }
-{
-    HeaderView {
-        layout,
-        size,
-        generation: 0,
-        snap_seq: 0,
-        snaps: Snaps::new(alloc),
-        parent: None,
-        depth: 0,
-        born: size,
-        born_clone: false,
-        journal: false,
-        syncing: false,
-        owner: None,
-        global: None,
-        role: Role::Plain,
     }
 }

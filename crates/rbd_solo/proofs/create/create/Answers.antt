@@ -1,4 +1,6 @@
-use Rattle.std.proofs.Common.{◌≡◌, true, false, sym, ◌∙◌, subst}
+use Rattle.std.proofs.Common.{◌≡◌, true, false, sym, ◌∙◌, subst, ap}
+use Rattle.rbd_kinds.specs.declared.header.HeaderView.{HeaderView}
+use Rattle.rbd_kinds.specs.Form.{HasFewObjects}
 use Rattle.rbd_kinds.specs.declared.command.Command.TheVariants.{Create}
 use Rattle.rbd_kinds.specs.declared.reply.Reply.TheVariants.{Done, Refused}
 use Rattle.rbd_layout.specs.Asked.{KeepsLimits}
@@ -22,10 +24,13 @@ returns-in-Err c =
 
 pub returns-in_ok-_made-in-Ok : goal.returns-in_ok-_made-in-Ok
 returns-in_ok-_made-in-Ok c =
+    let keeps = c.keeps_limits.ensures.0 c.if-not-keeps_limits.false in
+    let few = subst (HasFewObjects c.layout_of-layout.result) (c.get.ensures.value ∙ sym c.get-in-Ok.ensures.value) keeps.objects in
+    let made = c.new_header-view.ensures.header in
     subst (λ n. IsAnswered c.args.site.now c.operate-in-Ok.new.site (Create n c.args.size c.args.shape.now) Done) c.in_ok-try_clone.ensures
     (create_done c.args.site.now c.operate.new.site c.operate-in-Ok.new.site c.args.me.now c.in_ok-try_clone.field-0 c.args.size c.args.shape.now c.new_header-view.result _ _
     c.in_ok-operate.field-0 c.in_ok-_made-in-Ok._made c.in-Ok.image
-    (subst (λ l. KeepsLimits l c.args.size) c.layout_of-layout.ensures (subst (KeepsLimits c.layout_of-layout.result) c.get.ensures.value (c.keeps_limits.ensures.0 c.if-not-keeps_limits.false)))
+    (subst (λ l. KeepsLimits l c.args.size) c.layout_of-layout.ensures (subst (KeepsLimits c.layout_of-layout.result) c.get.ensures.value keeps))
     c.in_ok-operate.ensures.answer c.in_ok-operate.ensures.grown c.in_ok-operate.ensures.records (sym c.drawn_id.ensures ∙ c.in-Ok.is)
-    c.new_header-view.ensures.new (c.new_header-view.ensures.layout ∙ c.layout_of-layout.ensures) (c.new_header-view.ensures.size ∙ c.get-in-Ok.ensures.value) c.new_header-view.ensures.parent c.new_header-view.ensures.role
+    (c.new_header-view.ensures.form keeps.is_layout few) (ap (λ (h : HeaderView). h.layout) made ∙ c.layout_of-layout.ensures) (ap (λ (h : HeaderView). h.size) made ∙ c.get-in-Ok.ensures.value) (ap (λ (h : HeaderView). h.parent) made) (ap (λ (h : HeaderView). h.role) made)
     c.in_ok-_made-in-Ok.ensures.answer c.in_ok-_made-in-Ok.ensures.grown c.in_ok-_made-in-Ok.ensures.records)
