@@ -1,5 +1,5 @@
 //! Each call once, with answers worked out by hand.
-use crate::{Header, Held, SnapAddFault, snapshot};
+use crate::{Header, Held, SnapAddFault, context_of, snapshot, view_of};
 use rbd_kinds::{
     Bytes, GlobalName, HeaderView, ImageId, Instance, Layout, Name, NoMemory, ParentLink, Role,
     SessionNo, SiteId, SnapId, SnapStatus, Snaps,
@@ -120,6 +120,39 @@ fn a_snapshot_is_protected_and_removed(rt: HostRuntime) -> Result<(), Fail> {
     let left = snapshot(&view, SnapId(7)).expect(&rt, "it is listed");
     assert_eq!(rt; left.name.as_slice(), b"second".as_slice());
     assert_eq!(rt; left.status, SnapStatus::Protected);
+    Ok(())
+}
+
+/// A header of 8,000 bytes with the snapshots 6, `first`, of 10,000 bytes, and 7, `second`, of 8,000.
+fn snapped(rt: &(impl Abort + AllocGlobal)) -> Result<Header, NoMemory> {
+    let mut header = cloned(rt.alloc());
+    let first = name(rt, rt.alloc(), b"first")?;
+    let second = name(rt, rt.alloc(), b"second")?;
+    assert_eq!(rt; add(rt, &mut header, &first), Ok(SnapId(6)));
+    does(rt, &mut header, Change::Size(8000));
+    assert_eq!(rt; add(rt, &mut header, &second), Ok(SnapId(7)));
+    Ok(header)
+}
+
+#[test]
+fn a_context_lists_the_newest_first(rt: HostRuntime) -> Result<(), Fail> {
+    let header = snapped(&rt)?;
+    let context = context_of(rt.alloc(), header.as_view())?;
+    assert_eq!(rt; context.seq, SnapId(7));
+    assert_eq!(rt; context.snaps.as_slice(), [SnapId(7), SnapId(6)].as_slice());
+    Ok(())
+}
+
+#[test]
+fn views_of_names(rt: HostRuntime) -> Result<(), Fail> {
+    let header = snapped(&rt)?;
+    let first = name(&rt, rt.alloc(), b"first")?;
+    let third = name(&rt, rt.alloc(), b"third")?;
+    let head = view_of(header.as_view(), None).expect(&rt, "the head");
+    assert_eq!(rt; (head.snap, head.size), (None, 8000));
+    let old = view_of(header.as_view(), Some(&first)).expect(&rt, "it is listed");
+    assert_eq!(rt; (old.snap, old.size), (Some(SnapId(6)), 10000));
+    assert!(rt; view_of(header.as_view(), Some(&third)).is_none());
     Ok(())
 }
 
