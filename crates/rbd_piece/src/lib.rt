@@ -2,6 +2,8 @@
 #![tactic(auto)]
 
 mod gather;
+#[cfg(test)]
+mod tests;
 mod write_piece;
 
 pub use gather::Gather;
