@@ -1,4 +1,80 @@
-//! Requests as machines that want one thing at a time.
+//! Requests as machines that want one thing at a time. A request does nothing itself: whoever holds it asks what it
+//! wants, does that, and feeds it what came of it, until it is done with its reply.
+//!
+//! ```text
+//! let mut way = Approach::new(SiteId::A, disk, true);     // a change that is alone on the image `disk`
+//! way.wants()                       // an operation at site A, of the kind dir-find
+//! way.next()?                       // dir-find disk
+//! way.feed(&rule, &id)              // More: the answer was `id 7`
+//! way.wants()                       // to join the line of image 7, alone
+//! way.feed(&rule, &Fed::Passed)     // More
+//! way.wants()                       // header-get
+//! way.feed(&rule, &header)          // More, or Refused where the rule refuses by this header
+//! way.wants()                       // the lock of image 7
+//! way.feed(&rule, &Fed::Passed)     // More
+//! way.wants()                       // header-get once more
+//! way.feed(&rule, &header)          // Owned(7): what the change does comes next
+//! ```
+//!
+//! # Rules
+//!
+//! | it wants | whoever holds it | it is fed |
+//! |---|---|---|
+//! | `Op` | takes the operation (`next`), does it at the site, and gives it the memory for the answer (`ready`) | the answer |
+//! | `Note` | takes the event (`event`), and notes it in the image's journal | `Passed` |
+//! | `Join`, `Hold`, `Turn`, `Applied`, `Leave` | lets it wait until it may go on | `Passed` |
+//!
+//! - What it wants stays the same until it is fed. `feed` takes no memory, so the answer to an operation that was done
+//!   is never lost for want of it; a `ready` that is refused changes nothing, and may be called again.
+//! - The answer `fenced` ends a request with Fenced. What isn't there ends it with NoImage ([`told_image`],
+//!   [`told_header`], [`told_done`], [`refusal_of`]).
+//! - A change looks at its header twice, before it waits for the lock and under it. The look under the lock decides,
+//!   since what it shows can't change as long as the session has the lock. The look before spares a request that is
+//!   refused the wait.
+//! - Clients don't change a secondary ([`non_primary`]).
+//!
+//! # Contracts
+//!
+//! Contracts see a machine as where it stands (`Standing`): the plan that is left, and the plan at each of its labels.
+//! The definitions are read in this order.
+//!
+//! | file | what it says |
+//! |---|---|
+//! | `specs/Plan.antt` | `Plan`: the steps that are left, a finite tree that branches on the answers. `Wants`, `Asks`, `Notes`: what `wants`, `next` and `event` tell of it. `plan_after`: the plan after what it was fed. `GoesOn`: after `feed` it stands there, or is done with the plan's reply |
+//! | `specs/Answers.antt` | `CanGive`: the answers that an operation can give. `CanBeFed`: what a machine may be fed |
+//! | `specs/Ready.antt` | only an answer needs memory |
+//! | `specs/Steps.antt` | steps that many requests share, as plans |
+//! | `specs/Approach.antt` | what is left of an [`Approach`], and what comes of a step of it |
+//! | `specs/Path.antt` | the operations of a plan one after another, and how many they are at most |
+//!
+//! [`laws`] says that what a request asks for, with the answers that it is fed, is a path of its plan, that a path has at
+//! most as many operations as its plan, and that a change has three up to its own look.
+//!
+//! # A new request
+//!
+//! 1. Its plan goes into `specs/`, in small definitions with a name for each step. Each takes what comes next: in
+//!    `look site image next` a header is looked at, and `next` is the plan by that header. So what is left at any step
+//!    has a name.
+//! 2. A private enum has a variant for each step, with what the steps from there on need.
+//! 3. `rest_at`, in `specs/`, gives the plan that is left at each variant, one line for each. `stands` is that plan,
+//!    `without_labels`; a request that may begin a part again gives the plans at its labels too.
+//! 4. `new` ensures that the plan of the command is left.
+//! 5. Each call of [`Machine`] is a `match` with one arm for each step. The trait has the contracts. An arm that does more
+//!    than name the next step goes to a function with a contract of its own.
+//! 6. A part that several requests have, as [`Approach`] or a piece of a write, is a struct of its own. Its clauses hold for
+//!    every plan that comes next, so the request puts in its own, and proves nothing of the part again. A step of a
+//!    part tells a [`Course`] or a [`Progress`].
+//!
+//! # Cost
+//!
+//! A call is a few words, whatever came before it. `wants` and `feed` take no memory. `next` and `event` copy what they
+//! name: [`dir_find`] copies the name once, [`header_get`] nothing. An [`Approach`] holds the name that it was given,
+//! without a copy, and takes memory in `next` alone. [`told_header`] lends the header of the answer.
+//!
+//! # How it works
+//!
+//! A machine has the step at which it stands, and each of its calls is a `match` on the step. An [`Approach`] doesn't know
+//! what its change refuses: each `feed` is given a rule ([`Refuses`]), which it asks at both looks.
 #![tactic(auto)]
 
 mod approach;
@@ -6,6 +82,8 @@ pub mod laws;
 mod looks;
 mod machine;
 mod progress;
+#[cfg(test)]
+mod tests;
 mod told;
 
 pub use approach::{Approach, Course, Refuses};
