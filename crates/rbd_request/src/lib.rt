@@ -65,6 +65,8 @@ mod extent;
 mod looked;
 mod pieces;
 mod read;
+#[cfg(test)]
+mod tests;
 mod write;
 
 pub use read::ReadRequest;
