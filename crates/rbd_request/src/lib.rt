@@ -1,4 +1,63 @@
-//! Requests that read and write bytes.
+//! The requests of `write`, `fill` and `read`, as machines that want one thing at a time. They do nothing themselves:
+//! whoever holds one does what it wants, and feeds it what came of it.
+//!
+//! ```text
+//! let mut request = WriteRequest::new(alloc, SiteId::A, command)?;    // write disk 4094 hello
+//! loop {
+//!     request.wants()              // dir-find, to join the line, header-get, the lock, header-get, its event noted,
+//!                                  // its turn at object 0, data-write, its turn at object 1, data-write, applied
+//!     request.next(alloc)?         // the operation, where it wants one; `event` tells the event
+//!     request.ready(alloc, &fed)?  // takes the memory that the answer needs
+//!     match request.feed(&fed) {
+//!         Turn::More => continue,
+//!         Turn::Done(reply) => break reply,    // done
+//!     }
+//! }
+//! ```
+//!
+//! # Rules
+//!
+//! | command | steps | refused |
+//! |---|---|---|
+//! | `write`, `fill` | `dir-find`, the image's line (beside other writes), `header-get`, the lock, `header-get`, the event noted, for each object its turn and a `data-write`, the event counts as applied | NoImage, NonPrimary, BadRange |
+//! | `read` | `dir-find`, `header-get`, a `data-read` for each object, `header-get` | NoImage, NoSnap, BadRange |
+//!
+//! Refusals are tested in the order of the table, those of a write at both looks. Any operation may be answered
+//! `fenced`, which ends the request with Fenced.
+//!
+//! A fill is a write of one byte many times. A write's pieces are those of its extent by the striping that the own
+//! look told (Ceph: RBD striping), object by object in the order of their numbers, under the snapshot context of that
+//! header. They are made at the own look, before the event is noted.
+//!
+//! A read takes no lock. It looks at the header before and after, and where the generation is another, or the header
+//! is gone, it begins again with `dir-find`. So its bytes are those of one state of the header. An object that isn't
+//! there shows zeros.
+//!
+//! # Contracts
+//!
+//! Both requests meet the contract of `Machine` in `rbd_machine`: it says of each step that it is the next of a *plan*,
+//! a tree of steps, and the definitions here are the plans. They are read in this order. `specs/Write.antt`: what a
+//! write refuses (`write_refuses`), what it does at its own look (`put`), the whole (`write`), and what is left of it at
+//! each stage (`rest_at`). `specs/Seen.antt`: what a read keeps of the header, and the bytes that it shows (`shown`).
+//! `specs/Arrange.antt`: how bytes that came object by object are put in the order of the image. `specs/Read.antt`: a
+//! pass over the objects between two looks (`pass`), its closing look (`on_closing`), and where it stands (`rest_at`).
+//!
+//! # Cost
+//!
+//! A request takes a step for each thing that it wants, and each object that is touched is asked for once; a read that
+//! begins again takes all its steps again. The bytes of a write are copied four times: into the request, once at the own
+//! look into the pieces, into the event, and into each piece's operation (a `fill` makes its bytes in the request).
+//! Those of a read are copied once from the answers to behind one another, and once into the reply, in the order of the
+//! image.
+//!
+//! Memory is taken by [`WriteRequest::new`], `next`, `event` and `ready`, and these may be refused it without a change.
+//! [`ReadRequest::new`], `wants` and `feed` take none.
+//!
+//! # How it works
+//!
+//! A [`WriteRequest`] goes through stages: the way to its own look is `Approach` of `rbd_machine`, and each piece a
+//! `WritePiece` of `rbd_piece`, in a queue. A [`ReadRequest`] goes through phases, and its reading is a `Gather` of
+//! `rbd_piece`. What an answer needs is made ready in `ready` and put beside the phase, and `feed` takes it from there.
 #![tactic(auto)]
 
 mod arrange;
@@ -7,6 +66,8 @@ pub mod laws;
 mod looked;
 mod pieces;
 mod read;
+#[cfg(test)]
+mod tests;
 mod write;
 
 pub use read::ReadRequest;
