@@ -106,3 +106,7 @@ IsReady r a = IsReadyAt r.phase r a
 abbrev pub IsHeaderToldInForm : Answer → Type 0
 IsHeaderToldInForm (answer.Header h) = IsHeaderInForm h
 IsHeaderToldInForm _ = Unit {0}
+
+abbrev pub IsClosing : Phase → Type 0
+IsClosing (phase.Closing image seen read) = Unit {0}
+IsClosing _ = ⊥

@@ -177,6 +177,37 @@ impl ReadRequest {
     }
 }
 
+impl ReadRequest {
+    /// Goes on with the answer to the closing look.
+    fn close(&mut self, answer: &Answer) -> Turn
+        requires at { of_read.IsClosing self.old.phase }
+        requires ready { of_read.IsReady self.old answer.now }
+        ensures { GoesOn (of_read.standing_of self.old).labels (plan_after (of_read.rest_at self.old.phase self.old) (fed_with.Answer answer.now)) result (of_read.standing_of self.new) }
+    {
+        let Phase::Closing(_, looked, _) = &self.phase else {
+            unreachable!()
+        };
+        match answer {
+            Answer::Header(header) => {
+                if looked.is_still(header) {
+                    match self.shown.take() {
+                        Some(bytes) => Turn::Done(Reply::Bytes(bytes)),
+                        None => unreachable!(),
+                    }
+                } else {
+                    self.phase = Phase::Finding;
+                    Turn::More
+                }
+            }
+            Answer::Absent => {
+                self.phase = Phase::Finding;
+                Turn::More
+            }
+            _ => Turn::Done(Reply::Refused(refusal_of(answer))),
+        }
+    }
+}
+
 /// Takes the memory for the closing look: the reply's bytes, where the header is still what it was.
 fn show(
     alloc: Global,
@@ -283,24 +314,7 @@ impl Machine for ReadRequest {
                 }
                 Progress::Refused(refusal) => Turn::Done(Reply::Refused(refusal)),
             },
-            Phase::Closing(_, looked, _) => match answer {
-                Answer::Header(header) => {
-                    if looked.is_still(header) {
-                        match self.shown.take() {
-                            Some(bytes) => Turn::Done(Reply::Bytes(bytes)),
-                            None => unreachable!(),
-                        }
-                    } else {
-                        self.phase = Phase::Finding;
-                        Turn::More
-                    }
-                }
-                Answer::Absent => {
-                    self.phase = Phase::Finding;
-                    Turn::More
-                }
-                _ => Turn::Done(Reply::Refused(refusal_of(answer))),
-            },
+            Phase::Closing(_, _, _) => self.close(answer),
         }
     }
 }
