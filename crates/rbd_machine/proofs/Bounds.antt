@@ -1,5 +1,5 @@
 -- Bounds of plans, step by step.
-use Rattle.std.proofs.Common.{rules, ℕ, ◌≤◌, ◌≡◌, ◌+◌, zero, suc, List, length, Bool, Option, Some, None, [], ◌∷◌, arith}
+use Rattle.std.proofs.Common.{ℕ, ◌≤◌, zero, suc, List, length, Bool, Option, Some, None, [], ◌∷◌, arith}
 use Rattle.rbd_kinds.specs.declared.answer.Answer.{Answer}
 use Rattle.rbd_kinds.specs.declared.answer.Answer.TheVariants as answer
 use Rattle.rbd_kinds.specs.declared.header.HeaderView.{HeaderView}

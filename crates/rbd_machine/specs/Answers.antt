@@ -1,6 +1,6 @@
 -- Which answers an operation can give. What no request ever gets isn't counted: a header, a journal or a snapshot
 -- that is made is new, since its id was just drawn or was looked up under the lock.
-use Rattle.std.specs.Prelude.{◌≡◌, Bool, true, false, length, None, Some}
+use Rattle.std.specs.Prelude.{◌≡◌, Bool, true, false, length, None}
 use Rattle.rbd_kinds.specs.declared.answer.Answer.{Answer}
 use Rattle.rbd_kinds.specs.declared.answer.Answer.TheVariants as answer
 use Rattle.rbd_kinds.specs.declared.children_op.ChildrenOp.{ChildrenOp}

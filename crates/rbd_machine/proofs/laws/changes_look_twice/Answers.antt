@@ -1,4 +1,4 @@
-use Rattle.std.proofs.Common.{rules, ℕ, ◌+◌, ◌≡◌, suc, arith, subst}
+use Rattle.std.proofs.Common.{◌+◌, ◌≡◌, suc, arith, subst}
 use Rattle.rbd_machine.specs.Path.{IsBounded}
 use Rattle.rbd_machine.specs.Steps.{change}
 use Rattle.rbd_machine.proofs.Bounds.{bounded_change}

@@ -1,4 +1,3 @@
-use Rattle.std.proofs.Common.{rules}
 use Rattle.rbd_machine.proofs.Bounds.{bounded_path}
 use Rattle.rbd_machine.proofs.laws.paths_keep_bounds.Goals as goal
 

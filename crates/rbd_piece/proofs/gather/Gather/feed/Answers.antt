@@ -1,5 +1,4 @@
-use Rattle.std.proofs.Common.{◌≡◌, ◌++◌, ℕ, List, sym, subst}
-use Rattle.rbd_machine.specs.Plan.{Plan}
+use Rattle.std.proofs.Common.{◌≡◌, ◌++◌, sym, subst}
 use Rattle.rbd_piece.specs.Gather.{gather, on_bytes, Gathers}
 use Rattle.rbd_piece.proofs.gather.Gather.feed.Goals as goal
 
