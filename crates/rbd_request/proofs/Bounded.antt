@@ -1,6 +1,5 @@
 -- How many operations requests have.
-use Rattle.std.proofs.Common.{◌≡◌, ℕ, ◌+◌, ◌≤◌, suc, List, [], ◌∷◌, length, Bool, true, false, cond, eqb, Option, Some, None, refl, subst, arith}
-use Rattle.rbd_kinds.specs.declared.answer.Answer.{Answer}
+use Rattle.std.proofs.Common.{◌≡◌, ℕ, ◌+◌, ◌≤◌, suc, List, [], ◌∷◌, length, Bool, true, false, cond, eqb, Option, Some, None, subst, arith}
 use Rattle.rbd_kinds.specs.declared.answer.Answer.TheVariants as answer
 use Rattle.rbd_kinds.specs.declared.header.HeaderView.{HeaderView}
 use Rattle.rbd_kinds.specs.declared.id.SiteId.{SiteId}
@@ -12,11 +11,11 @@ use Rattle.rbd_object.specs.Parts.{bytes_for}
 use Rattle.rbd_header.specs.Header.{view_of}
 use Rattle.rbd_header.specs.declared.view.View.{View}
 use Rattle.rbd_machine.specs.Path.{IsBounded}
-use Rattle.rbd_machine.specs.Plan.{Plan, Return, Goto}
+use Rattle.rbd_machine.specs.Plan.{Return, Goto}
 use Rattle.rbd_machine.specs.Steps.{applied}
 use Rattle.rbd_machine.proofs.Bounds.{bounded_change, bounded_more, bounded_on_id, bounded_on_header, bounded_unless}
 use Rattle.rbd_piece.proofs.Bounded.{bounded_write, bounded_gather}
-use Rattle.rbd_request.specs.Read.{pass, looking, reading, viewing, gathering, closing, on_closing}
+use Rattle.rbd_request.specs.Read.{pass, looking, reading, viewing, gathering, closing}
 use Rattle.rbd_request.specs.Seen.{Seen, seen_at, shown}
 use Rattle.rbd_request.specs.Write.{extent_at, out_of_range, put, write, write_pieces, write_refuses}
 
