@@ -1,5 +1,5 @@
 -- `create`: the plan that makes an image.
-use Rattle.std.specs.Prelude.{◌≡◌, ℕ, List, [], Bool, false, not, Option, Some, None}
+use Rattle.std.specs.Prelude.{◌≡◌, ℕ, List, Bool, false, not, Option, Some, None}
 use Rattle.rbd_admin.specs.declared.create.CreateRequest.{CreateRequest}
 use Rattle.rbd_admin.specs.declared.create.Stage.{Stage}
 use Rattle.rbd_admin.specs.declared.create.Stage.TheVariants as stage
@@ -10,10 +10,8 @@ use Rattle.rbd_kinds.specs.declared.command.Command.TheVariants as command
 use Rattle.rbd_kinds.specs.declared.command.Shape.{Shape}
 use Rattle.rbd_kinds.specs.declared.directory_op.DirectoryOp.TheVariants as directory
 use Rattle.rbd_kinds.specs.declared.header.HeaderView.{HeaderView}
-use Rattle.rbd_kinds.specs.declared.header.Role.TheVariants.{Plain}
 use Rattle.rbd_kinds.specs.declared.header_op.HeaderOp.TheVariants as header
 use Rattle.rbd_kinds.specs.declared.id.SiteId.{SiteId}
-use Rattle.rbd_kinds.specs.declared.layout.Layout.{Layout}
 use Rattle.rbd_kinds.specs.declared.operation.Op.TheVariants as op
 use Rattle.rbd_kinds.specs.declared.refusal.Refusal.{Refusal}
 use Rattle.rbd_kinds.specs.declared.refusal.Refusal.TheVariants as refusal

@@ -21,15 +21,13 @@ use Rattle.rbd_kinds.specs.declared.header_op.HeaderOp.TheVariants as header
 use Rattle.rbd_kinds.specs.declared.id.SiteId.{SiteId}
 use Rattle.rbd_kinds.specs.declared.journal.Event.{Event}
 use Rattle.rbd_kinds.specs.declared.journal.Event.TheVariants as event
-use Rattle.rbd_kinds.specs.declared.machine.Want.TheVariants as want
 use Rattle.rbd_kinds.specs.declared.operation.Op.TheVariants as op
 use Rattle.rbd_kinds.specs.declared.refusal.Refusal.{Refusal}
 use Rattle.rbd_kinds.specs.declared.refusal.Refusal.TheVariants as refusal
-use Rattle.rbd_kinds.specs.declared.reply.Reply.TheVariants as reply
 use Rattle.rbd_kinds.specs.Header.{snap_named}
 use Rattle.rbd_header.specs.Header.{is_full}
 use Rattle.rbd_machine.specs.Approach.{rest_of}
-use Rattle.rbd_machine.specs.Plan.{Plan, Ask, Await, Note, Return}
+use Rattle.rbd_machine.specs.Plan.{Plan, Ask, Note}
 use Rattle.rbd_machine.specs.Steps.{refused, not_there, on_done, change, or_else, non_primary, applied}
 
 -- the commands that it serves

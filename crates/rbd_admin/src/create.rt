@@ -1,6 +1,6 @@
 //! `create`
-ghost use Rattle.std.specs.Prelude.{◌≡◌, ℕ, true, None};
-ghost use Rattle.rbd_machine.specs.Plan.{Plan, IsAsking, without_labels};
+ghost use Rattle.std.specs.Prelude.{◌≡◌, ℕ, true, None, IfOk};
+ghost use Rattle.rbd_machine.specs.Plan.{Plan, IsAsking, Notes, without_labels};
 ghost use Rattle.rbd_machine.specs.Steps.{going};
 ghost use Rattle.rbd_admin.specs.Create.{is_create, on_drawn, rest_of_create, IsCreate, IsCreatePlan, refusal_at};
 
@@ -77,7 +77,7 @@ impl CreateRequest {
     }
 
     /// Why it ends before any operation: BadShape where the shape is outside the limits. It is `None` where there
-    /// is something to do.
+    /// is something to do. It is asked first: of a request that is refused, nothing is said of what it wants.
     pub fn refusal(&self) -> Option<Refusal>
         ensures refusal { result ≡ refusal_at (rest_of_create self.now) }
         ensures asking { result ≡ None → IsAsking (rest_of_create self.now) }
@@ -129,8 +129,11 @@ impl Machine for CreateRequest {
         }
     }
 
-    fn event(&self, _alloc: Global) -> Result<Event, NoMemory> {
-        unreachable!()
+    /// It wants no event noted, so nothing is said of this call.
+    fn event(&self, _alloc: Global) -> Result<Event, NoMemory>
+        ensures { IfOk result (Notes (rest_of_create self.now)) }
+    {
+        Err(NoMemory)
     }
 
     fn ready(&mut self, _alloc: Global, _fed: &Fed) -> Result<(), NoMemory> {

@@ -1,7 +1,7 @@
 //! `ls`, `info` and `snap ls`
 ghost use Rattle.std.specs.Prelude.{◌≡◌, true, IfOk, IfSome, IsSome};
 ghost use Rattle.rbd_kinds.specs.declared.machine.Fed.TheVariants as fed_with;
-ghost use Rattle.rbd_machine.specs.Plan.{GoesOn, Goto, plan_after, without_labels};
+ghost use Rattle.rbd_machine.specs.Plan.{GoesOn, Goto, Notes, plan_after, without_labels};
 ghost use Rattle.rbd_admin.specs.Listing.{is_listing, listing_plan, rest_of_list, reply_of, HasReply, IsReadied};
 
 use rbd_kinds::{
@@ -156,8 +156,11 @@ impl Machine for ListRequest {
         }
     }
 
-    fn event(&self, _alloc: Global) -> Result<Event, NoMemory> {
-        unreachable!()
+    /// It wants no event noted, so nothing is said of this call.
+    fn event(&self, _alloc: Global) -> Result<Event, NoMemory>
+        ensures { IfOk result (Notes (rest_of_list self.now)) }
+    {
+        Err(NoMemory)
     }
 
     fn ready(&mut self, _alloc: Global, fed: &Fed) -> Result<(), NoMemory> {

@@ -2,7 +2,8 @@ use Rattle.std.proofs.Common.{ap, refl, sym, subst, ◌∙◌, arith}
 use Rattle.rbd_kinds.specs.declared.id.SiteId.TheVariants as site
 use Rattle.rbd_kinds.specs.declared.layout.Layout.{Layout}
 use Rattle.rbd_layout.specs.Asked.{KeepsLimits}
-use Rattle.rbd_admin.specs.Create.{drawing, new_header}
+use Rattle.rbd_admin.specs.Create.{drawing}
+use Rattle.rbd_header.specs.Header.{new_header}
 use Rattle.rbd_admin.proofs.tests.create_request.Goals as goal
 
 abbrev usual : Layout

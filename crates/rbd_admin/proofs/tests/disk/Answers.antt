@@ -1,7 +1,7 @@
 use Rattle.std.proofs.Common.{refl, sym, subst, arith}
 use Rattle.rbd_kinds.specs.declared.header.HeaderView.{HeaderView}
 use Rattle.rbd_kinds.specs.Form.{IsHeaderInForm}
-use Rattle.rbd_admin.specs.Create.{new_header}
+use Rattle.rbd_header.specs.Header.{new_header}
 use Rattle.rbd_admin.proofs.tests.disk.Goals as goal
 
 abbrev disk : HeaderView
