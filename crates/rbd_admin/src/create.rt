@@ -129,11 +129,8 @@ impl Machine for CreateRequest {
         }
     }
 
-    /// It wants no event noted, so nothing is said of this call.
-    fn event(&self, _alloc: Global) -> Result<Event, NoMemory>
-        ensures { IfOk result (Notes (rest_of_create self.now)) }
-    {
-        Err(NoMemory)
+    fn event(&self, _alloc: Global) -> Result<Option<Event>, NoMemory> {
+        Ok(None)
     }
 
     fn ready(&mut self, _alloc: Global, _fed: &Fed) -> Result<(), NoMemory> {

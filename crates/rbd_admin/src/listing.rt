@@ -156,11 +156,8 @@ impl Machine for ListRequest {
         }
     }
 
-    /// It wants no event noted, so nothing is said of this call.
-    fn event(&self, _alloc: Global) -> Result<Event, NoMemory>
-        ensures { IfOk result (Notes (rest_of_list self.now)) }
-    {
-        Err(NoMemory)
+    fn event(&self, _alloc: Global) -> Result<Option<Event>, NoMemory> {
+        Ok(None)
     }
 
     fn ready(&mut self, _alloc: Global, fed: &Fed) -> Result<(), NoMemory> {

@@ -282,10 +282,12 @@ impl Machine for SnapRequest {
         }
     }
 
-    fn event(&self, _alloc: Global) -> Result<Event, NoMemory> {
+    fn event(&self, _alloc: Global) -> Result<Option<Event>, NoMemory> {
         match &self.at {
-            Stage::Noting(_, act) => act.event(&self.change.snap),
-            _ => unreachable!(),
+            Stage::Approaching(_) => Ok(None),
+            Stage::Noting(_, act) => Ok(Some(act.event(&self.change.snap)?)),
+            Stage::Doing(_, _) => Ok(None),
+            Stage::Applying(_) => Ok(None),
         }
     }
 

@@ -250,7 +250,10 @@ fn info_of_no_image_is_refused(rt: HostRuntime) -> Result<(), Fail> {
     Ok(())
 }
 
-fn is_taking(event: Event, snap: &[u8]) -> bool {
+fn is_taking(noted: Option<Event>, snap: &[u8]) -> bool {
+    let Some(event) = noted else {
+        return false;
+    };
     match event {
         Event::SnapCreate { name } => name.as_slice() == snap,
         _ => false,

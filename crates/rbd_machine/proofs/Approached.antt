@@ -27,7 +27,7 @@ owning_form a refuses act image h at can =
     (subst (λ p. CanBeFed (rest_from p a refuses act) (fed.Answer (answer.Header h))) (is_owning a.at image at) can).form
 
 -- it notes no event on its way
-pub approach_notes_nothing : (p : Place) (a : Approach) (refuses : HeaderView → Option Refusal) (act : ℕ → HeaderView → Plan) (e : Event) → Notes (rest_from p a refuses act) e
+pub approach_notes_nothing : (p : Place) (a : Approach) (refuses : HeaderView → Option Refusal) (act : ℕ → HeaderView → Plan) (e : Option Event) → Notes (rest_from p a refuses act) e
 approach_notes_nothing place.Finding a refuses act e = tt
 approach_notes_nothing (place.Joining i) a refuses act e = tt
 approach_notes_nothing (place.Looking i) a refuses act e = tt

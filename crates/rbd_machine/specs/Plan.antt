@@ -1,5 +1,5 @@
 -- What a request does: a plan of steps, and what it means to go on by it.
-use Rattle.std.specs.Prelude.{◌≡◌, ℕ}
+use Rattle.std.specs.Prelude.{◌≡◌, ℕ, Option, Some}
 use Rattle.rbd_kinds.specs.declared.answer.Answer.{Answer}
 use Rattle.rbd_kinds.specs.declared.id.SiteId.{SiteId}
 use Rattle.rbd_kinds.specs.declared.journal.Event.{Event}
@@ -52,14 +52,9 @@ abbrev pub Asks : Plan → Op → Type 0
 Asks (Ask site wanted next) op = op ≡ wanted
 Asks _ op = Unit {0}
 
--- it wants its event noted
-abbrev pub IsNoting : Plan → Type 0
-IsNoting (Note site image event next) = Unit {0}
-IsNoting _ = ⊥
-
 -- the event, where it wants one noted
-abbrev pub Notes : Plan → Event → Type 0
-Notes (Note site image noted next) event = event ≡ noted
+abbrev pub Notes : Plan → Option Event → Type 0
+Notes (Note site image noted next) event = event ≡ Some noted
 Notes _ event = Unit {0}
 
 -- ---- how it goes on

@@ -1,7 +1,7 @@
 //! What every request is.
 ghost use Rattle.std.specs.Prelude.{◌≡◌, IfOk, OnOk};
 ghost use Rattle.rbd_kinds.specs.declared.answer.Answer.{Answer};
-ghost use Rattle.rbd_machine.specs.Plan.{Standing, Wants, IsAsking, Asks, IsNoting, Notes, plan_after, GoesOn};
+ghost use Rattle.rbd_machine.specs.Plan.{Standing, Wants, IsAsking, Asks, Notes, plan_after, GoesOn};
 ghost use Rattle.rbd_machine.specs.Answers.{CanBeFed};
 ghost use Rattle.rbd_machine.specs.Ready.{IsReadyFor};
 
@@ -39,9 +39,8 @@ pub trait Machine {
         requires { IsAsking (stands self.now).plan }
         ensures { IfOk result (Asks (stands self.now).plan) };
 
-    /// The event that it wants noted.
-    fn event(&self, alloc: Global) -> Result<Event, NoMemory>
-        requires { IsNoting (stands self.now).plan }
+    /// The event that it wants noted. Where it wants none, nothing is said of the answer.
+    fn event(&self, alloc: Global) -> Result<Option<Event>, NoMemory>
         ensures { IfOk result (Notes (stands self.now).plan) };
 
     /// Takes the memory for a feeding, and changes nothing else, also where it is refused.

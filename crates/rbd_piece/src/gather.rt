@@ -210,8 +210,8 @@ impl Machine for Gather {
         Gather::next(self)
     }
 
-    fn event(&self, _alloc: Global) -> Result<Event, NoMemory> {
-        unreachable!()
+    fn event(&self, _alloc: Global) -> Result<Option<Event>, NoMemory> {
+        Ok(None)
     }
 
     fn ready(&mut self, _alloc: Global, fed: &Fed) -> Result<(), NoMemory> {

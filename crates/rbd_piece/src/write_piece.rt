@@ -112,8 +112,8 @@ impl Machine for WritePiece {
         WritePiece::next(self)
     }
 
-    fn event(&self, _alloc: Global) -> Result<Event, NoMemory> {
-        unreachable!()
+    fn event(&self, _alloc: Global) -> Result<Option<Event>, NoMemory> {
+        Ok(None)
     }
 
     fn ready(&mut self, _alloc: Global, _fed: &Fed) -> Result<(), NoMemory> {

@@ -1,5 +1,5 @@
 -- Where a write stands, and what it can be fed there.
-use Rattle.std.proofs.Common.{◌≡◌, ℕ, ◌+◌, ◌≤◌, ◌<◌, suc, length, get_or, All, true, false, Bool, List, [], ◌∷◌, ◌++◌, Some, None, refl, ap, ◌∙◌, arith}
+use Rattle.std.proofs.Common.{◌≡◌, ℕ, ◌+◌, ◌≤◌, ◌<◌, suc, length, get_or, All, true, false, Bool, List, [], ◌∷◌, ◌++◌, Option, Some, None, refl, ap, ◌∙◌, arith}
 use Rattle.std.proofs.lemmas.Bool.Decides.{nat_tests}
 use Rattle.rbd_kinds.specs.declared.id.SiteId.{SiteId}
 use Rattle.rbd_kinds.specs.declared.journal.Event.{Event}
@@ -33,7 +33,7 @@ waiting_asks_nothing : (pieces : List WritePiece) (site : SiteId) (image : ℕ) 
 waiting_asks_nothing [] site image asks = asks
 waiting_asks_nothing (w ∷ pieces) site image asks = asks
 
-waiting_notes_nothing : (pieces : List WritePiece) (site : SiteId) (image : ℕ) (e : Event) → Notes (rest_of_pieces pieces (applied site image)) e
+waiting_notes_nothing : (pieces : List WritePiece) (site : SiteId) (image : ℕ) (e : Option Event) → Notes (rest_of_pieces pieces (applied site image)) e
 waiting_notes_nothing [] site image e = tt
 waiting_notes_nothing (w ∷ pieces) site image e = tt
 
@@ -59,10 +59,10 @@ asks_there (stage.Waiting image) w asks no_way no_piece = waiting_asks_nothing w
 asks_there (stage.Writing image piece) w asks no_way no_piece = no_piece image piece refl
 
 -- the one event that it notes
-pub notes_write : (s : Stage) (w : WriteRequest) → Notes (rest_at s w) (event.Write w.at w.bytes)
-notes_write stage.Approaching w = approach_notes_nothing w.approach.at w.approach (write_refuses (extent_at w.at w.bytes)) (put w.site w.at w.bytes) (event.Write w.at w.bytes)
+pub notes_write : (s : Stage) (w : WriteRequest) → Notes (rest_at s w) (Some (event.Write w.at w.bytes))
+notes_write stage.Approaching w = approach_notes_nothing w.approach.at w.approach (write_refuses (extent_at w.at w.bytes)) (put w.site w.at w.bytes) (Some (event.Write w.at w.bytes))
 notes_write (stage.Noting image) w = refl
-notes_write (stage.Waiting image) w = waiting_notes_nothing w.pieces.items w.site image (event.Write w.at w.bytes)
+notes_write (stage.Waiting image) w = waiting_notes_nothing w.pieces.items w.site image (Some (event.Write w.at w.bytes))
 notes_write (stage.Writing image piece) w = tt
 
 -- ---- extents

@@ -258,12 +258,12 @@ impl Machine for ReadRequest {
         }
     }
 
-    fn event(&self, _alloc: Global) -> Result<Event, NoMemory> {
+    fn event(&self, _alloc: Global) -> Result<Option<Event>, NoMemory> {
         match &self.phase {
-            Phase::Finding => unreachable!(),
-            Phase::Looking(_) => unreachable!(),
-            Phase::Gathering(_, _, _) => unreachable!(),
-            Phase::Closing(_, _, _) => unreachable!(),
+            Phase::Finding => Ok(None),
+            Phase::Looking(_) => Ok(None),
+            Phase::Gathering(_, _, _) => Ok(None),
+            Phase::Closing(_, _, _) => Ok(None),
         }
     }
 

@@ -157,7 +157,10 @@ fn shows(reply: Reply, expected: &[u8]) -> bool {
     }
 }
 
-fn is_write(event: Event, from: u64, expected: &[u8]) -> bool {
+fn is_write(noted: Option<Event>, from: u64, expected: &[u8]) -> bool {
+    let Some(event) = noted else {
+        return false;
+    };
     match event {
         Event::Write { at, bytes } => at == from && bytes.as_slice() == expected,
         _ => false,

@@ -215,11 +215,11 @@ impl Machine for WriteRequest {
         }
     }
 
-    fn event(&self, _alloc: Global) -> Result<Event, NoMemory> {
-        Ok(Event::Write {
+    fn event(&self, _alloc: Global) -> Result<Option<Event>, NoMemory> {
+        Ok(Some(Event::Write {
             at: self.at,
             bytes: self.bytes.try_clone()?,
-        })
+        }))
     }
 
     fn ready(&mut self, alloc: Global, fed: &Fed) -> Result<(), NoMemory> {
