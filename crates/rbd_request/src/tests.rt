@@ -417,3 +417,28 @@ fn units_are_put_in_the_order_of_the_image(rt: HostRuntime) -> Result<(), Fail> 
     assert!(rt; holds(&bytes, 1536, 4) && holds(&bytes, 2047, 4));
     Ok(())
 }
+
+/// Bytes of objects in stripe units of 4,096 bytes, two objects a set.
+fn wide() -> Layout
+    ensures { IsLayout result }
+{
+    Layout {
+        object: 8192,
+        unit: 4096,
+        count: 2,
+    }
+}
+
+/// The bytes 4,000 to 4,095 are the last of a unit in the object 0, and 4,096 to 4,195 the first of one in the object 1.
+#[test]
+fn two_objects_are_put_behind_one_another(rt: HostRuntime) -> Result<(), Fail> {
+    let alloc = rt.alloc();
+    let mut read = vec![in alloc; 1u8; 96]?;
+    read.resize(196, 2)?;
+    let extent = Extent { at: 4000, len: 196 };
+    let bytes = arrange(alloc, &wide(), &extent, read.as_slice())?;
+    assert!(rt; bytes.len() == 196);
+    assert!(rt; holds(&bytes, 0, 1) && holds(&bytes, 95, 1));
+    assert!(rt; holds(&bytes, 96, 2) && holds(&bytes, 195, 2));
+    Ok(())
+}
