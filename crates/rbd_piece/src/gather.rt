@@ -75,7 +75,8 @@ impl Gather {
 
     /// Takes what was read so far out of it, without a copy.
     pub fn take_bytes(&mut self) -> Bytes
-        ensures { result ≡ self.old.bytes.items }
+        ensures bytes { result ≡ self.old.bytes.items }
+        ensures left { self.new.bytes.items ≡ [] }
     {
         let none = Vec::new(*self.bytes.allocator());
         Bytes::from_vec(replace(&mut self.bytes, none))
