@@ -1,5 +1,5 @@
 -- Parts that are put to their places one after another.
-use Rattle.std.proofs.Common.{◌≡◌, ℕ, ◌+◌, ◌-◌, ◌<◌, ◌≤◌, cond, List, [], ◌∷◌, ◌++◌, length, get_or, take, drop, min, max, refl, sym, ap, ◌∙◌, subst, arith, add-one, drop-cons}
+use Rattle.std.proofs.Common.{◌≡◌, ℕ, ◌+◌, ◌-◌, ◌<◌, ◌≤◌, cond, List, ◌++◌, length, get_or, take, drop, max, arith}
 use Rattle.std.proofs.lemmas.List.{places}
 use Rattle.std.proofs.lemmas.List.FromFn.{fill_by_all}
 use Rattle.rbd_kinds.specs.declared.layout.Extent.{Extent}
@@ -8,8 +8,7 @@ use Rattle.rbd_layout.specs.Pieces.{IsPieces}
 use Rattle.rbd_layout.specs.declared.types.Piece.{Piece}
 use Rattle.rbd_layout.proofs.Within.{lies_in}
 use Rattle.rbd_object.specs.Parts.{AreBehind, EndBefore}
-use Rattle.rbd_object.specs.Contents.{window, overwritten, is_within}
-use Rattle.rbd_request.specs.Arrange.{put_parts, behind_parts}
+use Rattle.rbd_object.specs.Contents.{overwritten, is_within}
 
 pub put_between : (old new front back : List ℕ) (start count : ℕ) → count ≡ length new → front ≡ take start old → back ≡ drop count (drop start old) → start + count ≤ length old
     → front ++ (new ++ back) ≡ overwritten old start new

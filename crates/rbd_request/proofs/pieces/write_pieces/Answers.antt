@@ -1,4 +1,4 @@
-use Rattle.std.proofs.Common.{◌≡◌, ◌+◌, ◌≤◌, ◌∷◌, List, length, All, arith, sym, ap, ◌∙◌, subst}
+use Rattle.std.proofs.Common.{◌≡◌, ◌+◌, ◌≤◌, length, All, arith, sym, ap, ◌∙◌, subst}
 use Rattle.rbd_layout.proofs.Bounds.{few_bytes}
 use Rattle.rbd_layout.proofs.Listed.{pieces_of_alone}
 use Rattle.rbd_layout.specs.Pieces.{pieces_of}
