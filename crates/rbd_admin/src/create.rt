@@ -1,6 +1,6 @@
 //! `create`
-ghost use Rattle.std.specs.Prelude.{◌≡◌, ℕ, true, None, IfOk};
-ghost use Rattle.rbd_machine.specs.Plan.{Plan, IsAsking, Notes, without_labels};
+ghost use Rattle.std.specs.Prelude.{◌≡◌, ℕ, true, None};
+ghost use Rattle.rbd_machine.specs.Plan.{Plan, IsAsking, without_labels};
 ghost use Rattle.rbd_machine.specs.Steps.{going};
 ghost use Rattle.rbd_admin.specs.Create.{is_create, on_drawn, rest_of_create, IsCreate, IsCreatePlan, refusal_at};
 

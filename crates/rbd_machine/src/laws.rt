@@ -1,5 +1,5 @@
 //! What plans mean: laws, each the contract of a function that does nothing.
-ghost use Rattle.std.specs.Prelude.{ℕ, ◌≤◌, ◌≡◌, ◌+◌, List, length, Bool, Option};
+ghost use Rattle.std.specs.Prelude.{ℕ, ◌≤◌, ◌+◌, List, length, Bool, Option};
 ghost use Rattle.rbd_kinds.specs.declared.header.HeaderView.{HeaderView};
 ghost use Rattle.rbd_kinds.specs.declared.id.SiteId.{SiteId};
 ghost use Rattle.rbd_kinds.specs.declared.refusal.Refusal.{Refusal};

@@ -1,5 +1,5 @@
 //! `read`
-ghost use Rattle.std.specs.Prelude.{◌≡◌, ◌==◌, ℕ, true, false, Option, Some, None, List, [], IfOk, OnOk, OnErr};
+ghost use Rattle.std.specs.Prelude.{◌≡◌, ◌==◌, ℕ, true, Option, Some, None, List, [], IfOk, OnOk, OnErr};
 ghost use Rattle.rbd_kinds.specs.declared.machine.Fed.TheVariants as fed_with;
 ghost use Rattle.rbd_kinds.specs.declared.header.HeaderView.{HeaderView};
 ghost use Rattle.rbd_kinds.specs.Form.{IsHeaderInForm};
@@ -7,8 +7,7 @@ ghost use Rattle.rbd_header.specs.Header.{view_of as named_view};
 ghost use Rattle.rbd_header.specs.declared.view.View.{View};
 ghost use Rattle.rbd_layout.specs.Pieces.{pieces_of};
 ghost use Rattle.rbd_piece.specs.Gather.{gather as gathered, rest_of_gather};
-ghost use Rattle.rbd_machine.specs.Plan.{Plan, Wants, Asks, GoesOn, plan_after};
-ghost use Rattle.rbd_machine.specs.Ready.{IsReadyFor};
+ghost use Rattle.rbd_machine.specs.Plan.{Plan, GoesOn, plan_after};
 ghost use Rattle.rbd_machine.specs.Steps.{going};
 ghost use Rattle.rbd_request.specs.Read as of_read;
 ghost use Rattle.rbd_request.specs.Seen as of_seen;
@@ -18,10 +17,7 @@ ghost use Rattle.rbd_request.specs.declared.read.Phase.TheVariants as phase;
 use crate::extent::out_of_range as refused_range;
 use crate::looked::Looked;
 use rbd_header::{View, view_of};
-use rbd_kinds::{
-    Answer, Bytes, Command, DirectoryOp, Event, Extent, Fed, HeaderOp, HeaderView, ImageId, Layout,
-    Name, NoMemory, Op, OpKind, Refusal, Reply, SiteId, TryClone, Turn, Want,
-};
+use rbd_kinds::{Answer, Bytes, Command, Event, Extent, Fed, HeaderView, ImageId, Name, NoMemory, Op, OpKind, Refusal, Reply, SiteId, TryClone, Turn, Want};
 use rbd_layout::pieces;
 use rbd_machine::{Machine, Progress, dir_find, header_get, refusal_of, told_header, told_image};
 use rbd_piece::Gather;

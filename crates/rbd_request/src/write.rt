@@ -1,15 +1,13 @@
 //! `write` and `fill`
-ghost use Rattle.std.specs.Prelude.{◌≡◌, ℕ, ◌+◌, ◌≤◌, true, length, replicate, Option, IfOk, OnOk};
+ghost use Rattle.std.specs.Prelude.{◌≡◌, true, replicate, Option, IfOk};
 ghost use Rattle.rbd_kinds.specs.declared.header.HeaderView.{HeaderView};
 ghost use Rattle.rbd_kinds.specs.declared.refusal.Refusal.{Refusal};
-ghost use Rattle.rbd_kinds.specs.Form.{IsHeaderInForm};
-ghost use Rattle.rbd_layout.specs.Pieces.{pieces_of, IsPieces, IsPartsOf};
 ghost use Rattle.rbd_machine.specs.Plan.{Plan, Goto, without_labels, Wants, GoesOn, plan_after};
 ghost use Rattle.rbd_machine.specs.Ready.{IsReadyFor};
 ghost use Rattle.rbd_kinds.specs.declared.machine.Fed.TheVariants as fed_with;
 ghost use Rattle.rbd_request.specs.declared.write.Stage.TheVariants as stage;
 ghost use Rattle.rbd_machine.specs.Steps.{Progresses};
-ghost use Rattle.rbd_piece.specs.Write.{write_piece, rest_of_write};
+ghost use Rattle.rbd_piece.specs.Write.{rest_of_write};
 ghost use Rattle.rbd_request.specs.Write as of_write;
 
 use crate::extent::out_of_range;
@@ -18,9 +16,7 @@ use rbd_kinds::{
     Answer, Bytes, Command, Event, Extent, Fed, FillLength, HeaderView, ImageId, Name, NoMemory,
     Op, Refusal, Reply, SiteId, TryClone, Turn, Want,
 };
-use rbd_layout::{Piece, pieces};
 use rbd_machine::{Approach, Course, Machine, Progress, Refuses, non_primary};
-use rbd_object::{gather, shifted_parts};
 use rbd_piece::WritePiece;
 use std::alloc::Global;
 use std::collections::VecDeque;

@@ -1,4 +1,4 @@
-use Rattle.std.proofs.Common.{ℕ, ◌<◌, ◌≤◌, [], None, false, refl, sym, subst, arith}
+use Rattle.std.proofs.Common.{ℕ, ◌≤◌, [], None, false, refl, sym, subst, arith}
 use Rattle.rbd_kinds.specs.declared.header.HeaderView.{HeaderView}
 use Rattle.rbd_kinds.specs.declared.header.Role.{Role}
 use Rattle.rbd_kinds.specs.Form.{IsHeaderInForm}
