@@ -4,7 +4,10 @@ ghost use Rattle.rbd_kinds.specs.declared.machine.Fed.TheVariants as fed_with;
 ghost use Rattle.rbd_machine.specs.Plan.{GoesOn, Goto, plan_after, without_labels};
 ghost use Rattle.rbd_admin.specs.Listing.{is_listing, listing_plan, rest_of_list, reply_of, HasReply, IsReadied};
 
-use rbd_kinds::{Answer, Command, DirectoryOp, Event, Fed, HeaderView, ImageId, Name, NoMemory, Op, OpKind, Reply, SiteId, TryClone, Turn, Want};
+use rbd_kinds::{
+    Answer, Command, DirectoryOp, Event, Fed, HeaderView, ImageId, Name, NoMemory, Op, OpKind,
+    Reply, SiteId, TryClone, Turn, Want,
+};
 use rbd_machine::{Machine, dir_find, header_get, refusal_of, told_image};
 use std::alloc::Global;
 

@@ -17,7 +17,10 @@ ghost use Rattle.rbd_request.specs.declared.read.Phase.TheVariants as phase;
 use crate::extent::out_of_range as refused_range;
 use crate::looked::Looked;
 use rbd_header::{View, view_of};
-use rbd_kinds::{Answer, Bytes, Command, Event, Extent, Fed, HeaderView, ImageId, Name, NoMemory, Op, OpKind, Refusal, Reply, SiteId, TryClone, Turn, Want};
+use rbd_kinds::{
+    Answer, Bytes, Command, Event, Extent, Fed, HeaderView, ImageId, Name, NoMemory, Op, OpKind,
+    Refusal, Reply, SiteId, TryClone, Turn, Want,
+};
 use rbd_layout::pieces;
 use rbd_machine::{Machine, Progress, dir_find, header_get, refusal_of, told_header, told_image};
 use rbd_piece::Gather;
