@@ -1,4 +1,5 @@
 pub mod Arranged
 pub mod Bounded
 pub mod Looks
+pub mod Passes
 pub mod Writes

@@ -1,4 +1,5 @@
 pub mod Arrange
 pub mod Read
 pub mod Seen
+pub mod Shows
 pub mod Write

@@ -4,7 +4,11 @@ ghost use Rattle.rbd_kinds.specs.declared.header.HeaderView.{HeaderView};
 ghost use Rattle.rbd_kinds.specs.declared.id.SiteId.{SiteId};
 ghost use Rattle.rbd_kinds.specs.declared.layout.Extent.{Extent};
 ghost use Rattle.rbd_layout.specs.Pieces.{pieces_of};
-ghost use Rattle.rbd_machine.specs.Path.{IsBounded};
+ghost use Rattle.rbd_kinds.specs.declared.machine.Fed.{Fed};
+ghost use Rattle.rbd_kinds.specs.declared.reply.Reply.TheVariants.{Bytes};
+ghost use Rattle.rbd_machine.specs.Path.{Answered, IsBounded, IsWalk};
+ghost use Rattle.rbd_machine.specs.Plan.{Goto, Return};
+ghost use Rattle.rbd_request.specs.Shows.{ShowsBetween};
 ghost use Rattle.rbd_request.specs.Read.{pass};
 ghost use Rattle.rbd_request.specs.Write.{extent_at, put, write};
 
@@ -23,4 +27,11 @@ pub fn passes_are_bounded()
     ensures { (site : SiteId) (name : List ℕ) (snap : Option (List ℕ)) (e : Extent) (most : ℕ)
         → ((h : HeaderView) → length (pieces_of h.layout e) ≤ most)
         → IsBounded (pass site name snap e) (most + 3) }
+{}
+
+/// A read shows bytes only at the end of a pass between two looks at a header that didn't change, and they are what
+/// that pass read of each piece by the first look, in the order of the image.
+pub fn bytes_are_shown_between_looks()
+    ensures { (site : SiteId) (name : List ℕ) (snap : Option (List ℕ)) (e : Extent) (feds : List Fed) (steps : List Answered) (bytes : List ℕ)
+        → IsWalk Goto (pass site name snap e) feds steps (Return (Bytes bytes)) → ShowsBetween site name snap e steps bytes }
 {}
