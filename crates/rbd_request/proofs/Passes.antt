@@ -26,77 +26,18 @@ use Rattle.rbd_header.specs.declared.view.View.{View}
 use Rattle.rbd_machine.specs.Path.{Answered, IsFirstStep, IsWalk}
 use Rattle.rbd_machine.specs.Plan.{Plan, Ask, Await, Note, Return, Goto, settled}
 use Rattle.rbd_machine.specs.Steps.{not_there, unless, on_id, on_header, find, look}
-use Rattle.rbd_machine.proofs.Settled.{settled_goto}
+use Rattle.rbd_request.proofs.Walked.{ended, went_on, told_image, told_header, refusal_ends_otherwise, nothing_ends_otherwise, jump_ends_otherwise}
 use Rattle.rbd_piece.specs.Gather.{gather, data_read, on_bytes}
 use Rattle.rbd_request.specs.Read.{pass, looking, reading, viewing, gathering, closing, on_closing}
 use Rattle.rbd_request.specs.Seen.{Seen, seen_at, shown}
 use Rattle.rbd_request.specs.Shows.{ShowsBetween, AreRead, bytes_read, bytes_shown, found, looked_at}
 use Rattle.rbd_request.specs.Write.{out_of_range}
 
--- ---- ends
-
--- what has ended goes no further
-ended : (r : Reply) (feds : List Fed) (steps : List Answered) (last : Plan) → IsWalk Goto (Return r) feds steps last → (steps ≡ []) × (last ≡ Return r)
-ended r [] steps last walk = walk
-ended r (f ∷ more) steps last walk = absurd walk
-
--- a refusal shows no bytes, and neither does a jump
-refused_shows_nothing : (a : Answer) (feds : List Fed) (steps : List Answered) (bytes : List ℕ) → IsWalk Goto (not_there a) feds steps (Return (reply.Bytes bytes)) → ⊥
-refused_shows_nothing a feds steps bytes walk = go a walk
-  where
-    none : (r : Refusal) → IsWalk Goto (Return (reply.Refused r)) feds steps (Return (reply.Bytes bytes)) → ⊥
-    none r w = let same = (ended (reply.Refused r) feds steps (Return (reply.Bytes bytes)) w).1 in cc
-
-    go : (a : Answer) → IsWalk Goto (not_there a) feds steps (Return (reply.Bytes bytes)) → ⊥
-    go answer.Fenced w = none _ w
-    go _ w = none _ w
-
-refusal_shows_nothing : (r : Refusal) (feds : List Fed) (steps : List Answered) (bytes : List ℕ) → IsWalk Goto (Return (reply.Refused r)) feds steps (Return (reply.Bytes bytes)) → ⊥
-refusal_shows_nothing r feds steps bytes w = let same = (ended (reply.Refused r) feds steps (Return (reply.Bytes bytes)) w).1 in cc
-
-jump_shows_nothing : (label : ℕ) (feds : List Fed) (steps : List Answered) (bytes : List ℕ) → IsWalk Goto (Goto label) feds steps (Return (reply.Bytes bytes)) → ⊥
-jump_shows_nothing label [] steps bytes walk = let same = walk.1 in cc
-jump_shows_nothing label (f ∷ more) steps bytes walk = absurd walk
-
--- ---- one operation
-
-record WentOn (site : SiteId) (op : Op) (next : Answer → Plan) (steps : List Answered) (bytes : List ℕ) : Type 0 where
-  pub answer : Answer
-  pub more : List Fed
-  pub rest : List Answered
-  pub are : steps ≡ record { site = site; op = op; answer = answer } ∷ rest
-  pub walk : IsWalk Goto (next answer) more rest (Return (reply.Bytes bytes))
-
-went_on : (site : SiteId) (op : Op) (next : Answer → Plan) (feds : List Fed) (steps : List Answered) (bytes : List ℕ) → IsWalk Goto (Ask site op next) feds steps (Return (reply.Bytes bytes)) → WentOn site op next steps bytes
-went_on site op next [] steps bytes walk = let same = walk.1 in cc
-went_on site op next (fed.Passed ∷ more) steps bytes walk = absurd walk
-went_on site op next (fed.Answer a ∷ more) steps bytes (first, walk) = record {
-  answer = a;
-  more = more;
-  rest = first.rest;
-  are = first.is;
-  walk = subst (λ p. IsWalk Goto p more first.rest (Return (reply.Bytes bytes))) (settled_goto (next a)) walk;
-}
+-- bytes are no refusal
+shown_isnt_refused : (bytes : List ℕ) (x : Refusal) → reply.Bytes bytes ≡ reply.Refused x → ⊥
+shown_isnt_refused bytes x same = cc
 
 -- ---- what an answer told
-
-record ToldImage (next : ℕ → Plan) (a : Answer) (feds : List Fed) (steps : List Answered) (bytes : List ℕ) : Type 0 where
-  pub image : ℕ
-  pub is : a ≡ answer.Id image
-  pub walk : IsWalk Goto (next image) feds steps (Return (reply.Bytes bytes))
-
-told_image : (next : ℕ → Plan) (a : Answer) (feds : List Fed) (steps : List Answered) (bytes : List ℕ) → IsWalk Goto (on_id next a) feds steps (Return (reply.Bytes bytes)) → ToldImage next a feds steps bytes
-told_image next (answer.Id image) feds steps bytes walk = record { image = image; is = refl; walk = walk }
-told_image next a feds steps bytes walk = absurd (refused_shows_nothing a feds steps bytes walk)
-
-record ToldHeader (next : HeaderView → Plan) (a : Answer) (feds : List Fed) (steps : List Answered) (bytes : List ℕ) : Type 0 where
-  pub header : HeaderView
-  pub is : a ≡ answer.Header header
-  pub walk : IsWalk Goto (next header) feds steps (Return (reply.Bytes bytes))
-
-told_header : (next : HeaderView → Plan) (a : Answer) (feds : List Fed) (steps : List Answered) (bytes : List ℕ) → IsWalk Goto (on_header next a) feds steps (Return (reply.Bytes bytes)) → ToldHeader next a feds steps bytes
-told_header next (answer.Header h) feds steps bytes walk = record { header = h; is = refl; walk = walk }
-told_header next a feds steps bytes walk = absurd (refused_shows_nothing a feds steps bytes walk)
 
 record ToldBytes (parts : List Part) (next : List ℕ → Plan) (a : Answer) (feds : List Fed) (steps : List Answered) (bytes : List ℕ) : Type 0 where
   pub told : List ℕ
@@ -106,7 +47,7 @@ record ToldBytes (parts : List Part) (next : List ℕ → Plan) (a : Answer) (fe
 told_bytes : (parts : List Part) (next : List ℕ → Plan) (a : Answer) (feds : List Fed) (steps : List Answered) (bytes : List ℕ) → IsWalk Goto (on_bytes parts next a) feds steps (Return (reply.Bytes bytes)) → ToldBytes parts next a feds steps bytes
 told_bytes parts next (answer.Bytes told) feds steps bytes walk = record { told = told; is = refl; walk = walk }
 told_bytes parts next answer.Absent feds steps bytes walk = record { told = replicate (parts_len parts) 0; is = refl; walk = walk }
-told_bytes parts next a feds steps bytes walk = absurd (refused_shows_nothing a feds steps bytes walk)
+told_bytes parts next a feds steps bytes walk = absurd (nothing_ends_otherwise (reply.Bytes bytes) (shown_isnt_refused bytes) a feds steps walk)
 
 -- ---- the pieces
 
@@ -130,12 +71,12 @@ gathered [] site image snap got next feds steps bytes walk = record {
 }
 gathered (p ∷ pieces) site image snap got next feds steps bytes walk =
     let k : List ℕ → Plan = λ more. gather site image snap pieces (got ++ more) next in
-    let w = went_on site (data_read image snap p) (on_bytes p.parts k) feds steps bytes walk in
+    let w = went_on (reply.Bytes bytes) (shown_isnt_refused bytes) site (data_read image snap p) (on_bytes p.parts k) feds steps walk in
     let t = told_bytes p.parts k w.answer w.more w.rest bytes w.walk in
     let later = gathered pieces site image snap (got ++ t.told) next w.more w.rest bytes t.walk in
     let step : Answered = record { site = site; op = data_read image snap p; answer = w.answer } in
     let all : (got ++ t.told) ++ bytes_read pieces later.reads ≡ got ++ bytes_read (p ∷ pieces) (step ∷ later.reads) =
-        append_assoc got t.told (bytes_read pieces later.reads) ∙ ap (λ o. got ++ (unwrap_or o [] ++ bytes_read pieces later.reads)) (sym t.is) in
+    append_assoc got t.told (bytes_read pieces later.reads) ∙ ap (λ o. got ++ (unwrap_or o [] ++ bytes_read pieces later.reads)) (sym t.is) in
     record {
       reads = step ∷ later.reads;
       rest = later.rest;
@@ -156,7 +97,7 @@ record Closed (site : SiteId) (image : ℕ) (seen : Seen) (read : List ℕ) (ste
 closed : (site : SiteId) (image : ℕ) (seen : Seen) (read : List ℕ) (feds : List Fed) (steps : List Answered) (bytes : List ℕ)
     → IsWalk Goto (closing site image seen read) feds steps (Return (reply.Bytes bytes)) → Closed site image seen read steps bytes
 closed site image seen read feds steps bytes walk =
-    let w = went_on site (op.Header image header.Get) (on_closing seen read) feds steps bytes walk in
+    let w = went_on (reply.Bytes bytes) (shown_isnt_refused bytes) site (op.Header image header.Get) (on_closing seen read) feds steps walk in
     go w.answer w.more w.rest w.are w.walk
   where
     at_header : (h : HeaderView) (more : List Fed) (rest : List Answered) (b : Bool) → eqb h.generation seen.generation ≡ b → steps ≡ looked_at site image h ∷ rest
@@ -166,31 +107,32 @@ closed site image seen read feds steps bytes walk =
         let none : rest ≡ [] = end.0 in
         let reply = end.1 in
         record { closing = h; are = are ∙ ap (λ s. looked_at site image h ∷ s) none; same = grind (arith, nat_tests); shows = cc }
-    at_header h more rest false same are w = absurd (jump_shows_nothing 0 more rest bytes w)
+    at_header h more rest false same are w = absurd (jump_ends_otherwise (reply.Bytes bytes) (shown_isnt_refused bytes) 0 more rest w)
 
     go : (a : Answer) (more : List Fed) (rest : List Answered) → steps ≡ record { site = site; op = op.Header image header.Get; answer = a } ∷ rest
         → IsWalk Goto (on_closing seen read a) more rest (Return (reply.Bytes bytes)) → Closed site image seen read steps bytes
     go (answer.Header h) more rest are w = at_header h more rest (eqb h.generation seen.generation) refl are w
-    go answer.Absent more rest are w = absurd (jump_shows_nothing 0 more rest bytes w)
-    go a more rest are w = absurd (refused_shows_nothing a more rest bytes w)
+    go answer.Absent more rest are w = absurd (jump_ends_otherwise (reply.Bytes bytes) (shown_isnt_refused bytes) 0 more rest w)
+    go a more rest are w = absurd (nothing_ends_otherwise (reply.Bytes bytes) (shown_isnt_refused bytes) a more rest w)
 
 -- ---- the pass
 
 pub pass_shows : (site : SiteId) (name : List ℕ) (snap : Option (List ℕ)) (e : Extent) (feds : List Fed) (steps : List Answered) (bytes : List ℕ)
     → IsWalk Goto (pass site name snap e) feds steps (Return (reply.Bytes bytes)) → ShowsBetween site name snap e steps bytes
 pass_shows site name snap e feds steps bytes walk =
-    let w = went_on site (op.Directory (directory.Find name)) (on_id (looking site snap e)) feds steps bytes walk in
-    let i = told_image (looking site snap e) w.answer w.more w.rest bytes w.walk in
-    let v = went_on site (op.Header i.image header.Get) (on_header (reading site snap e i.image)) w.more w.rest bytes i.walk in
-    let h = told_header (reading site snap e i.image) v.answer v.more v.rest bytes v.walk in
+    let r = reply.Bytes bytes in
+    let w = went_on r (shown_isnt_refused bytes) site (op.Directory (directory.Find name)) (on_id (looking site snap e)) feds steps walk in
+    let i = told_image r (shown_isnt_refused bytes) (looking site snap e) w.answer w.more w.rest w.walk in
+    let v = went_on r (shown_isnt_refused bytes) site (op.Header i.image header.Get) (on_header (reading site snap e i.image)) w.more w.rest i.walk in
+    let h = told_header r (shown_isnt_refused bytes) (reading site snap e i.image) v.answer v.more v.rest v.walk in
     let begins : steps ≡ found site name i.image ∷ looked_at site i.image h.header ∷ v.rest =
-        w.are ∙ ap (λ a. record { site = site; op = op.Directory (directory.Find name); answer = a } ∷ w.rest) i.is
-        ∙ ap (λ s. found site name i.image ∷ s) (v.are ∙ ap (λ a. record { site = site; op = op.Header i.image header.Get; answer = a } ∷ v.rest) h.is) in
+    w.are ∙ ap (λ a. record { site = site; op = op.Directory (directory.Find name); answer = a } ∷ w.rest) i.is
+    ∙ ap (λ s. found site name i.image ∷ s) (v.are ∙ ap (λ a. record { site = site; op = op.Header i.image header.Get; answer = a } ∷ v.rest) h.is) in
     at_view i.image h.header v.more v.rest begins (view_of h.header snap) refl h.walk
   where
     at_range : (image : ℕ) (first : HeaderView) (more : List Fed) (rest : List Answered) (view : View) → steps ≡ found site name image ∷ looked_at site image first ∷ rest → view_of first snap ≡ Some view
         → (r : Option Refusal) → out_of_range e view.size ≡ r → IsWalk Goto (unless r (gathering site image first e view)) more rest (Return (reply.Bytes bytes)) → ShowsBetween site name snap e steps bytes
-    at_range image first more rest view begins viewed (Some r) fits w = absurd (refusal_shows_nothing r more rest bytes w)
+    at_range image first more rest view begins viewed (Some r) fits w = absurd (refusal_ends_otherwise (reply.Bytes bytes) (shown_isnt_refused bytes) r more rest w)
     at_range image first more rest view begins viewed None fits w =
         let g = gathered (pieces_of first.layout e) site image view.snap [] (closing site image (seen_at first e)) more rest bytes w in
         let c = closed site image (seen_at first e) (bytes_read (pieces_of first.layout e) g.reads) g.more g.rest bytes g.walk in
@@ -210,5 +152,5 @@ pass_shows site name snap e feds steps bytes walk =
 
     at_view : (image : ℕ) (first : HeaderView) (more : List Fed) (rest : List Answered) → steps ≡ found site name image ∷ looked_at site image first ∷ rest
         → (view : Option View) → view_of first snap ≡ view → IsWalk Goto (viewing site image first e view) more rest (Return (reply.Bytes bytes)) → ShowsBetween site name snap e steps bytes
-    at_view image first more rest begins None viewed w = absurd (refusal_shows_nothing refusal.NoSnap more rest bytes w)
+    at_view image first more rest begins None viewed w = absurd (refusal_ends_otherwise (reply.Bytes bytes) (shown_isnt_refused bytes) refusal.NoSnap more rest w)
     at_view image first more rest begins (Some view) viewed w = at_range image first more rest view begins viewed (out_of_range e view.size) refl w

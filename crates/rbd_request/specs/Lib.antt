@@ -3,3 +3,4 @@ pub mod Read
 pub mod Seen
 pub mod Shows
 pub mod Write
+pub mod Writes

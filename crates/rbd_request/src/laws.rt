@@ -1,14 +1,15 @@
-//! How many operations requests have: laws, each the contract of a function that does nothing.
+//! What requests do to their end, and by how many operations: laws, each the contract of a function that does nothing.
 ghost use Rattle.std.specs.Prelude.{ℕ, ◌+◌, ◌≤◌, List, length, Option};
 ghost use Rattle.rbd_kinds.specs.declared.header.HeaderView.{HeaderView};
 ghost use Rattle.rbd_kinds.specs.declared.id.SiteId.{SiteId};
 ghost use Rattle.rbd_kinds.specs.declared.layout.Extent.{Extent};
 ghost use Rattle.rbd_layout.specs.Pieces.{pieces_of};
 ghost use Rattle.rbd_kinds.specs.declared.machine.Fed.{Fed};
-ghost use Rattle.rbd_kinds.specs.declared.reply.Reply.TheVariants.{Bytes};
+ghost use Rattle.rbd_kinds.specs.declared.reply.Reply.TheVariants.{Bytes, Done};
 ghost use Rattle.rbd_machine.specs.Path.{Answered, IsBounded, IsWalk};
 ghost use Rattle.rbd_machine.specs.Plan.{Goto, Return};
 ghost use Rattle.rbd_request.specs.Shows.{ShowsBetween};
+ghost use Rattle.rbd_request.specs.Writes.{WritesWhole};
 ghost use Rattle.rbd_request.specs.Read.{pass};
 ghost use Rattle.rbd_request.specs.Write.{extent_at, put, write};
 
@@ -34,4 +35,11 @@ pub fn passes_are_bounded()
 pub fn bytes_are_shown_between_looks()
     ensures { (site : SiteId) (name : List ℕ) (snap : Option (List ℕ)) (e : Extent) (feds : List Fed) (steps : List Answered) (bytes : List ℕ)
         → IsWalk Goto (pass site name snap e) feds steps (Return (Bytes bytes)) → ShowsBetween site name snap e steps bytes }
+{}
+
+/// A write is done only when each of its pieces was written by its own look, under the snapshot context of that look,
+/// and it has done nothing else but to look up its image and look at its header.
+pub fn writes_are_whole()
+    ensures { (site : SiteId) (name : List ℕ) (at : ℕ) (bytes : List ℕ) (feds : List Fed) (steps : List Answered)
+        → IsWalk Goto (write site name at bytes) feds steps (Return Done) → WritesWhole site name at bytes steps }
 {}

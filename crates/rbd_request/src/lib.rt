@@ -41,6 +41,9 @@
 //! each stage (`rest_at`). `specs/Seen.antt`: what a read keeps of the header, and the bytes that it shows (`shown`).
 //! `specs/Arrange.antt`: how bytes that came object by object are put in the order of the image. `specs/Read.antt`: a
 //! pass over the objects between two looks (`pass`), its closing look (`on_closing`), and where it stands (`rest_at`).
+//! [`laws`] says what such plans come to: a write is done only when each of its pieces was written by its own look
+//! (`specs/Writes.antt`), a read shows bytes only between two looks at a header that didn't change (`specs/Shows.antt`), and
+//! how many operations they have.
 //!
 //! # Cost
 //!

@@ -1,0 +1,95 @@
+-- What a request that isn't refused was fed, step by step.
+use Rattle.std.proofs.Common.{◌≡◌, ℕ, List, [], ◌∷◌, Option, Some, None, refl, sym, ap, ◌∙◌, subst}
+use Rattle.rbd_kinds.specs.declared.answer.Answer.{Answer}
+use Rattle.rbd_kinds.specs.declared.answer.Answer.TheVariants as answer
+use Rattle.rbd_kinds.specs.declared.header.HeaderView.{HeaderView}
+use Rattle.rbd_kinds.specs.declared.id.SiteId.{SiteId}
+use Rattle.rbd_kinds.specs.declared.journal.Event.{Event}
+use Rattle.rbd_kinds.specs.declared.machine.Fed.{Fed}
+use Rattle.rbd_kinds.specs.declared.machine.Fed.TheVariants as fed
+use Rattle.rbd_kinds.specs.declared.machine.Want.{Want}
+use Rattle.rbd_kinds.specs.declared.operation.Op.{Op}
+use Rattle.rbd_kinds.specs.declared.refusal.Refusal.{Refusal}
+use Rattle.rbd_kinds.specs.declared.reply.Reply.{Reply}
+use Rattle.rbd_kinds.specs.declared.reply.Reply.TheVariants as reply
+use Rattle.rbd_machine.specs.Path.{Answered, IsWalk}
+use Rattle.rbd_machine.specs.Plan.{Plan, Ask, Await, Note, Return, Goto}
+use Rattle.rbd_machine.specs.Steps.{not_there, unless, on_id, on_header, on_done}
+use Rattle.rbd_machine.proofs.Settled.{settled_goto}
+
+-- what has ended goes no further
+pub ended : (r : Reply) (feds : List Fed) (steps : List Answered) (last : Plan) → IsWalk Goto (Return r) feds steps last → (steps ≡ []) × (last ≡ Return r)
+ended r [] steps last walk = walk
+ended r (f ∷ more) steps last walk = absurd walk
+
+-- an operation, its answer, and what came then
+pub record WentOn (r : Reply) (site : SiteId) (op : Op) (next : Answer → Plan) (steps : List Answered) : Type 0 where
+  pub answer : Answer
+  pub more : List Fed
+  pub rest : List Answered
+  pub are : steps ≡ record { site = site; op = op; answer = answer } ∷ rest
+  pub walk : IsWalk Goto (next answer) more rest (Return r)
+
+pub record ToldImage (r : Reply) (next : ℕ → Plan) (a : Answer) (feds : List Fed) (steps : List Answered) : Type 0 where
+  pub image : ℕ
+  pub is : a ≡ answer.Id image
+  pub walk : IsWalk Goto (next image) feds steps (Return r)
+
+pub record ToldHeader (r : Reply) (next : HeaderView → Plan) (a : Answer) (feds : List Fed) (steps : List Answered) : Type 0 where
+  pub header : HeaderView
+  pub is : a ≡ answer.Header header
+  pub walk : IsWalk Goto (next header) feds steps (Return r)
+
+pub record ToldDone (r : Reply) (next : Plan) (a : Answer) (feds : List Fed) (steps : List Answered) : Type 0 where
+  pub is : a ≡ answer.Done
+  pub walk : IsWalk Goto next feds steps (Return r)
+
+pub record Passed (r : Reply) (next : Plan) (steps : List Answered) : Type 0 where
+  pub more : List Fed
+  pub walk : IsWalk Goto next more steps (Return r)
+
+-- a reply that is no refusal
+module _ (r : Reply) (kind : (x : Refusal) → r ≡ reply.Refused x → ⊥) where
+  pub refusal_ends_otherwise : (x : Refusal) (feds : List Fed) (steps : List Answered) → IsWalk Goto (Return (reply.Refused x)) feds steps (Return r) → ⊥
+  refusal_ends_otherwise x feds steps w = let same = (ended (reply.Refused x) feds steps (Return r) w).1 in kind x cc
+
+  pub nothing_ends_otherwise : (a : Answer) (feds : List Fed) (steps : List Answered) → IsWalk Goto (not_there a) feds steps (Return r) → ⊥
+  nothing_ends_otherwise answer.Fenced feds steps w = refusal_ends_otherwise _ feds steps w
+  nothing_ends_otherwise _ feds steps w = refusal_ends_otherwise _ feds steps w
+
+  pub jump_ends_otherwise : (label : ℕ) (feds : List Fed) (steps : List Answered) → IsWalk Goto (Goto label) feds steps (Return r) → ⊥
+  jump_ends_otherwise label [] steps walk = let same = walk.1 in cc
+  jump_ends_otherwise label (f ∷ more) steps walk = absurd walk
+
+  pub went_on : (site : SiteId) (op : Op) (next : Answer → Plan) (feds : List Fed) (steps : List Answered) → IsWalk Goto (Ask site op next) feds steps (Return r) → WentOn r site op next steps
+  went_on site op next [] steps walk = let same = walk.1 in cc
+  went_on site op next (fed.Passed ∷ more) steps walk = absurd walk
+  went_on site op next (fed.Answer a ∷ more) steps (first, walk) = record {
+    answer = a;
+    more = more;
+    rest = first.rest;
+    are = first.is;
+    walk = subst (λ p. IsWalk Goto p more first.rest (Return r)) (settled_goto (next a)) walk;
+  }
+
+  pub awaited : (want : Want) (next : Plan) (feds : List Fed) (steps : List Answered) → IsWalk Goto (Await want next) feds steps (Return r) → Passed r next steps
+  awaited want next [] steps walk = let same = walk.1 in cc
+  awaited want next (fed.Answer a ∷ more) steps walk = absurd walk
+  awaited want next (fed.Passed ∷ more) steps walk = record { more = more; walk = subst (λ p. IsWalk Goto p more steps (Return r)) (settled_goto next) walk }
+
+  pub noted : (site : SiteId) (image : ℕ) (event : Event) (next : Plan) (feds : List Fed) (steps : List Answered) → IsWalk Goto (Note site image event next) feds steps (Return r) → Passed r next steps
+  noted site image event next [] steps walk = let same = walk.1 in cc
+  noted site image event next (fed.Answer a ∷ more) steps walk = absurd walk
+  noted site image event next (fed.Passed ∷ more) steps walk = record { more = more; walk = subst (λ p. IsWalk Goto p more steps (Return r)) (settled_goto next) walk }
+
+  pub told_image : (next : ℕ → Plan) (a : Answer) (feds : List Fed) (steps : List Answered) → IsWalk Goto (on_id next a) feds steps (Return r) → ToldImage r next a feds steps
+  told_image next (answer.Id image) feds steps walk = record { image = image; is = refl; walk = walk }
+  told_image next a feds steps walk = absurd (nothing_ends_otherwise a feds steps walk)
+
+  pub told_header : (next : HeaderView → Plan) (a : Answer) (feds : List Fed) (steps : List Answered) → IsWalk Goto (on_header next a) feds steps (Return r) → ToldHeader r next a feds steps
+  told_header next (answer.Header h) feds steps walk = record { header = h; is = refl; walk = walk }
+  told_header next a feds steps walk = absurd (nothing_ends_otherwise a feds steps walk)
+
+  pub told_done : (next : Plan) (a : Answer) (feds : List Fed) (steps : List Answered) → IsWalk Goto (on_done next a) feds steps (Return r) → ToldDone r next a feds steps
+  told_done next answer.Done feds steps walk = record { is = refl; walk = walk }
+  told_done next a feds steps walk = absurd (nothing_ends_otherwise a feds steps walk)

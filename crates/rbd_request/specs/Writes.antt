@@ -1,0 +1,34 @@
+-- When a write is done: behind two looks, with each of its pieces written by the second.
+use Rattle.std.specs.Prelude.{◌≡◌, ℕ, List, [], ◌∷◌, None}
+use Rattle.rbd_kinds.specs.declared.answer.Answer.TheVariants as answer
+use Rattle.rbd_kinds.specs.declared.header.HeaderView.{HeaderView}
+use Rattle.rbd_kinds.specs.declared.id.SiteId.{SiteId}
+use Rattle.rbd_layout.specs.Pieces.{pieces_of}
+use Rattle.rbd_layout.specs.declared.types.Piece.{Piece}
+use Rattle.rbd_object.specs.Parts.{bytes_for}
+use Rattle.rbd_header.specs.Header.{context_of}
+use Rattle.rbd_machine.specs.Path.{Answered}
+use Rattle.rbd_piece.specs.Write.{data_write}
+use Rattle.rbd_request.specs.Shows.{found, looked_at}
+use Rattle.rbd_request.specs.Write.{extent_at, write_refuses}
+
+-- a piece that was written, under the snapshot context of a header
+abbrev pub piece_written : SiteId → (image : ℕ) → HeaderView → (at : ℕ) → (bytes : List ℕ) → Piece → Answered
+piece_written site image h at bytes p =
+    record { site = site; op = data_write image (context_of h) p (bytes_for p.parts at bytes); answer = answer.Done }
+
+-- the pieces were written, one after another
+abbrev pub pieces_written : SiteId → (image : ℕ) → HeaderView → (at : ℕ) → (bytes : List ℕ) → List Piece → List Answered
+pieces_written site image h at bytes [] = []
+pieces_written site image h at bytes (p ∷ pieces) = piece_written site image h at bytes p ∷ pieces_written site image h at bytes pieces
+
+-- It found its image, looked at the header twice, and neither look refused it; then it wrote each piece of its extent
+-- by the second, its own, and nothing else.
+pub record WritesWhole (site : SiteId) (name : List ℕ) (at : ℕ) (bytes : List ℕ) (steps : List Answered) : Type 0 where
+  pub image : ℕ
+  pub first : HeaderView
+  pub own : HeaderView
+  pub may_wait : write_refuses (extent_at at bytes) first ≡ None
+  pub may : write_refuses (extent_at at bytes) own ≡ None
+  pub are : steps ≡ found site name image ∷ looked_at site image first ∷ looked_at site image own
+      ∷ pieces_written site image own at bytes (pieces_of own.layout (extent_at at bytes))
