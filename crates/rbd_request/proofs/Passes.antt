@@ -13,19 +13,16 @@ use Rattle.rbd_kinds.specs.declared.refusal.Refusal.TheVariants as refusal
 use Rattle.rbd_kinds.specs.declared.id.SiteId.{SiteId}
 use Rattle.rbd_kinds.specs.declared.layout.Extent.{Extent}
 use Rattle.rbd_kinds.specs.declared.machine.Fed.{Fed}
-use Rattle.rbd_kinds.specs.declared.machine.Fed.TheVariants as fed
-use Rattle.rbd_kinds.specs.declared.operation.Op.{Op}
 use Rattle.rbd_kinds.specs.declared.refusal.Refusal.{Refusal}
-use Rattle.rbd_kinds.specs.declared.reply.Reply.{Reply}
 use Rattle.rbd_kinds.specs.declared.reply.Reply.TheVariants as reply
 use Rattle.rbd_layout.specs.Pieces.{pieces_of}
 use Rattle.rbd_layout.specs.declared.types.Piece.{Piece}
 use Rattle.rbd_object.specs.Parts.{parts_len}
 use Rattle.rbd_header.specs.Header.{view_of}
 use Rattle.rbd_header.specs.declared.view.View.{View}
-use Rattle.rbd_machine.specs.Path.{Answered, IsFirstStep, IsWalk}
-use Rattle.rbd_machine.specs.Plan.{Plan, Ask, Await, Note, Return, Goto, settled}
-use Rattle.rbd_machine.specs.Steps.{not_there, unless, on_id, on_header, find, look}
+use Rattle.rbd_machine.specs.Path.{Answered, IsWalk}
+use Rattle.rbd_machine.specs.Plan.{Plan, Return, Goto}
+use Rattle.rbd_machine.specs.Steps.{unless, on_id, on_header}
 use Rattle.rbd_request.proofs.Walked.{ended, went_on, told_image, told_header, refusal_ends_otherwise, nothing_ends_otherwise, jump_ends_otherwise}
 use Rattle.rbd_piece.specs.Gather.{gather, data_read, on_bytes}
 use Rattle.rbd_request.specs.Read.{pass, looking, reading, viewing, gathering, closing, on_closing}
