@@ -1,13 +1,17 @@
 //! What the plans of requests keep to: laws, each the contract of a function that does nothing.
-ghost use Rattle.std.specs.Prelude.{ℕ};
+ghost use Rattle.std.specs.Prelude.{ℕ, List};
 ghost use Rattle.rbd_kinds.specs.declared.command.Command.{Command};
 ghost use Rattle.rbd_kinds.specs.declared.command.Command.TheVariants.{List as ListAll};
 ghost use Rattle.rbd_kinds.specs.declared.id.SiteId.{SiteId};
 ghost use Rattle.rbd_kinds.specs.declared.layout.Layout.{Layout};
 ghost use Rattle.rbd_kinds.specs.Form.{IsNewHeader};
 ghost use Rattle.rbd_layout.specs.Asked.{KeepsLimits};
-ghost use Rattle.rbd_machine.specs.Plan.{Plan};
-ghost use Rattle.rbd_machine.specs.Path.{IsBounded};
+ghost use Rattle.rbd_machine.specs.Plan.{Plan, Return, Goto};
+ghost use Rattle.rbd_kinds.specs.declared.command.Command.TheVariants.{SnapCreate, SnapRemove};
+ghost use Rattle.rbd_kinds.specs.declared.machine.Fed.{Fed};
+ghost use Rattle.rbd_kinds.specs.declared.reply.Reply.TheVariants.{Done};
+ghost use Rattle.rbd_machine.specs.Path.{Answered, IsBounded, IsWalk};
+ghost use Rattle.rbd_admin.specs.Whole.{TakesOne, RemovesOne};
 ghost use Rattle.rbd_admin.specs.Create.{IsCreatePlan};
 ghost use Rattle.rbd_header.specs.Header.{new_header};
 ghost use Rattle.rbd_admin.specs.Listing.{listing_plan};
@@ -36,4 +40,13 @@ pub fn snapshots_change_once()
 /// The header of a new image is one that a site may make.
 pub fn new_headers_are_in_form()
     ensures { (layout : Layout) (size : ℕ) → KeepsLimits layout size → IsNewHeader (new_header layout size) }
+{}
+
+/// A `snap create` is done only by one snapshot that was taken behind two looks, and a `snap rm` by the removal of the one
+/// snapshot that its own look listed under the name; neither look refused it.
+pub fn snapshots_change_behind_two_looks()
+    ensures taken { (site : SiteId) (image snap : List ℕ) (feds : List Fed) (steps : List Answered)
+        → IsWalk Goto (snap_plan site (SnapCreate image snap)) feds steps (Return Done) → TakesOne site image snap steps }
+    ensures removed { (site : SiteId) (image snap : List ℕ) (feds : List Fed) (steps : List Answered)
+        → IsWalk Goto (snap_plan site (SnapRemove image snap)) feds steps (Return Done) → RemovesOne site image snap steps }
 {}

@@ -1,10 +1,15 @@
 -- Paths: the operations of a request, with their answers, and how many they are.
 use Rattle.std.specs.Prelude.{◌≡◌, ℕ, zero, suc, List, [], ◌∷◌}
 use Rattle.rbd_kinds.specs.declared.answer.Answer.{Answer}
+use Rattle.rbd_kinds.specs.declared.answer.Answer.TheVariants as answer
+use Rattle.rbd_kinds.specs.declared.directory_op.DirectoryOp.TheVariants as directory
+use Rattle.rbd_kinds.specs.declared.header.HeaderView.{HeaderView}
+use Rattle.rbd_kinds.specs.declared.header_op.HeaderOp.TheVariants as header
 use Rattle.rbd_kinds.specs.declared.id.SiteId.{SiteId}
 use Rattle.rbd_kinds.specs.declared.machine.Fed.{Fed}
 use Rattle.rbd_kinds.specs.declared.machine.Fed.TheVariants as fed
 use Rattle.rbd_kinds.specs.declared.operation.Op.{Op}
+use Rattle.rbd_kinds.specs.declared.operation.Op.TheVariants as op
 use Rattle.rbd_machine.specs.Plan.{Plan, Ask, Await, Note, Return, Goto, settled}
 
 -- an operation that was done at a site, and its answer
@@ -12,6 +17,13 @@ pub record Answered : Type 0 where
   pub site : SiteId
   pub op : Op
   pub answer : Answer
+
+-- an image was found by its name, and a header was looked at
+abbrev pub found : SiteId → (name : List ℕ) → (image : ℕ) → Answered
+found site name image = record { site = site; op = op.Directory (directory.Find name); answer = answer.Id image }
+
+abbrev pub looked_at : SiteId → (image : ℕ) → HeaderView → Answered
+looked_at site image h = record { site = site; op = op.Header image header.Get; answer = answer.Header h }
 
 -- the plan at its next operation: what it waits for is passed over, and a label gone to
 abbrev pub at_operation : (ℕ → Plan) → Plan → Plan

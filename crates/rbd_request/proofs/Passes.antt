@@ -20,14 +20,14 @@ use Rattle.rbd_layout.specs.declared.types.Piece.{Piece}
 use Rattle.rbd_object.specs.Parts.{parts_len}
 use Rattle.rbd_header.specs.Header.{view_of}
 use Rattle.rbd_header.specs.declared.view.View.{View}
-use Rattle.rbd_machine.specs.Path.{Answered, IsWalk}
+use Rattle.rbd_machine.specs.Path.{Answered, IsWalk, found, looked_at}
 use Rattle.rbd_machine.specs.Plan.{Plan, Return, Goto}
 use Rattle.rbd_machine.specs.Steps.{unless, on_id, on_header}
-use Rattle.rbd_request.proofs.Walked.{ended, went_on, told_image, told_header, refusal_ends_otherwise, nothing_ends_otherwise, jump_ends_otherwise}
+use Rattle.rbd_machine.proofs.Walked.{ended, went_on, told_image, told_header, refusal_ends_otherwise, nothing_ends_otherwise, jump_ends_otherwise}
 use Rattle.rbd_piece.specs.Gather.{gather, data_read, on_bytes}
 use Rattle.rbd_request.specs.Read.{pass, looking, reading, viewing, gathering, closing, on_closing}
 use Rattle.rbd_request.specs.Seen.{Seen, seen_at, shown}
-use Rattle.rbd_request.specs.Shows.{ShowsBetween, AreRead, bytes_read, bytes_shown, found, looked_at}
+use Rattle.rbd_request.specs.Shows.{ShowsBetween, AreRead, bytes_read, bytes_shown}
 use Rattle.rbd_request.specs.Write.{out_of_range}
 
 -- bytes are no refusal

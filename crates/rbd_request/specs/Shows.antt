@@ -2,19 +2,16 @@
 use Rattle.std.specs.Prelude.{◌≡◌, ℕ, List, [], ◌∷◌, ◌++◌, replicate, Option, Some, None, IsSome, unwrap_or}
 use Rattle.rbd_kinds.specs.declared.answer.Answer.{Answer}
 use Rattle.rbd_kinds.specs.declared.answer.Answer.TheVariants as answer
-use Rattle.rbd_kinds.specs.declared.directory_op.DirectoryOp.TheVariants as directory
 use Rattle.rbd_kinds.specs.declared.header.HeaderView.{HeaderView}
-use Rattle.rbd_kinds.specs.declared.header_op.HeaderOp.TheVariants as header
 use Rattle.rbd_kinds.specs.declared.id.SiteId.{SiteId}
 use Rattle.rbd_kinds.specs.declared.layout.Extent.{Extent}
 use Rattle.rbd_kinds.specs.declared.layout.Part.{Part}
-use Rattle.rbd_kinds.specs.declared.operation.Op.TheVariants as op
 use Rattle.rbd_layout.specs.Pieces.{pieces_of}
 use Rattle.rbd_layout.specs.declared.types.Piece.{Piece}
 use Rattle.rbd_object.specs.Parts.{parts_len}
 use Rattle.rbd_header.specs.Header.{view_of}
 use Rattle.rbd_header.specs.declared.view.View.{View}
-use Rattle.rbd_machine.specs.Path.{Answered}
+use Rattle.rbd_machine.specs.Path.{Answered, found, looked_at}
 use Rattle.rbd_piece.specs.Gather.{data_read}
 use Rattle.rbd_request.specs.Seen.{seen_at, shown}
 use Rattle.rbd_request.specs.Write.{out_of_range}
@@ -36,12 +33,6 @@ AreRead site image snap _ _ = ⊥
 abbrev pub bytes_read : List Piece → List Answered → List ℕ
 bytes_read (p ∷ pieces) (step ∷ steps) = unwrap_or (bytes_shown p.parts step.answer) [] ++ bytes_read pieces steps
 bytes_read _ _ = []
-
-abbrev pub found : SiteId → (name : List ℕ) → (image : ℕ) → Answered
-found site name image = record { site = site; op = op.Directory (directory.Find name); answer = answer.Id image }
-
-abbrev pub looked_at : SiteId → (image : ℕ) → HeaderView → Answered
-looked_at site image h = record { site = site; op = op.Header image header.Get; answer = answer.Header h }
 
 -- It found its image and looked at the header, in which the extent fits into the view; it read each piece of the
 -- extent there; and it looked again, at a header with the same generation. The bytes are what it read.

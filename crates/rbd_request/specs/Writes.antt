@@ -7,9 +7,8 @@ use Rattle.rbd_layout.specs.Pieces.{pieces_of}
 use Rattle.rbd_layout.specs.declared.types.Piece.{Piece}
 use Rattle.rbd_object.specs.Parts.{bytes_for}
 use Rattle.rbd_header.specs.Header.{context_of}
-use Rattle.rbd_machine.specs.Path.{Answered}
+use Rattle.rbd_machine.specs.Path.{Answered, found, looked_at}
 use Rattle.rbd_piece.specs.Write.{data_write}
-use Rattle.rbd_request.specs.Shows.{found, looked_at}
 use Rattle.rbd_request.specs.Write.{extent_at, write_refuses}
 
 -- a piece that was written, under the snapshot context of a header

@@ -1,8 +1,12 @@
 -- What a request that isn't refused was fed, step by step.
-use Rattle.std.proofs.Common.{◌≡◌, ℕ, List, [], ◌∷◌, refl, subst}
+use Rattle.std.proofs.Common.{◌≡◌, ℕ, List, [], ◌∷◌, Bool, Option, Some, None, refl, ap, ◌∙◌, subst}
 use Rattle.rbd_kinds.specs.declared.answer.Answer.{Answer}
 use Rattle.rbd_kinds.specs.declared.answer.Answer.TheVariants as answer
+use Rattle.rbd_kinds.specs.declared.directory_op.DirectoryOp.TheVariants as directory
 use Rattle.rbd_kinds.specs.declared.header.HeaderView.{HeaderView}
+use Rattle.rbd_kinds.specs.declared.header_op.HeaderOp.TheVariants as header
+use Rattle.rbd_kinds.specs.declared.machine.Want.TheVariants as want
+use Rattle.rbd_kinds.specs.declared.operation.Op.TheVariants as op
 use Rattle.rbd_kinds.specs.declared.id.SiteId.{SiteId}
 use Rattle.rbd_kinds.specs.declared.journal.Event.{Event}
 use Rattle.rbd_kinds.specs.declared.machine.Fed.{Fed}
@@ -12,9 +16,9 @@ use Rattle.rbd_kinds.specs.declared.operation.Op.{Op}
 use Rattle.rbd_kinds.specs.declared.refusal.Refusal.{Refusal}
 use Rattle.rbd_kinds.specs.declared.reply.Reply.{Reply}
 use Rattle.rbd_kinds.specs.declared.reply.Reply.TheVariants as reply
-use Rattle.rbd_machine.specs.Path.{Answered, IsWalk}
+use Rattle.rbd_machine.specs.Path.{Answered, IsWalk, found, looked_at}
 use Rattle.rbd_machine.specs.Plan.{Plan, Ask, Await, Note, Return, Goto}
-use Rattle.rbd_machine.specs.Steps.{not_there, on_id, on_header, on_done}
+use Rattle.rbd_machine.specs.Steps.{not_there, unless, on_id, on_header, on_done, change, joining, looking, looked, holding, owning, owned}
 use Rattle.rbd_machine.proofs.Settled.{settled_goto}
 
 -- what has ended goes no further
@@ -47,6 +51,23 @@ pub record ToldDone (r : Reply) (next : Plan) (a : Answer) (feds : List Fed) (st
 pub record Passed (r : Reply) (next : Plan) (steps : List Answered) : Type 0 where
   pub more : List Fed
   pub walk : IsWalk Goto next more steps (Return r)
+
+-- a look that refused nothing
+pub record WentPast (r : Reply) (refusal : Option Refusal) (next : Plan) (feds : List Fed) (steps : List Answered) : Type 0 where
+  pub may : refusal ≡ None
+  pub walk : IsWalk Goto next feds steps (Return r)
+
+-- a change came to its own look, and what it did then
+pub record Changed (r : Reply) (site : SiteId) (name : List ℕ) (refuses : HeaderView → Option Refusal) (act : ℕ → HeaderView → Plan) (steps : List Answered) : Type 0 where
+  pub image : ℕ
+  pub first : HeaderView
+  pub own : HeaderView
+  pub may_wait : refuses first ≡ None
+  pub may : refuses own ≡ None
+  pub more : List Fed
+  pub rest : List Answered
+  pub are : steps ≡ found site name image ∷ looked_at site image first ∷ looked_at site image own ∷ rest
+  pub walk : IsWalk Goto (act image own) more rest (Return r)
 
 -- a reply that is no refusal
 module _ (r : Reply) (kind : (x : Refusal) → r ≡ reply.Refused x → ⊥) where
@@ -93,3 +114,37 @@ module _ (r : Reply) (kind : (x : Refusal) → r ≡ reply.Refused x → ⊥) wh
   pub told_done : (next : Plan) (a : Answer) (feds : List Fed) (steps : List Answered) → IsWalk Goto (on_done next a) feds steps (Return r) → ToldDone r next a feds steps
   told_done next answer.Done feds steps walk = record { is = refl; walk = walk }
   told_done next a feds steps walk = absurd (nothing_ends_otherwise a feds steps walk)
+
+  pub went_past : (refusal : Option Refusal) (next : Plan) (feds : List Fed) (steps : List Answered) → IsWalk Goto (unless refusal next) feds steps (Return r) → WentPast r refusal next feds steps
+  went_past None next feds steps walk = record { may = refl; walk = walk }
+  went_past (Some x) next feds steps walk = absurd (refusal_ends_otherwise x feds steps walk)
+
+  pub changed : (site : SiteId) (name : List ℕ) (alone : Bool) (refuses : HeaderView → Option Refusal) (act : ℕ → HeaderView → Plan) (feds : List Fed) (steps : List Answered)
+      → IsWalk Goto (change site name alone refuses act) feds steps (Return r) → Changed r site name refuses act steps
+  changed site name alone refuses act feds steps walk =
+      let w = went_on site (op.Directory (directory.Find name)) (on_id (joining site alone refuses act)) feds steps walk in
+      let i = told_image (joining site alone refuses act) w.answer w.more w.rest w.walk in
+      let j = awaited (want.Join site i.image alone) (looking site refuses act i.image) w.more w.rest i.walk in
+      let v = went_on site (op.Header i.image header.Get) (on_header (looked site refuses act i.image)) j.more w.rest j.walk in
+      let h = told_header (looked site refuses act i.image) v.answer v.more v.rest v.walk in
+      let m = went_past (refuses h.header) (holding site refuses act i.image) v.more v.rest h.walk in
+      let l = awaited (want.Hold site i.image) (owning site refuses act i.image) v.more v.rest m.walk in
+      let o = went_on site (op.Header i.image header.Get) (on_header (owned refuses act i.image)) l.more v.rest l.walk in
+      let t = told_header (owned refuses act i.image) o.answer o.more o.rest o.walk in
+      let n = went_past (refuses t.header) (act i.image t.header) o.more o.rest t.walk in
+      record {
+        image = i.image;
+        first = h.header;
+        own = t.header;
+        may_wait = m.may;
+        may = n.may;
+        more = o.more;
+        rest = o.rest;
+        are =
+            w.are ∙ ap (λ a. record { site = site; op = op.Directory (directory.Find name); answer = a } ∷ w.rest) i.is
+            ∙ ap (λ s. found site name i.image ∷ s)
+            (v.are ∙ ap (λ a. record { site = site; op = op.Header i.image header.Get; answer = a } ∷ v.rest) h.is
+            ∙ ap (λ s. looked_at site i.image h.header ∷ s)
+            (o.are ∙ ap (λ a. record { site = site; op = op.Header i.image header.Get; answer = a } ∷ o.rest) t.is));
+        walk = n.walk;
+      }
