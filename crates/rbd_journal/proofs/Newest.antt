@@ -4,7 +4,8 @@ use Rattle.std.specs.Prelude.{slice_get}
 use Rattle.rbd_kinds.specs.declared.journal.Position.{Position}
 use Rattle.rbd_kinds.specs.declared.journal.Span.{Span}
 use Rattle.rbd_kinds.specs.declared.journal.Tag.{Tag}
-use Rattle.rbd_journal.specs.Records.{RunFrom, bears_from, end_after, extended, extended_from, newest_bears, same_tag, span_at}
+use Rattle.rbd_kinds.specs.Spans.{RunFrom, end_after}
+use Rattle.rbd_journal.specs.Records.{bears_from, extended, extended_from, newest_bears, same_tag, span_at}
 
 same_span : (s x : Span) → Some s ≡ Some x → s ≡ x
 same_span s x e = cc

@@ -7,7 +7,8 @@ use Rattle.rbd_kinds.specs.declared.journal.JournalClient.{JournalClient}
 use Rattle.rbd_kinds.specs.declared.journal.JournalClient.TheVariants.{Local, Mirror}
 use Rattle.rbd_kinds.specs.declared.journal.Position.{Position}
 use Rattle.rbd_kinds.specs.declared.journal.Span.{Span}
-use Rattle.rbd_journal.specs.Records.{Held, IsSound, Records, RunFrom, appended, based_on, committed, end_after, extended, first_held, frame_at, least_commit, registered, tag_drawn, tag_of, trimmed}
+use Rattle.rbd_kinds.specs.Spans.{RunFrom, end_after}
+use Rattle.rbd_journal.specs.Records.{Held, IsSound, Records, appended, based_on, committed, extended, first_held, frame_at, least_commit, registered, tag_drawn, tag_of, trimmed}
 use Rattle.rbd_journal.proofs.Newest.{ends_there, still_runs}
 use Rattle.rbd_journal.proofs.Readings.{reads_committed, reads_elsewhere, reads_here, reads_needed}
 use Rattle.rbd_journal.proofs.Tags.{tag_elsewhere, tag_here}

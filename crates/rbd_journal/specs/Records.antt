@@ -8,6 +8,7 @@ use Rattle.rbd_kinds.specs.declared.journal.JournalView.{JournalView}
 use Rattle.rbd_kinds.specs.declared.journal.Position.{Position}
 use Rattle.rbd_kinds.specs.declared.journal.Span.{Span}
 use Rattle.rbd_kinds.specs.declared.journal.Tag.{Tag}
+use Rattle.rbd_kinds.specs.Spans.{RunFrom, end_after}
 
 -- a frame that is held, and the tag of its position
 pub record Held : Type 0 where
@@ -22,16 +23,6 @@ pub record Records : Type 0 where
   pub local : ℕ
   pub mirror : Option ℕ
   pub drawn : ℕ
-
--- the spans run from number `next` on without gaps
-abbrev pub RunFrom : (next : ℕ) → List Span → Type 0
-RunFrom next [] = Unit {0}
-RunFrom next (s ∷ spans) = (s.first ≡ next) × (s.first ≤ s.last) × RunFrom (s.last + 1) spans
-
--- where spans end, if they begin behind `before`
-abbrev pub end_after : (before : ℕ) → List Span → ℕ
-end_after before [] = before
-end_after before (s ∷ spans) = end_after s.last spans
 
 -- a journal that begins on these spans: they are recorded and committed, and no frame is held
 abbrev pub based_on : List Span → Records

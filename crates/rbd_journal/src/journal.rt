@@ -1,6 +1,7 @@
 //! The journal of one image.
 ghost use Rattle.std.specs.Prelude.{◌≡◌, ◌+◌, ◌-◌, ◌<◌, ◌≤◌, ◌^◌, IfOk, OnOk, OnErr, option_map};
-ghost use Rattle.rbd_journal.specs.Records.{IsSound, RunFrom, appended, based_on, committed, first_held, frame_at, registered, tag_drawn, trimmed, view_of};
+ghost use Rattle.rbd_kinds.specs.Spans.{RunFrom};
+ghost use Rattle.rbd_journal.specs.Records.{IsSound, appended, based_on, committed, first_held, frame_at, registered, tag_drawn, trimmed, view_of};
 
 use crate::entry::{Entry, drop_front};
 use crate::span::{end_of, extend};

@@ -4,7 +4,8 @@ ghost use Rattle.std.specs.Prelude.{◌≡◌, ◌≢◌, ℕ, ◌+◌, ◌<◌,
 ghost use Rattle.rbd_kinds.specs.declared.journal.JournalClient.{JournalClient};
 ghost use Rattle.rbd_kinds.specs.declared.journal.Position.{Position};
 ghost use Rattle.rbd_kinds.specs.declared.journal.Span.{Span};
-ghost use Rattle.rbd_journal.specs.Records.{IsSound, Records, RunFrom, appended, based_on, committed, frame_at, least_commit, registered, tag_drawn, tag_of, trimmed, view_of};
+ghost use Rattle.rbd_kinds.specs.Spans.{RunFrom};
+ghost use Rattle.rbd_journal.specs.Records.{IsSound, Records, appended, based_on, committed, frame_at, least_commit, registered, tag_drawn, tag_of, trimmed, view_of};
 
 /// After an append its position and frame are read at its number, and what was read at each other number
 /// before.

@@ -1,6 +1,7 @@
 //! The spans of a journal.
 ghost use Rattle.std.specs.Prelude.{◌≡◌, OnOk, OnErr};
-ghost use Rattle.rbd_journal.specs.Records.{end_after, extended, newest_bears, same_tag};
+ghost use Rattle.rbd_kinds.specs.Spans.{end_after};
+ghost use Rattle.rbd_journal.specs.Records.{extended, newest_bears, same_tag};
 
 use rbd_kinds::{NoMemory, Position, Span, Tag};
 

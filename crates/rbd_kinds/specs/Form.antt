@@ -13,10 +13,15 @@ HasFewObjects layout size = (x : ℕ) → x < size → object_of layout x < 2 ^ 
 abbrev pub IsOverlapWithin : (size : ℕ) → Option ParentLink → Type 0
 IsOverlapWithin size parent = IfSome parent (λ link. link.overlap ≤ size)
 
--- ids rise, from above the first bound up to the second
-abbrev pub IsRising : (below most : ℕ) → List SnapView → Type 0
-IsRising below most [] = below ≤ most
-IsRising below most (s ∷ snaps) = (below < s.id) × IsRising s.id most snaps
+-- ids rise from a bound on, up to another
+abbrev pub RiseFrom : (below most : ℕ) → List SnapView → Type 0
+RiseFrom below most [] = below ≤ most
+RiseFrom below most (s ∷ snaps) = (below < s.id) × RiseFrom s.id most snaps
+
+-- ids rise, up to a bound
+abbrev pub AreRising : (most : ℕ) → List SnapView → Type 0
+AreRising most [] = Unit {0}
+AreRising most (s ∷ snaps) = RiseFrom s.id most snaps
 
 pub record IsSnapInForm (layout : Layout) (s : SnapView) : Type 0 where
   pub objects : HasFewObjects layout s.size
@@ -29,7 +34,7 @@ pub record IsHeaderInForm (h : HeaderView) : Type 0 where
   pub overlap : IsOverlapWithin h.size h.parent
   pub snaps : (k : ℕ) (s : SnapView) → slice_get h.snaps k ≡ Some s → IsSnapInForm h.layout s
   pub few : length h.snaps ≤ 256
-  pub rising : IsRising 0 h.snap_seq h.snaps
+  pub rising : AreRising h.snap_seq h.snaps
   pub depth : h.depth ≤ 16
 
 -- as a header is made: it has no snapshot, no owner, and wasn't changed yet

@@ -1,5 +1,5 @@
 -- The one spelling of each event of a journal: its frame. All numbers have their highest byte first.
-use Rattle.std.specs.Prelude.{ℕ, ◌+◌, ◌^◌, ◌≤◌, List, [], ◌∷◌, ◌++◌, length}
+use Rattle.std.specs.Prelude.{◌≡◌, ℕ, ◌+◌, ◌^◌, ◌≤◌, List, [], ◌∷◌, ◌++◌, length}
 use Rattle.std.specs.Int.{w32, w64, to_be_bytes}
 use Rattle.rbd_kinds.specs.Name.{IsName}
 use Rattle.rbd_kinds.specs.declared.journal.Event.{Event}
@@ -52,3 +52,18 @@ IsInRange (SnapCreate name) = IsName name
 IsInRange (SnapRemove name) = IsName name
 IsInRange (SnapRollback name) = IsName name
 IsInRange Demote = Unit {0}
+
+-- the greatest size that an image may have: 2^20 objects of 32 MiB
+abbrev pub greatest_size : ℕ
+greatest_size = 2 ^ 45
+
+abbrev pub AsksForASize : Event → Type 0
+AsksForASize (Resize size) = size ≤ greatest_size
+AsksForASize _ = Unit {0}
+
+-- The bytes are the frame of one event, whole, and a size that it asks for is one that an image may have.
+pub record IsOneFrame (bytes : List ℕ) : Type 0 where
+  pub event : Event
+  pub spelled : bytes ≡ frame event
+  pub range : IsInRange event
+  pub size : AsksForASize event

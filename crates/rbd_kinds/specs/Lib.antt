@@ -1,4 +1,5 @@
 pub mod Answer
+pub mod AnswerForm
 pub mod Command
 pub mod Form
 pub mod Frame
@@ -6,5 +7,8 @@ pub mod Header
 pub mod Name
 pub mod Operation
 pub mod OperationKind
+pub mod Parts
 pub mod Refusal
+pub mod Spans
+pub mod States
 pub mod Striping

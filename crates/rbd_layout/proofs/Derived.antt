@@ -8,7 +8,7 @@ use Rattle.rbd_kinds.specs.declared.layout.Part.{Part}
 use Rattle.rbd_kinds.specs.declared.layout.Extent.{Extent}
 use Rattle.rbd_kinds.specs.Striping.{IsLayout, IsObjectCount, units_per_object, object_of, offset_of, byte_at}
 use Rattle.rbd_layout.specs.declared.types.Piece.{Piece}
-use Rattle.rbd_layout.specs.Pieces.{IsPart, IsPartsOf, IsPieces, IsWithin, places_of}
+use Rattle.rbd_layout.specs.Pieces.{IsIn, IsInPiece, IsPart, IsPartsOf, IsPieces, IsWithin, places_of}
 use Rattle.rbd_layout.proofs.Limits.{shape_of}
 use Rattle.rbd_layout.proofs.Mixed.{cases_lt, div_mono, set_lt, position_first}
 use Rattle.rbd_layout.proofs.Places.{byte_of_place, object_of_byte, offset_within, ascends_back, first_at_most, first_below}
@@ -89,8 +89,6 @@ counted_begin l h size count object is = (forth (cases_lt 0 size), back)
 
 -- ---- parts
 
-abbrev Holds : ℕ → Part → Type 0
-Holds x p = (p.at ≤ x) × (x < p.at + p.len)
 
 pub Any-here : {X : Type 0} (P : X → Type 0) (x : X) (xs : List X) → P x → Any P (x ∷ xs)
 Any-here P x xs h = (0, x, omega arith, refl, h)
@@ -123,24 +121,24 @@ Among-append_cases x (y ∷ xs) ys (inr h) = go (Among-append_cases x xs ys h)
     go (inl a) = inl (inr a)
     go (inr b) = inr b
 
-held_among : (x : ℕ) (ps : List Part) → Any (Holds x) ps → Among x (flat_map places_of ps)
-held_among x [] h = absurd (Any-none (Holds x) h)
-held_among x (p ∷ ps) h = go (Any-cases (Holds x) p ps h) (held_among x ps)
+held_among : (x : ℕ) (ps : List Part) → Any (IsIn x) ps → Among x (flat_map places_of ps)
+held_among x [] h = absurd (Any-none (IsIn x) h)
+held_among x (p ∷ ps) h = go (Any-cases (IsIn x) p ps h) (held_among x ps)
   where
-    go : Holds x p ⊎ Any (Holds x) ps → (Any (Holds x) ps → Among x (flat_map places_of ps)) → Among x (places_of p ++ flat_map places_of ps)
+    go : IsIn x p ⊎ Any (IsIn x) ps → (Any (IsIn x) ps → Among x (flat_map places_of ps)) → Among x (places_of p ++ flat_map places_of ps)
     go (inl (le, less)) rec = Among-append_left x (places_of p) (flat_map places_of ps) (Among-range x p.at p.len le less)
     go (inr later) rec = Among-append_right x (places_of p) (flat_map places_of ps) (rec later)
 
-among_held : (x : ℕ) (ps : List Part) → Among x (flat_map places_of ps) → Any (Holds x) ps
+among_held : (x : ℕ) (ps : List Part) → Among x (flat_map places_of ps) → Any (IsIn x) ps
 among_held x [] h = absurd h
 among_held x (p ∷ ps) h = go (Among-append_cases x (places_of p) (flat_map places_of ps) h) (among_held x ps)
   where
-    go : Among x (places_of p) ⊎ Among x (flat_map places_of ps) → (Among x (flat_map places_of ps) → Any (Holds x) ps) → Any (Holds x) (p ∷ ps)
-    go (inl a) rec = Any-here (Holds x) p ps (range_bounds x p.at p.len a)
-    go (inr b) rec = Any-there (Holds x) p ps (rec b)
+    go : Among x (places_of p) ⊎ Among x (flat_map places_of ps) → (Among x (flat_map places_of ps) → Any (IsIn x) ps) → Any (IsIn x) (p ∷ ps)
+    go (inl a) rec = Any-here (IsIn x) p ps (range_bounds x p.at p.len a)
+    go (inr b) rec = Any-there (IsIn x) p ps (rec b)
 
 pub parts_cover : (l : Layout) (e : Extent) (object : ℕ) (parts : List Part) → IsPartsOf l e object parts → (x : ℕ)
-    → Any (λ p. (p.at ≤ x) × (x < p.at + p.len)) parts ↔ (IsWithin e x × (object_of l x ≡ object))
+    → Any (IsIn x) parts ↔ (IsWithin e x × (object_of l x ≡ object))
 parts_cover l e object parts are x = (
   (λ any.
       let facts = among_place l e object x (subst (λ xs. Among x xs) are.cover (held_among x parts any)) in
@@ -173,18 +171,38 @@ parts_ascend l h e object parts are i j d before less =
 -- ---- pieces
 
 pub pieces_cover : (l : Layout) (e : Extent) (pieces : List Piece) → IsPieces l e pieces → (x : ℕ)
-    → Any (λ piece. Any (λ p. (p.at ≤ x) × (x < p.at + p.len)) piece.parts) pieces ↔ IsWithin e x
+    → Any (IsInPiece x) pieces ↔ IsWithin e x
 pieces_cover l e pieces are x = (forth, back)
   where
-    forth : Any (λ piece. Any (Holds x) piece.parts) pieces → IsWithin e x
+    forth : Any (IsInPiece x) pieces → IsWithin e x
     forth (k, piece, less, is, any) =
         let parts : IsPartsOf l e piece.object piece.parts = subst (λ (p : Piece). IsPartsOf l e p.object p.parts) is (are.parts k piece less) in
         ((parts_cover l e piece.object piece.parts parts x).0 any).0
 
-    back : IsWithin e x → Any (λ piece. Any (Holds x) piece.parts) pieces
+    back : IsWithin e x → Any (IsInPiece x) pieces
     back within = go (are.whole x within)
       where
-        go : Any (λ p. p.object ≡ object_of l x) pieces → Any (λ piece. Any (Holds x) piece.parts) pieces
+        go : Any (λ p. p.object ≡ object_of l x) pieces → Any (IsInPiece x) pieces
         go (k, piece, less, is, this) =
             let parts : IsPartsOf l e piece.object piece.parts = subst (λ (p : Piece). IsPartsOf l e p.object p.parts) is (are.parts k piece less) in
             (k, piece, less, is, (parts_cover l e piece.object piece.parts parts x).1 (within, sym this))
+
+-- ---- no byte in two places
+
+pub in_one_part : (l : Layout) (e : Extent) (object : ℕ) (parts : List Part) → IsPartsOf l e object parts → (x : ℕ)
+    → AllPairs (λ p q. IsIn x p → IsIn x q → ⊥) parts
+in_one_part l e object parts are x i j d before less some other =
+    let apart = are.apart i j d before less in
+    let below : x < (get_or parts i d).at + (get_or parts i d).len = some.1 in
+    let above : (get_or parts j d).at ≤ x = other.0 in
+    omega arith
+
+pub in_one_piece : (l : Layout) (e : Extent) (pieces : List Piece) → IsPieces l e pieces → (x : ℕ)
+    → AllPairs (λ p q. IsInPiece x p → IsInPiece x q → ⊥) pieces
+in_one_piece l e pieces are x i j d before less some other =
+    let p : Piece = get_or pieces i d in
+    let q : Piece = get_or pieces j d in
+    let there : object_of l x ≡ p.object = ((parts_cover l e p.object p.parts (are.parts i d (omega arith)) x).0 some).1 in
+    let here : object_of l x ≡ q.object = ((parts_cover l e q.object q.parts (are.parts j d less) x).0 other).1 in
+    let rising : p.object < q.object = are.ascending i j d before less in
+    omega arith

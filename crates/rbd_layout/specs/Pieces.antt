@@ -19,6 +19,13 @@ places_in l e object = filter (λ x. object_of l x == object) (range_with_len e.
 abbrev pub places_of : Part → List ℕ
 places_of p = range_with_len p.at p.len
 
+-- an image byte is one of a part's, and one of a piece's
+abbrev pub IsIn : ℕ → Part → Type 0
+IsIn x p = (p.at ≤ x) × (x < p.at + p.len)
+
+abbrev pub IsInPiece : ℕ → Piece → Type 0
+IsInPiece x piece = Any (IsIn x) piece.parts
+
 -- The bytes of a part lie together in the object, as they do in the image.
 pub record IsPart (l : Layout) (object : ℕ) (p : Part) : Type 0 where
   pub some : 0 < p.len

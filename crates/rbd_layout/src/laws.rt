@@ -5,7 +5,7 @@ ghost use Rattle.rbd_kinds.specs.declared.layout.Extent.{Extent};
 ghost use Rattle.rbd_kinds.specs.declared.layout.Part.{Part};
 ghost use Rattle.rbd_kinds.specs.Striping.{IsLayout, IsObjectCount, object_of, offset_of, byte_at};
 ghost use Rattle.rbd_layout.specs.declared.types.Piece.{Piece};
-ghost use Rattle.rbd_layout.specs.Pieces.{IsPartsOf, IsPieces, IsWithin, parts_at, pieces_of, places_in};
+ghost use Rattle.rbd_layout.specs.Pieces.{IsIn, IsInPiece, IsPartsOf, IsPieces, IsWithin, parts_at, pieces_of, places_in};
 
 /// A byte's object and offset determine it, and lie within their bounds.
 pub fn place_of_a_byte()
@@ -52,24 +52,26 @@ pub fn objects_grow()
         → IsObjectCount l small few → IsObjectCount l great many → few ≤ many }
 {}
 
-/// A piece's parts cover exactly the extent's bytes in its object, and a later part lies further on in
-/// the object too.
+/// A piece's parts cover exactly the extent's bytes in its object. No byte lies in two of them, and a later
+/// part lies further on in the object too. There is one list of such parts.
 pub fn parts_are_the_bytes()
     ensures cover { (l : Layout) (e : Extent) (object : ℕ) (parts : List Part) → IsPartsOf l e object parts → (x : ℕ)
-        → Any (λ p. (p.at ≤ x) × (x < p.at + p.len)) parts
-        ↔ (IsWithin e x × (object_of l x ≡ object)) }
+        → Any (IsIn x) parts ↔ (IsWithin e x × (object_of l x ≡ object)) }
+    ensures once { (l : Layout) (e : Extent) (object : ℕ) (parts : List Part) → IsPartsOf l e object parts → (x : ℕ)
+        → AllPairs (λ p q. IsIn x p → IsIn x q → ⊥) parts }
     ensures ascend { (l : Layout) → IsLayout l → (e : Extent) (object : ℕ) (parts : List Part)
         → IsPartsOf l e object parts → AllPairs (λ p q. p.offset + p.len ≤ q.offset) parts }
-    ensures once { (l : Layout) (e : Extent) (object : ℕ) (some others : List Part)
+    ensures one_list { (l : Layout) (e : Extent) (object : ℕ) (some others : List Part)
         → IsPartsOf l e object some → IsPartsOf l e object others → some ≡ others }
 {}
 
-/// The pieces of an extent are its bytes, and an extent has one list of pieces.
+/// The pieces of an extent are its bytes, no byte lies in two of them, and an extent has one list of pieces.
 pub fn pieces_are_the_bytes()
     ensures cover { (l : Layout) (e : Extent) (pieces : List Piece) → IsPieces l e pieces → (x : ℕ)
-        → Any (λ piece. Any (λ p. (p.at ≤ x) × (x < p.at + p.len)) piece.parts) pieces
-        ↔ IsWithin e x }
-    ensures once { (l : Layout) (e : Extent) (some others : List Piece)
+        → Any (IsInPiece x) pieces ↔ IsWithin e x }
+    ensures once { (l : Layout) (e : Extent) (pieces : List Piece) → IsPieces l e pieces → (x : ℕ)
+        → AllPairs (λ p q. IsInPiece x p → IsInPiece x q → ⊥) pieces }
+    ensures one_list { (l : Layout) (e : Extent) (some others : List Piece)
         → IsPieces l e some → IsPieces l e others → some ≡ others }
 {}
 

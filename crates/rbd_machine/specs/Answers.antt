@@ -1,6 +1,6 @@
 -- Which answers an operation can give. What no request ever gets isn't counted: a header, a journal or a snapshot
 -- that is made is new, since its id was just drawn or was looked up under the lock.
-use Rattle.std.specs.Prelude.{◌≡◌, Bool, true, false, length, None}
+use Rattle.std.specs.Prelude.{◌≡◌, Bool, true, false, None}
 use Rattle.rbd_kinds.specs.declared.answer.Answer.{Answer}
 use Rattle.rbd_kinds.specs.declared.answer.Answer.TheVariants as answer
 use Rattle.rbd_kinds.specs.declared.children_op.ChildrenOp.{ChildrenOp}
@@ -19,8 +19,7 @@ use Rattle.rbd_kinds.specs.declared.map_op.MapOp.{MapOp}
 use Rattle.rbd_kinds.specs.declared.map_op.MapOp.TheVariants as states
 use Rattle.rbd_kinds.specs.declared.operation.Op.{Op}
 use Rattle.rbd_kinds.specs.declared.operation.Op.TheVariants as op
-use Rattle.rbd_kinds.specs.Form.{IsHeaderInForm}
-use Rattle.rbd_object.specs.Parts.{parts_len}
+use Rattle.rbd_kinds.specs.AnswerForm.{IsInForm}
 use Rattle.rbd_machine.specs.Plan.{Plan, Ask, Await, Note}
 
 -- ---- the words, by the kind of object
@@ -113,14 +112,7 @@ gives (op.Data image number o) a = object_gives o a
 gives (op.Map image o) a = map_gives o a
 gives (op.Journal image o) a = journal_gives o a
 
--- ---- the values
-
--- A header keeps its limits, and the bytes of a read are as many as were asked for. What maps and journals keep in
--- their answers comes with the machines that ask for them.
-abbrev pub IsInForm : Op → Answer → Type 0
-IsInForm (op.Header image header.Get) (answer.Header h) = IsHeaderInForm h
-IsInForm (op.Data image number (object.Read snap parts)) (answer.Bytes bytes) = length bytes ≡ parts_len parts
-IsInForm _ _ = Unit {0}
+-- ---- with values in form
 
 pub record CanGive (o : Op) (a : Answer) : Type 0 where
   pub word : gives o a ≡ true

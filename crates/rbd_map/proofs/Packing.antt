@@ -8,7 +8,8 @@ use Rattle.std.proofs.lemmas.List.Elements.{All-get_or}
 use Rattle.std.proofs.lemmas.List.Folds.{list_all-append}
 use Rattle.std.proofs.lemmas.List.{length-replicate, get_or-replicate, get_or_past, get_or-take, length-take-le, take_all, get_or-set_same, get_or-set_other, length-set}
 use Rattle.std.proofs.lemmas.List.FromFn.{fill_by_all, length-map-range_with_len, get_or-map-range_with_len, take-map-range_with_len, map-range_with_len_more}
-use Rattle.rbd_map.specs.States.{is_used, is_state, AreStates, weight, byte_of, bits_of, state_at, states_of, IsPacked}
+use Rattle.rbd_kinds.specs.States.{is_state, weight, state_at}
+use Rattle.rbd_map.specs.States.{is_used, AreStates, byte_of, bits_of, states_of, IsPacked}
 
 -- a map of these bytes, opened
 pub length_packed : (bytes : List ℕ) (count : ℕ) → IsPacked bytes count → length bytes ≡ (count + 3) / 4

@@ -1,10 +1,7 @@
 -- The states of objects, and the bytes that they are kept and sent in.
-use Rattle.std.specs.Prelude.{◌≡◌, ℕ, zero, suc, ◌+◌, ◌*◌, ◌/◌, ◌%◌, Bool, not, ◌==◌, nat_lt, IsTrue, List, map, length, slice_index}
+use Rattle.std.specs.Prelude.{◌≡◌, ℕ, ◌+◌, ◌*◌, ◌/◌, Bool, not, ◌==◌, IsTrue, List, map, length, slice_index}
 use Rattle.std.specs.List.{list_all, range_with_len}
-
--- State 3 is never written.
-abbrev pub is_state : ℕ → Bool
-is_state s = nat_lt s 3
+use Rattle.rbd_kinds.specs.States.{is_state, state_at}
 
 abbrev pub AreStates : List ℕ → Type 0
 AreStates states = IsTrue (list_all is_state states)
@@ -22,17 +19,7 @@ byte_of states k =
 abbrev pub bits_of : List ℕ → List ℕ
 bits_of states = map (byte_of states) (range_with_len 0 ((length states + 3) / 4))
 
--- what a state counts for at its place in the byte
-abbrev pub weight : (place : ℕ) → ℕ
-weight zero = 64
-weight (suc zero) = 16
-weight (suc (suc zero)) = 4
-weight (suc (suc (suc _))) = 1
-
--- the state of an object in some bytes, and those of the first `count` objects
-abbrev pub state_at : (bytes : List ℕ) (object : ℕ) → ℕ
-state_at bytes object = slice_index bytes (object / 4) / weight (object % 4) % 4
-
+-- the states of the first `count` objects in some bytes
 abbrev pub states_of : (bytes : List ℕ) (count : ℕ) → List ℕ
 states_of bytes count = map (state_at bytes) (range_with_len 0 count)
 

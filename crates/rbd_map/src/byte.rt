@@ -1,6 +1,6 @@
 //! Where an object's state lies in the bytes.
 ghost use Rattle.std.specs.Prelude.{◌≡◌, ◌/◌, ◌%◌, ◌<◌, length};
-ghost use Rattle.rbd_map.specs.States.{weight, state_at};
+ghost use Rattle.rbd_kinds.specs.States.{weight, state_at};
 
 /// What a state counts for in its byte: objects 0 to 3 lie there from the highest bits down.
 pub fn weight_of(object: u64) -> u8

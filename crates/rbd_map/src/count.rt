@@ -1,6 +1,7 @@
 //! Counting used objects.
 ghost use Rattle.std.specs.Prelude.{◌≡◌, ◌*◌, ◌/◌, ◌^◌, ◌<◌, ◌≤◌, [], ◌∷◌, length, count_by, if◌then◌else◌};
-ghost use Rattle.rbd_map.specs.States.{state_at, states_of, is_used};
+ghost use Rattle.rbd_kinds.specs.States.{state_at};
+ghost use Rattle.rbd_map.specs.States.{states_of, is_used};
 
 use crate::byte::state_in;
 

@@ -1,6 +1,7 @@
 //! What the definitions of a map mean: each law is the contract of a function that does nothing.
 ghost use Rattle.std.specs.Prelude.{◌≡◌, ◌≢◌, ℕ, ◌+◌, ◌/◌, ◌<◌, Bool, false, IsFalse, List, [], ◌++◌, length, replicate, slice_index, slice_set};
-ghost use Rattle.rbd_map.specs.States.{AreStates, bits_of, states_of, state_at};
+ghost use Rattle.rbd_kinds.specs.States.{state_at};
+ghost use Rattle.rbd_map.specs.States.{AreStates, bits_of, states_of};
 ghost use Rattle.rbd_map.specs.Covers.{Covers};
 
 /// The states come back from their bytes, and each object's state alone does. There are as many bytes as

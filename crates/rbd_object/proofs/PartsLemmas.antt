@@ -4,7 +4,8 @@ use Rattle.std.specs.Prelude.{zero, suc, slice_get}
 use Rattle.std.proofs.lemmas.List.FromFn.{fill_by_all}
 use Rattle.rbd_kinds.specs.declared.layout.Part.{Part}
 use Rattle.rbd_object.specs.Contents.{overwritten, is_within}
-use Rattle.rbd_object.specs.Parts.{parts_len, parts_written, last_end, EndWithin}
+use Rattle.rbd_kinds.specs.Parts.{parts_len}
+use Rattle.rbd_object.specs.Parts.{parts_written, last_end, EndWithin}
 use Rattle.rbd_object.proofs.ContentsLemmas.{length_overwritten, get_or-overwritten_any, overwritten-same}
 
 -- to lengthen before or after is one

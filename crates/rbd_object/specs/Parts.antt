@@ -4,11 +4,6 @@ use Rattle.rbd_kinds.specs.declared.layout.Part.{Part}
 use Rattle.rbd_object.specs.Contents.{window, overwritten, zeroed}
 use Rattle.rbd_object.specs.declared.content.TheConstants.{LARGEST_OBJECT}
 
--- how many bytes the parts have together
-abbrev pub parts_len : List Part → ℕ
-parts_len [] = 0
-parts_len (p ∷ parts) = p.len + parts_len parts
-
 -- each part ends within a length
 abbrev pub EndWithin : (len : ℕ) → List Part → Type 0
 EndWithin len parts = (k : ℕ) (p : Part) → slice_get parts k ≡ Some p → p.offset + p.len ≤ len

@@ -1,7 +1,8 @@
 //! The bytes of a head or of a version.
 ghost use Rattle.std.specs.Prelude.{◌≡◌, ℕ, ◌+◌, ◌≤◌, [], ◌++◌, List, length, IfOk, OnOk, OnErr};
 ghost use Rattle.rbd_object.specs.Contents.{window, overwritten, zeroed};
-ghost use Rattle.rbd_object.specs.Parts.{parts_len, parts_of, parts_written, parts_zeroed, AreWithin, EndWithin, last_end};
+ghost use Rattle.rbd_kinds.specs.Parts.{parts_len};
+ghost use Rattle.rbd_object.specs.Parts.{parts_of, parts_written, parts_zeroed, AreWithin, EndWithin, last_end};
 
 use crate::parts::{copy_over, copy_window, gather, scatter};
 use rbd_kinds::{NoMemory, Part};

@@ -4,7 +4,8 @@ ghost use Rattle.rbd_object.specs.Contents.{window, overwritten, zeroed};
 ghost use Rattle.rbd_object.specs.Versioned.{view, IsTidy};
 ghost use Rattle.rbd_object.specs.Mapped.{looked, mapped_blank, mapped_change, mapped_copy_up, mapped_trim, due_snaps};
 ghost use Rattle.rbd_object.specs.Kept.{new_version};
-ghost use Rattle.rbd_object.specs.Parts.{parts_len, parts_of, parts_written, parts_zeroed, AreWithin};
+ghost use Rattle.rbd_kinds.specs.Parts.{parts_len};
+ghost use Rattle.rbd_object.specs.Parts.{parts_of, parts_written, parts_zeroed, AreWithin};
 
 use crate::content::{Content, LARGEST_OBJECT};
 use crate::version::Version;

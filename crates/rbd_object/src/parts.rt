@@ -1,7 +1,8 @@
 //! Bytes out of parts and into them.
 ghost use Rattle.std.specs.Prelude.{◌≡◌, ◌+◌, ◌≤◌, ◌++◌, length, map, IfOk, OnOk};
 ghost use Rattle.rbd_object.specs.Contents.{window, overwritten};
-ghost use Rattle.rbd_object.specs.Parts.{parts_len, parts_of, parts_written, EndWithin, shifted, AreBehind};
+ghost use Rattle.rbd_kinds.specs.Parts.{parts_len};
+ghost use Rattle.rbd_object.specs.Parts.{parts_of, parts_written, EndWithin, shifted, AreBehind};
 
 use rbd_kinds::{NoMemory, Part};
 use std::alloc::Global;

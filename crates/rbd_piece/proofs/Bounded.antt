@@ -6,7 +6,7 @@ use Rattle.rbd_kinds.specs.declared.header.HeaderView.{HeaderView}
 use Rattle.rbd_kinds.specs.declared.id.SiteId.{SiteId}
 use Rattle.rbd_kinds.specs.declared.layout.Part.{Part}
 use Rattle.rbd_layout.specs.declared.types.Piece.{Piece}
-use Rattle.rbd_object.specs.Parts.{parts_len}
+use Rattle.rbd_kinds.specs.Parts.{parts_len}
 use Rattle.rbd_machine.specs.Path.{IsBounded}
 use Rattle.rbd_machine.specs.Plan.{Plan}
 use Rattle.rbd_machine.proofs.Bounds.{bounded_on_done}

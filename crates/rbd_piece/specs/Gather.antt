@@ -8,7 +8,7 @@ use Rattle.rbd_kinds.specs.declared.layout.Part.{Part}
 use Rattle.rbd_kinds.specs.declared.operation.Op.{Op}
 use Rattle.rbd_kinds.specs.declared.operation.Op.TheVariants as op
 use Rattle.rbd_layout.specs.declared.types.Piece.{Piece}
-use Rattle.rbd_object.specs.Parts.{parts_len}
+use Rattle.rbd_kinds.specs.Parts.{parts_len}
 use Rattle.rbd_machine.specs.Plan.{Plan, Ask}
 use Rattle.rbd_machine.specs.Steps.{not_there, refused}
 use Rattle.rbd_machine.specs.declared.progress.Progress.{Progress}

@@ -2,7 +2,7 @@
 ghost use Rattle.std.specs.Prelude.{◌≡◌, ℕ, ◌+◌, ◌<◌, ◌≤◌, ◌^◌, None, ◌++◌, replicate, List, [], length, vec_capacity, vec_len, IfOk, IfSome, OnOk};
 ghost use Rattle.rbd_kinds.specs.declared.machine.Fed.TheVariants as fed_with;
 ghost use Rattle.rbd_kinds.specs.declared.reply.Reply.TheVariants.{Done};
-ghost use Rattle.rbd_object.specs.Parts.{parts_len};
+ghost use Rattle.rbd_kinds.specs.Parts.{parts_len};
 ghost use Rattle.rbd_machine.specs.Plan.{Plan, Return, Wants, Asks, plan_after, without_labels};
 ghost use Rattle.rbd_machine.specs.Steps.{going};
 ghost use Rattle.rbd_piece.specs.Gather.{gather, rest_of_gather, Gathers, HasRoom, IsRoomFor, on_bytes};

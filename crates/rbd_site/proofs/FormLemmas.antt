@@ -20,7 +20,7 @@ use Rattle.rbd_kinds.specs.declared.operation.Op.TheVariants as on
 use Rattle.rbd_site.specs.Records.{Records, put}
 use Rattle.rbd_site.specs.InForm.{AreInForm}
 use Rattle.rbd_site.specs.Step.{MayDo, after}
-use Rattle.rbd_site.proofs.SnapLists.{each_appended, each_mapped, each_filtered, fewer, rising_appended, rising_filtered, rising_marked}
+use Rattle.rbd_site.proofs.SnapLists.{each_appended, each_mapped, each_filtered, fewer, risen_appended, risen_filtered, risen_marked}
 
 cut_within : (size : ℕ) (parent : Option ParentLink) → IsOverlapWithin size (cut size parent)
 cut_within size None = tt
@@ -49,7 +49,7 @@ snapped name h free form = record {
   overlap = form.overlap;
   snaps = each_appended (IsSnapInForm h.layout) (snap_taken name h) h.snaps form.snaps (record { objects = form.objects; overlap = form.overlap });
   few = rw length-append (room (length h.snaps) h.snap_seq free);
-  rising = rising_appended 0 h.snap_seq (snap_taken name h) h.snaps refl form.rising;
+  rising = risen_appended h.snap_seq (snap_taken name h) h.snaps refl form.rising;
   depth = form.depth;
 }
 
@@ -68,7 +68,7 @@ unlisted t h form =
       overlap = form.overlap;
       snaps = each_filtered (IsSnapInForm h.layout) others h.snaps form.snaps;
       few = omega (arith, fewer others h.snaps, form.few);
-      rising = rising_filtered others 0 h.snap_seq h.snaps form.rising;
+      rising = risen_filtered others h.snap_seq h.snaps form.rising;
       depth = form.depth;
     }
 
@@ -87,7 +87,7 @@ statused t status h form = record {
   overlap = form.overlap;
   snaps = each_mapped (IsSnapInForm h.layout) (marked t status) (marked_form t status h.layout) h.snaps form.snaps;
   few = rw length-map form.few;
-  rising = rising_marked t status 0 h.snap_seq h.snaps form.rising;
+  rising = risen_marked t status h.snap_seq h.snaps form.rising;
   depth = form.depth;
 }
 

@@ -3,7 +3,7 @@ use Rattle.std.proofs.Common.{◌≡◌, ℕ, zero, suc, ◌+◌, ◌≤◌, Boo
 use Rattle.std.specs.Prelude.{slice_get}
 use Rattle.rbd_kinds.specs.declared.header.SnapView.{SnapView}
 use Rattle.rbd_kinds.specs.declared.header.SnapStatus.{SnapStatus}
-use Rattle.rbd_kinds.specs.Form.{IsRising}
+use Rattle.rbd_kinds.specs.Form.{AreRising, RiseFrom}
 use Rattle.rbd_header.specs.Header.{marked}
 
 -- what holds of each snapshot of a list, by its place
@@ -44,19 +44,19 @@ fewer p (x ∷ snaps) = go (p x) (fewer p snaps)
     go true rest = omega arith
     go false rest = omega arith
 
-pub rising_from_less : (below from most : ℕ) (snaps : List SnapView) → below ≤ from → IsRising from most snaps → IsRising below most snaps
+rising_from_less : (below from most : ℕ) (snaps : List SnapView) → below ≤ from → RiseFrom from most snaps → RiseFrom below most snaps
 rising_from_less below from most [] less rising = omega arith
 rising_from_less below from most (s ∷ snaps) less rising = (omega arith, rising.1)
 
-pub rising_appended : (below most : ℕ) (t : SnapView) (snaps : List SnapView) → t.id ≡ most + 1 → IsRising below most snaps → IsRising below (most + 1) (snaps ++ t ∷ [])
+rising_appended : (below most : ℕ) (t : SnapView) (snaps : List SnapView) → t.id ≡ most + 1 → RiseFrom below most snaps → RiseFrom below (most + 1) (snaps ++ t ∷ [])
 rising_appended below most t [] next rising = (omega arith, omega arith)
 rising_appended below most t (s ∷ snaps) next rising = (rising.0, rising_appended s.id most t snaps next rising.1)
 
-pub rising_filtered : (p : SnapView → Bool) (below most : ℕ) (snaps : List SnapView) → IsRising below most snaps → IsRising below most (filter p snaps)
+rising_filtered : (p : SnapView → Bool) (below most : ℕ) (snaps : List SnapView) → RiseFrom below most snaps → RiseFrom below most (filter p snaps)
 rising_filtered p below most [] rising = rising
 rising_filtered p below most (s ∷ snaps) rising = go (p s) (rising_filtered p s.id most snaps rising.1)
   where
-    go : (t : Bool) → IsRising s.id most (filter p snaps) → IsRising below most (cond t (s ∷ filter p snaps) (filter p snaps))
+    go : (t : Bool) → RiseFrom s.id most (filter p snaps) → RiseFrom below most (cond t (s ∷ filter p snaps) (filter p snaps))
     go true rest = (rising.0, rest)
     go false rest = rising_from_less below s.id most (filter p snaps) (omega (arith, rising.0)) rest
 
@@ -67,9 +67,31 @@ same_id t status s = go (eqb s.id t)
     go true = refl
     go false = refl
 
-pub rising_marked : (t : ℕ) (status : SnapStatus) (below most : ℕ) (snaps : List SnapView) → IsRising below most snaps → IsRising below most (map (marked t status) snaps)
+rising_marked : (t : ℕ) (status : SnapStatus) (below most : ℕ) (snaps : List SnapView) → RiseFrom below most snaps → RiseFrom below most (map (marked t status) snaps)
 rising_marked t status below most [] rising = rising
 rising_marked t status below most (s ∷ snaps) rising = (
   omega (arith, rising.0, same_id t status s),
-  subst (λ id. IsRising id most (map (marked t status) snaps)) (sym (same_id t status s)) (rising_marked t status s.id most snaps rising.1),
+  subst (λ id. RiseFrom id most (map (marked t status) snaps)) (sym (same_id t status s)) (rising_marked t status s.id most snaps rising.1),
 )
+
+-- the same of whole lists
+
+pub are_rising : (below most : ℕ) (snaps : List SnapView) → RiseFrom below most snaps → AreRising most snaps
+are_rising below most [] rising = tt
+are_rising below most (s ∷ snaps) rising = rising.1
+
+pub risen_appended : (most : ℕ) (t : SnapView) (snaps : List SnapView) → t.id ≡ most + 1 → AreRising most snaps → AreRising (most + 1) (snaps ++ t ∷ [])
+risen_appended most t [] next rising = omega arith
+risen_appended most t (s ∷ snaps) next rising = rising_appended s.id most t snaps next rising
+
+pub risen_filtered : (p : SnapView → Bool) (most : ℕ) (snaps : List SnapView) → AreRising most snaps → AreRising most (filter p snaps)
+risen_filtered p most [] rising = tt
+risen_filtered p most (s ∷ snaps) rising = go (p s) (rising_filtered p s.id most snaps rising)
+  where
+    go : (t : Bool) → RiseFrom s.id most (filter p snaps) → AreRising most (cond t (s ∷ filter p snaps) (filter p snaps))
+    go true rest = rest
+    go false rest = are_rising s.id most (filter p snaps) rest
+
+pub risen_marked : (t : ℕ) (status : SnapStatus) (most : ℕ) (snaps : List SnapView) → AreRising most snaps → AreRising most (map (marked t status) snaps)
+risen_marked t status most [] rising = tt
+risen_marked t status most (s ∷ snaps) rising = subst (λ id. RiseFrom id most (map (marked t status) snaps)) (sym (same_id t status s)) (rising_marked t status s.id most snaps rising)

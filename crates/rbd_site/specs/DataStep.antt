@@ -6,7 +6,8 @@ use Rattle.rbd_kinds.specs.declared.answer.Answer.TheVariants as answer
 use Rattle.rbd_kinds.specs.declared.data_op.DataOp.{DataOp}
 use Rattle.rbd_kinds.specs.declared.data_op.DataOp.TheVariants.{Read, Write, WriteFull, Zero, Empty, Remove, CopyUp}
 use Rattle.rbd_kinds.specs.declared.layout.Part.{Part}
-use Rattle.rbd_object.specs.Parts.{AreWithin, parts_len, parts_of, parts_written, parts_zeroed}
+use Rattle.rbd_kinds.specs.Parts.{parts_len}
+use Rattle.rbd_object.specs.Parts.{AreWithin, parts_of, parts_written, parts_zeroed}
 use Rattle.rbd_object.specs.Mapped.{Mapped, looked, mapped_change, mapped_copy_up}
 use Rattle.rbd_object.specs.Versioned.{view}
 use Rattle.rbd_object.specs.declared.content.TheConstants.{LARGEST_OBJECT}

@@ -1,7 +1,8 @@
 //! What a site answers and logs. The wanted answers were worked out from the rules in prose.
 ghost use Rattle.std.specs.Prelude.{◌≡◌, IfOk, ◌+◌, ◌≤◌};
 ghost use Rattle.rbd_kinds.specs.Form.{IsNewHeader};
-ghost use Rattle.rbd_object.specs.Parts.{AreWithin, parts_len};
+ghost use Rattle.rbd_kinds.specs.Parts.{parts_len};
+ghost use Rattle.rbd_object.specs.Parts.{AreWithin};
 ghost use Rattle.rbd_site.specs.DataStep.{MayDoOnData};
 
 use crate::{Done, DoneOp, Site};

@@ -27,7 +27,8 @@ use Rattle.rbd_layout.proofs.Within.{LiesIn, lies_in}
 use Rattle.rbd_header.specs.Header.{snap_in, view_of as named_view, view_of_snap}
 use Rattle.rbd_header.specs.declared.view.View.{View}
 use Rattle.rbd_object.specs.Contents.{window}
-use Rattle.rbd_object.specs.Parts.{EndWithin, parts_len, parts_of, parts_written, shifted}
+use Rattle.rbd_kinds.specs.Parts.{parts_len}
+use Rattle.rbd_object.specs.Parts.{EndWithin, parts_of, parts_written, shifted}
 use Rattle.rbd_object.proofs.ContentsLemmas.{length-window}
 use Rattle.rbd_flat.specs.Flat.{Flat, FlatImage, FlatSnap, image_at}
 use Rattle.rbd_flat.specs.Flat as flat
@@ -225,7 +226,7 @@ pub view_there : (h : HeaderView) (snap : Option (List ℕ)) (view : View) → I
 view_there h None view form is = subst (IsViewOf h) (same_Some _ view is) (record { shape = shape_of_head h; is_shape = refl; size = refl })
 view_there h (Some name) view form is =
     let s = a_value view_of_snap (snap_named h.snaps name) view is in
-    subst (IsViewOf h) s.2 (record { shape = shape_of_snap s.0; is_shape = ap (option_map shape_of_snap) (named_in 0 h.snap_seq h.snaps name s.0 form.rising s.1); size = refl })
+    subst (IsViewOf h) s.2 (record { shape = shape_of_snap s.0; is_shape = ap (option_map shape_of_snap) (named_in h.snap_seq h.snaps name s.0 form.rising s.1); size = refl })
 
 pub flat_viewed : (r : Records) (s : FlatState) (name : List ℕ) (o : Opened) (found : IsFound r s name o) (snap : Option (List ℕ)) (view : View) → IsHeaderInForm o.header → named_view o.header snap ≡ Some view
     → IsViewed s.site o found.image snap view
@@ -236,11 +237,11 @@ flat_viewed r s name o found (Some label) view form is =
     let h = o.header in
     let v = a_value view_of_snap (snap_named h.snaps label) view is in
     let listed = v.0 in
-    let inside = named_in 0 h.snap_seq h.snaps label listed form.rising v.1 in
+    let inside = named_in h.snap_seq h.snaps label listed form.rising v.1 in
     let fs = a_value line_of_flat (flat_snap_named found.image.snaps label) (line_of_snap listed) (found.told.by_name label ∙ ap (option_map line_of_snap) v.1) in
     let same_id : fs.0.id ≡ listed.id = ap (λ l. l.id) fs.2 in
     let flat_inside : flat.snap_in found.image.snaps listed.id ≡ Some fs.0 =
-    ap (flat.snap_in found.image.snaps) (sym same_id) ∙ flat_named_in 0 h.snap_seq h.snaps found.image.snaps label fs.0 (sym found.told.snaps) form.rising fs.1 in
+    ap (flat.snap_in found.image.snaps) (sym same_id) ∙ flat_named_in h.snap_seq h.snaps found.image.snaps label fs.0 (sym found.told.snaps) form.rising fs.1 in
     subst (IsViewed s.site o found.image (Some label)) v.2
     (record {
       bytes = fs.0.bytes;

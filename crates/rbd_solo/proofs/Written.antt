@@ -23,7 +23,8 @@ use Rattle.rbd_layout.specs.Pieces.{IsPart, IsPartsOf}
 use Rattle.rbd_layout.specs.declared.types.Piece.{Piece}
 use Rattle.rbd_layout.proofs.Limits.{shape_of}
 use Rattle.rbd_layout.proofs.Within.{lies_in}
-use Rattle.rbd_object.specs.Parts.{parts_len, AreBehind, bytes_for}
+use Rattle.rbd_kinds.specs.Parts.{parts_len}
+use Rattle.rbd_object.specs.Parts.{AreBehind, bytes_for}
 use Rattle.rbd_object.proofs.ContentsLemmas.{length-window}
 use Rattle.rbd_object.specs.Contents.{window}
 use Rattle.rbd_object.specs.declared.content.TheConstants.{LARGEST_OBJECT}

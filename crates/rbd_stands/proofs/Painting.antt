@@ -13,7 +13,8 @@ use Rattle.rbd_layout.proofs.Places.{byte_of_place}
 use Rattle.rbd_object.specs.Contents.{is_within, overwritten, zeroed}
 use Rattle.rbd_object.proofs.ContentsLemmas.{get_or-overwritten_any, get_or-zeroed}
 use Rattle.rbd_flat.specs.Laws.{covers, covered, painted_at}
-use Rattle.rbd_object.specs.Parts.{parts_len, parts_written, parts_zeroed}
+use Rattle.rbd_kinds.specs.Parts.{parts_len}
+use Rattle.rbd_object.specs.Parts.{parts_written, parts_zeroed}
 use Rattle.rbd_stands.specs.Condition.{ArePartsBelow, extent_of, extents_of}
 use Rattle.rbd_stands.proofs.Lookups.{both_tests}
 

@@ -15,7 +15,7 @@ in_form = record {
   overlap = tt;
   snaps = λ k s is. cc;
   few = omega arith;
-  rising = omega arith;
+  rising = tt;
   depth = omega arith;
 }
 

@@ -1,4 +1,4 @@
-use Rattle.rbd_layout.proofs.Derived.{parts_cover, parts_ascend}
+use Rattle.rbd_layout.proofs.Derived.{parts_cover, parts_ascend, in_one_part}
 use Rattle.rbd_layout.proofs.Unique.{parts_alike}
 use Rattle.rbd_layout.proofs.laws.parts_are_the_bytes.Goals as goal
 
@@ -9,4 +9,7 @@ pub returns-clause-ascend : goal.returns-clause-ascend
 returns-clause-ascend c = parts_ascend
 
 pub returns-clause-once : goal.returns-clause-once
-returns-clause-once c = parts_alike
+returns-clause-once c = in_one_part
+
+pub returns-clause-one_list : goal.returns-clause-one_list
+returns-clause-one_list c = parts_alike

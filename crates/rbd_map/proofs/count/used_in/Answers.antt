@@ -1,5 +1,6 @@
 use Rattle.std.proofs.Common.{◌≡◌, ◌+◌, ◌/◌, cond, count_by, ap, sym, ◌∙◌, refl, arith}
-use Rattle.rbd_map.specs.States.{states_of, is_used, state_at}
+use Rattle.rbd_kinds.specs.States.{state_at}
+use Rattle.rbd_map.specs.States.{states_of, is_used}
 use Rattle.rbd_map.proofs.Packing.{used_more, used-le, used-take}
 use Rattle.rbd_map.proofs.count.used_in.Goals as goal
 

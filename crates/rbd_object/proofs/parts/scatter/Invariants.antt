@@ -1,5 +1,6 @@
 use Rattle.std.proofs.Common.{◌≡◌, length, drop}
-use Rattle.rbd_object.specs.Parts.{parts_len, parts_written}
+use Rattle.rbd_kinds.specs.Parts.{parts_len}
+use Rattle.rbd_object.specs.Parts.{parts_written}
 use Rattle.rbd_object.proofs.parts.scatter.Given as goal
 
 -- once the parts that are left are written, all are

@@ -1,5 +1,5 @@
 use Rattle.std.proofs.Common.{◌≡◌, ◌+◌, drop}
-use Rattle.rbd_object.specs.Parts.{parts_len}
+use Rattle.rbd_kinds.specs.Parts.{parts_len}
 use Rattle.rbd_piece.proofs.gather.total.Given as goal
 
 -- what was counted, and what is left to count

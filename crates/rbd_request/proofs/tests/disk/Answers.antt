@@ -30,7 +30,7 @@ in_form size generation role most = record {
   overlap = tt;
   snaps = λ k s is. cc;
   few = omega arith;
-  rising = omega arith;
+  rising = tt;
   depth = omega arith;
 }
 

@@ -32,7 +32,7 @@ is_new = record {
     overlap = tt;
     snaps = λ k s is. cc;
     few = omega arith;
-    rising = omega arith;
+    rising = tt;
     depth = omega arith;
   };
   generation = refl;

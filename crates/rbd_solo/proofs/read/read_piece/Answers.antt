@@ -1,5 +1,6 @@
 use Rattle.std.proofs.Common.{sym, ap, ◌∙◌, subst, length, map}
-use Rattle.rbd_object.specs.Parts.{EndWithin, parts_len, parts_written, AreBehind, shifted}
+use Rattle.rbd_kinds.specs.Parts.{parts_len}
+use Rattle.rbd_object.specs.Parts.{EndWithin, parts_written, AreBehind, shifted}
 use Rattle.rbd_site.specs.Log.{records_of}
 use Rattle.rbd_solo.proofs.Written.{parts_behind}
 use Rattle.rbd_solo.proofs.Readings.{ends_within, long_told, absent_read, bytes_read}

@@ -1,7 +1,8 @@
 use Rattle.std.proofs.Common.{◌≡◌, ◌+◌, ◌/◌, length, get_or, sym, ap, ◌∙◌, arith}
 use Rattle.std.proofs.lemmas.List.{get_or_past}
 use Rattle.std.proofs.lemmas.List.FromFn.{get_or-map-range_with_len}
-use Rattle.rbd_map.specs.States.{state_at, states_of}
+use Rattle.rbd_kinds.specs.States.{state_at}
+use Rattle.rbd_map.specs.States.{states_of}
 use Rattle.rbd_map.proofs.Packing.{length-states_of, length_packed, below_3}
 use Rattle.rbd_map.proofs.map.ObjectMap.get.Goals as goal
 

@@ -1,6 +1,7 @@
 use Rattle.std.proofs.Common.{◌≡◌, ◌+◌, ◌/◌, List, ℕ, length, get_or, set, refl, sym, ap, ◌∙◌, arith, vec_len}
 use Rattle.std.proofs.lemmas.List.{get_or_read, length-set}
-use Rattle.rbd_map.specs.States.{states_of, state_at}
+use Rattle.rbd_kinds.specs.States.{state_at}
+use Rattle.rbd_map.specs.States.{states_of}
 use Rattle.rbd_map.proofs.Packing.{length-states_of, length_packed, is_packed, states_back, changed, changed_fits, are_states-set}
 use Rattle.rbd_map.proofs.map.ObjectMap.set.Goals as goal
 
