@@ -1,3 +1,4 @@
+pub mod Drawn
 pub mod Newest
 pub mod Readings
 pub mod Sound

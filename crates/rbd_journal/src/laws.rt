@@ -1,10 +1,11 @@
 //! What the definitions of a journal mean for its readers: each law is the contract of a function that does
 //! nothing. `frame_at` is what `read` answers.
-ghost use Rattle.std.specs.Prelude.{◌≡◌, ◌≢◌, ℕ, ◌+◌, ◌<◌, ◌≤◌, List, None, Some, IsSome, slice_get};
+ghost use Rattle.std.specs.Prelude.{◌≡◌, ◌≢◌, ℕ, ◌+◌, ◌<◌, ◌≤◌, List, All, AllPairs, None, Some, IsSome, slice_get};
 ghost use Rattle.rbd_kinds.specs.declared.journal.JournalClient.{JournalClient};
 ghost use Rattle.rbd_kinds.specs.declared.journal.Position.{Position};
 ghost use Rattle.rbd_kinds.specs.declared.journal.Span.{Span};
 ghost use Rattle.rbd_kinds.specs.Spans.{RunFrom};
+ghost use Rattle.rbd_journal.specs.Calls.{Call, tags_drawn};
 ghost use Rattle.rbd_journal.specs.Records.{IsSound, Records, appended, based_on, committed, frame_at, least_commit, registered, tag_drawn, tag_of, trimmed, view_of};
 
 /// After an append its position and frame are read at its number, and what was read at each other number
@@ -58,4 +59,11 @@ pub fn soundness_is_kept()
     ensures registered { (j : Records) → IsSound j → IsSound (registered j) }
     ensures trimmed { (j : Records) → IsSound j → IsSound (trimmed j) }
     ensures tag_drawn { (j : Records) → IsSound j → IsSound (tag_drawn j) }
+{}
+
+/// No journal draws a tag twice, whatever is called between: each tag's number is above all that were drawn
+/// before.
+pub fn tags_are_drawn_once()
+    ensures new { (calls : List Call) (j : Records) → All (λ t. j.drawn < t.no) (tags_drawn calls j) }
+    ensures once { (calls : List Call) (j : Records) → AllPairs (λ t u. t ≢ u) (tags_drawn calls j) }
 {}
