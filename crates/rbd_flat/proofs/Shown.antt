@@ -5,7 +5,8 @@ use Rattle.rbd_kinds.specs.declared.layout.Extent.{Extent}
 use Rattle.rbd_flat.specs.declared.fault.FlatFault.{FlatFault}
 use Rattle.rbd_flat.specs.declared.fault.FlatFault.TheVariants.{NoImage, NoSnap, BadRange, NoMemory}
 use Rattle.rbd_flat.specs.Flat.{FlatImage, FlatSnap, snap_in, snap_of}
-use Rattle.rbd_flat.specs.Read.{read_image, read_view, view_at, view_of, is_within}
+use Rattle.rbd_kinds.specs.Extents.{fits}
+use Rattle.rbd_flat.specs.Read.{read_image, read_view, view_at, view_of}
 use Rattle.std.proofs.lemmas.Option.{same_Some, none-some}
 use Rattle.std.proofs.lemmas.Bool.{false≢true}
 use Rattle.std.specs.Option.{option_map}
@@ -15,13 +16,13 @@ pub record Answers (o : Option FlatImage) (snap : Option ℕ) (e : Extent) (r : 
   pub bytes : IfOk r (λ bs. read_image o snap e ≡ Ok bs)
   pub no_image : IsErrOf r NoImage ↔ (o ≡ None)
   pub no_snap : IsErrOf r NoSnap ↔ (IsSome o × ((t : ℕ) × (snap ≡ Some t) × (snap_of o t ≡ None)))
-  pub bad_range : IsErrOf r BadRange ↔ ((bs : List ℕ) × (view_at o snap ≡ Some bs) × (is_within e (length bs) ≡ false))
+  pub bad_range : IsErrOf r BadRange ↔ ((bs : List ℕ) × (view_at o snap ≡ Some bs) × (fits e (length bs) ≡ false))
   pub no_memory : IsErrOf r NoMemory → IsOk (read_image o snap e)
 
 -- the answer to the read of a view's bytes
 pub record ViewAnswers (bs : List ℕ) (e : Extent) (r : Result (List ℕ) FlatFault) : Type 0 where
   pub bytes : IfOk r (λ read. read_view (Some bs) e ≡ Ok read)
-  pub bad_range : IsErrOf r BadRange ↔ (is_within e (length bs) ≡ false)
+  pub bad_range : IsErrOf r BadRange ↔ (fits e (length bs) ≡ false)
   pub no_memory : IsErrOf r NoMemory → IsOk (read_view (Some bs) e)
   pub no_image : IsErrOf r NoImage → ⊥
   pub no_snap : IsErrOf r NoSnap → ⊥
@@ -61,7 +62,7 @@ with_view i bs snap e r is v = record {
   bytes = subst (λ (o : Option (List ℕ)). IfOk r (λ read. read_view o e ≡ Ok read)) (sym is) v.bytes;
   no_image = (λ h. absurd (v.no_image h), λ h. absurd (cc));
   no_snap = (λ h. absurd (v.no_snap h), λ h. absurd (none-some bs (sym (nothing_seen i h.1.0 h.1.2) ∙ sym (ap (view_of i) h.1.1) ∙ is)));
-  bad_range = (λ h. (bs, is, v.bad_range.0 h), λ h. v.bad_range.1 (ap (λ (cs : List ℕ). is_within e (length cs)) (same_Some bs h.0 (sym is ∙ h.1)) ∙ h.2));
+  bad_range = (λ h. (bs, is, v.bad_range.0 h), λ h. v.bad_range.1 (ap (λ (cs : List ℕ). fits e (length cs)) (same_Some bs h.0 (sym is ∙ h.1)) ∙ h.2));
   no_memory = λ h. subst (λ (o : Option (List ℕ)). IsOk (read_view o e)) (sym is) (v.no_memory h);
 }
 

@@ -1,14 +1,11 @@
 -- What a read of the flat-copy machine shows.
-use Rattle.std.specs.Prelude.{◌≡◌, ℕ, ◌+◌, ◌&&◌, nat_lt, nat_le, Bool, false, if◌then◌else◌, List, length, take, drop, Option, Some, None, IsSome, Result, Ok, Err}
+use Rattle.std.specs.Prelude.{◌≡◌, ℕ, false, if◌then◌else◌, List, length, take, drop, Option, Some, None, IsSome, Result, Ok, Err}
 use Rattle.std.specs.Option.{option_map}
 use Rattle.rbd_kinds.specs.declared.layout.Extent.{Extent}
+use Rattle.rbd_kinds.specs.Extents.{fits}
 use Rattle.rbd_flat.specs.declared.fault.FlatFault.{FlatFault}
 use Rattle.rbd_flat.specs.declared.fault.FlatFault.TheVariants.{NoImage, NoSnap, BadRange}
 use Rattle.rbd_flat.specs.Flat.{Flat, FlatImage, FlatSnap, image_at, snap_in, snap_of}
-
--- an extent that isn't empty and ends within the size
-abbrev pub is_within : Extent → ℕ → Bool
-is_within e size = nat_lt 0 e.len && nat_le (e.at + e.len) size
 
 -- the bytes at the extent
 abbrev pub bytes_in : List ℕ → Extent → List ℕ
@@ -26,7 +23,7 @@ view_at (Some i) snap = view_of i snap
 -- the read of a view, and of an image
 abbrev pub read_view : Option (List ℕ) → Extent → Result (List ℕ) FlatFault
 read_view None e = Err NoSnap
-read_view (Some bytes) e = if is_within e (length bytes) then Ok (bytes_in bytes e) else Err BadRange
+read_view (Some bytes) e = if fits e (length bytes) then Ok (bytes_in bytes e) else Err BadRange
 
 abbrev pub read_image : Option FlatImage → Option ℕ → Extent → Result (List ℕ) FlatFault
 read_image None snap e = Err NoImage
@@ -42,4 +39,4 @@ IsUnlisted f image snap = IsSome (image_at f image) × ((t : ℕ) × (snap ≡ S
 
 -- the extent doesn't fit into the bytes that are shown
 abbrev pub IsOutside : Flat → (image : ℕ) → (snap : Option ℕ) → Extent → Type 0
-IsOutside f image snap e = (bytes : List ℕ) × (view_at (image_at f image) snap ≡ Some bytes) × (is_within e (length bytes) ≡ false)
+IsOutside f image snap e = (bytes : List ℕ) × (view_at (image_at f image) snap ≡ Some bytes) × (fits e (length bytes) ≡ false)

@@ -21,8 +21,6 @@
 //!
 //! Contracts see a `FlatSite` as the flat site itself, the record `Flat`.
 //!
-//! [`fits`] is the one test of an extent against a size, for reads here and for the requests above.
-//!
 //! # Cost
 //!
 //! It is the slow form. An image takes its whole size in memory, and so does each snapshot and each clone;
@@ -43,7 +41,6 @@ mod fault;
 mod image;
 pub mod laws;
 mod paint;
-mod range;
 mod site;
 #[cfg(test)]
 mod tests;
@@ -52,5 +49,4 @@ pub use effect::Effect;
 pub use entry::{Cause, Entry};
 pub use extents::Extents;
 pub use fault::FlatFault;
-pub use range::fits;
 pub use site::FlatSite;

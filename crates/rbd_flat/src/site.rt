@@ -1,7 +1,8 @@
 ghost use Rattle.std.specs.Prelude.{◌≡◌, ◌↔◌, Some, None, Ok, OnOk, OnErr, IfOk, IsOk, IsErrOf, length, false};
 ghost use Rattle.rbd_flat.specs.Flat.{no_images, after, id_of, image_at};
 ghost use Rattle.rbd_flat.specs.Site.{wants_memory};
-ghost use Rattle.rbd_flat.specs.Read.{read_of, read_view, is_within, IsUnlisted, IsOutside};
+ghost use Rattle.rbd_kinds.specs.Extents.{fits};
+ghost use Rattle.rbd_flat.specs.Read.{read_of, read_view, IsUnlisted, IsOutside};
 
 mod images;
 mod link;
@@ -11,7 +12,6 @@ mod names;
 use crate::effect::Effect;
 use crate::fault::FlatFault;
 use crate::image::Image;
-use crate::range::fits;
 use link::Link;
 use rbd_kinds::{Bytes, Extent, ImageId, Name, NoMemory, SnapId};
 use std::alloc::Global;
@@ -127,12 +127,12 @@ impl FlatSite {
 
 fn read_bytes(alloc: Global, bytes: &[u8], extent: &Extent) -> Result<Bytes, FlatFault>
     ensures bytes { IfOk result (λ read. read_view (Some bytes.now) extent.now ≡ Ok read) }
-    ensures bad_range { IsErrOf result FlatFault.BadRange ↔ (is_within extent.now (length bytes.now) ≡ false) }
+    ensures bad_range { IsErrOf result FlatFault.BadRange ↔ (fits extent.now (length bytes.now) ≡ false) }
     ensures no_memory { IsErrOf result FlatFault.NoMemory → IsOk (read_view (Some bytes.now) extent.now) }
     ensures no_image { IsErrOf result FlatFault.NoImage → ⊥ }
     ensures no_snap { IsErrOf result FlatFault.NoSnap → ⊥ }
 {
-    if !fits(extent, bytes.len() as u64) {
+    if !extent.fits(bytes.len() as u64) {
         return Err(FlatFault::BadRange);
     }
     let (at, len) = (extent.at as usize, extent.len as usize);

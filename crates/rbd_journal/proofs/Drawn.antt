@@ -3,22 +3,31 @@ use Rattle.std.proofs.Common.{◌≡◌, ◌≢◌, ℕ, ◌+◌, ◌<◌, List,
 use Rattle.std.specs.Prelude.{All, AllPairs}
 use Rattle.std.proofs.lemmas.List.Elements.{All-nil, All-cons}
 use Rattle.std.proofs.lemmas.List.Kept.{AllPairs-cons}
+use Rattle.rbd_kinds.specs.declared.journal.JournalClient.{JournalClient}
+use Rattle.rbd_kinds.specs.declared.journal.JournalClient.TheVariants.{Local, Mirror}
 use Rattle.rbd_kinds.specs.declared.journal.Tag.{Tag}
-use Rattle.rbd_journal.specs.Records.{Records, tag_drawn}
+use Rattle.rbd_journal.specs.Records.{Records, committed, tag_drawn}
 use Rattle.rbd_journal.specs.Calls.{Call, Append, Commit, Register, Trim, Draw, called, next_tag, tags_drawn}
 
 abbrev IsNew : Records → Tag → Type 0
 IsNew j t = j.drawn < t.no
 
+same_drawn : (client : JournalClient) (seq : ℕ) (j : Records) → (committed client seq j).drawn ≡ j.drawn
+same_drawn Local seq j = refl
+same_drawn Mirror seq j = refl
+
 pub drawn_new : (calls : List Call) (j : Records) → All (IsNew j) (tags_drawn calls j)
 drawn_new [] j = All-nil (IsNew j)
 drawn_new (Append p frame ∷ calls) j = drawn_new calls (called (Append p frame) j)
-drawn_new (Commit client seq ∷ calls) j = drawn_new calls (called (Commit client seq) j)
+drawn_new (Commit client seq ∷ calls) j = λ k d less.
+    let same : (committed client seq j).drawn ≡ j.drawn = same_drawn client seq j in
+    let later : (committed client seq j).drawn < _ = drawn_new calls (committed client seq j) k d less in
+    omega arith
 drawn_new (Register ∷ calls) j = drawn_new calls (called Register j)
 drawn_new (Trim ∷ calls) j = drawn_new calls (called Trim j)
 drawn_new (Draw site image ∷ calls) j =
     All-cons (IsNew j) (next_tag site image j) (tags_drawn calls (tag_drawn j)) (omega arith)
-        (λ k d less. let later : j.drawn + 1 < _ = drawn_new calls (tag_drawn j) k d less in omega arith)
+    (λ k d less. let later : j.drawn + 1 < _ = drawn_new calls (tag_drawn j) k d less in omega arith)
 
 pub drawn_rising : (calls : List Call) (j : Records) → AllPairs (λ t u. t.no < u.no) (tags_drawn calls j)
 drawn_rising [] j = λ i k d before less. omega arith
@@ -28,7 +37,7 @@ drawn_rising (Register ∷ calls) j = drawn_rising calls (called Register j)
 drawn_rising (Trim ∷ calls) j = drawn_rising calls (called Trim j)
 drawn_rising (Draw site image ∷ calls) j =
     AllPairs-cons (λ t u. t.no < u.no) (next_tag site image j) (tags_drawn calls (tag_drawn j))
-        (drawn_new calls (tag_drawn j)) (drawn_rising calls (tag_drawn j))
+    (drawn_new calls (tag_drawn j)) (drawn_rising calls (tag_drawn j))
 
 pub drawn_once : (calls : List Call) (j : Records) → AllPairs (λ t u. t ≢ u) (tags_drawn calls j)
 drawn_once calls j = λ i k d before less same.

@@ -1,4 +1,7 @@
 //! How an image is cut into objects.
+ghost use Rattle.std.specs.Prelude.{◌≡◌};
+ghost use Rattle.rbd_kinds.specs.Extents as extents;
+
 use crate::copies::TryClone;
 use crate::memory::NoMemory;
 use crate::sequence::Sequence;
@@ -21,6 +24,16 @@ pub struct Layout {
 pub struct Extent {
     pub at: u64,
     pub len: u64,
+}
+
+impl Extent {
+    /// Whether it isn't empty and ends within a size, in bytes: the one test of an extent, for reads, writes and the
+    /// measure of both. It takes no memory.
+    pub fn fits(&self, size: u64) -> bool
+        ensures { result ≡ extents.fits self.now size }
+    {
+        self.len > 0 && self.len <= size && self.at <= size - self.len
+    }
 }
 
 /// `len` bytes that lie together in an object from its byte `offset` on, and in the image from its

@@ -14,7 +14,8 @@ use Rattle.rbd_kinds.specs.declared.reply.Reply.TheVariants as reply
 use Rattle.rbd_flat.specs.declared.entry.Entry.{Entry}
 use Rattle.rbd_flat.specs.declared.entry.Entry.TheVariants as entry
 use Rattle.rbd_flat.specs.Flat.{FlatImage, FlatSnap, id_of}
-use Rattle.rbd_flat.specs.Read.{is_within, bytes_in}
+use Rattle.rbd_kinds.specs.Extents.{fits}
+use Rattle.rbd_flat.specs.Read.{bytes_in}
 use Rattle.rbd_stands.specs.Reading.{flat_snap_named}
 use Rattle.rbd_solo.specs.Meaning.{FlatState, Found, named, IsReply, IsCreateReply, is_full, lists_all, write_reply, read_reply, view_reply, snap_bytes_reply, reply_within, snap_create_reply, snap_remove_reply, name_reply}
 use Rattle.rbd_solo.specs.Story.{Asked, AreOperationsFor, IsRequest, IsHistory, Played, IsPlayed}
@@ -28,7 +29,7 @@ is_info (reply.Info view) = true
 is_info _ = false
 
 within_plain : (e : Extent) (bytes : List ℕ) (r : Reply) → is_info r ≡ false → is_info (reply_within e bytes r) ≡ false
-within_plain e bytes r plain = go (is_within e (length bytes))
+within_plain e bytes r plain = go (fits e (length bytes))
   where
     go : (b : Bool) → is_info (cond b r (reply.Refused refusal.BadRange)) ≡ false
     go true = plain

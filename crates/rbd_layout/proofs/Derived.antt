@@ -89,7 +89,6 @@ counted_begin l h size count object is = (forth (cases_lt 0 size), back)
 
 -- ---- parts
 
-
 pub Any-here : {X : Type 0} (P : X → Type 0) (x : X) (xs : List X) → P x → Any P (x ∷ xs)
 Any-here P x xs h = (0, x, omega arith, refl, h)
 

@@ -1,6 +1,7 @@
-//! The layout that a new image is asked to have.
+//! The layout that a new image or a clone is asked to have.
 ghost use Rattle.std.specs.Prelude.{◌≡◌, ◌↔◌, ◌<◌, ◌^◌, IsTrue};
-ghost use Rattle.rbd_layout.specs.Asked.{layout_of as asked_layout, KeepsLimits};
+ghost use Rattle.rbd_layout.specs.Asked as asked;
+ghost use Rattle.rbd_layout.specs.Asked.{KeepsLimits};
 
 use crate::count::objects;
 use crate::shape::check;
@@ -12,12 +13,38 @@ const USUAL_OBJECT: u64 = 4_194_304;
 /// How many objects an image has at most.
 const MOST_OBJECTS: u64 = 1_048_576;
 
-/// The layout that a shape asks for: where it doesn't say otherwise, objects of 4 MiB, the stripe unit the whole
-/// object, and one object in a stripe (Ceph: `rbd create`).
+/// The layout of an image that is made new: where its shape doesn't say otherwise, objects of 4 MiB, the stripe
+/// unit the whole object, and one object in a stripe (Ceph: `rbd create`).
 pub fn layout_of(shape: &Shape) -> Layout
-    ensures { result ≡ asked_layout shape.now }
+    ensures { result ≡ asked.layout_of shape.now }
 {
-    let object = shape.object.map_or(USUAL_OBJECT, |object| object.get());
+    layout_on(USUAL_OBJECT, shape)
+}
+
+/// The layout of a clone: its parent's, where its shape says nothing of it. Where it says anything, the object size
+/// is the parent's unless it says otherwise, and the rest is as for an image that is made new (own).
+pub fn clone_layout_of(parent: &Layout, shape: &Shape) -> Layout
+    ensures { result ≡ asked.clone_layout_of parent.now shape.now }
+{
+    if asks_for_layout(shape) {
+        layout_on(parent.object, shape)
+    } else {
+        *parent
+    }
+}
+
+/// Whether a shape says anything of the layout.
+fn asks_for_layout(shape: &Shape) -> bool
+    ensures { result ≡ asked.asks_for_layout shape.now }
+{
+    shape.object.is_some() || shape.unit.is_some() || shape.count.is_some()
+}
+
+/// The layout that a shape asks for, with an object size in bytes where it asks for none.
+fn layout_on(usual: u64, shape: &Shape) -> Layout
+    ensures { result ≡ asked.layout_on usual shape.now }
+{
+    let object = shape.object.map_or(usual, |object| object.get());
     Layout {
         object,
         unit: shape.unit.map_or(object, |unit| unit.get()),

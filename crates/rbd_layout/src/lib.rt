@@ -15,7 +15,7 @@
 //! image byte lies and at which offset, [`back`] which image byte lies at a place, [`objects`] how many
 //! objects an image of a size has, [`pieces`] which parts of which objects an extent touches, and
 //! [`parts_in`] which parts of one object. [`layout_of`] is the layout that the shape of a new image asks
-//! for, and [`keeps_limits`] says whether an image with a layout and a size may be made.
+//! for, [`clone_layout_of`] that of a clone, and [`keeps_limits`] says whether an image with a layout and a size may be made.
 //!
 //! # Cost
 //!
@@ -48,7 +48,7 @@ mod striping;
 mod tests;
 mod types;
 
-pub use asked::{keeps_limits, layout_of};
+pub use asked::{clone_layout_of, keeps_limits, layout_of};
 pub use count::objects;
 pub use extent::{parts_in, pieces};
 pub use laws::{

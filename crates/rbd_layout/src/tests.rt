@@ -51,6 +51,23 @@ fn the_usual_shape(rt: HostRuntime) {
     assert_eq!(rt; layout_of(&shape), layout(8_192, 512, 3));
 }
 
+/// A clone of an image of 8,192, 4,096 and 2.
+#[test]
+fn the_shape_of_a_clone(rt: HostRuntime) {
+    let parent = layout(8_192, 4_096, 2);
+    let mut shape = Shape {
+        object: None,
+        unit: None,
+        count: None,
+        journal: true,
+    };
+    assert_eq!(rt; clone_layout_of(&parent, &shape), parent);
+    shape.count = Some(3);
+    assert_eq!(rt; clone_layout_of(&parent, &shape), layout(8_192, 8_192, 3));
+    shape.object = Number::new(16_384);
+    assert_eq!(rt; clone_layout_of(&parent, &shape), layout(16_384, 16_384, 3));
+}
+
 /// 4,294,967,296 bytes are 2^20 objects of 4,096 bytes.
 #[test]
 fn limits_of_an_image(rt: HostRuntime) {

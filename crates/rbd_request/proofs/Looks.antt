@@ -13,7 +13,7 @@ use Rattle.rbd_kinds.specs.Form.{HasFewObjects, IsHeaderInForm, IsSnapInForm}
 use Rattle.rbd_kinds.specs.Header.{snap_named}
 use Rattle.rbd_layout.specs.Pieces.{IsPieces}
 use Rattle.rbd_layout.specs.declared.types.Piece.{Piece}
-use Rattle.rbd_flat.specs.Read.{is_within}
+use Rattle.rbd_kinds.specs.Extents.{fits}
 use Rattle.rbd_header.specs.Header.{view_of, view_of_snap}
 use Rattle.rbd_header.specs.declared.view.View.{View}
 use Rattle.rbd_layout.proofs.Bounds.{few_bytes}
@@ -22,9 +22,9 @@ use Rattle.rbd_request.proofs.Writes.{within_size}
 
 -- an extent that fits has a byte
 pub some_bytes : (e : Extent) (size : ℕ) → out_of_range e size ≡ None → 0 < e.len
-some_bytes e size none = go (is_within e size) refl
+some_bytes e size none = go (fits e size) refl
   where
-    go : (b : Bool) → is_within e size ≡ b → 0 < e.len
+    go : (b : Bool) → fits e size ≡ b → 0 < e.len
     go true is = grind (arith, nat_tests)
     go false is = let some : out_of_range e size ≡ Some refusal.BadRange = rw is refl in cc
 

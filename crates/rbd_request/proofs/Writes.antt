@@ -15,7 +15,7 @@ use Rattle.rbd_kinds.specs.declared.machine.Fed.{Fed}
 use Rattle.rbd_kinds.specs.declared.machine.Fed.TheVariants as fed
 use Rattle.rbd_kinds.specs.declared.machine.Want.TheVariants as want
 use Rattle.rbd_kinds.specs.declared.refusal.Refusal.TheVariants as refusal
-use Rattle.rbd_flat.specs.Read.{is_within}
+use Rattle.rbd_kinds.specs.Extents.{fits}
 use Rattle.rbd_machine.specs.Answers.{CanBeFed}
 use Rattle.rbd_machine.specs.Plan.{Plan, Await, IsAsking, Notes}
 use Rattle.rbd_machine.specs.Steps.{applied}
@@ -68,9 +68,9 @@ notes_write (stage.Writing image piece) w = tt
 -- ---- extents
 
 pub within_size : (e : Extent) (size : ℕ) → out_of_range e size ≡ None → e.at + e.len ≤ size
-within_size e size none = go (is_within e size) refl
+within_size e size none = go (fits e size) refl
   where
-    go : (b : Bool) → is_within e size ≡ b → e.at + e.len ≤ size
+    go : (b : Bool) → fits e size ≡ b → e.at + e.len ≤ size
     go true is = grind (arith, nat_tests)
     go false is = let some : out_of_range e size ≡ Some refusal.BadRange = rw is refl in cc
 

@@ -14,7 +14,7 @@ use Rattle.rbd_kinds.specs.declared.refusal.Refusal.TheVariants as refusal
 use Rattle.rbd_layout.specs.Pieces.{pieces_of}
 use Rattle.rbd_layout.specs.declared.types.Piece.{Piece}
 use Rattle.rbd_object.specs.Parts.{bytes_for}
-use Rattle.rbd_flat.specs.Read.{is_within}
+use Rattle.rbd_kinds.specs.Extents.{fits}
 use Rattle.rbd_machine.specs.Approach.{rest_of, owning_at}
 use Rattle.rbd_machine.specs.declared.approach.Place.{Place}
 use Rattle.rbd_machine.specs.Plan.{Plan, Await, Note}
@@ -37,7 +37,7 @@ extent_at at bytes = record { at = at; len = length bytes }
 
 -- the extent doesn't fit into the size that the header tells
 abbrev pub out_of_range : Extent → (size : ℕ) → Option Refusal
-out_of_range e size = if is_within e size then None else Some refusal.BadRange
+out_of_range e size = if fits e size then None else Some refusal.BadRange
 
 abbrev pub write_refuses : Extent → HeaderView → Option Refusal
 write_refuses e h = or_else (non_primary h.role) (out_of_range e h.size)

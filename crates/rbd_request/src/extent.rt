@@ -2,14 +2,13 @@
 ghost use Rattle.std.specs.Prelude.{◌≡◌};
 ghost use Rattle.rbd_request.specs.Write as of_write;
 
-use rbd_flat::fits;
 use rbd_kinds::{Extent, Refusal};
 
 /// BadRange, where the extent doesn't fit into a size.
 pub fn out_of_range(extent: &Extent, size: u64) -> Option<Refusal>
     ensures { result ≡ of_write.out_of_range extent.now size }
 {
-    if fits(extent, size) {
+    if extent.fits(size) {
         None
     } else {
         Some(Refusal::BadRange)

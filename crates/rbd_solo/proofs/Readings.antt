@@ -33,7 +33,8 @@ use Rattle.rbd_object.proofs.ContentsLemmas.{length-window}
 use Rattle.rbd_flat.specs.Flat.{Flat, FlatImage, FlatSnap, image_at}
 use Rattle.rbd_flat.specs.Flat as flat
 use Rattle.rbd_flat.specs.Laws.{covers}
-use Rattle.rbd_flat.specs.Read.{bytes_in, is_within, view_at, view_of}
+use Rattle.rbd_kinds.specs.Extents.{fits}
+use Rattle.rbd_flat.specs.Read.{bytes_in, view_at, view_of}
 use Rattle.rbd_site.specs.DataStep.{parts_read}
 use Rattle.rbd_site.specs.Log.{SiteLog, records_of}
 use Rattle.rbd_site.specs.Records.{Records, object_at}
@@ -302,18 +303,18 @@ read_unlisted old new name snap at len o looks is none =
     ∙ ap (snap_bytes_reply (record { at = at; len = len })) missing))
 
 pub read_outside : (old new : SiteLog) (name : List ℕ) (snap : Option (List ℕ)) (at len : ℕ) (o : Opened) (view : View) → Looks old new → opened_in (records_of old) name ≡ Some o → IsHeaderInForm o.header
-    → named_view o.header snap ≡ Some view → is_within (record { at = at; len = len }) view.size ≡ false → IsAnswered old new (Read name snap at len) (Refused refusal.BadRange)
+    → named_view o.header snap ≡ Some view → fits (record { at = at; len = len }) view.size ≡ false → IsAnswered old new (Read name snap at len) (Refused refusal.BadRange)
 read_outside old new name snap at len o view looks is form is_view outside =
     answered_refused old new (Read name snap at len) refusal.BadRange looks (λ s holds.
     let e : Extent = record { at = at; len = len } in
     let found = found_some (records_of old) s name o holds is in
     let v = flat_viewed (records_of old) s name o found snap view form is_view in
     sym (ap (read_reply e snap) found.is ∙ v.replied e
-    ∙ ap (λ n. cond (is_within e n) (Bytes (bytes_in v.bytes e)) (Refused refusal.BadRange)) v.long
+    ∙ ap (λ n. cond (fits e n) (Bytes (bytes_in v.bytes e)) (Refused refusal.BadRange)) v.long
     ∙ ap (λ b. cond b (Bytes (bytes_in v.bytes e)) (Refused refusal.BadRange)) outside))
 
 pub read_done : (old mid new : SiteLog) (name : List ℕ) (snap : Option (List ℕ)) (at len : ℕ) (o : Opened) (view : View) (shown : List ℕ) → Looks old mid → Looks mid new → opened_in (records_of old) name ≡ Some o → IsHeaderInForm o.header
-    → named_view o.header snap ≡ Some view → is_within (record { at = at; len = len }) view.size ≡ true
+    → named_view o.header snap ≡ Some view → fits (record { at = at; len = len }) view.size ≡ true
     → ((f : Flat) (bytes : List ℕ) → StandsFor (records_of mid) f → HasNoParent o.header view → IsFlatView f o view bytes → shown ≡ bytes_in bytes (record { at = at; len = len }))
     → IsAnswered old new (Read name snap at len) (Bytes shown)
 read_done old mid new name snap at len o view shown looks more is form is_view within shows =
@@ -323,5 +324,5 @@ read_done old mid new name snap at len o view shown looks more is form is_view w
     let v = flat_viewed (records_of old) s name o found snap view form is_view in
     ap Bytes (shows s.site v.bytes (stands_same (records_of old) (records_of mid) s.site looks.same holds.stands) v.alone v.is)
     ∙ sym (ap (read_reply e snap) found.is ∙ v.replied e
-    ∙ ap (λ n. cond (is_within e n) (Bytes (bytes_in v.bytes e)) (Refused refusal.BadRange)) v.long
+    ∙ ap (λ n. cond (fits e n) (Bytes (bytes_in v.bytes e)) (Refused refusal.BadRange)) v.long
     ∙ ap (λ b. cond b (Bytes (bytes_in v.bytes e)) (Refused refusal.BadRange)) within))

@@ -31,7 +31,7 @@ use Rattle.rbd_object.specs.declared.content.TheConstants.{LARGEST_OBJECT}
 use Rattle.rbd_flat.specs.declared.effect.Effect.TheVariants as effect
 use Rattle.rbd_flat.specs.Flat.{Flat, FlatImage, after_all}
 use Rattle.rbd_flat.specs.Flat as flat
-use Rattle.rbd_flat.specs.Read.{is_within}
+use Rattle.rbd_kinds.specs.Extents.{fits}
 use Rattle.rbd_flat.proofs.Steps.{steps_in_turn, names_stay}
 use Rattle.rbd_site.specs.declared.done.Done.{Done as Line}
 use Rattle.rbd_site.specs.DataStep.{MayWrite}
@@ -146,12 +146,12 @@ write_missing old new name at bytes looks none =
     answered_refused old new (Write name at bytes) refusal.NoImage looks (λ s holds. sym (ap (write_reply (record { at = at; len = length bytes })) (found_none (records_of old) s name holds none)))
 
 pub write_outside : (old new : SiteLog) (name : List ℕ) (at : ℕ) (bytes : List ℕ) (o : Opened) → Looks old new → opened_in (records_of old) name ≡ Some o
-    → is_within (record { at = at; len = length bytes }) o.header.size ≡ false → IsAnswered old new (Write name at bytes) (Refused refusal.BadRange)
+    → fits (record { at = at; len = length bytes }) o.header.size ≡ false → IsAnswered old new (Write name at bytes) (Refused refusal.BadRange)
 write_outside old new name at bytes o looks is outside =
     answered_refused old new (Write name at bytes) refusal.BadRange looks (λ s holds.
     let found = found_some (records_of old) s name o holds is in
     sym (ap (write_reply (record { at = at; len = length bytes })) found.is
-    ∙ ap (λ n. cond (is_within (record { at = at; len = length bytes }) n) Done (Refused refusal.BadRange)) found.told.size
+    ∙ ap (λ n. cond (fits (record { at = at; len = length bytes }) n) Done (Refused refusal.BadRange)) found.told.size
     ∙ ap (λ b. cond b Done (Refused refusal.BadRange)) outside))
 
 names_of_pieces : (f : Flat) (image at : ℕ) (bytes : List ℕ) (pieces : List Piece) → (after_all f (piece_effects image at bytes pieces)).names ≡ f.names
@@ -159,7 +159,7 @@ names_of_pieces f image at bytes [] = refl
 names_of_pieces f image at bytes (p ∷ pieces) = names_of_pieces (flat.after f (piece_effect image at bytes p)) image at bytes pieces ∙ names_stay f (piece_effect image at bytes p) refl
 
 pub write_answered : (old mid new : SiteLog) (name : List ℕ) (at : ℕ) (bytes : List ℕ) (o : Opened) → Looks old mid → opened_in (records_of old) name ≡ Some o
-    → is_within (record { at = at; len = length bytes }) o.header.size ≡ true → WritesAll mid new o at bytes → IsAnswered old new (Write name at bytes) Done
+    → fits (record { at = at; len = length bytes }) o.header.size ≡ true → WritesAll mid new o at bytes → IsAnswered old new (Write name at bytes) Done
 write_answered old mid new name at bytes o looks is within all = answered_after old mid new (Write name at bytes) Done all.writes.lines looks all.writes.grown (λ s holds. means s holds)
   where
     opened_mid : opened_in (records_of mid) name ≡ Some o
@@ -171,7 +171,7 @@ write_answered old mid new name at bytes o looks is within all = answered_after 
         let f = s.site in
         let effects = piece_effects o.image at bytes all.pieces in
         record {
-          replied = sym (ap (write_reply (record { at = at; len = length bytes })) found.is ∙ ap (λ n. cond (is_within (record { at = at; len = length bytes }) n) Done (Refused refusal.BadRange)) found.told.size ∙ ap (λ b. cond b Done (Refused refusal.BadRange)) within);
+          replied = sym (ap (write_reply (record { at = at; len = length bytes })) found.is ∙ ap (λ n. cond (fits (record { at = at; len = length bytes }) n) Done (Refused refusal.BadRange)) found.told.size ∙ ap (λ b. cond b Done (Refused refusal.BadRange)) within);
           are = record { id = o.image; is_id = found.id; layout = o.header.layout; is_layout = found.own.laid; pieces = all.pieces; are_pieces = all.are_pieces; are = all.writes.are };
           holds = subst (λ es. Holds (records_of new) (state_after s (Write name at bytes) Done es)) (sym all.writes.are) (record {
             stands = all.writes.stands found.own.parent f holds.stands;

@@ -16,7 +16,8 @@ use Rattle.rbd_layout.specs.declared.types.Piece.{Piece}
 use Rattle.rbd_flat.specs.declared.effect.Effect.{Effect}
 use Rattle.rbd_flat.specs.declared.effect.Effect.TheVariants as effect
 use Rattle.rbd_flat.specs.Flat.{Flat, FlatImage, FlatSnap, no_images, image_at, id_of, after_all}
-use Rattle.rbd_flat.specs.Read.{is_within, bytes_in}
+use Rattle.rbd_kinds.specs.Extents.{fits}
+use Rattle.rbd_flat.specs.Read.{bytes_in}
 use Rattle.rbd_site.specs.Records.{put}
 use Rattle.rbd_stands.specs.Reading.{flat_snap_named}
 use Rattle.rbd_stands.specs.Writing.{piece_effects}
@@ -62,7 +63,7 @@ lists_all s found = nat_le 256 (length found.image.snaps) || (s.taken found.id =
 
 -- the extent lies within the bytes, else the refusal
 abbrev pub reply_within : Extent → (bytes : List ℕ) → Reply → Reply
-reply_within e bytes reply = if is_within e (length bytes) then reply else Refused refusal.BadRange
+reply_within e bytes reply = if fits e (length bytes) then reply else Refused refusal.BadRange
 
 abbrev pub write_reply : Extent → Option Found → Reply
 write_reply e None = Refused refusal.NoImage

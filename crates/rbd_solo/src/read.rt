@@ -11,7 +11,6 @@ ghost use Rattle.rbd_solo.specs.Steps.{IsAnswered, Looks, IsViewOf, HasNoParent,
 
 use crate::look::{Opened, open};
 use crate::operate::{look, told_bytes};
-use rbd_flat::fits;
 use rbd_header::{View, view_of};
 use rbd_kinds::{Bytes, DataOp, Extent, Instance, Name, NoMemory, Op, Refusal, Reply, TryClone};
 use rbd_layout::{Piece, pieces};
@@ -39,7 +38,7 @@ pub fn read(
         return Ok(Reply::Refused(Refusal::NoSnap));
     };
     let extent = Extent { at, len };
-    if !fits(&extent, view.size) {
+    if !extent.fits(view.size) {
         return Ok(Reply::Refused(Refusal::BadRange));
     }
     let mut bytes = vec![in alloc; 0u8; len as usize]?;

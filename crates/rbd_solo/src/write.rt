@@ -8,7 +8,6 @@ ghost use Rattle.rbd_solo.specs.Steps.{IsAnswered, Writes, WritesAll};
 
 use crate::look::{Opened, open};
 use crate::operate::operate;
-use rbd_flat::fits;
 use rbd_header::context_of;
 use rbd_kinds::{Bytes, DataOp, Extent, Instance, Name, NoMemory, Op, Refusal, Reply, TryClone};
 use rbd_layout::{Piece, pieces};
@@ -34,7 +33,7 @@ pub fn write(
         at,
         len: bytes.len() as u64,
     };
-    if !fits(&extent, opened.header.size) {
+    if !extent.fits(opened.header.size) {
         return Ok(Reply::Refused(Refusal::BadRange));
     }
     write_pieces(alloc, site, me, &opened, &extent, bytes)?;
