@@ -13,7 +13,7 @@ use rbd_kinds::{
     Answer, Command, Event, Fed, HeaderOp, HeaderView, ImageId, Name, NoMemory, Op, OpKind,
     Refusal, Reply, SiteId, SnapId, SnapStatus, TryClone, Turn, Want,
 };
-use rbd_machine::{Approach, Course, Machine, Refuses, non_primary, refusal_of, told_done};
+use rbd_machine::{Approach, Machine, Progress, Refuses, non_primary, refusal_of, told_done};
 use std::alloc::Global;
 
 /// Takes a snapshot of an image, or removes one.
@@ -106,9 +106,9 @@ impl SnapRequest {
             unreachable!()
         };
         match way.feed(&self.change, fed) {
-            Course::More => Turn::More,
-            Course::Refused(refusal) => Turn::Done(Reply::Refused(refusal)),
-            Course::Owned(image) => {
+            Progress::More => Turn::More,
+            Progress::Refused(refusal) => Turn::Done(Reply::Refused(refusal)),
+            Progress::Ended(image) => {
                 let Fed::Answer(answer) = fed else {
                     unreachable!()
                 };

@@ -8,10 +8,10 @@ use Rattle.rbd_kinds.specs.declared.refusal.Refusal.{Refusal}
 use Rattle.rbd_machine.specs.Plan.{Plan}
 use Rattle.rbd_machine.specs.Steps.{refused, change, joining, looking, holding, owning}
 use Rattle.rbd_machine.specs.declared.approach.Approach.{Approach}
-use Rattle.rbd_machine.specs.declared.approach.Course.{Course}
-use Rattle.rbd_machine.specs.declared.approach.Course.TheVariants as course
 use Rattle.rbd_machine.specs.declared.approach.Place.{Place}
 use Rattle.rbd_machine.specs.declared.approach.Place.TheVariants as place
+use Rattle.rbd_machine.specs.declared.progress.Progress.{Progress}
+use Rattle.rbd_machine.specs.declared.progress.Progress.TheVariants as progress
 
 -- what is left of it, with what the change does then
 abbrev pub rest_from : Place → Approach → (HeaderView → Option Refusal) → (act : ℕ → HeaderView → Plan) → Plan
@@ -35,10 +35,10 @@ OwnedBy refuses act image (fed.Answer (answer.Header h)) to old = IsOwned refuse
 OwnedBy refuses act image _ to old = ⊥
 
 -- It went on, or has ended, or the change may do what it does.
-abbrev pub Approaches : (HeaderView → Option Refusal) → (act : ℕ → HeaderView → Plan) → Fed → (to : Plan) → Course → (old new : Approach) → Type 0
-Approaches refuses act f to course.More old new = rest_of new refuses act ≡ to
-Approaches refuses act f to (course.Refused r) old new = to ≡ refused r
-Approaches refuses act f to (course.Owned image) old new = OwnedBy refuses act image f to old
+abbrev pub Approaches : (HeaderView → Option Refusal) → (act : ℕ → HeaderView → Plan) → Fed → (to : Plan) → Progress ℕ → (old new : Approach) → Type 0
+Approaches refuses act f to progress.More old new = rest_of new refuses act ≡ to
+Approaches refuses act f to (progress.Refused r) old new = to ≡ refused r
+Approaches refuses act f to (progress.Ended image) old new = OwnedBy refuses act image f to old
 
 -- the image, where it is at its own look
 abbrev pub owning_at : Place → Option ℕ

@@ -108,7 +108,7 @@ going next (Err r) = refused r
 -- ---- a part of a request, which goes on with what comes next
 
 -- The part went on, or has ended and leaves what comes next, or ended the request.
-abbrev pub Progresses : (next to : Plan) → Progress → (left : Plan) → Type 0
+abbrev pub Progresses : (next to : Plan) → Progress (Unit {0}) → (left : Plan) → Type 0
 Progresses next to progress.More left = left ≡ to
-Progresses next to progress.Ended left = to ≡ next
+Progresses next to (progress.Ended nothing) left = to ≡ next
 Progresses next to (progress.Refused r) left = to ≡ refused r

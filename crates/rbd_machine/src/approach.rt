@@ -8,6 +8,7 @@ ghost use Rattle.rbd_machine.specs.Steps.{change};
 ghost use Rattle.rbd_machine.specs.Approach.{rest_of, Approaches, owning_at};
 
 use crate::looks::{dir_find, header_get};
+use crate::progress::Progress;
 use crate::told::{told_header, told_image};
 use rbd_kinds::{
     Answer, Fed, HeaderView, ImageId, Name, NoMemory, Op, OpKind, Refusal, SiteId, Want,
@@ -56,17 +57,6 @@ pub enum Place {
     Looking(ImageId),
     Holding(ImageId),
     Owning(ImageId),
-}
-
-/// What comes of a step.
-#[derive(Debug, Drop)]
-pub enum Course {
-    /// It wants more.
-    More,
-    /// The request has ended.
-    Refused(Refusal),
-    /// The own look told a header that refuses nothing.
-    Owned(ImageId),
 }
 
 impl Approach {
@@ -136,8 +126,9 @@ impl Approach {
         }
     }
 
-    /// Goes on with what it is fed, by the refusals of a rule. It takes no memory.
-    pub fn feed<R: Refuses>(&mut self, rule: &R, fed: &Fed) -> Course
+    /// Goes on with what it is fed, by the refusals of a rule. It has ended with the image where its own look told a
+    /// header that refuses nothing. It takes no memory.
+    pub fn feed<R: Refuses>(&mut self, rule: &R, fed: &Fed) -> Progress<ImageId>
         ensures { (act : ℕ → HeaderView → Plan) → Approaches (R.refuses rule.now) act fed.now (plan_after (rest_of self.old (R.refuses rule.now) act) fed.now) result self.old self.new }
     {
         match fed {
@@ -147,25 +138,25 @@ impl Approach {
     }
 
     /// Goes on, where it waits for something else than an answer.
-    fn pass(&mut self) -> Course
+    fn pass(&mut self) -> Progress<ImageId>
         ensures { (refuses : HeaderView → Option Refusal) (act : ℕ → HeaderView → Plan)
             → Approaches refuses act fed_with.Passed (plan_after (rest_of self.old refuses act) fed_with.Passed) result self.old self.new }
     {
         match &self.at {
             Place::Joining(image) => {
                 self.at = Place::Looking(*image);
-                Course::More
+                Progress::More
             }
             Place::Holding(image) => {
                 self.at = Place::Owning(*image);
-                Course::More
+                Progress::More
             }
-            _ => Course::More,
+            _ => Progress::More,
         }
     }
 
     /// Goes on with the answer to its operation.
-    fn answer<R: Refuses>(&mut self, rule: &R, answer: &Answer) -> Course
+    fn answer<R: Refuses>(&mut self, rule: &R, answer: &Answer) -> Progress<ImageId>
         ensures { (act : ℕ → HeaderView → Plan)
             → Approaches (R.refuses rule.now) act (fed_with.Answer answer.now) (plan_after (rest_of self.old (R.refuses rule.now) act) (fed_with.Answer answer.now)) result self.old self.new }
     {
@@ -173,28 +164,28 @@ impl Approach {
             Place::Finding => match told_image(answer) {
                 Ok(image) => {
                     self.at = Place::Joining(image);
-                    Course::More
+                    Progress::More
                 }
-                Err(refusal) => Course::Refused(refusal),
+                Err(refusal) => Progress::Refused(refusal),
             },
             Place::Looking(image) => match told_header(answer) {
                 Ok(header) => match rule.refusal(header) {
                     None => {
                         self.at = Place::Holding(*image);
-                        Course::More
+                        Progress::More
                     }
-                    Some(refusal) => Course::Refused(refusal),
+                    Some(refusal) => Progress::Refused(refusal),
                 },
-                Err(refusal) => Course::Refused(refusal),
+                Err(refusal) => Progress::Refused(refusal),
             },
             Place::Owning(image) => match told_header(answer) {
                 Ok(header) => match rule.refusal(header) {
-                    None => Course::Owned(*image),
-                    Some(refusal) => Course::Refused(refusal),
+                    None => Progress::Ended(*image),
+                    Some(refusal) => Progress::Refused(refusal),
                 },
-                Err(refusal) => Course::Refused(refusal),
+                Err(refusal) => Progress::Refused(refusal),
             },
-            _ => Course::More,
+            _ => Progress::More,
         }
     }
 }

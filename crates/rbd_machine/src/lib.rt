@@ -63,7 +63,7 @@
 //!    than name the next step goes to a function with a contract of its own.
 //! 6. A part that several requests have, as [`Approach`] or a piece of a write, is a struct of its own. Its clauses hold for
 //!    every plan that comes next, so the request puts in its own, and proves nothing of the part again. A step of a
-//!    part tells a [`Course`] or a [`Progress`].
+//!    part tells its [`Progress`].
 //!
 //! # Cost
 //!
@@ -86,7 +86,7 @@ mod progress;
 mod tests;
 mod told;
 
-pub use approach::{Approach, Course, Refuses};
+pub use approach::{Approach, Refuses};
 pub use looks::{dir_find, header_get};
 pub use machine::Machine;
 pub use progress::Progress;

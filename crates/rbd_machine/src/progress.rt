@@ -1,13 +1,13 @@
 //! What comes of a step of a part of a request.
 use rbd_kinds::Refusal;
 
-/// What comes of a step of a part, as of one piece of a write.
+/// What comes of a step of a part, as of the way to an own look or of one piece of a write.
 #[derive(Debug, Drop)]
-pub enum Progress {
+pub enum Progress<T> {
     /// The part wants more.
     More,
-    /// The part has ended, and the request goes on.
-    Ended,
+    /// The part has ended with this, and the request goes on.
+    Ended(T),
     /// The request has ended.
     Refused(Refusal),
 }

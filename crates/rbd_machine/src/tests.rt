@@ -3,7 +3,7 @@
 ghost use Rattle.std.specs.Prelude.{None, Some, ◌==◌, if◌then◌else◌};
 ghost use Rattle.rbd_kinds.specs.declared.refusal.Refusal.TheVariants.{BadRange};
 
-use crate::{Approach, Course, Refuses, non_primary, told_done, told_header, told_image};
+use crate::{Approach, Progress, Refuses, non_primary, told_done, told_header, told_image};
 use rbd_kinds::{
     Answer, Bytes, Fed, HeaderView, ImageId, Layout, Name, NoMemory, OpKind, Refusal, Role, SiteId,
     Snaps, Want,
@@ -91,7 +91,7 @@ fn told_size(alloc: Global, size: u64) -> Fed {
 fn go_on(rt: &impl Abort, way: &mut Approach, want: Want, fed: Fed) {
     assert!(rt; way.wants() == want);
     match way.feed(&RULE, &fed) {
-        Course::More => {}
+        Progress::More => {}
         _ => panic!(rt; "it has ended"),
     }
 }
@@ -100,7 +100,7 @@ fn go_on(rt: &impl Abort, way: &mut Approach, want: Want, fed: Fed) {
 fn refusal(rt: &impl Abort, way: &mut Approach, want: Want, fed: Fed) -> Refusal {
     assert!(rt; way.wants() == want);
     match way.feed(&RULE, &fed) {
-        Course::Refused(refusal) => refusal,
+        Progress::Refused(refusal) => refusal,
         _ => panic!(rt; "it is not refused"),
     }
 }
@@ -109,7 +109,7 @@ fn refusal(rt: &impl Abort, way: &mut Approach, want: Want, fed: Fed) -> Refusal
 fn owned(rt: &impl Abort, way: &mut Approach, fed: Fed) -> ImageId {
     assert!(rt; way.wants() == LOOK);
     match way.feed(&RULE, &fed) {
-        Course::Owned(image) => image,
+        Progress::Ended(image) => image,
         _ => panic!(rt; "it does not own it"),
     }
 }

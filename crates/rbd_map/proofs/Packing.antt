@@ -8,7 +8,7 @@ use Rattle.std.proofs.lemmas.List.Elements.{All-get_or}
 use Rattle.std.proofs.lemmas.List.Folds.{list_all-append}
 use Rattle.std.proofs.lemmas.List.{length-replicate, get_or-replicate, get_or_past, get_or-take, length-take-le, take_all, get_or-set_same, get_or-set_other, length-set}
 use Rattle.std.proofs.lemmas.List.FromFn.{fill_by_all, length-map-range_with_len, get_or-map-range_with_len, take-map-range_with_len, map-range_with_len_more}
-use Rattle.rbd_kinds.specs.States.{is_state, weight, state_at}
+use Rattle.rbd_kinds.specs.States.{HoldStates, is_state, weight, state_at}
 use Rattle.rbd_map.specs.States.{is_used, AreStates, byte_of, bits_of, states_of, IsPacked}
 
 -- a map of these bytes, opened
@@ -80,6 +80,11 @@ state_at-bits_of states object h =
     ap (λ b. b / weight (object % 4) % 4) (get_or-bits_of states (object / 4))
     ∙ state_in_byte states h (object / 4) (object % 4) (omega arith)
     ∙ ap (λ i. get_or states i 0) (omega arith)
+
+pub hold_states : (states : List ℕ) → AreStates states → HoldStates (bits_of states)
+hold_states states are object =
+    let small : state_at (bits_of states) object < 3 = rw (state_at-bits_of states object are) (below_3 states are object) in
+    grind (arith, nat_tests)
 
 pub states_of-bits_of : (states : List ℕ) → AreStates states → states_of (bits_of states) (length states) ≡ states
 states_of-bits_of states h = sym (fill_by_all (state_at (bits_of states)) states (length states) 0 refl (λ k l. sym (state_at-bits_of states k h)))

@@ -1,17 +1,19 @@
 //! What the definitions of a map mean: each law is the contract of a function that does nothing.
 ghost use Rattle.std.specs.Prelude.{◌≡◌, ◌≢◌, ℕ, ◌+◌, ◌/◌, ◌<◌, Bool, false, IsFalse, List, [], ◌++◌, length, replicate, slice_index, slice_set};
-ghost use Rattle.rbd_kinds.specs.States.{state_at};
+ghost use Rattle.rbd_kinds.specs.States.{HoldStates, state_at};
 ghost use Rattle.rbd_map.specs.States.{AreStates, bits_of, states_of};
 ghost use Rattle.rbd_map.specs.Covers.{Covers};
 
 /// The states come back from their bytes, and each object's state alone does. There are as many bytes as
-/// four objects in each need.
+/// four objects in each need, and none of them holds a state 3, past the last object either.
 pub fn bits_and_states()
     ensures back { (states : List ℕ) → AreStates states → states_of (bits_of states) (length states) ≡ states }
 
     ensures each { (states : List ℕ) (object : ℕ) → AreStates states → state_at (bits_of states) object ≡ slice_index states object }
 
     ensures bytes { (states : List ℕ) → length (bits_of states) ≡ (length states + 3) / 4 }
+
+    ensures form { (states : List ℕ) → AreStates states → HoldStates (bits_of states) }
 {}
 
 /// A map goes on to cover the objects where it grows, where an object's state is raised, whatever happens

@@ -36,9 +36,9 @@ abbrev pub rest_of_gather : Gather → (next : List ℕ → Plan) → Plan
 rest_of_gather g next = gather g.site g.image g.snap (g.piece ∷ g.pieces.items) g.bytes.items next
 
 -- Pieces were read, and it goes on, or all were, or the request has ended.
-abbrev pub Gathers : (next : List ℕ → Plan) → (to : Plan) → Progress → (new : Gather) → Type 0
+abbrev pub Gathers : (next : List ℕ → Plan) → (to : Plan) → Progress (Unit {0}) → (new : Gather) → Type 0
 Gathers next to progress.More new = rest_of_gather new next ≡ to
-Gathers next to progress.Ended new = to ≡ next new.bytes.items
+Gathers next to (progress.Ended nothing) new = to ≡ next new.bytes.items
 Gathers next to (progress.Refused r) new = to ≡ refused r
 
 -- the memory that an answer needs, where so many bytes are held and may be held

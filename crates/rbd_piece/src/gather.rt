@@ -120,7 +120,7 @@ impl Gather {
     }
 
     /// Goes on with an answer that it has the memory for.
-    pub fn feed(&mut self, answer: &Answer) -> Progress
+    pub fn feed(&mut self, answer: &Answer) -> Progress<()>
         requires { HasRoom self.old answer.now }
         ensures { (next : List ℕ → Plan) → Gathers next (plan_after (rest_of_gather self.old next) (fed_with.Answer answer.now)) result self.new }
     {
@@ -131,11 +131,11 @@ impl Gather {
     }
 
     /// Goes on to the next piece.
-    fn go_on(&mut self) -> Progress
+    fn go_on(&mut self) -> Progress<()>
         ensures { (next : List ℕ → Plan) → Gathers next (gather self.old.site self.old.image self.old.snap self.old.pieces.items self.old.bytes.items next) result self.new }
     {
         match self.pieces.pop_front() {
-            None => Progress::Ended,
+            None => Progress::Ended(()),
             Some(piece) => {
                 self.piece = piece;
                 Progress::More
@@ -227,7 +227,7 @@ impl Machine for Gather {
         };
         match Gather::feed(self, answer) {
             Progress::More => Turn::More,
-            Progress::Ended => Turn::Done(Reply::Done),
+            Progress::Ended(()) => Turn::Done(Reply::Done),
             Progress::Refused(refusal) => Turn::Done(Reply::Refused(refusal)),
         }
     }

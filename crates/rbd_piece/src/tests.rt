@@ -79,7 +79,7 @@ fn write_piece(alloc: Global) -> Result<WritePiece, NoMemory> {
 fn write_ends(rt: &impl Abort, write: &mut WritePiece, answer: Answer) -> Option<Refusal> {
     assert!(rt; write.wants() == WRITE);
     match write.feed(&answer) {
-        Progress::Ended => None,
+        Progress::Ended(()) => None,
         Progress::Refused(refusal) => Some(refusal),
         Progress::More => panic!(rt; "it wants more"),
     }
@@ -129,26 +129,26 @@ fn asks_for(rt: &impl Abort, gather: &Gather, object: u64) -> Result<(), NoMemor
 }
 
 /// What comes of an answer, for which there is memory.
-fn feed(gather: &mut Gather, answer: Answer) -> Result<Progress, NoMemory> {
+fn feed(gather: &mut Gather, answer: Answer) -> Result<Progress<()>, NoMemory> {
     gather.ready(&answer)?;
     Ok(gather.feed(&answer))
 }
 
-fn wants_more(progress: Progress) -> bool {
+fn wants_more(progress: Progress<()>) -> bool {
     match progress {
         Progress::More => true,
         _ => false,
     }
 }
 
-fn has_ended(progress: Progress) -> bool {
+fn has_ended(progress: Progress<()>) -> bool {
     match progress {
-        Progress::Ended => true,
+        Progress::Ended(()) => true,
         _ => false,
     }
 }
 
-fn refusal_of(progress: Progress) -> Option<Refusal> {
+fn refusal_of(progress: Progress<()>) -> Option<Refusal> {
     match progress {
         Progress::Refused(refusal) => Some(refusal),
         _ => None,

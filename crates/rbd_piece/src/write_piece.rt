@@ -89,11 +89,11 @@ impl WritePiece {
     }
 
     /// Goes on with an answer. It takes no memory.
-    pub fn feed(&mut self, answer: &Answer) -> Progress
+    pub fn feed(&mut self, answer: &Answer) -> Progress<()>
         ensures { (next : Plan) → Progresses next (plan_after (rest_of_write self.old next) (fed_with.Answer answer.now)) result (rest_of_write self.new next) }
     {
         match told_done(answer) {
-            Ok(()) => Progress::Ended,
+            Ok(()) => Progress::Ended(()),
             Err(refusal) => Progress::Refused(refusal),
         }
     }
@@ -126,7 +126,7 @@ impl Machine for WritePiece {
         };
         match WritePiece::feed(self, answer) {
             Progress::More => Turn::More,
-            Progress::Ended => Turn::Done(Reply::Done),
+            Progress::Ended(()) => Turn::Done(Reply::Done),
             Progress::Refused(refusal) => Turn::Done(Reply::Refused(refusal)),
         }
     }

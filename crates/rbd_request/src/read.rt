@@ -307,7 +307,7 @@ impl Machine for ReadRequest {
             }
             Phase::Gathering(image, looked, gather) => match gather.feed(answer) {
                 Progress::More => Turn::More,
-                Progress::Ended => {
+                Progress::Ended(()) => {
                     self.phase = Phase::Closing(*image, looked.again(), gather.take_bytes());
                     Turn::More
                 }

@@ -16,7 +16,7 @@ use rbd_kinds::{
     Answer, Bytes, Command, Event, Extent, Fed, FillLength, HeaderView, ImageId, Name, NoMemory,
     Op, Refusal, Reply, SiteId, TryClone, Turn, Want,
 };
-use rbd_machine::{Approach, Course, Machine, Progress, Refuses, non_primary};
+use rbd_machine::{Approach, Machine, Progress, Refuses, non_primary};
 use rbd_piece::WritePiece;
 use std::alloc::Global;
 use std::collections::VecDeque;
@@ -143,9 +143,9 @@ impl WriteRequest {
     {
         let range = self.range();
         match self.approach.feed(&range, fed) {
-            Course::More => Turn::More,
-            Course::Refused(refusal) => Turn::Done(Reply::Refused(refusal)),
-            Course::Owned(image) => {
+            Progress::More => Turn::More,
+            Progress::Refused(refusal) => Turn::Done(Reply::Refused(refusal)),
+            Progress::Ended(image) => {
                 self.stage = Stage::Noting(image);
                 Turn::More
             }
@@ -246,7 +246,7 @@ impl Machine for WriteRequest {
             }
             Stage::Writing(image, piece) => match feed_piece(piece, fed) {
                 Progress::More => Turn::More,
-                Progress::Ended => {
+                Progress::Ended(()) => {
                     self.stage = Stage::Waiting(*image);
                     Turn::More
                 }
@@ -257,7 +257,7 @@ impl Machine for WriteRequest {
 }
 
 /// Goes on with a piece.
-fn feed_piece(piece: &mut WritePiece, fed: &Fed) -> Progress
+fn feed_piece(piece: &mut WritePiece, fed: &Fed) -> Progress<()>
     ensures { (next : Plan) → Progresses next (plan_after (rest_of_write piece.old next) fed.now) result (rest_of_write piece.new next) }
 {
     match fed {
