@@ -1,4 +1,5 @@
 pub mod Fields
+pub mod Hex
 pub mod Names
 pub mod Sound
 pub mod Told

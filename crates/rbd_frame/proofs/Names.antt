@@ -1,8 +1,8 @@
 -- A text has no misplaced byte exactly where it is a name.
 use Rattle.std.proofs.Common.{◌≡◌, ℕ, suc, ◌+◌, ◌≤◌, Bool, true, false, cond, List, [], ◌∷◌, length, Option, Some, None, refl, ap, arith}
-use Rattle.std.specs.Prelude.{not, nat_lt, ◌==◌, ◌||◌, ◌&&◌, slice_index, IsTrue}
+use Rattle.std.specs.Prelude.{not, nat_lt, ◌&&◌, IsTrue}
 use Rattle.std.specs.List.{position, position_or_len, prefix_len, list_all}
-use Rattle.std.proofs.lemmas.Bool.{eqb-false, ne_eqb, ltb-false, le-ltb}
+use Rattle.std.proofs.lemmas.Bool.{ltb-false, le-ltb}
 use Rattle.rbd_kinds.specs.Name.{IsName, name_byte}
 use Rattle.rbd_frame.specs.Faults.{misplaced}
 
@@ -23,36 +23,21 @@ none_found p (x ∷ xs) h =
       | false ↦ λ all. absurd cc
     ] h
 
--- a choice that gave nothing
-no_first : (b : Bool) (o : Option ℕ) → cond b (Some 0) o ≡ None → (b ≡ false) × (o ≡ None)
-no_first true o e = absurd cc
-no_first false o e = (refl, e)
-
-neither : (a b : Bool) → (a || b) ≡ false → (a ≡ false) × (b ≡ false)
-neither true b e = absurd cc
-neither false b e = (refl, e)
-
 within : (b : Bool) (n : ℕ) → cond b (Some n) None ≡ None → b ≡ false
 within true n e = absurd cc
 within false n e = refl
 
 pub is_name : (text : List ℕ) → misplaced text ≡ None → 1 ≤ length text → length text ≤ 64 → IsName text
 is_name text e some few =
-    let parts = no_first (slice_index text 0 == 46 || slice_index text 0 == 45) (position (λ byte. not (name_byte byte)) text) e in
-    let first = neither (slice_index text 0 == 46) (slice_index text 0 == 45) parts.0 in
     let n = position_or_len (λ byte. not (name_byte byte)) text in
     record {
       some = some;
       few = few;
-      bytes = all_pass name_byte text (ltb-false _ _ (within (nat_lt n (length text)) n parts.1));
-      first_not_dot = eqb-false _ _ first.0;
-      first_not_dash = eqb-false _ _ first.1;
+      bytes = all_pass name_byte text (ltb-false _ _ (within (nat_lt n (length text)) n e));
     }
 
 pub nothing_misplaced : (text : List ℕ) → IsName text → misplaced text ≡ None
 nothing_misplaced text name =
     let n = position_or_len (λ byte. not (name_byte byte)) text in
-    let dot : (slice_index text 0 == 46) ≡ false = ne_eqb _ _ name.first_not_dot in
-    let dash : (slice_index text 0 == 45) ≡ false = ne_eqb _ _ name.first_not_dash in
     let past : nat_lt n (length text) ≡ false = le-ltb _ _ (none_found name_byte text name.bytes) in
-    rw (dot, dash) (ap (λ (b : Bool). cond b (Some n) None) past)
+    ap (λ (b : Bool). cond b (Some n) None) past

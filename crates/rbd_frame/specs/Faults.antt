@@ -1,5 +1,5 @@
 -- What is wrong at the front of some bytes: the first fault that applies, from left to right.
-use Rattle.std.specs.Prelude.{◌≡◌, ℕ, ◌+◌, ◌-◌, Bool, ◌&&◌, ◌||◌, not, ◌==◌, nat_le, nat_lt, if◌then◌else◌, List, [], ◌∷◌, length, take, drop, slice_index, Option, Some, None, option_map}
+use Rattle.std.specs.Prelude.{◌≡◌, ℕ, ◌+◌, ◌-◌, Bool, ◌&&◌, ◌||◌, not, ◌==◌, nat_le, nat_lt, if◌then◌else◌, List, [], ◌∷◌, length, take, drop, Option, Some, None, option_map}
 use Rattle.std.specs.List.{position}
 use Rattle.byteorder.specs.Endian.{big_number}
 use Rattle.rbd_kinds.specs.Name.{name_byte}
@@ -61,11 +61,9 @@ abbrev pub resize_fault : List ℕ → Option FrameFault
 resize_fault body =
     if nat_lt furthest (big_number 8 body) then Some (BadLength (big_number 8 body)) else None
 
--- the place in a text of the first byte that isn't of a name. A name doesn't begin with . or -
+-- the place in a text of the first byte that isn't of a name
 abbrev pub misplaced : List ℕ → Option ℕ
-misplaced text =
-    if slice_index text 0 == 46 || slice_index text 0 == 45 then Some 0 else
-    position (λ byte. not (name_byte byte)) text
+misplaced text = position (λ byte. not (name_byte byte)) text
 
 -- the body stands behind the five bytes of kind and length
 abbrev pub name_fault : List ℕ → Option FrameFault

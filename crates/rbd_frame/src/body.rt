@@ -1,9 +1,8 @@
 //! From the body of a frame to the event. Each function finds the first fault of its kind, if there is one.
 ghost use Rattle.std.specs.Prelude.{◌≡◌, ◌≤◌, length, IfOk, IfErr, Err, Some, None, IsTrue, not, ◌==◌, ◌||◌};
-ghost use Rattle.std.specs.List.{position};
 ghost use Rattle.rbd_frame.specs.Faults.{IsNoMemory, allows_length, body_fault, ends_too_far, misplaced, name_fault};
 ghost use Rattle.rbd_frame.specs.Parts.{HasBody};
-ghost use Rattle.rbd_kinds.specs.Name.{IsName, name_byte};
+ghost use Rattle.rbd_kinds.specs.Name.{IsName};
 ghost use Rattle.rbd_frame.specs.declared.fault.FrameFault.{FrameFault};
 ghost use Rattle.rbd_frame.specs.declared.kind.Kind.TheVariants.{Write, Discard, Resize};
 
@@ -101,19 +100,9 @@ fn name_of(alloc: Global, text: &[u8]) -> Result<Name, FrameFault>
     }
 }
 
-/// The place of the first byte that isn't of a name, which doesn't begin with `.` or `-`.
+/// The place of the first byte that isn't of a name.
 fn misplaced(text: &[u8]) -> Option<usize>
-    requires { 1 ≤ length text.now }
     ensures { result ≡ misplaced text.now }
-{
-    if text[0] == b'.' || text[0] == b'-' {
-        return Some(0);
-    }
-    first_strange(text)
-}
-
-fn first_strange(text: &[u8]) -> Option<usize>
-    ensures { result ≡ position (λ byte. not (name_byte byte)) text.now }
 {
     text.iter().position(|&byte| !is_name_byte(byte))
 }

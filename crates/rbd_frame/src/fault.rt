@@ -1,5 +1,6 @@
 //! Why no frame could be read.
-ghost use Rattle.std.specs.Prelude.{◌≡◌};
+ghost use Rattle.std.specs.Prelude.{◌≡◌, Some};
+ghost use Rattle.rbd_frame.specs.Texts.{fault_text};
 
 use std::error::Error;
 use std::fmt;
@@ -20,10 +21,12 @@ pub enum FrameFault {
 }
 
 impl fmt::Display for FrameFault {
+    ghost output = { λ fault. Some (fault_text fault) };
+
     fn fmt<W: fmt::Write>(&self, f: &mut fmt::Formatter<W>) -> fmt::Result {
-        match self {
+        match *self {
             FrameFault::Short => f.write_str("the frame is cut short"),
-            FrameFault::BadKind(kind) => write!(f, "no kind of frame is {kind:#04x}"),
+            FrameFault::BadKind(kind) => write!(f, "no kind of frame is 0x{kind:02x}"),
             FrameFault::BadLength(length) => write!(f, "a length of {length} is out of range"),
             FrameFault::BadText(place) => write!(f, "the byte at {place} is not of a name"),
             FrameFault::NoMemory => f.write_str("out of memory"),

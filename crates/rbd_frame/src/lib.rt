@@ -19,7 +19,8 @@
 //! | `17` | Demote | nothing | 0 |
 //!
 //! A discard has at least 1 byte. No write or discard ends past byte 2^63, and no size is above it. A name
-//! has letters, digits, `.`, `_` and `-`, and doesn't begin with `.` or `-`, as everywhere.
+//! has letters, digits, `.`, `_` and `-`, whatever the first. That a session asks for none that begins with `.`
+//! or `-` is no rule of the journal: a synchronisation makes, records and replays a snapshot `.sync`.
 //!
 //! Each event has one frame, and no frame begins another, so frames can stand one behind the other.
 //!
@@ -32,7 +33,7 @@
 //! 3. fewer bytes than the length says: Short;
 //! 4. a discard of 0 bytes, or one that ends past 2^63: BadLength of its number of bytes; a write that ends
 //!    past it: BadLength of the body's length; a size past it: BadLength of the size;
-//! 5. a byte that isn't of a name, or a first one of `.` or `-`: BadText of its place in the frame.
+//! 5. a byte that isn't of a name: BadText of its place in the frame.
 //!
 //! # Cost
 //!

@@ -149,8 +149,12 @@ const TABLE: &[(&[u8], Wanted)] = &[
             69,
         ),
     ),
-    (b"\x14\0\0\0\x02.a", Fault(BadText(5))),
-    (b"\x15\0\0\0\x01-", Fault(BadText(5))),
+    (b"\x14\0\0\0\x05.sync", SnapCreate(b".sync", 10)),
+    (b"\x14\0\0\0\x02.a", SnapCreate(b".a", 7)),
+    (b"\x15\0\0\0\x01-", SnapRemove(b"-", 6)),
+    (b"\x16\0\0\0\x02-b", SnapRollback(b"-b", 7)),
+    (b"\x14\0\0\0\x02./", Fault(BadText(6))),
+    (b"\x15\0\0\0\x02/-", Fault(BadText(5))),
     (b"\x16\0\0\0\x04a/b/", Fault(BadText(6))),
     (b"\x14\0\0\0\x02a@", Fault(BadText(6))),
     (b"\x14\0\0\0\x02a[", Fault(BadText(6))),
@@ -224,8 +228,8 @@ fn encodes_a_write(rt: HostRuntime) -> Result<(), Fail> {
 #[test]
 fn encodes_a_snapshot(rt: HostRuntime) -> Result<(), Fail> {
     let alloc = rt.alloc();
-    let name = Name::parse(Bytes::from_slice(alloc, b"s1")?).ok_or("s1 is a name")?;
+    let name = Name::parse(Bytes::from_slice(alloc, b".sync")?).ok_or(".sync is a name")?;
     let frame = encode(alloc, &Event::SnapCreate { name })?;
-    assert!(rt; frame.as_slice() == b"\x14\0\0\0\x02s1".as_slice());
+    assert!(rt; frame.as_slice() == b"\x14\0\0\0\x05.sync".as_slice());
     Ok(())
 }

@@ -1,3 +1,6 @@
+ghost use Rattle.std.specs.Prelude.{Some};
+ghost use Rattle.rbd_header.specs.Texts.{held_text, snap_add_text};
+
 use rbd_kinds::Instance;
 use std::error::Error;
 use std::fmt;
@@ -14,6 +17,8 @@ pub enum SnapAddFault {
 }
 
 impl fmt::Display for SnapAddFault {
+    ghost output = { λ fault. Some (snap_add_text fault) };
+
     fn fmt<W: fmt::Write>(&self, f: &mut fmt::Formatter<W>) -> fmt::Result {
         f.write_str(match self {
             SnapAddFault::Exists => "the snapshot exists",
@@ -30,6 +35,8 @@ impl Error for SnapAddFault {}
 pub struct Held(pub Instance);
 
 impl fmt::Display for Held {
+    ghost output = { λ _. Some held_text };
+
     fn fmt<W: fmt::Write>(&self, f: &mut fmt::Formatter<W>) -> fmt::Result {
         f.write_str("the lock is held")
     }

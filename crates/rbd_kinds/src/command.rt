@@ -2,141 +2,141 @@
 ghost use Rattle.std.specs.Prelude.{◌≡◌, ◌↔◌, IsSome, IfSome};
 ghost use Rattle.rbd_kinds.specs.Command.{IsPayload};
 
+use crate::asked_name::AskedName;
 use crate::bytes::Bytes;
-use crate::name::Name;
 use crate::number::{AtMost, Number};
 use std::marker::Model;
 
-/// A command of a session, with the ranges that a script's grammar gives to its parts. Places, lengths and sizes
-/// are bytes.
+/// A command of a session, with the ranges that a script's grammar gives to its parts: a command in memory is
+/// one that a script may spell. Places, lengths and sizes are bytes.
 #[derive(Debug, Drop)]
 pub enum Command {
     /// Makes an image of zeros.
     Create {
-        image: Name,
+        image: AskedName,
         size: Number,
         shape: Shape,
     },
     /// Makes a copy-on-write clone of a protected snapshot.
     Clone {
-        parent: Name,
-        snap: Name,
-        image: Name,
+        parent: AskedName,
+        snap: AskedName,
+        image: AskedName,
         shape: Shape,
     },
     /// Puts the bytes from the byte `at` on.
     Write {
-        image: Name,
+        image: AskedName,
         at: Number,
         bytes: Payload,
     },
     /// Puts one byte `len` times from the byte `at` on.
     Fill {
-        image: Name,
+        image: AskedName,
         at: Number,
         len: FillLength,
         byte: u8,
     },
     /// Puts zeros from the byte `at` on, and gives up whole objects.
     Discard {
-        image: Name,
+        image: AskedName,
         at: Number,
         len: Number,
     },
     /// Shows `len` bytes from the byte `at` on, of the head or of a snapshot.
     Read {
-        image: Name,
-        snap: Option<Name>,
+        image: AskedName,
+        snap: Option<AskedName>,
         at: Number,
         len: ReadLength,
     },
     Resize {
-        image: Name,
+        image: AskedName,
         size: Number,
     },
     Rename {
-        from: Name,
-        to: Name,
+        from: AskedName,
+        to: AskedName,
     },
     Remove {
-        image: Name,
+        image: AskedName,
     },
     Info {
-        image: Name,
+        image: AskedName,
     },
     /// How many objects are used (`du`).
     Used {
-        image: Name,
+        image: AskedName,
     },
     /// Copies all that the clone takes from its parent, and parts from it.
     Flatten {
-        image: Name,
+        image: AskedName,
     },
     /// Holds changes back until `Resume`.
     Quiesce {
-        image: Name,
+        image: AskedName,
     },
     Resume {
-        image: Name,
+        image: AskedName,
     },
     /// Gives up the lock and the watch.
     Close {
-        image: Name,
+        image: AskedName,
     },
     /// The names of all images (`ls`).
     List,
     /// The clones of a snapshot.
     Children {
-        image: Name,
-        snap: Name,
+        image: AskedName,
+        snap: AskedName,
     },
     /// Notifies the other watchers.
     Tell {
-        image: Name,
+        image: AskedName,
         bytes: Payload,
     },
     SnapCreate {
-        image: Name,
-        snap: Name,
+        image: AskedName,
+        snap: AskedName,
     },
     SnapRemove {
-        image: Name,
-        snap: Name,
+        image: AskedName,
+        snap: AskedName,
     },
     SnapProtect {
-        image: Name,
-        snap: Name,
+        image: AskedName,
+        snap: AskedName,
     },
     SnapUnprotect {
-        image: Name,
-        snap: Name,
+        image: AskedName,
+        snap: AskedName,
     },
     SnapRollback {
-        image: Name,
-        snap: Name,
+        image: AskedName,
+        snap: AskedName,
     },
     SnapList {
-        image: Name,
+        image: AskedName,
     },
     MirrorEnable {
-        image: Name,
+        image: AskedName,
     },
     MirrorDemote {
-        image: Name,
+        image: AskedName,
     },
     /// With `force`, also where the other site's image wasn't demoted.
     MirrorPromote {
-        image: Name,
+        image: AskedName,
         force: bool,
     },
     MirrorResync {
-        image: Name,
+        image: AskedName,
     },
     MirrorStatus {
-        image: Name,
+        image: AskedName,
     },
     MirrorFollow {
-        image: Name,
+        image: AskedName,
     },
 }
 

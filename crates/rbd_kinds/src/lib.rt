@@ -4,13 +4,17 @@
 //! site, may have snapshots, and is changed by sessions, of which each life is an instance. The types
 //! are plain data: enums and structs with whole-word names, and lists of them.
 //!
-//! Contracts see an id as its number, a [`Name`] and [`Bytes`] as the list of their bytes, and a
-//! [`Sequence`] as the list of its items.
+//! A [`Name`] may begin with any of its bytes. A session asks for an [`AskedName`], whose first isn't `.` or
+//! `-`, and so no session meets the snapshot `.sync` that a synchronisation makes.
+//!
+//! Contracts see an id as its number, a [`Name`], an [`AskedName`] and [`Bytes`] as the list of their bytes,
+//! and a [`Sequence`] as the list of its items.
 //!
 //! ```text
-//! Name::parse(Bytes::from_slice(alloc, b"disk")?)     the name `disk`
-//! Name::parse(Bytes::from_slice(alloc, b".disk")?)    None
-//! Refusal::BadRange.to_string()                       error 22 BadRange
+//! Name::parse(Bytes::from_slice(alloc, b".sync")?)         the name `.sync`
+//! AskedName::parse(Bytes::from_slice(alloc, b".sync")?)    None
+//! AskedName::parse(Bytes::from_slice(alloc, b"disk")?)     the name `disk`, that a session may ask for
+//! Refusal::BadRange.to_string()                            error 22 BadRange
 //! ```
 //!
 //! Nothing is copied that isn't asked for: `from_vec` and `into_vec` hand a vector on, `try_clone`
@@ -19,6 +23,7 @@
 #![tactic(auto)]
 
 mod answer;
+mod asked_name;
 mod bytes;
 mod children_op;
 mod command;
@@ -46,6 +51,7 @@ mod sequence;
 mod tests;
 
 pub use answer::Answer;
+pub use asked_name::AskedName;
 pub use bytes::Bytes;
 pub use children_op::ChildrenOp;
 pub use command::{Command, FillLength, Payload, ReadLength, Shape};

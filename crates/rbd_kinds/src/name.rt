@@ -10,7 +10,8 @@ use std::cmp::Ordering;
 use std::marker::Model;
 
 /// The name of an image or of a snapshot: 1 to 64 bytes of `A` to `Z`, `a` to `z`, `0` to `9`, `.`,
-/// `_` and `-`, the first not `.` or `-`. Contracts see the list of its bytes.
+/// `_` and `-`, whatever the first. Which of them a session may ask for, [`AskedName`](crate::AskedName)
+/// says. Contracts see the list of its bytes.
 #[derive(Debug, Drop)]
 pub struct Name {
     text: Bytes,
@@ -62,10 +63,7 @@ impl TryClone for Name {
 fn is_name(text: &[u8]) -> bool
     ensures { IsTrue result ↔ IsName text.now }
 {
-    let Some(&first) = text.first() else {
-        return false;
-    };
-    if first == b'.' || first == b'-' {
+    if text.is_empty() {
         return false;
     }
     text.len() <= 64 && are_name_bytes(text)

@@ -18,10 +18,11 @@ pub enum NoticeKind {
 /// One notification to one watcher of an image's header. It may come late, never, or several times.
 #[derive(Debug, Drop)]
 pub struct Notice {
-    /// Its number at its site, from 1.
+    /// Its number, from 1: one numbering serves both sites.
     pub number: u64,
     pub to: Instance,
     pub from: Instance,
+    /// The site of the image.
     pub site: SiteId,
     pub image: ImageId,
     pub kind: NoticeKind,

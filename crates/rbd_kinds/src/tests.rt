@@ -10,19 +10,57 @@ fn name(alloc: Global, text: &str) -> Result<Option<Name>, Fail> {
 
 #[test]
 fn names_are_one_to_sixty_four_bytes(rt: HostRuntime) -> Result<(), Fail> {
-    for text in ["a", "Z", "0", "_", "a.b-c_d", "_.", "0-", "vm-1.disk_0"] {
+    for text in [
+        "a",
+        "Z",
+        "0",
+        "_",
+        "a.b-c_d",
+        "_.",
+        "0-",
+        "vm-1.disk_0",
+        ".",
+        "-",
+        ".sync",
+        "-a",
+    ] {
         let got = name(rt.alloc(), text)?;
         assert!(rt; got.is_some(), "{text}");
     }
-    for text in [
-        "", ".", "-", ".a", "-a", "a/b", "a@b", "a b", "a\n", "\u{e9}",
-    ] {
+    for text in ["", "a/b", "a@b", "a b", "a\n", "\u{e9}"] {
         let got = name(rt.alloc(), text)?;
         assert!(rt; got.is_none(), "{text}");
     }
     for (len, valid) in [(63, true), (64, true), (65, false)] {
         let text = Bytes::from_vec(vec![in rt.alloc(); b'a'; len]?);
         assert_eq!(rt; Name::parse(text).is_some(), valid, "{len}");
+    }
+    Ok(())
+}
+
+fn asked(alloc: Global, text: &str) -> Result<Option<AskedName>, Fail> {
+    Ok(AskedName::parse(Bytes::from_slice(alloc, text.as_bytes())?))
+}
+
+#[test]
+fn names_that_begin_with_a_dot_or_a_dash_are_not_asked_for(rt: HostRuntime) -> Result<(), Fail> {
+    for text in ["a", "Z", "0", "_", "a.b-c_d", "_.", "0-", "sync"] {
+        let got = asked(rt.alloc(), text)?;
+        assert!(rt; got.is_some(), "{text}");
+    }
+    for text in [".", "-", ".sync", ".disk", "-a", "", "a/b"] {
+        let got = asked(rt.alloc(), text)?;
+        assert!(rt; got.is_none(), "{text}");
+    }
+    Ok(())
+}
+
+#[test]
+fn a_name_that_is_asked_for_has_the_bytes(rt: HostRuntime) -> Result<(), Fail> {
+    if let Some(asked) = asked(rt.alloc(), "disk")? {
+        assert_eq!(rt; asked.as_slice(), b"disk".as_slice());
+        assert_eq!(rt; asked.as_name().as_slice(), b"disk".as_slice());
+        assert_eq!(rt; asked.into_name().as_slice(), b"disk".as_slice());
     }
     Ok(())
 }
@@ -117,6 +155,13 @@ fn refusals_have_their_numbers_and_words(rt: HostRuntime) {
 fn a_refusal_is_printed_with_its_errno(rt: HostRuntime) -> Result<(), Fail> {
     let text = format!(in rt.alloc(); "{}", Refusal::Fenced)?;
     assert_eq!(rt; text.as_str(), "error 108 Fenced");
+    Ok(())
+}
+
+#[test]
+fn refused_memory_is_printed(rt: HostRuntime) -> Result<(), Fail> {
+    let text = format!(in rt.alloc(); "{}", NoMemory)?;
+    assert_eq!(rt; text.as_str(), "out of memory");
     Ok(())
 }
 

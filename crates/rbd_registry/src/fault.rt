@@ -1,3 +1,6 @@
+ghost use Rattle.std.specs.Prelude.{Some};
+ghost use Rattle.rbd_registry.specs.Texts.{add_text, rename_text};
+
 use std::error::Error;
 use std::fmt;
 
@@ -13,6 +16,8 @@ pub enum AddFault {
 }
 
 impl fmt::Display for AddFault {
+    ghost output = { λ fault. Some (add_text fault) };
+
     fn fmt<W: fmt::Write>(&self, f: &mut fmt::Formatter<W>) -> fmt::Result {
         f.write_str(match self {
             AddFault::Exists => "the name is held",
@@ -36,6 +41,8 @@ pub enum RenameFault {
 }
 
 impl fmt::Display for RenameFault {
+    ghost output = { λ fault. Some (rename_text fault) };
+
     fn fmt<W: fmt::Write>(&self, f: &mut fmt::Formatter<W>) -> fmt::Result {
         f.write_str(match self {
             RenameFault::NoName => "no such name",

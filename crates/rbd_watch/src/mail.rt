@@ -1,4 +1,4 @@
-//! The notices of one site.
+//! The notices of both sites.
 ghost use Rattle.std.specs.Prelude.{◌≡◌, ◌+◌, ◌≤◌, ◌^◌, [], ◌++◌, length, IfOk, OnOk, OnErr, option_copied, slice_get};
 ghost use Rattle.rbd_watch.specs.Posting.{AreNumberedFrom, notices, numbered};
 
@@ -6,7 +6,7 @@ use rbd_kinds::{ImageId, Instance, NoMemory, Notice, NoticeKind, SiteId, TryClon
 use std::alloc::Global;
 use std::marker::Model;
 
-/// What was told to watchers at one site (Ceph: notify). Contracts see the list of notices, oldest first.
+/// What was told to watchers, at either site: one numbering serves both (Ceph: notify). Contracts see the list of notices, oldest first.
 #[derive(Debug, Drop)]
 pub struct Mail {
     alloc: Global,
