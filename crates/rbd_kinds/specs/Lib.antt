@@ -3,6 +3,7 @@ pub mod Command
 pub mod Form
 pub mod Frame
 pub mod Header
+pub mod Held
 pub mod Name
 pub mod Operation
 pub mod OperationKind

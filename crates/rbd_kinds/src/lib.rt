@@ -19,12 +19,13 @@
 #![tactic(auto)]
 
 mod answer;
-mod bytes;
+mod byte_string;
 mod children_op;
 mod command;
 mod copies;
 mod data_op;
 mod directory_op;
+mod growing;
 mod header;
 mod header_op;
 mod id;
@@ -46,14 +47,16 @@ mod sequence;
 mod tests;
 
 pub use answer::Answer;
-pub use bytes::Bytes;
+pub use byte_string::Bytes;
 pub use children_op::ChildrenOp;
 pub use command::{Command, FillLength, Payload, ReadLength, Shape};
 pub use copies::TryClone;
 pub use data_op::DataOp;
 pub use directory_op::DirectoryOp;
+pub use growing::Growing;
 pub use header::{
     GlobalName, HeaderView, ParentLink, Role, SnapContext, SnapIds, SnapStatus, SnapView, Snaps,
+    first_named,
 };
 pub use header_op::HeaderOp;
 pub use id::{Ids, ImageId, Instance, Instances, SessionNo, SiteId, Slot, SnapId};
