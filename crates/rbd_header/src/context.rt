@@ -6,7 +6,7 @@ use rbd_kinds::{HeaderView, NoMemory, SnapContext, SnapId, SnapIds, SnapView};
 use std::alloc::Global;
 
 /// The snapshot context of a change: the number of the snapshot that was taken last, and those that the header
-/// lists, newest first (Ceph: RADOS self-managed snapshots).
+/// lists, newest first (Ceph: RADOS self-managed snapshots). Copies of the context share the list.
 pub fn context_of(alloc: Global, header: &HeaderView) -> Result<SnapContext, NoMemory>
     ensures { IfOk result (λ context. context ≡ told_context header.now) }
 {
@@ -14,7 +14,7 @@ pub fn context_of(alloc: Global, header: &HeaderView) -> Result<SnapContext, NoM
     snaps.as_mut_slice().reverse();
     Ok(SnapContext {
         seq: SnapId(header.snap_seq),
-        snaps: SnapIds::from_vec(snaps),
+        snaps: SnapIds::from_vec(snaps).share()?,
     })
 }
 

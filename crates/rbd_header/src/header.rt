@@ -1,17 +1,16 @@
-ghost use Rattle.std.specs.Prelude.{◌≡◌, ◌≢◌, ◌+◌, ◌^◌, ◌<◌, ◌↔◌, IsTrue, IsSome, Some, None, is_some, false, IfOk, IfErr, OnOk, OnErr, IsErrOf};
+ghost use Rattle.std.specs.Prelude.{◌≡◌, ◌≢◌, ◌+◌, ◌==◌, ◌||◌, nat_le, option_copied, ◌^◌, ◌<◌, ◌↔◌, IsTrue, IsSome, Some, None, is_some, false, IfOk, IfErr, OnOk, OnErr, IsErrOf};
 ghost use Rattle.std.specs.Bool.{OnTrue, OnFalse};
 ghost use Rattle.rbd_kinds.specs.declared.id.Instance as instances;
 ghost use Rattle.rbd_kinds.specs.Header.{snap_named};
 ghost use Rattle.rbd_header.specs.Header.{snap_in, is_full, cut, with_size, with_snap, with_status, without_snap, detached, with_role, with_global, in_step};
 
 use crate::fault::{Held, SnapAddFault};
-use crate::lookup::snapshot;
+use crate::lookup::first_with;
 use crate::snaps::{mark, unlist};
 use rbd_kinds::{
     GlobalName, HeaderView, Instance, Name, NoMemory, ParentLink, Role, SnapId, SnapStatus,
-    SnapView, Snaps, TryClone,
+    SnapView, Snaps, TryClone, first_named,
 };
-use std::alloc::Global;
 use std::marker::Model;
 
 /// How many snapshots a header lists at most (own).
@@ -20,44 +19,111 @@ const MOST_SNAPS: usize = 256;
 /// An image's header (Ceph: the `rbd_header` object), seen by contracts as what it tells.
 #[derive(Debug, Drop)]
 pub struct Header {
-    alloc: Global,
-    view: HeaderView,
+    /// All but the list of snapshots, which is empty here.
+    rest: HeaderView,
+    /// The snapshots, changed in place.
+    snaps: Vec<SnapView>,
+    /// The same list, as views of the header share it: once it was asked for, and until it changes.
+    told: Option<Snaps>,
 }
 
 impl Model for Header {
     ghost use Rattle.rbd_kinds.specs.declared.header.HeaderView.{HeaderView};
+    ghost use Rattle.rbd_header.specs.Told.{IsTold};
 
     ghost Value = { HeaderView };
 
-    ghost view = { λ h. h.view };
+    ghost view = { λ h. record h.rest { snaps = h.snaps.items } };
+
+    ghost invariant = { λ h. IsTold h.told h.snaps.items };
 }
 
 impl Header {
-    /// A header that tells this.
-    pub fn make(view: HeaderView) -> Self
-        ensures { result ≡ view }
+    /// A header that tells this. It copies the list of snapshots only where another value shares it.
+    pub fn make(view: HeaderView) -> Result<Self, NoMemory>
+        ensures { IfOk result (λ header. header ≡ view) }
     {
-        let items = view.snaps.into_vec();
-        let alloc = *items.allocator();
-        let snaps = Snaps::from_vec(items);
-        Header {
-            alloc,
-            view: HeaderView { snaps, ..view },
-        }
+        let snaps = view.snaps.into_vec()?;
+        let none = Snaps::new(*snaps.allocator());
+        Ok(Header {
+            rest: HeaderView {
+                snaps: none,
+                ..view
+            },
+            snaps,
+            told: None,
+        })
     }
 
-    /// A copy of what it tells.
+    /// What it tells: a copy of the list of snapshots, or, after [`Header::share`], one that shares it.
     pub fn view(&self) -> Result<HeaderView, NoMemory>
         ensures { IfOk result (λ copy. copy ≡ self.now) }
     {
-        self.view.try_clone()
+        Ok(HeaderView {
+            snaps: self.told_snaps()?,
+            ..self.rest
+        })
     }
 
-    /// What it tells.
-    pub fn as_view(&self) -> &HeaderView
-        ensures { result.now ≡ self.now }
+    /// From now on, until the list of snapshots changes, `view` copies no list. It copies the list once, unless it
+    /// was shared already, and may be refused the memory: then all is as before.
+    pub fn share(&mut self) -> Result<(), NoMemory>
+        ensures { self.new ≡ self.old }
     {
-        &self.view
+        if self.told.is_none() {
+            self.told = Some(self.told_snaps()?.share()?);
+        }
+        Ok(())
+    }
+
+    fn told_snaps(&self) -> Result<Snaps, NoMemory>
+        ensures { IfOk result (λ snaps. snaps ≡ self.now.snaps) }
+    {
+        match &self.told {
+            Some(told) => told.try_clone(),
+            None => Snaps::from_slice(*self.snaps.allocator(), self.snaps.as_slice()),
+        }
+    }
+
+    /// The snapshots, oldest first.
+    pub fn snaps(&self) -> &[SnapView]
+        ensures { result.now ≡ self.now.snaps }
+    {
+        self.snaps.as_slice()
+    }
+
+    /// The snapshot of a name, as [`HeaderView::named`] finds it.
+    pub fn named(&self, name: &Name) -> Option<&SnapView>
+        ensures { option_copied result ≡ snap_named self.now.snaps name.now }
+    {
+        first_named(self.snaps.as_slice(), name)
+    }
+
+    /// The snapshot with an id: `None` where no listed snapshot has it.
+    pub fn snapshot(&self, snap: SnapId) -> Option<&SnapView>
+        ensures { option_copied result ≡ snap_in self.now.snaps snap }
+    {
+        first_with(self.snaps.as_slice(), snap)
+    }
+
+    /// The id of the snapshot that was taken last, 0 for none.
+    pub fn snap_seq(&self) -> u32
+        ensures { result ≡ self.now.snap_seq }
+    {
+        self.rest.snap_seq
+    }
+
+    pub fn generation(&self) -> u64
+        ensures { result ≡ self.now.generation }
+    {
+        self.rest.generation
+    }
+
+    /// Who has the exclusive lock.
+    pub fn owner(&self) -> Option<Instance>
+        ensures { result ≡ self.now.owner }
+    {
+        self.rest.owner
     }
 
     /// Sets the size in bytes, and cuts the head's overlap to it (Ceph: growing an image never raises the
@@ -66,16 +132,16 @@ impl Header {
         requires { self.old.generation + 1 < 2 ^ 64 }
         ensures { self.new ≡ with_size size self.old }
     {
-        self.view.size = size;
-        self.view.parent = cut(self.view.parent, size);
-        self.view.generation += 1;
+        self.rest.size = size;
+        self.rest.parent = cut(self.rest.parent, size);
+        self.rest.generation += 1;
     }
 
     /// Whether no snapshot may be taken: 256 are listed, or the ids are used up (own). It takes no memory.
     pub fn is_full(&self) -> bool
         ensures { result ≡ is_full self.now }
     {
-        is_full(&self.view)
+        is_full_list(self.snaps.len(), self.rest.snap_seq)
     }
 
     /// Takes a snapshot: the newest, unprotected, with the head's size and parent. `Exists` where the name is
@@ -91,16 +157,37 @@ impl Header {
         ensures room { OnOk result (is_full self.old ≡ false) }
         ensures no_memory { IsErrOf result SnapAddFault.NoMemory → (snap_named self.old.snaps name.now ≡ None) × (is_full self.old ≡ false) }
     {
-        if self.view.named(name).is_some() {
+        if self.named(name).is_some() {
             return Err(SnapAddFault::Exists);
         }
         if self.is_full() {
             return Err(SnapAddFault::Full);
         }
-        match push_snap(&mut self.view, name) {
+        match self.push_snap(name) {
             Ok(id) => Ok(id),
             Err(_) => Err(SnapAddFault::NoMemory),
         }
+    }
+
+    fn push_snap(&mut self, name: &Name) -> Result<SnapId, NoMemory>
+        requires room { is_full self.old ≡ false }
+        requires generation { self.old.generation + 1 < 2 ^ 64 }
+        ensures id { IfOk result (λ id. id ≡ self.old.snap_seq + 1) }
+        ensures ok { OnOk result (self.new ≡ with_snap name.now self.old) }
+        ensures err { OnErr result (self.new ≡ self.old) }
+    {
+        let id = self.rest.snap_seq + 1;
+        self.snaps.push(SnapView {
+            id: SnapId(id),
+            name: name.try_clone()?,
+            size: self.rest.size,
+            status: SnapStatus::Unprotected,
+            parent: self.rest.parent,
+        })?;
+        self.told = None;
+        self.rest.snap_seq = id;
+        self.rest.generation += 1;
+        Ok(SnapId(id))
     }
 
     /// Gives a snapshot a status; `false` where none has the id.
@@ -110,11 +197,12 @@ impl Header {
         ensures done { OnTrue result (self.new ≡ with_status snap status self.old) }
         ensures missing { OnFalse result (self.new ≡ self.old) }
     {
-        if snapshot(&self.view, snap).is_none() {
+        if self.snapshot(snap).is_none() {
             return false;
         }
-        mark(self.alloc, &mut self.view.snaps, snap, status);
-        self.view.generation += 1;
+        mark(&mut self.snaps, snap, status);
+        self.told = None;
+        self.rest.generation += 1;
         true
     }
 
@@ -125,11 +213,12 @@ impl Header {
         ensures done { OnTrue result (self.new ≡ without_snap snap self.old) }
         ensures missing { OnFalse result (self.new ≡ self.old) }
     {
-        if snapshot(&self.view, snap).is_none() {
+        if self.snapshot(snap).is_none() {
             return false;
         }
-        unlist(self.alloc, &mut self.view.snaps, snap);
-        self.view.generation += 1;
+        unlist(&mut self.snaps, snap);
+        self.told = None;
+        self.rest.generation += 1;
         true
     }
 
@@ -138,16 +227,16 @@ impl Header {
         requires { self.old.generation + 1 < 2 ^ 64 }
         ensures { self.new ≡ detached self.old }
     {
-        self.view.parent = None;
-        self.view.generation += 1;
+        self.rest.parent = None;
+        self.rest.generation += 1;
     }
 
     pub fn set_role(&mut self, role: Role)
         requires { self.old.generation + 1 < 2 ^ 64 }
         ensures { self.new ≡ with_role role self.old }
     {
-        self.view.role = role;
-        self.view.generation += 1;
+        self.rest.role = role;
+        self.rest.generation += 1;
     }
 
     /// Begins mirroring, as the primary.
@@ -155,9 +244,9 @@ impl Header {
         requires { self.old.generation + 1 < 2 ^ 64 }
         ensures { self.new ≡ with_global global self.old }
     {
-        self.view.global = Some(global);
-        self.view.role = Role::Primary;
-        self.view.generation += 1;
+        self.rest.global = Some(global);
+        self.rest.role = Role::Primary;
+        self.rest.generation += 1;
     }
 
     /// The full copy of the remote image is there.
@@ -165,8 +254,8 @@ impl Header {
         requires { self.old.generation + 1 < 2 ^ 64 }
         ensures { self.new ≡ in_step self.old }
     {
-        self.view.syncing = false;
-        self.view.generation += 1;
+        self.rest.syncing = false;
+        self.rest.generation += 1;
     }
 
     /// Makes an instance the owner of the exclusive lock; `Held` where another instance is. It may be the
@@ -177,12 +266,12 @@ impl Header {
         ensures free { OnOk result ((other : instances.Instance) → self.old.owner ≡ Some other → other ≡ instance) }
         ensures held { IfErr result (λ held. (self.old.owner ≡ Some held.0) × (held.0 ≢ instance)) }
     {
-        if let Some(owner) = self.view.owner {
+        if let Some(owner) = self.rest.owner {
             if owner != instance {
                 return Err(Held(owner));
             }
         }
-        self.view.owner = Some(instance);
+        self.rest.owner = Some(instance);
         Ok(())
     }
 
@@ -192,10 +281,10 @@ impl Header {
         ensures done { OnTrue result (self.new ≡ record self.old { owner = None }) }
         ensures other { OnFalse result (self.new ≡ self.old) }
     {
-        if self.view.owner != Some(instance) {
+        if self.rest.owner != Some(instance) {
             return false;
         }
-        self.view.owner = None;
+        self.rest.owner = None;
         true
     }
 
@@ -224,28 +313,15 @@ fn cut(parent: Option<ParentLink>, size: u64) -> Option<ParentLink>
 pub fn is_full(view: &HeaderView) -> bool
     ensures { result ≡ is_full view.now }
 {
-    if view.snaps.len() >= MOST_SNAPS {
-        return true;
-    }
-    view.snap_seq == u32::MAX
+    is_full_list(view.snaps.len(), view.snap_seq)
 }
 
-fn push_snap(view: &mut HeaderView, name: &Name) -> Result<SnapId, NoMemory>
-    requires room { is_full view.old ≡ false }
-    requires generation { view.old.generation + 1 < 2 ^ 64 }
-    ensures id { IfOk result (λ id. id ≡ view.old.snap_seq + 1) }
-    ensures ok { OnOk result (view.new ≡ with_snap name.now view.old) }
-    ensures err { OnErr result (view.new ≡ view.old) }
+/// Whether so many snapshots, the last with this id, leave no room for another.
+fn is_full_list(count: usize, last: u32) -> bool
+    ensures { result ≡ (nat_le 256 count || (last == 4294967295)) }
 {
-    let id = view.snap_seq + 1;
-    view.snaps.push(SnapView {
-        id: SnapId(id),
-        name: name.try_clone()?,
-        size: view.size,
-        status: SnapStatus::Unprotected,
-        parent: view.parent,
-    })?;
-    view.snap_seq = id;
-    view.generation += 1;
-    Ok(SnapId(id))
+    if count >= MOST_SNAPS {
+        return true;
+    }
+    last == u32::MAX
 }

@@ -10,7 +10,8 @@ pub fn snapshot(view: &HeaderView, snap: SnapId) -> Option<&SnapView>
     first_with(view.snaps.as_slice(), snap)
 }
 
-fn first_with(snaps: &[SnapView], snap: SnapId) -> Option<&SnapView>
+/// The first of some snapshots that has an id.
+pub fn first_with(snaps: &[SnapView], snap: SnapId) -> Option<&SnapView>
     ensures { option_copied result ≡ snap_in snaps.now snap }
 {
     for found in snaps {

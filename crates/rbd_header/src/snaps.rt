@@ -3,17 +3,13 @@ ghost use Rattle.std.specs.Prelude.{◌≡◌, ◌==◌, not, map};
 ghost use Rattle.std.specs.List.{filter};
 ghost use Rattle.rbd_header.specs.Header.{marked};
 
-use rbd_kinds::{SnapId, SnapStatus, SnapView, Snaps};
-use std::alloc::Global;
-use std::mem;
+use rbd_kinds::{SnapId, SnapStatus, SnapView};
 
 /// Gives a snapshot a status.
-pub fn mark(alloc: Global, snaps: &mut Snaps, snap: SnapId, status: SnapStatus)
-    ensures { snaps.new ≡ map (marked snap status) snaps.old }
+pub fn mark(snaps: &mut Vec<SnapView>, snap: SnapId, status: SnapStatus)
+    ensures { snaps.new.items ≡ map (marked snap status) snaps.old.items }
 {
-    let mut items = mem::replace(snaps, Snaps::new(alloc)).into_vec();
-    mark_each(items.as_mut_slice(), snap, status);
-    *snaps = Snaps::from_vec(items);
+    mark_each(snaps.as_mut_slice(), snap, status);
 }
 
 fn mark_each(snaps: &mut [SnapView], snap: SnapId, status: SnapStatus)
@@ -33,10 +29,8 @@ fn mark_one(found: &mut SnapView, snap: SnapId, status: SnapStatus)
 }
 
 /// Takes a snapshot off the list.
-pub fn unlist(alloc: Global, snaps: &mut Snaps, snap: SnapId)
-    ensures { snaps.new ≡ filter (λ s. not (s.id == snap)) snaps.old }
+pub fn unlist(snaps: &mut Vec<SnapView>, snap: SnapId)
+    ensures { snaps.new.items ≡ filter (λ s. not (s.id == snap)) snaps.old.items }
 {
-    let mut items = mem::replace(snaps, Snaps::new(alloc)).into_vec();
-    items.retain(|found| found.id != snap);
-    *snaps = Snaps::from_vec(items);
+    snaps.retain(|found| found.id != snap);
 }

@@ -28,7 +28,7 @@ fn parent(overlap: u64) -> Option<ParentLink> {
 }
 
 /// A clone of 10,000 bytes of image 3's snapshot 4, which draws snapshot 6 next.
-fn cloned(alloc: Global) -> Header {
+fn cloned(alloc: Global) -> Result<Header, NoMemory> {
     Header::make(HeaderView {
         layout: Layout {
             object: 4096,
@@ -65,7 +65,7 @@ enum Change {
 
 /// Does a change, of a header that has seen few, and answers whether it was done.
 fn does(rt: &impl Abort, header: &mut Header, change: Change) -> bool {
-    assert!(rt; header.as_view().generation < 1000);
+    assert!(rt; header.generation() < 1000);
     match change {
         Change::Size(size) => header.set_size(size),
         Change::Status(snap, status) => return header.snap_status(snap, status),
@@ -79,19 +79,19 @@ fn does(rt: &impl Abort, header: &mut Header, change: Change) -> bool {
 }
 
 fn add(rt: &impl Abort, header: &mut Header, name: &Name) -> Result<SnapId, SnapAddFault> {
-    assert!(rt; header.as_view().generation < 1000);
+    assert!(rt; header.generation() < 1000);
     header.snap_add(name)
 }
 
 #[test]
 fn a_snapshot_keeps_size_and_overlap(rt: HostRuntime) -> Result<(), Fail> {
-    let mut header = cloned(rt.alloc());
+    let mut header = cloned(rt.alloc())?;
     let first = name(&rt, rt.alloc(), b"first")?;
     assert_eq!(rt; add(&rt, &mut header, &first), Ok(SnapId(6)));
     does(&rt, &mut header, Change::Size(6000));
     does(&rt, &mut header, Change::Size(8000));
     assert_eq!(rt; add(&rt, &mut header, &first), Err(SnapAddFault::Exists));
-    let view = header.as_view();
+    let view = header.view()?;
     assert_eq!(rt; view.size, 8000);
     assert_eq!(rt; view.parent, parent(6000));
     assert_eq!(rt; (view.generation, view.snap_seq), (73, 6));
@@ -104,7 +104,7 @@ fn a_snapshot_keeps_size_and_overlap(rt: HostRuntime) -> Result<(), Fail> {
 
 #[test]
 fn a_snapshot_is_protected_and_removed(rt: HostRuntime) -> Result<(), Fail> {
-    let mut header = cloned(rt.alloc());
+    let mut header = cloned(rt.alloc())?;
     let first = name(&rt, rt.alloc(), b"first")?;
     let second = name(&rt, rt.alloc(), b"second")?;
     assert_eq!(rt; add(&rt, &mut header, &first), Ok(SnapId(6)));
@@ -125,7 +125,7 @@ fn a_snapshot_is_protected_and_removed(rt: HostRuntime) -> Result<(), Fail> {
 
 /// A header of 8,000 bytes with the snapshots 6, `first`, of 10,000 bytes, and 7, `second`, of 8,000.
 fn snapped(rt: &(impl Abort + AllocGlobal)) -> Result<Header, NoMemory> {
-    let mut header = cloned(rt.alloc());
+    let mut header = cloned(rt.alloc())?;
     let first = name(rt, rt.alloc(), b"first")?;
     let second = name(rt, rt.alloc(), b"second")?;
     assert_eq!(rt; add(rt, &mut header, &first), Ok(SnapId(6)));
@@ -137,7 +137,7 @@ fn snapped(rt: &(impl Abort + AllocGlobal)) -> Result<Header, NoMemory> {
 #[test]
 fn a_context_lists_the_newest_first(rt: HostRuntime) -> Result<(), Fail> {
     let header = snapped(&rt)?;
-    let context = context_of(rt.alloc(), header.as_view())?;
+    let context = context_of(rt.alloc(), &header.view()?)?;
     assert_eq!(rt; context.seq, SnapId(7));
     assert_eq!(rt; context.snaps.as_slice(), [SnapId(7), SnapId(6)].as_slice());
     Ok(())
@@ -145,20 +145,20 @@ fn a_context_lists_the_newest_first(rt: HostRuntime) -> Result<(), Fail> {
 
 #[test]
 fn views_of_names(rt: HostRuntime) -> Result<(), Fail> {
-    let header = snapped(&rt)?;
+    let header = snapped(&rt)?.view()?;
     let first = name(&rt, rt.alloc(), b"first")?;
     let third = name(&rt, rt.alloc(), b"third")?;
-    let head = view_of(header.as_view(), None).expect(&rt, "the head");
+    let head = view_of(&header, None).expect(&rt, "the head");
     assert_eq!(rt; (head.snap, head.size), (None, 8000));
-    let old = view_of(header.as_view(), Some(&first)).expect(&rt, "it is listed");
+    let old = view_of(&header, Some(&first)).expect(&rt, "it is listed");
     assert_eq!(rt; (old.snap, old.size), (Some(SnapId(6)), 10000));
-    assert!(rt; view_of(header.as_view(), Some(&third)).is_none());
+    assert!(rt; view_of(&header, Some(&third)).is_none());
     Ok(())
 }
 
 #[test]
 fn the_257th_snapshot_is_refused(rt: HostRuntime) -> Result<(), Fail> {
-    let mut header = cloned(rt.alloc());
+    let mut header = cloned(rt.alloc())?;
     for number in 0..256u16 {
         let text = [letter(number / 16), letter(number)];
         let name = name(&rt, rt.alloc(), &text)?;
@@ -175,8 +175,8 @@ fn letter(number: u16) -> u8 {
 }
 
 #[test]
-fn the_lock_has_one_owner(rt: HostRuntime) {
-    let mut header = cloned(rt.alloc());
+fn the_lock_has_one_owner(rt: HostRuntime) -> Result<(), Fail> {
+    let mut header = cloned(rt.alloc())?;
     assert_eq!(rt; header.lock(instance(1)), Ok(()));
     assert_eq!(rt; header.lock(instance(1)), Ok(()));
     assert_eq!(rt; header.lock(instance(2)), Err(Held(instance(1))));
@@ -185,9 +185,9 @@ fn the_lock_has_one_owner(rt: HostRuntime) {
     assert!(rt; header.break_lock(instance(1)));
     assert_eq!(rt; header.lock(instance(2)), Ok(()));
     assert!(rt; header.unlock(instance(2)));
-    let view = header.as_view();
-    assert_eq!(rt; view.owner, None);
-    assert_eq!(rt; view.generation, 70);
+    assert_eq!(rt; header.owner(), None);
+    assert_eq!(rt; header.generation(), 70);
+    Ok(())
 }
 
 fn remote_name() -> GlobalName {
@@ -198,15 +198,42 @@ fn remote_name() -> GlobalName {
 }
 
 #[test]
-fn mirroring_begins_as_the_primary(rt: HostRuntime) {
-    let mut header = cloned(rt.alloc());
+fn mirroring_begins_as_the_primary(rt: HostRuntime) -> Result<(), Fail> {
+    let mut header = cloned(rt.alloc())?;
     does(&rt, &mut header, Change::Role(Role::Secondary));
     does(&rt, &mut header, Change::Global(remote_name()));
     does(&rt, &mut header, Change::Synced);
     does(&rt, &mut header, Change::Detach);
-    let view = header.as_view();
+    let view = header.view()?;
     assert_eq!(rt; view.role, Role::Primary);
     assert_eq!(rt; view.global, Some(remote_name()));
     assert_eq!(rt; view.parent, None);
     assert_eq!(rt; (view.syncing, view.generation), (false, 74));
+    Ok(())
+}
+
+/// The status of snapshot 7, as a view tells it.
+fn status_of_second(header: &Header) -> Result<Option<SnapStatus>, NoMemory> {
+    let view = header.view()?;
+    Ok(snapshot(&view, SnapId(7)).map(|snap| snap.status))
+}
+
+#[test]
+fn a_shared_list_is_told_until_it_changes(rt: HostRuntime) -> Result<(), Fail> {
+    let mut header = snapped(&rt)?;
+    header.share()?;
+    let before = header.view()?;
+    header.share()?;
+    assert_eq!(rt; status_of_second(&header)?, Some(SnapStatus::Unprotected));
+    does(
+        &rt,
+        &mut header,
+        Change::Status(SnapId(7), SnapStatus::Protected),
+    );
+    assert_eq!(rt; status_of_second(&header)?, Some(SnapStatus::Protected));
+    header.share()?;
+    does(&rt, &mut header, Change::Remove(SnapId(7)));
+    assert_eq!(rt; status_of_second(&header)?, None);
+    assert_eq!(rt; (before.snaps.len(), header.snaps().len()), (2, 1));
+    Ok(())
 }

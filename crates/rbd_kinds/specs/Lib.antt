@@ -5,6 +5,7 @@ pub mod Extents
 pub mod Form
 pub mod Frame
 pub mod Header
+pub mod Held
 pub mod Memory
 pub mod Name
 pub mod Operation

@@ -2,7 +2,7 @@
 ghost use Rattle.std.specs.Prelude.{◌≡◌};
 ghost use Rattle.rbd_kinds.specs.Answer.{answer_word};
 
-use crate::bytes::Bytes;
+use crate::byte_string::Bytes;
 use crate::copies::TryClone;
 use crate::header::HeaderView;
 use crate::id::{Ids, ImageId, Instance, Instances, SnapId};

@@ -1,7 +1,7 @@
 ghost use Rattle.std.specs.Prelude.{◌≡◌, IsSome, IfSome, IsTrue, ◌↔◌};
 ghost use Rattle.rbd_kinds.specs.Name.{IsAskedName};
 
-use crate::bytes::Bytes;
+use crate::byte_string::Bytes;
 use crate::name::Name;
 use std::marker::Model;
 

@@ -3,7 +3,7 @@ ghost use Rattle.std.specs.Prelude.{◌≡◌, ◌↔◌, IsSome, IfSome};
 ghost use Rattle.rbd_kinds.specs.Command.{IsPayload};
 
 use crate::asked_name::AskedName;
-use crate::bytes::Bytes;
+use crate::byte_string::Bytes;
 use crate::number::{AtMost, Number};
 use std::marker::Model;
 
@@ -194,5 +194,13 @@ impl Payload {
         ensures range { IsPayload self.now }
     {
         self.bytes.as_slice()
+    }
+
+    /// The bytes, without a copy.
+    pub fn into_bytes(self) -> Bytes
+        ensures value { result ≡ self }
+        ensures range { IsPayload self }
+    {
+        self.bytes
     }
 }

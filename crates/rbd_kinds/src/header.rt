@@ -107,7 +107,8 @@ impl HeaderView {
     }
 }
 
-fn first_named<'s>(snaps: &'s [SnapView], name: &Name) -> Option<&'s SnapView>
+/// The first of some snapshots that has a name, as [`HeaderView::named`] finds it.
+pub fn first_named<'s>(snaps: &'s [SnapView], name: &Name) -> Option<&'s SnapView>
     ensures { option_copied result ≡ snap_named snaps.now name.now }
 {
     for found in snaps {

@@ -1,5 +1,5 @@
 //! What a journal records, and where.
-use crate::bytes::Bytes;
+use crate::byte_string::Bytes;
 use crate::copies::TryClone;
 use crate::id::{ImageId, SiteId};
 use crate::memory::NoMemory;

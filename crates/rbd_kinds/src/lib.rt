@@ -24,12 +24,13 @@
 
 mod answer;
 mod asked_name;
-mod bytes;
+mod byte_string;
 mod children_op;
 mod command;
 mod copies;
 mod data_op;
 mod directory_op;
+mod growing;
 mod header;
 mod header_op;
 mod id;
@@ -52,14 +53,16 @@ mod tests;
 
 pub use answer::Answer;
 pub use asked_name::AskedName;
-pub use bytes::Bytes;
+pub use byte_string::Bytes;
 pub use children_op::ChildrenOp;
 pub use command::{Command, FillLength, Payload, ReadLength, Shape};
 pub use copies::TryClone;
 pub use data_op::DataOp;
 pub use directory_op::DirectoryOp;
+pub use growing::Growing;
 pub use header::{
     GlobalName, HeaderView, ParentLink, Role, SnapContext, SnapIds, SnapStatus, SnapView, Snaps,
+    first_named,
 };
 pub use header_op::HeaderOp;
 pub use id::{Ids, ImageId, Instance, Instances, SessionNo, SiteId, Slot, SnapId};

@@ -2,7 +2,7 @@
 ghost use Rattle.std.specs.Prelude.{◌≡◌};
 ghost use Rattle.rbd_kinds.specs.OperationKind.{map_kind};
 
-use crate::bytes::Bytes;
+use crate::byte_string::Bytes;
 use crate::copies::TryClone;
 use crate::id::SnapId;
 use crate::memory::NoMemory;

@@ -2,7 +2,7 @@ ghost use Rattle.std.specs.Prelude.{◌≡◌, ℕ, List, IsSome, IfSome, IsTrue
 ghost use Rattle.std.specs.List.{list_all};
 ghost use Rattle.rbd_kinds.specs.Name.{IsName, name_byte};
 
-use crate::bytes::Bytes;
+use crate::byte_string::Bytes;
 use crate::copies::TryClone;
 use crate::memory::NoMemory;
 use crate::sequence::Sequence;

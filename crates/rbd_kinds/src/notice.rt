@@ -1,5 +1,5 @@
 //! What sessions tell each other about an image.
-use crate::bytes::Bytes;
+use crate::byte_string::Bytes;
 use crate::copies::TryClone;
 use crate::id::{ImageId, Instance, SiteId};
 use crate::memory::NoMemory;

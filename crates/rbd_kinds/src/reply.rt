@@ -1,5 +1,5 @@
 //! What a command is answered.
-use crate::bytes::Bytes;
+use crate::byte_string::Bytes;
 use crate::header::{HeaderView, Role, Snaps};
 use crate::id::Ids;
 use crate::name::{Name, Names};

@@ -1,20 +1,33 @@
-ghost use Rattle.std.specs.Prelude.{◌≡◌, [], ◌∷◌, ◌++◌, length, List, IsTrue, ◌↔◌, OnOk, OnErr};
+ghost use Rattle.std.specs.Prelude.{◌≡◌, [], length, List, IsTrue, ◌↔◌, IfOk};
 
 use crate::copies::TryClone;
 use crate::memory::NoMemory;
 use std::alloc::Global;
+use std::fmt;
 use std::marker::Model;
+use std::sync::Arc;
 
-/// Some items in order, seen by contracts as the list of them.
-#[derive(Debug, Drop)]
+/// Some items in order, seen by contracts as the list of them. They lie in a vector of their own, or in one that
+/// several values share, and then a copy counts one more owner and copies no item. The list doesn't change: a
+/// [`Growing`](crate::Growing) list does.
+#[derive(Drop)]
 pub struct Sequence<T> {
-    items: Vec<T>,
+    held: Held<T>,
+}
+
+#[derive(Drop)]
+enum Held<T> {
+    Own(Vec<T>),
+    Shared(Arc<Vec<T>, Global>),
 }
 
 impl<T> Model for Sequence<T> {
+    ghost use Rattle.std.specs.Prelude.{List};
+    ghost use Rattle.rbd_kinds.specs.Held.{items_held};
+
     ghost Value = { List T };
 
-    ghost view = { λ s. s.items.items };
+    ghost view = { λ s. items_held s.held };
 }
 
 impl<T> Sequence<T> {
@@ -22,61 +35,115 @@ impl<T> Sequence<T> {
     pub fn new(alloc: Global) -> Self
         ensures { result ≡ [] }
     {
-        Sequence {
-            items: Vec::new(alloc),
-        }
+        Sequence::from_vec(Vec::new(alloc))
     }
 
     /// The items of a vector, without a copy.
     pub fn from_vec(items: Vec<T>) -> Self
         ensures { result ≡ items.items }
     {
-        Sequence { items }
+        Sequence {
+            held: Held::Own(items),
+        }
     }
 
-    /// The vector of the items, without a copy.
-    pub fn into_vec(self) -> Vec<T>
-        ensures { result.items ≡ self }
+    /// The same items, without a copy: from now on, copies of them share their memory. The count of the owners takes
+    /// a few words of memory, once.
+    pub fn share(self) -> Result<Self, NoMemory>
+    where
+        T: Drop,
+        ensures { IfOk result (λ shared. shared ≡ self) }
     {
-        self.items
+        let shared = match self.held {
+            Held::Own(items) => {
+                let alloc = *items.allocator();
+                Arc::new(alloc, items)?
+            }
+            Held::Shared(items) => items,
+        };
+        Ok(Sequence {
+            held: Held::Shared(shared),
+        })
     }
 
     pub fn as_slice(&self) -> &[T]
         ensures { result.now ≡ self.now }
     {
-        self.items.as_slice()
+        match &self.held {
+            Held::Own(items) => items.as_slice(),
+            Held::Shared(items) => items.as_slice(),
+        }
     }
 
     pub fn len(&self) -> usize
         ensures { result ≡ length self.now }
     {
-        self.items.len()
+        match &self.held {
+            Held::Own(items) => items.len(),
+            Held::Shared(items) => items.len(),
+        }
     }
 
     pub fn is_empty(&self) -> bool
         ensures { IsTrue result ↔ (self.now ≡ []) }
     {
-        self.items.is_empty()
+        match &self.held {
+            Held::Own(items) => items.is_empty(),
+            Held::Shared(items) => items.is_empty(),
+        }
+    }
+}
+
+impl<T: TryClone> Sequence<T> {
+    /// A copy of each item.
+    pub fn from_slice(alloc: Global, items: &[T]) -> Result<Self, NoMemory>
+        ensures { IfOk result (λ copy. copy ≡ items.now) }
+    {
+        Ok(Sequence::from_vec(copied(alloc, items)?))
     }
 
-    /// Adds an item at the end.
-    pub fn push(&mut self, item: T) -> Result<(), NoMemory>
-    where
-        T: Drop,
-        ensures ok { OnOk result (self.new ≡ self.old ++ item ∷ []) }
-        ensures err { OnErr result (self.new ≡ self.old) }
+    /// The vector of the items: without a copy where no other value shares it, else a copy.
+    pub fn into_vec(self) -> Result<Vec<T>, NoMemory>
+        ensures { IfOk result (λ items. items.items ≡ self) }
     {
-        self.items.push(item)?;
-        Ok(())
+        let shared = match self.held {
+            Held::Own(items) => return Ok(items),
+            Held::Shared(items) => items,
+        };
+        match Arc::try_unwrap(shared) {
+            Ok(items) => Ok(items),
+            Err(shared) => copied(*shared.allocator(), shared.as_slice()),
+        }
     }
 }
 
 impl<T: TryClone> TryClone for Sequence<T> {
+    /// One more owner of a shared list, a copy of another.
     fn try_clone(&self) -> Result<Self, NoMemory> {
-        let mut copies = Vec::new(*self.items.allocator());
-        for item in self.as_slice() {
-            copies.push(item.try_clone()?)?;
-        }
-        Ok(Sequence { items: copies })
+        let held = match &self.held {
+            Held::Own(items) => Held::Own(copied(*items.allocator(), items.as_slice())?),
+            Held::Shared(items) => Held::Shared(Arc::try_clone(items)?),
+        };
+        Ok(Sequence { held })
+    }
+}
+
+/// A copy of each item.
+fn copied<T: TryClone>(alloc: Global, items: &[T]) -> Result<Vec<T>, NoMemory>
+    ensures { IfOk result (λ copies. copies.items ≡ items.now) }
+{
+    let mut copies = Vec::new(alloc);
+    for item in items {
+        copies.push(item.try_clone()?)?;
+    }
+    Ok(copies)
+}
+
+/// The list of the items, wherever they lie.
+impl<T: fmt::Debug> fmt::Debug for Sequence<T> {
+    fn fmt<W: fmt::Write>(&self, f: &mut fmt::Formatter<W>) -> fmt::Result {
+        f.debug_struct("Sequence")
+            .field("items", &self.as_slice())
+            .finish()
     }
 }

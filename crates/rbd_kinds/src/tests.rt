@@ -102,14 +102,76 @@ fn bytes_are_kept(rt: HostRuntime) -> Result<(), Fail> {
     assert!(rt; !some.is_empty());
     assert_eq!(rt; some.len(), 3);
     assert_eq!(rt; some.as_slice(), b"abc".as_slice());
-    assert_eq!(rt; some.into_vec().as_slice(), b"abc".as_slice());
     assert_eq!(rt; copy.as_slice(), b"abc".as_slice());
     Ok(())
 }
 
+/// A copy and a slice of bytes that lie in their own memory, or in shared memory.
+fn copies_and_slices_are_the_bytes(rt: &impl Abort, bytes: &Bytes) -> Result<(), Fail> {
+    assert_eq!(rt; bytes.try_clone()?.as_slice(), b"abcde".as_slice());
+    for (at, len, slice) in [(0, 5, "abcde"), (1, 3, "bcd"), (5, 0, "")] {
+        if bytes.len() == 5 {
+            assert_eq!(rt; bytes.slice(at, len)?.as_slice(), slice.as_bytes());
+        }
+    }
+    Ok(())
+}
+
 #[test]
-fn a_sequence_grows_at_its_end(rt: HostRuntime) -> Result<(), Fail> {
-    let mut ids = Sequence::new(rt.alloc());
+fn shared_bytes_are_the_bytes(rt: HostRuntime) -> Result<(), Fail> {
+    let own = Bytes::from_slice(rt.alloc(), b"abcde")?;
+    copies_and_slices_are_the_bytes(&rt, &own)?;
+    let shared = own.share()?;
+    copies_and_slices_are_the_bytes(&rt, &shared)?;
+    let twice = shared.try_clone()?.share()?;
+    copies_and_slices_are_the_bytes(&rt, &twice)?;
+    Ok(())
+}
+
+#[test]
+fn a_shared_list_and_its_copies_are_the_list(rt: HostRuntime) -> Result<(), Fail> {
+    let own = Ids::from_vec(vec![in rt.alloc(); ImageId(3); 2]?);
+    assert_eq!(rt; own.try_clone()?.as_slice(), [ImageId(3); 2].as_slice());
+    let shared = own.share()?;
+    let again = shared.try_clone()?;
+    assert_eq!(rt; again.len(), 2);
+    assert!(rt; !again.is_empty());
+    assert_eq!(rt; again.as_slice(), [ImageId(3); 2].as_slice());
+    assert_eq!(rt;
+        again.share()?.into_vec()?.as_slice(),
+        [ImageId(3); 2].as_slice()
+    );
+    assert_eq!(rt; shared.into_vec()?.as_slice(), [ImageId(3); 2].as_slice());
+    Ok(())
+}
+
+#[test]
+fn a_payload_gives_its_bytes(rt: HostRuntime) -> Result<(), Fail> {
+    let bytes = Bytes::from_slice(rt.alloc(), b"abc")?;
+    if let Some(payload) = Payload::new(bytes) {
+        assert_eq!(rt; payload.into_bytes().as_slice(), b"abc".as_slice());
+    }
+    Ok(())
+}
+
+/// Values of the type may be sent to another thread, and seen by several.
+fn crosses_threads<T: Send + Sync>() {}
+
+#[test]
+fn values_cross_threads(_rt: HostRuntime) {
+    crosses_threads::<Bytes>();
+    crosses_threads::<Command>();
+    crosses_threads::<HeaderView>();
+    crosses_threads::<JournalView>();
+    crosses_threads::<Op>();
+    crosses_threads::<Answer>();
+    crosses_threads::<Event>();
+    crosses_threads::<Reply>();
+}
+
+#[test]
+fn a_list_grows_at_its_end(rt: HostRuntime) -> Result<(), Fail> {
+    let mut ids = Growing::new(rt.alloc());
     assert!(rt; ids.is_empty());
     ids.push(7u32)?;
     ids.push(5)?;
@@ -203,13 +265,13 @@ fn header(snaps: Snaps) -> HeaderView {
 
 #[test]
 fn a_snapshot_is_found_by_its_name(rt: HostRuntime) -> Result<(), Fail> {
-    let mut snaps = Sequence::new(rt.alloc());
+    let mut snaps = Vec::new(rt.alloc());
     for (id, text) in [(1, "monday"), (2, "tuesday")] {
         if let Some(snap) = snapshot(rt.alloc(), id, text)? {
             snaps.push(snap)?;
         }
     }
-    let view = header(snaps);
+    let view = header(Snaps::from_vec(snaps));
     for (text, id) in [
         ("monday", Some(SnapId(1))),
         ("tuesday", Some(SnapId(2))),
