@@ -1,5 +1,5 @@
 -- States in bytes.
-use Rattle.std.proofs.Common.{◌≡◌, ℕ, zero, suc, ◌+◌, ◌-◌, ◌*◌, ◌/◌, ◌%◌, ◌<◌, ◌≤◌, Bool, cond, List, [], ◌∷◌, ◌++◌, length, get_or, set, take, min, replicate, refl, sym, ap, ◌∙◌, inl, inr, true, ◌&&◌, add-zero, length-append, arith}
+use Rattle.std.proofs.Common.{◌≡◌, ℕ, zero, suc, ◌+◌, ◌-◌, ◌*◌, ◌/◌, ◌%◌, ◌<◌, ◌≤◌, Bool, cond, List, [], ◌∷◌, ◌++◌, length, get_or, set, take, min, replicate, refl, sym, ap, subst, ◌∙◌, inl, inr, true, ◌&&◌, add-zero, length-append, arith}
 use Rattle.std.specs.List.{list_all, count_by}
 use Rattle.std.proofs.lemmas.Bool.{cases_lt, cases_eq, ltb-true, lt-ltb, and_parts}
 use Rattle.std.specs.Cmp.Derive.{both_true}
@@ -83,8 +83,7 @@ state_at-bits_of states object h =
 
 pub hold_states : (states : List ℕ) → AreStates states → HoldStates (bits_of states)
 hold_states states are object =
-    let small : state_at (bits_of states) object < 3 = rw (state_at-bits_of states object are) (below_3 states are object) in
-    grind (arith, nat_tests)
+    subst (λ s. is_state s ≡ true) (sym (state_at-bits_of states object are)) (lt-ltb (get_or states object 0) 3 (below_3 states are object))
 
 pub states_of-bits_of : (states : List ℕ) → AreStates states → states_of (bits_of states) (length states) ≡ states
 states_of-bits_of states h = sym (fill_by_all (state_at (bits_of states)) states (length states) 0 refl (λ k l. sym (state_at-bits_of states k h)))
