@@ -1,12 +1,12 @@
 -- Tickets that enter and leave.
 use Rattle.std.proofs.Common.{◌≡◌, ℕ, suc, ◌+◌, ◌<◌, ◌≤◌, Bool, true, false, cond, not, ◌||◌, eqb, List, [], ◌∷◌, ◌++◌, length, Option, Some, None, refl, sym, ap, subst, ◌∙◌, inl, inr, true≢false, arith}
 use Rattle.std.specs.Prelude.{◌⊎◌}
-use Rattle.std.specs.List.{filter, slice_get}
+use Rattle.std.specs.List.{slice_get}
 use Rattle.std.specs.Option.{is_some, IfSome}
-use Rattle.std.proofs.lemmas.Bool.{or_parts, or_cases, eq-eqb, ne_eqb, eqb-true, eqb-false, cond-true, cond-false, cases_Bool}
+use Rattle.std.proofs.lemmas.Bool.{eq-eqb, ne_eqb, eqb-true, eqb-false, cond-false, cases_Bool}
 use Rattle.rbd_guard.specs.Order.{Tables, line, key_of, is_in, without, AreApart, IsInOrder}
 use Rattle.rbd_guard.specs.Tickets.{Tickets, queue, list, object_of, request_of, without_all, is_ahead, IsSound}
-use Rattle.rbd_guard.proofs.Apart.{head_in, tail_in, in_right, absent, others}
+use Rattle.rbd_guard.proofs.Apart.{head_in, in_right, absent, others}
 use Rattle.rbd_guard.proofs.Linking.{some_is, none_isnt}
 
 -- ---- the first of a line

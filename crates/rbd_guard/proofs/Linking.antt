@@ -1,12 +1,12 @@
 -- Links that hold a line, and changes of one link.
-use Rattle.std.proofs.Common.{◌≡◌, ℕ, suc, ◌+◌, Bool, true, false, cond, eqb, List, [], ◌∷◌, ◌++◌, length, Option, Some, None, refl, sym, ap, subst, ◌∙◌, inl, inr, true≢false, arith}
+use Rattle.std.proofs.Common.{◌≡◌, ℕ, Bool, true, false, cond, eqb, List, [], ◌∷◌, ◌++◌, length, Option, Some, None, refl, sym, ap, ◌∙◌, inl, inr, true≢false}
 use Rattle.std.specs.Prelude.{◌⊎◌}
 use Rattle.std.specs.Option.{option_map, unwrap_or, is_some}
-use Rattle.std.proofs.lemmas.Bool.{or_right, or_cases, eq-eqb, ne_eqb, eqb-true, cond-true, cond-false, cases_Bool}
+use Rattle.std.proofs.lemmas.Bool.{or_cases, eq-eqb, ne_eqb, eqb-true, cond-true, cond-false}
 use Rattle.rbd_guard.specs.declared.link.Link.{Link}
 use Rattle.rbd_guard.specs.declared.link.Ends.{Ends}
 use Rattle.rbd_guard.specs.Order.{is_in, AreApart, walk, walked, next_after}
-use Rattle.rbd_guard.specs.Links.{front, back, link, AreLinked, IsLine, AreLines, with_after, with_before}
+use Rattle.rbd_guard.specs.Links.{front, back, link, AreLinked, IsLine, with_after, with_before}
 use Rattle.rbd_guard.proofs.Apart.{head_in, tail_in}
 
 pub some_is : {A : Type 0} (a b : A) → Some a ≡ Some b → a ≡ b

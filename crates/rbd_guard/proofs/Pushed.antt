@@ -1,5 +1,5 @@
 -- A number that goes last into a line.
-use Rattle.std.proofs.Common.{◌≡◌, ℕ, suc, ◌+◌, Bool, true, false, cond, eqb, List, [], ◌∷◌, ◌++◌, length, Option, Some, None, refl, sym, ap, subst, ◌∙◌, inl, inr, true≢false, arith}
+use Rattle.std.proofs.Common.{◌≡◌, ℕ, ◌+◌, Bool, true, false, cond, eqb, List, [], ◌∷◌, ◌++◌, Option, Some, None, refl, sym, ap, subst, ◌∙◌, inl, inr}
 use Rattle.std.specs.Prelude.{◌⊎◌}
 use Rattle.std.specs.Option.{option_map}
 use Rattle.std.proofs.lemmas.List.{length_push}
@@ -7,8 +7,8 @@ use Rattle.std.proofs.lemmas.Bool.{eq-eqb, ne_eqb, eqb-true, eqb-false, cond-tru
 use Rattle.rbd_guard.specs.declared.link.Link.{Link}
 use Rattle.rbd_guard.specs.declared.link.Ends.{Ends}
 use Rattle.rbd_guard.specs.Order.{is_in, walked}
-use Rattle.rbd_guard.specs.Links.{front, back, link, AreLinked, IsLine, AreLines, with_after, or_else, longer}
-use Rattle.rbd_guard.proofs.Apart.{head_in, in_left, in_right, apart_push, differ}
+use Rattle.rbd_guard.specs.Links.{front, back, link, IsLine, AreLines, with_after, or_else, longer}
+use Rattle.rbd_guard.proofs.Apart.{head_in, in_left, in_right, apart_push}
 use Rattle.rbd_guard.proofs.Linking.{none_isnt, some_is, back_append, linked_frame, linked_join, linked_after, walked_is, HasLink, in_linked, back_in, after_other, after_keeps, has_link}
 
 -- what the tables of lines say of other lines than the walked ones

@@ -1,14 +1,14 @@
 -- A number that goes out of its line.
-use Rattle.std.proofs.Common.{◌≡◌, ℕ, suc, ◌+◌, ◌-◌, ◌<◌, Bool, true, false, cond, eqb, List, [], ◌∷◌, ◌++◌, length, Option, Some, None, refl, sym, ap, subst, ◌∙◌, inl, inr, true≢false, arith}
+use Rattle.std.proofs.Common.{◌≡◌, ℕ, suc, ◌-◌, ◌<◌, Bool, true, false, cond, eqb, List, [], ◌∷◌, ◌++◌, length, Option, Some, None, refl, sym, ap, subst, ◌∙◌, inl, inr, true≢false, arith}
 use Rattle.std.specs.Prelude.{◌⊎◌}
 use Rattle.std.specs.Option.{option_map, is_some}
-use Rattle.std.proofs.lemmas.List.{length-append, append-nil}
+use Rattle.std.proofs.lemmas.List.{append-nil}
 use Rattle.std.proofs.lemmas.Bool.{eq-eqb, ne_eqb, eqb-true, eqb-false, cond-true, cond-false, cases_Bool}
 use Rattle.rbd_guard.specs.declared.link.Link.{Link}
 use Rattle.rbd_guard.specs.declared.link.Ends.{Ends}
 use Rattle.rbd_guard.specs.Order.{is_in, without, AreApart, walked, no_ends, ends_or}
 use Rattle.rbd_guard.specs.Links.{front, back, link, AreLinked, IsLine, AreLines, with_after, with_before, unless, shorter, or_none}
-use Rattle.rbd_guard.proofs.Apart.{head_in, in_left, in_right, tail_in, some_length, differ, others, absent, apart_without, Around, around, IsAmid, amid}
+use Rattle.rbd_guard.proofs.Apart.{in_left, in_right, tail_in, some_length, differ, others, absent, apart_without, Around, around, IsAmid, amid}
 use Rattle.rbd_guard.proofs.Linking.{none_isnt, some_is, back_append, linked_frame, linked_split, linked_join, linked_after, linked_before, HasLink, in_linked, back_in, front_in, after_other, before_other, after_keeps, before_keeps, has_link}
 use Rattle.rbd_guard.proofs.Pushed.{AreLinesOf, lines_of}
 

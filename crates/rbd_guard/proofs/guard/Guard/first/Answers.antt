@@ -1,7 +1,6 @@
-use Rattle.std.proofs.Common.{Some, sym, ap, subst, ◌≡◌, ◌∙◌}
+use Rattle.std.proofs.Common.{Some, subst, ◌≡◌, ◌∙◌}
 use Rattle.std.specs.Option.{IfSome}
-use Rattle.std.specs.List.{slice_get}
-use Rattle.rbd_guard.specs.Order.{Tables, line, key_of}
+use Rattle.rbd_guard.specs.Order.{key_of}
 use Rattle.rbd_guard.specs.Tickets.{Tickets}
 use Rattle.rbd_guard.proofs.Leaving.{first_found}
 use Rattle.rbd_guard.proofs.guard.Guard.first.Goals as goal

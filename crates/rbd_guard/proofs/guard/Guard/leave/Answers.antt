@@ -1,4 +1,3 @@
-use Rattle.rbd_guard.specs.Tickets.{Tickets}
 use Rattle.rbd_guard.proofs.Leaving.{sound_without}
 use Rattle.rbd_guard.proofs.guard.Guard.leave.Goals as goal
 

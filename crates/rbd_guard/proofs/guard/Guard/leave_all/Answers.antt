@@ -1,5 +1,5 @@
 use Rattle.std.proofs.Common.{sym, ◌∙◌}
-use Rattle.rbd_guard.specs.Tickets.{Tickets, list}
+use Rattle.rbd_guard.specs.Tickets.{list}
 use Rattle.rbd_guard.proofs.Leaving.{Begins, begins, is_empty, IsLeft, rest_shorter, one_more_left, HaveLeft, have_left}
 use Rattle.rbd_guard.proofs.guard.Guard.leave_all.Goals as goal
 

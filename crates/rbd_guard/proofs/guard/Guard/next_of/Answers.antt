@@ -1,4 +1,4 @@
-use Rattle.std.proofs.Common.{Some, sym, ap, subst, ◌≡◌, ◌∙◌}
+use Rattle.std.proofs.Common.{Some, subst, ◌≡◌, ◌∙◌}
 use Rattle.std.specs.Option.{IfSome}
 use Rattle.rbd_guard.specs.Order.{key_of}
 use Rattle.rbd_guard.specs.Tickets.{Tickets}

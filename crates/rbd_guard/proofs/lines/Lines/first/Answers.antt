@@ -1,7 +1,7 @@
-use Rattle.std.proofs.Common.{ap, subst, ◌∙◌, ℕ, ◌≡◌, Option}
+use Rattle.std.proofs.Common.{ap, subst, ◌∙◌}
 use Rattle.std.specs.List.{slice_get}
 use Rattle.rbd_guard.specs.declared.link.Ends.{Ends}
-use Rattle.rbd_guard.specs.Order.{Tables, line, IsInOrder}
+use Rattle.rbd_guard.specs.Order.{line, IsInOrder}
 use Rattle.rbd_guard.specs.contracts.lines.Lines.{the_view}
 use Rattle.rbd_guard.proofs.Ordered.{first_is, in_order}
 use Rattle.rbd_guard.proofs.lines.Lines.first.Goals as goal

@@ -1,10 +1,5 @@
-use Rattle.std.proofs.Common.{◌≡◌, ℕ, List, [], ◌∷◌, Option, None, refl, sym, ap, subst, ◌∙◌}
-use Rattle.std.specs.Map.{lookup}
-use Rattle.rbd_guard.specs.declared.link.Link.{Link}
-use Rattle.rbd_guard.specs.declared.link.Ends.{Ends}
-use Rattle.rbd_guard.specs.Order.{Tables, line, key_of, IsInOrder}
 use Rattle.rbd_guard.specs.contracts.lines.Lines.{the_view}
-use Rattle.rbd_guard.proofs.Ordered.{line_is, key_is, no_lines, no_lines_in_order, no_keys}
+use Rattle.rbd_guard.proofs.Ordered.{no_lines, no_lines_in_order, no_keys}
 use Rattle.rbd_guard.proofs.lines.Lines.new.Goals as goal
 
 pub returns-clause-line : goal.returns-clause-line

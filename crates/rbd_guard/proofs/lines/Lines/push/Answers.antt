@@ -1,12 +1,11 @@
-use Rattle.std.proofs.Common.{◌≡◌, ℕ, ◌<◌, ◌++◌, [], ◌∷◌, None, Some, Option, cond, nat_eq, length, sym, ap, subst, ◌∙◌, arith}
+use Rattle.std.proofs.Common.{◌≡◌, ℕ, ◌++◌, [], ◌∷◌, None, Some, cond, nat_eq, length, sym, ap, ◌∙◌, arith}
 use Rattle.std.specs.HashMap.{get}
 use Rattle.rbd_guard.specs.declared.link.Ends.{Ends}
-use Rattle.rbd_guard.specs.declared.link.Link.{Link}
-use Rattle.rbd_guard.specs.Order.{Tables, line, key_of, ends_or, IsInOrder}
+use Rattle.rbd_guard.specs.Order.{line, key_of, ends_or}
 use Rattle.rbd_guard.specs.Links.{link, with_after, longer}
 use Rattle.rbd_guard.specs.contracts.lines.Lines.{the_view}
 use Rattle.rbd_guard.proofs.Ordered.{line_is, key_is, count_is, no_link, in_order}
-use Rattle.rbd_guard.proofs.Pushed.{AreLinesOf, pushed_line, pushed, pushed_key}
+use Rattle.rbd_guard.proofs.Pushed.{AreLinesOf, pushed, pushed_key}
 use Rattle.rbd_guard.proofs.lines.Lines.push.Goals as goal
 
 pub longer-requires : goal.longer-requires

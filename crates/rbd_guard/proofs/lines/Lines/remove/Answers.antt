@@ -1,9 +1,8 @@
-use Rattle.std.proofs.Common.{◌≡◌, ℕ, ◌<◌, None, Some, Option, cond, nat_eq, sym, ap, subst, ◌∙◌, true}
+use Rattle.std.proofs.Common.{◌≡◌, ℕ, ◌<◌, None, cond, nat_eq, sym, ap, subst, ◌∙◌}
 use Rattle.std.specs.HashMap.{get}
 use Rattle.std.specs.Option.{is_some}
 use Rattle.rbd_guard.specs.declared.link.Ends.{Ends}
-use Rattle.rbd_guard.specs.declared.link.Link.{Link}
-use Rattle.rbd_guard.specs.Order.{Tables, line, key_of, without, ends_or, IsInOrder}
+use Rattle.rbd_guard.specs.Order.{line, key_of, without, ends_or}
 use Rattle.rbd_guard.specs.Links.{shorter, or_none}
 use Rattle.rbd_guard.specs.contracts.lines.Lines.{the_view}
 use Rattle.rbd_guard.proofs.Ordered.{line_is, key_is, in_order, some_link}

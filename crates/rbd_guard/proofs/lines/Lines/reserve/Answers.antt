@@ -1,8 +1,8 @@
-use Rattle.std.proofs.Common.{nat_eq, sym, ap, subst, ◌∙◌}
+use Rattle.std.proofs.Common.{nat_eq, sym, ap, ◌∙◌}
 use Rattle.std.specs.HashMap.{get}
 use Rattle.std.specs.Option.{option_map}
 use Rattle.rbd_guard.specs.declared.link.Link.{Link}
-use Rattle.rbd_guard.specs.Order.{Tables, line, key_of, ends_or, IsInOrder}
+use Rattle.rbd_guard.specs.Order.{line, key_of, ends_or}
 use Rattle.rbd_guard.specs.contracts.lines.Lines.{the_view}
 use Rattle.rbd_guard.proofs.Ordered.{line_is, key_is, in_order, same_lines_of}
 use Rattle.rbd_guard.proofs.Pushed.{AreLinesOf}
