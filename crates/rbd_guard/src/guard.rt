@@ -1,133 +1,173 @@
-ghost use Rattle.std.specs.Prelude.{◌≡◌, ◌+◌, ◌<◌, ◌≤◌, [], ◌∷◌, ◌++◌, IsTrue, IsFalse, IsOk, IfOk, IfSome, OnOk, OnErr, slice_get, find, option_map, ◌==◌};
-ghost use Rattle.rbd_guard.specs.Tickets.{queue, list, is_in, without};
+ghost use Rattle.std.specs.Prelude.{◌≡◌, ℕ, ◌+◌, ◌<◌, ◌≤◌, ◌==◌, [], ◌∷◌, ◌++◌, None, Some, cond, length, slice_get, IsSome, IsNone, IsOk, IfOk, IfSome, OnOk, OnErr};
+ghost use Rattle.rbd_guard.specs.Order.{is_in, without, AreSameLines};
+ghost use Rattle.rbd_guard.specs.Tickets.{queue, list, object_of, request_of, without_all, AreSame, IsSound};
 
-use crate::ticket::{Entry, Ticket};
+use crate::lines::Lines;
+use crate::ticket::Ticket;
 use rbd_kinds::NoMemory;
 use std::alloc::Global;
 use std::marker::Model;
 
-/// The tickets of one session's requests. Contracts see those that are in, in order of entry, and how
-/// many more have room.
+/// The tickets of one session's requests. Contracts see each object's `queue` and each request's `list`,
+/// both earliest first, the `object_of` and the `request_of` each ticket that is in, how many tickets were
+/// `drawn`, and for how many more there is room.
 #[derive(Debug, Drop)]
 pub struct Guard {
-    /// In order of entry.
-    entries: Vec<Entry>,
+    /// The tickets of each object.
+    queues: Lines,
+    /// The tickets of each request.
+    lists: Lines,
     /// The number of the next ticket.
-    next: u64,
+    drawn: u64,
 }
 
 impl Model for Guard {
     ghost use Rattle.std.specs.Prelude.{◌-◌, ◌^◌, min};
-    ghost use Rattle.std.specs.Vec.{vec_len, vec_capacity};
-    ghost use Rattle.rbd_guard.specs.Tickets.{Tickets, tickets_code, AreBelow};
+    ghost use Rattle.rbd_guard.specs.Tickets.{Tickets, IsSound};
 
     ghost Value = { Tickets };
 
-    ghost coded = { tickets_code };
+    ghost view = { λ g. record { queues = g.queues; lists = g.lists; drawn = g.drawn; reserved = min (min g.queues.room g.lists.room) (2 ^ 64 - 1 - g.drawn) } };
 
-    ghost view = { λ g. record { entries = g.entries.items; reserved = min (vec_capacity g.entries - vec_len g.entries) (2 ^ 64 - 1 - g.next) } };
-
-    ghost invariant = { λ g. AreBelow g.next g.entries.items };
+    ghost invariant = { λ g. IsSound (record { queues = g.queues; lists = g.lists; drawn = g.drawn; reserved = 0 }) };
 }
 
 impl Guard {
     /// No ticket is in. It takes no memory.
     pub fn new(alloc: Global) -> Self
-        ensures { result.entries ≡ [] }
+        ensures queue { (object : ℕ) → queue object result ≡ [] }
+        ensures list { (request : ℕ) → list request result ≡ [] }
+        ensures object { (ticket : ℕ) → object_of ticket result ≡ None }
+        ensures request { (ticket : ℕ) → request_of ticket result ≡ None }
+        ensures drawn { result.drawn ≡ 0 }
+        ensures sound { IsSound result }
     {
         Guard {
-            entries: Vec::new(alloc),
-            next: 0,
+            queues: Lines::new(alloc),
+            lists: Lines::new(alloc),
+            drawn: 0,
         }
     }
 
     /// Makes room for `more` tickets: the next `more` calls of `enter` take no memory and are Ok, whatever
     /// tickets leave between them. No queue or list changes, also where memory is refused.
     pub fn reserve(&mut self, more: u32) -> Result<(), NoMemory>
-        ensures entries { self.new.entries ≡ self.old.entries }
+        ensures same { AreSame self.old self.new }
         ensures ok { OnOk result (more ≤ self.new.reserved) }
+        ensures succeeds { more ≤ self.old.reserved → IsOk result }
         ensures reserved { self.old.reserved ≤ self.new.reserved }
+        ensures sound { IsSound self.new }
     {
-        if u64::MAX - self.next < more as u64 {
+        if u64::MAX - self.drawn < more as u64 {
             return Err(NoMemory);
         }
-        self.entries.reserve(more as usize)?;
-        Ok(())
+        reserve_both(&mut self.queues, &mut self.lists, more as usize)
     }
 
     /// Gives a request a ticket for an object: the last in the object's queue, and the last in the
-    /// request's list. Where room is reserved it is Ok and takes no memory. Refused memory, no queue or
-    /// list changes.
+    /// request's list. Its number is drawn once. Where room is reserved it is Ok and takes no memory.
+    /// Refused memory, no queue or list changes.
     pub fn enter(&mut self, request: u32, object: u64) -> Result<Ticket, NoMemory>
-        ensures ok { IfOk result (λ ticket.
-            self.new.entries ≡ self.old.entries ++ record { ticket = ticket; request = request; object = object } ∷ []) }
-        ensures fresh { IfOk result (λ ticket. IsFalse (is_in ticket self.old.entries)) }
-        ensures err { OnErr result (self.new.entries ≡ self.old.entries) }
+        ensures queue { IfOk result (λ ticket. (o : ℕ)
+            → queue o self.new ≡ cond (object == o) (queue o self.old ++ ticket ∷ []) (queue o self.old)) }
+        ensures list { IfOk result (λ ticket. (r : ℕ)
+            → list r self.new ≡ cond (request == r) (list r self.old ++ ticket ∷ []) (list r self.old)) }
+        ensures object { IfOk result (λ ticket. (t : ℕ)
+            → object_of t self.new ≡ cond (ticket == t) (Some object) (object_of t self.old)) }
+        ensures request { IfOk result (λ ticket. (t : ℕ)
+            → request_of t self.new ≡ cond (ticket == t) (Some request) (request_of t self.old)) }
+        ensures number { IfOk result (λ ticket. ticket ≡ self.old.drawn) }
+        ensures drawn { OnOk result (self.new.drawn ≡ self.old.drawn + 1) }
+        ensures fresh { IfOk result (λ ticket. object_of ticket self.old ≡ None) }
+        ensures err { OnErr result (AreSame self.old self.new) }
 
         ensures room { 0 < self.old.reserved → IsOk result }
         ensures reserved { self.old.reserved ≤ self.new.reserved + 1 }
+        ensures sound { IsSound self.new }
     {
-        let Some(next) = self.next.checked_add(1) else {
-            return Err(NoMemory);
-        };
-        let ticket = Ticket { number: self.next };
-        self.entries.push(Entry {
-            ticket,
-            request,
-            object,
-        })?;
-        self.next = next;
-        Ok(ticket)
+        self.reserve(1)?;
+        let number = self.drawn;
+        self.queues.push(object, number);
+        self.lists.push(request as u64, number);
+        self.drawn = number + 1;
+        Ok(Ticket { number })
     }
 
     /// The ticket that entered an object's queue earliest and hasn't left. `None` exactly where the queue
     /// is empty. It takes no memory.
     pub fn first(&self, object: u64) -> Option<Ticket>
-        ensures value { result ≡ slice_get (queue object self.now.entries) 0 }
-        ensures entered { IfSome result (λ ticket. IsTrue (is_in ticket self.now.entries)) }
+        ensures first { result ≡ slice_get (queue object self.now) 0 }
+        ensures object { IfSome result (λ ticket. object_of ticket self.now ≡ Some object) }
+        ensures sound { IsSound self.now }
     {
-        ticket_of(first_at(self.entries.as_slice(), object))
+        ticket_of(self.queues.first(object))
     }
 
     /// The ticket of a request that entered earliest and hasn't left. `None` exactly where its list is
     /// empty. It takes no memory.
     pub fn next_of(&self, request: u32) -> Option<Ticket>
-        ensures value { result ≡ slice_get (list request self.now.entries) 0 }
-        ensures entered { IfSome result (λ ticket. IsTrue (is_in ticket self.now.entries)) }
+        ensures first { result ≡ slice_get (list request self.now) 0 }
+        ensures request { IfSome result (λ ticket. request_of ticket self.now ≡ Some request) }
+        ensures sound { IsSound self.now }
     {
-        ticket_of(first_by(self.entries.as_slice(), request))
+        ticket_of(self.lists.first(request as u64))
     }
 
     /// Takes a ticket that is in away. Every other order stays. It takes no memory.
     pub fn leave(&mut self, ticket: Ticket)
-        requires { IsTrue (is_in ticket self.old.entries) }
-        ensures entries { self.new.entries ≡ without ticket self.old.entries }
+        requires { IsSome (object_of ticket self.old) }
+        ensures queue { (o : ℕ) → queue o self.new ≡ without ticket (queue o self.old) }
+        ensures list { (r : ℕ) → list r self.new ≡ without ticket (list r self.old) }
+        ensures object { (t : ℕ) → object_of t self.new ≡ cond (ticket == t) None (object_of t self.old) }
+        ensures request { (t : ℕ) → request_of t self.new ≡ cond (ticket == t) None (request_of t self.old) }
+        ensures drawn { self.new.drawn ≡ self.old.drawn }
         ensures reserved { self.old.reserved ≤ self.new.reserved }
+        ensures sound { IsSound self.new }
     {
-        self.entries.retain(|entry| entry.ticket != ticket);
+        self.queues.remove(ticket.number);
+        self.lists.remove(ticket.number);
+    }
+
+    /// Takes away all tickets of a request, and answers how many. Every other order stays. It takes no
+    /// memory.
+    pub fn leave_all(&mut self, request: u32) -> u64
+        ensures count { result ≡ length (list request self.old) }
+        ensures queue { (o : ℕ) → queue o self.new ≡ without_all (list request self.old) (queue o self.old) }
+        ensures list { (r : ℕ) → list r self.new ≡ cond (request == r) [] (list r self.old) }
+        ensures object { (t : ℕ)
+            → object_of t self.new ≡ cond (is_in t (list request self.old)) None (object_of t self.old) }
+        ensures request { (t : ℕ)
+            → request_of t self.new ≡ cond (is_in t (list request self.old)) None (request_of t self.old) }
+        ensures drawn { self.new.drawn ≡ self.old.drawn }
+        ensures reserved { self.old.reserved ≤ self.new.reserved }
+        ensures sound { IsSound self.new }
+    {
+        let count = self.lists.count(request as u64);
+        while let Some(ticket) = self.next_of(request) {
+            self.leave(ticket);
+        }
+        count
     }
 }
 
-fn first_at(entries: &[Entry], object: u64) -> Option<Entry>
-    ensures { result ≡ find (λ e. e.object == object) entries.now }
+fn reserve_both(queues: &mut Lines, lists: &mut Lines, more: usize) -> Result<(), NoMemory>
+    ensures queues { AreSameLines queues.old queues.new }
+    ensures lists { AreSameLines lists.old lists.new }
+    ensures ok { OnOk result ((more ≤ queues.new.room) × (more ≤ lists.new.room)) }
+    ensures succeeds { more ≤ queues.old.room → more ≤ lists.old.room → IsOk result }
+    ensures room_of_queues { queues.old.room ≤ queues.new.room }
+    ensures room_of_lists { lists.old.room ≤ lists.new.room }
 {
-    entries.iter().copied().find(|entry| entry.object == object)
+    queues.reserve(more)?;
+    lists.reserve(more)?;
+    Ok(())
 }
 
-fn first_by(entries: &[Entry], request: u32) -> Option<Entry>
-    ensures { result ≡ find (λ e. e.request == request) entries.now }
+fn ticket_of(number: Option<u64>) -> Option<Ticket>
+    ensures { result ≡ number }
 {
-    entries
-        .iter()
-        .copied()
-        .find(|entry| entry.request == request)
-}
-
-fn ticket_of(entry: Option<Entry>) -> Option<Ticket>
-    ensures { result ≡ option_map (λ e. e.ticket) entry }
-{
-    match entry {
-        Some(entry) => Some(entry.ticket),
+    match number {
+        Some(number) => Some(Ticket { number }),
         None => None,
     }
 }

@@ -1,46 +1,67 @@
-//! What entering and leaving do to queues and lists: each law is the contract of a function that does
+//! What entering and leaving do to the order of tickets: each law is the contract of a function that does
 //! nothing.
-ghost use Rattle.std.specs.Prelude.{◌≡◌, ◌≢◌, ℕ, ◌+◌, ◌==◌, not, filter, IsTrue, IsFalse, List, [], ◌∷◌, ◌++◌, length};
-ghost use Rattle.rbd_guard.specs.Tickets.{Entry, queue, list, is_in, without, AreDistinct};
+ghost use Rattle.std.specs.Prelude.{◌≡◌, ◌≢◌, ℕ, ◌+◌, ◌<◌, Some, IsSome, IsTrue, IsFalse, List, [], ◌∷◌, ◌++◌, length, slice_get};
+ghost use Rattle.rbd_guard.specs.Order.{is_in, without, AreApart};
+ghost use Rattle.rbd_guard.specs.Tickets.{Tickets, queue, list, object_of, request_of, without_all, is_ahead, IsSound};
 
-/// A ticket that enters is the last of its object's queue and of its request's list, and changes no other.
+/// A ticket that enters comes behind the others: who was first stays first.
 pub fn entering()
-    ensures queue { (entries : List Entry) (e : Entry) → queue e.object (entries ++ e ∷ []) ≡ queue e.object entries ++ e.ticket ∷ [] }
+    ensures alone { (ticket : ℕ) → slice_get ([] ++ ticket ∷ []) 0 ≡ Some ticket }
 
-    ensures other_queues { (entries : List Entry) (e : Entry) (object : ℕ)
-        → object ≢ e.object → queue object (entries ++ e ∷ []) ≡ queue object entries }
+    ensures first_stays { (tickets : List ℕ) (ticket first : ℕ)
+        → slice_get tickets 0 ≡ Some first → slice_get (tickets ++ ticket ∷ []) 0 ≡ Some first }
 
-    ensures list { (entries : List Entry) (e : Entry) → list e.request (entries ++ e ∷ []) ≡ list e.request entries ++ e.ticket ∷ [] }
+    ensures order { (tickets : List ℕ) (ticket one other : ℕ)
+        → ticket ≢ one → ticket ≢ other → is_ahead one other (tickets ++ ticket ∷ []) ≡ is_ahead one other tickets }
 
-    ensures other_lists { (entries : List Entry) (e : Entry) (request : ℕ)
-        → request ≢ e.request → list request (entries ++ e ∷ []) ≡ list request entries }
-
-    ensures in_ { (entries : List Entry) (e : Entry) → IsTrue (is_in e.ticket (entries ++ e ∷ [])) }
+    ensures last { (tickets : List ℕ) (ticket other : ℕ)
+        → IsTrue (is_in other tickets) → IsTrue (is_ahead other ticket (tickets ++ ticket ∷ [])) }
 {}
 
-/// A ticket that leaves is taken out of each queue and list, and the others keep their order there.
+/// A ticket that leaves is out, the others stay in, and they keep their order.
 pub fn leaving()
-    ensures queues { (entries : List Entry) (ticket object : ℕ)
-        → queue object (without ticket entries) ≡ filter (λ other. not (other == ticket)) (queue object entries) }
+    ensures out { (tickets : List ℕ) (ticket : ℕ) → IsFalse (is_in ticket (without ticket tickets)) }
 
-    ensures lists { (entries : List Entry) (ticket request : ℕ)
-        → list request (without ticket entries) ≡ filter (λ other. not (other == ticket)) (list request entries) }
+    ensures others { (tickets : List ℕ) (ticket other : ℕ)
+        → other ≢ ticket → is_in other (without ticket tickets) ≡ is_in other tickets }
 
-    ensures out { (entries : List Entry) (ticket : ℕ) → IsFalse (is_in ticket (without ticket entries)) }
+    ensures order { (tickets : List ℕ) (ticket one other : ℕ)
+        → one ≢ ticket → other ≢ ticket → is_ahead one other (without ticket tickets) ≡ is_ahead one other tickets }
 
-    ensures others { (entries : List Entry) (ticket other : ℕ)
-        → other ≢ ticket → is_in other (without ticket entries) ≡ is_in other entries }
+    ensures next { (tickets : List ℕ) (ticket : ℕ) → AreApart (ticket ∷ tickets) → without ticket (ticket ∷ tickets) ≡ tickets }
+
+    ensures one { (tickets : List ℕ) (ticket : ℕ)
+        → AreApart tickets → IsTrue (is_in ticket tickets) → length (without ticket tickets) + 1 ≡ length tickets }
 {}
 
-/// No two tickets that are in have the same number, so exactly one leaves.
+/// Where several leave, they are out, the others stay in, and they keep their order.
+pub fn leaving_all()
+    ensures out { (tickets gone : List ℕ) (ticket : ℕ) → IsTrue (is_in ticket gone) → IsFalse (is_in ticket (without_all gone tickets)) }
+
+    ensures others { (tickets gone : List ℕ) (other : ℕ)
+        → IsFalse (is_in other gone) → is_in other (without_all gone tickets) ≡ is_in other tickets }
+
+    ensures order { (tickets gone : List ℕ) (one other : ℕ)
+        → IsFalse (is_in one gone) → IsFalse (is_in other gone) → is_ahead one other (without_all gone tickets) ≡ is_ahead one other tickets }
+{}
+
+/// A ticket that is in stands in one queue, that of its object, and in one list, that of its request, once
+/// in each; and its number is below that of each ticket that is given from now on.
 pub fn tickets_differ()
-    ensures none { AreDistinct [] }
+    ensures one_queue { (g : Tickets) → IsSound g → (ticket object other : ℕ)
+        → IsTrue (is_in ticket (queue object g)) → IsTrue (is_in ticket (queue other g)) → object ≡ other }
 
-    ensures entered { (entries : List Entry) (e : Entry)
-        → AreDistinct entries → IsFalse (is_in e.ticket entries) → AreDistinct (entries ++ e ∷ []) }
+    ensures one_list { (g : Tickets) → IsSound g → (ticket request other : ℕ)
+        → IsTrue (is_in ticket (list request g)) → IsTrue (is_in ticket (list other g)) → request ≡ other }
 
-    ensures left { (entries : List Entry) (ticket : ℕ) → AreDistinct entries → AreDistinct (without ticket entries) }
+    ensures once { (g : Tickets) → IsSound g → (key : ℕ) → AreApart (queue key g) × AreApart (list key g) }
 
-    ensures one { (entries : List Entry) (ticket : ℕ)
-        → AreDistinct entries → IsTrue (is_in ticket entries) → length (without ticket entries) + 1 ≡ length entries }
+    ensures own_request { (g : Tickets) → IsSound g → (ticket object : ℕ)
+        → IsTrue (is_in ticket (queue object g)) → IsSome (request_of ticket g) }
+
+    ensures own_object { (g : Tickets) → IsSound g → (ticket request : ℕ)
+        → IsTrue (is_in ticket (list request g)) → IsSome (object_of ticket g) }
+
+    ensures earlier { (g : Tickets) → IsSound g → (ticket object : ℕ)
+        → IsTrue (is_in ticket (queue object g)) → ticket < g.drawn }
 {}

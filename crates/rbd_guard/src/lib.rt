@@ -8,34 +8,51 @@
 //! guard.first(7)                           // the ticket `first`
 //! guard.leave(first);                      // request 1 has done its piece
 //! guard.first(7)                           // the ticket `second`
+//! guard.leave_all(2);                      // request 2 has ended: 1 ticket
 //! ```
 //!
 //! # Rules
 //!
 //! A request enters the objects that it changes, and does the piece of an object only while its ticket is
-//! the first there. So effects on one object come in the order of entry.
+//! the first there. So effects on one object come in the order of entry. Where a request ends early, all
+//! its tickets leave.
 //!
 //! # Contracts
 //!
-//! Contracts see the tickets that are in, in order of entry, each with its request and its object, and
-//! beside them `reserved`: for how many calls of `enter` there is room. An object's queue and a request's
-//! list are parts of that list. A ticket's number is one that no ticket has which is in, and no more is
-//! said of it. What entering and leaving do to queues and lists is said in [`laws`].
+//! Contracts see each object's `queue` and each request's `list`, as lists of tickets, earliest first. They
+//! see the `object_of` and the `request_of` each ticket that is in, how many tickets were `drawn`, and
+//! beside them `reserved`: for how many calls of `enter` there is room. Each call says what becomes of
+//! every queue and every list. No order of all tickets is told.
+//!
+//! A ticket is seen as its number. Each is the count of those drawn before it, and `drawn` only rises. So a
+//! ticket that has left equals no later one, as long as it is of the same guard.
+//!
+//! What holds of each guard (`IsSound`) is a clause of each call: a ticket that is in stands once, in the
+//! queue of its object and in the list of its request alone. What entering and leaving do to the order of
+//! tickets is said in [`laws`].
 //!
 //! # Cost
 //!
-//! `enter` costs the same however many tickets are in. `first` and `next_of` look at the tickets up to
-//! the one that they find, and `leave` at each ticket that is in. Only `reserve` and `enter` take memory,
-//! and `enter` none where room is reserved.
+//! `enter`, `first`, `next_of` and `leave` look up a few entries of hash tables, and so cost the same on
+//! average however many tickets are in. `leave_all` costs as much as its tickets do one by one. Only
+//! `reserve` and `enter` take memory, and `enter` none where room is reserved. Growing the tables moves
+//! what is in.
 //!
 //! # How it works
 //!
-//! A vector of the tickets in order of entry, and the number of the next. Numbers rise, so that a new one
-//! is no other's; where they are used up, `reserve` and `enter` answer as for want of memory.
+//! A ticket is linked with the one before it and the one after it in the queue of its object, and the same
+//! in the list of its request. The links of queues are a hash table by ticket, and so are those of lists
+//! (`lines`); a second table has the first and the last of each that isn't empty. The tables hold no more
+//! than the tickets that are in: one that leaves gives its places back. Both directions of a link agree,
+//! and so the queue read from its first is all of it: this is what the type keeps. Where numbers are used
+//! up, `reserve` and `enter` answer as for want of memory.
 #![tactic(auto)]
 
 mod guard;
 pub mod laws;
+mod lines;
+mod link;
+mod tables;
 #[cfg(test)]
 mod tests;
 mod ticket;

@@ -15,21 +15,3 @@ impl Model for Ticket {
 
     ghost inverse = { λ n. record { number = n } };
 }
-
-/// A ticket that is in.
-#[derive(Clone, Copy, Debug)]
-pub struct Entry {
-    pub ticket: Ticket,
-    pub request: u32,
-    pub object: u64,
-}
-
-impl Model for Entry {
-    ghost use Rattle.rbd_guard.specs.Tickets as tickets;
-
-    ghost Value = { tickets.Entry };
-
-    ghost view = { λ e. record { ticket = e.ticket; request = e.request; object = e.object } };
-
-    ghost inverse = { λ e. record { ticket = e.ticket; request = e.request; object = e.object } };
-}

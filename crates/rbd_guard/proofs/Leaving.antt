@@ -1,0 +1,257 @@
+-- Tickets that enter and leave.
+use Rattle.std.proofs.Common.{◌≡◌, ℕ, suc, ◌+◌, ◌<◌, ◌≤◌, Bool, true, false, cond, not, ◌||◌, eqb, List, [], ◌∷◌, ◌++◌, length, Option, Some, None, refl, sym, ap, subst, ◌∙◌, inl, inr, true≢false, arith}
+use Rattle.std.specs.Prelude.{◌⊎◌}
+use Rattle.std.specs.List.{slice_get}
+use Rattle.std.specs.Option.{is_some, IfSome}
+use Rattle.std.proofs.lemmas.Bool.{eq-eqb, ne_eqb, eqb-true, eqb-false, cond-false, cases_Bool}
+use Rattle.rbd_guard.specs.Order.{Tables, line, key_of, is_in, without, AreApart, IsInOrder}
+use Rattle.rbd_guard.specs.Tickets.{Tickets, queue, list, object_of, request_of, without_all, is_ahead, IsSound}
+use Rattle.rbd_guard.proofs.Apart.{head_in, in_right, absent, others}
+use Rattle.rbd_guard.proofs.Linking.{some_is, none_isnt}
+
+-- ---- the first of a line
+
+first_holds : (P : ℕ → Type 0) (r : Option ℕ) (xs : List ℕ) → ((n : ℕ) → is_in n xs ≡ true → P n) → r ≡ slice_get xs 0 → IfSome r P
+first_holds P r [] holds is = subst (λ o. IfSome o P) (sym is) tt
+first_holds P r (x ∷ xs) holds is = subst (λ o. IfSome o P) (sym is) (holds x (head_in x xs))
+
+pub first_found : (t : Tables) (key : ℕ) (r : Option ℕ) → IsInOrder t → r ≡ slice_get (line key t) 0 → IfSome r (λ n. key_of n t ≡ Some key)
+first_found t key r order is = first_holds (λ n. key_of n t ≡ Some key) r (line key t) (λ n here. order.stands n key here) is
+
+-- a list that has a first
+pub record Begins (n : ℕ) (xs : List ℕ) : Type 0 where
+  pub rest : List ℕ
+  pub is : xs ≡ n ∷ rest
+
+pub begins : (n : ℕ) (xs : List ℕ) → Some n ≡ slice_get xs 0 → Begins n xs
+begins n [] e = absurd (none_isnt n (sym e))
+begins n (x ∷ xs) e = record { rest = xs; is = ap (λ m. m ∷ xs) (sym (some_is n x e)) }
+
+pub is_empty : (xs : List ℕ) → None ≡ slice_get xs 0 → xs ≡ []
+is_empty [] e = refl
+is_empty (x ∷ xs) e = absurd (none_isnt x e)
+
+-- ---- one leaves
+
+pub without_shorter : (n : ℕ) (xs : List ℕ) → length (without n xs) ≤ length xs
+without_shorter n [] = omega arith
+without_shorter n (x ∷ xs) = by (eqb x n) (without_shorter n xs)
+  where
+    by : (b : Bool) → length (without n xs) ≤ length xs → length (cond (not b) (x ∷ without n xs) (without n xs)) ≤ suc (length xs)
+    by true rest = omega (arith, rest)
+    by false rest = omega (arith, rest)
+
+some_without : (b : Bool) (o p : Option ℕ) → is_some o ≡ is_some p → is_some (cond b None o) ≡ is_some (cond b None p)
+some_without true o p same = refl
+some_without false o p same = same
+
+some_still : (b : Bool) (o : Option ℕ) → is_some (cond b None o) ≡ true → is_some o ≡ true
+some_still true o some = absurd (true≢false (sym some))
+some_still false o some = some
+
+pub sound_without : (g : Tickets) (queues lists : Tables) (n room : ℕ) → IsSound g → IsInOrder queues → IsInOrder lists
+    → ((k : ℕ) → line k queues ≡ without n (line k g.queues)) → ((k : ℕ) → line k lists ≡ without n (line k g.lists))
+    → ((t : ℕ) → key_of t queues ≡ cond (eqb n t) None (key_of t g.queues)) → ((t : ℕ) → key_of t lists ≡ cond (eqb n t) None (key_of t g.lists))
+    → IsSound (record { queues = queues; lists = lists; drawn = g.drawn; reserved = room })
+sound_without g queues lists n room sound queues_order lists_order queue_is list_is object_is request_is =
+    record {
+      queues = queues_order;
+      lists = lists_order;
+      both = λ t. ap is_some (object_is t) ∙ some_without (eqb n t) (key_of t g.queues) (key_of t g.lists) (sound.both t) ∙ sym (ap is_some (request_is t));
+      drawn = λ t some. sound.drawn t (some_still (eqb n t) (key_of t g.queues) (sym (ap is_some (object_is t)) ∙ some));
+      queue_fits = λ k. fits (line k g.queues) (line k queues) (queue_is k) (sound.queue_fits k);
+      list_fits = λ k. fits (line k g.lists) (line k lists) (list_is k) (sound.list_fits k);
+      fits = sound.fits;
+    }
+  where
+    fits : (old new : List ℕ) → new ≡ without n old → length old ≤ g.drawn → length new ≤ g.drawn
+    fits old new is enough = (let less = without_shorter n old in let same = ap length is in omega (arith, less, same, enough))
+
+-- ---- several leave
+
+eqb_flip : (a b : ℕ) → eqb a b ≡ eqb b a
+eqb_flip a b = by (cases_Bool (eqb a b))
+  where
+    by : (eqb a b ≡ true) ⊎ (eqb a b ≡ false) → eqb a b ≡ eqb b a
+    by (inl e) = e ∙ sym (eq-eqb b a (sym (eqb-true a b e)))
+    by (inr e) = e ∙ sym (ne_eqb b a (λ same. eqb-false a b e (sym same)))
+
+pub all_stay : (xs : List ℕ) → without_all [] xs ≡ xs
+all_stay [] = refl
+all_stay (x ∷ xs) = ap (λ l. x ∷ l) (all_stay xs)
+
+pub one_and_all : (n : ℕ) (rest xs : List ℕ) → without_all rest (without n xs) ≡ without_all (n ∷ rest) xs
+one_and_all n rest [] = refl
+one_and_all n rest (x ∷ xs) =
+    by (eqb x n) (is_in x rest) refl (one_and_all n rest xs)
+    ∙ ap (λ b. cond (not (b || is_in x rest)) (x ∷ without_all (n ∷ rest) xs) (without_all (n ∷ rest) xs)) (eqb_flip x n)
+  where
+    by : (a b : Bool) → is_in x rest ≡ b → without_all rest (without n xs) ≡ without_all (n ∷ rest) xs
+        → without_all rest (cond (not a) (x ∷ without n xs) (without n xs)) ≡ cond (not (a || b)) (x ∷ without_all (n ∷ rest) xs) (without_all (n ∷ rest) xs)
+    by true b e same = same
+    by false true e same = rw e same
+    by false false e same = rw e (ap (λ l. x ∷ l) same)
+
+pub one_and_keys : (a b : Bool) (o : Option ℕ) → cond b None (cond a None o) ≡ cond (a || b) None o
+one_and_keys true true o = refl
+one_and_keys true false o = refl
+one_and_keys false b o = refl
+
+pub out_all : (tickets gone : List ℕ) (ticket : ℕ) → is_in ticket gone ≡ true → is_in ticket (without_all gone tickets) ≡ false
+out_all [] gone ticket h = refl
+out_all (x ∷ tickets) gone ticket h = by (is_in x gone) refl (out_all tickets gone ticket h)
+  where
+    by : (b : Bool) → is_in x gone ≡ b → is_in ticket (without_all gone tickets) ≡ false → is_in ticket (cond (not b) (x ∷ without_all gone tickets) (without_all gone tickets)) ≡ false
+    by true e rest = rest
+    by false e rest = ap (λ b. b || is_in ticket (without_all gone tickets)) (ne_eqb x ticket (λ same. true≢false (sym h ∙ (ap (λ t. is_in t gone) (sym same) ∙ e)))) ∙ rest
+
+pub others_all : (tickets gone : List ℕ) (other : ℕ) → is_in other gone ≡ false → is_in other (without_all gone tickets) ≡ is_in other tickets
+others_all [] gone other h = refl
+others_all (x ∷ tickets) gone other h = by (is_in x gone) refl (others_all tickets gone other h)
+  where
+    by : (b : Bool) → is_in x gone ≡ b → is_in other (without_all gone tickets) ≡ is_in other tickets
+        → is_in other (cond (not b) (x ∷ without_all gone tickets) (without_all gone tickets)) ≡ (eqb x other || is_in other tickets)
+    by true e rest = rest ∙ sym (ap (λ b. b || is_in other tickets) (ne_eqb x other (λ same. true≢false (sym e ∙ (ap (λ t. is_in t gone) same ∙ h)))))
+    by false e rest = ap (λ b. eqb x other || b) rest
+
+-- ---- who stands ahead
+
+in_before : (other : ℕ) (tickets : List ℕ) (ticket : ℕ) → (ticket ≡ other → ⊥) → is_in other (tickets ++ ticket ∷ []) ≡ is_in other tickets
+in_before other [] ticket differs = ap (λ b. b || false) (ne_eqb ticket other differs)
+in_before other (x ∷ tickets) ticket differs = ap (λ b. eqb x other || b) (in_before other tickets ticket differs)
+
+pub order_entering : (tickets : List ℕ) (ticket one other : ℕ) → (ticket ≡ one → ⊥) → (ticket ≡ other → ⊥) → is_ahead one other (tickets ++ ticket ∷ []) ≡ is_ahead one other tickets
+order_entering [] ticket one other no_one no_other = cond-false (eqb ticket one) false false (ne_eqb ticket one no_one)
+order_entering (x ∷ tickets) ticket one other no_one no_other =
+    ap (λ b. cond (eqb x one) b (is_ahead one other (tickets ++ ticket ∷ []))) (in_before other tickets ticket no_other)
+    ∙ ap (λ b. cond (eqb x one) (is_in other tickets) b) (order_entering tickets ticket one other no_one no_other)
+
+pub last_entering : (tickets : List ℕ) (ticket other : ℕ) → is_in other tickets ≡ true → is_ahead other ticket (tickets ++ ticket ∷ []) ≡ true
+last_entering [] ticket other h = absurd (true≢false (sym h))
+last_entering (x ∷ tickets) ticket other h = by (eqb x other) refl (λ there. last_entering tickets ticket other there)
+  where
+    by : (b : Bool) → eqb x other ≡ b → (is_in other tickets ≡ true → is_ahead other ticket (tickets ++ ticket ∷ []) ≡ true)
+        → cond b (is_in ticket (tickets ++ ticket ∷ [])) (is_ahead other ticket (tickets ++ ticket ∷ [])) ≡ true
+    by true e rest = in_right ticket tickets (ticket ∷ []) (head_in ticket [])
+    by false e rest = rest (sym (ap (λ b. b || is_in other tickets) e) ∙ h)
+
+pub order_leaving : (tickets : List ℕ) (ticket one other : ℕ) → (one ≡ ticket → ⊥) → (other ≡ ticket → ⊥) → is_ahead one other (without ticket tickets) ≡ is_ahead one other tickets
+order_leaving [] ticket one other no_one no_other = refl
+order_leaving (x ∷ tickets) ticket one other no_one no_other = by (eqb x ticket) refl (order_leaving tickets ticket one other no_one no_other)
+  where
+    by : (b : Bool) → eqb x ticket ≡ b → is_ahead one other (without ticket tickets) ≡ is_ahead one other tickets
+        → is_ahead one other (cond (not b) (x ∷ without ticket tickets) (without ticket tickets)) ≡ cond (eqb x one) (is_in other tickets) (is_ahead one other tickets)
+    by true e rest = rest ∙ sym (cond-false (eqb x one) _ _ (ne_eqb x one (λ same. no_one (sym same ∙ eqb-true x ticket e))))
+    by false e rest =
+        ap (λ b. cond (eqb x one) b (is_ahead one other (without ticket tickets))) (others tickets ticket other no_other)
+        ∙ ap (λ b. cond (eqb x one) (is_in other tickets) b) rest
+
+pub order_leaving_all : (tickets gone : List ℕ) (one other : ℕ) → is_in one gone ≡ false → is_in other gone ≡ false → is_ahead one other (without_all gone tickets) ≡ is_ahead one other tickets
+order_leaving_all [] gone one other no_one no_other = refl
+order_leaving_all (x ∷ tickets) gone one other no_one no_other = by (is_in x gone) refl (order_leaving_all tickets gone one other no_one no_other)
+  where
+    by : (b : Bool) → is_in x gone ≡ b → is_ahead one other (without_all gone tickets) ≡ is_ahead one other tickets
+        → is_ahead one other (cond (not b) (x ∷ without_all gone tickets) (without_all gone tickets)) ≡ cond (eqb x one) (is_in other tickets) (is_ahead one other tickets)
+    by true e rest = rest ∙ sym (cond-false (eqb x one) _ _ (ne_eqb x one (λ same. true≢false (sym e ∙ (ap (λ t. is_in t gone) same ∙ no_one)))))
+    by false e rest =
+        ap (λ b. cond (eqb x one) b (is_ahead one other (without_all gone tickets))) (others_all tickets gone other no_other)
+        ∙ ap (λ b. cond (eqb x one) (is_in other tickets) b) rest
+
+-- ---- one is gone
+
+pub next_is : (tickets : List ℕ) (ticket : ℕ) → AreApart (ticket ∷ tickets) → without ticket (ticket ∷ tickets) ≡ tickets
+next_is tickets ticket apart = ap (λ b. cond (not b) (ticket ∷ without ticket tickets) (without ticket tickets)) (eq-eqb ticket ticket refl) ∙ absent ticket tickets apart.0
+
+pub one_leaves : (tickets : List ℕ) (ticket : ℕ) → AreApart tickets → is_in ticket tickets ≡ true → length (without ticket tickets) + 1 ≡ length tickets
+one_leaves [] ticket apart h = absurd (true≢false (sym h))
+one_leaves (x ∷ tickets) ticket apart h =
+    elim (eqb x ticket) as (λ b. eqb x ticket ≡ b → (b || is_in ticket tickets) ≡ true → length (cond (not b) (x ∷ without ticket tickets) (without ticket tickets)) + 1 ≡ suc (length tickets)) [
+      | true ↦ λ is _. ap (λ l. length l + 1) (absent ticket tickets (ap (λ t. is_in t tickets) (sym (eqb-true x ticket is)) ∙ apart.0)) ∙ omega arith
+      | false ↦ λ is there. (let rest : length (without ticket tickets) + 1 ≡ length tickets = one_leaves tickets ticket apart.1 there in omega arith)
+    ] refl h
+
+-- ---- all tickets of a request leave, one after another
+
+pub record AreLeaving (request : ℕ) (old now : Tickets) : Type 0 where
+  pub queues : (o : ℕ) → without_all (list request now) (queue o now) ≡ without_all (list request old) (queue o old)
+  pub lists : (r : ℕ) → cond (eqb request r) [] (list r now) ≡ cond (eqb request r) [] (list r old)
+  pub objects : (t : ℕ) → cond (is_in t (list request now)) None (object_of t now) ≡ cond (is_in t (list request old)) None (object_of t old)
+  pub requests : (t : ℕ) → cond (is_in t (list request now)) None (request_of t now) ≡ cond (is_in t (list request old)) None (request_of t old)
+  pub drawn : now.drawn ≡ old.drawn
+  pub reserved : old.reserved ≤ now.reserved
+
+pub none_leaves : (request : ℕ) (g : Tickets) → AreLeaving request g g
+none_leaves request g = record { queues = λ o. refl; lists = λ r. refl; objects = λ t. refl; requests = λ t. refl; drawn = refl; reserved = omega arith }
+
+-- what one call of `leave` does
+pub record IsLeft (ticket : ℕ) (old now : Tickets) : Type 0 where
+  pub queue : (o : ℕ) → queue o now ≡ without ticket (queue o old)
+  pub list : (r : ℕ) → list r now ≡ without ticket (list r old)
+  pub object : (t : ℕ) → object_of t now ≡ cond (eqb ticket t) None (object_of t old)
+  pub request : (t : ℕ) → request_of t now ≡ cond (eqb ticket t) None (request_of t old)
+  pub drawn : now.drawn ≡ old.drawn
+  pub reserved : old.reserved ≤ now.reserved
+
+module _ (request ticket : ℕ) (now later : Tickets) (sound : IsSound now) (left : IsLeft ticket now later) (head : Begins ticket (list request now)) where
+  pub rest_is : list request later ≡ head.rest
+  rest_is =
+      left.list request ∙ ap (λ l. without ticket l) head.is
+      ∙ next_is head.rest ticket (subst AreApart head.is (sound.lists.apart request))
+
+  pub rest_shorter : length (list request later) < length (list request now)
+  rest_shorter = (let a = ap length rest_is in let b = ap length head.is in omega (arith, a, b))
+
+  mine : request_of ticket now ≡ Some request
+  mine = sound.lists.stands ticket request (ap (λ l. is_in ticket l) head.is ∙ head_in ticket head.rest)
+
+  queue_step : (o : ℕ) → without_all (list request later) (queue o later) ≡ without_all (list request now) (queue o now)
+  queue_step o =
+      ap (λ l. without_all l (queue o later)) rest_is ∙ ap (λ l. without_all head.rest l) (left.queue o)
+      ∙ one_and_all ticket head.rest (queue o now) ∙ ap (λ l. without_all l (queue o now)) (sym head.is)
+
+  list_step : (r : ℕ) → cond (eqb request r) [] (list r later) ≡ cond (eqb request r) [] (list r now)
+  list_step r = ap (λ l. cond (eqb request r) [] l) (left.list r) ∙ by (eqb request r) refl
+    where
+      another : (b : Bool) → is_in ticket (list r now) ≡ b → eqb request r ≡ false → without ticket (list r now) ≡ list r now
+      another true e differs = absurd (eqb-false request r differs (some_is request r (sym mine ∙ sound.lists.stands ticket r e)))
+      another false e differs = absent ticket (list r now) e
+
+      by : (b : Bool) → eqb request r ≡ b → cond b [] (without ticket (list r now)) ≡ cond b [] (list r now)
+      by true e = refl
+      by false e = another (is_in ticket (list r now)) refl e
+
+  key_step : (t : ℕ) (new old : Option ℕ) → new ≡ cond (eqb ticket t) None old → cond (is_in t (list request later)) None new ≡ cond (is_in t (list request now)) None old
+  key_step t new old is =
+      ap (λ l. cond (is_in t l) None new) rest_is ∙ ap (λ o. cond (is_in t head.rest) None o) is
+      ∙ one_and_keys (eqb ticket t) (is_in t head.rest) old ∙ ap (λ l. cond (is_in t l) None old) (sym head.is)
+
+  pub one_more_left : (old : Tickets) → AreLeaving request old now → AreLeaving request old later
+  one_more_left old so =
+      record {
+        queues = λ o. queue_step o ∙ so.queues o;
+        lists = λ r. list_step r ∙ so.lists r;
+        objects = λ t. key_step t (object_of t later) (object_of t now) (left.object t) ∙ so.objects t;
+        requests = λ t. key_step t (request_of t later) (request_of t now) (left.request t) ∙ so.requests t;
+        drawn = left.drawn ∙ so.drawn;
+        reserved = omega (arith, left.reserved, so.reserved);
+      }
+
+-- where no ticket of the request is left, all have left
+pub record HaveLeft (request : ℕ) (old now : Tickets) : Type 0 where
+  pub queues : (o : ℕ) → queue o now ≡ without_all (list request old) (queue o old)
+  pub lists : (r : ℕ) → list r now ≡ cond (eqb request r) [] (list r old)
+  pub objects : (t : ℕ) → object_of t now ≡ cond (is_in t (list request old)) None (object_of t old)
+  pub requests : (t : ℕ) → request_of t now ≡ cond (is_in t (list request old)) None (request_of t old)
+
+pub have_left : (request : ℕ) (old now : Tickets) → AreLeaving request old now → list request now ≡ [] → HaveLeft request old now
+have_left request old now so none =
+    record {
+      queues = λ o. sym (ap (λ l. without_all l (queue o now)) none ∙ all_stay (queue o now)) ∙ so.queues o;
+      lists = λ r. by r (eqb request r) refl ∙ so.lists r;
+      objects = λ t. sym (ap (λ l. cond (is_in t l) None (object_of t now)) none) ∙ so.objects t;
+      requests = λ t. sym (ap (λ l. cond (is_in t l) None (request_of t now)) none) ∙ so.requests t;
+    }
+  where
+    by : (r : ℕ) (b : Bool) → eqb request r ≡ b → list r now ≡ cond b [] (list r now)
+    by r true e = ap (λ k. list k now) (sym (eqb-true request r e)) ∙ none
+    by r false e = refl
