@@ -1,5 +1,6 @@
-ghost use Rattle.std.specs.Prelude.{◌≡◌, ◌+◌, ◌-◌, ◌^◌, ◌<◌, ◌≤◌, ◌↔◌, ℕ, ◌++◌, List, [], length, take, IfOk, OnOk, OnErr, IfSome, IsErrOf, vec_len};
+ghost use Rattle.std.specs.Prelude.{◌≡◌, ◌+◌, ◌-◌, ◌^◌, ◌<◌, ◌≤◌, ◌↔◌, ℕ, ◌++◌, List, [], length, take, IfOk, OnOk, OnErr, IfSome, IsErrOf, vec_len, Some};
 ghost use Rattle.rbd_edge.specs.Source.{left_after, IsFurther};
+ghost use Rattle.rbd_edge.specs.Texts.{read_text};
 ghost use Rattle.rbd_edge.specs.declared.read.ReadFault.TheVariants.{Failed, NoMemory};
 
 use crate::failed::Failed;
@@ -21,6 +22,8 @@ pub enum ReadFault {
 }
 
 impl fmt::Display for ReadFault {
+    ghost output = { λ fault. Some (read_text fault) };
+
     fn fmt<W: fmt::Write>(&self, f: &mut fmt::Formatter<W>) -> fmt::Result {
         match self {
             ReadFault::Failed => f.write_str("a read failed"),

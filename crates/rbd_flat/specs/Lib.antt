@@ -2,3 +2,4 @@ pub mod Flat
 pub mod Laws
 pub mod Read
 pub mod Site
+pub mod Texts

@@ -1,3 +1,6 @@
+ghost use Rattle.std.specs.Prelude.{Some};
+ghost use Rattle.rbd_flat.specs.Texts.{fault_text};
+
 use std::error::Error;
 use std::fmt;
 
@@ -15,6 +18,8 @@ pub enum FlatFault {
 }
 
 impl fmt::Display for FlatFault {
+    ghost output = { λ fault. Some (fault_text fault) };
+
     fn fmt<W: fmt::Write>(&self, f: &mut fmt::Formatter<W>) -> fmt::Result {
         f.write_str(match self {
             FlatFault::NoImage => "no such image",

@@ -19,8 +19,9 @@
 //! | `17` | Demote | nothing | 0 |
 //!
 //! A discard has at least 1 byte. No write or discard ends past byte 2^63, and no size is above it. A name
-//! has letters, digits, `.`, `_` and `-`, whatever the first. That a session asks for none that begins with `.`
-//! or `-` is no rule of the journal: a synchronisation makes, records and replays a snapshot `.sync`.
+//! has letters, digits, `.`, `_` and `-`, whatever the first. That a session asks for none that begins
+//! with `.` or `-` is no rule of the journal: a synchronisation makes, records and replays a snapshot
+//! `.sync`.
 //!
 //! Each event has one frame, and no frame begins another, so frames can stand one behind the other.
 //!

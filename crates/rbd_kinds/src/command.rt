@@ -7,8 +7,8 @@ use crate::byte_string::Bytes;
 use crate::number::{AtMost, Number};
 use std::marker::Model;
 
-/// A command of a session, with the ranges that a script's grammar gives to its parts: a command in memory is
-/// one that a script may spell. Places, lengths and sizes are bytes.
+/// A command of a session, with the ranges that a script's grammar gives to its parts: a command in
+/// memory is one that a script may spell. Places, lengths and sizes are bytes.
 #[derive(Debug, Drop)]
 pub enum Command {
     /// Makes an image of zeros.

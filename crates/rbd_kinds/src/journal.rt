@@ -46,8 +46,8 @@ pub enum JournalClient {
 #[derive(Debug, Drop)]
 pub struct JournalView {
     pub spans: Spans,
-    /// The least number whose frame is held. Where none is, one more than the end, or `u64::MAX` where
-    /// that is the end.
+    /// The least number whose frame is held. Where none is, one more than the end, or `u64::MAX`
+    /// where that is the end.
     pub first: u64,
     /// The commit position of the owner.
     pub local: u64,

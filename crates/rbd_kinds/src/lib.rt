@@ -4,16 +4,16 @@
 //! site, may have snapshots, and is changed by sessions, of which each life is an instance. The types
 //! are plain data: enums and structs with whole-word names, and lists of them.
 //!
-//! A [`Name`] may begin with any of its bytes. A session asks for an [`AskedName`], whose first isn't `.` or
-//! `-`, and so no session meets the snapshot `.sync` that a synchronisation makes.
+//! A [`Name`] may begin with any of its bytes. A session asks for an [`AskedName`], whose first isn't
+//! `.` or `-`, so that no session names the snapshot `.sync` that a synchronisation makes.
 //!
-//! Contracts see an id as its number, a [`Name`], an [`AskedName`] and [`Bytes`] as the list of their bytes,
-//! and a [`Sequence`] as the list of its items.
+//! Contracts see an id as its number, a [`Name`], an [`AskedName`] and [`Bytes`] as the list of their
+//! bytes, and a [`Sequence`] as the list of its items.
 //!
 //! ```text
 //! Name::parse(Bytes::from_slice(alloc, b".sync")?)         the name `.sync`
 //! AskedName::parse(Bytes::from_slice(alloc, b".sync")?)    None
-//! AskedName::parse(Bytes::from_slice(alloc, b"disk")?)     the name `disk`, that a session may ask for
+//! AskedName::parse(Bytes::from_slice(alloc, b"disk")?)     the name `disk`
 //! Refusal::BadRange.to_string()                            error 22 BadRange
 //! ```
 //!

@@ -10,8 +10,8 @@ use std::cmp::Ordering;
 use std::marker::Model;
 
 /// The name of an image or of a snapshot: 1 to 64 bytes of `A` to `Z`, `a` to `z`, `0` to `9`, `.`,
-/// `_` and `-`, whatever the first. Which of them a session may ask for, [`AskedName`](crate::AskedName)
-/// says. Contracts see the list of its bytes.
+/// `_` and `-`, whatever the first. Which of them a session may ask for is said by `AskedName`.
+/// Contracts see the list of its bytes.
 #[derive(Debug, Drop)]
 pub struct Name {
     text: Bytes,

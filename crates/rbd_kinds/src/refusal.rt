@@ -11,20 +11,21 @@ use std::fmt;
 pub enum Refusal {
     /// The extent is empty, or ends past the size in the header that was read.
     BadRange,
-    /// The directory has no such name; or the header, the journal or the head's object map is gone; or
-    /// the other site's journal holds no frame that `follow` needs.
+    /// The directory has no such name; or the header, the journal or the head's object map is gone;
+    /// or the other site's journal holds no frame that `follow` needs.
     NoImage,
-    /// The directory has the name. For `follow`: the local image of the name has no header, or bears
-    /// another global name or none.
+    /// The directory has the name. For `follow`: the local image of the name has no header, or
+    /// bears another global name or none.
     ImageExists,
     /// The header that was read lists no such snapshot.
     NoSnap,
     /// The header that was read lists a snapshot of that name.
     SnapExists,
-    /// For `snap rm` and `resync`, a snapshot concerned isn't unprotected; for `protect`, it is protected.
+    /// For `snap rm` and `resync`, a snapshot concerned isn't unprotected; for `protect`, it is
+    /// protected.
     SnapProtected,
-    /// For `clone`, the parent's snapshot isn't protected at one of the two looks; for `unprotect`, it is
-    /// unprotected.
+    /// For `clone`, the parent's snapshot isn't protected at one of the two looks; for `unprotect`,
+    /// it is unprotected.
     NotProtected,
     /// The snapshot has clones.
     HasChildren,
@@ -32,19 +33,20 @@ pub enum Refusal {
     HasSnaps,
     /// Another session watches the image.
     InUse,
-    /// The image is secondary, at a change or at `demote`; for a synchronisation, the other site's image is.
+    /// The image is secondary, at a change or at `demote`; for a synchronisation, the other site's
+    /// image is.
     NonPrimary,
     /// The instance is in the site's blocklist.
     Fenced,
-    /// A layout, or a count of objects, images or snapshots, passes a limit; or the last id of an image, or
-    /// of a snapshot of this image, is drawn (`u32::MAX`).
+    /// A layout, or a count of objects, images or snapshots, passes a limit; or the last id of an
+    /// image, or of a snapshot of this image, is drawn (`u32::MAX`).
     BadShape,
     /// The image isn't mirrored: its header has no global name.
     NotMirrored,
     /// For `promote`, `resync` and `follow`, the local image is primary.
     IsPrimary,
-    /// For `promote`, the image is being synchronised; or, without `force`, the last event of its own
-    /// journal isn't a `Demote` that is held.
+    /// For `promote`, the image is being synchronised; or, without `force`, the last event of its
+    /// own journal isn't a `Demote` that is held.
     NotDemoted,
     /// For `clone`, the parent is 16 clones deep, as deep as a chain may be.
     TooDeep,

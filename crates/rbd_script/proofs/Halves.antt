@@ -2,13 +2,13 @@
 use Rattle.std.proofs.Common.{◌≡◌, ℕ, Bool, true, false, List, [], Err, refl}
 use Rattle.std.specs.List.{after_first, before_first}
 use Rattle.rbd_script.specs.declared.fault.LineCause.TheVariants.{BadName}
-use Rattle.rbd_script.specs.Name.{both, is_at, is_name, name_of, snap_of}
+use Rattle.rbd_script.specs.Name.{both, is_at, is_asked_name, name_of, snap_of}
 
 no_second : (token : List ℕ) → both (name_of token) (name_of []) ≡ Err BadName
 unfolding name_of
-no_second token = go (is_name token) refl
+no_second token = go (is_asked_name token) refl
   where
-    go : (t : Bool) → is_name token ≡ t → both (name_of token) (name_of []) ≡ Err BadName
+    go : (t : Bool) → is_asked_name token ≡ t → both (name_of token) (name_of []) ≡ Err BadName
     go true is = rw is refl
     go false is = rw is refl
 

@@ -3,7 +3,7 @@ use Rattle.std.proofs.Common.{◌≡◌, ℕ, ◌<◌, ◌≤◌, ◌^◌, cond,
 use Rattle.std.specs.Prelude.{decimal, IfSome}
 use Rattle.std.specs.Cmp.Lexicographic.{same_text}
 use Rattle.hex.specs.Hex.{encode_lower}
-use Rattle.rbd_kinds.specs.Name.{IsName}
+use Rattle.rbd_kinds.specs.Name.{IsAskedName}
 use Rattle.rbd_script.specs.declared.fault.LineCause.{LineCause}
 use Rattle.rbd_script.specs.declared.fault.LineCause.TheVariants.{UnknownWord}
 use Rattle.rbd_script.specs.Form.{and_then, form, From}
@@ -22,9 +22,9 @@ Tokens = List (List ℕ)
 
 -- what a part says in front of the rest
 abbrev pub Says : (p : Part) → Value p → List (List ℕ) → List (List ℕ) → Type 0
-Says Image v ts rest = (ts ≡ v ∷ rest) × IsName v
-Says Snap v ts rest = (ts ≡ snap_token v.0 v.1 ∷ rest) × IsName v.0 × IsName v.1
-Says Target v ts rest = (ts ≡ target_token v.0 v.1 ∷ rest) × IsName v.0 × IfSome v.1 IsName
+Says Image v ts rest = (ts ≡ v ∷ rest) × IsAskedName v
+Says Snap v ts rest = (ts ≡ snap_token v.0 v.1 ∷ rest) × IsAskedName v.0 × IsAskedName v.1
+Says Target v ts rest = (ts ≡ target_token v.0 v.1 ∷ rest) × IsAskedName v.0 × IfSome v.1 IsAskedName
 Says (Number most) v ts rest = most < 2 ^ 64 → (ts ≡ decimal v ∷ rest) × (v ≤ most)
 Says Hex v ts rest = (ts ≡ encode_lower v ∷ rest) × IsHex v
 Says Byte v ts rest = (ts ≡ encode_lower (v ∷ []) ∷ rest) × (v < 256)

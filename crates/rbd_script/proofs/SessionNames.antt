@@ -16,9 +16,6 @@ all_name_bytes (b ∷ text) is =
     let parts = and_parts (is_letter_or_digit b) (list_all is_letter_or_digit text) is in
     rw (name_byte_of_letter_or_digit b parts.0) (all_name_bytes text parts.1)
 
-letter_is_above : (b : ℕ) → is_letter b ≡ true → 97 ≤ b
-letter_is_above b is = grind (arith, nat_tests)
-
 at_most : (n m : ℕ) → nat_le n m ≡ true → n ≤ m
 at_most n m is = grind (arith, nat_tests)
 
@@ -28,12 +25,9 @@ name_of_session (b ∷ text) is =
     let outer = and_parts (is_letter b && nat_le (length (b ∷ text)) 32 && list_all is_letter_or_digit (b ∷ text)) _ is in
     let inner = and_parts (is_letter b && nat_le (length (b ∷ text)) 32) (list_all is_letter_or_digit (b ∷ text)) outer.0 in
     let front = and_parts (is_letter b) (nat_le (length (b ∷ text)) 32) inner.0 in
-    let above = letter_is_above b front.0 in
     let few = at_most (length (b ∷ text)) 32 front.1 in
     record {
       some = omega arith;
       few = omega (arith, few);
       bytes = all_name_bytes (b ∷ text) inner.1;
-      first_not_dot = omega (arith, above);
-      first_not_dash = omega (arith, above);
     }

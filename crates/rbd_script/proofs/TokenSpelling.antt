@@ -6,10 +6,10 @@ use Rattle.std.proofs.lemmas.Bool.{and_parts, eqb-true}
 use Rattle.std.proofs.lemmas.Bool.Decides.{nat_tests}
 use Rattle.std.proofs.lemmas.Fmt.{decimal_nonempty, digits_decimal, digits_value-decimal, first_decimal, decimal_digit, decimal-digits_value}
 use Rattle.std.proofs.lemmas.List.Sums.{split_at_first, prefix_len_stops}
-use Rattle.rbd_kinds.specs.Name.{IsName, name_byte}
+use Rattle.rbd_kinds.specs.Name.{IsAskedName, name_byte}
 use Rattle.rbd_script.specs.declared.fault.LineCause.{LineCause}
 use Rattle.rbd_script.specs.declared.fault.LineCause.TheVariants.{BadName, BadNumber}
-use Rattle.rbd_script.specs.Name.{both, is_at, is_name, name_of, of_image, of_snap, snap_of, target_of}
+use Rattle.rbd_script.specs.Name.{both, is_at, is_asked_name, name_of, of_image, of_snap, snap_of, target_of}
 use Rattle.rbd_script.specs.Number.{is_digit, is_numeral, number_after, number_between}
 use Rattle.rbd_script.specs.Spelling.{snap_token, target_token}
 use Rattle.rbd_script.proofs.Numerals.{digits, numeral_parts}
@@ -35,33 +35,35 @@ other_byte a b ne = grind (arith, nat_tests)
 byte_other : (a b : ℕ) → not (eqb a b) ≡ true → a ≢ b
 byte_other a b is = grind (arith, nat_tests)
 
-name_told : (t : List ℕ) → IsName t → is_name t ≡ true
+name_told : (t : List ℕ) → IsAskedName t → is_asked_name t ≡ true
 name_told t n =
-    rw (le_true 1 (length t) n.some, le_true (length t) 64 n.few, n.bytes, other_byte (slice_index t 0) 46 n.first_not_dot, other_byte (slice_index t 0) 45 n.first_not_dash) refl
+    rw (le_true 1 (length t) n.name.some, le_true (length t) 64 n.name.few, n.name.bytes, other_byte (slice_index t 0) 46 n.first_not_dot, other_byte (slice_index t 0) 45 n.first_not_dash) refl
 
-told_name : (t : List ℕ) → is_name t ≡ true → IsName t
+told_name : (t : List ℕ) → is_asked_name t ≡ true → IsAskedName t
 told_name t is =
     let dash = and_parts (nat_le 1 (length t) && nat_le (length t) 64 && list_all name_byte t && not (eqb (slice_index t 0) 46)) (not (eqb (slice_index t 0) 45)) is in
     let dot = and_parts (nat_le 1 (length t) && nat_le (length t) 64 && list_all name_byte t) (not (eqb (slice_index t 0) 46)) dash.0 in
     let bytes = and_parts (nat_le 1 (length t) && nat_le (length t) 64) (list_all name_byte t) dot.0 in
     let lengths = and_parts (nat_le 1 (length t)) (nat_le (length t) 64) bytes.0 in
     record {
-      some = true_le 1 (length t) lengths.0;
-      few = true_le (length t) 64 lengths.1;
-      bytes = bytes.1;
+      name = record {
+        some = true_le 1 (length t) lengths.0;
+        few = true_le (length t) 64 lengths.1;
+        bytes = bytes.1;
+      };
       first_not_dot = byte_other (slice_index t 0) 46 dot.1;
       first_not_dash = byte_other (slice_index t 0) 45 dash.1;
     }
 
-pub name_read : (t : List ℕ) → IsName t → name_of t ≡ Ok t
+pub name_read : (t : List ℕ) → IsAskedName t → name_of t ≡ Ok t
 unfolding name_of
 name_read t n = rw (name_told t n) refl
 
-pub name_said : (t name : List ℕ) → name_of t ≡ Ok name → (t ≡ name) × IsName name
+pub name_said : (t name : List ℕ) → name_of t ≡ Ok name → (t ≡ name) × IsAskedName name
 unfolding name_of
 name_said t name is =
-    let told = if_ok (is_name t) t name BadName is in
-    (told.1, subst IsName told.1 (told_name t told.0))
+    let told = if_ok (is_asked_name t) t name BadName is in
+    (told.1, subst IsAskedName told.1 (told_name t told.0))
 
 -- an image and its snapshot
 no_at : (b : ℕ) → name_byte b ≡ true → is_at b ≡ false
@@ -85,24 +87,24 @@ both_ok {A = A} {B = B} (Ok x) (Ok y) a b is =
 both_ok (Ok x) (Err cause) a b is = cc
 both_ok (Err cause) q a b is = cc
 
-pub snap_read : (image snap : List ℕ) → IsName image → IsName snap → snap_of (snap_token image snap) ≡ Ok (image, snap)
+pub snap_read : (image snap : List ℕ) → IsAskedName image → IsAskedName snap → snap_of (snap_token image snap) ≡ Ok (image, snap)
 unfolding snap_of
 snap_read image snap i s =
-    let halves = halves_of image snap i.bytes in
+    let halves = halves_of image snap i.name.bytes in
     rw (halves.0, halves.1, name_read image i, name_read snap s) refl
 
 not_false : (b : Bool) → not b ≡ false → b ≡ true
 not_false true is = refl
 not_false false is = cc
 
-pub snap_said : (t image snap : List ℕ) → snap_of t ≡ Ok (image, snap) → (t ≡ snap_token image snap) × IsName image × IsName snap
+pub snap_said : (t image snap : List ℕ) → snap_of t ≡ Ok (image, snap) → (t ≡ snap_token image snap) × IsAskedName image × IsAskedName snap
 unfolding snap_of
 snap_said t image snap is =
     let two = both_ok (name_of (before_first is_at t)) (name_of (after_first is_at t)) image snap is in
     let i = name_said (before_first is_at t) image two.0 in
     let s = name_said (after_first is_at t) snap two.1 in
     let place = position_or_len is_at t in
-    let long : 0 < length (drop (place + 1) t) = rw s.0 s.1.some in
+    let long : 0 < length (drop (place + 1) t) = rw s.0 s.1.name.some in
     let within : place < length t = omega (arith, long, length-drop (place + 1) t) in
     let at : get_or t place 0 ≡ 64 = eqb-true (get_or t place 0) 64 (not_false (is_at (get_or t place 0)) (prefix_len_stops (λ x. not (is_at x)) t 0 within)) in (
       split_at_first is_at t 0 within ∙ ap (λ b. before_first is_at t ++ (b ∷ after_first is_at t)) at ∙ (λ j. i.0 j ++ 64 ∷ s.0 j),
@@ -125,9 +127,9 @@ at_within (b ∷ image) snap = go (is_at b) refl (at_within image snap)
     go true is rest = rw is refl
     go false is rest = rw is rest
 
-pub target_read : (image : List ℕ) (snap : Option (List ℕ)) → IsName image → IfSome snap IsName → target_of (target_token image snap) ≡ Ok (image, snap)
+pub target_read : (image : List ℕ) (snap : Option (List ℕ)) → IsAskedName image → IfSome snap IsAskedName → target_of (target_token image snap) ≡ Ok (image, snap)
 unfolding target_of
-target_read image None i s = rw (no_at_within image i.bytes, name_read image i) refl
+target_read image None i s = rw (no_at_within image i.name.bytes, name_read image i) refl
 target_read image (Some snap) i s = rw (at_within image snap, snap_read image snap i s) refl
 
 image_said : (r : Result (List ℕ) LineCause) (image : List ℕ) (snap : Option (List ℕ)) → of_image r ≡ Ok (image, snap) → (r ≡ Ok image) × (snap ≡ None)
@@ -143,9 +145,9 @@ snapped_said (Ok (x, s)) image snap is =
 snapped_said (Err cause) image snap is = cc
 
 abbrev IsTarget : List ℕ → List ℕ → Option (List ℕ) → Type 0
-IsTarget t image snap = (t ≡ target_token image snap) × IsName image × IfSome snap IsName
+IsTarget t image snap = (t ≡ target_token image snap) × IsAskedName image × IfSome snap IsAskedName
 
-pub target_said : (t image : List ℕ) (snap : Option (List ℕ)) → target_of t ≡ Ok (image, snap) → (t ≡ target_token image snap) × IsName image × IfSome snap IsName
+pub target_said : (t image : List ℕ) (snap : Option (List ℕ)) → target_of t ≡ Ok (image, snap) → (t ≡ target_token image snap) × IsAskedName image × IfSome snap IsAskedName
 unfolding target_of
 target_said t image snap is = go (list_any is_at t) is
   where

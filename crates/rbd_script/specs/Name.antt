@@ -5,13 +5,13 @@ use Rattle.rbd_kinds.specs.Name.{name_byte}
 use Rattle.rbd_script.specs.declared.fault.LineCause.{LineCause}
 use Rattle.rbd_script.specs.declared.fault.LineCause.TheVariants.{BadName}
 
--- 1 to 64 bytes of a name, the first not `.` or `-`
-abbrev pub is_name : List ℕ → Bool
-is_name token = nat_le 1 (length token) && nat_le (length token) 64 && list_all name_byte token && not (slice_index token 0 == 46) && not (slice_index token 0 == 45)
+-- a name that a session may ask for: 1 to 64 bytes of a name, the first not `.` or `-`
+abbrev pub is_asked_name : List ℕ → Bool
+is_asked_name token = nat_le 1 (length token) && nat_le (length token) 64 && list_all name_byte token && not (slice_index token 0 == 46) && not (slice_index token 0 == 45)
 
 -- `NAME`
 unfoldable pub name_of : List ℕ → Result (List ℕ) LineCause
-name_of token = if is_name token then Ok token else Err BadName
+name_of token = if is_asked_name token then Ok token else Err BadName
 
 -- `@`
 abbrev pub is_at : ℕ → Bool

@@ -2,7 +2,7 @@
 use Rattle.std.specs.Prelude.{◌≡◌, ℕ, ◌<◌, ◌≤◌, ◌++◌, Bool, true, false, List, [], ◌∷◌, codes, decimal, Option, Some, None, IfSome}
 use Rattle.hex.specs.Hex.{encode_lower, IsBytes}
 use Rattle.rbd_kinds.specs.Command.{IsPayload}
-use Rattle.rbd_kinds.specs.Name.{IsName}
+use Rattle.rbd_kinds.specs.Name.{IsAskedName}
 use Rattle.rbd_kinds.specs.declared.command.Command.{Command}
 use Rattle.rbd_kinds.specs.declared.command.Command.TheVariants as command
 use Rattle.rbd_kinds.specs.declared.command.Shape.{Shape}
@@ -78,36 +78,36 @@ pub record IsHex (bytes : List ℕ) : Type 0 where
 
 -- the ranges of a command's parts
 abbrev pub IsInRange : Command → Type 0
-IsInRange (command.Create image size shape) = IsName image × (size ≤ greatest) × IsShape shape
-IsInRange (command.Clone parent snap image shape) = (IsName parent × IsName snap) × IsName image × IsShape shape
-IsInRange (command.Write image at bytes) = IsName image × (at ≤ greatest) × IsHex bytes
-IsInRange (command.Fill image at len byte) = IsName image × (at ≤ greatest) × (len ≤ 1048576) × (byte < 256)
-IsInRange (command.Discard image at len) = IsName image × (at ≤ greatest) × (len ≤ greatest)
-IsInRange (command.Read image snap at len) = (IsName image × IfSome snap IsName) × (at ≤ greatest) × (len ≤ 65536)
-IsInRange (command.Resize image size) = IsName image × (size ≤ greatest)
-IsInRange (command.Rename from to) = IsName from × IsName to
-IsInRange (command.Remove image) = IsName image
-IsInRange (command.Info image) = IsName image
-IsInRange (command.Used image) = IsName image
-IsInRange (command.Flatten image) = IsName image
-IsInRange (command.Quiesce image) = IsName image
-IsInRange (command.Resume image) = IsName image
-IsInRange (command.Close image) = IsName image
+IsInRange (command.Create image size shape) = IsAskedName image × (size ≤ greatest) × IsShape shape
+IsInRange (command.Clone parent snap image shape) = (IsAskedName parent × IsAskedName snap) × IsAskedName image × IsShape shape
+IsInRange (command.Write image at bytes) = IsAskedName image × (at ≤ greatest) × IsHex bytes
+IsInRange (command.Fill image at len byte) = IsAskedName image × (at ≤ greatest) × (len ≤ 1048576) × (byte < 256)
+IsInRange (command.Discard image at len) = IsAskedName image × (at ≤ greatest) × (len ≤ greatest)
+IsInRange (command.Read image snap at len) = (IsAskedName image × IfSome snap IsAskedName) × (at ≤ greatest) × (len ≤ 65536)
+IsInRange (command.Resize image size) = IsAskedName image × (size ≤ greatest)
+IsInRange (command.Rename from to) = IsAskedName from × IsAskedName to
+IsInRange (command.Remove image) = IsAskedName image
+IsInRange (command.Info image) = IsAskedName image
+IsInRange (command.Used image) = IsAskedName image
+IsInRange (command.Flatten image) = IsAskedName image
+IsInRange (command.Quiesce image) = IsAskedName image
+IsInRange (command.Resume image) = IsAskedName image
+IsInRange (command.Close image) = IsAskedName image
 IsInRange command.List = Unit {0}
-IsInRange (command.Children image snap) = IsName image × IsName snap
-IsInRange (command.Tell image bytes) = IsName image × IsHex bytes
-IsInRange (command.SnapCreate image snap) = IsName image × IsName snap
-IsInRange (command.SnapRemove image snap) = IsName image × IsName snap
-IsInRange (command.SnapProtect image snap) = IsName image × IsName snap
-IsInRange (command.SnapUnprotect image snap) = IsName image × IsName snap
-IsInRange (command.SnapRollback image snap) = IsName image × IsName snap
-IsInRange (command.SnapList image) = IsName image
-IsInRange (command.MirrorEnable image) = IsName image
-IsInRange (command.MirrorDemote image) = IsName image
-IsInRange (command.MirrorPromote image force) = IsName image
-IsInRange (command.MirrorResync image) = IsName image
-IsInRange (command.MirrorStatus image) = IsName image
-IsInRange (command.MirrorFollow image) = IsName image
+IsInRange (command.Children image snap) = IsAskedName image × IsAskedName snap
+IsInRange (command.Tell image bytes) = IsAskedName image × IsHex bytes
+IsInRange (command.SnapCreate image snap) = IsAskedName image × IsAskedName snap
+IsInRange (command.SnapRemove image snap) = IsAskedName image × IsAskedName snap
+IsInRange (command.SnapProtect image snap) = IsAskedName image × IsAskedName snap
+IsInRange (command.SnapUnprotect image snap) = IsAskedName image × IsAskedName snap
+IsInRange (command.SnapRollback image snap) = IsAskedName image × IsAskedName snap
+IsInRange (command.SnapList image) = IsAskedName image
+IsInRange (command.MirrorEnable image) = IsAskedName image
+IsInRange (command.MirrorDemote image) = IsAskedName image
+IsInRange (command.MirrorPromote image force) = IsAskedName image
+IsInRange (command.MirrorResync image) = IsAskedName image
+IsInRange (command.MirrorStatus image) = IsAskedName image
+IsInRange (command.MirrorFollow image) = IsAskedName image
 
 -- the tokens spell the command, which is in range
 abbrev pub Spells : List (List ℕ) → Command → Type 0

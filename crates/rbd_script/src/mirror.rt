@@ -8,7 +8,7 @@ ghost use Rattle.rbd_script.specs.Word.{all_mirror_verbs, mirror_verb_of, mirror
 use crate::fault::{PartFault, known};
 use crate::tokens::Tokens;
 use crate::word::is;
-use rbd_kinds::{Command, Name};
+use rbd_kinds::{AskedName, Command};
 
 /// The words behind `mirror`.
 #[derive(Clone, Copy, Debug)]
@@ -69,7 +69,7 @@ impl MirrorVerb {
 }
 
 impl OfMirrored {
-    fn command(self, image: Name) -> Command
+    fn command(self, image: AskedName) -> Command
         ensures { result ≡ command_in self image }
     {
         match self {

@@ -6,12 +6,12 @@ ghost use Rattle.rbd_script.specs.Name.{is_at, name_of as name_in, snap_of as sn
 
 use crate::fault::{LineCause, PartFault};
 use crate::place::place_of;
-use rbd_kinds::{Bytes, Name};
+use rbd_kinds::{AskedName, Bytes};
 use std::alloc::Global;
 
 /// The name that the token spells.
 #[tactic(auto, unfolding(crate::specs::Name::name_of))]
-pub fn name_of(alloc: Global, token: &[u8]) -> Result<Name, PartFault>
+pub fn name_of(alloc: Global, token: &[u8]) -> Result<AskedName, PartFault>
     ensures { Gives result (name_in token.now) }
 {
     // A token of any length isn't copied.
@@ -19,7 +19,7 @@ pub fn name_of(alloc: Global, token: &[u8]) -> Result<Name, PartFault>
         return Err(PartFault::Cause(LineCause::BadName));
     }
     let text = Bytes::from_slice(alloc, token)?;
-    match Name::parse(text) {
+    match AskedName::parse(text) {
         Some(name) => Ok(name),
         None => Err(PartFault::Cause(LineCause::BadName)),
     }
@@ -27,7 +27,7 @@ pub fn name_of(alloc: Global, token: &[u8]) -> Result<Name, PartFault>
 
 /// The image and the snapshot of `IMAGE@SNAP`.
 #[tactic(auto, unfolding(crate::specs::Name::snap_of))]
-pub fn snap_of(alloc: Global, token: &[u8]) -> Result<(Name, Name), PartFault>
+pub fn snap_of(alloc: Global, token: &[u8]) -> Result<(AskedName, AskedName), PartFault>
     ensures { Gives result (snap_in token.now) }
 {
     let Some((image, snap)) = halves(token) else {
@@ -52,7 +52,7 @@ fn halves(token: &[u8]) -> Option<(&[u8], &[u8])>
 
 /// The image of `IMAGE[@SNAP]`, and the snapshot where it is named.
 #[tactic(auto, unfolding(crate::specs::Name::target_of))]
-pub fn target_of(alloc: Global, token: &[u8]) -> Result<(Name, Option<Name>), PartFault>
+pub fn target_of(alloc: Global, token: &[u8]) -> Result<(AskedName, Option<AskedName>), PartFault>
     ensures { Gives result (target_in token.now) }
 {
     if has_at(token) {

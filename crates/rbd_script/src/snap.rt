@@ -8,7 +8,7 @@ ghost use Rattle.rbd_script.specs.Word.{all_snap_verbs, snap_verb_of, snap_word,
 use crate::fault::{PartFault, known};
 use crate::tokens::Tokens;
 use crate::word::is;
-use rbd_kinds::{Command, Name};
+use rbd_kinds::{AskedName, Command};
 
 /// The words behind `snap`.
 #[derive(Clone, Copy, Debug)]
@@ -69,7 +69,7 @@ impl SnapVerb {
 }
 
 impl OfSnap {
-    fn command(self, image: Name, snap: Name) -> Command
+    fn command(self, image: AskedName, snap: AskedName) -> Command
         ensures { result ≡ command_in self (image, snap) }
     {
         match self {

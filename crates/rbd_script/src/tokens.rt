@@ -19,7 +19,7 @@ use crate::session::{new_session_of, session_of};
 use crate::snap::SnapVerb;
 use crate::verb::Verb;
 use crate::word::{is, kind_of, site_of};
-use rbd_kinds::{AtMost, ImageId, Name, OpKind, Payload, SessionNo, SiteId, Slot};
+use rbd_kinds::{AskedName, AtMost, ImageId, Name, OpKind, Payload, SessionNo, SiteId, Slot};
 use std::alloc::Global;
 
 /// The tokens of a line that are still to be read, from left to right.
@@ -144,7 +144,7 @@ impl<'a> Tokens<'a> {
 
     /// `IMAGE`
     #[tactic(auto, unfolding(crate::specs::Part::part_of))]
-    pub fn name(&mut self) -> Result<Name, PartFault>
+    pub fn name(&mut self) -> Result<AskedName, PartFault>
         ensures { Takes result (tokens_of self.new.rest.now) (part_of Image (tokens_of self.old.rest.now)) }
     {
         let alloc = self.alloc;
@@ -153,7 +153,7 @@ impl<'a> Tokens<'a> {
 
     /// `IMAGE@SNAP`
     #[tactic(auto, unfolding(crate::specs::Part::part_of))]
-    pub fn snap(&mut self) -> Result<(Name, Name), PartFault>
+    pub fn snap(&mut self) -> Result<(AskedName, AskedName), PartFault>
         ensures { Takes result (tokens_of self.new.rest.now) (part_of Snap (tokens_of self.old.rest.now)) }
     {
         let alloc = self.alloc;
@@ -162,7 +162,7 @@ impl<'a> Tokens<'a> {
 
     /// `IMAGE[@SNAP]`
     #[tactic(auto, unfolding(crate::specs::Part::part_of))]
-    pub fn target(&mut self) -> Result<(Name, Option<Name>), PartFault>
+    pub fn target(&mut self) -> Result<(AskedName, Option<AskedName>), PartFault>
         ensures { Takes result (tokens_of self.new.rest.now) (part_of Target (tokens_of self.old.rest.now)) }
     {
         let alloc = self.alloc;

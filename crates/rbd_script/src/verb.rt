@@ -6,7 +6,7 @@ ghost use Rattle.rbd_script.specs.Word.{all_verbs, image_word, verb_of, verb_wor
 
 use crate::fault::{PartFault, known};
 use crate::word::is;
-use rbd_kinds::{Command, Name};
+use rbd_kinds::{AskedName, Command};
 
 #[derive(Clone, Copy, Debug)]
 pub enum Verb {
@@ -116,7 +116,7 @@ impl ImageVerb {
     }
 
     /// Its command of an image.
-    pub fn command(self, image: Name) -> Command
+    pub fn command(self, image: AskedName) -> Command
         ensures { result ≡ image_command self image }
     {
         match self {

@@ -16,8 +16,9 @@
 //!
 //! - Watchers stand in order of registration. To watch again changes nothing, and to end a watch leaves
 //!   the others in their order.
-//! - A post makes one notice for each receiver, in their order. Notices are numbered from 1 without gaps,
-//!   those of both sites in one numbering, so a number alone says which is meant. A refused post makes none.
+//! - A post makes one notice for each receiver, in their order. Notices are numbered from 1 without
+//!   gaps, and one numbering serves both sites, so a number alone says which is meant. A refused post
+//!   makes none.
 //! - A notice stays for good (own; Ceph forgets one that was acknowledged): it may be delivered late, never,
 //!   or several times. Who gets it, and when, is said by the layer above.
 //!

@@ -6,7 +6,8 @@ use rbd_kinds::{ImageId, Instance, NoMemory, Notice, NoticeKind, SiteId, TryClon
 use std::alloc::Global;
 use std::marker::Model;
 
-/// What was told to watchers, at either site: one numbering serves both (Ceph: notify). Contracts see the list of notices, oldest first.
+/// What was told to watchers, at either site: one numbering serves both (Ceph: notify). Contracts see
+/// the list of notices, oldest first.
 #[derive(Debug, Drop)]
 pub struct Mail {
     alloc: Global,

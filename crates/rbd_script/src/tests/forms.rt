@@ -40,28 +40,28 @@ fn commands_that_make_images(rt: HostRuntime) {
         is_command(
             rt.alloc(),
             "c1 create d 1 object 4096 unit 512 count 2 journal",
-            "Create { image: Name { text: Bytes { bytes: [100] } }, size: AtMost { value: 1 }, shape: Shape { object: Some(AtMost { value: 4096 }), unit: Some(AtMost { value: 512 }), count: Some(2), journal: true } }"
+            "Create { image: AskedName { name: Name { text: Bytes { bytes: [100] } } }, size: AtMost { value: 1 }, shape: Shape { object: Some(AtMost { value: 4096 }), unit: Some(AtMost { value: 512 }), count: Some(2), journal: true } }"
         )
     );
     assert!(rt;
         is_command(
             rt.alloc(),
             "c1 create d 1",
-            "Create { image: Name { text: Bytes { bytes: [100] } }, size: AtMost { value: 1 }, shape: Shape { object: None, unit: None, count: None, journal: false } }"
+            "Create { image: AskedName { name: Name { text: Bytes { bytes: [100] } } }, size: AtMost { value: 1 }, shape: Shape { object: None, unit: None, count: None, journal: false } }"
         )
     );
     assert!(rt;
         is_command(
             rt.alloc(),
             "c1 clone p@s c object 4096 unit 512 count 2 journal",
-            "Clone { parent: Name { text: Bytes { bytes: [112] } }, snap: Name { text: Bytes { bytes: [115] } }, image: Name { text: Bytes { bytes: [99] } }, shape: Shape { object: Some(AtMost { value: 4096 }), unit: Some(AtMost { value: 512 }), count: Some(2), journal: true } }"
+            "Clone { parent: AskedName { name: Name { text: Bytes { bytes: [112] } } }, snap: AskedName { name: Name { text: Bytes { bytes: [115] } } }, image: AskedName { name: Name { text: Bytes { bytes: [99] } } }, shape: Shape { object: Some(AtMost { value: 4096 }), unit: Some(AtMost { value: 512 }), count: Some(2), journal: true } }"
         )
     );
     assert!(rt;
         is_command(
             rt.alloc(),
             "c1 clone p@s c",
-            "Clone { parent: Name { text: Bytes { bytes: [112] } }, snap: Name { text: Bytes { bytes: [115] } }, image: Name { text: Bytes { bytes: [99] } }, shape: Shape { object: None, unit: None, count: None, journal: false } }"
+            "Clone { parent: AskedName { name: Name { text: Bytes { bytes: [112] } } }, snap: AskedName { name: Name { text: Bytes { bytes: [115] } } }, image: AskedName { name: Name { text: Bytes { bytes: [99] } } }, shape: Shape { object: None, unit: None, count: None, journal: false } }"
         )
     );
 }
@@ -72,35 +72,35 @@ fn commands_of_bytes(rt: HostRuntime) {
         is_command(
             rt.alloc(),
             "c1 write d 7 00ff",
-            "Write { image: Name { text: Bytes { bytes: [100] } }, at: AtMost { value: 7 }, bytes: Payload { bytes: Bytes { bytes: [0, 255] } } }"
+            "Write { image: AskedName { name: Name { text: Bytes { bytes: [100] } } }, at: AtMost { value: 7 }, bytes: Payload { bytes: Bytes { bytes: [0, 255] } } }"
         )
     );
     assert!(rt;
         is_command(
             rt.alloc(),
             "c1 fill d 7 8 a0",
-            "Fill { image: Name { text: Bytes { bytes: [100] } }, at: AtMost { value: 7 }, len: AtMost { value: 8 }, byte: 160 }"
+            "Fill { image: AskedName { name: Name { text: Bytes { bytes: [100] } } }, at: AtMost { value: 7 }, len: AtMost { value: 8 }, byte: 160 }"
         )
     );
     assert!(rt;
         is_command(
             rt.alloc(),
             "c1 discard d 7 8",
-            "Discard { image: Name { text: Bytes { bytes: [100] } }, at: AtMost { value: 7 }, len: AtMost { value: 8 } }"
+            "Discard { image: AskedName { name: Name { text: Bytes { bytes: [100] } } }, at: AtMost { value: 7 }, len: AtMost { value: 8 } }"
         )
     );
     assert!(rt;
         is_command(
             rt.alloc(),
             "c1 read d 7 8",
-            "Read { image: Name { text: Bytes { bytes: [100] } }, snap: None, at: AtMost { value: 7 }, len: AtMost { value: 8 } }"
+            "Read { image: AskedName { name: Name { text: Bytes { bytes: [100] } } }, snap: None, at: AtMost { value: 7 }, len: AtMost { value: 8 } }"
         )
     );
     assert!(rt;
         is_command(
             rt.alloc(),
             "c1 read d@s 7 8",
-            "Read { image: Name { text: Bytes { bytes: [100] } }, snap: Some(Name { text: Bytes { bytes: [115] } }), at: AtMost { value: 7 }, len: AtMost { value: 8 } }"
+            "Read { image: AskedName { name: Name { text: Bytes { bytes: [100] } } }, snap: Some(AskedName { name: Name { text: Bytes { bytes: [115] } } }), at: AtMost { value: 7 }, len: AtMost { value: 8 } }"
         )
     );
 }
@@ -111,42 +111,42 @@ fn commands_of_an_image(rt: HostRuntime) {
         is_command(
             rt.alloc(),
             "c1 resize d 9",
-            "Resize { image: Name { text: Bytes { bytes: [100] } }, size: AtMost { value: 9 } }"
+            "Resize { image: AskedName { name: Name { text: Bytes { bytes: [100] } } }, size: AtMost { value: 9 } }"
         )
     );
     assert!(rt;
         is_command(
             rt.alloc(),
             "c1 rename d e",
-            "Rename { from: Name { text: Bytes { bytes: [100] } }, to: Name { text: Bytes { bytes: [101] } } }"
+            "Rename { from: AskedName { name: Name { text: Bytes { bytes: [100] } } }, to: AskedName { name: Name { text: Bytes { bytes: [101] } } } }"
         )
     );
     assert!(rt;
         is_command(
             rt.alloc(),
             "c1 rm d",
-            "Remove { image: Name { text: Bytes { bytes: [100] } } }"
+            "Remove { image: AskedName { name: Name { text: Bytes { bytes: [100] } } } }"
         )
     );
     assert!(rt;
         is_command(
             rt.alloc(),
             "c1 info d",
-            "Info { image: Name { text: Bytes { bytes: [100] } } }"
+            "Info { image: AskedName { name: Name { text: Bytes { bytes: [100] } } } }"
         )
     );
     assert!(rt;
         is_command(
             rt.alloc(),
             "c1 du d",
-            "Used { image: Name { text: Bytes { bytes: [100] } } }"
+            "Used { image: AskedName { name: Name { text: Bytes { bytes: [100] } } } }"
         )
     );
     assert!(rt;
         is_command(
             rt.alloc(),
             "c1 flatten d",
-            "Flatten { image: Name { text: Bytes { bytes: [100] } } }"
+            "Flatten { image: AskedName { name: Name { text: Bytes { bytes: [100] } } } }"
         )
     );
 }
@@ -157,21 +157,21 @@ fn more_commands_of_an_image(rt: HostRuntime) {
         is_command(
             rt.alloc(),
             "c1 quiesce d",
-            "Quiesce { image: Name { text: Bytes { bytes: [100] } } }"
+            "Quiesce { image: AskedName { name: Name { text: Bytes { bytes: [100] } } } }"
         )
     );
     assert!(rt;
         is_command(
             rt.alloc(),
             "c1 resume d",
-            "Resume { image: Name { text: Bytes { bytes: [100] } } }"
+            "Resume { image: AskedName { name: Name { text: Bytes { bytes: [100] } } } }"
         )
     );
     assert!(rt;
         is_command(
             rt.alloc(),
             "c1 close d",
-            "Close { image: Name { text: Bytes { bytes: [100] } } }"
+            "Close { image: AskedName { name: Name { text: Bytes { bytes: [100] } } } }"
         )
     );
     assert!(rt; is_command(rt.alloc(), "c1 ls", "List"));
@@ -179,14 +179,14 @@ fn more_commands_of_an_image(rt: HostRuntime) {
         is_command(
             rt.alloc(),
             "c1 children d@s",
-            "Children { image: Name { text: Bytes { bytes: [100] } }, snap: Name { text: Bytes { bytes: [115] } } }"
+            "Children { image: AskedName { name: Name { text: Bytes { bytes: [100] } } }, snap: AskedName { name: Name { text: Bytes { bytes: [115] } } } }"
         )
     );
     assert!(rt;
         is_command(
             rt.alloc(),
             "c1 tell d 68",
-            "Tell { image: Name { text: Bytes { bytes: [100] } }, bytes: Payload { bytes: Bytes { bytes: [104] } } }"
+            "Tell { image: AskedName { name: Name { text: Bytes { bytes: [100] } } }, bytes: Payload { bytes: Bytes { bytes: [104] } } }"
         )
     );
 }
@@ -197,42 +197,42 @@ fn commands_of_snapshots(rt: HostRuntime) {
         is_command(
             rt.alloc(),
             "c1 snap create d@s",
-            "SnapCreate { image: Name { text: Bytes { bytes: [100] } }, snap: Name { text: Bytes { bytes: [115] } } }"
+            "SnapCreate { image: AskedName { name: Name { text: Bytes { bytes: [100] } } }, snap: AskedName { name: Name { text: Bytes { bytes: [115] } } } }"
         )
     );
     assert!(rt;
         is_command(
             rt.alloc(),
             "c1 snap rm d@s",
-            "SnapRemove { image: Name { text: Bytes { bytes: [100] } }, snap: Name { text: Bytes { bytes: [115] } } }"
+            "SnapRemove { image: AskedName { name: Name { text: Bytes { bytes: [100] } } }, snap: AskedName { name: Name { text: Bytes { bytes: [115] } } } }"
         )
     );
     assert!(rt;
         is_command(
             rt.alloc(),
             "c1 snap protect d@s",
-            "SnapProtect { image: Name { text: Bytes { bytes: [100] } }, snap: Name { text: Bytes { bytes: [115] } } }"
+            "SnapProtect { image: AskedName { name: Name { text: Bytes { bytes: [100] } } }, snap: AskedName { name: Name { text: Bytes { bytes: [115] } } } }"
         )
     );
     assert!(rt;
         is_command(
             rt.alloc(),
             "c1 snap unprotect d@s",
-            "SnapUnprotect { image: Name { text: Bytes { bytes: [100] } }, snap: Name { text: Bytes { bytes: [115] } } }"
+            "SnapUnprotect { image: AskedName { name: Name { text: Bytes { bytes: [100] } } }, snap: AskedName { name: Name { text: Bytes { bytes: [115] } } } }"
         )
     );
     assert!(rt;
         is_command(
             rt.alloc(),
             "c1 snap rollback d@s",
-            "SnapRollback { image: Name { text: Bytes { bytes: [100] } }, snap: Name { text: Bytes { bytes: [115] } } }"
+            "SnapRollback { image: AskedName { name: Name { text: Bytes { bytes: [100] } } }, snap: AskedName { name: Name { text: Bytes { bytes: [115] } } } }"
         )
     );
     assert!(rt;
         is_command(
             rt.alloc(),
             "c1 snap ls d",
-            "SnapList { image: Name { text: Bytes { bytes: [100] } } }"
+            "SnapList { image: AskedName { name: Name { text: Bytes { bytes: [100] } } } }"
         )
     );
 }
@@ -243,49 +243,49 @@ fn commands_of_mirrored_images(rt: HostRuntime) {
         is_command(
             rt.alloc(),
             "c1 mirror enable d",
-            "MirrorEnable { image: Name { text: Bytes { bytes: [100] } } }"
+            "MirrorEnable { image: AskedName { name: Name { text: Bytes { bytes: [100] } } } }"
         )
     );
     assert!(rt;
         is_command(
             rt.alloc(),
             "c1 mirror demote d",
-            "MirrorDemote { image: Name { text: Bytes { bytes: [100] } } }"
+            "MirrorDemote { image: AskedName { name: Name { text: Bytes { bytes: [100] } } } }"
         )
     );
     assert!(rt;
         is_command(
             rt.alloc(),
             "c1 mirror resync d",
-            "MirrorResync { image: Name { text: Bytes { bytes: [100] } } }"
+            "MirrorResync { image: AskedName { name: Name { text: Bytes { bytes: [100] } } } }"
         )
     );
     assert!(rt;
         is_command(
             rt.alloc(),
             "c1 mirror status d",
-            "MirrorStatus { image: Name { text: Bytes { bytes: [100] } } }"
+            "MirrorStatus { image: AskedName { name: Name { text: Bytes { bytes: [100] } } } }"
         )
     );
     assert!(rt;
         is_command(
             rt.alloc(),
             "c1 mirror follow d",
-            "MirrorFollow { image: Name { text: Bytes { bytes: [100] } } }"
+            "MirrorFollow { image: AskedName { name: Name { text: Bytes { bytes: [100] } } } }"
         )
     );
     assert!(rt;
         is_command(
             rt.alloc(),
             "c1 mirror promote d",
-            "MirrorPromote { image: Name { text: Bytes { bytes: [100] } }, force: false }"
+            "MirrorPromote { image: AskedName { name: Name { text: Bytes { bytes: [100] } } }, force: false }"
         )
     );
     assert!(rt;
         is_command(
             rt.alloc(),
             "c1 mirror promote d force",
-            "MirrorPromote { image: Name { text: Bytes { bytes: [100] } }, force: true }"
+            "MirrorPromote { image: AskedName { name: Name { text: Bytes { bytes: [100] } } }, force: true }"
         )
     );
 }
