@@ -1,6 +1,7 @@
 pub mod CommandRead
 pub mod CommandSaid
 pub mod DigitTable
+pub mod EventSpelling
 pub mod Halves
 pub mod HexPairs
 pub mod HexSpelling
@@ -10,5 +11,6 @@ pub mod Numerals
 pub mod PairsRead
 pub mod PartSpelling
 pub mod SessionNames
+pub mod SessionSpelling
 pub mod TokenLemmas
 pub mod TokenSpelling
