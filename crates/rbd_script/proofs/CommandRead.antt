@@ -82,7 +82,7 @@ mirror_with : (v : MirrorVerb) (ts : Tokens) → command_of (codes "mirror" ∷ 
 unfolding part_of
 mirror_with v ts = command_with verb.Mirror (mirror_word v ∷ ts) ∙ rw (mirror_first v) refl
 
-number_in : (most n : ℕ) → most < 2 ^ 64 → n ≤ most → number_between 0 most (decimal n) ≡ Ok n
+pub number_in : (most n : ℕ) → most < 2 ^ 64 → n ≤ most → number_between 0 most (decimal n) ≡ Ok n
 number_in most n small le = number_read 0 most n (omega arith) le (omega arith)
 
 -- `[object N] [unit N] [count N] [journal]`

@@ -32,7 +32,7 @@ abbrev Tokens : Type 0
 Tokens = List (List ℕ)
 
 -- words
-found_word : {X : Type 0} (word : X → List ℕ) (xs : List X) (t : List ℕ) (x : X) → with_word word xs t ≡ Some x → t ≡ word x
+pub found_word : {X : Type 0} (word : X → List ℕ) (xs : List X) (t : List ℕ) (x : X) → with_word word xs t ≡ Some x → t ≡ word x
 found_word word [] t x found = cc
 found_word {X = X} word (y ∷ xs) t x found = go (same (word y) t) refl found (found_word word xs t x)
   where
@@ -40,7 +40,7 @@ found_word {X = X} word (y ∷ xs) t x found = go (same (word y) t) refl found (
     go true told found rest = let same : y ≡ x = cc in same_text t (word y) (sym told) ∙ ap word same
     go false told found rest = rest found
 
-known_ok : {X : Type 0} (o : Option X) (x : X) → known o ≡ Ok x → o ≡ Some x
+pub known_ok : {X : Type 0} (o : Option X) (x : X) → known o ≡ Ok x → o ≡ Some x
 known_ok (Some y) x is = ap Some (ok_is {E = LineCause} y x is)
 known_ok None x is = cc
 
@@ -267,7 +267,7 @@ mirror_form_said (mirror.Of of_mirror.Follow) ts c is = follow_said ts c (form_s
 mirror_form_said mirror.Promote ts c is = promote_said ts c (form_says (Image ∷ Flag (codes "force") ∷ []) command.MirrorPromote ts c is)
 
 -- a word and what follows it
-word_ok : {X : Type 0} (f : List ℕ → Result X LineCause) (word : X → List ℕ) (next : X → Tokens → Result Command LineCause) (ts : Tokens) (c : Command)
+pub word_ok : {X A : Type 0} (f : List ℕ → Result X LineCause) (word : X → List ℕ) (next : X → Tokens → Result A LineCause) (ts : Tokens) (c : A)
     → ((t : List ℕ) (x : X) → f t ≡ Ok x → t ≡ word x) → and_then (place f ts) next ≡ Ok c
     → (x : X) × (rest : Tokens) × (ts ≡ word x ∷ rest) × (next x rest ≡ Ok c)
 word_ok f word next ts c told is =

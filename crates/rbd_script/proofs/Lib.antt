@@ -1,12 +1,16 @@
 pub mod CommandRead
 pub mod CommandSaid
+pub mod DigitTable
+pub mod EventSpelling
 pub mod Halves
 pub mod HexPairs
 pub mod HexSpelling
 pub mod KindWords
 pub mod LineLemmas
 pub mod Numerals
+pub mod PairsRead
 pub mod PartSpelling
 pub mod SessionNames
+pub mod SessionSpelling
 pub mod TokenLemmas
 pub mod TokenSpelling

@@ -45,12 +45,12 @@ abbrev pub IsForm : {A : Type 0} → (parts : List Part) → From parts A → Li
 IsForm [] said ts a = (ts ≡ []) × (said ≡ a)
 IsForm (p ∷ parts) said ts a = (v : Value p) × (rest : List (List ℕ)) × Says p v ts rest × IsForm parts (said v) rest a
 
-pair_is : {A B : Type 0} (x y : A) (u v : B) → ◌≡◌ {A = Result (A × B) LineCause} (Ok (x, u)) (Ok (y, v)) → (x ≡ y) × (u ≡ v)
+pub pair_is : {A B : Type 0} (x y : A) (u v : B) → ◌≡◌ {A = Result (A × B) LineCause} (Ok (x, u)) (Ok (y, v)) → (x ≡ y) × (u ≡ v)
 pair_is {A = A} {B = B} x y u v is =
     let same : ◌≡◌ {A = A × B} (x, u) (y, v) = ok_is {E = LineCause} (x, u) (y, v) is in
     (ap (λ (p : A × B). p.0) same, ap (λ (p : A × B). p.1) same)
 
-before_ok : {A : Type 0} (r : Result A LineCause) (ts rest : Tokens) (v : A) → before ts r ≡ Ok (v, rest) → (r ≡ Ok v) × (ts ≡ rest)
+pub before_ok : {A : Type 0} (r : Result A LineCause) (ts rest : Tokens) (v : A) → before ts r ≡ Ok (v, rest) → (r ≡ Ok v) × (ts ≡ rest)
 before_ok (Ok x) ts rest v is = let same = pair_is x v ts rest is in (ap Ok same.0, same.1)
 before_ok (Err cause) ts rest v is = cc
 

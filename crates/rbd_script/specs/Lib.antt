@@ -1,4 +1,5 @@
 pub mod Command
+pub mod EventSpelling
 pub mod Fault
 pub mod Form
 pub mod Hex

@@ -33,8 +33,8 @@
 //! # Contracts
 //!
 //! [`read`] answers exactly `reading` (`specs/Reading.antt`): the script that the bytes are, or the first fault of the
-//! first line that has one. Want of memory may come in place of either. [`laws`] says that a command is read of the
-//! tokens that spell it, and of no others.
+//! first line that has one. Want of memory may come in place of either. [`laws`] says that a command, a line of a
+//! schedule and a declaration are each read of the tokens that spell them, and of no others.
 //!
 //! # Cost
 //!

@@ -5,6 +5,7 @@ pub mod Objects
 pub mod Operations
 pub mod Progress
 pub mod Replies
+pub mod Room
 pub mod Speakers
 pub mod Text
 pub mod Unanswered
