@@ -52,7 +52,12 @@ impl CreateRequest {
         ensures { IsCreatePlan home command (rest_of_create result) }
     {
         match command {
-            Command::Create { image, size, shape } => Self::asked(home, image, size, &shape),
+            Command::Create { image, size, shape } => Self::asked(
+                home,
+                image.into_name(),
+                size,
+                &shape,
+            ),
             _ => unreachable!(),
         }
     }

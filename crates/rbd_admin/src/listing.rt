@@ -59,8 +59,8 @@ impl ListRequest {
     {
         let at = match command {
             Command::List => Stage::Listing,
-            Command::Info { image } => Stage::Finding(image, Shown::Header),
-            Command::SnapList { image } => Stage::Finding(image, Shown::Snaps),
+            Command::Info { image } => Stage::Finding(image.into_name(), Shown::Header),
+            Command::SnapList { image } => Stage::Finding(image.into_name(), Shown::Snaps),
             _ => unreachable!(),
         };
         ListRequest {

@@ -77,10 +77,20 @@ impl SnapRequest {
     {
         match command {
             Command::SnapCreate { image, snap } => {
-                Self::begin(home, image, ChangeKind::Create, snap)
+                Self::begin(
+                    home,
+                    image.into_name(),
+                    ChangeKind::Create,
+                    snap.into_name(),
+                )
             }
             Command::SnapRemove { image, snap } => {
-                Self::begin(home, image, ChangeKind::Remove, snap)
+                Self::begin(
+                    home,
+                    image.into_name(),
+                    ChangeKind::Remove,
+                    snap.into_name(),
+                )
             }
             _ => unreachable!(),
         }

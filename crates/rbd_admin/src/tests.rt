@@ -10,8 +10,8 @@ ghost use Rattle.rbd_admin.specs.Create.{drawing, rest_of_create};
 
 use crate::{CreateRequest, ListRequest, SnapRequest};
 use rbd_kinds::{
-    Answer, Bytes, Command, Event, Fed, HeaderView, ImageId, Layout, Name, Names, NoMemory, Number,
-    OpKind, Refusal, Reply, Role, Shape, SiteId, SnapId, Snaps, Turn, Want,
+    Answer, AskedName, Bytes, Command, Event, Fed, HeaderView, ImageId, Layout, Names, NoMemory,
+    Number, OpKind, Refusal, Reply, Role, Shape, SiteId, SnapId, Snaps, Turn, Want,
 };
 use rbd_machine::Machine;
 use std::alloc::Global;
@@ -49,8 +49,8 @@ const USUAL: Shape = Shape {
     journal: false,
 };
 
-fn name(rt: &impl Abort, alloc: Global, text: &[u8]) -> Result<Name, NoMemory> {
-    Ok(Name::parse(Bytes::from_slice(alloc, text)?).expect(rt, "a name"))
+fn name(rt: &impl Abort, alloc: Global, text: &[u8]) -> Result<AskedName, NoMemory> {
+    Ok(AskedName::parse(Bytes::from_slice(alloc, text)?).expect(rt, "a name"))
 }
 
 /// An operation of a kind, at the site of these tests.
@@ -119,7 +119,7 @@ fn is_refused(reply: Reply, why: Refusal) -> bool {
 }
 
 /// A create of an image of 4,096 bytes.
-fn create_request(name: Name, size: Number) -> CreateRequest
+fn create_request(name: AskedName, size: Number) -> CreateRequest
     requires { size ≡ 4096 }
     ensures { rest_of_create result ≡ drawing site.A name (new_header (record { object = 4194304; unit = 4194304; count = 1 }) 4096) }
 {

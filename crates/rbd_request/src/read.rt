@@ -18,8 +18,8 @@ use crate::extent::out_of_range as refused_range;
 use crate::looked::Looked;
 use rbd_header::{View, view_of};
 use rbd_kinds::{
-    Answer, Bytes, Command, Event, Extent, Fed, HeaderView, ImageId, Name, NoMemory, Op, OpKind,
-    Refusal, Reply, SiteId, TryClone, Turn, Want,
+    Answer, AskedName, Bytes, Command, Event, Extent, Fed, HeaderView, ImageId, Name, NoMemory, Op,
+    OpKind, Refusal, Reply, SiteId, TryClone, Turn, Want,
 };
 use rbd_layout::pieces;
 use rbd_machine::{Machine, Progress, dir_find, header_get, refusal_of, told_header, told_image};
@@ -77,8 +77,8 @@ impl ReadRequest {
                 len,
             } => ReadRequest {
                 site: home,
-                name: image,
-                snap,
+                name: image.into_name(),
+                snap: named(snap),
                 extent: Extent {
                     at: at.get(),
                     len: len.get(),
@@ -106,6 +106,16 @@ impl ReadRequest {
             Some(refusal) => Err(refusal),
             None => Ok(view),
         }
+    }
+}
+
+/// The name of the snapshot, where one is asked for.
+fn named(snap: Option<AskedName>) -> Option<Name>
+    ensures { result ≡ snap }
+{
+    match snap {
+        Some(snap) => Some(snap.into_name()),
+        None => None,
     }
 }
 

@@ -18,7 +18,7 @@ ghost use Rattle.rbd_request.specs.Write as of_write;
 use crate::arrange::arrange;
 use crate::{ReadRequest, WriteRequest};
 use rbd_kinds::{
-    Answer, Bytes, Command, Event, Extent, Fed, FillLength, HeaderView, ImageId, Layout, Name,
+    Answer, AskedName, Bytes, Command, Event, Extent, Fed, FillLength, HeaderView, ImageId, Layout,
     NoMemory, Number, OpKind, Payload, ReadLength, Refusal, Reply, Role, SiteId, Snaps, Turn, Want,
 };
 use rbd_machine::Machine;
@@ -59,8 +59,8 @@ fn turn(object: u64) -> Want {
     Want::Turn { object }
 }
 
-fn name(rt: &impl Abort, alloc: Global, text: &[u8]) -> Result<Name, NoMemory> {
-    Ok(Name::parse(Bytes::from_slice(alloc, text)?).expect(rt, "a name"))
+fn name(rt: &impl Abort, alloc: Global, text: &[u8]) -> Result<AskedName, NoMemory> {
+    Ok(AskedName::parse(Bytes::from_slice(alloc, text)?).expect(rt, "a name"))
 }
 
 /// The header of an image in objects of 4,096 bytes, without snapshots.
@@ -168,7 +168,7 @@ fn is_write(noted: Option<Event>, from: u64, expected: &[u8]) -> bool {
 }
 
 /// A write of `hello` at the byte 4,094.
-fn hello(rt: &impl Abort, alloc: Global, image: Name) -> Result<WriteRequest, NoMemory>
+fn hello(rt: &impl Abort, alloc: Global, image: AskedName) -> Result<WriteRequest, NoMemory>
     ensures { IfOk result (λ w. of_write.rest_of_request w ≡ of_write.write site.A image 4094 (104 ∷ 101 ∷ 108 ∷ 108 ∷ 111 ∷ [])) }
 {
     let at = Number::new(4094).expect(rt, "a place");
@@ -252,7 +252,7 @@ fn a_write_goes_object_by_object(rt: HostRuntime) -> Result<(), Fail> {
 }
 
 /// A fill of three bytes from the byte 0 on.
-fn sevens(rt: &impl Abort, alloc: Global, image: Name) -> Result<WriteRequest, NoMemory>
+fn sevens(rt: &impl Abort, alloc: Global, image: AskedName) -> Result<WriteRequest, NoMemory>
     ensures { IfOk result (λ w. of_write.rest_of_request w ≡ of_write.write site.A image 0 (replicate 3 7)) }
 {
     let command = Command::Fill {
@@ -281,8 +281,8 @@ fn a_fill_of_three_bytes_is_past_the_end_of_two(rt: HostRuntime) -> Result<(), F
 fn read_found(
     rt: &impl Abort,
     alloc: Global,
-    image: Name,
-    snap: Option<Name>,
+    image: AskedName,
+    snap: Option<AskedName>,
 ) -> Result<ReadRequest, NoMemory>
     ensures { IfOk result (λ r. of_read.standing_of r ≡ of_read.read_standing site.A image snap (record { at = 4094; len = 5 })
         (of_read.looking site.A snap (record { at = 4094; len = 5 }) 7)) }
@@ -323,7 +323,7 @@ fn a_read_past_the_end_is_refused(rt: HostRuntime) -> Result<(), Fail> {
 }
 
 /// It has looked: what is left is to read two bytes of the object 0 and three of the object 1, and the closing look.
-fn read_looked(rt: &impl Abort, alloc: Global, image: Name) -> Result<ReadRequest, NoMemory>
+fn read_looked(rt: &impl Abort, alloc: Global, image: AskedName) -> Result<ReadRequest, NoMemory>
     ensures { IfOk result (λ r. of_read.standing_of r ≡ of_read.read_standing site.A image None (record { at = 4094; len = 5 })
         (Ask site.A (op.Data 7 0 (object.Read None (record { offset = 4094; at = 4094; len = 2 } ∷ [])))
         (on_bytes (record { offset = 4094; at = 4094; len = 2 } ∷ []) (λ first. Ask site.A (op.Data 7 1 (object.Read None (record { offset = 0; at = 4096; len = 3 } ∷ [])))

@@ -81,7 +81,7 @@ impl WriteRequest {
         match command {
             Command::Write { image, at, bytes } => {
                 let bytes = Bytes::from_slice(alloc, bytes.as_slice())?;
-                Ok(WriteRequest::of(alloc, home, image, at.get(), bytes))
+                Ok(WriteRequest::of(alloc, home, image.into_name(), at.get(), bytes))
             }
             Command::Fill {
                 image,
@@ -90,7 +90,7 @@ impl WriteRequest {
                 byte,
             } => {
                 let bytes = filled(alloc, len, byte)?;
-                Ok(WriteRequest::of(alloc, home, image, at.get(), bytes))
+                Ok(WriteRequest::of(alloc, home, image.into_name(), at.get(), bytes))
             }
             _ => unreachable!(),
         }
