@@ -1,4 +1,4 @@
-ghost use Rattle.std.specs.Prelude.{◌≡◌, [], length, List, IsTrue, ◌↔◌, IfOk};
+ghost use Rattle.std.specs.Prelude.{◌≡◌, [], ◌∷◌, ◌++◌, length, List, IsTrue, ◌↔◌, IfOk, OnOk, OnErr};
 
 use crate::copies::TryClone;
 use crate::memory::NoMemory;
@@ -8,8 +8,7 @@ use std::marker::Model;
 use std::sync::Arc;
 
 /// Some items in order, seen by contracts as the list of them. They lie in a vector of their own, or in one that
-/// several values share, and then a copy counts one more owner and copies no item. The list doesn't change: a
-/// [`Growing`](crate::Growing) list does.
+/// several values share, and then a copy counts one more owner and copies no item.
 #[derive(Drop)]
 pub struct Sequence<T> {
     held: Held<T>,
@@ -100,6 +99,24 @@ impl<T: TryClone> Sequence<T> {
         ensures { IfOk result (λ copy. copy ≡ items.now) }
     {
         Ok(Sequence::from_vec(copied(alloc, items)?))
+    }
+
+    /// Adds an item at the end. It copies a shared list first, which is then no longer shared by this value.
+    pub fn push(&mut self, item: T) -> Result<(), NoMemory>
+        ensures ok { OnOk result (self.new ≡ self.old ++ item ∷ []) }
+        ensures err { OnErr result (self.new ≡ self.old) }
+    {
+        if let Held::Shared(items) = &self.held {
+            let mut copies = copied(*items.allocator(), items.as_slice())?;
+            copies.push(item)?;
+            self.held = Held::Own(copies);
+            return Ok(());
+        }
+        let Held::Own(items) = &mut self.held else {
+            unreachable!()
+        };
+        items.push(item)?;
+        Ok(())
     }
 
     /// The vector of the items: without a copy where no other value shares it, else a copy.

@@ -8,7 +8,7 @@ use crate::fault::{LineCause, PartFault};
 use rbd_kinds::{Bytes, NoMemory, Payload};
 use std::alloc::Global;
 
-/// The 1 to 65,536 bytes that the token spells.
+/// The 1 to 65,536 bytes that the token spells, in memory that copies and slices of them share.
 #[tactic(auto, unfolding(crate::specs::Hex::bytes_of))]
 pub fn payload_of(alloc: Global, token: &[u8]) -> Result<Payload, PartFault>
     ensures { Gives result (bytes_in token.now) }
@@ -19,8 +19,8 @@ pub fn payload_of(alloc: Global, token: &[u8]) -> Result<Payload, PartFault>
     if !are_pairs(token) {
         return Err(PartFault::Cause(LineCause::BadNumber));
     }
-    let bytes = decoded(alloc, token)?;
-    match Payload::new(Bytes::from_vec(bytes)) {
+    let bytes = Bytes::from_vec(decoded(alloc, token)?).share()?;
+    match Payload::new(bytes) {
         Some(payload) => Ok(payload),
         None => Err(PartFault::Cause(LineCause::BadNumber)),
     }

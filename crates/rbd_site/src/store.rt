@@ -57,6 +57,17 @@ impl Store {
         }
     }
 
+    /// Before a look at a header: from now on, the answers to such looks share one list of its snapshots, until it
+    /// changes. Refused memory, they don't yet.
+    pub fn share(&mut self, op: &Op) -> Result<(), NoMemory>
+        ensures { kept self.new ≡ kept self.old }
+    {
+        match op {
+            Op::Header { image, op } => header::share(&mut self.headers, *image, op),
+            _ => Ok(()),
+        }
+    }
+
     /// Does an operation, or nothing at all.
     pub fn change(&mut self, instance: Instance, op: &Op) -> Result<(), NoMemory>
         requires may { MayDo (kept self.old) op.now }
