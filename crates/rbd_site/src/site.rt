@@ -8,7 +8,7 @@ ghost use Rattle.rbd_site.specs.Step.{MayDo, answer_to, after};
 use crate::done::{Done, DoneOp};
 use crate::object_key::ObjectKey;
 use crate::store::Store;
-use rbd_kinds::{Answer, ImageId, Instance, NoMemory, Op, SiteId, TryClone};
+use rbd_kinds::{Answer, ImageId, Instance, NoMemory, Op, SiteId};
 use std::alloc::Global;
 use std::marker::Model;
 
@@ -80,18 +80,15 @@ impl Site {
         ensures form { AreInForm (records_of self.new) (length self.new.log) }
         ensures err { OnErr result (self.new ≡ self.old) }
     {
-        self.store.share(&op)?;
-        let answer = self.store.answer(instance, &op)?;
-        let kept = answer.try_clone()?;
         self.log.reserve(1)?;
-        self.store.change(instance, &op)?;
-        let number = self.next_number();
-        self.log.push_reserved(Done {
-            number,
+        let (answer, kept) = self.store.perform(&instance, &op)?;
+        let line = Done {
+            number: self.next_number(),
             instance: Some(instance),
             op: DoneOp::Op(op),
             answer: kept,
-        });
+        };
+        self.log.push_reserved(line);
         Ok(answer)
     }
 
