@@ -1,12 +1,12 @@
 //! An image's header: its size, snapshots, parent, role and lock.
 //!
 //! ```text
-//! let mut header = Header::make(view);
+//! let mut header = Header::make(view)?;
 //! header.lock(instance)?;                         // this instance owns the image
 //! let first = header.snap_add(&name)?;            // snapshot 1, with the head's size and parent
 //! header.snap_status(first, SnapStatus::Protected);
 //! header.set_size(4096);                          // cuts the head's overlap too
-//! header.as_view().named(&name)                   // the snapshot, still with its own size
+//! header.named(&name)                             // the snapshot, still with its own size
 //! header.unlock(instance);
 //! ```
 //!
@@ -17,10 +17,13 @@
 //! contract is one equation: the view after it is this function of the view before.
 //!
 //! Costs: a look-up of a snapshot, by id or by name, and a change of one read the list of snapshots,
-//! which are 256 at most; all other calls are a few words. [`Header::view`] copies the list, and
-//! [`Header::as_view`] lends it. Only `view` and `snap_add` want memory.
+//! which are 256 at most; all other calls are a few words. [`Header::view`] copies the list, but none
+//! after [`Header::share`], which copies it once for all views until the list changes. Only `make`,
+//! `share`, `view` and `snap_add` want memory.
 //!
-//! How it works: the header is the view and the allocator of its list. Each change that is done raises
+//! How it works: the header has the list of snapshots twice, one that is changed in place, and one that
+//! the views share. A change of the first lets go of the second, which views that were told before still
+//! hold: so a change needs no memory for it. Each change that is done raises
 //! the generation by one; taking and giving up the lock don't (own). The id of a snapshot is one above
 //! the last that this header drew, so it is never drawn twice (own).
 #![tactic(auto)]

@@ -7,6 +7,7 @@ use crate::entry::{Entry, drop_front};
 use crate::span::{end_of, extend};
 use rbd_kinds::{
     Bytes, ImageId, JournalClient, JournalView, NoMemory, Position, SiteId, Span, Spans, Tag,
+    TryClone,
 };
 use std::alloc::Global;
 use std::collections::VecDeque;
@@ -18,6 +19,8 @@ use std::marker::Model;
 pub struct Journal {
     alloc: Global,
     spans: Vec<Span>,
+    /// The same spans, as views of the journal share them: once they were asked for, and until they change.
+    told: Option<Spans>,
     /// The last number of the spans, or 0.
     end: u64,
     /// The last one stands at the end.
@@ -28,13 +31,15 @@ pub struct Journal {
 }
 
 impl Model for Journal {
+    ghost use Rattle.std.specs.Prelude.{◌≡◌, IfSome};
     ghost use Rattle.rbd_journal.specs.Records.{IsSound, Records};
 
     ghost Value = { Records };
 
     ghost view = { λ j. record { spans = j.spans.items; end = j.end; held = j.held.items; local = j.local; mirror = j.mirror; drawn = j.drawn } };
 
-    ghost invariant = { λ j. IsSound (record { spans = j.spans.items; end = j.end; held = j.held.items; local = j.local; mirror = j.mirror; drawn = j.drawn }) };
+    ghost invariant = { λ j. IsSound (record { spans = j.spans.items; end = j.end; held = j.held.items; local = j.local; mirror = j.mirror; drawn = j.drawn })
+        × IfSome j.told (λ told. told ≡ j.spans.items) };
 }
 
 impl Journal {
@@ -48,6 +53,7 @@ impl Journal {
         Ok(Journal {
             alloc,
             spans: Vec::from_slice(alloc, spans.as_slice())?,
+            told: None,
             end,
             held: VecDeque::new(alloc),
             local: end,
@@ -83,6 +89,7 @@ impl Journal {
         };
         self.held.reserve(1)?;
         extend(&mut self.spans, position)?;
+        self.told = None;
         self.held.push_back(entry).unwrap();
         self.end = position.seq;
         Ok(())
@@ -105,18 +112,39 @@ impl Journal {
         Some((position, entry.frame.as_slice()))
     }
 
-    /// What the journal tells of itself. `first` is one more than the end where no frame is held, or
+    /// From now on, until the spans change, `view` copies no spans. It copies them once, unless they were shared
+    /// already, and may be refused the memory: then all is as before.
+    pub fn share(&mut self) -> Result<(), NoMemory>
+        ensures { self.new ≡ self.old }
+    {
+        if self.told.is_none() {
+            self.told = Some(self.told_spans()?.share()?);
+        }
+        Ok(())
+    }
+
+    fn told_spans(&self) -> Result<Spans, NoMemory>
+        ensures { IfOk result (λ spans. spans ≡ self.now.spans) }
+    {
+        match &self.told {
+            Some(told) => told.try_clone(),
+            None => Spans::from_slice(self.alloc, self.spans.as_slice()),
+        }
+    }
+
+    /// What the journal tells of itself, with a copy of its spans, or, after [`Journal::share`], with spans that
+    /// share them. `first` is one more than the end where no frame is held, or
     /// `u64::MAX` where that is the end.
     pub fn view(&self) -> Result<JournalView, NoMemory>
         ensures view { IfOk result (λ view. view ≡ view_of self.now) }
         ensures sound { IsSound self.now }
     {
         Ok(JournalView {
-            spans: Spans::from_vec(self.spans.clone()?),
-            first: self.before_held().saturating_add(1),
             local: self.local,
             mirror: self.mirror,
             drawn: self.drawn,
+            first: self.before_held().saturating_add(1),
+            spans: self.told_spans()?,
         })
     }
 

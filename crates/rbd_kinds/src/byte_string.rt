@@ -1,4 +1,5 @@
 ghost use Rattle.std.specs.Prelude.{◌≡◌, [], ◌+◌, ◌≤◌, length, take, drop, List, ℕ, IsTrue, ◌↔◌, IfOk};
+ghost use Rattle.rbd_kinds.specs.Held.{bytes_held};
 
 use crate::copies::TryClone;
 use crate::memory::NoMemory;
@@ -14,10 +15,30 @@ pub struct Bytes {
     held: Held,
 }
 
-#[derive(Drop)]
 enum Held {
     Own(Vec<u8>),
     Shared(bytes::Bytes),
+}
+
+// (written out, so that it is a call where bytes are let go, and not a choice of two)
+impl Drop for Held {
+    fn drop(self) {
+        match self {
+            Held::Own(bytes) => drop(bytes),
+            Held::Shared(bytes) => drop(bytes),
+        }
+    }
+}
+
+impl Held {
+    fn share(self) -> Result<Self, NoMemory>
+        ensures { IfOk result (λ shared. bytes_held shared ≡ bytes_held self) }
+    {
+        match self {
+            Held::Own(bytes) => Ok(Held::Shared(bytes::Bytes::from_vec(bytes)?)),
+            Held::Shared(bytes) => Ok(Held::Shared(bytes)),
+        }
+    }
 }
 
 impl Model for Bytes {
@@ -58,12 +79,8 @@ impl Bytes {
     pub fn share(self) -> Result<Self, NoMemory>
         ensures { IfOk result (λ shared. shared ≡ self) }
     {
-        let shared = match self.held {
-            Held::Own(bytes) => bytes::Bytes::from_vec(bytes)?,
-            Held::Shared(bytes) => bytes,
-        };
         Ok(Bytes {
-            held: Held::Shared(shared),
+            held: self.held.share()?,
         })
     }
 

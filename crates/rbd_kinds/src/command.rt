@@ -196,11 +196,18 @@ impl Payload {
         self.bytes.as_slice()
     }
 
+    pub fn as_bytes(&self) -> &Bytes
+        ensures { result.now ≡ self.now }
+    {
+        &self.bytes
+    }
+
     /// The bytes, without a copy.
     pub fn into_bytes(self) -> Bytes
         ensures value { result ≡ self }
         ensures range { IsPayload self }
     {
-        self.bytes
+        let Payload { bytes } = self;
+        bytes
     }
 }

@@ -8,7 +8,7 @@
 //! `.` or `-`, so that no session names the snapshot `.sync` that a synchronisation makes.
 //!
 //! Contracts see an id as its number, a [`Name`], an [`AskedName`] and [`Bytes`] as the list of their
-//! bytes, and a [`Sequence`] as the list of its items.
+//! bytes, and a [`Sequence`] as the list of its items, wherever these lie.
 //!
 //! ```text
 //! Name::parse(Bytes::from_slice(alloc, b".sync")?)         the name `.sync`
@@ -17,9 +17,11 @@
 //! Refusal::BadRange.to_string()                            error 22 BadRange
 //! ```
 //!
-//! Nothing is copied that isn't asked for: `from_vec` and `into_vec` hand a vector on, `try_clone`
-//! copies once. A copy, and a growth of a list, can be refused memory ([`NoMemory`]), which leaves the
-//! list as it was.
+//! Nothing is copied that isn't asked for: `from_vec` takes a vector over, and `try_clone` copies. [`Bytes`]
+//! and a [`Sequence`] that were shared (`share`) are no longer copied: a `try_clone`, and a slice of the
+//! bytes, counts one more owner of the same memory, whichever threads the values are in. What isn't shared
+//! lies in a vector of its own. A copy, a first share and a growth of a list ([`Growing`]) can be refused
+//! memory ([`NoMemory`]), which leaves a list that grows as it was.
 #![tactic(auto)]
 
 mod answer;

@@ -1,4 +1,5 @@
-ghost use Rattle.std.specs.Prelude.{◌≡◌, [], length, List, IsTrue, ◌↔◌, IfOk};
+ghost use Rattle.std.specs.Prelude.{◌≡◌, [], ◌∷◌, ◌++◌, length, List, IsTrue, ◌↔◌, IfOk, OnOk, OnErr};
+ghost use Rattle.rbd_kinds.specs.Held.{items_held};
 
 use crate::copies::TryClone;
 use crate::memory::NoMemory;
@@ -8,17 +9,53 @@ use std::marker::Model;
 use std::sync::Arc;
 
 /// Some items in order, seen by contracts as the list of them. They lie in a vector of their own, or in one that
-/// several values share, and then a copy counts one more owner and copies no item. The list doesn't change: a
-/// [`Growing`](crate::Growing) list does.
+/// several values share, and then a copy counts one more owner and copies no item.
 #[derive(Drop)]
 pub struct Sequence<T> {
     held: Held<T>,
 }
 
-#[derive(Drop)]
 enum Held<T> {
     Own(Vec<T>),
     Shared(Arc<Vec<T>, Global>),
+}
+
+// (written out, so that it is a call where a sequence is let go, and not a choice of two)
+impl<T: Drop> Drop for Held<T> {
+    fn drop(self) {
+        match self {
+            Held::Own(items) => drop(items),
+            Held::Shared(items) => drop(items),
+        }
+    }
+}
+
+impl<T: Drop> Held<T> {
+    fn share(self) -> Result<Self, NoMemory>
+        ensures { IfOk result (λ shared. items_held shared ≡ items_held self) }
+    {
+        match self {
+            Held::Own(items) => {
+                let alloc = *items.allocator();
+                Ok(Held::Shared(Arc::new(alloc, items)?))
+            }
+            Held::Shared(items) => Ok(Held::Shared(items)),
+        }
+    }
+}
+
+impl<T: TryClone> Held<T> {
+    fn into_vec(self) -> Result<Vec<T>, NoMemory>
+        ensures { IfOk result (λ items. items.items ≡ items_held self) }
+    {
+        match self {
+            Held::Own(items) => Ok(items),
+            Held::Shared(items) => match Arc::try_unwrap(items) {
+                Ok(items) => Ok(items),
+                Err(items) => copied(*items.allocator(), items.as_slice()),
+            },
+        }
+    }
 }
 
 impl<T> Model for Sequence<T> {
@@ -54,15 +91,8 @@ impl<T> Sequence<T> {
         T: Drop,
         ensures { IfOk result (λ shared. shared ≡ self) }
     {
-        let shared = match self.held {
-            Held::Own(items) => {
-                let alloc = *items.allocator();
-                Arc::new(alloc, items)?
-            }
-            Held::Shared(items) => items,
-        };
         Ok(Sequence {
-            held: Held::Shared(shared),
+            held: self.held.share()?,
         })
     }
 
@@ -102,18 +132,29 @@ impl<T: TryClone> Sequence<T> {
         Ok(Sequence::from_vec(copied(alloc, items)?))
     }
 
+    /// Adds an item at the end. It copies a shared list first, which is then no longer shared by this value.
+    pub fn push(&mut self, item: T) -> Result<(), NoMemory>
+        ensures ok { OnOk result (self.new ≡ self.old ++ item ∷ []) }
+        ensures err { OnErr result (self.new ≡ self.old) }
+    {
+        if let Held::Shared(items) = &self.held {
+            let mut copies = copied(*items.allocator(), items.as_slice())?;
+            copies.push(item)?;
+            self.held = Held::Own(copies);
+            return Ok(());
+        }
+        let Held::Own(items) = &mut self.held else {
+            unreachable!()
+        };
+        items.push(item)?;
+        Ok(())
+    }
+
     /// The vector of the items: without a copy where no other value shares it, else a copy.
     pub fn into_vec(self) -> Result<Vec<T>, NoMemory>
         ensures { IfOk result (λ items. items.items ≡ self) }
     {
-        let shared = match self.held {
-            Held::Own(items) => return Ok(items),
-            Held::Shared(items) => items,
-        };
-        match Arc::try_unwrap(shared) {
-            Ok(items) => Ok(items),
-            Err(shared) => copied(*shared.allocator(), shared.as_slice()),
-        }
+        self.held.into_vec()
     }
 }
 

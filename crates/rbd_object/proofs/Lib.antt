@@ -4,3 +4,4 @@ pub mod MappedLemmas
 pub mod PartsLemmas
 pub mod SoundLemmas
 pub mod StepLemmas
+pub mod StretchLemmas

@@ -35,7 +35,8 @@
 //!
 //! A request names *parts* of an object, each some bytes that lie together. [`gather`] takes the bytes at the
 //! parts out of some bytes, [`scatter`] puts bytes at the parts, and [`shifted_parts`] are the parts as they
-//! lie in bytes that begin at a byte of the image, such as the bytes that a caller gave for an extent.
+//! lie in bytes that begin at a byte of the image, such as the bytes that a caller gave for an extent. [`bytes_for`]
+//! takes those that parts have out of such bytes, and copies none where they lie together in shared bytes.
 //!
 //! # Cost
 //!
@@ -56,6 +57,7 @@ mod content;
 pub mod laws;
 mod object;
 mod parts;
+mod stretch;
 #[cfg(test)]
 mod tests;
 mod version;
@@ -64,3 +66,4 @@ mod versions;
 pub use content::LARGEST_OBJECT;
 pub use object::Object;
 pub use parts::{copy_window, gather, scatter, shifted_parts};
+pub use stretch::bytes_for;

@@ -1,9 +1,10 @@
 //! Pieces of requests: a write of one object, and the reading of one object after another.
 //!
 //! ```text
-//! let mut write = WritePiece::new(alloc, SiteId::A, image, &header, piece, bytes)?;      // of object 3
+//! let context = context_of(alloc, &header)?;
+//! let mut write = WritePiece::new(SiteId::A, image, context, piece, bytes);      // of object 3
 //! write.wants()              // an operation at site A, of the kind data-write
-//! write.next()?              // data-write of object 3, under the header's snapshot context
+//! write.next()?              // data-write of object 3, under the snapshot context
 //! write.feed(&done)          // Ended: the request goes on
 //!
 //! let mut gather = Gather::new(alloc, SiteId::A, image, Some(snap), pieces);      // of objects 1 and 4
@@ -46,9 +47,8 @@
 //!
 //! | call | memory |
 //! |---|---|
-//! | [`WritePiece::new`] | the snapshots of the context, once; the parts and the bytes are held without a copy |
-//! | `WritePiece::next` | copies the context, the parts and the bytes, since the write may have to be asked for again |
-//! | [`Gather::new`], [`Gather::take_bytes`] | none |
+//! | `WritePiece::next` | copies the parts, and the context's snapshots and the bytes where they aren't shared, since the write may have to be asked for again |
+//! | [`WritePiece::new`], [`Gather::new`], [`Gather::take_bytes`] | none |
 //! | `Gather::next` | copies the parts of one piece |
 //! | `Gather::ready` | room for the bytes of one answer; `feed` copies them there |
 //!

@@ -3,6 +3,7 @@
 ghost use Rattle.rbd_machine.specs.Answers.{CanBeFed};
 
 use crate::{Gather, WritePiece};
+use rbd_header::context_of;
 use rbd_kinds::{
     Answer, Bytes, Fed, HeaderView, ImageId, Layout, NoMemory, Op, OpKind, Part, Parts, Refusal,
     Reply, Role, SiteId, SnapId, Snaps, Turn, Want,
@@ -72,7 +73,8 @@ fn object_of(op: &Op) -> Option<u64> {
 fn write_piece(alloc: Global) -> Result<WritePiece, NoMemory> {
     let header = disk(alloc);
     let bytes = Bytes::from_slice(alloc, b"new")?;
-    WritePiece::new(alloc, SiteId::A, IMAGE, &header, piece(alloc, 3, 3)?, bytes)
+    let context = context_of(alloc, &header)?;
+    Ok(WritePiece::new(SiteId::A, IMAGE, context, piece(alloc, 3, 3)?, bytes))
 }
 
 /// What ends a piece of a write that is answered so, `None` where the request goes on.

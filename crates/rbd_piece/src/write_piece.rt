@@ -4,12 +4,13 @@ ghost use Rattle.rbd_kinds.specs.declared.machine.Fed.TheVariants as fed_with;
 ghost use Rattle.rbd_kinds.specs.declared.reply.Reply.TheVariants.{Done};
 ghost use Rattle.rbd_machine.specs.Plan.{Plan, Return, Wants, Asks, plan_after, without_labels};
 ghost use Rattle.rbd_machine.specs.Steps.{Progresses};
+ghost use Rattle.rbd_kinds.specs.declared.header.HeaderView.{HeaderView};
+ghost use Rattle.rbd_header.specs.Header.{context_of};
 ghost use Rattle.rbd_piece.specs.Write.{write_piece, rest_of_write};
 
-use rbd_header::context_of;
 use rbd_kinds::{
-    Answer, Bytes, DataOp, Event, Fed, HeaderView, ImageId, NoMemory, Op, OpKind, Reply, SiteId,
-    SnapContext, TryClone, Turn, Want,
+    Answer, Bytes, DataOp, Event, Fed, ImageId, NoMemory, Op, OpKind, Reply, SiteId, SnapContext,
+    TryClone, Turn, Want,
 };
 use rbd_layout::Piece;
 use rbd_machine::{Machine, Progress, told_done};
@@ -33,25 +34,26 @@ pub struct WritePiece {
 }
 
 impl WritePiece {
-    /// Puts bytes into a piece of an image by its header: as many bytes as its parts have together.
+    /// Puts bytes into a piece of an image, under a snapshot context that its header gives: as many bytes as the
+    /// piece's parts have together. It takes no memory.
     pub fn new(
-        alloc: Global,
         site: SiteId,
         image: ImageId,
-        header: &HeaderView,
+        context: SnapContext,
         piece: Piece,
         bytes: Bytes,
-    ) -> Result<Self, NoMemory>
-        ensures plan { IfOk result (λ w. (next : Plan) → rest_of_write w next ≡ write_piece site image header.now piece bytes next) }
-        ensures object { IfOk result (λ w. w.piece.object ≡ piece.object) }
+    ) -> Self
+        ensures plan { (header : HeaderView) (next : Plan) → context ≡ context_of header
+            → rest_of_write result next ≡ write_piece site image header piece bytes next }
+        ensures object { result.piece.object ≡ piece.object }
     {
-        Ok(WritePiece {
+        WritePiece {
             site,
             image,
-            context: context_of(alloc, header)?,
+            context,
             piece,
             bytes,
-        })
+        }
     }
 
     /// The number of its object.

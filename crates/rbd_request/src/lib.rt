@@ -48,8 +48,9 @@
 //! # Cost
 //!
 //! A request takes a step for each thing that it wants, and each object that is touched is asked for once; a read that
-//! begins again takes all its steps again. The bytes of a write are copied four times: into the request, once at the own
-//! look into the pieces, into the event, and into each piece's operation (a `fill` makes its bytes in the request).
+//! begins again takes all its steps again. The bytes of a write lie in memory once: the request takes them over from the
+//! command, and its event, its pieces and their operations share them. Only those of a piece with several parts, which
+//! lie apart in the command's bytes, are gathered, once, at the own look. The snapshot context is one for all pieces.
 //! Those of a read are copied once from the answers to behind one another, and once into the reply, in the order of the
 //! image.
 //!

@@ -2,14 +2,17 @@
 ghost use Rattle.std.specs.Prelude.{◌≡◌, None, IfOk};
 ghost use Rattle.rbd_kinds.specs.Form.{IsHeaderInForm};
 ghost use Rattle.rbd_layout.specs.Pieces.{pieces_of};
-ghost use Rattle.rbd_object.specs.Parts.{AreBehind, bytes_for};
+ghost use Rattle.rbd_kinds.specs.declared.header.HeaderView as of_header;
+ghost use Rattle.rbd_header.specs.Header.{context_of as told_context};
+ghost use Rattle.rbd_object.specs.Parts.{AreBehind, bytes_for as bytes_of_parts};
 ghost use Rattle.rbd_machine.specs.Plan.{Plan};
 ghost use Rattle.rbd_piece.specs.Write.{write_piece as piece_of_write, rest_of_write};
 ghost use Rattle.rbd_request.specs.Write as of_write;
 
-use rbd_kinds::{Bytes, Extent, HeaderView, ImageId, NoMemory, SiteId};
+use rbd_header::context_of;
+use rbd_kinds::{Bytes, Extent, HeaderView, ImageId, NoMemory, SiteId, SnapContext, TryClone};
 use rbd_layout::{Piece, pieces};
-use rbd_object::{gather, shifted_parts};
+use rbd_object::bytes_for;
 use rbd_piece::WritePiece;
 use std::alloc::Global;
 use std::collections::VecDeque;
@@ -21,7 +24,7 @@ pub fn write_pieces(
     image: ImageId,
     header: &HeaderView,
     at: u64,
-    bytes: &[u8],
+    bytes: &Bytes,
 ) -> Result<VecDeque<WritePiece>, NoMemory>
     requires form { IsHeaderInForm header.now }
     requires fits { of_write.out_of_range (of_write.extent_at at bytes.now) header.now.size ≡ None }
@@ -32,10 +35,11 @@ pub fn write_pieces(
         at,
         len: bytes.len() as u64,
     };
+    let context = context_of(alloc, header)?;
     let listed = pieces(alloc, &header.layout, &extent)?;
     let mut made = VecDeque::new(alloc);
     for piece in listed {
-        made.push_back(write_piece(alloc, site, image, header, at, bytes, piece)?)?;
+        made.push_back(write_piece(alloc, site, image, &context, at, bytes, piece)?)?;
     }
     Ok(made)
 }
@@ -45,16 +49,16 @@ fn write_piece(
     alloc: Global,
     site: SiteId,
     image: ImageId,
-    header: &HeaderView,
+    context: &SnapContext,
     at: u64,
-    bytes: &[u8],
+    bytes: &Bytes,
     piece: Piece,
 ) -> Result<WritePiece, NoMemory>
     requires { AreBehind at piece.parts }
-    ensures plan { IfOk result (λ w. (next : Plan) → rest_of_write w next ≡ piece_of_write site image header.now piece (bytes_for piece.parts at bytes.now) next) }
+    ensures plan { IfOk result (λ w. (header : of_header.HeaderView) (next : Plan) → context.now ≡ told_context header
+        → rest_of_write w next ≡ piece_of_write site image header piece (bytes_of_parts piece.parts at bytes.now) next) }
     ensures object { IfOk result (λ w. w.piece.object ≡ piece.object) }
 {
-    let parts = shifted_parts(alloc, at, piece.parts.as_slice())?;
-    let bytes = Bytes::from_vec(gather(alloc, bytes, parts.as_slice())?);
-    WritePiece::new(alloc, site, image, header, piece, bytes)
+    let bytes = bytes_for(alloc, bytes, at, piece.parts.as_slice())?;
+    Ok(WritePiece::new(site, image, context.try_clone()?, piece, bytes))
 }

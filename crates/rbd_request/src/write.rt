@@ -80,7 +80,7 @@ impl WriteRequest {
     {
         match command {
             Command::Write { image, at, bytes } => {
-                let bytes = Bytes::from_slice(alloc, bytes.as_slice())?;
+                let bytes = bytes.into_bytes().share()?;
                 Ok(WriteRequest::of(alloc, home, image.into_name(), at.get(), bytes))
             }
             Command::Fill {
@@ -177,12 +177,12 @@ impl WriteRequest {
     }
 }
 
-/// As many bytes as a fill puts.
+/// As many bytes as a fill puts, in memory that its pieces and its event share.
 fn filled(alloc: Global, len: FillLength, byte: u8) -> Result<Bytes, NoMemory>
     ensures { IfOk result (λ bytes. bytes ≡ replicate len byte) }
 {
     let bytes = vec![in alloc; byte; len.get() as usize]?;
-    Ok(Bytes::from_vec(bytes))
+    Bytes::from_vec(bytes).share()
 }
 
 impl Machine for WriteRequest {
@@ -228,8 +228,7 @@ impl Machine for WriteRequest {
         if self.range().refusal(header).is_some() {
             return Ok(());
         }
-        let bytes = self.bytes.as_slice();
-        self.pieces = write_pieces(alloc, self.site, image, header, self.at, bytes)?;
+        self.pieces = write_pieces(alloc, self.site, image, header, self.at, &self.bytes)?;
         Ok(())
     }
 

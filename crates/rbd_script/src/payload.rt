@@ -23,7 +23,7 @@ const VALUES: [u8; 256] = [
     16, 16, 16, 16, 16, 16, 16, 16, 16, 16, 16, 16, 16, 16,
 ];
 
-/// The 1 to 65,536 bytes that the token spells.
+/// The 1 to 65,536 bytes that the token spells, in memory that copies and slices of them share.
 #[tactic(auto, unfolding(crate::specs::Hex::bytes_of))]
 pub fn payload_of(alloc: Global, token: &[u8]) -> Result<Payload, PartFault>
     ensures { Gives result (bytes_in token.now) }
@@ -31,8 +31,8 @@ pub fn payload_of(alloc: Global, token: &[u8]) -> Result<Payload, PartFault>
     if token.len() > 131072 {
         return Err(PartFault::Cause(LineCause::BadNumber));
     }
-    let bytes = decoded(alloc, token)?;
-    match Payload::new(Bytes::from_vec(bytes)) {
+    let bytes = Bytes::from_vec(decoded(alloc, token)?).share()?;
+    match Payload::new(bytes) {
         Some(payload) => Ok(payload),
         None => Err(PartFault::Cause(LineCause::BadNumber)),
     }

@@ -8,7 +8,7 @@ ghost use Rattle.rbd_script.specs.Token.{lines_of, without_last};
 use crate::fault::{LineCause, LineFault, PartFault, ScriptFault};
 use crate::lines::first_line;
 use crate::script::Script;
-use rbd_kinds::Sequence;
+use rbd_kinds::Growing;
 use std::alloc::Global;
 
 /// How many bytes a script may have.
@@ -63,8 +63,8 @@ impl Script {
         ensures { result ≡ no_script }
     {
         Script {
-            sessions: Sequence::new(alloc),
-            lines: Sequence::new(alloc),
+            sessions: Growing::new(alloc),
+            lines: Growing::new(alloc),
         }
     }
 

@@ -1,5 +1,5 @@
 //! What a script says.
-use rbd_kinds::{Command, ImageId, Name, Number, OpKind, Sequence, SessionNo, SiteId, Slot};
+use rbd_kinds::{Command, Growing, ImageId, Name, Number, OpKind, SessionNo, SiteId, Slot};
 
 /// A script: the sessions that it declares, and its lines.
 #[derive(Debug, Drop)]
@@ -19,7 +19,7 @@ pub struct Declared {
     pub home: SiteId,
 }
 
-pub type Sessions = Sequence<Declared>;
+pub type Sessions = Growing<Declared>;
 
 /// One line of a script, by its number from 1.
 #[derive(Debug, Drop)]
@@ -28,7 +28,7 @@ pub struct Line {
     pub said: Said,
 }
 
-pub type Lines = Sequence<Line>;
+pub type Lines = Growing<Line>;
 
 /// What a line says.
 #[derive(Debug, Drop)]

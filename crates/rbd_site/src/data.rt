@@ -161,7 +161,7 @@ fn read(object: &Object, snap: Option<SnapId>, parts: &[Part]) -> Result<Answer,
     ensures { IfOk result (λ answer. answer ≡ blank_answer object.now (DataOp.Read snap parts.now)) }
 {
     match object.read_parts(snap, parts)? {
-        Some(bytes) => Ok(Answer::Bytes(bytes)),
+        Some(bytes) => Ok(Answer::Bytes(bytes.share()?)),
         None => Ok(Answer::Absent),
     }
 }

@@ -7,7 +7,7 @@ ghost use Rattle.rbd_kinds.specs.Header.{snap_named};
 ghost use Rattle.rbd_header.specs.Header.{snap_in, is_full, with_snap};
 ghost use Rattle.rbd_site.specs.HeaderStep.{MayDoOnHeader, is_owner, lock_taken, lock_left, done_where, snap_added, where_made, there_answer, missing_answer, header_answer, header_then, header_after};
 
-use rbd_header::{Header, SnapAddFault, ids_of, snapshot};
+use rbd_header::{Header, SnapAddFault, ids_of};
 use rbd_kinds::{
     Answer, HeaderOp, HeaderView, ImageId, Instance, Name, NoMemory, SnapId, TryClone,
 };
@@ -28,6 +28,29 @@ pub fn answer(
         Some(header) => answer_there(header, instance, op),
         None => Ok(answer_missing(op)),
     }
+}
+
+/// Before a look at a header, if it is there: views of it share one list of its snapshots from now on.
+pub fn share(
+    headers: &mut BTreeMap<ImageId, Header>,
+    image: ImageId,
+    op: &HeaderOp,
+) -> Result<(), NoMemory>
+    ensures { (i : ℕ) → header_in headers.new i ≡ header_in headers.old i }
+{
+    match op {
+        HeaderOp::Get => share_list(headers, image),
+        _ => Ok(()),
+    }
+}
+
+fn share_list(headers: &mut BTreeMap<ImageId, Header>, image: ImageId) -> Result<(), NoMemory>
+    ensures { (i : ℕ) → header_in headers.new i ≡ header_in headers.old i }
+{
+    let Some(header) = headers.get_mut(&image) else {
+        return Ok(());
+    };
+    header.share()
 }
 
 /// Does an operation, or nothing at all.
@@ -61,7 +84,7 @@ pub fn live_snaps(
     ensures { IfOk result (λ live. live.items ≡ live_in (header_in headers.now image)) }
 {
     match headers.get(&image) {
-        Some(header) => ids_of(alloc, header.as_view().snaps.as_slice()),
+        Some(header) => ids_of(alloc, header.snaps()),
         None => Ok(Vec::new(alloc)),
     }
 }
@@ -78,7 +101,7 @@ fn create(
     if headers.contains_key(&image) {
         return Ok(());
     }
-    headers.insert(image, Header::make(view.try_clone()?))?;
+    headers.insert(image, Header::make(view.try_clone()?)?)?;
     Ok(())
 }
 
@@ -97,7 +120,20 @@ fn change_kept(
     let Some(header) = headers.get_mut(&image) else {
         return Ok(());
     };
+    change_and_share(header, instance, op)?;
+    Ok(())
+}
+
+/// Changes a header. Where its list of snapshots changed, views of it share the new one at once if there is memory
+/// for it; else from a later look on. That it is shared is no part of what the header tells, so this refuses nothing.
+fn change_and_share(header: &mut Header, instance: Instance, op: &HeaderOp) -> Result<(), NoMemory>
+    requires may { MayDoOnHeader (Some header.old) op.now }
+    requires generation { header.old.generation + 1 < 2 ^ 64 }
+    ensures ok { OnOk result (header.new ≡ header_then instance header.old op.now) }
+    ensures err { OnErr result (header.new ≡ header.old) }
+{
     change_header(header, instance, op)?;
+    let _shared = header.share();
     Ok(())
 }
 
@@ -194,9 +230,9 @@ fn answer_there(header: &Header, instance: Instance, op: &HeaderOp) -> Result<An
         HeaderOp::SnapAdd { name } => Ok(snap_added(header, name)),
         HeaderOp::SnapRemove { snap } => Ok(done_where(lists(header, *snap))),
         HeaderOp::SnapStatus { snap, status: _ } => Ok(done_where(lists(header, *snap))),
-        HeaderOp::LockTake => Ok(lock_taken(instance, header.as_view().owner)),
-        HeaderOp::LockDrop => Ok(lock_left(instance, header.as_view().owner)),
-        HeaderOp::LockBreak { owner } => Ok(lock_left(*owner, header.as_view().owner)),
+        HeaderOp::LockTake => Ok(lock_taken(instance, header.owner())),
+        HeaderOp::LockDrop => Ok(lock_left(instance, header.owner())),
+        HeaderOp::LockBreak { owner } => Ok(lock_left(*owner, header.owner())),
         HeaderOp::SetSize { size: _ } => Ok(Answer::Done),
         HeaderOp::Detach => Ok(Answer::Done),
         HeaderOp::Role { role: _ } => Ok(Answer::Done),
@@ -223,20 +259,19 @@ fn answer_missing(op: &HeaderOp) -> Answer
 fn snap_added(header: &Header, name: &Name) -> Answer
     ensures { result ≡ snap_added (is_some (snap_named header.now.snaps name.now)) (is_full header.now) (header.now.snap_seq + 1) }
 {
-    let view = header.as_view();
-    if view.named(name).is_some() {
+    if header.named(name).is_some() {
         return Answer::Exists;
     }
     if header.is_full() {
         return Answer::Full;
     }
-    Answer::Snap(SnapId(view.snap_seq + 1))
+    Answer::Snap(SnapId(header.snap_seq() + 1))
 }
 
 fn lists(header: &Header, snap: SnapId) -> bool
     ensures { result ≡ is_some (snap_in header.now.snaps snap) }
 {
-    snapshot(header.as_view(), snap).is_some()
+    header.snapshot(snap).is_some()
 }
 
 fn done_where(there: bool) -> Answer

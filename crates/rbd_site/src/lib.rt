@@ -2,9 +2,9 @@
 //!
 //! ```text
 //! let mut site = Site::new(alloc, SiteId::A)?;
-//! site.apply(instance, &Op::Directory(DirectoryOp::Add { name }))?;           // Answer::Id of image 1
-//! site.apply(instance, &Op::Header { image, op: HeaderOp::Create { view } })?;    // Answer::Done
-//! site.apply(instance, &Op::Data { image, object: 0, op: write })?;           // Answer::Done
+//! site.apply(instance, Op::Directory(DirectoryOp::Add { name }))?;           // Answer::Id of image 1
+//! site.apply(instance, Op::Header { image, op: HeaderOp::Create { view } })?;    // Answer::Done
+//! site.apply(instance, Op::Data { image, object: 0, op: write })?;           // Answer::Done
 //! site.trim(image, 0)?;                                                       // true: it is there
 //! site.log()                                                                  // four lines, from 1 on
 //! ```
@@ -38,14 +38,16 @@
 //! # Cost
 //!
 //! An operation finds its object by its key, in a map, and costs what that object's own change costs: nothing
-//! grows with the log, the number of images or their sizes. The log keeps a copy of the operation and of its
-//! answer. A trim reads the list of snapshots of one header.
+//! grows with the log, the number of images or their sizes. The log keeps the operation itself, and a copy of its
+//! answer, in which bytes and the list of a header's snapshots are shared. Such a list is copied once after each
+//! of its changes, and by no look. A trim reads the list of snapshots of one header.
 //!
 //! # How it works
 //!
 //! Three maps, and one file for each kind of object, with what an operation is answered and what it changes.
 //! `apply` asks for the answer, takes the memory for the line, changes the object, and then logs it: only the
-//! change could still be refused, and changes all or nothing.
+//! change could still be refused, and changes all or nothing. Before a look at a header it has the header share its
+//! list, and behind a change of one too, where there is memory: that is no part of the records.
 #![tactic(auto)]
 
 mod data;

@@ -8,7 +8,7 @@ ghost use Rattle.rbd_site.specs.Step.{MayDo, answer_to, after};
 use crate::done::{Done, DoneOp};
 use crate::object_key::ObjectKey;
 use crate::store::Store;
-use rbd_kinds::{Answer, ImageId, Instance, NoMemory, Op, SiteId, TryClone};
+use rbd_kinds::{Answer, ImageId, Instance, NoMemory, Op, SiteId};
 use std::alloc::Global;
 use std::marker::Model;
 
@@ -71,24 +71,23 @@ impl Site {
 
     /// Does one operation on one object, and logs it with its answer. Refused memory, nothing is done and
     /// nothing is logged.
-    pub fn apply(&mut self, instance: Instance, op: &Op) -> Result<Answer, NoMemory>
-        requires { MayDo (records_of self.old) op.now }
-        ensures answer { IfOk result (λ answer. answer ≡ answer_to (records_of self.old) instance op.now) }
+    pub fn apply(&mut self, instance: Instance, op: Op) -> Result<Answer, NoMemory>
+        requires { MayDo (records_of self.old) op }
+        ensures answer { IfOk result (λ answer. answer ≡ answer_to (records_of self.old) instance op) }
         ensures ok { let number = length self.old.log + 1 in
-            IfOk result (λ answer. self.new ≡ record self.old { log = self.old.log ++ line_of number instance op.now answer ∷ [] }) }
-        ensures records { OnOk result (records_of self.new ≡ after (records_of self.old) instance op.now) }
+            IfOk result (λ answer. self.new ≡ record self.old { log = self.old.log ++ line_of number instance op answer ∷ [] }) }
+        ensures records { OnOk result (records_of self.new ≡ after (records_of self.old) instance op) }
         ensures form { AreInForm (records_of self.new) (length self.new.log) }
         ensures err { OnErr result (self.new ≡ self.old) }
     {
-        let answer = self.store.answer(instance, op)?;
+        self.log.reserve(1)?;
+        let (answer, kept) = self.store.perform(&instance, &op)?;
         let line = Done {
             number: self.next_number(),
             instance: Some(instance),
-            op: DoneOp::Op(op.try_clone()?),
-            answer: answer.try_clone()?,
+            op: DoneOp::Op(op),
+            answer: kept,
         };
-        self.log.reserve(1)?;
-        self.store.change(instance, op)?;
         self.log.push_reserved(line);
         Ok(answer)
     }

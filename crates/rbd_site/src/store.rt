@@ -10,7 +10,7 @@ ghost use Rattle.rbd_site.specs.Step.{MayDo, answer_to, after};
 use crate::object_key::ObjectKey;
 use crate::{data, directory, header};
 use rbd_header::Header;
-use rbd_kinds::{Answer, ImageId, Instance, NoMemory, Op, SnapId};
+use rbd_kinds::{Answer, ImageId, Instance, NoMemory, Op, SnapId, TryClone};
 use rbd_object::Object;
 use rbd_registry::Directory;
 use std::alloc::Global;
@@ -57,8 +57,35 @@ impl Store {
         }
     }
 
+    /// Does an operation, or nothing at all, and gives its answer twice: for who asked, and for the log.
+    pub fn perform(&mut self, me: &Instance, op: &Op) -> Result<(Answer, Answer), NoMemory>
+        requires may { MayDo (kept self.old) op.now }
+        requires generation { (image : ℕ) (h : HeaderView) → (kept self.old).headers image ≡ Some h → h.generation + 1 < 2 ^ 64 }
+        ensures answer { IfOk result (λ told. told.0 ≡ answer_to (kept self.old) me.now op.now) }
+        ensures copy { IfOk result (λ told. told.1 ≡ answer_to (kept self.old) me.now op.now) }
+        ensures ok { OnOk result (kept self.new ≡ after (kept self.old) me.now op.now) }
+        ensures err { OnErr result (kept self.new ≡ kept self.old) }
+    {
+        self.share(op)?;
+        let answer = self.answer(*me, op)?;
+        let copy = answer.try_clone()?;
+        self.change(*me, op)?;
+        Ok((answer, copy))
+    }
+
+    /// Before a look at a header: from now on, the answers to such looks share one list of its snapshots, until it
+    /// changes. Refused memory, they don't yet.
+    fn share(&mut self, op: &Op) -> Result<(), NoMemory>
+        ensures { kept self.new ≡ kept self.old }
+    {
+        match op {
+            Op::Header { image, op } => header::share(&mut self.headers, *image, op),
+            _ => Ok(()),
+        }
+    }
+
     /// Does an operation, or nothing at all.
-    pub fn change(&mut self, instance: Instance, op: &Op) -> Result<(), NoMemory>
+    fn change(&mut self, instance: Instance, op: &Op) -> Result<(), NoMemory>
         requires may { MayDo (kept self.old) op.now }
         requires generation { (image : ℕ) (h : HeaderView) → (kept self.old).headers image ≡ Some h → h.generation + 1 < 2 ^ 64 }
         ensures ok { OnOk result (kept self.new ≡ after (kept self.old) instance op.now) }

@@ -68,7 +68,7 @@ fn front(alloc: Global, len: u64) -> Result<Parts, NoMemory>
 fn create(site: &mut Site, alloc: Global) -> Result<Answer, NoMemory> {
     site.apply(
         C1,
-        &Op::Header {
+        Op::Header {
             image: IMAGE,
             op: HeaderOp::Create { view: disk(alloc) },
         },
@@ -78,7 +78,7 @@ fn create(site: &mut Site, alloc: Global) -> Result<Answer, NoMemory> {
 fn take_snap(site: &mut Site, name: Name) -> Result<Answer, NoMemory> {
     site.apply(
         C1,
-        &Op::Header {
+        Op::Header {
             image: IMAGE,
             op: HeaderOp::SnapAdd { name },
         },
@@ -102,7 +102,7 @@ fn on_object(site: &mut Site, object: u64, op: DataOp) -> Result<Answer, NoMemor
 {
     site.apply(
         C1,
-        &Op::Data {
+        Op::Data {
             image: IMAGE,
             object,
             op,
@@ -175,7 +175,7 @@ fn has_line(site: &Site, number: u64, kind: &str, answer: &str) -> bool {
 fn with_image(rt: &impl Abort, alloc: Global) -> Result<Site, NoMemory> {
     let mut site = Site::new(alloc, SiteId::A)?;
     let name = name(rt, alloc, b"d")?;
-    let added = site.apply(C1, &Op::Directory(DirectoryOp::Add { name }))?;
+    let added = site.apply(C1, Op::Directory(DirectoryOp::Add { name }))?;
     assert!(rt; matches!(added, Answer::Id(IMAGE)));
     let made = create(&mut site, alloc)?;
     assert!(rt; is_done(&made));

@@ -19,7 +19,7 @@ pub fn operate(site: &mut Site, me: &Instance, op: Op) -> Result<Answer, NoMemor
     ensures records { OnOk result (records_of site.new ≡ after (records_of site.old) me.now op) }
     ensures form { AreInForm (records_of site.new) (length site.new.log) }
 {
-    site.apply(*me, &op)
+    site.apply(*me, op)
 }
 
 /// Does one operation that only looks.

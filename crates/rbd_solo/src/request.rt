@@ -25,7 +25,7 @@ pub fn answer(
     match command {
         Command::Create { image, size, shape } => create(alloc, site, me, image, *size, shape),
         Command::Write { image, at, bytes } => {
-            write(alloc, site, me, image, at.get(), bytes.as_slice())
+            write(alloc, site, me, image, at.get(), bytes.as_bytes())
         }
         Command::Read {
             image,

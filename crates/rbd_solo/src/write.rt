@@ -11,7 +11,7 @@ use crate::operate::operate;
 use rbd_header::context_of;
 use rbd_kinds::{Bytes, DataOp, Extent, Instance, Name, NoMemory, Op, Refusal, Reply, TryClone};
 use rbd_layout::{Piece, pieces};
-use rbd_object::{gather, shifted_parts};
+use rbd_object::bytes_for;
 use rbd_site::Site;
 use std::alloc::Global;
 
@@ -22,7 +22,7 @@ pub fn write(
     me: &Instance,
     name: &Name,
     at: u64,
-    bytes: &[u8],
+    bytes: &Bytes,
 ) -> Result<Reply, NoMemory>
     ensures { IfOk result (IsAnswered site.old site.new (Write name.now at bytes.now)) }
 {
@@ -47,7 +47,7 @@ fn write_pieces(
     me: &Instance,
     opened: &Opened,
     extent: &Extent,
-    bytes: &[u8],
+    bytes: &Bytes,
 ) -> Result<(), NoMemory>
     requires form { IsHeaderInForm opened.now.header }
     requires there { (records_of site.old).headers opened.now.image ≡ Some opened.now.header }
@@ -69,7 +69,7 @@ fn write_piece(
     me: &Instance,
     opened: &Opened,
     extent: &Extent,
-    bytes: &[u8],
+    bytes: &Bytes,
     piece: &Piece,
 ) -> Result<(), NoMemory>
     requires form { IsHeaderInForm opened.now.header }
@@ -79,12 +79,11 @@ fn write_piece(
     requires parts { IsPartsOf opened.now.header.layout extent.now piece.now.object piece.now.parts }
     ensures { OnOk result (Writes site.old site.new opened.now extent.now.at bytes.now (piece.now ∷ [])) }
 {
-    let parts = shifted_parts(alloc, extent.at, piece.parts.as_slice())?;
     let op = DataOp::Write {
         context: context_of(alloc, &opened.header)?,
         must: false,
         parts: piece.parts.try_clone()?,
-        bytes: Bytes::from_vec(gather(alloc, bytes, parts.as_slice())?),
+        bytes: bytes_for(alloc, bytes, extent.at, piece.parts.as_slice())?,
     };
     let (image, object) = (opened.image, piece.object);
     let _done = operate(site, me, Op::Data { image, object, op })?;

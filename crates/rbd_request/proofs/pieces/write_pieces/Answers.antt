@@ -33,7 +33,7 @@ loop-piece-preserved c =
     record {
       made = λ next.
           subst (λ made. rest_of_pieces made (write_pieces c.args.site c.args.image h c.args.at c.args.bytes.now c.next.new.self.rest.items next) ≡ write_pieces c.args.site c.args.image h c.args.at c.args.bytes.now (pieces_of h.layout (extent_at c.args.at c.args.bytes.now)) next) (sym c.in_ok-push_back.ensures.items)
-          (next_made c.args.site c.args.image h c.args.at c.args.bytes.now c.loop-piece.made.items c.in_ok-write_piece.field-0 c.in-Some.piece c.next.new.self.rest.items next c.in_ok-write_piece.ensures.plan c.in_ok-write_piece.ensures.object
+          (next_made c.args.site c.args.image h c.args.at c.args.bytes.now c.loop-piece.made.items c.in_ok-write_piece.field-0 c.in-Some.piece c.next.new.self.rest.items next (λ rest. c.in_ok-write_piece.ensures.plan h rest c.in_ok-context.ensures) c.in_ok-write_piece.ensures.object
           ∙ ap (λ pieces. rest_of_pieces c.loop-piece.made.items (write_pieces c.args.site c.args.image h c.args.at c.args.bytes.now pieces next)) (sym c.in-Some.ensures.steps.0)
           ∙ c.loop-piece.invariant.made next);
       behind = behind_rest c.args.at c.in-Some.piece c.next.new.self.rest.items (subst (All (λ (p : Piece). AreBehind c.args.at p.parts)) c.in-Some.ensures.steps.0 c.loop-piece.invariant.behind);

@@ -3,7 +3,7 @@ use Rattle.rbd_site.specs.declared.done.DoneOp.TheVariants as done
 use Rattle.rbd_site.specs.InForm.{AreInForm}
 use Rattle.rbd_site.specs.Log.{SiteLog, records_of}
 use Rattle.rbd_site.specs.Maps.{kept}
-use Rattle.rbd_site.specs.Step.{MayDo, answer_to, after}
+use Rattle.rbd_site.specs.Step.{MayDo, after}
 use Rattle.rbd_site.proofs.FormLemmas.{form_after}
 use Rattle.rbd_site.proofs.LogLemmas.{sound_more}
 use Rattle.rbd_site.proofs.site.Site.apply.Goals as goal
@@ -13,21 +13,21 @@ invariant_of-self-2 c =
     let r = kept c.self.inside.store in
     let me = c.args.instance in
     let stands : r ≡ records_of c.args.self.now = c.self.invariant.kept ∙ ap records_of c.self.view_is in
-    let may : MayDo r c.args.op.now = subst (λ x. MayDo x c.args.op.now) (sym stands) c.requires in
+    let may : MayDo r c.args.op = subst (λ x. MayDo x c.args.op) (sym stands) c.requires in
     rw (c.push_reserved.ensures.items, c.in_ok-reserve.ensures.items)
-    (sound_more r (kept c.change.new.self) c.self.inside.log.items
-    (record { number = c.next_number.result; instance = Some me; op = done.Op c.in_ok-try_clone.field-0; answer = c.in_ok-try_clone-2.field-0 })
+    (sound_more r (kept c.perform.new.self) c.self.inside.log.items
+    (record { number = c.next_number.result; instance = Some me; op = done.Op c.args.op; answer = c.in_ok-perform.field-0.1 })
     c.self.invariant
-    (c.in_ok-change.ensures.ok ∙ ap (after r me) (sym c.in_ok-try_clone.ensures))
-    (c.in_ok-try_clone-2.ensures ∙ c.in_ok-answer.ensures ∙ ap (answer_to r me) (sym c.in_ok-try_clone.ensures))
+    c.in_ok-perform.ensures.ok
+    c.in_ok-perform.ensures.copy
     (c.next_number.ensures ∙ ap (λ (s : SiteLog). length s.log + 1) (sym c.self.view_is))
-    (subst (λ x. AreInForm x (length c.self.inside.log.items + 1)) (sym c.in_ok-change.ensures.ok)
-    (form_after r me c.args.op.now (length c.self.inside.log.items) c.self.invariant.form may)))
+    (subst (λ x. AreInForm x (length c.self.inside.log.items + 1)) (sym c.in_ok-perform.ensures.ok)
+    (form_after r me c.args.op (length c.self.inside.log.items) c.self.invariant.form may)))
 
 pub returns-clause-records : goal.returns-clause-records
 returns-clause-records c =
-    sym (invariant_of-self-2 c).kept ∙ c.in_ok-change.ensures.ok
-    ∙ ap (λ r. after r c.args.instance c.args.op.now) (c.self.invariant.kept ∙ ap records_of c.self.view_is)
+    sym (invariant_of-self-2 c).kept ∙ c.in_ok-perform.ensures.ok
+    ∙ ap (λ r. after r c.args.instance c.args.op) (c.self.invariant.kept ∙ ap records_of c.self.view_is)
 
 pub returns-clause-form : goal.returns-clause-form
 returns-clause-form c =
