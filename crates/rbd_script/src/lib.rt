@@ -62,8 +62,6 @@ mod schedule;
 mod script;
 mod session;
 mod snap;
-#[cfg(test)]
-mod tests;
 mod tokens;
 mod verb;
 mod word;
