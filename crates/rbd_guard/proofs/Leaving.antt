@@ -3,10 +3,10 @@ use Rattle.std.proofs.Common.{◌≡◌, ℕ, suc, ◌+◌, ◌<◌, ◌≤◌, 
 use Rattle.std.specs.Prelude.{◌⊎◌}
 use Rattle.std.specs.List.{slice_get}
 use Rattle.std.specs.Option.{is_some, IfSome}
-use Rattle.std.proofs.lemmas.Bool.{eq-eqb, ne_eqb, eqb-true, eqb-false, cond-false, cases_Bool}
+use Rattle.std.proofs.lemmas.Bool.{cond-true, eq-eqb, ne_eqb, eqb-true, eqb-false, cond-false, cases_Bool}
 use Rattle.rbd_guard.specs.Order.{Tables, line, key_of, is_in, without, AreApart, IsInOrder}
 use Rattle.rbd_guard.specs.Tickets.{Tickets, queue, list, object_of, request_of, without_all, is_ahead, IsSound}
-use Rattle.rbd_guard.proofs.Apart.{head_in, in_right, absent, others}
+use Rattle.rbd_guard.proofs.Apart.{tail_in, head_in, in_right, absent, others}
 use Rattle.rbd_guard.proofs.Linking.{some_is, none_isnt}
 
 -- ---- the first of a line
@@ -255,3 +255,42 @@ have_left request old now so none =
     by : (r : ℕ) (b : Bool) → eqb request r ≡ b → list r now ≡ cond b [] (list r now)
     by r true e = ap (λ k. list k now) (sym (eqb-true request r e)) ∙ none
     by r false e = refl
+
+-- ---- turns
+
+ahead_other : (one other : ℕ) (tickets : List ℕ) → is_ahead one other tickets ≡ true → is_in other tickets ≡ true
+ahead_other one other [] h = absurd (true≢false (sym h))
+ahead_other one other (x ∷ tickets) h = by (eqb x one) h (λ rest. ahead_other one other tickets rest)
+  where
+    by : (b : Bool) → cond b (is_in other tickets) (is_ahead one other tickets) ≡ true → (is_ahead one other tickets ≡ true → is_in other tickets ≡ true) → is_in other (x ∷ tickets) ≡ true
+    by true here rest = tail_in x other tickets here
+    by false there rest = tail_in x other tickets (rest there)
+
+pub first_ahead : (tickets : List ℕ) (first other : ℕ) → slice_get tickets 0 ≡ Some first → is_in other tickets ≡ true → (other ≡ first → ⊥) → is_ahead first other tickets ≡ true
+first_ahead [] first other is here differs = absurd (none_isnt first is)
+first_ahead (x ∷ tickets) first other is here differs =
+    cond-true (eqb x first) _ _ (eq-eqb x first same)
+    ∙ (sym (ap (λ b. b || is_in other tickets) (ne_eqb x other (λ e. differs (sym e ∙ same)))) ∙ here)
+  where
+    same : x ≡ first
+    same = some_is x first is
+
+pub one_way : (tickets : List ℕ) (one other : ℕ) → AreApart tickets → is_ahead one other tickets ≡ true → is_ahead other one tickets ≡ false
+one_way [] one other apart h = refl
+one_way (x ∷ tickets) one other apart h = by (cases_Bool (eqb x one)) (λ there. one_way tickets one other apart.1 there)
+  where
+    -- who is in behind the first isn't the first
+    behind : (t : ℕ) → is_in t tickets ≡ true → eqb x t ≡ false
+    behind t here = ne_eqb x t (λ same. true≢false (sym here ∙ (ap (λ k. is_in k tickets) (sym same) ∙ apart.0)))
+
+    none_behind : (b : Bool) → is_ahead other x tickets ≡ b → is_ahead other x tickets ≡ false
+    none_behind true e = absurd (true≢false (sym (ahead_other other x tickets e) ∙ apart.0))
+    none_behind false e = e
+
+    by : (eqb x one ≡ true) ⊎ (eqb x one ≡ false) → (is_ahead one other tickets ≡ true → is_ahead other one tickets ≡ false) → is_ahead other one (x ∷ tickets) ≡ false
+    by (inl e) rest =
+        cond-false (eqb x other) _ _ (behind other (sym (cond-true (eqb x one) _ _ e) ∙ h))
+        ∙ (ap (λ t. is_ahead other t tickets) (sym (eqb-true x one e)) ∙ none_behind (is_ahead other x tickets) refl)
+    by (inr e) rest =
+        let there : is_ahead one other tickets ≡ true = sym (cond-false (eqb x one) _ _ e) ∙ h in
+        cond-false (eqb x other) _ _ (behind other (ahead_other one other tickets there)) ∙ rest there

@@ -4,6 +4,15 @@ ghost use Rattle.std.specs.Prelude.{◌≡◌, ◌≢◌, ℕ, ◌+◌, ◌<◌,
 ghost use Rattle.rbd_guard.specs.Order.{is_in, without, AreApart};
 ghost use Rattle.rbd_guard.specs.Tickets.{Tickets, queue, list, object_of, request_of, without_all, is_ahead, IsSound};
 
+/// The first of a queue stands ahead of each other, and of two tickets one alone stands ahead.
+pub fn turns()
+    ensures first { (tickets : List ℕ) (first other : ℕ)
+        → slice_get tickets 0 ≡ Some first → IsTrue (is_in other tickets) → other ≢ first → IsTrue (is_ahead first other tickets) }
+
+    ensures one_way { (tickets : List ℕ) (one other : ℕ)
+        → AreApart tickets → IsTrue (is_ahead one other tickets) → IsFalse (is_ahead other one tickets) }
+{}
+
 /// A ticket that enters comes behind the others: who was first stays first.
 pub fn entering()
     ensures alone { (ticket : ℕ) → slice_get ([] ++ ticket ∷ []) 0 ≡ Some ticket }

@@ -33,19 +33,19 @@
 //!
 //! # Cost
 //!
-//! `enter`, `first`, `next_of` and `leave` look up a few entries of hash tables, and so cost the same on
-//! average however many tickets are in. `leave_all` costs as much as its tickets do one by one. Only
-//! `reserve` and `enter` take memory, and `enter` none where room is reserved. Growing the tables moves
-//! what is in.
+//! `enter`, `first`, `next_of` and `leave` look up a few entries of hash tables (whose seed is fixed), and so
+//! cost the same on average however many tickets are in. `leave_all` costs as much as its tickets do one by
+//! one. Only `reserve` and `enter` take memory, and `enter` none where room is reserved. Growing the tables
+//! moves what is in. `scripts/guard-cost` measures each call.
 //!
 //! # How it works
 //!
 //! A ticket is linked with the one before it and the one after it in the queue of its object, and the same
 //! in the list of its request. The links of queues are a hash table by ticket, and so are those of lists
-//! (`lines`); a second table has the first and the last of each that isn't empty. The tables hold no more
-//! than the tickets that are in: one that leaves gives its places back. Both directions of a link agree,
-//! and so the queue read from its first is all of it: this is what the type keeps. Where numbers are used
-//! up, `reserve` and `enter` answer as for want of memory.
+//! (`lines`); a second table has the first and the last of each that isn't empty. A ticket's links go with
+//! it, and their room is used again. The type keeps that both directions of each link agree, that a queue
+//! read from its first is all of it, and that each link stands in one. Where numbers are used up, `reserve`
+//! and `enter` answer as for want of memory.
 #![tactic(auto)]
 
 mod guard;
