@@ -46,8 +46,6 @@ mod sink;
 mod source;
 mod stream;
 mod sure;
-#[cfg(test)]
-mod tests;
 mod write;
 
 pub use failed::Failed;

@@ -24,7 +24,5 @@
 
 mod blocklist;
 pub mod laws;
-#[cfg(test)]
-mod tests;
 
 pub use blocklist::Blocklist;

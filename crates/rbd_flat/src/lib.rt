@@ -42,8 +42,6 @@ mod image;
 pub mod laws;
 mod paint;
 mod site;
-#[cfg(test)]
-mod tests;
 
 pub use effect::Effect;
 pub use entry::{Cause, Entry};

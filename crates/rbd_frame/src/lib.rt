@@ -58,8 +58,6 @@ mod fault;
 mod kind;
 pub mod laws;
 mod layout;
-#[cfg(test)]
-mod tests;
 
 pub use decoding::decode;
 pub use encoding::encode;

@@ -53,8 +53,6 @@ pub mod laws;
 mod lines;
 mod link;
 mod tables;
-#[cfg(test)]
-mod tests;
 mod ticket;
 
 pub use guard::Guard;

@@ -34,8 +34,6 @@ mod fresh;
 mod header;
 mod lookup;
 mod snaps;
-#[cfg(test)]
-mod tests;
 mod view;
 
 pub use context::{context_of, ids_of};

@@ -45,7 +45,5 @@ mod entry;
 mod journal;
 pub mod laws;
 mod span;
-#[cfg(test)]
-mod tests;
 
 pub use journal::Journal;

@@ -50,8 +50,6 @@ mod operation_kind;
 mod refusal;
 mod reply;
 mod sequence;
-#[cfg(test)]
-mod tests;
 
 pub use answer::Answer;
 pub use asked_name::AskedName;

@@ -44,8 +44,6 @@ mod extent;
 mod laws;
 mod shape;
 mod striping;
-#[cfg(test)]
-mod tests;
 mod types;
 
 pub use asked::{clone_layout_of, keeps_limits, layout_of};

@@ -45,7 +45,5 @@ mod byte;
 mod count;
 pub mod laws;
 mod map;
-#[cfg(test)]
-mod tests;
 
 pub use map::ObjectMap;

@@ -26,8 +26,6 @@ mod children;
 mod directory;
 mod entry;
 mod fault;
-#[cfg(test)]
-mod tests;
 
 pub use children::Children;
 pub use directory::Directory;

@@ -58,8 +58,6 @@ pub mod laws;
 mod object_key;
 mod site;
 mod store;
-#[cfg(test)]
-mod tests;
 
 pub use done::{Done, DoneOp};
 pub use site::Site;

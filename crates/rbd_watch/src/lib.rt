@@ -42,8 +42,6 @@
 
 pub mod laws;
 mod mail;
-#[cfg(test)]
-mod tests;
 mod watchers;
 
 pub use mail::Mail;

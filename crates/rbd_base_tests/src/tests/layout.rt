@@ -1,6 +1,6 @@
 //! Places and pieces of five layouts, as a script found them from the formulas of striping.
-use super::*;
 use rbd_kinds::{Extent, Layout, NoMemory, Number, Shape};
+use rbd_layout::*;
 use std::alloc::AllocError;
 use std::process::Abort;
 

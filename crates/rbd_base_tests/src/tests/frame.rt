@@ -1,7 +1,7 @@
 //! What is decoded from some bytes. The wanted answers were worked out from the table of kinds in prose.
-use crate::FrameFault::*;
-use crate::{FrameFault, decode, encode};
 use Wanted::*;
+use rbd_frame::FrameFault::*;
+use rbd_frame::{FrameFault, decode, encode};
 use rbd_kinds::{Bytes, Event, Name};
 use std::test::Fail;
 

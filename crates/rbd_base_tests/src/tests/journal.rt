@@ -1,5 +1,5 @@
 //! What a journal tells after some steps. The wanted answers were worked out from the rules in prose.
-use crate::Journal;
+use rbd_journal::Journal;
 use rbd_kinds::{ImageId, JournalClient, Position, SiteId, Span, Spans, Tag};
 use std::test::Fail;
 

@@ -1,6 +1,6 @@
 //! Names and children, with answers worked out by hand.
-use crate::{AddFault, Children, Directory, RenameFault};
 use rbd_kinds::{Bytes, ImageId, Name, NoMemory, SnapId};
+use rbd_registry::{AddFault, Children, Directory, RenameFault};
 use std::alloc::Global;
 use std::process::Abort;
 use std::test::Fail;

@@ -1,5 +1,5 @@
 //! Each call once, with answers worked out by hand.
-use crate::{Header, Held, SnapAddFault, context_of, snapshot, view_of};
+use rbd_header::{Header, Held, SnapAddFault, context_of, snapshot, view_of};
 use rbd_kinds::{
     Bytes, GlobalName, HeaderView, ImageId, Instance, Layout, Name, NoMemory, ParentLink, Role,
     SessionNo, SiteId, SnapId, SnapStatus, Snaps,

@@ -1,6 +1,6 @@
 //! Watchers in order, and their mail, worked out by hand.
-use crate::{Mail, Watchers};
 use rbd_kinds::{ImageId, Instance, NoticeKind, SessionNo, SiteId};
+use rbd_watch::{Mail, Watchers};
 use std::test::Fail;
 
 const fn instance(session: u8, life: u32) -> Instance {

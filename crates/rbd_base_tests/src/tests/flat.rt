@@ -1,5 +1,5 @@
 //! Each effect once, with the bytes worked out by hand, and the answers of a read.
-use crate::{Effect, Extents, FlatFault, FlatSite};
+use rbd_flat::{Effect, Extents, FlatFault, FlatSite};
 use rbd_kinds::{Bytes, Extent, ImageId, Name, NoMemory, Role, SnapId, SnapStatus};
 use std::alloc::Global;
 use std::process::Abort;

@@ -1,6 +1,6 @@
 //! Maps whose bytes and counts were worked out by hand from the rule of two bits an object.
-use crate::ObjectMap;
 use rbd_kinds::Bytes;
+use rbd_map::ObjectMap;
 use std::test::Fail;
 
 /// Five objects with states 0, 1, 0, 0, 2.

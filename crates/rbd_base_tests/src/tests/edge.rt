@@ -1,4 +1,4 @@
-use crate::*;
+use rbd_edge::*;
 use std::io;
 use std::io::{ErrorKind, Read, Write};
 use std::test::Fail;

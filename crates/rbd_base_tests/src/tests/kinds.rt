@@ -1,4 +1,4 @@
-use crate::*;
+use rbd_kinds::*;
 use std::alloc::Global;
 use std::cmp::Ordering;
 use std::process::Abort;

@@ -5,11 +5,11 @@ ghost use Rattle.rbd_kinds.specs.Parts.{parts_len};
 ghost use Rattle.rbd_object.specs.Parts.{AreWithin};
 ghost use Rattle.rbd_site.specs.DataStep.{MayDoOnData};
 
-use crate::{Done, DoneOp, Site};
 use rbd_kinds::{
     Answer, Bytes, DataOp, DirectoryOp, HeaderOp, HeaderView, ImageId, Instance, Layout, Name,
     NoMemory, Op, Part, Parts, Role, SessionNo, SiteId, SnapContext, SnapId, SnapIds, Snaps,
 };
+use rbd_site::{Done, DoneOp, Site};
 use std::alloc::Global;
 use std::process::Abort;
 use std::test::Fail;

@@ -1,5 +1,5 @@
 //! Which instances are refused after some were listed, worked out by hand.
-use crate::Blocklist;
+use rbd_fence::Blocklist;
 use rbd_kinds::{Instance, SessionNo};
 use std::test::Fail;
 

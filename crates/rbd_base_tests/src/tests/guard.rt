@@ -1,5 +1,5 @@
 //! Turns at objects, worked out by hand.
-use crate::{Guard, Ticket};
+use rbd_guard::{Guard, Ticket};
 use std::test::Fail;
 
 /// Two requests enter object 7, and the first also object 8.

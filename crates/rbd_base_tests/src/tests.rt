@@ -1,0 +1,13 @@
+mod edge;
+mod fence;
+mod flat;
+mod frame;
+mod guard;
+mod header;
+mod journal;
+mod kinds;
+mod layout;
+mod map;
+mod registry;
+mod site;
+mod watch;
