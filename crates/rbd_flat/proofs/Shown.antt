@@ -6,7 +6,7 @@ use Rattle.rbd_flat.specs.declared.fault.FlatFault.{FlatFault}
 use Rattle.rbd_flat.specs.declared.fault.FlatFault.TheVariants.{NoImage, NoSnap, BadRange, NoMemory}
 use Rattle.rbd_flat.specs.Flat.{FlatImage, FlatSnap, snap_in, snap_of}
 use Rattle.rbd_kinds.specs.Extents.{fits}
-use Rattle.rbd_flat.specs.Read.{read_image, read_view, view_at, view_of}
+use Rattle.rbd_flat.specs.Read.{read_image, read_view, view_at, image_view}
 use Rattle.std.proofs.lemmas.Option.{same_Some, none-some}
 use Rattle.std.proofs.lemmas.Bool.{false≢true}
 use Rattle.std.specs.Option.{option_map}
@@ -41,14 +41,14 @@ no_bytes None e = refl
 no_bytes (Some s) e = absurd (none-some s.bytes (sym e))
 
 -- what isn't seen isn't listed, and what isn't listed isn't seen
-unlisted : (i : FlatImage) (snap : Option ℕ) → view_of i snap ≡ None → (t : ℕ) × (snap ≡ Some t) × (snap_of (Some i) t ≡ None)
+unlisted : (i : FlatImage) (snap : Option ℕ) → image_view i snap ≡ None → (t : ℕ) × (snap ≡ Some t) × (snap_of (Some i) t ≡ None)
 unlisted i None e = absurd (none-some i.bytes (sym e))
 unlisted i (Some t) e = (t, refl, no_bytes (snap_in i.snaps t) e)
 
-nothing_seen : (i : FlatImage) (t : ℕ) → snap_of (Some i) t ≡ None → view_of i (Some t) ≡ None
+nothing_seen : (i : FlatImage) (t : ℕ) → snap_of (Some i) t ≡ None → image_view i (Some t) ≡ None
 nothing_seen i t e = ap (option_map {T = FlatSnap} (λ s. s.bytes)) e
 
-pub without_snap : (i : FlatImage) (snap : Option ℕ) (e : Extent) → view_of i snap ≡ None → Answers (Some i) snap e (Err NoSnap)
+pub without_snap : (i : FlatImage) (snap : Option ℕ) (e : Extent) → image_view i snap ≡ None → Answers (Some i) snap e (Err NoSnap)
 without_snap i snap e none = record {
   bytes = tt;
   no_image = (λ h. absurd (cc), λ h. absurd (cc));
@@ -57,11 +57,11 @@ without_snap i snap e none = record {
   no_memory = λ h. absurd (cc);
 }
 
-pub with_view : (i : FlatImage) (bs : List ℕ) (snap : Option ℕ) (e : Extent) (r : Result (List ℕ) FlatFault) → view_of i snap ≡ Some bs → ViewAnswers bs e r → Answers (Some i) snap e r
+pub with_view : (i : FlatImage) (bs : List ℕ) (snap : Option ℕ) (e : Extent) (r : Result (List ℕ) FlatFault) → image_view i snap ≡ Some bs → ViewAnswers bs e r → Answers (Some i) snap e r
 with_view i bs snap e r is v = record {
   bytes = subst (λ (o : Option (List ℕ)). IfOk r (λ read. read_view o e ≡ Ok read)) (sym is) v.bytes;
   no_image = (λ h. absurd (v.no_image h), λ h. absurd (cc));
-  no_snap = (λ h. absurd (v.no_snap h), λ h. absurd (none-some bs (sym (nothing_seen i h.1.0 h.1.2) ∙ sym (ap (view_of i) h.1.1) ∙ is)));
+  no_snap = (λ h. absurd (v.no_snap h), λ h. absurd (none-some bs (sym (nothing_seen i h.1.0 h.1.2) ∙ sym (ap (image_view i) h.1.1) ∙ is)));
   bad_range = (λ h. (bs, is, v.bad_range.0 h), λ h. v.bad_range.1 (ap (λ (cs : List ℕ). fits e (length cs)) (same_Some bs h.0 (sym is ∙ h.1)) ∙ h.2));
   no_memory = λ h. subst (λ (o : Option (List ℕ)). IsOk (read_view o e)) (sym is) (v.no_memory h);
 }

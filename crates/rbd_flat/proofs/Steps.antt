@@ -14,7 +14,7 @@ use Rattle.rbd_kinds.specs.declared.layout.Extent.{Extent}
 use Rattle.rbd_flat.specs.declared.effect.Effect.{Effect}
 use Rattle.rbd_flat.specs.declared.effect.Effect.TheVariants as effect
 use Rattle.rbd_flat.specs.Flat.{Flat, FlatImage, FlatSnap, image_at, snap_of, snap_in, painted, places_of, resized, with_status, after, after_all, id_of, renamed, changed, with_image, cloned}
-use Rattle.rbd_flat.specs.Laws.{covered, painted_at, size_in, size_at, byte_in, byte_at, role_at, snap_at, snap_byte, snap_size, byte_after, size_after, role_after, snap_after, taken_of, image_of, is_on_names, is_on_links}
+use Rattle.rbd_flat.specs.Laws.{covered, painted_at, size_in, size_at, byte_in, flat_byte, role_at, snap_at, snap_byte, snap_size, byte_after, size_after, role_after, snap_after, taken_of, image_of, is_on_names, is_on_links}
 use Rattle.rbd_flat.proofs.Painted.{length_painted, painted_extents, painted_at_zeros}
 use Rattle.rbd_flat.proofs.Images.{clone_of, image_after, image_law}
 
@@ -109,7 +109,7 @@ byte_of_image (effect.Role image role) f i x = kept_byte _ (λ j. refl) (eqb i i
 byte_of_image (effect.Gone image) f i x = gone_byte (eqb i image) (image_at f i) x
 
 -- which byte stands at a place
-pub byte_law : (f : Flat) (e : Effect) (i x : ℕ) → byte_at (after f e) i x ≡ byte_after e f i x
+pub byte_law : (f : Flat) (e : Effect) (i x : ℕ) → flat_byte (after f e) i x ≡ byte_after e f i x
 byte_law f e i x = ap (λ o. byte_in o x) (image_law f e i) ∙ byte_of_image e f i x
 
 created_size : (b : Bool) (size : ℕ) (role : Role) (o : Option FlatImage)

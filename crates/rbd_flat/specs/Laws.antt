@@ -41,8 +41,8 @@ abbrev pub byte_in : Option FlatImage → ℕ → ℕ
 byte_in None x = 0
 byte_in (Some i) x = slice_index i.bytes x
 
-abbrev pub byte_at : Flat → (image x : ℕ) → ℕ
-byte_at f i x = byte_in (image_at f i) x
+abbrev pub flat_byte : Flat → (image x : ℕ) → ℕ
+flat_byte f i x = byte_in (image_at f i) x
 
 -- the role of an image
 abbrev pub role_at : Flat → ℕ → Option Role
@@ -63,13 +63,13 @@ snap_size (Some s) old = length s.bytes
 
 -- the byte at place x of image i after the effect
 abbrev pub byte_after : Effect → Flat → (i x : ℕ) → ℕ
-byte_after (effect.Create image size role) f i x = if i == image then 0 else byte_at f i x
-byte_after (effect.Clone image parent snap) f i x = if i == image then snap_byte (snap_at f parent snap) (byte_at f i x) x else byte_at f i x
-byte_after (effect.Piece image at bytes) f i x = if (i == image) && nat_lt x (size_at f i) then painted_at at bytes (byte_at f i x) x else byte_at f i x
-byte_after (effect.Zero image at) f i x = if (i == image) && covered at x then 0 else byte_at f i x
-byte_after (effect.Size image size) f i x = if (i == image) && nat_le size x then 0 else byte_at f i x
-byte_after (effect.Gone image) f i x = if i == image then 0 else byte_at f i x
-byte_after _ f i x = byte_at f i x
+byte_after (effect.Create image size role) f i x = if i == image then 0 else flat_byte f i x
+byte_after (effect.Clone image parent snap) f i x = if i == image then snap_byte (snap_at f parent snap) (flat_byte f i x) x else flat_byte f i x
+byte_after (effect.Piece image at bytes) f i x = if (i == image) && nat_lt x (size_at f i) then painted_at at bytes (flat_byte f i x) x else flat_byte f i x
+byte_after (effect.Zero image at) f i x = if (i == image) && covered at x then 0 else flat_byte f i x
+byte_after (effect.Size image size) f i x = if (i == image) && nat_le size x then 0 else flat_byte f i x
+byte_after (effect.Gone image) f i x = if i == image then 0 else flat_byte f i x
+byte_after _ f i x = flat_byte f i x
 
 -- the size of image i after the effect
 abbrev pub size_after : Effect → Flat → (i : ℕ) → ℕ

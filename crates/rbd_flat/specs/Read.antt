@@ -12,13 +12,13 @@ abbrev pub bytes_in : List ℕ → Extent → List ℕ
 bytes_in bytes e = take e.len (drop e.at bytes)
 
 -- the bytes that an image shows: its own, or those of a snapshot that it lists
-abbrev pub view_of : FlatImage → Option ℕ → Option (List ℕ)
-view_of i None = Some i.bytes
-view_of i (Some t) = option_map (λ s. s.bytes) (snap_in i.snaps t)
+abbrev pub image_view : FlatImage → Option ℕ → Option (List ℕ)
+image_view i None = Some i.bytes
+image_view i (Some t) = option_map (λ s. s.bytes) (snap_in i.snaps t)
 
 abbrev pub view_at : Option FlatImage → Option ℕ → Option (List ℕ)
 view_at None snap = None
-view_at (Some i) snap = view_of i snap
+view_at (Some i) snap = image_view i snap
 
 -- the read of a view, and of an image
 abbrev pub read_view : Option (List ℕ) → Extent → Result (List ℕ) FlatFault
@@ -27,7 +27,7 @@ read_view (Some bytes) e = if fits e (length bytes) then Ok (bytes_in bytes e) e
 
 abbrev pub read_image : Option FlatImage → Option ℕ → Extent → Result (List ℕ) FlatFault
 read_image None snap e = Err NoImage
-read_image (Some i) snap e = read_view (view_of i snap) e
+read_image (Some i) snap e = read_view (image_view i snap) e
 
 -- what a read shows: no image comes first, then no snapshot, then an extent that doesn't fit
 abbrev pub read_of : Flat → (image : ℕ) → (snap : Option ℕ) → Extent → Result (List ℕ) FlatFault

@@ -5,7 +5,7 @@ ghost use Rattle.std.specs.Option.{option_map};
 ghost use Rattle.rbd_kinds.specs.declared.header.Role.TheVariants.{Plain};
 ghost use Rattle.rbd_kinds.specs.declared.header.SnapStatus.TheVariants.{Unprotected};
 ghost use Rattle.rbd_flat.specs.Flat.{FlatSnap, FlatImage, painted, places_of, resized, snap_in, with_status};
-ghost use Rattle.rbd_flat.specs.Read.{view_of};
+ghost use Rattle.rbd_flat.specs.Read.{image_view};
 
 use crate::paint::paint;
 use rbd_kinds::{Bytes, Extent, Name, NoMemory, Role, SnapId, SnapStatus, TryClone};
@@ -100,7 +100,7 @@ impl Image {
 
     /// The bytes of the image, or those of a snapshot of it.
     pub fn view(&self, snap: Option<SnapId>) -> Option<&[u8]>
-        ensures { option_copied result ≡ view_of self.now snap }
+        ensures { option_copied result ≡ image_view self.now snap }
     {
         match snap {
             None => Some(self.bytes.as_slice()),

@@ -7,7 +7,7 @@ ghost use Rattle.std.specs.List.{range_with_len};
 ghost use Rattle.rbd_kinds.specs.declared.layout.Extent.{Extent};
 ghost use Rattle.rbd_flat.specs.declared.effect.Effect.{Effect};
 ghost use Rattle.rbd_flat.specs.Flat.{Flat, FlatImage, FlatSnap, after, after_all, painted, places_of, image_at, with_image};
-ghost use Rattle.rbd_flat.specs.Laws.{painted_at, painted_byte, byte_at, byte_after, size_at, size_after, role_at, role_after, snap_at, snap_after, image_of, is_on_names, is_on_links};
+ghost use Rattle.rbd_flat.specs.Laws.{painted_at, painted_byte, flat_byte, byte_after, size_at, size_after, role_at, role_after, snap_at, snap_after, image_of, is_on_names, is_on_links};
 
 /// What is painted. `inside`, `before` and `behind` are one extent at one place; `extents` are several, of
 /// which the last that has the place tells it; `places` are places that are listed one by one. Painting a
@@ -27,7 +27,7 @@ pub fn painting()
 /// What stands after one step: the byte at a place of an image, its size, its role, a snapshot of it; and
 /// the whole image where it is changed by a function of it.
 pub fn step()
-    ensures bytes { (f : Flat) (e : Effect) (i x : ℕ) → byte_at (after f e) i x ≡ byte_after e f i x }
+    ensures bytes { (f : Flat) (e : Effect) (i x : ℕ) → flat_byte (after f e) i x ≡ byte_after e f i x }
     ensures sizes { (f : Flat) (e : Effect) (i : ℕ) → size_at (after f e) i ≡ size_after e f i }
     ensures roles { (f : Flat) (e : Effect) (i : ℕ) → role_at (after f e) i ≡ role_after e f i }
     ensures snaps { (f : Flat) (e : Effect) (i t : ℕ) → snap_at (after f e) i t ≡ snap_after e f i t }

@@ -5,7 +5,7 @@ use Rattle.std.specs.List.{slice_get}
 use Rattle.std.specs.Option.{is_some, IfSome}
 use Rattle.std.proofs.lemmas.Bool.{cond-true, eq-eqb, ne_eqb, eqb-true, eqb-false, cond-false, cases_Bool}
 use Rattle.rbd_guard.specs.Order.{Tables, line, key_of, is_in, without, AreApart, IsInOrder}
-use Rattle.rbd_guard.specs.Tickets.{Tickets, queue, list, object_of, request_of, without_all, is_ahead, IsSound}
+use Rattle.rbd_guard.specs.Tickets.{Tickets, queue, list, object_of, request_of, without_all, is_ahead, IsSoundGuard}
 use Rattle.rbd_guard.proofs.Apart.{tail_in, head_in, in_right, absent, others}
 use Rattle.rbd_guard.proofs.Linking.{some_is, none_isnt}
 
@@ -49,10 +49,10 @@ some_still : (b : Bool) (o : Option ℕ) → is_some (cond b None o) ≡ true �
 some_still true o some = absurd (true≢false (sym some))
 some_still false o some = some
 
-pub sound_without : (g : Tickets) (queues lists : Tables) (n room : ℕ) → IsSound g → IsInOrder queues → IsInOrder lists
+pub sound_without : (g : Tickets) (queues lists : Tables) (n room : ℕ) → IsSoundGuard g → IsInOrder queues → IsInOrder lists
     → ((k : ℕ) → line k queues ≡ without n (line k g.queues)) → ((k : ℕ) → line k lists ≡ without n (line k g.lists))
     → ((t : ℕ) → key_of t queues ≡ cond (eqb n t) None (key_of t g.queues)) → ((t : ℕ) → key_of t lists ≡ cond (eqb n t) None (key_of t g.lists))
-    → IsSound (record { queues = queues; lists = lists; drawn = g.drawn; reserved = room })
+    → IsSoundGuard (record { queues = queues; lists = lists; drawn = g.drawn; reserved = room })
 sound_without g queues lists n room sound queues_order lists_order queue_is list_is object_is request_is =
     record {
       queues = queues_order;
@@ -192,7 +192,7 @@ pub record IsLeft (ticket : ℕ) (old now : Tickets) : Type 0 where
   pub drawn : now.drawn ≡ old.drawn
   pub reserved : old.reserved ≤ now.reserved
 
-module _ (request ticket : ℕ) (now later : Tickets) (sound : IsSound now) (left : IsLeft ticket now later) (head : Begins ticket (list request now)) where
+module _ (request ticket : ℕ) (now later : Tickets) (sound : IsSoundGuard now) (left : IsLeft ticket now later) (head : Begins ticket (list request now)) where
   pub rest_is : list request later ≡ head.rest
   rest_is =
       left.list request ∙ ap (λ l. without ticket l) head.is

@@ -44,7 +44,7 @@ pub record AreSame (old new : Tickets) : Type 0 where
 
 -- what holds of each guard: a ticket stands once, in the queue of its object and in the list of its request alone; who has
 -- an object has a request; and each ticket that is in has a number that was drawn
-pub record IsSound (g : Tickets) : Type 0 where
+pub record IsSoundGuard (g : Tickets) : Type 0 where
   pub queues : IsInOrder g.queues
   pub lists : IsInOrder g.lists
   pub both : (ticket : ℕ) → is_some (object_of ticket g) ≡ is_some (request_of ticket g)

@@ -1,6 +1,6 @@
 ghost use Rattle.std.specs.Prelude.{◌≡◌, ℕ, ◌+◌, ◌<◌, ◌≤◌, ◌==◌, [], ◌∷◌, ◌++◌, None, Some, cond, length, slice_get, IsSome, IsNone, IsOk, IfOk, IfSome, OnOk, OnErr};
 ghost use Rattle.rbd_guard.specs.Order.{is_in, without, AreSameLines};
-ghost use Rattle.rbd_guard.specs.Tickets.{queue, list, object_of, request_of, without_all, AreSame, IsSound};
+ghost use Rattle.rbd_guard.specs.Tickets.{queue, list, object_of, request_of, without_all, AreSame, IsSoundGuard};
 
 use crate::lines::Lines;
 use crate::ticket::Ticket;
@@ -23,13 +23,13 @@ pub struct Guard {
 
 impl Model for Guard {
     ghost use Rattle.std.specs.Prelude.{◌-◌, ◌^◌, min};
-    ghost use Rattle.rbd_guard.specs.Tickets.{Tickets, IsSound};
+    ghost use Rattle.rbd_guard.specs.Tickets.{Tickets, IsSoundGuard};
 
     ghost Value = { Tickets };
 
     ghost view = { λ g. record { queues = g.queues; lists = g.lists; drawn = g.drawn; reserved = min (min g.queues.room g.lists.room) (2 ^ 64 - 1 - g.drawn) } };
 
-    ghost invariant = { λ g. IsSound (record { queues = g.queues; lists = g.lists; drawn = g.drawn; reserved = 0 }) };
+    ghost invariant = { λ g. IsSoundGuard (record { queues = g.queues; lists = g.lists; drawn = g.drawn; reserved = 0 }) };
 }
 
 impl Guard {
@@ -40,7 +40,7 @@ impl Guard {
         ensures object { (ticket : ℕ) → object_of ticket result ≡ None }
         ensures request { (ticket : ℕ) → request_of ticket result ≡ None }
         ensures drawn { result.drawn ≡ 0 }
-        ensures sound { IsSound result }
+        ensures sound { IsSoundGuard result }
     {
         Guard {
             queues: Lines::new(alloc),
@@ -56,7 +56,7 @@ impl Guard {
         ensures ok { OnOk result (more ≤ self.new.reserved) }
         ensures succeeds { more ≤ self.old.reserved → IsOk result }
         ensures reserved { self.old.reserved ≤ self.new.reserved }
-        ensures sound { IsSound self.new }
+        ensures sound { IsSoundGuard self.new }
     {
         if u64::MAX - self.drawn < more as u64 {
             return Err(NoMemory);
@@ -83,7 +83,7 @@ impl Guard {
 
         ensures room { 0 < self.old.reserved → IsOk result }
         ensures reserved { self.old.reserved ≤ self.new.reserved + 1 }
-        ensures sound { IsSound self.new }
+        ensures sound { IsSoundGuard self.new }
     {
         self.reserve(1)?;
         let number = self.drawn;
@@ -98,7 +98,7 @@ impl Guard {
     pub fn first(&self, object: u64) -> Option<Ticket>
         ensures first { result ≡ slice_get (queue object self.now) 0 }
         ensures object { IfSome result (λ ticket. object_of ticket self.now ≡ Some object) }
-        ensures sound { IsSound self.now }
+        ensures sound { IsSoundGuard self.now }
     {
         ticket_of(self.queues.first(object))
     }
@@ -108,7 +108,7 @@ impl Guard {
     pub fn next_of(&self, request: u32) -> Option<Ticket>
         ensures first { result ≡ slice_get (list request self.now) 0 }
         ensures request { IfSome result (λ ticket. request_of ticket self.now ≡ Some request) }
-        ensures sound { IsSound self.now }
+        ensures sound { IsSoundGuard self.now }
     {
         ticket_of(self.lists.first(request as u64))
     }
@@ -122,7 +122,7 @@ impl Guard {
         ensures request { (t : ℕ) → request_of t self.new ≡ cond (ticket == t) None (request_of t self.old) }
         ensures drawn { self.new.drawn ≡ self.old.drawn }
         ensures reserved { self.old.reserved ≤ self.new.reserved }
-        ensures sound { IsSound self.new }
+        ensures sound { IsSoundGuard self.new }
     {
         self.queues.remove(ticket.number);
         self.lists.remove(ticket.number);
@@ -140,7 +140,7 @@ impl Guard {
             → request_of t self.new ≡ cond (is_in t (list request self.old)) None (request_of t self.old) }
         ensures drawn { self.new.drawn ≡ self.old.drawn }
         ensures reserved { self.old.reserved ≤ self.new.reserved }
-        ensures sound { IsSound self.new }
+        ensures sound { IsSoundGuard self.new }
     {
         let count = self.lists.count(request as u64);
         while let Some(ticket) = self.next_of(request) {

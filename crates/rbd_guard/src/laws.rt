@@ -2,7 +2,7 @@
 //! nothing.
 ghost use Rattle.std.specs.Prelude.{◌≡◌, ◌≢◌, ℕ, ◌+◌, ◌<◌, Some, IsSome, IsTrue, IsFalse, List, [], ◌∷◌, ◌++◌, length, slice_get};
 ghost use Rattle.rbd_guard.specs.Order.{is_in, without, AreApart};
-ghost use Rattle.rbd_guard.specs.Tickets.{Tickets, queue, list, object_of, request_of, without_all, is_ahead, IsSound};
+ghost use Rattle.rbd_guard.specs.Tickets.{Tickets, queue, list, object_of, request_of, without_all, is_ahead, IsSoundGuard};
 
 /// The first of a queue stands ahead of each other, and of two tickets one alone stands ahead.
 pub fn turns()
@@ -57,20 +57,20 @@ pub fn leaving_all()
 /// A ticket that is in stands in one queue, that of its object, and in one list, that of its request, once
 /// in each; and its number is below that of each ticket that is given from now on.
 pub fn tickets_differ()
-    ensures one_queue { (g : Tickets) → IsSound g → (ticket object other : ℕ)
+    ensures one_queue { (g : Tickets) → IsSoundGuard g → (ticket object other : ℕ)
         → IsTrue (is_in ticket (queue object g)) → IsTrue (is_in ticket (queue other g)) → object ≡ other }
 
-    ensures one_list { (g : Tickets) → IsSound g → (ticket request other : ℕ)
+    ensures one_list { (g : Tickets) → IsSoundGuard g → (ticket request other : ℕ)
         → IsTrue (is_in ticket (list request g)) → IsTrue (is_in ticket (list other g)) → request ≡ other }
 
-    ensures once { (g : Tickets) → IsSound g → (key : ℕ) → AreApart (queue key g) × AreApart (list key g) }
+    ensures once { (g : Tickets) → IsSoundGuard g → (key : ℕ) → AreApart (queue key g) × AreApart (list key g) }
 
-    ensures own_request { (g : Tickets) → IsSound g → (ticket object : ℕ)
+    ensures own_request { (g : Tickets) → IsSoundGuard g → (ticket object : ℕ)
         → IsTrue (is_in ticket (queue object g)) → IsSome (request_of ticket g) }
 
-    ensures own_object { (g : Tickets) → IsSound g → (ticket request : ℕ)
+    ensures own_object { (g : Tickets) → IsSoundGuard g → (ticket request : ℕ)
         → IsTrue (is_in ticket (list request g)) → IsSome (object_of ticket g) }
 
-    ensures earlier { (g : Tickets) → IsSound g → (ticket object : ℕ)
+    ensures earlier { (g : Tickets) → IsSoundGuard g → (ticket object : ℕ)
         → IsTrue (is_in ticket (queue object g)) → ticket < g.drawn }
 {}

@@ -78,8 +78,8 @@ frame_at j seq =
     if nat_le (first_held j) seq then option_map (positioned seq) (slice_get j.held (seq - first_held j)) else None
 
 -- what a journal tells of itself. No number is above u64::MAX
-abbrev pub view_of : Records → JournalView
-view_of j = record { spans = j.spans; first = min (first_held j) (2 ^ 64 - 1); local = j.local; mirror = j.mirror; drawn = j.drawn }
+abbrev pub journal_view : Records → JournalView
+journal_view j = record { spans = j.spans; first = min (first_held j) (2 ^ 64 - 1); local = j.local; mirror = j.mirror; drawn = j.drawn }
 
 abbrev pub registered : Records → Records
 registered j = record j { mirror = Some (unwrap_or j.mirror 0) }
@@ -110,7 +110,7 @@ tag_of (s ∷ spans) seq = if has s seq then Some s.tag else tag_of spans seq
 
 -- What holds of a journal at every moment. What Local hasn't committed is held, and each held frame has the
 -- tag of the span that has its number.
-pub record IsSound (j : Records) : Type 0 where
+pub record IsSoundJournal (j : Records) : Type 0 where
   pub run : RunFrom 1 j.spans
   pub end : j.end ≡ end_after 0 j.spans
   pub held : length j.held ≤ j.end

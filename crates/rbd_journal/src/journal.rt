@@ -1,7 +1,7 @@
 //! The journal of one image.
 ghost use Rattle.std.specs.Prelude.{◌≡◌, ◌+◌, ◌-◌, ◌<◌, ◌≤◌, ◌^◌, IfOk, OnOk, OnErr, option_map};
 ghost use Rattle.rbd_kinds.specs.Spans.{RunFrom};
-ghost use Rattle.rbd_journal.specs.Records.{IsSound, appended, based_on, committed, first_held, frame_at, registered, tag_drawn, trimmed, view_of};
+ghost use Rattle.rbd_journal.specs.Records.{IsSoundJournal, appended, based_on, committed, first_held, frame_at, registered, tag_drawn, trimmed, journal_view};
 
 use crate::entry::{Entry, drop_front};
 use crate::span::{end_of, extend};
@@ -32,13 +32,13 @@ pub struct Journal {
 
 impl Model for Journal {
     ghost use Rattle.std.specs.Prelude.{◌≡◌, IfSome};
-    ghost use Rattle.rbd_journal.specs.Records.{IsSound, Records};
+    ghost use Rattle.rbd_journal.specs.Records.{IsSoundJournal, Records};
 
     ghost Value = { Records };
 
     ghost view = { λ j. record { spans = j.spans.items; end = j.end; held = j.held.items; local = j.local; mirror = j.mirror; drawn = j.drawn } };
 
-    ghost invariant = { λ j. IsSound (record { spans = j.spans.items; end = j.end; held = j.held.items; local = j.local; mirror = j.mirror; drawn = j.drawn })
+    ghost invariant = { λ j. IsSoundJournal (record { spans = j.spans.items; end = j.end; held = j.held.items; local = j.local; mirror = j.mirror; drawn = j.drawn })
         × IfSome j.told (λ told. told ≡ j.spans.items) };
 }
 
@@ -136,8 +136,8 @@ impl Journal {
     /// share them. `first` is one more than the end where no frame is held, or
     /// `u64::MAX` where that is the end.
     pub fn view(&self) -> Result<JournalView, NoMemory>
-        ensures view { IfOk result (λ view. view ≡ view_of self.now) }
-        ensures sound { IsSound self.now }
+        ensures view { IfOk result (λ view. view ≡ journal_view self.now) }
+        ensures sound { IsSoundJournal self.now }
     {
         Ok(JournalView {
             local: self.local,

@@ -6,30 +6,30 @@ ghost use Rattle.rbd_kinds.specs.declared.journal.Position.{Position};
 ghost use Rattle.rbd_kinds.specs.declared.journal.Span.{Span};
 ghost use Rattle.rbd_kinds.specs.Spans.{RunFrom};
 ghost use Rattle.rbd_journal.specs.Calls.{Call, tags_drawn};
-ghost use Rattle.rbd_journal.specs.Records.{IsSound, Records, appended, based_on, committed, frame_at, least_commit, registered, tag_drawn, tag_of, trimmed, view_of};
+ghost use Rattle.rbd_journal.specs.Records.{IsSoundJournal, Records, appended, based_on, committed, frame_at, least_commit, registered, tag_drawn, tag_of, trimmed, journal_view};
 
 /// After an append its position and frame are read at its number, and what was read at each other number
 /// before.
 pub fn reads_after_an_append()
     ensures here { (j : Records) (p : Position) (frame : List ℕ)
-        → IsSound j → p.seq ≡ j.end + 1 → frame_at (appended p frame j) p.seq ≡ Some (p, frame) }
+        → IsSoundJournal j → p.seq ≡ j.end + 1 → frame_at (appended p frame j) p.seq ≡ Some (p, frame) }
 
     ensures elsewhere { (j : Records) (p : Position) (frame : List ℕ) (seq : ℕ)
-        → IsSound j → p.seq ≡ j.end + 1 → seq ≢ p.seq → frame_at (appended p frame j) seq ≡ frame_at j seq }
+        → IsSoundJournal j → p.seq ≡ j.end + 1 → seq ≢ p.seq → frame_at (appended p frame j) seq ≡ frame_at j seq }
 {}
 
 /// A trim takes the frames that every client has committed, and no other.
 pub fn reads_after_a_trim()
     ensures committed { (j : Records) (seq : ℕ)
-        → IsSound j → seq ≤ least_commit j → frame_at (trimmed j) seq ≡ None }
+        → IsSoundJournal j → seq ≤ least_commit j → frame_at (trimmed j) seq ≡ None }
 
     ensures needed { (j : Records) (seq : ℕ)
-        → IsSound j → least_commit j < seq → frame_at (trimmed j) seq ≡ frame_at j seq }
+        → IsSoundJournal j → least_commit j < seq → frame_at (trimmed j) seq ≡ frame_at j seq }
 {}
 
 /// Each frame that the owner hasn't committed is held, so a new owner can always replay the rest.
 pub fn uncommitted_frames_are_held()
-    ensures { (j : Records) (seq : ℕ) → IsSound j → j.local < seq → seq ≤ j.end → IsSome (frame_at j seq) }
+    ensures { (j : Records) (seq : ℕ) → IsSoundJournal j → j.local < seq → seq ≤ j.end → IsSome (frame_at j seq) }
 {}
 
 /// What is read with a number has that number, and the tag of the span that has it in the view: there is such
@@ -39,26 +39,26 @@ pub fn tags_of_held_frames()
         → frame_at j seq ≡ Some (p, frame) → p.seq ≡ seq }
 
     ensures tag { (j : Records) (seq : ℕ) (p : Position) (frame : List ℕ)
-        → IsSound j → frame_at j seq ≡ Some (p, frame) → tag_of (view_of j).spans seq ≡ Some p.tag }
+        → IsSoundJournal j → frame_at j seq ≡ Some (p, frame) → tag_of (journal_view j).spans seq ≡ Some p.tag }
 
     ensures only { (j : Records) (k seq : ℕ) (s : Span)
-        → IsSound j → slice_get (view_of j).spans k ≡ Some s → s.first ≤ seq → seq ≤ s.last
-        → tag_of (view_of j).spans seq ≡ Some s.tag }
+        → IsSoundJournal j → slice_get (journal_view j).spans k ≡ Some s → s.first ≤ seq → seq ≤ s.last
+        → tag_of (journal_view j).spans seq ≡ Some s.tag }
 {}
 
 /// What holds of a journal at every moment holds at its beginning, and after each call.
 pub fn soundness_is_kept()
-    ensures based { (spans : List Span) → RunFrom 1 spans → IsSound (based_on spans) }
+    ensures based { (spans : List Span) → RunFrom 1 spans → IsSoundJournal (based_on spans) }
 
     ensures appended { (j : Records) (p : Position) (frame : List ℕ)
-        → IsSound j → p.seq ≡ j.end + 1 → IsSound (appended p frame j) }
+        → IsSoundJournal j → p.seq ≡ j.end + 1 → IsSoundJournal (appended p frame j) }
 
     ensures committed { (j : Records) (client : JournalClient) (seq : ℕ)
-        → IsSound j → seq ≤ j.end → IsSound (committed client seq j) }
+        → IsSoundJournal j → seq ≤ j.end → IsSoundJournal (committed client seq j) }
 
-    ensures registered { (j : Records) → IsSound j → IsSound (registered j) }
-    ensures trimmed { (j : Records) → IsSound j → IsSound (trimmed j) }
-    ensures tag_drawn { (j : Records) → IsSound j → IsSound (tag_drawn j) }
+    ensures registered { (j : Records) → IsSoundJournal j → IsSoundJournal (registered j) }
+    ensures trimmed { (j : Records) → IsSoundJournal j → IsSoundJournal (trimmed j) }
+    ensures tag_drawn { (j : Records) → IsSoundJournal j → IsSoundJournal (tag_drawn j) }
 {}
 
 /// No journal draws a tag twice, whatever is called between: each tag's number is above all that were drawn

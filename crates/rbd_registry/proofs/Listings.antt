@@ -15,7 +15,7 @@ use Rattle.std.proofs.lemmas.Bool.Decides.{eqb_tells}
 use Rattle.std.proofs.lemmas.Map.Lookups.{exact_bytes}
 use Rattle.std.proofs.lemmas.Map.Keys.{IsDistinct-from_sorted}
 use Rattle.std.proofs.lemmas.Map.Entries.{option_filter, lookup-filter-values, lookup_from_place}
-use Rattle.rbd_registry.specs.Directory.{Listing, name_cmp, nothing_listed, listing_of, id_of, but, is_full, added, freed, renamed, IsNamed, IsSound}
+use Rattle.rbd_registry.specs.Directory.{Listing, name_cmp, nothing_listed, listing_of, id_of, but, is_full, added, freed, renamed, IsNamed, IsSoundListing}
 use Rattle.rbd_kinds.proofs.Ordered.{get_entries, one_given, one_taken, entries_in_order, len_in_order}
 
 -- ---- from entries to names
@@ -70,7 +70,7 @@ id_renamed d from to image q =
 
 -- ---- soundness
 
-pub sound_new : IsSound nothing_listed
+pub sound_new : IsSoundListing nothing_listed
 sound_new = record {
   drawn = λ name image e. absurd (true≢false (sym (sym (ap is_some (finmap.get-empty name_cmp name)) ∙ ap is_some e)));
   one_name = λ a b image e g. absurd (true≢false (sym (sym (ap is_some (finmap.get-empty name_cmp a)) ∙ ap is_some e)));
@@ -89,7 +89,7 @@ room_in d e = go (leb 4096 (finmap.len d.names)) refl (eqb d.drawn 4294967295) r
 pub last_below : (d : Listing) → is_full d ≡ false → d.drawn < 2 ^ 32 → d.drawn + 1 < 2 ^ 32
 last_below d e h = let ne = (room_in d e).1 in omega arith
 
-pub sound_added : (d : Listing) (name : List ℕ) → IsSound d → is_full d ≡ false → IsSound (added name d)
+pub sound_added : (d : Listing) (name : List ℕ) → IsSoundListing d → is_full d ≡ false → IsSoundListing (added name d)
 sound_added d name s e = record {
   drawn = λ q image h. drawn_at q image (tie q name) refl (sym (id_added d name q) ∙ h);
   one_name = λ a b image p q. one_at a b image (tie a name) refl (tie b name) refl (sym (id_added d name a) ∙ p) (sym (id_added d name b) ∙ q);
@@ -111,7 +111,7 @@ sound_added d name s e = record {
     few_at true l = let f = s.few in omega arith
     few_at false l = let f = (room_in d e).0 in omega arith
 
-pub sound_renamed : (d : Listing) (from to : List ℕ) (image : ℕ) → IsSound d → id_of d from ≡ Some image → IsSound (renamed (Some image) from to d)
+pub sound_renamed : (d : Listing) (from to : List ℕ) (image : ℕ) → IsSoundListing d → id_of d from ≡ Some image → IsSoundListing (renamed (Some image) from to d)
 sound_renamed d from to image s held = record {
   drawn = λ q i h. drawn_at q i (tie q to) (tie q from) (sym (id_renamed d from to image q) ∙ h);
   one_name = λ a b i p q. one_at a b i (tie a to) refl (tie a from) refl (tie b to) refl (tie b from) refl (sym (id_renamed d from to image a) ∙ p) (sym (id_renamed d from to image b) ∙ q);
@@ -247,7 +247,7 @@ module _ (image : ℕ) where
         go true e = cc
         go false e = e
 
-    pub sound_freed : IsStrictlySortedBy name_cmp (keys_of (filter stays es)) → IsSound (listing_of es n) → IsSound (listing_of (filter stays es) n)
+    pub sound_freed : IsStrictlySortedBy name_cmp (keys_of (filter stays es)) → IsSoundListing (listing_of es n) → IsSoundListing (listing_of (filter stays es) n)
     sound_freed ordered s =
         let old : (name : List ℕ) (i : ℕ) → id_of (listing_of (filter stays es) n) name ≡ Some i → id_of (listing_of es n) name ≡ Some i = λ name i e. kept _ i (sym (id_freed name) ∙ e) in
         record {

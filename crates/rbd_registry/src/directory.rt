@@ -2,7 +2,7 @@ ghost use Rattle.std.specs.Prelude.{◌≡◌, ◌+◌, ℕ, List, ◌↔◌, On
 ghost use Rattle.std.specs.Bool.{OnFalse};
 ghost use Rattle.std.specs.FinMap as finmap;
 ghost use Rattle.std.specs.BTreeMap.{IsUnchanged, Updates};
-ghost use Rattle.rbd_registry.specs.Directory.{name_cmp, nothing_listed, id_of, but, is_full, added, freed, renamed, IsNamed, IsSound};
+ghost use Rattle.rbd_registry.specs.Directory.{name_cmp, nothing_listed, id_of, but, is_full, added, freed, renamed, IsNamed, IsSoundListing};
 
 use crate::fault::{AddFault, RenameFault};
 use rbd_kinds::{ImageId, Name, Names, NoMemory, TryClone};
@@ -23,7 +23,7 @@ pub struct Directory {
 }
 
 impl Model for Directory {
-    ghost use Rattle.rbd_registry.specs.Directory.{Listing, listing_code, listing_of, IsSound};
+    ghost use Rattle.rbd_registry.specs.Directory.{Listing, listing_code, listing_of, IsSoundListing};
 
     ghost Value = { Listing };
 
@@ -31,7 +31,7 @@ impl Model for Directory {
 
     ghost view = { λ d. listing_of d.names.entries d.drawn };
 
-    ghost invariant = { λ d. IsSound (listing_of d.names.entries d.drawn) };
+    ghost invariant = { λ d. IsSoundListing (listing_of d.names.entries d.drawn) };
 }
 
 impl Directory {
@@ -57,7 +57,7 @@ impl Directory {
         ensures free { OnOk result (id_of self.old name.now ≡ None) }
         ensures room { OnOk result (is_full self.old ≡ false) }
         ensures no_memory { IsErrOf result AddFault.NoMemory → (id_of self.old name.now ≡ None) × (is_full self.old ≡ false) }
-        ensures sound { IsSound self.new }
+        ensures sound { IsSoundListing self.new }
     {
         if self.find(name).is_some() {
             return Err(AddFault::Exists);
@@ -78,7 +78,7 @@ impl Directory {
     /// The id that a name has.
     pub fn find(&self, name: &Name) -> Option<ImageId>
         ensures value { result ≡ id_of self.now name.now }
-        ensures sound { IsSound self.now }
+        ensures sound { IsSoundListing self.now }
     {
         self.names.get(name).copied()
     }

@@ -67,7 +67,7 @@ abbrev pub records_of : SiteLog → Records
 records_of s = after_all no_records s.log
 
 -- What holds of a site at every moment: it keeps the records that its log leaves.
-pub record IsSound (r : Records) (log : List Done) : Type 0 where
+pub record IsSoundLog (r : Records) (log : List Done) : Type 0 where
   pub kept : r ≡ after_all no_records log
   pub answered : AreAnswered no_records log
   pub numbered : AreNumbered 1 log

@@ -22,14 +22,14 @@ pub struct Site {
 }
 
 impl Model for Site {
-    ghost use Rattle.rbd_site.specs.Log.{SiteLog, IsSound};
+    ghost use Rattle.rbd_site.specs.Log.{SiteLog, IsSoundLog};
     ghost use Rattle.rbd_site.specs.Maps.{kept};
 
     ghost Value = { SiteLog };
 
     ghost view = { λ s. record { id = s.id; log = s.log.items } };
 
-    ghost invariant = { λ s. IsSound (kept s.store) s.log.items };
+    ghost invariant = { λ s. IsSoundLog (kept s.store) s.log.items };
 }
 
 impl Site {

@@ -24,7 +24,7 @@ use Rattle.rbd_layout.specs.Pieces.{IsPartsOf, IsPieces}
 use Rattle.rbd_layout.specs.declared.types.Piece.{Piece}
 use Rattle.rbd_layout.proofs.Bounds.{few_bytes}
 use Rattle.rbd_layout.proofs.Within.{LiesIn, lies_in}
-use Rattle.rbd_header.specs.Header.{snap_in, view_of as named_view, view_of_snap}
+use Rattle.rbd_header.specs.Header.{snap_in, image_view as named_view, view_of_snap}
 use Rattle.rbd_header.specs.declared.view.View.{View}
 use Rattle.rbd_object.specs.Contents.{window}
 use Rattle.rbd_kinds.specs.Parts.{parts_len}
@@ -34,7 +34,7 @@ use Rattle.rbd_flat.specs.Flat.{Flat, FlatImage, FlatSnap, image_at}
 use Rattle.rbd_flat.specs.Flat as flat
 use Rattle.rbd_flat.specs.Laws.{covers}
 use Rattle.rbd_kinds.specs.Extents.{fits}
-use Rattle.rbd_flat.specs.Read.{bytes_in, view_at, view_of}
+use Rattle.rbd_flat.specs.Read.{bytes_in, view_at, image_view}
 use Rattle.rbd_site.specs.DataStep.{parts_read}
 use Rattle.rbd_site.specs.Log.{SiteLog, records_of}
 use Rattle.rbd_site.specs.Records.{Records, object_at}
@@ -42,7 +42,7 @@ use Rattle.rbd_site.specs.Step.{answer_to}
 use Rattle.rbd_stands.specs.Condition.{extent_of}
 use Rattle.rbd_stands.specs.Image.{line_of_snap, line_of_flat}
 use Rattle.rbd_stands.specs.Reading.{flat_snap_named, bytes_at_parts, IsAt, IsToldBy}
-use Rattle.rbd_stands.specs.Shown.{Covers, snapshots_of}
+use Rattle.rbd_stands.specs.Shown.{IsInOverlap, snapshots_of}
 use Rattle.rbd_stands.specs.Site.{StandsFor}
 use Rattle.rbd_stands.specs.View.{Shape, shape_of, shape_of_head, shape_of_snap}
 use Rattle.rbd_stands.proofs.Lookups.{a_value, no_value}
@@ -108,8 +108,8 @@ that_answer : (a : Answer) (bytes : List ℕ) → bytes_told a ≡ Some bytes �
 that_answer a bytes told None parts is = absurd (none-some bytes (ap bytes_told (sym is) ∙ told))
 that_answer a bytes told (Some content) parts is = is ∙ ap answer.Bytes (same_Some (parts_of parts content) bytes (ap bytes_told (sym is) ∙ told))
 
-no_cover : (parent : Option ParentLink) (x : ℕ) → parent ≡ None → Covers parent x → ⊥
-no_cover parent x none covers = subst (λ p. Covers p x) none covers
+no_cover : (parent : Option ParentLink) (x : ℕ) → parent ≡ None → IsInOverlap parent x → ⊥
+no_cover parent x none covers = subst (λ p. IsInOverlap p x) none covers
 
 weaker : {X : Type 0} {P Q : X → Type 0} (xs : List X) → ((x : X) → P x → Q x) → Any P xs → Any Q xs
 weaker xs f (k, x, below, is, p) = (k, x, below, is, f x p)
@@ -262,7 +262,7 @@ flat_long r f o view bytes stands there is_view is =
     let tells = tells_image (snapshots_of f) h (object_at r o.image) was.image was.stands in
     of_view was.image h tells view.snap is_view.shape is_view.is_shape (ap (λ i. view_at i view.snap) (sym was.is) ∙ is) ∙ is_view.size
   where
-    of_view : (i : FlatImage) (h : HeaderView) → IsToldBy h i → (v : Option ℕ) (shape : Shape) → shape_of h v ≡ Some shape → view_of i v ≡ Some bytes → length bytes ≡ shape.size
+    of_view : (i : FlatImage) (h : HeaderView) → IsToldBy h i → (v : Option ℕ) (shape : Shape) → shape_of h v ≡ Some shape → image_view i v ≡ Some bytes → length bytes ≡ shape.size
     of_view i h tells None shape is_shape shows =
         ap length (sym (same_Some i.bytes bytes shows)) ∙ tells.size ∙ ap (λ (q : Shape). q.size) (same_Some (shape_of_head h) shape is_shape)
     of_view i h tells (Some t) shape is_shape shows =

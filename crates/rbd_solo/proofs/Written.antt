@@ -39,7 +39,7 @@ use Rattle.rbd_site.specs.Log.{SiteLog, records_of, line_of}
 use Rattle.rbd_site.specs.Records.{Records}
 use Rattle.rbd_site.specs.Step.{answer_to, after}
 use Rattle.rbd_stands.specs.Condition.{IsContextOf, ArePartsBelow, extents_of}
-use Rattle.rbd_stands.specs.Shown.{Covers}
+use Rattle.rbd_stands.specs.Shown.{IsInOverlap}
 use Rattle.rbd_stands.specs.Site.{StandsFor}
 use Rattle.rbd_stands.specs.Writing.{piece_effect, piece_effects}
 use Rattle.rbd_stands.proofs.DataSteps.{write_stands}
@@ -104,8 +104,8 @@ writes_on old mid new o at bytes some more first then =
           (then.stands alone (after_all f (piece_effects o.image at bytes some)) (first.stands alone f stands));
     }
 
-uncovered : (parent : Option ParentLink) (x : ℕ) → parent ≡ None → Covers parent x → ⊥
-uncovered parent x none covers = subst (λ p. Covers p x) none covers
+uncovered : (parent : Option ParentLink) (x : ℕ) → parent ≡ None → IsInOverlap parent x → ⊥
+uncovered parent x none covers = subst (λ p. IsInOverlap p x) none covers
 
 -- one operation
 pub piece_written : (old new : SiteLog) (me : Instance) (o : Opened) (e : Extent) (bytes : List ℕ) (piece : Piece) (context : SnapContext) (parts : List Part) (put : List ℕ) (number : ℕ) (a : Answer)

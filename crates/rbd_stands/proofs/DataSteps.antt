@@ -28,7 +28,7 @@ use Rattle.rbd_object.specs.Parts.{parts_written, parts_zeroed}
 use Rattle.rbd_site.specs.DataStep.{MayWrite, data_answer, data_after, data_change, where_object_done}
 use Rattle.rbd_site.specs.Records.{Records, put, or_blank, object_at, with_object}
 use Rattle.rbd_site.specs.Step.{answer_to, after}
-use Rattle.rbd_stands.specs.Shown.{Snapshots, Covers, snapshots_of, inherited, shown}
+use Rattle.rbd_stands.specs.Shown.{Snapshots, IsInOverlap, snapshots_of, inherited, shown}
 use Rattle.rbd_stands.specs.Image.{ImageStands}
 use Rattle.rbd_stands.specs.Site.{StandsFor}
 use Rattle.rbd_stands.specs.Condition.{IsContextOf, ArePartsBelow, IsInside, IsCopiedUp, IsChanged, AreWhole, IsZeroPast, extents_of}
@@ -40,7 +40,7 @@ use Rattle.rbd_stands.proofs.SiteSteps.{here, stands_at, keep_all, site_change, 
 -- ---- what an object shows of itself
 
 -- outside the overlap nothing is inherited
-nothing_inherited : (below : Snapshots) (parent : Option ParentLink) (first x : ℕ) → first ≤ x → (Covers parent first → ⊥) → inherited below parent x ≡ 0
+nothing_inherited : (below : Snapshots) (parent : Option ParentLink) (first x : ℕ) → first ≤ x → (IsInOverlap parent first → ⊥) → inherited below parent x ≡ 0
 nothing_inherited below None first x later outside = refl
 nothing_inherited below (Some link) first x later outside = elim (cases_lt first link.overlap) [
   | inl less ↦ absurd (outside less)
@@ -48,7 +48,7 @@ nothing_inherited below (Some link) first x later outside = elim (cases_lt first
 ]
 
 -- the head that was copied up where it had to be, or is absent, shows its own bytes and zeros past them
-pub own_bytes : (below : Snapshots) (parent : Option ParentLink) (first : ℕ) (head : Option (List ℕ)) → (Covers parent first → IsSome head) → (offset x : ℕ) → first ≤ x
+pub own_bytes : (below : Snapshots) (parent : Option ParentLink) (first : ℕ) (head : Option (List ℕ)) → (IsInOverlap parent first → IsSome head) → (offset x : ℕ) → first ≤ x
     → shown below parent head offset x ≡ get_or (unwrap_or head []) offset 0
 own_bytes below parent first (Some bytes) up offset x later = refl
 own_bytes below parent first None up offset x later = nothing_inherited below parent first x later (λ inside. true≢false (sym (up inside)))
@@ -175,7 +175,7 @@ module _ (below : Snapshots) (h : HeaderView) (objects : ℕ → Mapped) (i : Fl
 
   -- ---- zeros into parts
 
-  zeroed_shown : (head : Option (List ℕ)) → (Covers h.parent (byte_at h.layout n 0) → IsSome head) → All (IsPart h.layout n) parts → (x : ℕ) → object_of h.layout x ≡ n
+  zeroed_shown : (head : Option (List ℕ)) → (IsInOverlap h.parent (byte_at h.layout n 0) → IsSome head) → All (IsPart h.layout n) parts → (x : ℕ) → object_of h.layout x ≡ n
       → shown below h.parent (option_map (parts_zeroed parts) head) (offset_of h.layout x) x ≡ cond (covered (extents_of parts) x) 0 (get_or (unwrap_or head []) (offset_of h.layout x) 0)
   zeroed_shown None up lie x same =
       own_bytes below h.parent (byte_at h.layout n 0) None up (offset_of h.layout x) x (let first = first_below h.layout stands.laid x in subst (λ m. byte_at h.layout m 0 ≤ x) same first)

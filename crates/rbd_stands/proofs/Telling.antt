@@ -25,14 +25,14 @@ use Rattle.rbd_object.proofs.ContentsLemmas.{length-window, get_or-window}
 use Rattle.rbd_flat.specs.Flat.{Flat, FlatImage, FlatSnap, image_at}
 use Rattle.rbd_flat.specs.Flat as flat
 use Rattle.rbd_flat.specs.Laws.{snap_byte}
-use Rattle.rbd_flat.specs.Read.{view_of, view_at}
+use Rattle.rbd_flat.specs.Read.{image_view, view_at}
 use Rattle.rbd_object.specs.Parts.{parts_of}
 use Rattle.rbd_site.specs.DataStep.{parts_read}
 use Rattle.rbd_site.specs.HeaderStep.{header_answer}
 use Rattle.rbd_site.specs.Records.{Records, object_at}
 use Rattle.rbd_site.specs.Step.{answer_to}
 use Rattle.rbd_stands.specs.View.{Shape, shape_of, shape_of_head, shape_of_snap}
-use Rattle.rbd_stands.specs.Shown.{Snapshots, Covers, snapshots_of, inherited, shown}
+use Rattle.rbd_stands.specs.Shown.{Snapshots, IsInOverlap, snapshots_of, inherited, shown}
 use Rattle.rbd_stands.specs.Image.{ImageStands, SnapLine, line_of_snap, line_of_flat}
 use Rattle.rbd_stands.specs.Site.{StandsFor}
 use Rattle.rbd_stands.specs.Condition.{IsPartBelow, ArePartsBelow}
@@ -94,7 +94,7 @@ header_told r f me image h stands answered = go (r.headers image) refl
 -- a view of the flat image, and what it shows
 record Viewed (below : Snapshots) (h : HeaderView) (objects : ℕ → Mapped) (i : FlatImage) (v : Option ℕ) (shape : Shape) : Type 0 where
   pub shown_bytes : List ℕ
-  pub is : view_of i v ≡ Some shown_bytes
+  pub is : image_view i v ≡ Some shown_bytes
   pub shows : (x : ℕ) → x < shape.size → get_or shown_bytes x 0 ≡ shown below shape.parent (view (looked (objects (object_of h.layout x))) v) (offset_of h.layout x) x
 
 viewed : (below : Snapshots) (h : HeaderView) (objects : ℕ → Mapped) (i : FlatImage) (v : Option ℕ) (shape : Shape) → ImageStands below h objects i → shape_of h v ≡ Some shape
@@ -105,7 +105,7 @@ viewed below h objects i None shape stands e =
 viewed below h objects i (Some t) shape stands e =
     let s = a_value shape_of_snap (snap_in h.snaps t) shape e in
     let there = flat_there h.snaps i.snaps stands.same t s.0 s.1 in
-    let is : view_of i (Some t) ≡ Some there.0.bytes = ap (option_map {T = FlatSnap} (λ u. u.bytes)) there.1 in
+    let is : image_view i (Some t) ≡ Some there.0.bytes = ap (option_map {T = FlatSnap} (λ u. u.bytes)) there.1 in
     subst (Viewed below h objects i (Some t)) s.2
     (record {
       shown_bytes = there.0.bytes;
@@ -152,7 +152,7 @@ bytes_told r f me image number h v shape parts bytes stands is seen lie answered
           ∙ ap (λ content. shown (snapshots_of f) shape.parent content (offset_of h.layout x) x) read.1) parts lie;
     }
 
-uncovered : (below : Snapshots) (parent : Option ParentLink) (x : ℕ) → (Covers parent x → ⊥) → inherited below parent x ≡ 0
+uncovered : (below : Snapshots) (parent : Option ParentLink) (x : ℕ) → (IsInOverlap parent x → ⊥) → inherited below parent x ≡ 0
 uncovered below None x none = refl
 uncovered below (Some link) x none = elim (cases_lt x link.overlap) [
   | inl less ↦ absurd (none less)

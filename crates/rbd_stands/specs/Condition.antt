@@ -13,7 +13,7 @@ use Rattle.rbd_object.specs.Kept.{is_listed}
 use Rattle.rbd_object.specs.Mapped.{Mapped}
 use Rattle.rbd_site.specs.Records.{Records}
 use Rattle.rbd_stands.specs.View.{EachView}
-use Rattle.rbd_stands.specs.Shown.{Snapshots, Covers, shown}
+use Rattle.rbd_stands.specs.Shown.{Snapshots, IsInOverlap, shown}
 
 -- the directory has drawn the id
 abbrev pub IsDrawn : Records → (image : ℕ) → Type 0
@@ -42,7 +42,7 @@ extents_of parts = map extent_of parts
 
 -- an object inside the head's overlap: its first byte is below it
 abbrev pub IsInside : HeaderView → (number : ℕ) → Type 0
-IsInside h number = Covers h.parent (byte_at h.layout number 0)
+IsInside h number = IsInOverlap h.parent (byte_at h.layout number 0)
 
 -- inside the head's overlap the object's head exists, so that it was copied up
 abbrev pub IsCopiedUp : HeaderView → (number : ℕ) → Mapped → Type 0
@@ -69,7 +69,7 @@ IsZeroPast h number bytes = (x : ℕ) → h.size ≤ x → object_of h.layout x 
 -- object that the size cuts inside the overlap was copied up.
 pub record IsZeroedFrom (h : HeaderView) (size : ℕ) (objects : ℕ → Mapped) : Type 0 where
   pub zeros : (x : ℕ) → size ≤ x → x < h.size → slice_index (unwrap_or (objects (object_of h.layout x)).head []) (offset_of h.layout x) ≡ 0
-  pub copied_up : (x : ℕ) → size ≤ x → x < h.size → Covers (cut size h.parent) (byte_at h.layout (object_of h.layout x) 0) → IsSome (objects (object_of h.layout x)).head
+  pub copied_up : (x : ℕ) → size ≤ x → x < h.size → IsInOverlap (cut size h.parent) (byte_at h.layout (object_of h.layout x) 0) → IsSome (objects (object_of h.layout x)).head
 
 -- The flat bytes after an object's head became `new`: at its places what it shows now, elsewhere the old ones.
 -- Inside the overlap a head doesn't become absent, since the parent's bytes would show again.

@@ -9,7 +9,7 @@ use Rattle.rbd_header.specs.Header.{snap_in}
 use Rattle.rbd_object.specs.Contents.{window}
 use Rattle.rbd_flat.specs.Flat.{Flat, FlatImage, FlatSnap, image_at, snap_in as flat_snap_in}
 use Rattle.rbd_flat.specs.Read.{view_at}
-use Rattle.rbd_stands.specs.Shown.{Covers, inherited, snapshots_of}
+use Rattle.rbd_stands.specs.Shown.{IsInOverlap, inherited, snapshots_of}
 use Rattle.rbd_stands.specs.Image.{line_of_snap, line_of_flat}
 
 -- the first flat snapshot with a name
@@ -49,5 +49,5 @@ pub record AreFlatBytes (f : Flat) (image : ℕ) (v : Option ℕ) (parts : List 
 pub record AreInherited (f : Flat) (image : ℕ) (v : Option ℕ) (parent : Option ParentLink) (parts : List Part) : Type 0 where
   pub flat : List ℕ
   pub is : view_at (image_at f image) v ≡ Some flat
-  pub covered : (x : ℕ) → IsAt parts x → Covers parent x → slice_index flat x ≡ inherited (snapshots_of f) parent x
-  pub zeros : (x : ℕ) → IsAt parts x → (Covers parent x → ⊥) → slice_index flat x ≡ 0
+  pub covered : (x : ℕ) → IsAt parts x → IsInOverlap parent x → slice_index flat x ≡ inherited (snapshots_of f) parent x
+  pub zeros : (x : ℕ) → IsAt parts x → (IsInOverlap parent x → ⊥) → slice_index flat x ≡ 0

@@ -14,9 +14,9 @@ abbrev pub snapshots_of : Flat → Snapshots
 snapshots_of f = snap_at f
 
 -- byte x is below the overlap, of which there is none without a parent
-abbrev pub Covers : Option ParentLink → (x : ℕ) → Type 0
-Covers None x = ⊥
-Covers (Some link) x = x < link.overlap
+abbrev pub IsInOverlap : Option ParentLink → (x : ℕ) → Type 0
+IsInOverlap None x = ⊥
+IsInOverlap (Some link) x = x < link.overlap
 
 -- the byte at x as a child has it from its parent: zero past the overlap
 abbrev pub inherited : Snapshots → Option ParentLink → (x : ℕ) → ℕ

@@ -5,7 +5,7 @@ use Rattle.rbd_kinds.specs.declared.header.ParentLink.{ParentLink}
 use Rattle.rbd_kinds.specs.declared.header.SnapView.{SnapView}
 use Rattle.rbd_header.specs.Header.{snap_in}
 use Rattle.rbd_flat.specs.Flat.{FlatImage}
-use Rattle.rbd_flat.specs.Read.{view_of}
+use Rattle.rbd_flat.specs.Read.{image_view}
 
 -- what a header tells of a view: its size in bytes, and its parent
 pub record Shape : Type 0 where
@@ -29,4 +29,4 @@ pub record EachView (h : HeaderView) (P : Option ℕ → Shape → Type 0) : Typ
 
 -- the bytes of a view in the flat image, none where it has no such snapshot
 abbrev pub flat_bytes : FlatImage → Option ℕ → List ℕ
-flat_bytes i view = unwrap_or (view_of i view) []
+flat_bytes i view = unwrap_or (image_view i view) []

@@ -1,5 +1,5 @@
 use Rattle.std.proofs.Common.{◌≡◌, ◌+◌, subst, sym, rules}
-use Rattle.rbd_journal.specs.Records.{IsSound, Records, appended}
+use Rattle.rbd_journal.specs.Records.{IsSoundJournal, Records, appended}
 use Rattle.rbd_journal.proofs.Sound.{sound_appended}
 use Rattle.rbd_journal.proofs.journal.Journal.append.Goals as goal
 
@@ -9,4 +9,4 @@ invariant_of-self-2 c =
     let new : Records = record { spans = c.extend.new.spans.items; end = c.args.position.seq; held = c.push_back.new.self.items; local = c.self.inside.local; mirror = c.self.inside.mirror; drawn = c.self.inside.drawn } in
     let next : c.args.position.seq ≡ j.end + 1 = search rules in
     let is_that : new ≡ appended c.args.position c.args.frame.now j = search rules in
-    (subst IsSound (sym is_that) (sound_appended j c.args.position c.args.frame.now c.self.invariant.0 next), tt)
+    (subst IsSoundJournal (sym is_that) (sound_appended j c.args.position c.args.frame.now c.self.invariant.0 next), tt)

@@ -5,7 +5,7 @@ use Rattle.std.specs.Map.{keys_of}
 use Rattle.std.specs.List.Sorted.{IsStrictlySortedBy}
 use Rattle.std.specs.Prelude.{IsTrue, ◌↔◌}
 use Rattle.std.proofs.lemmas.Map.Made.{filter_same_pairs}
-use Rattle.rbd_registry.specs.Directory.{Listing, listing_of, name_cmp, id_of, but, freed, IsNamed, IsSound}
+use Rattle.rbd_registry.specs.Directory.{Listing, listing_of, name_cmp, id_of, but, freed, IsNamed, IsSoundListing}
 use Rattle.rbd_registry.proofs.Listings.{stays, free_listed, id_freed, sound_freed, found_freed, same_freed}
 use Rattle.rbd_registry.proofs.directory.Directory.remove.Goals as goal
 
@@ -15,7 +15,7 @@ invariant_of-self c =
     let fs = c.retain.new.self.entries in
     let n = c.self.inside.drawn in
     let same : fs ≡ filter (stays c.args.image) es = filter_same_pairs _ (stays c.args.image) _ (λ k v b w f' t. search rules) es fs c.retain.ensures.filtered in
-    subst (λ gs. IsSound (listing_of gs n)) (sym same)
+    subst (λ gs. IsSoundListing (listing_of gs n)) (sym same)
     (sound_freed c.args.image es n c.retain.ensures.was_ordered (subst (λ gs. IsStrictlySortedBy name_cmp (keys_of gs)) same c.retain.ensures.ordered) c.self.invariant)
 
 pub returns : goal.returns
