@@ -24,7 +24,7 @@ use Rattle.rbd_layout.specs.Pieces.{IsPartsOf, IsPieces}
 use Rattle.rbd_layout.specs.declared.types.Piece.{Piece}
 use Rattle.rbd_layout.proofs.Bounds.{few_bytes}
 use Rattle.rbd_layout.proofs.Within.{LiesIn, lies_in}
-use Rattle.rbd_header.specs.Header.{snap_in, image_view as named_view, view_of_snap}
+use Rattle.rbd_header.specs.Header.{snap_in, view_of as named_view, view_of_snap}
 use Rattle.rbd_header.specs.declared.view.View.{View}
 use Rattle.rbd_object.specs.Contents.{window}
 use Rattle.rbd_kinds.specs.Parts.{parts_len}
