@@ -1,5 +1,5 @@
 //! One command, done to its end.
-ghost use Rattle.std.specs.Prelude.{◌≡◌, true, IfOk};
+ghost use Rattle.std.specs.Prelude.{◌≡◌, true, IfOk, option_copied};
 ghost use Rattle.rbd_solo.specs.Steps.{IsAnswered};
 ghost use Rattle.rbd_solo.specs.Built.{is_built};
 
@@ -8,7 +8,7 @@ use crate::list::list;
 use crate::read::read;
 use crate::snap::{snap_create, snap_remove};
 use crate::write::write;
-use rbd_kinds::{Command, Instance, NoMemory, Refusal, Reply};
+use rbd_kinds::{AskedName, Command, Instance, Name, NoMemory, Refusal, Reply};
 use rbd_site::Site;
 use std::alloc::Global;
 
@@ -23,19 +23,54 @@ pub fn answer(
     ensures { IfOk result (IsAnswered site.old site.new command.now) }
 {
     match command {
-        Command::Create { image, size, shape } => create(alloc, site, me, image, *size, shape),
+        Command::Create { image, size, shape } => create(
+            alloc,
+            site,
+            me,
+            image.as_name(),
+            *size,
+            shape,
+        ),
         Command::Write { image, at, bytes } => {
-            write(alloc, site, me, image, at.get(), bytes.as_bytes())
+            write(alloc, site, me, image.as_name(), at.get(), bytes.as_bytes())
         }
         Command::Read {
             image,
             snap,
             at,
             len,
-        } => read(alloc, site, me, image, snap.as_ref(), at.get(), len.get()),
-        Command::SnapCreate { image, snap } => snap_create(site, me, image, snap),
-        Command::SnapRemove { image, snap } => snap_remove(site, me, image, snap),
+        } => read(
+            alloc,
+            site,
+            me,
+            image.as_name(),
+            named(snap),
+            at.get(),
+            len.get(),
+        ),
+        Command::SnapCreate { image, snap } => snap_create(
+            site,
+            me,
+            image.as_name(),
+            snap.as_name(),
+        ),
+        Command::SnapRemove { image, snap } => snap_remove(
+            site,
+            me,
+            image.as_name(),
+            snap.as_name(),
+        ),
         Command::List => list(alloc, site, me),
-        _ => Ok(Reply::Refused(Refusal::NoImage)),
+        _ => unreachable!(),
+    }
+}
+
+/// The name of the snapshot, where one is asked for.
+fn named(snap: &Option<AskedName>) -> Option<&Name>
+    ensures { option_copied result ≡ snap.now }
+{
+    match snap {
+        Some(snap) => Some(snap.as_name()),
+        None => None,
     }
 }

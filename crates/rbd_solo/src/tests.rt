@@ -8,8 +8,8 @@ mod stories;
 use crate::is_built;
 use crate::request::answer;
 use rbd_kinds::{
-    Bytes, Command, Instance, Name, NoMemory, Number, Payload, ReadLength, Refusal, Reply,
-    SessionNo, Shape,
+    AskedName, Bytes, Command, Instance, Name, NoMemory, Number, Payload, ReadLength, Refusal,
+    Reply, SessionNo, Shape,
 };
 use rbd_site::{Done, DoneOp, Site};
 use std::alloc::Global;
@@ -20,8 +20,8 @@ const C1: Instance = Instance {
     life: 0,
 };
 
-fn name(rt: &impl Abort, alloc: Global, text: &[u8]) -> Result<Name, NoMemory> {
-    Ok(Name::parse(Bytes::from_slice(alloc, text)?).expect(rt, "a name"))
+fn name(rt: &impl Abort, alloc: Global, text: &[u8]) -> Result<AskedName, NoMemory> {
+    Ok(AskedName::parse(Bytes::from_slice(alloc, text)?).expect(rt, "a name"))
 }
 
 fn number(rt: &impl Abort, value: u64) -> Number {
@@ -76,7 +76,13 @@ fn write_command(
     })
 }
 
-fn read_command(rt: &impl Abort, image: Name, snap: Option<Name>, at: u64, len: u64) -> Command {
+fn read_command(
+    rt: &impl Abort,
+    image: AskedName,
+    snap: Option<AskedName>,
+    at: u64,
+    len: u64,
+) -> Command {
     Command::Read {
         image,
         snap,
