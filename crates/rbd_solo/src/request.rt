@@ -8,7 +8,7 @@ use crate::list::list;
 use crate::read::read;
 use crate::snap::{snap_create, snap_remove};
 use crate::write::write;
-use rbd_kinds::{AskedName, Command, Instance, Name, NoMemory, Refusal, Reply};
+use rbd_kinds::{AskedName, Command, Instance, Name, NoMemory, Reply};
 use rbd_site::Site;
 use std::alloc::Global;
 
