@@ -80,10 +80,12 @@ impl Site {
         ensures form { AreInForm (records_of self.new) (length self.new.log) }
         ensures err { OnErr result (self.new ≡ self.old) }
     {
+        let number = self.next_number();
         self.log.reserve(1)?;
-        let (answer, kept) = self.store.perform(&instance, &op)?;
+        let told = self.store.perform(&instance, &op)?;
+        let (answer, kept) = told;
         let line = Done {
-            number: self.next_number(),
+            number,
             instance: Some(instance),
             op: DoneOp::Op(op),
             answer: kept,

@@ -16,17 +16,17 @@ invariant_of-self-2 c =
     let may : MayDo r c.args.op = subst (λ x. MayDo x c.args.op) (sym stands) c.requires in
     rw (c.push_reserved.ensures.items, c.in_ok-reserve.ensures.items)
     (sound_more r (kept c.perform.new.self) c.self.inside.log.items
-    (record { number = c.next_number.result; instance = Some me; op = done.Op c.args.op; answer = c.in_ok-perform.field-0.1 })
+    (record { number = c.next_number-number.result; instance = Some me; op = done.Op c.args.op; answer = c.in_ok-told.told.1 })
     c.self.invariant
-    c.in_ok-perform.ensures.ok
-    c.in_ok-perform.ensures.copy
-    (c.next_number.ensures ∙ ap (λ (s : SiteLog). length s.log + 1) (sym c.self.view_is))
-    (subst (λ x. AreInForm x (length c.self.inside.log.items + 1)) (sym c.in_ok-perform.ensures.ok)
+    c.in_ok-told.ensures.ok
+    c.in_ok-told.ensures.copy
+    (c.next_number-number.ensures ∙ ap (λ (s : SiteLog). length s.log + 1) (sym c.self.view_is))
+    (subst (λ x. AreInForm x (length c.self.inside.log.items + 1)) (sym c.in_ok-told.ensures.ok)
     (form_after r me c.args.op (length c.self.inside.log.items) c.self.invariant.form may)))
 
 pub returns-clause-records : goal.returns-clause-records
 returns-clause-records c =
-    sym (invariant_of-self-2 c).kept ∙ c.in_ok-perform.ensures.ok
+    sym (invariant_of-self-2 c).kept ∙ c.in_ok-told.ensures.ok
     ∙ ap (λ r. after r c.args.instance c.args.op) (c.self.invariant.kept ∙ ap records_of c.self.view_is)
 
 pub returns-clause-form : goal.returns-clause-form
