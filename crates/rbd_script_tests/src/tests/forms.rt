@@ -5,7 +5,8 @@ use std::alloc::Global;
 use std::process::Abort;
 
 /// Commands of session `c1`, and how each is shown.
-const COMMANDS: &str = "c1 create d 1 object 4096 unit 512 count 2 journal|Create { image: Name { text: Bytes { bytes: [100] } }, size: AtMost { value: 1 }, shape: Shape { object: Some(AtMost { value: 4096 }), unit: Some(AtMost { value: 512 }), count: Some(2), journal: true } }
+const COMMANDS: &str =
+    "c1 create d 1 object 4096 unit 512 count 2 journal|Create { image: Name { text: Bytes { bytes: [100] } }, size: AtMost { value: 1 }, shape: Shape { object: Some(AtMost { value: 4096 }), unit: Some(AtMost { value: 512 }), count: Some(2), journal: true } }
 c1 create d 1|Create { image: Name { text: Bytes { bytes: [100] } }, size: AtMost { value: 1 }, shape: Shape { object: None, unit: None, count: None, journal: false } }
 c1 clone p@s c object 4096 unit 512 count 2 journal|Clone { parent: Name { text: Bytes { bytes: [112] } }, snap: Name { text: Bytes { bytes: [115] } }, image: Name { text: Bytes { bytes: [99] } }, shape: Shape { object: Some(AtMost { value: 4096 }), unit: Some(AtMost { value: 512 }), count: Some(2), journal: true } }
 c1 clone p@s c|Clone { parent: Name { text: Bytes { bytes: [112] } }, snap: Name { text: Bytes { bytes: [115] } }, image: Name { text: Bytes { bytes: [99] } }, shape: Shape { object: None, unit: None, count: None, journal: false } }

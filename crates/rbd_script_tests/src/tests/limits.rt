@@ -47,7 +47,14 @@ fn filled_is_told(alloc: Global, front: &str, length: usize, want: &str) -> bool
 fn a_script_may_have_so_many_bytes(rt: HostRuntime) {
     let alloc = rt.alloc();
     assert!(rt; filled_is_told(alloc, "client c1 a\n#", SCRIPT_LIMIT, "1 sessions, 0 lines"));
-    assert!(rt; filled_is_told(alloc, "client c1 a\n#", SCRIPT_LIMIT + 1, "line 2: extra part"));
+    assert!(rt;
+        filled_is_told(
+            alloc,
+            "client c1 a\n#",
+            SCRIPT_LIMIT + 1,
+            "line 2: extra part"
+        )
+    );
     assert!(rt; filled_is_told(alloc, "\nwalk\n", SCRIPT_LIMIT + 1, "line 2: unknown word"));
     assert!(rt; filled_is_told(alloc, "\n", SCRIPT_LIMIT + 1, "line 2: extra part"));
     assert!(rt; filled_is_told(alloc, "", SCRIPT_LIMIT, "line 1: unknown word"));

@@ -49,7 +49,12 @@ fn the_first_fault_decides(rt: HostRuntime) {
 
 #[test]
 fn a_schedule_is_a_fault_with_threads(rt: HostRuntime) {
-    each_row_holds(&rt, rt.alloc(), true, "line 2: schedule line|client c1 a;@settle 1");
+    each_row_holds(
+        &rt,
+        rt.alloc(),
+        true,
+        "line 2: schedule line|client c1 a;@settle 1",
+    );
 }
 
 #[test]
