@@ -3,7 +3,8 @@
 //! A *history* tells in order what happened: which command began, which single operation on which site was done for
 //! it, which reply it was given, which session was stopped. Each site keeps a *log* of its operations. [`replies`]
 //! prints a line for each reply of a history, and then one for each command of the script that has none.
-//! [`trace`] prints history and logs before that. [`usage`] is the line for words that aren't understood.
+//! [`trace`] prints history and logs before that. [`usage`] is the line for words that aren't understood. [`push_line`],
+//! [`push_log`] and [`push_reply`] append one line of a history, one log and one reply.
 //!
 //! ```text
 //! replies(alloc, &script, &history, &a, &b)       3 c1 ok
@@ -66,7 +67,8 @@ mod reply;
 mod room;
 mod snaps;
 mod speakers;
-#[cfg(test)]
-mod tests;
 
+pub use entries::push_line;
+pub use operations::push_log;
 pub use output::{replies, trace, usage};
+pub use reply::push_reply;

@@ -2,11 +2,11 @@
 ghost use Rattle.rbd_text.specs.Replies.{IsShowable};
 
 use super::{FIRST, header, name, sessions};
-use crate::reply::push_reply;
 use rbd_kinds::{
     Bytes, HeaderView, Ids, ImageId, MirrorState, Names, NoMemory, ParentLink, Refusal, Reply,
     Role, SnapId, SnapStatus, SnapView, Snaps,
 };
+use rbd_text::push_reply;
 use std::alloc::Global;
 use std::process::Abort;
 use std::test::Fail;

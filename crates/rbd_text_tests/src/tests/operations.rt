@@ -1,11 +1,11 @@
 //! Lines of an operation log: each kind of object, and the store's own steps.
 use super::{AGAIN, FIRST, name, sessions};
-use crate::operations::push_log;
 use rbd_kinds::{
     Answer, Bytes, ChildrenOp, DataOp, DirectoryOp, HeaderOp, Ids, ImageId, Instance, JournalOp,
     MapOp, NoMemory, Op, Parts, SiteId, SnapId,
 };
 use rbd_site::{Done, DoneOp};
+use rbd_text::push_log;
 use std::alloc::Global;
 use std::process::Abort;
 use std::test::Fail;

@@ -1,8 +1,8 @@
 //! Each form of a history's line.
 use super::{AGAIN, FIRST, name, sessions};
-use crate::entries::push_line;
 use rbd_flat::{Cause, Effect, Entry};
 use rbd_kinds::{ImageId, NoMemory, Reply, SessionNo, SiteId};
+use rbd_text::push_line;
 use std::alloc::Global;
 use std::process::Abort;
 use std::test::Fail;

@@ -4,7 +4,6 @@ ghost use Rattle.rbd_text.specs.Replies.{IsShowable};
 ghost use Rattle.rbd_text.specs.Text.{AreShown, IsShown};
 
 use super::{AGAIN, FIRST, header, name, sessions};
-use crate::{replies, trace, usage};
 use rbd_flat::{Cause, Effect, Entry};
 use rbd_kinds::{
     Answer, Command, DirectoryOp, HeaderOp, ImageId, Instance, NoMemory, Op, Reply, Role,
@@ -12,6 +11,7 @@ use rbd_kinds::{
 };
 use rbd_script::{Line, Lines, Said, Script, Sessions};
 use rbd_site::{Done, DoneOp};
+use rbd_text::{replies, trace, usage};
 use std::alloc::Global;
 use std::process::Abort;
 use std::test::Fail;

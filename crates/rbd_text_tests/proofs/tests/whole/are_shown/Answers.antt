@@ -2,7 +2,7 @@ use Rattle.std.proofs.Common.{refl, subst, arith}
 use Rattle.std.proofs.lemmas.List.{take_all}
 use Rattle.std.proofs.lemmas.List.Elements.{All-more}
 use Rattle.rbd_text.specs.Text.{IsShown, AreShown}
-use Rattle.rbd_text.proofs.tests.whole.are_shown.Goals as goal
+use Rattle.rbd_text_tests.proofs.tests.whole.are_shown.Goals as goal
 
 pub loop-entry-preserved : goal.loop-entry-preserved
 loop-entry-preserved c =
