@@ -1,5 +1,5 @@
 -- A byte is told by two digits.
-use Rattle.std.proofs.Common.{◌≡◌, ℕ, ◌-◌, ◌^◌, ◌<◌, ◌/◌, ◌%◌, false, List, [], ◌∷◌, Some, sym, ap, subst, ◌∙◌, option_map}
+use Rattle.std.proofs.Common.{◌≡◌, ℕ, ◌-◌, ◌^◌, ◌<◌, ◌/◌, ◌%◌, false, [], ◌∷◌, Some, sym, ap, subst, ◌∙◌, option_map}
 use Rattle.std.specs.Fmt.{digit_glyph, digits, digits_output, format_spec, padded_integral, styled_digits_output}
 use Rattle.std.proofs.lemmas.Fmt.{hex_byte}
 

@@ -1,7 +1,7 @@
 -- A text has no misplaced byte exactly where it is a name.
-use Rattle.std.proofs.Common.{◌≡◌, ℕ, suc, ◌+◌, ◌≤◌, Bool, true, false, cond, List, [], ◌∷◌, length, Option, Some, None, refl, ap, arith}
+use Rattle.std.proofs.Common.{◌≡◌, ℕ, suc, ◌+◌, ◌≤◌, Bool, true, false, cond, List, [], ◌∷◌, length, Some, None, refl, ap, arith}
 use Rattle.std.specs.Prelude.{not, nat_lt, ◌&&◌, IsTrue}
-use Rattle.std.specs.List.{position, position_or_len, prefix_len, list_all}
+use Rattle.std.specs.List.{position_or_len, prefix_len, list_all}
 use Rattle.std.proofs.lemmas.Bool.{ltb-false, le-ltb}
 use Rattle.rbd_kinds.specs.Name.{IsName, name_byte}
 use Rattle.rbd_frame.specs.Faults.{misplaced}

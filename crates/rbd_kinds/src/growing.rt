@@ -29,6 +29,13 @@ impl<T> Growing<T> {
         }
     }
 
+    /// The items of a vector, without a copy.
+    pub fn from_vec(items: Vec<T>) -> Self
+        ensures { result ≡ items.items }
+    {
+        Growing { items }
+    }
+
     /// The vector of the items, without a copy.
     pub fn into_vec(self) -> Vec<T>
         ensures { result.items ≡ self }
