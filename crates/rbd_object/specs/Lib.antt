@@ -1,5 +1,7 @@
 pub mod Contents
 pub mod Kept
 pub mod Mapped
+pub mod Paging
 pub mod Parts
+pub mod Sheets
 pub mod Versioned

@@ -3,7 +3,7 @@ ghost use Rattle.std.specs.Prelude.{◌≡◌, ℕ, ◌+◌, ◌≤◌, [], ◌+
 ghost use Rattle.rbd_object.specs.Contents.{window, overwritten, zeroed};
 ghost use Rattle.rbd_object.specs.Parts.{parts_len, parts_of, parts_written, parts_zeroed, AreWithin, EndWithin, last_end};
 
-use crate::parts::{copy_over, copy_window, gather, scatter};
+use crate::parts::{clear, copy_over, copy_window, gather, scatter};
 use rbd_kinds::{NoMemory, Part};
 use std::alloc::Global;
 use std::marker::Model;
@@ -140,12 +140,4 @@ fn last_end(parts: &[Part]) -> usize
         end = end.max((part.offset + part.len) as usize);
     }
     end
-}
-
-fn clear(bytes: &mut [u8], at: usize, len: usize)
-    ensures { bytes.new ≡ zeroed bytes.old at len }
-{
-    let from = at.min(bytes.len());
-    let count = len.min(bytes.len() - from);
-    bytes[from..from + count].fill(0);
 }

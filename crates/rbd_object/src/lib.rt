@@ -52,9 +52,12 @@
 //! snapshot needs.
 #![tactic(auto)]
 
+mod arena;
 mod content;
 pub mod laws;
 mod object;
+mod page;
+mod pages;
 mod parts;
 #[cfg(test)]
 mod tests;

@@ -1,7 +1,7 @@
 use Rattle.std.proofs.Common.{ℕ, ◌≡◌, ◌+◌, ◌-◌, arith, ◌∙◌, ap, replicate}
 use Rattle.std.proofs.lemmas.List.{places}
 use Rattle.rbd_object.proofs.ContentsLemmas.{zeroed-put}
-use Rattle.rbd_object.proofs.content.clear.Goals as goal
+use Rattle.rbd_object.proofs.parts.clear.Goals as goal
 
 there_and_back : (m n : ℕ) → m + n - m ≡ n
 there_and_back m n = omega arith
