@@ -2,7 +2,7 @@
 use Rattle.std.proofs.Common.{◌≡◌, ◌≢◌, ℕ, ◌+◌, ◌-◌, ◌/◌, ◌%◌, ◌<◌, ◌≤◌, Bool, true, false, cond, eqb, ltb, List, [], ◌∷◌, ◌++◌, length, get_or, set, take, drop, replicate, min, ◌*◌, length-drop, length-take, refl, sym, ap, ◌∙◌, subst, inl, inr, arith}
 use Rattle.std.specs.Prelude.{zero, suc}
 use Rattle.std.proofs.lemmas.Bool.{cases_lt, cases_eq}
-use Rattle.std.proofs.lemmas.List.{get_or_past, get_or_append_left, get_or-set_same, get_or-set_other, get_or_push, get_or_read, get_or-drop, get_or-take, get_or-replicate, length_push, length-replicate, length-set, places}
+use Rattle.std.proofs.lemmas.List.{get_or_past, get_or_append_left, get_or-set_same, get_or-set_other, get_or_push, drop_more, get_or_read, get_or-drop, get_or-take, get_or-replicate, length_push, length-replicate, length-set, places}
 use Rattle.std.proofs.lemmas.List.FromFn.{fill_by_all, length-map-range_with_len, get_or-map-range_with_len}
 use Rattle.std.proofs.lemmas.List.Folds.{list_any_at}
 use Rattle.std.specs.List.{list_any}
@@ -23,7 +23,7 @@ occurs-push : (pages : List ℕ) (q page : ℕ) → occurs page (pages ++ q ∷ 
 occurs-push [] q page = omega arith
 occurs-push (p ∷ pages) q page = let rest = occurs-push pages q page in omega arith
 
-occurs-at : (pages : List ℕ) (k : ℕ) → k < length pages → 0 < occurs (get_or pages k 0) pages
+pub occurs-at : (pages : List ℕ) (k : ℕ) → k < length pages → 0 < occurs (get_or pages k 0) pages
 occurs-at [] k below = omega arith
 occurs-at (p ∷ pages) zero below = grind arith
 occurs-at (p ∷ pages) (suc k) below = let rest = occurs-at pages k (omega arith) in omega arith
@@ -117,10 +117,10 @@ copied a b c p q more free first new second less =
     }
 
 -- whether k is a place of the list or not
-bytes_on_within : (sheets : List Sheet) (pages : List ℕ) (k : ℕ) → k < length pages → bytes_on sheets pages k ≡ bytes_at sheets (get_or pages k 0)
+pub bytes_on_within : (sheets : List Sheet) (pages : List ℕ) (k : ℕ) → k < length pages → bytes_on sheets pages k ≡ bytes_at sheets (get_or pages k 0)
 bytes_on_within sheets pages k below = grind arith
 
-bytes_on_past : (sheets : List Sheet) (pages : List ℕ) (k : ℕ) → length pages ≤ k → bytes_on sheets pages k ≡ []
+pub bytes_on_past : (sheets : List Sheet) (pages : List ℕ) (k : ℕ) → length pages ≤ k → bytes_on sheets pages k ≡ []
 bytes_on_past sheets pages k past = grind arith
 
 -- what the list doesn't name stands at no place of it
@@ -559,19 +559,23 @@ zeroing_more pages at len old next left a b count z counted some c change counts
 
 -- ---- the last page is dropped
 
+named_less : (a : List Sheet) (pages left : List ℕ) (p : ℕ) → ((x : ℕ) → occurs x pages ≡ occurs x left + cond (eqb p x) 1 0)
+    → AreCounted a pages → 0 < count_at a p
+named_less a pages left p is counted = let names = is p in let most = counted.each p in grind arith
+
 pub counted_last : (a : List Sheet) (pages front : List ℕ) (p : ℕ) → pages ≡ front ++ p ∷ [] → AreCounted a pages → 0 < count_at a p
 counted_last a pages front p is counted =
     let names : occurs p pages ≡ occurs p front + cond (eqb p p) 1 0 = ap (occurs p) is ∙ occurs-push front p p in
     let most = counted.each p in grind arith
 
-pub moved_pop : (a b : List Sheet) (pages front : List ℕ) (p : ℕ) → pages ≡ front ++ p ∷ [] → AreCounted a pages
-    → Changed p a b → sheet_at b p ≡ released (sheet_at a p) → Moved a pages b front
-moved_pop a b pages front p is counted change less = record {
+pub moved_less : (a b : List Sheet) (pages left : List ℕ) (p : ℕ) → ((x : ℕ) → occurs x pages ≡ occurs x left + cond (eqb p x) 1 0)
+    → AreCounted a pages → Changed p a b → sheet_at b p ≡ released (sheet_at a p) → Moved a pages b left
+moved_less a b pages left p is counted change less = record {
   counts = λ x.
-      let names : occurs x pages ≡ occurs x front + cond (eqb p x) 1 0 = ap (occurs x) is ∙ occurs-push front p x in
+      let names = is x in
       elim (cases_eq x p) [
         | inl same ↦
-            let some = counted_last a pages front p is counted in
+            let some = named_less a pages left p is counted in
             let less_count : count_at b p ≡ count_at a p - 1 = ap (λ (s : Sheet). s.count) less in
             let here_b : count_at b x ≡ count_at b p = ap (count_at b) same in
             let here_a : count_at a x ≡ count_at a p = ap (count_at a) same in
@@ -581,7 +585,7 @@ moved_pop a b pages front p is counted change less = record {
   others = λ x held.
       elim (cases_eq x p) [
         | inl same ↦
-            let names : occurs p pages ≡ occurs p front + cond (eqb p p) 1 0 = ap (occurs p) is ∙ occurs-push front p p in
+            let names = is p in
             let held_p : occurs p pages < count_at a p = subst (λ y. occurs y pages < count_at a y) same held in
             let more : 1 < count_at a p = grind arith in
             let kept : bytes_at b p ≡ cond (ltb 1 (count_at a p)) (bytes_at a p) [] = ap (λ (s : Sheet). s.bytes) less in
@@ -589,6 +593,26 @@ moved_pop a b pages front p is counted change less = record {
         | inr apart ↦ ap (λ (s : Sheet). s.bytes) (change.others x apart)
       ];
 }
+
+pub moved_pop : (a b : List Sheet) (pages front : List ℕ) (p : ℕ) → pages ≡ front ++ p ∷ [] → AreCounted a pages
+    → Changed p a b → sheet_at b p ≡ released (sheet_at a p) → Moved a pages b front
+moved_pop a b pages front p is counted change less =
+    moved_less a b pages front p (λ x. ap (occurs x) is ∙ occurs-push front p x) counted change less
+
+-- the first of those that are left
+pub moved_first : (a b : List Sheet) (pages : List ℕ) (k : ℕ) → k < length pages → AreCounted a (drop k pages)
+    → Changed (get_or pages k 0) a b → sheet_at b (get_or pages k 0) ≡ released (sheet_at a (get_or pages k 0))
+    → Moved a (drop k pages) b (drop (k + 1) pages)
+moved_first a b pages k below counted change less =
+    moved_less a b (drop k pages) (drop (k + 1) pages) (get_or pages k 0)
+    (λ x. ap (occurs x) (drop_more pages k 0 below) ∙ (let swap : cond (eqb (get_or pages k 0) x) 1 0 + occurs x (drop (k + 1) pages) ≡ occurs x (drop (k + 1) pages) + cond (eqb (get_or pages k 0) x) 1 0 = omega arith in swap))
+    counted change less
+
+pub counted_first : (a : List Sheet) (pages : List ℕ) (k : ℕ) → k < length pages → AreCounted a (drop k pages) → 0 < count_at a (get_or pages k 0)
+counted_first a pages k below counted =
+    let l = length-drop k pages in
+    subst (λ p. 0 < count_at a p) (get_or-drop k pages 0 0 ∙ ap (λ i. get_or pages i 0) (let same : k + 0 ≡ k = omega arith in same))
+    (counted_at a (drop k pages) 0 counted (omega arith))
 
 pub used_pop : (a b : List Sheet) (p : ℕ) → Changed p a b → sheet_at b p ≡ released (sheet_at a p) → in_use b ≤ in_use a
 used_pop a b p change less =
@@ -683,3 +707,17 @@ read_more a pages at done count n old part j fits few e is before below =
 
 pub length-slot : (done count : ℕ) (old : List ℕ) → done + count ≤ length old → length (take (done + count - done) (drop done old)) ≡ count
 length-slot done count old fits = length-take (done + count - done) (drop done old) ∙ (let l = length-drop done old in omega arith)
+
+pub kept_pop : (a b : List Sheet) (p x : ℕ) → Changed p a b → sheet_at b p ≡ released (sheet_at a p) → 0 < count_at b x
+    → (bytes_at b x ≡ bytes_at a x) × (0 < count_at a x)
+kept_pop a b p x change less some = elim (cases_eq x p) [
+  | inl same ↦
+      let count : count_at b p ≡ count_at a p - 1 = ap (λ (s : Sheet). s.count) less in
+      let bytes : bytes_at b p ≡ cond (ltb 1 (count_at a p)) (bytes_at a p) [] = ap (λ (s : Sheet). s.bytes) less in
+      let there : 0 < count_at b p = subst (λ y. 0 < count_at b y) same some in
+      rw same (grind arith, omega arith)
+  | inr apart ↦
+      let others = change.others x apart in
+      let count : count_at b x ≡ count_at a x = ap (λ (s : Sheet). s.count) others in
+      (ap (λ (s : Sheet). s.bytes) others, omega arith)
+]

@@ -53,10 +53,13 @@
 #![tactic(auto)]
 
 mod arena;
+mod change;
 mod content;
+mod heads;
 pub mod laws;
 mod object;
 mod page;
+mod paged;
 mod pages;
 mod parts;
 #[cfg(test)]
@@ -66,4 +69,5 @@ mod versions;
 
 pub use content::LARGEST_OBJECT;
 pub use object::Object;
+pub use paged::PagedObject;
 pub use parts::{copy_window, gather, scatter, shifted_parts};

@@ -2,7 +2,7 @@
 ghost use Rattle.std.specs.Prelude.{◌≡◌, ◌≢◌, ℕ, ◌+◌, ◌-◌, ◌*◌, ◌/◌, ◌<◌, ◌≤◌, [], length, take, min, max, slice_index, if◌then◌else◌, replicate, IfOk, OnOk, OnErr, IsTrue, nat_lt};
 ghost use Rattle.std.specs.List.{list_any};
 ghost use Rattle.rbd_object.specs.Contents.{is_within, window};
-ghost use Rattle.rbd_object.specs.Sheets.{in_use};
+ghost use Rattle.rbd_object.specs.Sheets.{bytes_at, count_at, in_use};
 ghost use Rattle.rbd_object.specs.Paging.{AreCounted, AreApart, IsReady, IsWritten, IsZeroed, Moved, Prepared, byte_at, bytes_on, pages_for};
 ghost use Rattle.rbd_object.specs.declared.page.TheConstants.{PAGE};
 ghost use Rattle.rbd_object.specs.declared.content.TheConstants.{LARGEST_OBJECT};
@@ -210,11 +210,24 @@ pub fn cut(pages: &mut Vec<u32>, arena: &mut Arena, len: usize)
     requires counted { AreCounted arena.old pages.old.items }
     ensures pages { pages.new.items ≡ take len pages.old.items }
     ensures moved { Moved arena.old pages.old.items arena.new pages.new.items }
+    ensures kept { (page : ℕ) → 0 < count_at arena.new page → bytes_at arena.new page ≡ bytes_at arena.old page }
     ensures used { in_use arena.new ≤ in_use arena.old }
 {
     while pages.len() > len {
         let page = pages.pop().unwrap();
         arena.release(page);
+    }
+}
+
+/// One place less names each of the pages.
+pub fn let_go(pages: &[u32], arena: &mut Arena)
+    requires counted { AreCounted arena.old pages.now }
+    ensures moved { Moved arena.old pages.now arena.new [] }
+    ensures kept { (page : ℕ) → 0 < count_at arena.new page → bytes_at arena.new page ≡ bytes_at arena.old page }
+    ensures used { in_use arena.new ≤ in_use arena.old }
+{
+    for page in pages {
+        arena.release(*page);
     }
 }
 

@@ -1,10 +1,10 @@
 use Rattle.std.proofs.Common.{◌≡◌, ◌++◌, ◌∷◌, [], ◌∙◌, ap, sym, refl, length, take, option_to_list, arith}
 use Rattle.std.proofs.lemmas.List.{take_all, take-append-le, length_push}
-use Rattle.rbd_object.proofs.PagingLemmas.{moved_refl, moved_trans, moved_pop, used_pop, counted_moved, counted_last}
+use Rattle.rbd_object.proofs.PagingLemmas.{moved_refl, moved_trans, moved_pop, used_pop, kept_pop, counted_moved, counted_last}
 use Rattle.rbd_object.proofs.pages.cut.Goals as goal
 
 pub loop-pages-init : goal.loop-pages-init
-loop-pages-init c = record { moved = moved_refl c.args.arena.now c.args.pages.now.items; front = refl; used = omega arith }
+loop-pages-init c = record { moved = moved_refl c.args.arena.now c.args.pages.now.items; front = refl; kept = λ page some. refl; used = omega arith }
 
 pub release-requires : goal.release-requires
 release-requires c =
@@ -27,6 +27,9 @@ loop-pages-preserved c =
           c.release.ensures.changed c.release.ensures.page);
       front =
           sym (ap (take c.args.len) is ∙ take-append-le c.args.len c.pop.new.self.items (c.unwrap-page.result ∷ []) (omega arith)) ∙ was.front;
+      kept = λ page some.
+          let step = kept_pop c.loop-pages.arena c.release.new.self c.unwrap-page.result page c.release.ensures.changed c.release.ensures.page some in
+          step.0 ∙ was.kept page step.1;
       used =
           let fewer = used_pop c.loop-pages.arena c.release.new.self c.unwrap-page.result c.release.ensures.changed c.release.ensures.page in
           let before = was.used in omega arith;
@@ -39,6 +42,9 @@ returns-clause-pages c =
 
 pub returns-clause-moved : goal.returns-clause-moved
 returns-clause-moved c = c.loop-pages.invariant.moved
+
+pub returns-clause-kept : goal.returns-clause-kept
+returns-clause-kept c = c.loop-pages.invariant.kept
 
 pub returns-clause-used : goal.returns-clause-used
 returns-clause-used c = c.loop-pages.invariant.used
