@@ -1,5 +1,10 @@
+pub mod Changes
 pub mod Contents
 pub mod Kept
 pub mod Mapped
+pub mod Paged
+pub mod Paging
 pub mod Parts
+pub mod Shared
+pub mod Sheets
 pub mod Versioned

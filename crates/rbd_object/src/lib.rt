@@ -40,22 +40,40 @@
 //!
 //! # Cost
 //!
-//! A write costs the bytes that it writes and the gap before them. The first change after a snapshot adds
-//! the object's length where the head stays in place (`write`, `zero`), and nothing where it is replaced
-//! (`write_full`, `empty`, `remove`): the old head moves into the version. A context whose number isn't
-//! above `seq` costs nothing. A read copies into the caller's buffer alone; that of a snapshot looks
-//! through the versions first, newest first. A trim looks at each snapshot that something is kept for.
+//! Contents lie on pages of 4,096 bytes. A write costs the bytes that it writes, and an index and an entry for
+//! each page that is new: a page of zeros has no bytes, which are taken at the first one that isn't zero. The
+//! first change after a snapshot adds an index and a count for each page of the object where the head stays in
+//! place (`write`, `zero`), and a copy of each page that it touches; where it is replaced (`write_full`, `empty`,
+//! `remove`) the old head moves into the version. A change of several parts costs as much each time, since the
+//! head is held beside it until the last part is done. A context whose number isn't above `seq` costs nothing. A
+//! read copies into the caller's buffer alone; that of a snapshot looks through the versions first, newest
+//! first. A trim looks at each snapshot that something is kept for, and at the pages of what it drops.
+//!
+//! [`Object::pages`] is the number of pages that some content names, each counted once. What each call may add
+//! to it stands in the contracts of [`PagedObject`], which has the same calls and whose contracts see that
+//! number beside the object's value. [`Object`] is its front: its contracts know no pages.
 //!
 //! # How it works
 //!
-//! The head is a vector of bytes, changed in place. Beside it stands a queue of versions, newest first:
-//! bytes that the head once had, and the snapshots that they are kept for. No version is left that no
-//! snapshot needs.
+//! The arena has the pages, each with a count: the number of places that name it. Free pages are linked by
+//! index. The head and the versions are lists of indices, and a change writes a page in place only where its
+//! count is 1; else it takes a new page. Beside the head stands a queue of versions, newest first: contents that
+//! the head once had, and the snapshots that they are kept for. No version is left that no snapshot needs.
+//!
+//! A change of one part first makes its pages ready, which may be refused memory and shows nothing, and then
+//! changes them, which can't be. Each step is stated for one list of pages alone: each count follows the list,
+//! and pages that others name too keep their bytes.
 #![tactic(auto)]
 
+mod arena;
+mod change;
 mod content;
+mod heads;
 pub mod laws;
 mod object;
+mod page;
+mod paged;
+mod pages;
 mod parts;
 mod stretch;
 #[cfg(test)]
@@ -65,5 +83,6 @@ mod versions;
 
 pub use content::LARGEST_OBJECT;
 pub use object::Object;
+pub use paged::PagedObject;
 pub use parts::{copy_window, gather, scatter, shifted_parts};
 pub use stretch::bytes_for;

@@ -1,6 +1,6 @@
 //! Bytes out of parts and into them.
 ghost use Rattle.std.specs.Prelude.{◌≡◌, ◌+◌, ◌≤◌, ◌++◌, length, map, IfOk, OnOk};
-ghost use Rattle.rbd_object.specs.Contents.{window, overwritten};
+ghost use Rattle.rbd_object.specs.Contents.{window, overwritten, zeroed};
 ghost use Rattle.rbd_kinds.specs.Parts.{parts_len};
 ghost use Rattle.rbd_object.specs.Parts.{parts_of, parts_written, EndWithin, shifted, AreBehind};
 
@@ -77,4 +77,13 @@ pub fn copy_over(bytes: &mut [u8], at: usize, new: &[u8])
     ensures { bytes.new ≡ overwritten bytes.old at new.now }
 {
     bytes[at..at + new.len()].copy_from_slice(new);
+}
+
+/// Makes `len` bytes from byte `at` on zero, as far as there are bytes.
+pub fn clear(bytes: &mut [u8], at: usize, len: usize)
+    ensures { bytes.new ≡ zeroed bytes.old at len }
+{
+    let from = at.min(bytes.len());
+    let count = len.min(bytes.len() - from);
+    bytes[from..from + count].fill(0);
 }

@@ -173,6 +173,33 @@ fn a_copy_up_fills_only_an_absent_head(rt: HostRuntime) -> Result<(), Fail> {
     Ok(())
 }
 
+/// The byte of a view at an offset, where the object is there.
+fn byte_of(object: &Object, number: u32, at: u64) -> Option<u8> {
+    let mut byte = [0];
+    if object.read(view_of(number), at, &mut byte) {
+        Some(byte[0])
+    } else {
+        None
+    }
+}
+
+#[test]
+fn versions_share_pages(rt: HostRuntime) -> Result<(), Fail> {
+    let alloc = rt.alloc();
+    let mut object = Object::new(alloc);
+    object.write(&context(alloc, 0, &[])?, 0, &[7; 10_000])?;
+    assert_eq!(rt; object.pages(), 3);
+
+    object.write(&context(alloc, 1, &[1])?, 4096, &[9])?;
+    assert_eq!(rt; object.pages(), 4);
+    assert_eq!(rt; byte_of(&object, 1, 4096), Some(7));
+    assert_eq!(rt; byte_of(&object, 0, 4096), Some(9));
+
+    object.trim(&[]);
+    assert_eq!(rt; object.pages(), 3);
+    Ok(())
+}
+
 /// Two parts of an object that take bytes 100, 101 and 104 of the image.
 const PARTS: [Part; 2] = [
     Part {

@@ -1,6 +1,7 @@
 //! One version of an object.
-ghost use Rattle.std.specs.Prelude.{◌≡◌, [], IsTrue, ◌↔◌, List};
+ghost use Rattle.std.specs.Prelude.{◌≡◌};
 ghost use Rattle.rbd_object.specs.Kept.{is_listed};
+ghost use Rattle.rbd_object.specs.Shared.{is_live, live_stored};
 
 use crate::content::Content;
 use rbd_kinds::SnapId;
@@ -14,18 +15,16 @@ pub struct Version {
 }
 
 impl Model for Version {
-    ghost use Rattle.rbd_object.specs.Kept.{Kept};
+    ghost use Rattle.rbd_object.specs.Shared.{Stored};
 
-    ghost Value = { Kept };
+    ghost Value = { Stored };
 
-    ghost view = { λ v. record { snaps = v.snaps.items; bytes = v.content } };
+    ghost view = { λ v. record { snaps = v.snaps.items; content = v.content } };
 }
 
 impl Version {
-    ghost use Rattle.rbd_object.specs.Kept.{live_part};
-
     pub fn new(snaps: Vec<SnapId>, content: Content) -> Self
-        ensures { result ≡ record { snaps = snaps.items; bytes = content } }
+        ensures { result ≡ record { snaps = snaps.items; content = content } }
     {
         Version { snaps, content }
     }
@@ -37,21 +36,21 @@ impl Version {
     }
 
     pub fn content(&self) -> &Content
-        ensures { result.now ≡ self.now.bytes }
+        ensures { result.now ≡ self.now.content }
     {
         &self.content
     }
 
-    /// Whether it is kept for no snapshot any more.
-    pub fn is_unused(&self) -> bool
-        ensures { IsTrue result ↔ (self.now.snaps ≡ []) }
+    /// Whether it is kept for a live snapshot.
+    pub fn is_live(&self, live: &[SnapId]) -> bool
+        ensures { result ≡ is_live live.now self.now }
     {
-        self.snaps.is_empty()
+        self.snaps.iter().any(|snap| live.contains(snap))
     }
 
     /// Drops the snapshots that aren't live.
     pub fn keep_live(&mut self, live: &[SnapId])
-        ensures { self.new ≡ live_part live.now self.old }
+        ensures { self.new ≡ live_stored live.now self.old }
     {
         self.snaps.retain(|snap| live.contains(snap));
     }

@@ -1,9 +1,12 @@
 //! The versions of an object, newest first.
-ghost use Rattle.std.specs.Prelude.{◌≡◌, ◌<◌, ◌++◌, IfOk, OnOk, IsTrue, IsSome, find, option_copied, option_to_list};
-ghost use Rattle.std.specs.FinMap.{get, retain_keys};
+ghost use Rattle.std.specs.Prelude.{◌≡◌, ℕ, ◌+◌, ◌<◌, ◌≤◌, ◌++◌, IfOk, OnOk, IsTrue, IsSome, find, option_copied, option_map, option_to_list};
 ghost use Rattle.std.specs.VecDeque.{deque_len, deque_capacity};
-ghost use Rattle.rbd_object.specs.Kept.{AreUsed, is_listed, kept_by, new_version};
+ghost use Rattle.rbd_object.specs.Kept.{is_listed};
+ghost use Rattle.rbd_object.specs.Paging.{AreCounted};
+ghost use Rattle.rbd_object.specs.Shared.{AreNamed, dead_named, dead_pages, live_versions};
+ghost use Rattle.rbd_object.specs.Sheets.{bytes_at, count_at, in_use};
 
+use crate::arena::Arena;
 use crate::content::Content;
 use crate::version::Version;
 use rbd_kinds::{NoMemory, SnapId};
@@ -17,9 +20,8 @@ fn version_for(versions: &VecDeque<Version>, snap: SnapId) -> Option<&Version>
 }
 
 /// What is kept for a snapshot.
-#[tactic(auto, using(crate::proofs::KeptLemmas::get_kept_by))]
 pub fn kept_for(versions: &VecDeque<Version>, snap: SnapId) -> Option<&Content>
-    ensures { option_copied result ≡ get (kept_by versions.now.items) snap }
+    ensures { option_copied result ≡ option_map (λ v. v.content) (find (λ v. is_listed v.snaps snap) versions.now.items) }
 {
     match version_for(versions, snap) {
         Some(version) => Some(version.content()),
@@ -27,23 +29,13 @@ pub fn kept_for(versions: &VecDeque<Version>, snap: SnapId) -> Option<&Content>
     }
 }
 
-/// The version that keeps a copy of the head for these snapshots.
-pub fn copied(head: &Option<Content>, snaps: Vec<SnapId>) -> Result<Option<Version>, NoMemory>
-    ensures { IfOk result (λ version. version ≡ new_version head.now snaps.items) }
+/// The version that keeps a content for these snapshots, if there is one.
+pub fn version_of(kept: Option<Content>, snaps: Vec<SnapId>) -> Option<Version>
+    ensures { result ≡ option_map (λ c. record { snaps = snaps.items; content = c }) kept }
 {
-    match head {
-        Some(content) if !snaps.is_empty() => Ok(Some(Version::new(snaps, content.try_clone()?))),
-        _ => Ok(None),
-    }
-}
-
-/// The version that keeps the head itself for these snapshots.
-pub fn moved(head: Option<Content>, snaps: Vec<SnapId>) -> Option<Version>
-    ensures { result ≡ new_version head snaps.items }
-{
-    match head {
-        Some(content) if !snaps.is_empty() => Some(Version::new(snaps, content)),
-        _ => None,
+    match kept {
+        Some(content) => Some(Version::new(snaps, content)),
+        None => None,
     }
 }
 
@@ -68,13 +60,36 @@ pub fn add(versions: &mut VecDeque<Version>, version: Option<Version>)
     }
 }
 
-/// Drops what is kept for snapshots that aren't live.
+/// Drops the versions that are kept for no live snapshot, and the snapshots that aren't live.
 pub fn keep_live(versions: &mut VecDeque<Version>, live: &[SnapId])
-    ensures kept { kept_by versions.new.items ≡ retain_keys (kept_by versions.old.items) (is_listed live.now) }
-    ensures used { AreUsed versions.new.items }
+    ensures { versions.new.items ≡ live_versions live.now versions.old.items }
 {
     versions.retain_mut(|version| {
+        let stays = version.is_live(live);
         version.keep_live(live);
-        !version.is_unused()
+        stays
     });
+}
+
+/// Lets the pages of versions go that are kept for no live snapshot.
+pub fn let_go(versions: &VecDeque<Version>, arena: &mut Arena, live: &[SnapId])
+    requires { AreNamed arena.old versions.now.items }
+    ensures counts { (page : ℕ) → count_at arena.new page + dead_named live.now page versions.now.items ≡ count_at arena.old page }
+    ensures kept { (page : ℕ) → 0 < count_at arena.new page → bytes_at arena.new page ≡ bytes_at arena.old page }
+    ensures used { in_use arena.new ≤ in_use arena.old }
+{
+    for i in 0..versions.len() {
+        let_go_of(&versions[i], arena, live);
+    }
+}
+
+fn let_go_of(version: &Version, arena: &mut Arena, live: &[SnapId])
+    requires { AreCounted arena.old version.now.content.pages }
+    ensures counts { (page : ℕ) → count_at arena.new page + dead_pages live.now page version.now ≡ count_at arena.old page }
+    ensures kept { (page : ℕ) → 0 < count_at arena.new page → bytes_at arena.new page ≡ bytes_at arena.old page }
+    ensures used { in_use arena.new ≤ in_use arena.old }
+{
+    if !version.is_live(live) {
+        version.content().let_go(arena);
+    }
 }

@@ -1,0 +1,158 @@
+-- Heads that are changed part by part.
+use Rattle.std.proofs.Common.{◌≡◌, ℕ, ◌+◌, ◌<◌, ◌≤◌, List, [], ◌∷◌, Option, Some, None, length, get_or, take, drop, min, max, refl, sym, ap, ◌∙◌, subst, drop-cons, length-take, length-drop, add-one, arith}
+use Rattle.std.specs.Prelude.{option_map, unwrap_or}
+use Rattle.std.proofs.lemmas.List.{drop_all}
+use Rattle.rbd_kinds.specs.declared.layout.Part.{Part}
+use Rattle.rbd_object.specs.Contents.{overwritten, zeroed}
+use Rattle.rbd_kinds.specs.Parts.{parts_len}
+use Rattle.rbd_object.specs.Parts.{parts_written, parts_zeroed}
+use Rattle.rbd_object.specs.Sheets.{Sheet, in_use}
+use Rattle.rbd_object.specs.Paging.{AreCounted, Moved}
+use Rattle.rbd_object.specs.Shared.{Listed, IsHead, begun, bytes_in, bytes_of, len_of, pages_of, touched, written_touch, zeroed_touch}
+use Rattle.rbd_object.proofs.ContentsLemmas.{length_overwritten}
+use Rattle.rbd_object.proofs.HeadLemmas.{empty_content}
+use Rattle.rbd_object.proofs.PagingLemmas.{moved_refl, moved_trans}
+use Rattle.rbd_object.proofs.SharedLemmas.{length-bytes_in}
+
+abbrev pub no_part : Part
+no_part = record { offset = 0; at = 0; len = 0 }
+
+pub next_part : (parts : List Part) (i : ℕ) → i < length parts → drop i parts ≡ get_or parts i no_part ∷ drop (i + 1) parts
+next_part parts i below = drop-cons parts i no_part below ∙ ap (λ n. get_or parts i no_part ∷ drop n parts) (sym (add-one i))
+
+pub len_is : (a : List Sheet) (head : Option Listed) → len_of head ≡ length (unwrap_or (bytes_of a head) [])
+len_is a None = refl
+len_is a (Some c) = sym (length-bytes_in a c)
+
+-- what is left of a write of parts
+pub record IsWritingParts (parts : List Part) (bytes : List ℕ) (old : List Sheet) (before : Option Listed) (i : ℕ) (rest : List ℕ) (new : List Sheet) (head : Option Listed) : Type 0 where
+  pub moved : Moved old (pages_of before) new (pages_of head)
+  pub is : IsHead new head
+  pub there : bytes_of new head ≡ Some (unwrap_or (bytes_of new head) [])
+  pub left : parts_written (drop i parts) rest (unwrap_or (bytes_of new head) []) ≡ parts_written parts bytes (unwrap_or (bytes_of old before) [])
+  pub long : length rest ≡ parts_len (drop i parts)
+  pub used : in_use new + written_touch (len_of head) (drop i parts) ≤ in_use old + written_touch (len_of before) parts
+
+pub parts_begun : (parts : List Part) (bytes : List ℕ) (a : List Sheet) (before head : Option Listed) → head ≡ begun before → IsHead a before
+    → length bytes ≡ parts_len parts → IsWritingParts parts bytes a before 0 bytes a head
+parts_begun parts bytes a before head e is long = subst (IsWritingParts parts bytes a before 0 bytes a) (sym e) (go before is) where
+  go : (before : Option Listed) → IsHead a before → IsWritingParts parts bytes a before 0 bytes a (begun before)
+  go None is = record { moved = moved_refl a []; is = empty_content a; there = refl; left = refl; long = long; used = omega arith }
+  go (Some c) is = record { moved = moved_refl a c.pages; is = is; there = refl; left = refl; long = long; used = omega arith }
+
+pub parts_fit : (parts : List Part) (bytes : List ℕ) (old : List Sheet) (before : Option Listed) (i : ℕ) (rest : List ℕ) (a : List Sheet) (head : Option Listed)
+    → IsWritingParts parts bytes old before i rest a head → i < length parts → (get_or parts i no_part).len ≤ length rest
+parts_fit parts bytes old before i rest a head w below =
+    let long = w.long in let sum = ap parts_len (next_part parts i below) in omega arith
+
+touch_next : (parts : List Part) (i len : ℕ) → i < length parts → written_touch len (drop i parts)
+    ≡ touched (min len (get_or parts i no_part).offset) ((get_or parts i no_part).offset + (get_or parts i no_part).len)
+    + written_touch (max len ((get_or parts i no_part).offset + (get_or parts i no_part).len)) (drop (i + 1) parts)
+touch_next parts i len below = ap (written_touch len) (next_part parts i below)
+
+pub parts_more : (parts : List Part) (bytes : List ℕ) (old : List Sheet) (before : Option Listed) (i : ℕ) (rest : List ℕ) (a b : List Sheet) (head after : Option Listed) (first back : List ℕ)
+    → IsWritingParts parts bytes old before i rest a head → i < length parts
+    → first ≡ take (get_or parts i no_part).len rest → back ≡ drop (get_or parts i no_part).len rest
+    → Moved a (pages_of head) b (pages_of after) → IsHead b after
+    → bytes_of b after ≡ Some (overwritten (unwrap_or (bytes_of a head) []) (get_or parts i no_part).offset first)
+    → in_use b ≤ in_use a + touched (min (len_of head) (get_or parts i no_part).offset) ((get_or parts i no_part).offset + length first)
+    → IsWritingParts parts bytes old before (i + 1) back b after
+parts_more parts bytes old before i rest a b head after first back w below f r moved is written used =
+    let p = get_or parts i no_part in
+    let fits = parts_fit parts bytes old before i rest a head w below in
+    let short : length first ≡ p.len = ap length f ∙ length-take p.len rest ∙ omega arith in
+    let held = ap (λ held. unwrap_or held []) written in
+    let len : len_of after ≡ max (len_of head) (p.offset + p.len) =
+    len_is b after ∙ ap length held ∙ length_overwritten (unwrap_or (bytes_of a head) []) p.offset first
+    ∙ ap (λ n. max (length (unwrap_or (bytes_of a head) [])) (p.offset + n)) short ∙ ap (λ n. max n (p.offset + p.len)) (sym (len_is a head)) in
+    record {
+      moved = moved_trans old a b (pages_of before) (pages_of head) (pages_of after) w.moved moved;
+      is = is;
+      there = written ∙ ap (λ xs. Some xs) (sym held);
+      left =
+          ap (parts_written (drop (i + 1) parts) back) (held ∙ ap (overwritten (unwrap_or (bytes_of a head) []) p.offset) f)
+          ∙ ap (λ xs. parts_written (drop (i + 1) parts) xs (overwritten (unwrap_or (bytes_of a head) []) p.offset (take p.len rest))) r
+          ∙ sym (ap (λ ps. parts_written ps rest (unwrap_or (bytes_of a head) [])) (next_part parts i below))
+          ∙ w.left;
+      long = let sum = ap parts_len (next_part parts i below) in let long = w.long in ap length r ∙ length-drop p.len rest ∙ omega arith;
+      used =
+          let all = w.used in let split = touch_next parts i (len_of head) below in
+          let step : in_use b ≤ in_use a + touched (min (len_of head) p.offset) (p.offset + p.len) =
+          subst (λ n. in_use b ≤ in_use a + touched (min (len_of head) p.offset) (p.offset + n)) short used in
+          subst (λ n. in_use b + written_touch n (drop (i + 1) parts) ≤ in_use old + written_touch (len_of before) parts) (sym len) (omega arith);
+    }
+
+-- a part that was refused
+pub parts_refused : (parts : List Part) (bytes : List ℕ) (old : List Sheet) (before : Option Listed) (i : ℕ) (rest : List ℕ) (a b : List Sheet) (head : Option Listed) (first : List ℕ)
+    → IsWritingParts parts bytes old before i rest a head → i < length parts → first ≡ take (get_or parts i no_part).len rest
+    → in_use b ≤ in_use a + touched (min (len_of head) (get_or parts i no_part).offset) ((get_or parts i no_part).offset + length first)
+    → in_use b ≤ in_use old + written_touch (len_of before) parts
+parts_refused parts bytes old before i rest a b head first w below f used =
+    let p = get_or parts i no_part in
+    let fits = parts_fit parts bytes old before i rest a head w below in
+    let short : length first ≡ p.len = ap length f ∙ length-take p.len rest ∙ omega arith in
+    let step : in_use b ≤ in_use a + touched (min (len_of head) p.offset) (p.offset + p.len) =
+    subst (λ n. in_use b ≤ in_use a + touched (min (len_of head) p.offset) (p.offset + n)) short used in
+    let all = w.used in let split = touch_next parts i (len_of head) below in omega arith
+
+pub parts_done : (parts : List Part) (bytes : List ℕ) (old : List Sheet) (before : Option Listed) (i : ℕ) (rest : List ℕ) (a : List Sheet) (head : Option Listed)
+    → IsWritingParts parts bytes old before i rest a head → length parts ≤ i
+    → bytes_of a head ≡ Some (parts_written parts bytes (unwrap_or (bytes_of old before) []))
+parts_done parts bytes old before i rest a head w past =
+    w.there
+    ∙ ap (λ xs. Some xs) (ap (λ ps. parts_written ps rest (unwrap_or (bytes_of a head) [])) (sym (drop_all i parts past)) ∙ w.left)
+
+pub parts_used : (parts : List Part) (bytes : List ℕ) (old : List Sheet) (before : Option Listed) (i : ℕ) (rest : List ℕ) (a : List Sheet) (head : Option Listed)
+    → IsWritingParts parts bytes old before i rest a head → in_use a ≤ in_use old + written_touch (len_of before) parts
+parts_used parts bytes old before i rest a head w = let all = w.used in omega arith
+
+-- ---- parts that are made zero
+
+pub record IsZeroingParts (parts : List Part) (old : List Sheet) (before : Option Listed) (i : ℕ) (new : List Sheet) (head : Option Listed) : Type 0 where
+  pub moved : Moved old (pages_of before) new (pages_of head)
+  pub is : IsHead new head
+  pub left : option_map (parts_zeroed (drop i parts)) (bytes_of new head) ≡ option_map (parts_zeroed parts) (bytes_of old before)
+  pub used : in_use new + zeroed_touch (drop i parts) ≤ in_use old + zeroed_touch parts
+
+pub zeros_begun : (parts : List Part) (a : List Sheet) (head : Option Listed) → IsHead a head → IsZeroingParts parts a head 0 a head
+zeros_begun parts a head is = record { moved = moved_refl a (pages_of head); is = is; left = refl; used = omega arith }
+
+zeroed_then : (parts : List Part) (p : Part) (held : Option (List ℕ))
+    → option_map (parts_zeroed parts) (option_map (λ xs. zeroed xs p.offset p.len) held) ≡ option_map (parts_zeroed (p ∷ parts)) held
+zeroed_then parts p None = refl
+zeroed_then parts p (Some xs) = refl
+
+pub zeros_more : (parts : List Part) (old : List Sheet) (before : Option Listed) (i : ℕ) (a b : List Sheet) (head after : Option Listed)
+    → IsZeroingParts parts old before i a head → i < length parts
+    → Moved a (pages_of head) b (pages_of after) → IsHead b after
+    → bytes_of b after ≡ option_map (λ xs. zeroed xs (get_or parts i no_part).offset (get_or parts i no_part).len) (bytes_of a head)
+    → in_use b ≤ in_use a + touched (get_or parts i no_part).offset ((get_or parts i no_part).offset + (get_or parts i no_part).len)
+    → IsZeroingParts parts old before (i + 1) b after
+zeros_more parts old before i a b head after z below moved is written used =
+    let next = next_part parts i below in
+    record {
+      moved = moved_trans old a b (pages_of before) (pages_of head) (pages_of after) z.moved moved;
+      is = is;
+      left =
+          ap (option_map (parts_zeroed (drop (i + 1) parts))) written
+          ∙ zeroed_then (drop (i + 1) parts) (get_or parts i no_part) (bytes_of a head)
+          ∙ sym (ap (λ ps. option_map (parts_zeroed ps) (bytes_of a head)) next)
+          ∙ z.left;
+      used = let all = z.used in let split = ap zeroed_touch next in omega arith;
+    }
+
+pub zeros_refused : (parts : List Part) (old : List Sheet) (before : Option Listed) (i : ℕ) (a b : List Sheet) (head : Option Listed)
+    → IsZeroingParts parts old before i a head → i < length parts
+    → in_use b ≤ in_use a + touched (get_or parts i no_part).offset ((get_or parts i no_part).offset + (get_or parts i no_part).len)
+    → in_use b ≤ in_use old + zeroed_touch parts
+zeros_refused parts old before i a b head z below used =
+    let all = z.used in let split = ap zeroed_touch (next_part parts i below) in omega arith
+
+zeroed_nothing : (held : Option (List ℕ)) → option_map (parts_zeroed []) held ≡ held
+zeroed_nothing None = refl
+zeroed_nothing (Some xs) = refl
+
+pub zeros_done : (parts : List Part) (old : List Sheet) (before : Option Listed) (i : ℕ) (a : List Sheet) (head : Option Listed)
+    → IsZeroingParts parts old before i a head → length parts ≤ i → bytes_of a head ≡ option_map (parts_zeroed parts) (bytes_of old before)
+zeros_done parts old before i a head z past =
+    sym (ap (λ ps. option_map (parts_zeroed ps) (bytes_of a head)) (drop_all i parts past) ∙ zeroed_nothing (bytes_of a head)) ∙ z.left

@@ -1,0 +1,381 @@
+-- The object on its pages.
+use Rattle.std.proofs.Common.{◌≡◌, ◌≢◌, ℕ, ◌+◌, ◌-◌, ◌<◌, ◌≤◌, Bool, true, false, cond, not, eqb, ltb, ◌||◌, List, [], ◌∷◌, ◌++◌, Option, Some, None, map, filter, length, get_or, find, max, min, option_to_list, refl, sym, ap, ◌∙◌, subst, inl, inr, arith}
+use Rattle.std.specs.Prelude.{zero, suc, option_map, unwrap_or, IsSome}
+use Rattle.std.specs.FinMap.{get, retain_keys}
+use Rattle.std.proofs.lemmas.Bool.{cases_lt}
+use Rattle.rbd_kinds.specs.declared.header.SnapContext.{SnapContext}
+use Rattle.rbd_object.specs.Sheets.{Sheet, count_at, bytes_at, in_use}
+use Rattle.rbd_object.specs.Paging.{occurs, pages_for, AreCounted, AreApart, Moved}
+use Rattle.rbd_object.specs.Shared.{Listed, Stored, AreContents, AreNamed, AreShared, IsContent, IsHead, IsKept, bytes_in, bytes_of, dead_named, dead_pages, is_live, kept_in, len_of, live_stored, live_versions, named, pages_of, view_in}
+use Rattle.rbd_object.specs.Paged.{IsPaged, Paged, paged_of}
+use Rattle.rbd_object.specs.Changes.{takes}
+use Rattle.rbd_object.specs.declared.change.Change.{Change}
+use Rattle.rbd_object.proofs.EachLemmas.{len_is}
+use Rattle.rbd_object.proofs.VersionLemmas.{live_next}
+use Rattle.rbd_object.proofs.KeptLemmas.{get_kept_by, kept_by-live}
+use Rattle.std.specs.List.{list_any}
+use Rattle.rbd_object.specs.Kept.{AreUsed, Kept, is_listed, is_used, keep_each, kept_by, live_part, new_version}
+use Rattle.rbd_object.specs.Versioned.{IsTidy, view}
+use Rattle.rbd_object.specs.Mapped.{IsSound, Mapped, due_snaps, looked, mapped_change, mapped_copy_up, mapped_trim, value_of}
+use Rattle.rbd_object.proofs.HeadLemmas.{framed, framed_head, occurs-append}
+use Rattle.rbd_object.proofs.SharedLemmas.{length-bytes_in}
+use Rattle.rbd_object.proofs.SoundLemmas.{changed_value, sound_blank, sound_step, sound_trimmed}
+
+-- ---- versions whose pages keep their bytes
+
+framed_versions : (a b : List Sheet) (versions : List Stored) → ((page : ℕ) → 0 < named page versions → bytes_at b page ≡ bytes_at a page)
+    → AreContents a versions → AreContents b versions × (map (kept_in b) versions ≡ map (kept_in a) versions)
+framed_versions a b [] same are = (tt, refl)
+framed_versions a b (v ∷ versions) same are =
+    let first = framed a b v.content (λ page there. same page (omega arith)) are.0 in
+    let rest = framed_versions a b versions (λ page there. same page (omega arith)) are.1 in (
+      (first.0, rest.0),
+      ap (λ bytes. record { snaps = v.snaps; bytes = bytes } ∷ map (kept_in b) versions) first.1
+          ∙ ap (λ (xs : List Kept). kept_in a v ∷ xs) rest.1,
+    )
+
+pub head_counted : (a : List Sheet) (head : Option Listed) (versions : List Stored) → AreShared a head versions → AreCounted a (pages_of head)
+head_counted a head versions shared = record { each = λ page. let x = shared.counts page in omega arith }
+
+pub versions_counted : (a : List Sheet) (head : Option Listed) (versions : List Stored) → AreShared a head versions → AreNamed a versions
+versions_counted a head versions shared = record { each = λ page. let x = shared.counts page in omega arith }
+
+-- ---- a change, with the version that keeps the head
+
+abbrev pub stored_of : (snaps : List ℕ) → Option Listed → Option Stored
+stored_of snaps kept = option_map (λ (c : Listed). record { snaps = snaps; content = c }) kept
+
+named_added : (snaps : List ℕ) (kept : Option Listed) (versions : List Stored) (page : ℕ)
+    → named page (option_to_list (stored_of snaps kept) ++ versions) ≡ occurs page (pages_of kept) + named page versions
+named_added snaps None versions page = omega arith
+named_added snaps (Some c) versions page = refl
+
+contents_added : (a : List Sheet) (snaps : List ℕ) (kept : Option Listed) (versions : List Stored) → IsHead a kept → AreContents a versions
+    → AreContents a (option_to_list (stored_of snaps kept) ++ versions)
+contents_added a snaps None versions is are = are
+contents_added a snaps (Some c) versions is are = (is, are)
+
+kept_added : (a : List Sheet) (snaps : List ℕ) (kept : Option Listed) (versions : List Stored)
+    → map (kept_in a) (option_to_list (stored_of snaps kept) ++ versions)
+    ≡ option_to_list (option_map (λ bytes. record { snaps = snaps; bytes = bytes }) (bytes_of a kept)) ++ map (kept_in a) versions
+kept_added a snaps None versions = refl
+kept_added a snaps (Some c) versions = refl
+
+-- whether a list has an item
+abbrev pub has_any : List ℕ → Bool
+has_any [] = false
+has_any (s ∷ snaps) = true
+
+-- the version is the one that the definition makes
+made_version : (snaps : List ℕ) (wanted : Bool) (head kept : Option (List ℕ)) → wanted ≡ has_any snaps → kept ≡ cond wanted head None
+    → option_map (λ (bytes : List ℕ). record { snaps = snaps; bytes = bytes }) kept ≡ new_version head snaps
+made_version [] wanted None kept w k = ap (option_map (λ (bytes : List ℕ). record { snaps = []; bytes = bytes })) (k ∙ ap (λ t. cond t None None) w)
+made_version [] wanted (Some x) kept w k = ap (option_map (λ (bytes : List ℕ). record { snaps = []; bytes = bytes })) (k ∙ ap (λ t. cond t (Some x) None) w)
+made_version (s ∷ snaps) wanted None kept w k = ap (option_map (λ (bytes : List ℕ). record { snaps = s ∷ snaps; bytes = bytes })) (k ∙ ap (λ t. cond t None None) w)
+made_version (s ∷ snaps) wanted (Some x) kept w k = ap (option_map (λ (bytes : List ℕ). record { snaps = s ∷ snaps; bytes = bytes })) (k ∙ ap (λ t. cond t (Some x) None) w)
+
+-- what a change leaves of the rest: nothing but the head's pages moved
+step_shared : (wanted : Bool) (a b : List Sheet) (head after kept : Option Listed) (snaps : List ℕ) (versions : List Stored)
+    → AreShared a head versions → IsKept wanted a head b after kept
+    → AreShared b after (option_to_list (stored_of snaps kept) ++ versions) × (map (kept_in b) versions ≡ map (kept_in a) versions)
+step_shared wanted a b head after kept snaps versions shared is =
+    let frame = framed_versions a b versions (λ page there. is.moved.others page (let x = shared.counts page in omega arith)) shared.contents in (
+      record {
+        counts = λ page.
+            let x = shared.counts page in
+            let y = is.moved.counts page in
+            let sum = occurs-append (pages_of after) (pages_of kept) page in
+            named_sum page x y sum;
+        head_is = is.head_is;
+        contents = contents_added b snaps kept versions is.kept_is frame.0;
+      },
+      frame.1,
+    ) where
+      named_sum : (page : ℕ) → count_at a page ≡ occurs page (pages_of head) + named page versions
+          → count_at b page + occurs page (pages_of head) ≡ count_at a page + occurs page (pages_of after ++ pages_of kept)
+          → occurs page (pages_of after ++ pages_of kept) ≡ occurs page (pages_of after) + occurs page (pages_of kept)
+          → count_at b page ≡ occurs page (pages_of after) + named page (option_to_list (stored_of snaps kept) ++ versions)
+      named_sum page x y sum = let added = named_added snaps kept versions page in omega arith
+
+-- A change in the steps of the code.
+pub step_paged : (wanted : Bool) (c : SnapContext) (o : Mapped) (a b : List Sheet) (head after kept : Option Listed) (seq next : ℕ) (snaps : List ℕ)
+    (version : Option Stored) (versions room items : List Stored)
+    → value_of (bytes_of a head) seq (map (kept_in a) versions) ≡ o
+    → new_version o.head snaps ≡ new_version o.head (due_snaps c o.seq) → wanted ≡ has_any snaps
+    → IsKept wanted a head b after kept → version ≡ stored_of snaps kept → room ≡ versions
+    → items ≡ option_to_list version ++ room → next ≡ max seq c.seq → IsPaged a head seq versions
+    → IsPaged b after next items
+    × (value_of (bytes_of b after) next (map (kept_in b) items) ≡ mapped_change c (bytes_of b after) o)
+step_paged wanted c o a b head after kept seq next snaps version versions room items is picked w k made same added n paged =
+    let step = step_shared wanted a b head after kept snaps versions paged.shared k in
+    let items_are : items ≡ option_to_list (stored_of snaps kept) ++ versions =
+    added ∙ ap (λ v. option_to_list v ++ room) made ∙ ap (λ xs. option_to_list (stored_of snaps kept) ++ xs) same in
+    let version_is = made_version snaps wanted (bytes_of a head) (bytes_of b kept) w k.bytes in
+    let kept_items : map (kept_in b) items ≡ option_to_list (new_version (bytes_of a head) snaps) ++ map (kept_in a) versions =
+    ap (map (kept_in b)) items_are ∙ kept_added b snaps kept versions
+    ∙ ap (λ v. option_to_list v ++ map (kept_in b) versions) version_is
+    ∙ ap (λ xs. option_to_list (new_version (bytes_of a head) snaps) ++ xs) step.1 in
+    let due : new_version (bytes_of a head) snaps ≡ new_version (bytes_of a head) (due_snaps c seq) =
+    subst (λ (x : Mapped). new_version x.head snaps ≡ new_version x.head (due_snaps c x.seq)) (sym is) picked in (
+      record {
+        shared = subst (AreShared b after) (sym items_are) step.0;
+        sound =
+            sound_step c o (bytes_of a head) seq next snaps (new_version (bytes_of a head) snaps) (map (kept_in a) versions) (map (kept_in a) versions)
+            (map (kept_in b) items) is picked refl refl kept_items n paged.sound;
+      },
+      ap (value_of (bytes_of b after) next) kept_items
+          ∙ changed_value c (bytes_of a head) (bytes_of b after) seq next (map (kept_in a) versions) (new_version (bytes_of a head) snaps) due n
+          ∙ ap (mapped_change c (bytes_of b after)) is,
+    )
+
+-- a refused change
+pub refused_paged : (a b : List Sheet) (head after : Option Listed) (seq : ℕ) (versions room : List Stored)
+    → IsKept false a head b after None → bytes_of b after ≡ bytes_of a head → room ≡ versions → IsPaged a head seq versions
+    → IsPaged b after seq room
+    × (value_of (bytes_of b after) seq (map (kept_in b) room) ≡ value_of (bytes_of a head) seq (map (kept_in a) versions))
+refused_paged a b head after seq versions room k bytes same paged =
+    let step = step_shared false a b head after None [] versions paged.shared k in
+    let kept_room : map (kept_in b) room ≡ map (kept_in a) versions = ap (map (kept_in b)) same ∙ step.1 in (
+      record {
+        shared = subst (AreShared b after) (sym same) step.0;
+        sound = subst (IsSound seq) (sym kept_room) paged.sound;
+      },
+      ap (λ held. value_of held seq (map (kept_in b) room)) bytes ∙ ap (value_of (bytes_of a head) seq) kept_room,
+    )
+
+pub quiet_paged : (a b : List Sheet) (head after : Option Listed) (seq : ℕ) (versions : List Stored)
+    → IsKept false a head b after None → IsPaged a head seq versions
+    → IsPaged b after seq versions × (map (kept_in b) versions ≡ map (kept_in a) versions)
+quiet_paged a b head after seq versions k paged =
+    let step = step_shared false a b head after None [] versions paged.shared k in
+    (record { shared = step.0; sound = subst (IsSound seq) (sym step.1) paged.sound }, step.1)
+
+pub filled_paged : (a b : List Sheet) (head after : Option Listed) (seq : ℕ) (versions : List Stored) (bytes : List ℕ) (o : Mapped)
+    → IsKept false a None b after None → head ≡ None → bytes_of b after ≡ Some bytes
+    → value_of (bytes_of a head) seq (map (kept_in a) versions) ≡ o → IsPaged a head seq versions
+    → IsPaged b after seq versions × (value_of (bytes_of b after) seq (map (kept_in b) versions) ≡ mapped_copy_up bytes o)
+filled_paged a b head after seq versions bytes o k none filled is paged =
+    let step = quiet_paged a b head after seq versions (subst (λ h. IsKept false a h b after None) (sym none) k) paged in (
+      step.0,
+      ap (λ held. value_of held seq (map (kept_in b) versions)) filled
+          ∙ ap (value_of (Some bytes) seq) step.1
+          ∙ ap (mapped_copy_up bytes) (ap (λ h. value_of (bytes_of a h) seq (map (kept_in a) versions)) (sym none) ∙ is),
+    )
+
+pub pages_step : (a b : List Sheet) (head : Option Listed) (seq : ℕ) (versions : List Stored) (o : Paged) (change : Change)
+    → paged_of a head seq versions ≡ o → in_use b ≤ in_use a + takes change (len_of head)
+    → in_use b ≤ o.pages + takes change (length (unwrap_or o.shown.head []))
+pages_step a b head seq versions o change is few =
+    subst (λ (x : Paged). in_use b ≤ x.pages + takes change (length (unwrap_or x.shown.head []))) is
+    (subst (λ n. in_use b ≤ in_use a + takes change n) (len_is a head) few)
+
+pub wanted_is : (n : ℕ) (snaps : List ℕ) (empty : Bool) → empty ≡ eqb n 0 → n ≡ length snaps → not empty ≡ has_any snaps
+wanted_is n [] empty e long = grind arith
+wanted_is n (s ∷ snaps) empty e long = grind arith
+
+-- ---- a trim
+
+named_live : (live : List ℕ) (page : ℕ) (versions : List Stored)
+    → named page versions ≡ dead_named live page versions + named page (live_versions live versions)
+named_live live page [] = refl
+named_live live page (v ∷ versions) = go (is_live live v) refl (named_live live page versions) where
+  go : (test : Bool) → is_live live v ≡ test
+      → named page versions ≡ dead_named live page versions + named page (live_versions live versions)
+      → named page (v ∷ versions) ≡ dead_named live page (v ∷ versions) + named page (live_versions live (v ∷ versions))
+  go true e rest =
+      let next = ap (named page) (live_next live v versions true e) in
+      let none : dead_pages live page v ≡ 0 = ap (λ t. cond t 0 (occurs page v.content.pages)) e in
+      omega arith
+  go false e rest =
+      let next = ap (named page) (live_next live v versions false e) in
+      let all : dead_pages live page v ≡ occurs page v.content.pages = ap (λ t. cond t 0 (occurs page v.content.pages)) e in
+      omega arith
+
+contents_live : (a : List Sheet) (live : List ℕ) (versions : List Stored) → AreContents a versions → AreContents a (live_versions live versions)
+contents_live a live [] are = tt
+contents_live a live (v ∷ versions) are = go (is_live live v) refl (contents_live a live versions are.1) where
+  go : (test : Bool) → is_live live v ≡ test → AreContents a (live_versions live versions) → AreContents a (live_versions live (v ∷ versions))
+  go true e rest = subst (AreContents a) (sym (live_next live v versions true e)) (are.0, rest)
+  go false e rest = subst (AreContents a) (sym (live_next live v versions false e)) rest
+
+dropped_snaps : (p : ℕ → Bool) (snaps : List ℕ) → list_any p snaps ≡ false → filter p snaps ≡ []
+dropped_snaps p [] none = refl
+dropped_snaps p (s ∷ snaps) none = go (p s) refl (dropped_snaps p snaps) where
+  go : (test : Bool) → p s ≡ test → (list_any p snaps ≡ false → filter p snaps ≡ []) → filter p (s ∷ snaps) ≡ []
+  go true e rest = let clash : true ≡ false = sym (ap (λ t. t || list_any p snaps) e) ∙ none in cc
+  go false e rest = let here = rest (sym (ap (λ t. t || list_any p snaps) e) ∙ none) in grind arith
+
+left_snaps : (p : ℕ → Bool) (snaps : List ℕ) (bytes : List ℕ) → list_any p snaps ≡ true → is_used (record { snaps = filter p snaps; bytes = bytes }) ≡ true
+left_snaps p [] bytes some = cc
+left_snaps p (s ∷ snaps) bytes some = go (p s) refl (left_snaps p snaps bytes) where
+  go : (test : Bool) → p s ≡ test → (list_any p snaps ≡ true → is_used (record { snaps = filter p snaps; bytes = bytes }) ≡ true)
+      → is_used (record { snaps = filter p (s ∷ snaps); bytes = bytes }) ≡ true
+  go true e rest = rw e refl
+  go false e rest = let here = rest (sym (ap (λ t. t || list_any p snaps) e) ∙ some) in rw e here
+
+kept_live : (a : List Sheet) (live : List ℕ) (versions : List Stored)
+    → kept_by (map (kept_in a) (live_versions live versions)) ≡ kept_by (map (live_part live) (map (kept_in a) versions))
+kept_live a live [] = refl
+kept_live a live (v ∷ versions) = go (is_live live v) refl (kept_live a live versions) where
+  go : (test : Bool) → is_live live v ≡ test
+      → kept_by (map (kept_in a) (live_versions live versions)) ≡ kept_by (map (live_part live) (map (kept_in a) versions))
+      → kept_by (map (kept_in a) (live_versions live (v ∷ versions))) ≡ kept_by (map (live_part live) (map (kept_in a) (v ∷ versions)))
+  go true e rest =
+      ap (λ xs. kept_by (map (kept_in a) xs)) (live_next live v versions true e)
+      ∙ ap (keep_each (bytes_in a v.content) (filter (is_listed live) v.snaps)) rest
+  go false e rest =
+      ap (λ xs. kept_by (map (kept_in a) xs)) (live_next live v versions false e)
+      ∙ rest
+      ∙ sym (ap (λ snaps. keep_each (bytes_in a v.content) snaps (kept_by (map (live_part live) (map (kept_in a) versions)))) (dropped_snaps (is_listed live) v.snaps e))
+
+used_live : (a : List Sheet) (live : List ℕ) (versions : List Stored) → AreUsed (map (kept_in a) (live_versions live versions))
+used_live a live [] = refl
+used_live a live (v ∷ versions) = go (is_live live v) refl (used_live a live versions) where
+  go : (test : Bool) → is_live live v ≡ test → AreUsed (map (kept_in a) (live_versions live versions))
+      → AreUsed (map (kept_in a) (live_versions live (v ∷ versions)))
+  go true e rest =
+      subst (λ xs. AreUsed (map (kept_in a) xs)) (sym (live_next live v versions true e))
+      (let first = left_snaps (is_listed live) v.snaps (bytes_in a v.content) e in rw first rest)
+  go false e rest = subst (λ xs. AreUsed (map (kept_in a) xs)) (sym (live_next live v versions false e)) rest
+
+pub trimmed_paged : (live : List ℕ) (a b : List Sheet) (head : Option Listed) (seq : ℕ) (versions items : List Stored) (o : Mapped)
+    → IsPaged a head seq versions → ((page : ℕ) → count_at b page + dead_named live page versions ≡ count_at a page)
+    → ((page : ℕ) → 0 < count_at b page → bytes_at b page ≡ bytes_at a page) → items ≡ live_versions live versions
+    → value_of (bytes_of a head) seq (map (kept_in a) versions) ≡ o
+    → IsPaged b head seq items × (value_of (bytes_of b head) seq (map (kept_in b) items) ≡ mapped_trim live o)
+trimmed_paged live a b head seq versions items o paged counts kept is value =
+    let count : (page : ℕ) → count_at b page ≡ occurs page (pages_of head) + named page (live_versions live versions) =
+    λ page. let x = paged.shared.counts page in let y = counts page in let z = named_live live page versions in omega arith in
+    let head_now = framed_head a b head (λ page there. kept page (let x = count page in omega arith)) paged.shared.head_is in
+    let frame = framed_versions a b (live_versions live versions) (λ page there. kept page (let x = count page in omega arith))
+    (contents_live a live versions paged.shared.contents) in
+    let maps : map (kept_in b) items ≡ map (kept_in a) (live_versions live versions) = ap (map (kept_in b)) is ∙ frame.1 in
+    let trimmed : kept_by (map (kept_in a) (live_versions live versions)) ≡ retain_keys (kept_by (map (kept_in a) versions)) (is_listed live) =
+    kept_live a live versions ∙ kept_by-live live (map (kept_in a) versions) in (
+      record {
+        shared = subst (AreShared b head) (sym is) (record { counts = count; head_is = head_now.0; contents = frame.0 });
+        sound =
+            subst (IsSound seq) (sym maps)
+            (sound_trimmed live seq (map (kept_in a) versions) (map (kept_in a) (live_versions live versions)) trimmed (used_live a live versions) paged.sound);
+      },
+      ap (λ held. value_of held seq (map (kept_in b) items)) head_now.1
+          ∙ ap (value_of (bytes_of a head) seq) maps
+          ∙ ap (λ k. record { head = bytes_of a head; seq = seq; kept = k }) trimmed
+          ∙ ap (mapped_trim live) value,
+    )
+
+-- ---- what is shown
+
+found_same : (a : List Sheet) (snap : ℕ) (versions : List Stored)
+    → option_map (bytes_in a) (option_map (λ (v : Stored). v.content) (find (λ (v : Stored). is_listed v.snaps snap) versions))
+    ≡ option_map (λ (k : Kept). k.bytes) (find (λ (k : Kept). is_listed k.snaps snap) (map (kept_in a) versions))
+found_same a snap [] = refl
+found_same a snap (v ∷ versions) = one (is_listed v.snaps snap) (found_same a snap versions) where
+  one : (test : Bool)
+      → option_map (bytes_in a) (option_map (λ (v : Stored). v.content) (find (λ (v : Stored). is_listed v.snaps snap) versions))
+      ≡ option_map (λ (k : Kept). k.bytes) (find (λ (k : Kept). is_listed k.snaps snap) (map (kept_in a) versions))
+      → option_map (bytes_in a) (option_map (λ (v : Stored). v.content) (cond test (Some v) (find (λ (v : Stored). is_listed v.snaps snap) versions)))
+      ≡ option_map (λ (k : Kept). k.bytes) (cond test (Some (kept_in a v)) (find (λ (k : Kept). is_listed k.snaps snap) (map (kept_in a) versions)))
+  one true rest = refl
+  one false rest = rest
+
+found_bytes : (a : List Sheet) (snap : ℕ) (versions : List Stored)
+    → option_map (bytes_in a) (option_map (λ (v : Stored). v.content) (find (λ (v : Stored). is_listed v.snaps snap) versions))
+    ≡ get (kept_by (map (kept_in a) versions)) snap
+found_bytes a snap versions = found_same a snap versions ∙ sym (get_kept_by (map (kept_in a) versions) snap)
+
+pub shown_is : (a : List Sheet) (head : Option Listed) (seq : ℕ) (versions : List Stored) (snap : Option ℕ) (o : Mapped) (found : Option Listed)
+    → value_of (bytes_of a head) seq (map (kept_in a) versions) ≡ o → found ≡ view_in head seq versions snap
+    → view (looked o) snap ≡ bytes_of a found
+shown_is a head seq versions None o found value is = ap (λ (x : Mapped). view (looked x) None) (sym value) ∙ sym (ap (bytes_of a) is)
+shown_is a head seq versions (Some snap) o found value is =
+    ap (λ (x : Mapped). view (looked x) (Some snap)) (sym value) ∙ go (ltb seq snap) refl ∙ sym (ap (bytes_of a) is) where
+      go : (test : Bool) → ltb seq snap ≡ test → view (looked (value_of (bytes_of a head) seq (map (kept_in a) versions))) (Some snap) ≡ bytes_of a (view_in head seq versions (Some snap))
+      go true e = rw e refl
+      go false e = rw e (sym (found_bytes a snap versions))
+
+found_sound : (a : List Sheet) (snap : ℕ) (versions : List Stored) (c : Listed)
+    → option_map (λ (v : Stored). v.content) (find (λ (v : Stored). is_listed v.snaps snap) versions) ≡ Some c
+    → AreNamed a versions → AreContents a versions → AreCounted a c.pages × IsContent a c
+found_sound a snap [] c is names are = cc
+found_sound a snap (v ∷ versions) c is names are =
+    go (is_listed v.snaps snap) is
+    (λ later. found_sound a snap versions c later (record { each = λ page. let most = names.each page in omega arith }) are.1) where
+      go : (test : Bool)
+          → option_map (λ (v : Stored). v.content) (cond test (Some v) (find (λ (v : Stored). is_listed v.snaps snap) versions)) ≡ Some c
+          → (option_map (λ (v : Stored). v.content) (find (λ (v : Stored). is_listed v.snaps snap) versions) ≡ Some c → AreCounted a c.pages × IsContent a c)
+          → AreCounted a c.pages × IsContent a c
+      go true is rest =
+          let same : v.content ≡ c = cc in
+          (subst (λ (x : Listed). AreCounted a x.pages) same (record { each = λ page. let most = names.each page in omega arith }), subst (IsContent a) same are.0)
+      go false is rest = rest is
+
+pub shown_sound : (a : List Sheet) (head : Option Listed) (seq : ℕ) (versions : List Stored) (snap : Option ℕ) (c : Listed)
+    → Some c ≡ view_in head seq versions snap → IsPaged a head seq versions → AreCounted a c.pages × IsContent a c
+shown_sound a head seq versions None c is paged =
+    (subst (λ h. AreCounted a (pages_of h)) (sym is) (head_counted a head versions paged.shared), subst (IsHead a) (sym is) paged.shared.head_is)
+shown_sound a head seq versions (Some snap) c is paged = go (ltb seq snap) refl is where
+  go : (test : Bool) → ltb seq snap ≡ test → Some c ≡ view_in head seq versions (Some snap) → AreCounted a c.pages × IsContent a c
+  go true e is =
+      let here : Some c ≡ head = is ∙ ap (λ t. cond t head (option_map (λ (v : Stored). v.content) (find (λ (v : Stored). is_listed v.snaps snap) versions))) e in
+      (subst (λ h. AreCounted a (pages_of h)) (sym here) (head_counted a head versions paged.shared), subst (IsHead a) (sym here) paged.shared.head_is)
+  go false e is =
+      found_sound a snap versions c
+      (sym (is ∙ ap (λ t. cond t head (option_map (λ (v : Stored). v.content) (find (λ (v : Stored). is_listed v.snaps snap) versions))) e))
+      (versions_counted a head versions paged.shared) paged.shared.contents
+
+pub kept_view : (head : Option Listed) (seq : ℕ) (versions : List Stored) (snap : Option ℕ) (s : ℕ) → snap ≡ Some s → s ≤ seq
+    → option_map (λ (v : Stored). v.content) (find (λ (v : Stored). is_listed v.snaps s) versions) ≡ view_in head seq versions snap
+kept_view head seq versions snap s is below =
+    rw is (let old : ltb seq s ≡ false = grind arith in
+    ap (λ t. cond t head (option_map (λ (v : Stored). v.content) (find (λ (v : Stored). is_listed v.snaps s) versions))) (sym old))
+
+-- ---- how many pages there are at least
+
+abbrev lower : List ℕ → List ℕ
+lower [] = []
+lower (zero ∷ pages) = lower pages
+lower (suc p ∷ pages) = p ∷ lower pages
+
+length-lower : (pages : List ℕ) → length pages ≡ length (lower pages) + occurs 0 pages
+length-lower [] = refl
+length-lower (zero ∷ pages) = let rest = length-lower pages in grind arith
+length-lower (suc p ∷ pages) = let rest = length-lower pages in grind arith
+
+occurs-lower : (pages : List ℕ) (page : ℕ) → occurs page (lower pages) ≡ occurs (suc page) pages
+occurs-lower [] page = refl
+occurs-lower (zero ∷ pages) page = let rest = occurs-lower pages page in grind arith
+occurs-lower (suc p ∷ pages) page = let rest = occurs-lower pages page in grind arith
+
+at_most : (sheets : List Sheet) (pages : List ℕ) → ((page : ℕ) → occurs page pages ≤ min (count_at sheets page) 1) → length pages ≤ in_use sheets
+at_most [] [] few = omega arith
+at_most [] (p ∷ pages) few = let none = few p in grind arith
+at_most (s ∷ sheets) pages few =
+    let first = few 0 in
+    let rest = at_most sheets (lower pages) (λ page. let later = few (suc page) in let same = occurs-lower pages page in omega arith) in
+    let sum = length-lower pages in
+    omega arith
+
+-- the pages of what is shown
+pub pages_least : (a : List Sheet) (head : Option Listed) (seq : ℕ) (versions : List Stored) (o : Mapped) (snap : Option ℕ) (bytes : List ℕ)
+    → value_of (bytes_of a head) seq (map (kept_in a) versions) ≡ o → IsPaged a head seq versions → view (looked o) snap ≡ Some bytes
+    → pages_for (length bytes) ≤ in_use a
+pages_least a head seq versions o snap bytes value paged some =
+    go (view_in head seq versions snap) refl where
+      go : (found : Option Listed) → found ≡ view_in head seq versions snap → pages_for (length bytes) ≤ in_use a
+      go None is = let clash : Some bytes ≡ None = sym some ∙ shown_is a head seq versions snap o None value is in cc
+      go (Some c) is =
+          let same : bytes ≡ bytes_in a c = let e : Some bytes ≡ Some (bytes_in a c) = sym some ∙ shown_is a head seq versions snap o (Some c) value is in cc in
+          let sound = shown_sound a head seq versions snap c is paged in
+          let long : length bytes ≡ c.len = ap length same ∙ length-bytes_in a c in
+          let fits : length c.pages ≡ pages_for c.len = sound.1.fits in
+          let most = at_most a c.pages (λ page. let x = sound.0.each page in let y = sound.1.apart.each page in omega arith) in
+          subst (λ n. pages_for n ≤ in_use a) (sym long) (subst (λ n. n ≤ in_use a) fits most)
+
+pub paged_blank : (sheets : List Sheet) (versions : List Stored) → sheets ≡ [] → versions ≡ [] → IsPaged sheets None 0 versions
+paged_blank sheets versions e f =
+    subst (λ xs. IsPaged xs None 0 versions) (sym e)
+    (subst (IsPaged [] None 0) (sym f) (record {
+      shared = record { counts = λ page. omega arith; head_is = tt; contents = tt };
+      sound = sound_blank [] refl;
+    }))

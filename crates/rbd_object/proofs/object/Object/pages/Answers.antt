@@ -1,0 +1,8 @@
+use Rattle.std.proofs.Common.{◌≡◌, Some, length, ap, sym, subst}
+use Rattle.rbd_object.specs.Paging.{pages_for}
+use Rattle.rbd_object.specs.Versioned.{view}
+use Rattle.rbd_object.specs.Mapped.{looked}
+use Rattle.rbd_object.proofs.object.Object.pages.Goals as goal
+
+pub returns : goal.returns
+returns c = record { longest = λ snap bytes some. c.pages.ensures.longest snap bytes (subst (λ o. view (looked o) snap ≡ Some bytes) (sym c.self.view_is) some) }

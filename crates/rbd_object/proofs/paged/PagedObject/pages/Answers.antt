@@ -1,0 +1,11 @@
+use Rattle.std.proofs.Common.{◌∙◌, ap, sym, arith}
+use Rattle.rbd_object.specs.Paged.{Paged}
+use Rattle.rbd_object.proofs.PagedLemmas.{pages_least}
+use Rattle.rbd_object.proofs.paged.PagedObject.pages.Goals as goal
+
+pub returns-clause-longest : goal.returns-clause-longest
+returns-clause-longest c = λ snap bytes some.
+    let least =
+    pages_least c.self.inside.arena c.self.inside.head c.self.inside.seq c.self.inside.versions.items c.args.self.now.shown snap bytes
+    (ap (λ (x : Paged). x.shown) c.self.view_is) c.self.invariant some in
+    omega arith

@@ -1,0 +1,14 @@
+use Rattle.std.proofs.Common.{ap}
+use Rattle.rbd_object.specs.Paged.{Paged}
+use Rattle.rbd_object.proofs.PagedLemmas.{trimmed_paged, versions_counted}
+use Rattle.rbd_object.proofs.paged.PagedObject.trim.Goals as goal
+
+pub invariant_of-self : goal.invariant_of-self
+invariant_of-self c = (trimmed_paged c.args.live.now c.self.inside.arena c.let_go.new.arena c.self.inside.head c.self.inside.seq c.self.inside.versions.items
+    c.keep_live.new.versions.items c.args.self.now.shown c.self.invariant c.let_go.ensures.counts c.let_go.ensures.kept c.keep_live.ensures
+    (ap (λ (x : Paged). x.shown) c.self.view_is)).0
+
+pub returns-clause-shown : goal.returns-clause-shown
+returns-clause-shown c = (trimmed_paged c.args.live.now c.self.inside.arena c.let_go.new.arena c.self.inside.head c.self.inside.seq c.self.inside.versions.items
+    c.keep_live.new.versions.items c.args.self.now.shown c.self.invariant c.let_go.ensures.counts c.let_go.ensures.kept c.keep_live.ensures
+    (ap (λ (x : Paged). x.shown) c.self.view_is)).1

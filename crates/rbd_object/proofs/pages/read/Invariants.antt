@@ -1,0 +1,14 @@
+use Rattle.std.proofs.Common.{ℕ, ◌≡◌, ◌+◌, ◌-◌, ◌<◌, ◌≤◌, length, get_or}
+use Rattle.rbd_object.specs.Paging.{byte_at}
+use Rattle.rbd_object.proofs.pages.read.Given as goal
+
+-- the bytes that were read so far
+abbrev pub invariant-loop-done : goal.invariant-loop-done
+invariant-loop-done l = record {
+  same : length l.into ≡ length l.initial.into;
+  up_to : l.done ≤ length l.into;
+  bytes : (j : ℕ) → j < l.done → get_or l.into j 0 ≡ byte_at l.arena l.pages (l.at + j);
+}
+
+abbrev pub decreases-loop-done : goal.decreases-loop-done
+decreases-loop-done l = length l.into - l.done

@@ -1,0 +1,40 @@
+-- What changes make of a head, and how many pages they may take.
+use Rattle.std.specs.Prelude.{◌≡◌, ℕ, ◌+◌, ◌≤◌, min, List, [], length, Option, Some, None, option_map, unwrap_or}
+use Rattle.rbd_object.specs.Contents.{overwritten, zeroed}
+use Rattle.rbd_kinds.specs.Parts.{parts_len}
+use Rattle.rbd_object.specs.Parts.{parts_written, parts_zeroed, AreWithin}
+use Rattle.rbd_object.specs.Paging.{pages_for}
+use Rattle.rbd_object.specs.Shared.{touched, written_touch, zeroed_touch}
+use Rattle.rbd_object.specs.declared.content.TheConstants.{LARGEST_OBJECT}
+use Rattle.rbd_object.specs.declared.change.Change.{Change}
+use Rattle.rbd_object.specs.declared.change.Change.TheVariants.{Write, WriteParts, WriteFull, Zero, ZeroParts, Empty, Remove}
+
+-- the head after a change
+abbrev pub after : Change → Option (List ℕ) → Option (List ℕ)
+after (Write at bytes) head = Some (overwritten (unwrap_or head []) at bytes.now)
+after (WriteParts parts bytes) head = Some (parts_written parts.now bytes.now (unwrap_or head []))
+after (WriteFull bytes) head = Some bytes.now
+after (Zero at len) head = option_map (λ held. zeroed held at len) head
+after (ZeroParts parts) head = option_map (parts_zeroed parts.now) head
+after Empty head = Some []
+after Remove head = None
+
+-- how many pages a change of a head with `len` bytes may take
+abbrev pub takes : Change → (len : ℕ) → ℕ
+takes (Write at bytes) len = touched (min len at) (at + length bytes.now)
+takes (WriteParts parts bytes) len = written_touch len parts.now
+takes (WriteFull bytes) len = pages_for (length bytes.now)
+takes (Zero at count) len = touched at (at + count)
+takes (ZeroParts parts) len = zeroed_touch parts.now
+takes Empty len = 0
+takes Remove len = 0
+
+-- what is written lies within the largest object
+abbrev pub IsWithin : Change → Type 0
+IsWithin (Write at bytes) = at + length bytes.now ≤ LARGEST_OBJECT
+IsWithin (WriteParts parts bytes) = AreWithin parts.now × (length bytes.now ≡ parts_len parts.now)
+IsWithin (WriteFull bytes) = length bytes.now ≤ LARGEST_OBJECT
+IsWithin (Zero at count) = Unit {0}
+IsWithin (ZeroParts parts) = Unit {0}
+IsWithin Empty = Unit {0}
+IsWithin Remove = Unit {0}
