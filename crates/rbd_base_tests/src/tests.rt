@@ -8,6 +8,7 @@ mod journal;
 mod kinds;
 mod layout;
 mod map;
+mod object;
 mod registry;
 mod site;
 mod watch;

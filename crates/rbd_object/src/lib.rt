@@ -76,8 +76,6 @@ mod paged;
 mod pages;
 mod parts;
 mod stretch;
-#[cfg(test)]
-mod tests;
 mod version;
 mod versions;
 

@@ -1,7 +1,7 @@
 //! What an object shows after each operation. The wanted views were worked out from the rules in prose.
-use crate::{LARGEST_OBJECT, Object, gather, shifted_parts};
 use Operation::*;
 use rbd_kinds::{NoMemory, Part, SnapContext, SnapId, SnapIds};
+use rbd_object::{LARGEST_OBJECT, Object, gather, shifted_parts};
 use std::alloc::Global;
 use std::process::Abort;
 use std::test::Fail;
