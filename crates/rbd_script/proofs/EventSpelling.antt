@@ -1,9 +1,8 @@
 -- Lines of a schedule, and declarations of sessions, are read of the tokens that spell them, and of no others.
-use Rattle.std.proofs.Common.{◌≡◌, ◌⊎◌, inl, inr, ℕ, ◌<◌, ◌≤◌, ◌^◌, List, [], ◌∷◌, Result, Ok, refl, sym, ap, ◌∙◌, subst, arith}
+use Rattle.std.proofs.Common.{◌≡◌, inl, inr, ℕ, ◌<◌, ◌≤◌, ◌^◌, List, [], ◌∷◌, Ok, refl, sym, ap, ◌∙◌, subst, arith}
 use Rattle.std.specs.Prelude.{codes, decimal}
 use Rattle.rbd_kinds.specs.declared.id.SiteId.{SiteId}
 use Rattle.rbd_kinds.specs.Operation.{op_word}
-use Rattle.rbd_script.specs.declared.fault.LineCause.{LineCause}
 use Rattle.rbd_script.specs.declared.schedule.ScheduleVerb.{ScheduleVerb}
 use Rattle.rbd_script.specs.declared.schedule.ScheduleVerb.TheVariants as schedule
 use Rattle.rbd_script.specs.declared.script.Declared.{Declared}

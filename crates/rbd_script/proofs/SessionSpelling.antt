@@ -1,5 +1,5 @@
 -- Tokens that name sessions, sites and kinds of operations, and how often a slot is polled.
-use Rattle.std.proofs.Common.{◌≡◌, ◌≢◌, ◌⊎◌, inl, inr, ℕ, zero, suc, ◌+◌, ◌<◌, ◌≤◌, ◌&&◌, ◌||◌, not, cond, Bool, true, false, List, [], ◌∷◌, length, map, get_or, Option, Some, None, Result, Ok, Err, refl, sym, ap, ◌∙◌, subst, arith}
+use Rattle.std.proofs.Common.{◌≡◌, ◌≢◌, ◌⊎◌, inl, inr, ℕ, zero, suc, ◌+◌, ◌<◌, ◌≤◌, ◌&&◌, ◌||◌, not, cond, Bool, true, false, List, [], ◌∷◌, length, get_or, Ok, Err, refl, sym, ap, ◌∙◌, subst, arith}
 use Rattle.std.specs.Prelude.{codes, decimal, nat_eq, nat_lt, position}
 use Rattle.std.specs.List.{list_any, position_or_len}
 use Rattle.std.specs.Cmp.Lexicographic.{other_text, pointwise, same_text}
@@ -12,7 +12,6 @@ use Rattle.rbd_kinds.specs.declared.id.SiteId.{SiteId}
 use Rattle.rbd_kinds.specs.declared.id.SiteId.TheVariants.{A, B}
 use Rattle.rbd_kinds.specs.declared.operation_kind.OpKind.{OpKind}
 use Rattle.rbd_kinds.specs.Operation.{op_word}
-use Rattle.rbd_script.specs.declared.fault.LineCause.{LineCause}
 use Rattle.rbd_script.specs.declared.fault.LineCause.TheVariants.{BadName, UnknownWord}
 use Rattle.rbd_script.specs.declared.script.Declared.{Declared}
 use Rattle.rbd_script.specs.EventSpelling.{IsSession, session_name, site_word}
