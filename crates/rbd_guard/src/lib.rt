@@ -40,12 +40,13 @@
 //!
 //! # How it works
 //!
-//! A ticket is linked with the one before it and the one after it in the queue of its object, and the same
-//! in the list of its request. The links of queues are a hash table by ticket, and so are those of lists
-//! (`lines`); a second table has the first and the last of each that isn't empty. A ticket's links go with
-//! it, and their room is used again. The type keeps that both directions of each link agree, that a queue
-//! read from its first is all of it, and that each link stands in one. Where numbers are used up, `reserve`
-//! and `enter` answer as for want of memory.
+//! A ticket is linked with the one before it and the one after it in the queue of its object, and
+//! the same in the list of its request. The links of all queues are one hash table by ticket, and a
+//! second has the first and the last ticket of each queue that isn't empty; the lists have two such
+//! tables of their own (`lines`). A ticket's links go with it, and their room is used again. The
+//! type keeps that both directions of each link agree, that a queue read from its first is all of
+//! it, and that each link stands in one. Where numbers are used up, `reserve` and `enter` answer as
+//! for want of memory.
 #![tactic(auto)]
 
 mod guard;

@@ -16,16 +16,17 @@
 //! Contracts see a [`Header`] as the [`HeaderView`](rbd_kinds::HeaderView) that it tells, and each call's
 //! contract is one equation: the view after it is this function of the view before.
 //!
-//! Costs: a look-up of a snapshot, by id or by name, and a change of one read the list of snapshots,
-//! which are 256 at most; all other calls are a few words. [`Header::view`] copies the list, but none
-//! after [`Header::share`], which copies it once for all views until the list changes. Only `make`,
-//! `share`, `view` and `snap_add` want memory.
+//! Costs: a look-up of a snapshot, by id or by name, and a change of one read the list of
+//! snapshots, which are 256 at most; all other calls are a few words. [`Header::view`] copies the
+//! list. After [`Header::share`], which copies it once, views share that copy until the list
+//! changes. Of a header's calls only `make`, `share`, `view` and `snap_add` take memory;
+//! [`context_of`] and [`ids_of`] do too.
 //!
-//! How it works: the header has the list of snapshots twice, one that is changed in place, and one that
-//! the views share. A change of the first lets go of the second, which views that were told before still
-//! hold: so a change needs no memory for it. Each change that is done raises
-//! the generation by one; taking and giving up the lock don't (own). The id of a snapshot is one above
-//! the last that this header drew, so it is never drawn twice (own).
+//! How it works: a header that was shared has the list of snapshots twice, one that is changed in
+//! place, and one that the views share. A change of the first lets go of the second, which views
+//! that were told before still hold: so a change needs no memory for it. Each change that is done
+//! raises the generation by one; taking, giving up and breaking the lock don't (own). The id of a
+//! snapshot is one above the last that this header drew, so it is never drawn twice (own).
 #![tactic(auto)]
 
 mod context;

@@ -132,9 +132,9 @@ impl Journal {
         }
     }
 
-    /// What the journal tells of itself, with a copy of its spans, or, after [`Journal::share`], with spans that
-    /// share them. `first` is one more than the end where no frame is held, or
-    /// `u64::MAX` where that is the end.
+    /// What the journal tells of itself, with a copy of its spans, or, after [`Journal::share`],
+    /// with spans that share their memory. `first` is one more than the end where no frame is held,
+    /// or `u64::MAX` where that is the end.
     pub fn view(&self) -> Result<JournalView, NoMemory>
         ensures view { IfOk result (λ view. view ≡ journal_view self.now) }
         ensures sound { IsSoundJournal self.now }

@@ -30,10 +30,10 @@
 //!
 //! # Cost
 //!
-//! An append copies its frame once, and at times moves the spans or the held frames to a larger place. A
-//! read is an index, a commit an assignment. A view copies the spans, and after [`Journal::share`] none. A trim takes a step for each frame
-//! that it drops. Only `based`, `append`, `share` and `view` take
-//! memory.
+//! An append copies its frame once, and at times moves the spans or the held frames to a larger
+//! place. A read is an index, a commit an assignment. A view copies the spans; after
+//! [`Journal::share`] it shares them, until they change. A trim takes a step for each frame that it
+//! drops. Only `based`, `append`, `share` and `view` take memory.
 //!
 //! # How it works
 //!

@@ -146,7 +146,8 @@ pub type ReadLength = AtMost<65536>;
 /// How many bytes a fill may put.
 pub type FillLength = AtMost<1048576>;
 
-/// The shape that a new image is asked to have, where it isn't the usual one.
+/// The shape that a new image or a clone is asked to have. What isn't asked for is as usual, and
+/// `rbd_layout` says what that is for each of the two.
 #[derive(Clone, Copy, Debug, PartialEq, Eq, Hash)]
 pub struct Shape {
     /// The object size in bytes.

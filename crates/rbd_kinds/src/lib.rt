@@ -4,11 +4,11 @@
 //! site, may have snapshots, and is changed by sessions, of which each life is an instance. The types
 //! are plain data: enums and structs with whole-word names, and lists of them.
 //!
-//! A [`Name`] may begin with any of its bytes. A session asks for an [`AskedName`], whose first isn't
-//! `.` or `-`, so that no session names the snapshot `.sync` that a synchronisation makes.
+//! A [`Name`] may begin with `.` or `-`. A session asks for an [`AskedName`], which doesn't: so no
+//! session names the snapshot `.sync` that a synchronisation makes.
 //!
 //! Contracts see an id as its number, a [`Name`], an [`AskedName`] and [`Bytes`] as the list of their
-//! bytes, and a [`Sequence`] as the list of its items, wherever these lie.
+//! bytes, and a [`Sequence`] and a [`Growing`] list as the list of their items, wherever these lie.
 //!
 //! ```text
 //! Name::parse(Bytes::from_slice(alloc, b".sync")?)         the name `.sync`
@@ -17,11 +17,12 @@
 //! Refusal::BadRange.to_string()                            error 22 BadRange
 //! ```
 //!
-//! Nothing is copied that isn't asked for: `from_vec` takes a vector over, and `try_clone` copies. [`Bytes`]
-//! and a [`Sequence`] that were shared (`share`) are no longer copied: a `try_clone`, and a slice of the
-//! bytes, counts one more owner of the same memory, whichever threads the values are in. What isn't shared
-//! lies in a vector of its own. A copy, a first share and a growth of a list ([`Growing`]) can be refused
-//! memory ([`NoMemory`]), which leaves a list that grows as it was.
+//! Nothing is copied that isn't asked for: `from_vec` takes a vector over, and `try_clone` copies.
+//! [`Bytes`] and a [`Sequence`] that were shared (`share`) are no longer copied: a `try_clone`, and
+//! a slice of the bytes, counts one more owner of the same memory, whichever threads the values are
+//! in. What isn't shared lies in a vector of its own. A copy, a first share and the growth of a
+//! list can be refused memory ([`NoMemory`]), and a list whose growth was refused is as it was.
+//! Items that can't be copied, as the lines of a script, are gathered in a [`Growing`] list.
 #![tactic(auto)]
 
 mod answer;

@@ -27,11 +27,11 @@ pub enum Refusal {
     /// For `clone`, the parent's snapshot isn't protected at one of the two looks; for `unprotect`,
     /// it is unprotected.
     NotProtected,
-    /// The snapshot has clones.
+    /// For `unprotect`, the snapshot has clones.
     HasChildren,
-    /// The image has snapshots.
+    /// For `rm`, the header that was read lists a snapshot.
     HasSnaps,
-    /// Another session watches the image.
+    /// For `rm`, another session watches the image.
     InUse,
     /// The image is secondary, at a change or at `demote`; for a synchronisation, the other site's
     /// image is.

@@ -11,11 +11,12 @@
 //!   unit 3     unit 4     unit 5    |  unit 9     unit 10    unit 11     stripe 1 and stripe 3
 //! ```
 //!
-//! [`check`] says whether a layout keeps the limits. For such a layout [`place`] says in which object an
-//! image byte lies and at which offset, [`back`] which image byte lies at a place, [`objects`] how many
-//! objects an image of a size has, [`pieces`] which parts of which objects an extent touches, and
-//! [`parts_in`] which parts of one object. [`layout_of`] is the layout that the shape of a new image asks
-//! for, [`clone_layout_of`] that of a clone, and [`keeps_limits`] says whether an image with a layout and a size may be made.
+//! [`check`] says whether a layout keeps the limits. For such a layout [`place`] says in which
+//! object an image byte lies and at which offset, [`back`] which image byte lies at a place,
+//! [`objects`] how many objects an image of a size has, [`pieces`] which parts of which objects an
+//! extent touches, and [`parts_in`] which parts of one object. [`layout_of`] is the layout of an
+//! image that is made new with a shape, [`clone_layout_of`] that of a clone, and [`keeps_limits`]
+//! says whether an image with a layout and a size may be made.
 //!
 //! # Cost
 //!
