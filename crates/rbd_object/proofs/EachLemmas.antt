@@ -5,7 +5,8 @@ use Rattle.std.proofs.lemmas.List.{drop_all}
 use Rattle.rbd_kinds.specs.declared.layout.Part.{Part}
 use Rattle.rbd_object.specs.Contents.{overwritten, zeroed}
 use Rattle.rbd_kinds.specs.Parts.{parts_len}
-use Rattle.rbd_object.specs.Parts.{parts_written, parts_zeroed}
+use Rattle.rbd_object.specs.Parts.{parts_written, parts_zeroed, AreWithin}
+use Rattle.rbd_object.specs.declared.content.TheConstants.{LARGEST_OBJECT}
 use Rattle.rbd_object.specs.Sheets.{Sheet, in_use}
 use Rattle.rbd_object.specs.Paging.{AreCounted, Moved}
 use Rattle.rbd_object.specs.Shared.{Listed, IsHead, begun, bytes_in, bytes_of, len_of, pages_of, touched, written_touch, zeroed_touch}
@@ -23,6 +24,13 @@ next_part parts i below = drop-cons parts i no_part below ∙ ap (λ n. get_or p
 pub len_is : (a : List Sheet) (head : Option Listed) → len_of head ≡ length (unwrap_or (bytes_of a head) [])
 len_is a None = refl
 len_is a (Some c) = sym (length-bytes_in a c)
+
+-- a part alone ends within the largest object with all bytes
+pub sole_within : (parts : List Part) (d : Part) (bytes : List ℕ) → 1 ≤ length parts → length parts < 2 → AreWithin parts
+    → length bytes ≡ parts_len parts → (get_or parts 0 d).offset + length bytes ≤ LARGEST_OBJECT
+sole_within [] d bytes some few within long = absurd (omega arith)
+sole_within (p ∷ []) d bytes some few within long = let end = within 0 p refl in omega arith
+sole_within (p ∷ q ∷ parts) d bytes some few within long = absurd (omega arith)
 
 -- what is left of a write of parts
 pub record IsWritingParts (parts : List Part) (bytes : List ℕ) (old : List Sheet) (before : Option Listed) (i : ℕ) (rest : List ℕ) (new : List Sheet) (head : Option Listed) : Type 0 where

@@ -49,6 +49,15 @@ impl Arena {
         self.used
     }
 
+    /// Takes the memory for so many more pages at once, those aside that free ones have.
+    pub fn reserve(&mut self, more: usize) -> Result<(), NoMemory>
+        ensures { self.new ≡ self.old }
+    {
+        let free = self.pages.len().saturating_sub(self.used as usize);
+        self.pages.reserve(more.saturating_sub(free))?;
+        Ok(())
+    }
+
     /// How many places name a page.
     pub fn count(&self, index: u32) -> u32
         requires { 0 < count_at self.now index }

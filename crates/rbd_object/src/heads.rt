@@ -116,9 +116,34 @@ fn zero(
     }
 }
 
-/// Writes bytes into parts of a head, one part after another. All parts are written, or none: until the
-/// last one is, the head as it was is held beside it.
+/// Writes bytes into parts of a head, one part after another. All parts are written, or none: one part alone
+/// is, and several with the head as it was beside them.
 fn write_parts(
+    alloc: Global,
+    arena: &mut Arena,
+    head: &mut Option<Content>,
+    wanted: bool,
+    parts: &[Part],
+    bytes: &[u8],
+) -> Result<Option<Content>, NoMemory>
+    requires within { AreWithin parts.now }
+    requires long { length bytes.now ≡ parts_len parts.now }
+    requires counted { AreCounted arena.old (pages_of head.old) }
+    requires content { IsHead arena.old head.old }
+    ensures ok { IfOk result (λ kept. IsKept wanted arena.old head.old arena.new head.new kept) }
+    ensures bytes { OnOk result (bytes_of arena.new head.new ≡ Some (parts_written parts.now bytes.now (unwrap_or (bytes_of arena.old head.old) []))) }
+    ensures err { OnErr result (IsKept false arena.old head.old arena.new head.new None) }
+    ensures same { OnErr result (bytes_of arena.new head.new ≡ bytes_of arena.old head.old) }
+    ensures used { in_use arena.new ≤ in_use arena.old + written_touch (len_of head.old) parts.now }
+{
+    match parts {
+        [part] => write(alloc, arena, head, wanted, part.offset, bytes),
+        _ => write_several(alloc, arena, head, wanted, parts, bytes),
+    }
+}
+
+/// The same, where the head as it was is held beside it until the last part is written.
+fn write_several(
     alloc: Global,
     arena: &mut Arena,
     head: &mut Option<Content>,
@@ -149,6 +174,27 @@ fn write_parts(
 
 /// Makes parts of a head zero, if it is there. All are, or none.
 fn zero_parts(
+    arena: &mut Arena,
+    head: &mut Option<Content>,
+    wanted: bool,
+    parts: &[Part],
+) -> Result<Option<Content>, NoMemory>
+    requires counted { AreCounted arena.old (pages_of head.old) }
+    requires content { IsHead arena.old head.old }
+    ensures ok { IfOk result (λ kept. IsKept wanted arena.old head.old arena.new head.new kept) }
+    ensures bytes { OnOk result (bytes_of arena.new head.new ≡ option_map (parts_zeroed parts.now) (bytes_of arena.old head.old)) }
+    ensures err { OnErr result (IsKept false arena.old head.old arena.new head.new None) }
+    ensures same { OnErr result (bytes_of arena.new head.new ≡ bytes_of arena.old head.old) }
+    ensures used { in_use arena.new ≤ in_use arena.old + zeroed_touch parts.now }
+{
+    match parts {
+        [part] => zero(arena, head, wanted, part.offset, part.len),
+        _ => zero_several(arena, head, wanted, parts),
+    }
+}
+
+/// The same, where the head as it was is held beside it until the last part is zero.
+fn zero_several(
     arena: &mut Arena,
     head: &mut Option<Content>,
     wanted: bool,

@@ -28,6 +28,36 @@ pub fn prepare(
     ensures len { OnOk result (length pages.new.items ≡ max (length pages.old.items) (pages_for (at + len))) }
     ensures ready { OnOk result ((j : ℕ) → j < len → IsReady arena.new pages.new.items ((at + j) / PAGE) (slice_index bytes.now j)) }
 {
+    make_room(pages, arena, pages_for(at + len))?;
+    prepare_each(pages, arena, at, len, bytes)
+}
+
+/// Takes the memory for the missing ones of so many pages at once. One after another they would take up to
+/// twice as much.
+fn make_room(pages: &mut Vec<u32>, arena: &mut Arena, count: usize) -> Result<(), NoMemory>
+    ensures pages { pages.new.items ≡ pages.old.items }
+    ensures arena { arena.new ≡ arena.old }
+{
+    let missing = count.saturating_sub(pages.len());
+    pages.reserve(missing)?;
+    arena.reserve(missing)
+}
+
+/// Makes bytes ready as `prepare` does, page after page.
+fn prepare_each(
+    pages: &mut Vec<u32>,
+    arena: &mut Arena,
+    at: usize,
+    len: usize,
+    bytes: &[u8],
+) -> Result<(), NoMemory>
+    requires counted { AreCounted arena.old pages.old.items }
+    requires within { at + len ≤ LARGEST_OBJECT }
+    ensures prepared { Prepared arena.old pages.old.items arena.new pages.new.items }
+    ensures used { in_use arena.new + min (length pages.old.items) (at / PAGE) ≤ in_use arena.old + max (min (length pages.old.items) (at / PAGE)) (pages_for (at + len)) }
+    ensures len { OnOk result (length pages.new.items ≡ max (length pages.old.items) (pages_for (at + len))) }
+    ensures ready { OnOk result ((j : ℕ) → j < len → IsReady arena.new pages.new.items ((at + j) / PAGE) (slice_index bytes.now j)) }
+{
     let first = pages.len().min(at / PAGE);
     for k in first..pages_for(at + len) {
         prepare_page(pages, arena, k, needs_store(bytes, at, k))?;

@@ -1,7 +1,7 @@
 use Rattle.std.proofs.Common.{ℕ, ◌≡◌, ◌+◌, ◌/◌, ◌<◌, ◌≤◌, length, max, get_or}
 use Rattle.rbd_object.specs.Sheets.{in_use}
 use Rattle.rbd_object.specs.Paging.{IsReady, Prepared}
-use Rattle.rbd_object.proofs.pages.prepare.Given as goal
+use Rattle.rbd_object.proofs.pages.prepare_each.Given as goal
 
 -- the pages up to place `k` are ready
 abbrev pub invariant-loop-k : goal.invariant-loop-k

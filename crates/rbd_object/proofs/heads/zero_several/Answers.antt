@@ -3,7 +3,7 @@ use Rattle.std.specs.Prelude.{option_map, unwrap_or}
 use Rattle.rbd_object.specs.Parts.{parts_zeroed}
 use Rattle.rbd_object.specs.Shared.{pages_of}
 use Rattle.rbd_object.proofs.HeadLemmas.{head_after, kept_change, kept_if, on_err, restored, untouched}
-use Rattle.rbd_object.proofs.heads.zero_parts.Goals as goal
+use Rattle.rbd_object.proofs.heads.zero_several.Goals as goal
 
 pub returns-in_err-before-clause-err : goal.returns-in_err-before-clause-err
 returns-in_err-before-clause-err c =
