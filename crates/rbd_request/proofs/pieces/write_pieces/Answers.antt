@@ -1,7 +1,7 @@
 use Rattle.std.proofs.Common.{◌≡◌, ◌+◌, ◌≤◌, length, All, arith, sym, ap, ◌∙◌, subst}
 use Rattle.rbd_layout.proofs.Bounds.{few_bytes}
 use Rattle.rbd_layout.proofs.Listed.{pieces_of_alone}
-use Rattle.rbd_layout.specs.Pieces.{pieces_of}
+use Rattle.rbd_layout.specs.Pieces.{pieces_of, IsPieces}
 use Rattle.rbd_layout.specs.declared.types.Piece.{Piece}
 use Rattle.rbd_object.specs.Parts.{AreBehind}
 use Rattle.rbd_request.specs.Write.{extent_at, rest_of_pieces, write_pieces}
@@ -19,9 +19,10 @@ loop-piece-init c =
     let e = extent_at c.args.at c.args.bytes.now in
     let h = c.args.header.now in
     let given : c.into_iter-piece-iterator.result.rest.items ≡ c.in_ok-listed.listed.items = c.into_iter-piece-iterator.ensures.into_iter_gives.0 in
+    let listed : IsPieces h.layout e c.in_ok-listed.listed.items = subst (λ len. IsPieces h.layout (record { at = c.args.at; len = len }) c.in_ok-listed.listed.items) c.len.ensures c.in_ok-listed.ensures.pieces in
     record {
-      made = λ next. rw c.new-made.ensures.items (ap (λ pieces. write_pieces c.args.site c.args.image h c.args.at c.args.bytes.now pieces next) (given ∙ pieces_of_alone h.layout c.requires.form.layout e c.in_ok-listed.listed.items c.in_ok-listed.ensures.pieces));
-      behind = subst (All (λ (p : Piece). AreBehind c.args.at p.parts)) (sym given) (pieces_behind h.layout e c.in_ok-listed.listed.items c.in_ok-listed.ensures.pieces);
+      made = λ next. rw c.new-made.ensures.items (ap (λ pieces. write_pieces c.args.site c.args.image h c.args.at c.args.bytes.now pieces next) (given ∙ pieces_of_alone h.layout c.requires.form.layout e c.in_ok-listed.listed.items listed));
+      behind = subst (All (λ (p : Piece). AreBehind c.args.at p.parts)) (sym given) (pieces_behind h.layout e c.in_ok-listed.listed.items listed);
     }
 
 pub write_piece-requires : goal.write_piece-requires
