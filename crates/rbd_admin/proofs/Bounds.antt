@@ -37,9 +37,9 @@ bounded_drawing site name h = bounded_on_drawn (making site h) 1 (bounded_making
 
 -- a bound that doesn't fail holds
 bounded_stable : (plan : Plan) (n : ℕ) → ((IsBounded plan n → ⊥) → ⊥) → IsBounded plan n
-bounded_stable (Ask site op next) zero fails = absurd (fails (λ b. b))
-bounded_stable (Ask site op next) (suc n) fails = λ a. bounded_stable (next a) n (λ unbounded. fails (λ b. unbounded (b a)))
-bounded_stable (Await want next) n fails = bounded_stable next n fails
+bounded_stable (Ask site why op next) zero fails = absurd (fails (λ b. b))
+bounded_stable (Ask site why op next) (suc n) fails = λ a. bounded_stable (next a) n (λ unbounded. fails (λ b. unbounded (b a)))
+bounded_stable (Await wait next) n fails = bounded_stable next n fails
 bounded_stable (Note site image event next) n fails = bounded_stable next n fails
 bounded_stable (Return reply) n fails = tt
 bounded_stable (Goto label) n fails = tt

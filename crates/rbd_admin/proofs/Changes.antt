@@ -8,7 +8,6 @@ use Rattle.rbd_kinds.specs.declared.header_op.HeaderOp.TheVariants as header
 use Rattle.rbd_kinds.specs.declared.id.SiteId.{SiteId}
 use Rattle.rbd_kinds.specs.declared.journal.Event.TheVariants as event
 use Rattle.rbd_kinds.specs.declared.machine.Fed.{Fed}
-use Rattle.rbd_kinds.specs.declared.machine.Want.TheVariants as want
 use Rattle.rbd_kinds.specs.declared.operation.Op.TheVariants as op
 use Rattle.rbd_kinds.specs.declared.refusal.Refusal.{Refusal}
 use Rattle.rbd_kinds.specs.declared.refusal.Refusal.TheVariants as refusal
@@ -16,6 +15,8 @@ use Rattle.rbd_kinds.specs.declared.reply.Reply.TheVariants as reply
 use Rattle.rbd_kinds.specs.Header.{snap_named}
 use Rattle.rbd_machine.specs.Path.{Answered, IsWalk, found, looked_at}
 use Rattle.rbd_machine.specs.Plan.{Plan, Return, Goto}
+use Rattle.rbd_machine.specs.Wait as wait
+use Rattle.rbd_machine.specs.declared.reason.Reason.TheVariants as reason
 use Rattle.rbd_machine.specs.Steps.{applied, on_done}
 use Rattle.rbd_machine.proofs.Walked.{ended, went_on, awaited, noted, told_done, changed, refusal_ends_otherwise, nothing_ends_otherwise}
 use Rattle.rbd_admin.specs.Snap.{create_refuses, remove_refuses, on_snap, taking, take, removing, remove, remove_listed, snap_plan}
@@ -27,7 +28,7 @@ done_isnt_refused x same = cc
 -- that it counts as applied is no operation
 applied_at_the_end : (site : SiteId) (image : ℕ) (feds : List Fed) (steps : List Answered) → IsWalk Goto (applied site image) feds steps (Return reply.Done) → steps ≡ []
 applied_at_the_end site image feds steps walk =
-    let a = awaited reply.Done done_isnt_refused (want.Applied site image) (Return reply.Done) feds steps walk in
+    let a = awaited reply.Done done_isnt_refused (wait.Applied site image) (Return reply.Done) feds steps walk in
     (ended reply.Done a.more steps (Return reply.Done) a.walk).0
 
 record ToldSnap (next : Plan) (a : Answer) (feds : List Fed) (steps : List Answered) : Type 0 where
@@ -43,7 +44,7 @@ pub takes_one : (site : SiteId) (name snap : List ℕ) (feds : List Fed) (steps 
 takes_one site name snap feds steps walk =
     let c = changed reply.Done done_isnt_refused site name true (create_refuses snap) (take site snap) feds steps walk in
     let n = noted reply.Done done_isnt_refused site c.image (event.SnapCreate snap) (taking site snap c.image) c.more c.rest c.walk in
-    let w = went_on reply.Done done_isnt_refused site (op.Header c.image (header.SnapAdd snap)) (on_snap (applied site c.image)) n.more c.rest n.walk in
+    let w = went_on reply.Done done_isnt_refused site reason.Own (op.Header c.image (header.SnapAdd snap)) (on_snap (applied site c.image)) n.more c.rest n.walk in
     let t = told_snap (applied site c.image) w.answer w.more w.rest w.walk in
     record {
       image = c.image;
@@ -67,7 +68,7 @@ removed : (site : SiteId) (snap : List ℕ) (image : ℕ) (found : Option SnapVi
 removed site snap image None feds steps walk = absurd (refusal_ends_otherwise reply.Done done_isnt_refused refusal.NoSnap feds steps walk)
 removed site snap image (Some listed) feds steps walk =
     let n = noted reply.Done done_isnt_refused site image (event.SnapRemove snap) (removing site image listed.id) feds steps walk in
-    let w = went_on reply.Done done_isnt_refused site (op.Header image (header.SnapRemove listed.id)) (on_done (applied site image)) n.more steps n.walk in
+    let w = went_on reply.Done done_isnt_refused site reason.Own (op.Header image (header.SnapRemove listed.id)) (on_done (applied site image)) n.more steps n.walk in
     let d = told_done reply.Done done_isnt_refused (applied site image) w.answer w.more w.rest w.walk in
     record {
       listed = listed;

@@ -1,3 +1,6 @@
 pub mod Bounds
+pub mod Closed
 pub mod Looks
+pub mod Shown
+pub mod Tells
 pub mod Changes

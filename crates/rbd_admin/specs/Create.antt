@@ -18,8 +18,8 @@ use Rattle.rbd_kinds.specs.declared.refusal.Refusal.TheVariants as refusal
 use Rattle.rbd_kinds.specs.declared.reply.Reply.TheVariants as reply
 use Rattle.rbd_header.specs.Header.{new_header}
 use Rattle.rbd_layout.specs.Asked.{layout_of, KeepsLimits}
-use Rattle.rbd_machine.specs.Plan.{Plan, Ask, Return}
-use Rattle.rbd_machine.specs.Steps.{refused, not_there, on_done}
+use Rattle.rbd_machine.specs.Plan.{Plan, Return}
+use Rattle.rbd_machine.specs.Steps.{own, refused, not_there, on_done, EndsIt}
 
 -- the commands that it serves: an image with a journal isn't built yet
 abbrev pub is_create : Command → Bool
@@ -33,11 +33,17 @@ on_drawn next answer.Exists = refused refusal.ImageExists
 on_drawn next answer.Full = refused refusal.BadShape
 on_drawn next a = not_there a
 
+abbrev pub TellsDrawn : Answer → Type 0
+TellsDrawn (answer.Id image) = Unit {0}
+TellsDrawn answer.Exists = Unit {0}
+TellsDrawn answer.Full = Unit {0}
+TellsDrawn a = EndsIt a
+
 abbrev pub making : SiteId → HeaderView → (image : ℕ) → Plan
-making site h image = Ask site (op.Header image (header.Create h)) (on_done (Return reply.Done))
+making site h image = own site (op.Header image (header.Create h)) (on_done (Return reply.Done))
 
 abbrev pub drawing : SiteId → (name : List ℕ) → HeaderView → Plan
-drawing site name h = Ask site (op.Directory (directory.Add name)) (on_drawn (making site h))
+drawing site name h = own site (op.Directory (directory.Add name)) (on_drawn (making site h))
 
 -- A shape outside the limits is refused before any operation.
 pub record IsCreate (site : SiteId) (name : List ℕ) (size : ℕ) (shape : Shape) (plan : Plan) : Type 0 where
@@ -57,7 +63,7 @@ rest_at (stage.Making image) r = making r.site (new_header r.layout r.size) imag
 
 -- what is left of one
 abbrev pub rest_of_create : CreateRequest → Plan
-rest_of_create r = rest_at r.at r
+rest_of_create r = rest_at r.stage r
 
 -- why a plan has ended, where it has ended refused
 abbrev pub refusal_at : Plan → Option Refusal

@@ -16,8 +16,8 @@ use Rattle.rbd_kinds.specs.declared.operation.Op.TheVariants as op
 use Rattle.rbd_kinds.specs.declared.refusal.Refusal.TheVariants as refusal
 use Rattle.rbd_kinds.specs.declared.reply.Reply.{Reply}
 use Rattle.rbd_kinds.specs.declared.reply.Reply.TheVariants as reply
-use Rattle.rbd_machine.specs.Plan.{Plan, Ask, Return}
-use Rattle.rbd_machine.specs.Steps.{refused, not_there, find, look}
+use Rattle.rbd_machine.specs.Plan.{Plan, Return}
+use Rattle.rbd_machine.specs.Steps.{own, refused, not_there, find, look, EndsIt}
 
 -- the commands that it serves
 abbrev pub is_listing : Command → Bool
@@ -30,9 +30,13 @@ abbrev pub on_names : (List (List ℕ) → Plan) → Answer → Plan
 on_names next (answer.Names names) = next names
 on_names next a = not_there a
 
+abbrev pub TellsNames : Answer → Type 0
+TellsNames (answer.Names names) = Unit {0}
+TellsNames a = EndsIt a
+
 -- the names of all images
 abbrev pub list_names : SiteId → Plan
-list_names site = Ask site (op.Directory directory.List) (on_names (λ names. Return (reply.Names names)))
+list_names site = own site (op.Directory directory.List) (on_names (λ names. Return (reply.Names names)))
 
 -- what an image's header tells
 abbrev pub showing : SiteId → (HeaderView → Reply) → (image : ℕ) → Plan
@@ -64,7 +68,7 @@ rest_at (stage.Looking image shown) site = showing site (reply_of shown) image
 
 -- what is left of one
 abbrev pub rest_of_list : ListRequest → Plan
-rest_of_list r = rest_at r.at r.site
+rest_of_list r = rest_at r.stage r.site
 
 -- The reply to the last answer is made.
 abbrev pub IsReadied : Stage → Option Reply → Answer → Type 0
@@ -73,4 +77,4 @@ IsReadied (stage.Looking image shown) readied (answer.Header h) = readied ≡ So
 IsReadied _ readied a = Unit {0}
 
 abbrev pub HasReply : ListRequest → Answer → Type 0
-HasReply r a = IsReadied r.at r.readied a
+HasReply r a = IsReadied r.stage r.readied a

@@ -27,8 +27,8 @@ use Rattle.rbd_kinds.specs.declared.refusal.Refusal.TheVariants as refusal
 use Rattle.rbd_kinds.specs.Header.{snap_named}
 use Rattle.rbd_header.specs.Header.{is_full}
 use Rattle.rbd_machine.specs.Approach.{rest_of}
-use Rattle.rbd_machine.specs.Plan.{Plan, Ask, Note}
-use Rattle.rbd_machine.specs.Steps.{refused, not_there, on_done, change, or_else, non_primary, applied}
+use Rattle.rbd_machine.specs.Plan.{Plan, Note}
+use Rattle.rbd_machine.specs.Steps.{own, refused, not_there, on_done, EndsIt, TellsDone, change, or_else, non_primary, applied}
 
 -- the commands that it serves
 abbrev pub is_snap : Command → Bool
@@ -64,14 +64,18 @@ abbrev pub on_snap : Plan → Answer → Plan
 on_snap next (answer.Snap snap) = next
 on_snap next a = not_there a
 
+abbrev pub TellsSnap : Answer → Type 0
+TellsSnap (answer.Snap snap) = Unit {0}
+TellsSnap a = EndsIt a
+
 abbrev pub taking : SiteId → (snap : List ℕ) → (image : ℕ) → Plan
-taking site snap image = Ask site (op.Header image (header.SnapAdd snap)) (on_snap (applied site image))
+taking site snap image = own site (op.Header image (header.SnapAdd snap)) (on_snap (applied site image))
 
 abbrev pub take : SiteId → (snap : List ℕ) → (image : ℕ) → HeaderView → Plan
 take site snap image h = Note site image (event.SnapCreate snap) (taking site snap image)
 
 abbrev pub removing : SiteId → (image snap : ℕ) → Plan
-removing site image snap = Ask site (op.Header image (header.SnapRemove snap)) (on_done (applied site image))
+removing site image snap = own site (op.Header image (header.SnapRemove snap)) (on_done (applied site image))
 
 -- by the id that the own look lists under the name
 abbrev pub remove_listed : SiteId → (snap : List ℕ) → (image : ℕ) → Option SnapView → Plan
@@ -116,8 +120,12 @@ abbrev pub on_act : Act → Plan → Answer → Plan
 on_act act.Take = on_snap
 on_act (act.Remove listed) = on_done
 
+abbrev pub Tells : Act → Answer → Type 0
+Tells act.Take = TellsSnap
+Tells (act.Remove listed) = TellsDone
+
 abbrev pub doing : SiteId → (snap : List ℕ) → (image : ℕ) → Act → Plan
-doing site snap image a = Ask site (op.Header image (operation_of snap a)) (on_act a (applied site image))
+doing site snap image a = own site (op.Header image (operation_of snap a)) (on_act a (applied site image))
 
 abbrev pub noting : SiteId → (snap : List ℕ) → (image : ℕ) → Act → Plan
 noting site snap image a = Note site image (event_of snap a) (doing site snap image a)
@@ -130,7 +138,7 @@ rest_at (stage.Applying image) site change = applied site image
 
 -- what is left of one
 abbrev pub rest_of_snap : SnapRequest → Plan
-rest_of_snap r = rest_at r.at r.site r.change
+rest_of_snap r = rest_at r.stage r.site r.change
 
 abbrev pub IsApproaching : Stage → Type 0
 IsApproaching (stage.Approaching way) = Unit {0}

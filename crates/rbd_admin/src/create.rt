@@ -2,7 +2,7 @@
 ghost use Rattle.std.specs.Prelude.{◌≡◌, ℕ, true, None};
 ghost use Rattle.rbd_machine.specs.Plan.{Plan, IsAsking, without_labels};
 ghost use Rattle.rbd_machine.specs.Steps.{going};
-ghost use Rattle.rbd_admin.specs.Create.{is_create, on_drawn, rest_of_create, IsCreate, IsCreatePlan, refusal_at};
+ghost use Rattle.rbd_admin.specs.Create.{is_create, on_drawn, rest_of_create, IsCreate, IsCreatePlan, TellsDrawn, refusal_at};
 
 use rbd_header::new_header;
 use rbd_kinds::{
@@ -10,7 +10,7 @@ use rbd_kinds::{
     Op, OpKind, Refusal, Reply, Shape, SiteId, TryClone, Turn, Want,
 };
 use rbd_layout::{keeps_limits, layout_of};
-use rbd_machine::{Machine, refusal_of, told_done};
+use rbd_machine::{Machine, Reason, refusal_of, told_done};
 use std::alloc::Global;
 
 /// Makes an image of zeros.
@@ -34,10 +34,10 @@ pub struct CreateRequest {
     layout: Layout,
     /// The size in bytes.
     size: Number,
-    at: Stage,
+    stage: Stage,
 }
 
-/// A step of the request.
+/// A stage of the request.
 #[derive(Debug, Drop)]
 enum Stage {
     Outside,
@@ -67,7 +67,7 @@ impl CreateRequest {
         ensures { IsCreate site name size shape.now (rest_of_create result) }
     {
         let layout = layout_of(shape);
-        let at = if keeps_limits(&layout, size.get()) {
+        let stage = if keeps_limits(&layout, size.get()) {
             Stage::Drawing
         } else {
             Stage::Outside
@@ -77,7 +77,7 @@ impl CreateRequest {
             name,
             layout,
             size,
-            at,
+            stage,
         }
     }
 
@@ -87,9 +87,10 @@ impl CreateRequest {
         ensures refusal { result ≡ refusal_at (rest_of_create self.now) }
         ensures asking { result ≡ None → IsAsking (rest_of_create self.now) }
     {
-        match self.at {
+        match self.stage {
             Stage::Outside => Some(Refusal::BadShape),
-            _ => None,
+            Stage::Drawing => None,
+            Stage::Making(_) => None,
         }
     }
 }
@@ -97,6 +98,7 @@ impl CreateRequest {
 /// The id that was drawn for a name, or why the request ends: the name is held, no more names or ids are left, or
 /// it is fenced.
 fn drawn(answer: &Answer) -> Result<ImageId, Refusal>
+    requires { TellsDrawn answer.now }
     ensures { (next : ℕ → Plan) → on_drawn next answer.now ≡ going next result }
 {
     match answer {
@@ -114,24 +116,30 @@ impl Machine for CreateRequest {
 
     fn wants(&self) -> Want {
         let site = self.site;
-        let kind = match self.at {
+        let kind = match self.stage {
+            Stage::Outside => unreachable!(),
+            Stage::Drawing => OpKind::DirAdd,
             Stage::Making(_) => OpKind::HeaderCreate,
-            _ => OpKind::DirAdd,
         };
         Want::Op { site, kind }
     }
 
     fn next(&self, alloc: Global) -> Result<Op, NoMemory> {
-        match self.at {
+        match self.stage {
+            Stage::Outside => unreachable!(),
+            Stage::Drawing => Ok(Op::Directory(DirectoryOp::Add {
+                name: self.name.try_clone()?,
+            })),
             Stage::Making(image) => {
                 let view = new_header(alloc, self.layout, self.size.get());
                 let op = HeaderOp::Create { view };
                 Ok(Op::Header { image, op })
             }
-            _ => Ok(Op::Directory(DirectoryOp::Add {
-                name: self.name.try_clone()?,
-            })),
         }
+    }
+
+    fn reason(&self) -> Reason {
+        Reason::Own
     }
 
     fn event(&self, _alloc: Global) -> Result<Option<Event>, NoMemory> {
@@ -142,15 +150,16 @@ impl Machine for CreateRequest {
         Ok(())
     }
 
+    #[tactic(auto, using(crate::proofs::Tells::draw_tells, crate::proofs::Tells::make_tells))]
     fn feed(&mut self, fed: &Fed) -> Turn {
         let Fed::Answer(answer) = fed else {
             unreachable!()
         };
-        match self.at {
+        match self.stage {
             Stage::Outside => unreachable!(),
             Stage::Drawing => match drawn(answer) {
                 Ok(image) => {
-                    self.at = Stage::Making(image);
+                    self.stage = Stage::Making(image);
                     Turn::More
                 }
                 Err(refusal) => Turn::Done(Reply::Refused(refusal)),

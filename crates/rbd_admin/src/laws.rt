@@ -1,20 +1,23 @@
 //! What the plans of requests keep to: laws, each the contract of a function that does nothing.
-ghost use Rattle.std.specs.Prelude.{ℕ, List};
+ghost use Rattle.std.specs.Prelude.{◌≡◌, ℕ, List, [], ◌∷◌};
 ghost use Rattle.rbd_kinds.specs.declared.command.Command.{Command};
-ghost use Rattle.rbd_kinds.specs.declared.command.Command.TheVariants.{List as ListAll};
+ghost use Rattle.rbd_kinds.specs.declared.command.Command.TheVariants.{List as ListAll, Info, SnapList};
+ghost use Rattle.rbd_kinds.specs.declared.command.Shape.{Shape};
+ghost use Rattle.rbd_kinds.specs.declared.header.HeaderView.{HeaderView};
+ghost use Rattle.rbd_kinds.specs.declared.header.SnapView.{SnapView};
 ghost use Rattle.rbd_kinds.specs.declared.id.SiteId.{SiteId};
 ghost use Rattle.rbd_kinds.specs.declared.layout.Layout.{Layout};
 ghost use Rattle.rbd_kinds.specs.Form.{IsNewHeader};
-ghost use Rattle.rbd_layout.specs.Asked.{KeepsLimits};
-ghost use Rattle.rbd_machine.specs.Plan.{Plan, Return, Goto};
+ghost use Rattle.rbd_layout.specs.Asked.{KeepsLimits, layout_of};
+ghost use Rattle.rbd_machine.specs.Plan.{Plan, Return, Goto, IsClosed};
 ghost use Rattle.rbd_kinds.specs.declared.command.Command.TheVariants.{SnapCreate, SnapRemove};
 ghost use Rattle.rbd_kinds.specs.declared.machine.Fed.{Fed};
-ghost use Rattle.rbd_kinds.specs.declared.reply.Reply.TheVariants.{Done};
+ghost use Rattle.rbd_kinds.specs.declared.reply.Reply.TheVariants.{Done, Info as ShownHeader, Names, Snaps};
 ghost use Rattle.rbd_machine.specs.Path.{Answered, IsBounded, IsWalk};
-ghost use Rattle.rbd_admin.specs.Whole.{TakesOne, RemovesOne};
-ghost use Rattle.rbd_admin.specs.Create.{IsCreatePlan};
+ghost use Rattle.rbd_admin.specs.Whole.{TakesOne, RemovesOne, MakesOne, ShowsHeader, listed};
+ghost use Rattle.rbd_admin.specs.Create.{IsCreate, IsCreatePlan};
 ghost use Rattle.rbd_header.specs.Header.{new_header};
-ghost use Rattle.rbd_admin.specs.Listing.{listing_plan};
+ghost use Rattle.rbd_admin.specs.Listing.{listing_plan, shown_snaps};
 ghost use Rattle.rbd_admin.specs.Snap.{snap_plan};
 
 /// A `create` has two operations at most: one draws the id, and one makes the header.
@@ -37,9 +40,38 @@ pub fn snapshots_change_once()
     ensures { (home : SiteId) (command : Command) → IsBounded (snap_plan home command) 4 }
 {}
 
+/// None of them begins a part again.
+pub fn plans_go_to_no_label()
+    ensures create { (home : SiteId) (command : Command) (plan : Plan) → IsCreatePlan home command plan → IsClosed Goto plan }
+    ensures listing { (home : SiteId) (command : Command) → IsClosed Goto (listing_plan home command) }
+    ensures snap { (home : SiteId) (command : Command) → IsClosed Goto (snap_plan home command) }
+{}
+
 /// The header of a new image is one that a site may make.
 pub fn new_headers_are_in_form()
     ensures { (layout : Layout) (size : ℕ) → KeepsLimits layout size → IsNewHeader (new_header layout size) }
+{}
+
+/// A `create` is done only where its shape is within the limits, and then by two operations: an id was drawn for the
+/// name, and the header of a new image was made under it.
+pub fn creates_make_one()
+    ensures made { (site : SiteId) (name : List ℕ) (size : ℕ) (shape : Shape) (plan : Plan) (feds : List Fed) (steps : List Answered)
+        → IsCreate site name size shape plan → KeepsLimits (layout_of shape) size
+        → IsWalk Goto plan feds steps (Return Done) → MakesOne site name (new_header (layout_of shape) size) steps }
+    ensures within { (site : SiteId) (name : List ℕ) (size : ℕ) (shape : Shape) (plan : Plan) (feds : List Fed) (steps : List Answered)
+        → IsCreate site name size shape plan → (KeepsLimits (layout_of shape) size → ⊥)
+        → IsWalk Goto plan feds steps (Return Done) → ⊥ }
+{}
+
+/// An `ls` shows the names that the site told, an `info` the header that the image of its name has, and a `snap ls` that
+/// header's snapshots. None of them has done anything else.
+pub fn listings_show_what_was_told()
+    ensures names { (site : SiteId) (feds : List Fed) (steps : List Answered) (names : List (List ℕ))
+        → IsWalk Goto (listing_plan site ListAll) feds steps (Return (Names names)) → steps ≡ listed site names ∷ [] }
+    ensures info { (site : SiteId) (image : List ℕ) (feds : List Fed) (steps : List Answered) (header : HeaderView)
+        → IsWalk Goto (listing_plan site (Info image)) feds steps (Return (ShownHeader header)) → ShowsHeader site image ShownHeader (ShownHeader header) steps }
+    ensures snaps { (site : SiteId) (image : List ℕ) (feds : List Fed) (steps : List Answered) (snaps : List SnapView)
+        → IsWalk Goto (listing_plan site (SnapList image)) feds steps (Return (Snaps snaps)) → ShowsHeader site image shown_snaps (Snaps snaps) steps }
 {}
 
 /// A `snap create` is done only by one snapshot that was taken behind two looks, and a `snap rm` by the removal of the one

@@ -1,6 +1,7 @@
 //! `ls`, `info` and `snap ls`
 ghost use Rattle.std.specs.Prelude.{◌≡◌, true, IfOk, IfSome, IsSome};
 ghost use Rattle.rbd_kinds.specs.declared.machine.Fed.TheVariants as fed_with;
+ghost use Rattle.rbd_machine.specs.Answers.{CanBeFed};
 ghost use Rattle.rbd_machine.specs.Plan.{GoesOn, Goto, plan_after, without_labels};
 ghost use Rattle.rbd_admin.specs.Listing.{is_listing, listing_plan, rest_of_list, reply_of, HasReply, IsReadied};
 
@@ -8,7 +9,7 @@ use rbd_kinds::{
     Answer, Command, DirectoryOp, Event, Fed, HeaderView, ImageId, Name, NoMemory, Op, OpKind,
     Reply, SiteId, TryClone, Turn, Want,
 };
-use rbd_machine::{Machine, dir_find, header_get, refusal_of, told_image};
+use rbd_machine::{Machine, Reason, dir_find, header_get, refusal_of, told_image};
 use std::alloc::Global;
 
 /// Shows the names of a site's images (`ls`), or what an image's header tells (`info`), or its snapshots (`snap ls`).
@@ -31,12 +32,12 @@ use std::alloc::Global;
 #[derive(Debug, Drop)]
 pub struct ListRequest {
     site: SiteId,
-    at: Stage,
+    stage: Stage,
     /// The reply, once there is memory for it.
     readied: Option<Reply>,
 }
 
-/// A step of the request.
+/// A stage of the request.
 #[derive(Debug, Drop)]
 enum Stage {
     Listing,
@@ -57,7 +58,7 @@ impl ListRequest {
         requires { is_listing command ≡ true }
         ensures { rest_of_list result ≡ listing_plan home command }
     {
-        let at = match command {
+        let stage = match command {
             Command::List => Stage::Listing,
             Command::Info { image } => Stage::Finding(image.into_name(), Shown::Header),
             Command::SnapList { image } => Stage::Finding(image.into_name(), Shown::Snaps),
@@ -65,24 +66,26 @@ impl ListRequest {
         };
         ListRequest {
             site: home,
-            at,
+            stage,
             readied: None,
         }
     }
 
     /// Goes on with the answer to its operation.
+    #[tactic(auto, using(crate::proofs::Tells::list_tells, rbd_machine::proofs::Tells::find_tells, rbd_machine::proofs::Tells::look_tells))]
     fn answer(&mut self, answer: &Answer) -> Turn
-        requires { HasReply self.old answer.now }
+        requires can { CanBeFed (rest_of_list self.old) (fed_with.Answer answer.now) }
+        requires ready { HasReply self.old answer.now }
         ensures { GoesOn Goto (plan_after (rest_of_list self.old) (fed_with.Answer answer.now)) result (without_labels (rest_of_list self.new)) }
     {
-        match &self.at {
+        match &self.stage {
             Stage::Listing => match answer {
                 Answer::Names(_) => self.reply(),
                 _ => Turn::Done(Reply::Refused(refusal_of(answer))),
             },
             Stage::Finding(_, shown) => match told_image(answer) {
                 Ok(image) => {
-                    self.at = Stage::Looking(image, *shown);
+                    self.stage = Stage::Looking(image, *shown);
                     Turn::More
                 }
                 Err(refusal) => Turn::Done(Reply::Refused(refusal)),
@@ -117,10 +120,10 @@ fn reply_with(shown: Shown, header: &HeaderView) -> Result<Reply, NoMemory>
 }
 
 /// The reply that an answer brings at a step, if it brings one.
-fn reply_to(at: &Stage, answer: &Answer) -> Result<Option<Reply>, NoMemory>
-    ensures { IfOk result (λ readied. IsReadied at.now readied answer.now) }
+fn reply_to(stage: &Stage, answer: &Answer) -> Result<Option<Reply>, NoMemory>
+    ensures { IfOk result (λ readied. IsReadied stage.now readied answer.now) }
 {
-    match at {
+    match stage {
         Stage::Listing => match answer {
             Answer::Names(names) => Ok(Some(Reply::Names(names.try_clone()?))),
             _ => Ok(None),
@@ -140,7 +143,7 @@ impl Machine for ListRequest {
 
     fn wants(&self) -> Want {
         let site = self.site;
-        let kind = match &self.at {
+        let kind = match &self.stage {
             Stage::Listing => OpKind::DirList,
             Stage::Finding(_, _) => OpKind::DirFind,
             Stage::Looking(_, _) => OpKind::HeaderGet,
@@ -149,11 +152,15 @@ impl Machine for ListRequest {
     }
 
     fn next(&self, _alloc: Global) -> Result<Op, NoMemory> {
-        match &self.at {
+        match &self.stage {
             Stage::Listing => Ok(Op::Directory(DirectoryOp::List)),
             Stage::Finding(name, _) => dir_find(name),
             Stage::Looking(image, _) => Ok(header_get(*image)),
         }
+    }
+
+    fn reason(&self) -> Reason {
+        Reason::Own
     }
 
     fn event(&self, _alloc: Global) -> Result<Option<Event>, NoMemory> {
@@ -164,7 +171,7 @@ impl Machine for ListRequest {
         let Fed::Answer(answer) = fed else {
             unreachable!()
         };
-        self.readied = reply_to(&self.at, answer)?;
+        self.readied = reply_to(&self.stage, answer)?;
         Ok(())
     }
 

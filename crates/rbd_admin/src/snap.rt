@@ -4,16 +4,19 @@ ghost use Rattle.rbd_kinds.specs.declared.id.SiteId.{SiteId};
 ghost use Rattle.rbd_kinds.specs.Header.{snap_named};
 ghost use Rattle.rbd_kinds.specs.OperationKind.{header_kind};
 ghost use Rattle.rbd_header.specs.Header.{is_full as lists_all};
+ghost use Rattle.rbd_machine.specs.Answers.{CanBeFed};
 ghost use Rattle.rbd_machine.specs.Plan.{Plan, GoesOn, Goto, plan_after, without_labels};
 ghost use Rattle.rbd_machine.specs.Steps.{going, change as change_of};
-ghost use Rattle.rbd_admin.specs.Snap.{is_snap, snap_plan, rest_of_snap, IsApproaching, removal_refusal, is_unprotected, refuses_by, does_by, refuses_of, does, noting, event_of, operation_of, on_act};
+ghost use Rattle.rbd_admin.specs.Snap.{is_snap, snap_plan, rest_of_snap, IsApproaching, removal_refusal, is_unprotected, refuses_by, does_by, refuses_of, does, noting, event_of, operation_of, on_act, Tells};
 
 use rbd_header::is_full;
 use rbd_kinds::{
     Answer, Command, Event, Fed, HeaderOp, HeaderView, ImageId, Name, NoMemory, Op, OpKind,
     Refusal, Reply, SiteId, SnapId, SnapStatus, TryClone, Turn, Want,
 };
-use rbd_machine::{Approach, Machine, Progress, Refuses, non_primary, refusal_of, told_done};
+use rbd_machine::{
+    Approach, Machine, Progress, Reason, Refuses, non_primary, refusal_of, told_done,
+};
 use std::alloc::Global;
 
 /// Takes a snapshot of an image, or removes one.
@@ -36,10 +39,10 @@ use std::alloc::Global;
 pub struct SnapRequest {
     site: SiteId,
     change: SnapChange,
-    at: Stage,
+    stage: Stage,
 }
 
-/// A step of the request.
+/// A stage of the request.
 #[derive(Debug, Drop)]
 enum Stage {
     Approaching(Approach),
@@ -103,16 +106,17 @@ impl SnapRequest {
         SnapRequest {
             site,
             change: SnapChange { kind, snap },
-            at: Stage::Approaching(Approach::new(site, image, true)),
+            stage: Stage::Approaching(Approach::new(site, image, true)),
         }
     }
 
     /// Goes on with its way to its own look, and from there.
     fn approach(&mut self, fed: &Fed) -> Turn
-        requires { IsApproaching self.old.at }
+        requires at { IsApproaching self.old.stage }
+        requires can { CanBeFed (rest_of_snap self.old) fed.now }
         ensures { GoesOn Goto (plan_after (rest_of_snap self.old) fed.now) result (without_labels (rest_of_snap self.new)) }
     {
-        let Stage::Approaching(way) = &mut self.at else {
+        let Stage::Approaching(way) = &mut self.stage else {
             unreachable!()
         };
         match way.feed(&self.change, fed) {
@@ -136,7 +140,7 @@ impl SnapRequest {
     {
         match self.change.act(header) {
             Ok(act) => {
-                self.at = Stage::Noting(image, act);
+                self.stage = Stage::Noting(image, act);
                 Turn::More
             }
             Err(refusal) => Turn::Done(Reply::Refused(refusal)),
@@ -245,6 +249,7 @@ impl Act {
 
     /// That it was done, or why the request ends: it is fenced, or the image isn't there.
     fn told(&self, answer: &Answer) -> Result<(), Refusal>
+        requires { Tells self.now answer.now }
         ensures { (next : Plan) → on_act self.now next answer.now ≡ going (λ done. next) result }
     {
         match self {
@@ -264,7 +269,7 @@ impl Machine for SnapRequest {
 
     fn wants(&self) -> Want {
         let site = self.site;
-        match &self.at {
+        match &self.stage {
             Stage::Approaching(way) => way.wants(),
             Stage::Noting(image, _) => Want::Note {
                 site,
@@ -282,18 +287,23 @@ impl Machine for SnapRequest {
     }
 
     fn next(&self, _alloc: Global) -> Result<Op, NoMemory> {
-        match &self.at {
+        match &self.stage {
             Stage::Approaching(way) => way.next(),
             Stage::Doing(image, act) => Ok(Op::Header {
                 image: *image,
                 op: act.operation(&self.change.snap)?,
             }),
-            _ => unreachable!(),
+            Stage::Noting(_, _) => unreachable!(),
+            Stage::Applying(_) => unreachable!(),
         }
     }
 
+    fn reason(&self) -> Reason {
+        Reason::Own
+    }
+
     fn event(&self, _alloc: Global) -> Result<Option<Event>, NoMemory> {
-        match &self.at {
+        match &self.stage {
             Stage::Approaching(_) => Ok(None),
             Stage::Noting(_, act) => Ok(Some(act.event(&self.change.snap)?)),
             Stage::Doing(_, _) => Ok(None),
@@ -305,11 +315,12 @@ impl Machine for SnapRequest {
         Ok(())
     }
 
+    #[tactic(auto, using(crate::proofs::Tells::act_tells))]
     fn feed(&mut self, fed: &Fed) -> Turn {
-        match &self.at {
+        match &self.stage {
             Stage::Approaching(_) => self.approach(fed),
             Stage::Noting(image, act) => {
-                self.at = Stage::Doing(*image, *act);
+                self.stage = Stage::Doing(*image, *act);
                 Turn::More
             }
             Stage::Doing(image, act) => {
@@ -318,7 +329,7 @@ impl Machine for SnapRequest {
                 };
                 match act.told(answer) {
                     Ok(()) => {
-                        self.at = Stage::Applying(*image);
+                        self.stage = Stage::Applying(*image);
                         Turn::More
                     }
                     Err(refusal) => Turn::Done(Reply::Refused(refusal)),

@@ -68,6 +68,7 @@ fn asks<M: Machine>(alloc: Global, request: &M, kind: OpKind) -> Result<bool, No
 }
 
 /// A request wants this, is fed, and wants more.
+#[tactic(auto, using(rbd_machine::proofs::Fed::fed_is_live))]
 fn go_on<M: Machine>(
     rt: &impl Abort,
     alloc: Global,
@@ -87,6 +88,7 @@ fn go_on<M: Machine>(
 }
 
 /// A request wants this, is fed, and ends.
+#[tactic(auto, using(rbd_machine::proofs::Fed::fed_is_live))]
 fn end<M: Machine>(
     rt: &impl Abort,
     alloc: Global,

@@ -1,35 +1,64 @@
 -- What a change on its way to its own look knows.
-use Rattle.std.proofs.Common.{◌≡◌, ℕ, Option, Some, subst}
+use Rattle.std.proofs.Common.{◌≡◌, ℕ, Option, Some, None, refl, subst}
 use Rattle.rbd_kinds.specs.declared.answer.Answer.TheVariants as answer
 use Rattle.rbd_kinds.specs.declared.header.HeaderView.{HeaderView}
+use Rattle.rbd_kinds.specs.declared.machine.Fed.{Fed}
 use Rattle.rbd_kinds.specs.declared.machine.Fed.TheVariants as fed
 use Rattle.rbd_kinds.specs.declared.refusal.Refusal.{Refusal}
 use Rattle.rbd_kinds.specs.Form.{IsHeaderInForm}
 use Rattle.rbd_machine.specs.Answers.{CanBeFed}
-use Rattle.rbd_machine.specs.Approach.{rest_from, rest_of, owning_at}
-use Rattle.rbd_kinds.specs.declared.journal.Event.{Event}
-use Rattle.rbd_machine.specs.Plan.{Plan, Notes}
+use Rattle.rbd_machine.specs.Approach.{rest_from, rest_of, owning_at, IsAskingAt, CanBeFedAt}
+use Rattle.rbd_machine.specs.Plan.{Plan, Notes, AsksBy, IsAsking}
 use Rattle.rbd_machine.specs.declared.approach.Approach.{Approach}
-use Rattle.rbd_machine.specs.declared.approach.Place.{Place}
-use Rattle.rbd_machine.specs.declared.approach.Place.TheVariants as place
+use Rattle.rbd_machine.specs.declared.approach.Stage.{Stage}
+use Rattle.rbd_machine.specs.declared.approach.Stage.TheVariants as stage
+use Rattle.rbd_machine.specs.declared.reason.Reason.TheVariants as reason
 
-is_owning : (at : Place) (image : ℕ) → owning_at at ≡ Some image → at ≡ place.Owning image
-is_owning place.Finding image is = cc
-is_owning (place.Joining i) image is = cc
-is_owning (place.Looking i) image is = cc
-is_owning (place.Holding i) image is = cc
-is_owning (place.Owning i) image is = cc
+is_owning : (s : Stage) (image : ℕ) → owning_at s ≡ Some image → s ≡ stage.Owning image
+is_owning stage.Finding image is = cc
+is_owning (stage.Joining i) image is = cc
+is_owning (stage.Looking i) image is = cc
+is_owning (stage.Holding i) image is = cc
+is_owning (stage.Owning i) image is = cc
 
 -- the header of its own look is in form
 pub owning_form : (a : Approach) (refuses : HeaderView → Option Refusal) (act : ℕ → HeaderView → Plan) (image : ℕ) (h : HeaderView)
-    → owning_at a.at ≡ Some image → CanBeFed (rest_of a refuses act) (fed.Answer (answer.Header h)) → IsHeaderInForm h
+    → owning_at a.stage ≡ Some image → CanBeFed (rest_of a refuses act) (fed.Answer (answer.Header h)) → IsHeaderInForm h
 owning_form a refuses act image h at can =
-    (subst (λ p. CanBeFed (rest_from p a refuses act) (fed.Answer (answer.Header h))) (is_owning a.at image at) can).form
+    (subst (λ p. CanBeFed (rest_from p a refuses act) (fed.Answer (answer.Header h))) (is_owning a.stage image at) can).form
 
--- it notes no event on its way
-pub approach_notes_nothing : (p : Place) (a : Approach) (refuses : HeaderView → Option Refusal) (act : ℕ → HeaderView → Plan) (e : Option Event) → Notes (rest_from p a refuses act) e
-approach_notes_nothing place.Finding a refuses act e = tt
-approach_notes_nothing (place.Joining i) a refuses act e = tt
-approach_notes_nothing (place.Looking i) a refuses act e = tt
-approach_notes_nothing (place.Holding i) a refuses act e = tt
-approach_notes_nothing (place.Owning i) a refuses act e = tt
+module _ (a : Approach) (refuses : HeaderView → Option Refusal) (act : ℕ → HeaderView → Plan) where
+  -- it notes no event on its way
+  pub approach_notes_nothing : (s : Stage) → Notes (rest_from s a refuses act) None
+  approach_notes_nothing stage.Finding = refl
+  approach_notes_nothing (stage.Joining i) = refl
+  approach_notes_nothing (stage.Looking i) = refl
+  approach_notes_nothing (stage.Holding i) = refl
+  approach_notes_nothing (stage.Owning i) = refl
+
+  -- what it asks for is its own
+  pub approach_asks_by_itself : (s : Stage) → AsksBy (rest_from s a refuses act) reason.Own
+  approach_asks_by_itself stage.Finding = refl
+  approach_asks_by_itself (stage.Joining i) = tt
+  approach_asks_by_itself (stage.Looking i) = refl
+  approach_asks_by_itself (stage.Holding i) = tt
+  approach_asks_by_itself (stage.Owning i) = refl
+
+  pub approach_asks : (s : Stage) → IsAsking (rest_from s a refuses act) → IsAskingAt s
+  approach_asks stage.Finding asks = tt
+  approach_asks (stage.Joining i) asks = asks
+  approach_asks (stage.Looking i) asks = tt
+  approach_asks (stage.Holding i) asks = asks
+  approach_asks (stage.Owning i) asks = tt
+
+  pub approach_can_be_fed : (s : Stage) (f : Fed) → CanBeFed (rest_from s a refuses act) f → CanBeFedAt s a.name f
+  approach_can_be_fed stage.Finding (fed.Answer x) can = can
+  approach_can_be_fed stage.Finding fed.Passed can = can
+  approach_can_be_fed (stage.Joining i) (fed.Answer x) can = can
+  approach_can_be_fed (stage.Joining i) fed.Passed can = can
+  approach_can_be_fed (stage.Looking i) (fed.Answer x) can = can
+  approach_can_be_fed (stage.Looking i) fed.Passed can = can
+  approach_can_be_fed (stage.Holding i) (fed.Answer x) can = can
+  approach_can_be_fed (stage.Holding i) fed.Passed can = can
+  approach_can_be_fed (stage.Owning i) (fed.Answer x) can = can
+  approach_can_be_fed (stage.Owning i) fed.Passed can = can

@@ -12,17 +12,17 @@ use Rattle.rbd_machine.specs.Steps.{unless, not_there, on_id, on_header, on_done
 -- ---- paths
 
 pub bounded_at : (plan : Plan) (n : ℕ) → IsBounded plan n → IsBounded (at_operation Goto plan) n
-bounded_at (Ask site op next) n b = b
-bounded_at (Await want next) n b = bounded_at next n b
+bounded_at (Ask site why op next) n b = b
+bounded_at (Await wait next) n b = bounded_at next n b
 bounded_at (Note site image event next) n b = bounded_at next n b
 bounded_at (Return reply) n b = b
 bounded_at (Goto label) n b = b
 
 pub bounded_step : (at : Plan) (n : ℕ) (step : Answered) (more : List Answered) → ((plan : Plan) (m : ℕ) → IsBounded plan m → IsPass plan more → length more ≤ m)
     → IsBounded at n → IsStep at step → IsPass (after_answer at step.answer) more → suc (length more) ≤ n
-bounded_step (Ask site op next) zero step more shorter b is rest = absurd b
-bounded_step (Ask site op next) (suc n) step more shorter b is rest = let short : length more ≤ n = shorter (next step.answer) n (b step.answer) rest in omega arith
-bounded_step (Await want next) n step more shorter b is rest = absurd is
+bounded_step (Ask site why op next) zero step more shorter b is rest = absurd b
+bounded_step (Ask site why op next) (suc n) step more shorter b is rest = let short : length more ≤ n = shorter (next step.answer) n (b step.answer) rest in omega arith
+bounded_step (Await wait next) n step more shorter b is rest = absurd is
 bounded_step (Note site image event next) n step more shorter b is rest = absurd is
 bounded_step (Return reply) n step more shorter b is rest = absurd is
 bounded_step (Goto label) n step more shorter b is rest = absurd is
@@ -69,10 +69,10 @@ module _ (site : SiteId) (refuses : HeaderView → Option Refusal) (act : ℕ �
 -- ---- more than enough
 
 pub bounded_more : (plan : Plan) (n m : ℕ) → n ≤ m → IsBounded plan n → IsBounded plan m
-bounded_more (Ask site op next) zero m most b = absurd b
-bounded_more (Ask site op next) (suc n) zero most b = absurd (let none : suc n ≤ zero = most in omega arith)
-bounded_more (Ask site op next) (suc n) (suc m) most b = λ a. bounded_more (next a) n m (omega arith) (b a)
-bounded_more (Await want next) n m most b = bounded_more next n m most b
+bounded_more (Ask site why op next) zero m most b = absurd b
+bounded_more (Ask site why op next) (suc n) zero most b = absurd (let none : suc n ≤ zero = most in omega arith)
+bounded_more (Ask site why op next) (suc n) (suc m) most b = λ a. bounded_more (next a) n m (omega arith) (b a)
+bounded_more (Await wait next) n m most b = bounded_more next n m most b
 bounded_more (Note site image event next) n m most b = bounded_more next n m most b
 bounded_more (Return reply) n m most b = tt
 bounded_more (Goto label) n m most b = tt

@@ -2,4 +2,9 @@ pub mod Bounds
 pub mod Settled
 pub mod Approached
 pub mod Walks
+pub mod Tells
+pub mod Passed
+pub mod Closed
 pub mod Walked
+pub mod Fed
+pub mod Wanted

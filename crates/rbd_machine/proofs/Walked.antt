@@ -5,13 +5,11 @@ use Rattle.rbd_kinds.specs.declared.answer.Answer.TheVariants as answer
 use Rattle.rbd_kinds.specs.declared.directory_op.DirectoryOp.TheVariants as directory
 use Rattle.rbd_kinds.specs.declared.header.HeaderView.{HeaderView}
 use Rattle.rbd_kinds.specs.declared.header_op.HeaderOp.TheVariants as header
-use Rattle.rbd_kinds.specs.declared.machine.Want.TheVariants as want
 use Rattle.rbd_kinds.specs.declared.operation.Op.TheVariants as op
 use Rattle.rbd_kinds.specs.declared.id.SiteId.{SiteId}
 use Rattle.rbd_kinds.specs.declared.journal.Event.{Event}
 use Rattle.rbd_kinds.specs.declared.machine.Fed.{Fed}
 use Rattle.rbd_kinds.specs.declared.machine.Fed.TheVariants as fed
-use Rattle.rbd_kinds.specs.declared.machine.Want.{Want}
 use Rattle.rbd_kinds.specs.declared.operation.Op.{Op}
 use Rattle.rbd_kinds.specs.declared.refusal.Refusal.{Refusal}
 use Rattle.rbd_kinds.specs.declared.reply.Reply.{Reply}
@@ -19,6 +17,11 @@ use Rattle.rbd_kinds.specs.declared.reply.Reply.TheVariants as reply
 use Rattle.rbd_machine.specs.Path.{Answered, IsWalk, found, looked_at}
 use Rattle.rbd_machine.specs.Plan.{Plan, Ask, Await, Note, Return, Goto}
 use Rattle.rbd_machine.specs.Steps.{not_there, unless, on_id, on_header, on_done, change, joining, looking, looked, holding, owning, owned}
+use Rattle.rbd_machine.specs.Label.{Label}
+use Rattle.rbd_machine.specs.Wait.{Wait}
+use Rattle.rbd_machine.specs.Wait as wait
+use Rattle.rbd_machine.specs.declared.reason.Reason.{Reason}
+use Rattle.rbd_machine.specs.declared.reason.Reason.TheVariants as reason
 use Rattle.rbd_machine.proofs.Settled.{settled_goto}
 
 -- what has ended goes no further
@@ -78,14 +81,14 @@ module _ (r : Reply) (kind : (x : Refusal) → r ≡ reply.Refused x → ⊥) wh
   nothing_ends_otherwise answer.Fenced feds steps w = refusal_ends_otherwise _ feds steps w
   nothing_ends_otherwise _ feds steps w = refusal_ends_otherwise _ feds steps w
 
-  pub jump_ends_otherwise : (label : ℕ) (feds : List Fed) (steps : List Answered) → IsWalk Goto (Goto label) feds steps (Return r) → ⊥
+  pub jump_ends_otherwise : (label : Label) (feds : List Fed) (steps : List Answered) → IsWalk Goto (Goto label) feds steps (Return r) → ⊥
   jump_ends_otherwise label [] steps walk = let same = walk.1 in cc
   jump_ends_otherwise label (f ∷ more) steps walk = absurd walk
 
-  pub went_on : (site : SiteId) (op : Op) (next : Answer → Plan) (feds : List Fed) (steps : List Answered) → IsWalk Goto (Ask site op next) feds steps (Return r) → WentOn r site op next steps
-  went_on site op next [] steps walk = let same = walk.1 in cc
-  went_on site op next (fed.Passed ∷ more) steps walk = absurd walk
-  went_on site op next (fed.Answer a ∷ more) steps (first, walk) = record {
+  pub went_on : (site : SiteId) (why : Reason) (op : Op) (next : Answer → Plan) (feds : List Fed) (steps : List Answered) → IsWalk Goto (Ask site why op next) feds steps (Return r) → WentOn r site op next steps
+  went_on site why op next [] steps walk = let same = walk.1 in cc
+  went_on site why op next (fed.Passed ∷ more) steps walk = absurd walk
+  went_on site why op next (fed.Answer a ∷ more) steps (first, walk) = record {
     answer = a;
     more = more;
     rest = first.rest;
@@ -93,10 +96,10 @@ module _ (r : Reply) (kind : (x : Refusal) → r ≡ reply.Refused x → ⊥) wh
     walk = subst (λ p. IsWalk Goto p more first.rest (Return r)) (settled_goto (next a)) walk;
   }
 
-  pub awaited : (want : Want) (next : Plan) (feds : List Fed) (steps : List Answered) → IsWalk Goto (Await want next) feds steps (Return r) → Passed r next steps
-  awaited want next [] steps walk = let same = walk.1 in cc
-  awaited want next (fed.Answer a ∷ more) steps walk = absurd walk
-  awaited want next (fed.Passed ∷ more) steps walk = record { more = more; walk = subst (λ p. IsWalk Goto p more steps (Return r)) (settled_goto next) walk }
+  pub awaited : (wait : Wait) (next : Plan) (feds : List Fed) (steps : List Answered) → IsWalk Goto (Await wait next) feds steps (Return r) → Passed r next steps
+  awaited wait next [] steps walk = let same = walk.1 in cc
+  awaited wait next (fed.Answer a ∷ more) steps walk = absurd walk
+  awaited wait next (fed.Passed ∷ more) steps walk = record { more = more; walk = subst (λ p. IsWalk Goto p more steps (Return r)) (settled_goto next) walk }
 
   pub noted : (site : SiteId) (image : ℕ) (event : Event) (next : Plan) (feds : List Fed) (steps : List Answered) → IsWalk Goto (Note site image event next) feds steps (Return r) → Passed r next steps
   noted site image event next [] steps walk = let same = walk.1 in cc
@@ -122,14 +125,14 @@ module _ (r : Reply) (kind : (x : Refusal) → r ≡ reply.Refused x → ⊥) wh
   pub changed : (site : SiteId) (name : List ℕ) (alone : Bool) (refuses : HeaderView → Option Refusal) (act : ℕ → HeaderView → Plan) (feds : List Fed) (steps : List Answered)
       → IsWalk Goto (change site name alone refuses act) feds steps (Return r) → Changed r site name refuses act steps
   changed site name alone refuses act feds steps walk =
-      let w = went_on site (op.Directory (directory.Find name)) (on_id (joining site alone refuses act)) feds steps walk in
+      let w = went_on site reason.Own (op.Directory (directory.Find name)) (on_id (joining site alone refuses act)) feds steps walk in
       let i = told_image (joining site alone refuses act) w.answer w.more w.rest w.walk in
-      let j = awaited (want.Join site i.image alone) (looking site refuses act i.image) w.more w.rest i.walk in
-      let v = went_on site (op.Header i.image header.Get) (on_header (looked site refuses act i.image)) j.more w.rest j.walk in
+      let j = awaited (wait.Join site i.image alone) (looking site refuses act i.image) w.more w.rest i.walk in
+      let v = went_on site reason.Own (op.Header i.image header.Get) (on_header (looked site refuses act i.image)) j.more w.rest j.walk in
       let h = told_header (looked site refuses act i.image) v.answer v.more v.rest v.walk in
       let m = went_past (refuses h.header) (holding site refuses act i.image) v.more v.rest h.walk in
-      let l = awaited (want.Hold site i.image) (owning site refuses act i.image) v.more v.rest m.walk in
-      let o = went_on site (op.Header i.image header.Get) (on_header (owned refuses act i.image)) l.more v.rest l.walk in
+      let l = awaited (wait.Hold site i.image) (owning site refuses act i.image) v.more v.rest m.walk in
+      let o = went_on site reason.Own (op.Header i.image header.Get) (on_header (owned refuses act i.image)) l.more v.rest l.walk in
       let t = told_header (owned refuses act i.image) o.answer o.more o.rest o.walk in
       let n = went_past (refuses t.header) (act i.image t.header) o.more o.rest t.walk in
       record {

@@ -120,7 +120,7 @@ pub record CanGive (o : Op) (a : Answer) : Type 0 where
 
 -- A request is fed an answer that its operation can give, or has what else it waits for.
 abbrev pub CanBeFed : Plan → Fed → Type 0
-CanBeFed (Ask site o next) (fed.Answer a) = CanGive o a
-CanBeFed (Await want next) fed.Passed = Unit {0}
+CanBeFed (Ask site why o next) (fed.Answer a) = CanGive o a
+CanBeFed (Await wait next) fed.Passed = Unit {0}
 CanBeFed (Note site image event next) fed.Passed = Unit {0}
 CanBeFed _ _ = ⊥

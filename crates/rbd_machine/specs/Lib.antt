@@ -1,6 +1,10 @@
+pub mod Wait
+pub mod Label
 pub mod Plan
 pub mod Answers
 pub mod Ready
 pub mod Steps
 pub mod Path
+pub mod Passes
+pub mod Turns
 pub mod Approach

@@ -8,14 +8,16 @@ use Rattle.rbd_kinds.specs.declared.header.Role.{Role}
 use Rattle.rbd_kinds.specs.declared.header.Role.TheVariants as role
 use Rattle.rbd_kinds.specs.declared.header_op.HeaderOp.TheVariants as header
 use Rattle.rbd_kinds.specs.declared.id.SiteId.{SiteId}
-use Rattle.rbd_kinds.specs.declared.machine.Want.TheVariants as want
+use Rattle.rbd_kinds.specs.declared.operation.Op.{Op}
 use Rattle.rbd_kinds.specs.declared.operation.Op.TheVariants as op
 use Rattle.rbd_kinds.specs.declared.refusal.Refusal.{Refusal}
 use Rattle.rbd_kinds.specs.declared.refusal.Refusal.TheVariants as refusal
 use Rattle.rbd_kinds.specs.declared.reply.Reply.TheVariants as reply
-use Rattle.rbd_machine.specs.Plan.{Plan, Ask, Await, Return}
+use Rattle.rbd_machine.specs.Plan.{Plan, Ask, Await, Return, IsLive}
+use Rattle.rbd_machine.specs.Wait as wait
 use Rattle.rbd_machine.specs.declared.progress.Progress.{Progress}
 use Rattle.rbd_machine.specs.declared.progress.Progress.TheVariants as progress
+use Rattle.rbd_machine.specs.declared.reason.Reason.TheVariants as reason
 
 -- ---- ends
 
@@ -27,37 +29,59 @@ abbrev pub unless : Option Refusal → Plan → Plan
 unless None next = next
 unless (Some r) next = refused r
 
+-- an operation of the request's own
+abbrev pub own : SiteId → Op → (Answer → Plan) → Plan
+own site op next = Ask site reason.Own op next
+
 -- ---- what an answer means: the fence ends a request, and what isn't there is no image
 
 abbrev pub not_there : Answer → Plan
 not_there answer.Fenced = refused refusal.Fenced
 not_there _ = refused refusal.NoImage
 
+-- It is one of these two.
+abbrev pub EndsIt : Answer → Type 0
+EndsIt answer.Absent = Unit {0}
+EndsIt answer.Fenced = Unit {0}
+EndsIt _ = ⊥
+
 abbrev pub on_id : (ℕ → Plan) → Answer → Plan
 on_id next (answer.Id image) = next image
 on_id next a = not_there a
+
+abbrev pub TellsImage : Answer → Type 0
+TellsImage (answer.Id image) = Unit {0}
+TellsImage a = EndsIt a
 
 abbrev pub on_header : (HeaderView → Plan) → Answer → Plan
 on_header next (answer.Header h) = next h
 on_header next a = not_there a
 
+abbrev pub TellsHeader : Answer → Type 0
+TellsHeader (answer.Header h) = Unit {0}
+TellsHeader a = EndsIt a
+
 abbrev pub on_done : Plan → Answer → Plan
 on_done next answer.Done = next
 on_done next a = not_there a
 
+abbrev pub TellsDone : Answer → Type 0
+TellsDone answer.Done = Unit {0}
+TellsDone a = EndsIt a
+
 -- the event of the request counts as applied, and the request is done
 abbrev pub applied : SiteId → (image : ℕ) → Plan
-applied site image = Await (want.Applied site image) (Return reply.Done)
+applied site image = Await (wait.Applied site image) (Return reply.Done)
 
 -- ---- look-ups
 
 -- the image of a name
 abbrev pub find : SiteId → (name : List ℕ) → (ℕ → Plan) → Plan
-find site name next = Ask site (op.Directory (directory.Find name)) (on_id next)
+find site name next = own site (op.Directory (directory.Find name)) (on_id next)
 
 -- the header of an image
 abbrev pub look : SiteId → (image : ℕ) → (HeaderView → Plan) → Plan
-look site image next = Ask site (op.Header image header.Get) (on_header next)
+look site image next = own site (op.Header image header.Get) (on_header next)
 
 -- ---- the way of a change to its own look
 --
@@ -72,7 +96,7 @@ abbrev pub owning : SiteId → (HeaderView → Option Refusal) → (act : ℕ �
 owning site refuses act image = look site image (owned refuses act image)
 
 abbrev pub holding : SiteId → (HeaderView → Option Refusal) → (act : ℕ → HeaderView → Plan) → (image : ℕ) → Plan
-holding site refuses act image = Await (want.Hold site image) (owning site refuses act image)
+holding site refuses act image = Await (wait.Hold site image) (owning site refuses act image)
 
 abbrev pub looked : SiteId → (HeaderView → Option Refusal) → (act : ℕ → HeaderView → Plan) → (image : ℕ) → HeaderView → Plan
 looked site refuses act image h = unless (refuses h) (holding site refuses act image)
@@ -81,7 +105,7 @@ abbrev pub looking : SiteId → (HeaderView → Option Refusal) → (act : ℕ �
 looking site refuses act image = look site image (looked site refuses act image)
 
 abbrev pub joining : SiteId → (alone : Bool) → (HeaderView → Option Refusal) → (act : ℕ → HeaderView → Plan) → (image : ℕ) → Plan
-joining site alone refuses act image = Await (want.Join site image alone) (looking site refuses act image)
+joining site alone refuses act image = Await (wait.Join site image alone) (looking site refuses act image)
 
 abbrev pub change : SiteId → (name : List ℕ) → (alone : Bool) → (HeaderView → Option Refusal) → (act : ℕ → HeaderView → Plan) → Plan
 change site name alone refuses act = find site name (joining site alone refuses act)
@@ -107,8 +131,13 @@ going next (Err r) = refused r
 
 -- ---- a part of a request, which goes on with what comes next
 
+-- It stands where it was to go on, and wants something there.
+pub record IsGoing (to left : Plan) : Type 0 where
+  pub live : IsLive left
+  pub is : left ≡ to
+
 -- The part went on, or has ended and leaves what comes next, or ended the request.
 abbrev pub Progresses : (next to : Plan) → Progress (Unit {0}) → (left : Plan) → Type 0
-Progresses next to progress.More left = left ≡ to
+Progresses next to progress.More left = IsGoing to left
 Progresses next to (progress.Ended nothing) left = to ≡ next
 Progresses next to (progress.Refused r) left = to ≡ refused r

@@ -5,7 +5,7 @@ ghost use Rattle.rbd_kinds.specs.declared.machine.Fed.TheVariants as fed_with;
 ghost use Rattle.rbd_kinds.specs.declared.refusal.Refusal.{Refusal};
 ghost use Rattle.rbd_machine.specs.Plan.{Plan, Wants, Asks, plan_after};
 ghost use Rattle.rbd_machine.specs.Steps.{change};
-ghost use Rattle.rbd_machine.specs.Approach.{rest_of, Approaches, owning_at};
+ghost use Rattle.rbd_machine.specs.Approach.{rest_of, Approaches, owning_at, IsAskingAt, CanBeFedAt};
 
 use crate::looks::{dir_find, header_get};
 use crate::progress::Progress;
@@ -46,12 +46,12 @@ pub struct Approach {
     site: SiteId,
     name: Name,
     alone: bool,
-    at: Place,
+    stage: Stage,
 }
 
-/// A step of the way, with the image once it is found.
+/// A stage of the way, with the image once it is found.
 #[derive(Debug, Drop)]
-pub enum Place {
+pub enum Stage {
     Finding,
     Joining(ImageId),
     Looking(ImageId),
@@ -69,7 +69,7 @@ impl Approach {
             site,
             name,
             alone,
-            at: Place::Finding,
+            stage: Stage::Finding,
         }
     }
 
@@ -78,50 +78,51 @@ impl Approach {
         ensures { (refuses : HeaderView → Option Refusal) (act : ℕ → HeaderView → Plan) → Wants (rest_of self.now refuses act) result }
     {
         let site = self.site;
-        match &self.at {
-            Place::Finding => Want::Op {
+        match &self.stage {
+            Stage::Finding => Want::Op {
                 site,
                 kind: OpKind::DirFind,
             },
-            Place::Joining(image) => Want::Join {
+            Stage::Joining(image) => Want::Join {
                 site,
                 image: *image,
                 alone: self.alone,
             },
-            Place::Looking(_) => Want::Op {
+            Stage::Looking(_) => Want::Op {
                 site,
                 kind: OpKind::HeaderGet,
             },
-            Place::Holding(image) => Want::Hold {
+            Stage::Holding(image) => Want::Hold {
                 site,
                 image: *image,
             },
-            Place::Owning(_) => Want::Op {
+            Stage::Owning(_) => Want::Op {
                 site,
                 kind: OpKind::HeaderGet,
             },
         }
     }
 
-    /// The operation that it wants. Where it wants none, nothing is said of the answer.
+    /// The operation that it wants.
     pub fn next(&self) -> Result<Op, NoMemory>
+        requires { IsAskingAt self.now.stage }
         ensures { (refuses : HeaderView → Option Refusal) (act : ℕ → HeaderView → Plan) → IfOk result (Asks (rest_of self.now refuses act)) }
     {
-        match &self.at {
-            Place::Finding => dir_find(&self.name),
-            Place::Joining(image) => Ok(header_get(*image)),
-            Place::Looking(image) => Ok(header_get(*image)),
-            Place::Holding(image) => Ok(header_get(*image)),
-            Place::Owning(image) => Ok(header_get(*image)),
+        match &self.stage {
+            Stage::Finding => dir_find(&self.name),
+            Stage::Joining(_) => unreachable!(),
+            Stage::Looking(image) => Ok(header_get(*image)),
+            Stage::Holding(_) => unreachable!(),
+            Stage::Owning(image) => Ok(header_get(*image)),
         }
     }
 
     /// The image, where it is at its own look.
     pub fn owning(&self) -> Option<ImageId>
-        ensures { result ≡ owning_at self.now.at }
+        ensures { result ≡ owning_at self.now.stage }
     {
-        match &self.at {
-            Place::Owning(image) => Some(*image),
+        match &self.stage {
+            Stage::Owning(image) => Some(*image),
             _ => None,
         }
     }
@@ -129,6 +130,7 @@ impl Approach {
     /// Goes on with what it is fed, by the refusals of a rule. It has ended with the image where its own look told a
     /// header that refuses nothing. It takes no memory.
     pub fn feed<R: Refuses>(&mut self, rule: &R, fed: &Fed) -> Progress<ImageId>
+        requires { CanBeFedAt self.old.stage self.old.name fed.now }
         ensures { (act : ℕ → HeaderView → Plan) → Approaches (R.refuses rule.now) act fed.now (plan_after (rest_of self.old (R.refuses rule.now) act) fed.now) result self.old self.new }
     {
         match fed {
@@ -139,53 +141,59 @@ impl Approach {
 
     /// Goes on, where it waits for something else than an answer.
     fn pass(&mut self) -> Progress<ImageId>
+        requires { CanBeFedAt self.old.stage self.old.name fed_with.Passed }
         ensures { (refuses : HeaderView → Option Refusal) (act : ℕ → HeaderView → Plan)
             → Approaches refuses act fed_with.Passed (plan_after (rest_of self.old refuses act) fed_with.Passed) result self.old self.new }
     {
-        match &self.at {
-            Place::Joining(image) => {
-                self.at = Place::Looking(*image);
+        match &self.stage {
+            Stage::Finding => unreachable!(),
+            Stage::Joining(image) => {
+                self.stage = Stage::Looking(*image);
                 Progress::More
             }
-            Place::Holding(image) => {
-                self.at = Place::Owning(*image);
+            Stage::Looking(_) => unreachable!(),
+            Stage::Holding(image) => {
+                self.stage = Stage::Owning(*image);
                 Progress::More
             }
-            _ => Progress::More,
+            Stage::Owning(_) => unreachable!(),
         }
     }
 
     /// Goes on with the answer to its operation.
+    #[tactic(auto, using(crate::proofs::Tells::find_tells, crate::proofs::Tells::look_tells))]
     fn answer<R: Refuses>(&mut self, rule: &R, answer: &Answer) -> Progress<ImageId>
+        requires { CanBeFedAt self.old.stage self.old.name (fed_with.Answer answer.now) }
         ensures { (act : ℕ → HeaderView → Plan)
             → Approaches (R.refuses rule.now) act (fed_with.Answer answer.now) (plan_after (rest_of self.old (R.refuses rule.now) act) (fed_with.Answer answer.now)) result self.old self.new }
     {
-        match &self.at {
-            Place::Finding => match told_image(answer) {
+        match &self.stage {
+            Stage::Finding => match told_image(answer) {
                 Ok(image) => {
-                    self.at = Place::Joining(image);
+                    self.stage = Stage::Joining(image);
                     Progress::More
                 }
                 Err(refusal) => Progress::Refused(refusal),
             },
-            Place::Looking(image) => match told_header(answer) {
+            Stage::Joining(_) => unreachable!(),
+            Stage::Looking(image) => match told_header(answer) {
                 Ok(header) => match rule.refusal(header) {
                     None => {
-                        self.at = Place::Holding(*image);
+                        self.stage = Stage::Holding(*image);
                         Progress::More
                     }
                     Some(refusal) => Progress::Refused(refusal),
                 },
                 Err(refusal) => Progress::Refused(refusal),
             },
-            Place::Owning(image) => match told_header(answer) {
+            Stage::Holding(_) => unreachable!(),
+            Stage::Owning(image) => match told_header(answer) {
                 Ok(header) => match rule.refusal(header) {
                     None => Progress::Ended(*image),
                     Some(refusal) => Progress::Refused(refusal),
                 },
                 Err(refusal) => Progress::Refused(refusal),
             },
-            _ => Progress::More,
         }
     }
 }

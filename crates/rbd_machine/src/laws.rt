@@ -1,23 +1,47 @@
 //! What plans mean: laws, each the contract of a function that does nothing.
-ghost use Rattle.std.specs.Prelude.{ℕ, ◌≤◌, ◌+◌, List, length, Bool, Option};
+ghost use Rattle.std.specs.Prelude.{ℕ, ◌≤◌, ◌+◌, ◌*◌, List, length, Bool, Option};
 ghost use Rattle.rbd_kinds.specs.declared.header.HeaderView.{HeaderView};
 ghost use Rattle.rbd_kinds.specs.declared.id.SiteId.{SiteId};
 ghost use Rattle.rbd_kinds.specs.declared.refusal.Refusal.{Refusal};
 ghost use Rattle.rbd_kinds.specs.declared.machine.Fed.{Fed};
-ghost use Rattle.rbd_machine.specs.Plan.{Plan, IsAsking};
+ghost use Rattle.rbd_kinds.specs.declared.machine.Want.TheVariants.{Note, Op};
+ghost use Rattle.rbd_kinds.specs.declared.operation_kind.OpKind.{OpKind};
+ghost use Rattle.rbd_machine.specs.Label.{Label};
+ghost use Rattle.rbd_machine.specs.Plan.{Plan, IsAsking, IsLive, IsNoting, Wants};
 ghost use Rattle.rbd_machine.specs.Path.{Answered, IsPath, IsPass, IsWalk, IsBounded};
+ghost use Rattle.rbd_machine.specs.Passes.{EndsInPass, jumps};
 ghost use Rattle.rbd_machine.specs.Steps.{change};
+
+/// A request that wants an operation has one to ask for, and one that wants an event noted has that event.
+pub fn what_is_wanted_is_there()
+    ensures operation { (plan : Plan) (site : SiteId) (kind : OpKind) → IsLive plan → Wants plan (Op site kind) → IsAsking plan }
+    ensures event { (plan : Plan) (site : SiteId) (image : ℕ) → IsLive plan → Wants plan (Note site image) → IsNoting plan }
+{}
 
 /// The operations that a request asks for, with the answers that it is fed, are a path of its plan, whatever it is
 /// fed between. Each label of the plan stands at an operation.
 pub fn walks_are_paths()
-    ensures { (labels : ℕ → Plan) → ((label : ℕ) → IsAsking (labels label))
+    ensures { (labels : Label → Plan) → ((label : Label) → IsAsking (labels label))
         → (feds : List Fed) (plan : Plan) (steps : List Answered) (last : Plan) → IsWalk labels plan feds steps last → IsPath labels plan steps }
 {}
 
 /// A path has at most as many operations as its plan, up to its end or to a label.
 pub fn paths_keep_bounds()
     ensures { (n : ℕ) (plan : Plan) (path : List Answered) → IsBounded plan n → IsPass plan path → length path ≤ n }
+{}
+
+/// A walk that goes to labels ends in a pass: its steps are those before it went to the last, and then those of a walk
+/// that goes to none.
+pub fn walks_end_in_a_pass()
+    ensures { (labels : Label → Plan) (plan : Plan) (feds : List Fed) (steps : List Answered) (last : Plan)
+        → IsWalk labels plan feds steps last → EndsInPass labels plan steps last }
+{}
+
+/// A walk has at most as many operations as its plan, and for each label that it goes to as many as the plan at a label.
+pub fn walks_keep_bounds()
+    ensures { (labels : Label → Plan) (plan : Plan) (feds : List Fed) (steps : List Answered) (last : Plan) (n each : ℕ)
+        → IsBounded plan n → ((label : Label) → IsBounded (labels label) each) → IsWalk labels plan feds steps last
+        → length steps ≤ n + jumps labels plan feds * each }
 {}
 
 /// A change has three operations up to its own look, and then those of what it does.

@@ -20,7 +20,7 @@
 //!
 //! | it wants | whoever holds it | it is fed |
 //! |---|---|---|
-//! | `Op` | takes the operation (`next`), does it at the site, and gives it the memory for the answer (`ready`) | the answer |
+//! | `Op` | takes the operation (`next`, and `reason` why), does it at the site, and gives it the memory for the answer (`ready`) | the answer |
 //! | `Note` | takes the event (`event`), and notes it in the image's journal | `Passed` |
 //! | `Join`, `Hold`, `Turn`, `Applied`, `Leave` | lets it wait until it may go on | `Passed` |
 //!
@@ -40,30 +40,37 @@
 //!
 //! | file | what it says |
 //! |---|---|
-//! | `specs/Plan.antt` | `Plan`: the steps that are left, a finite tree that branches on the answers. `Wants`, `Asks`, `Notes`: what `wants`, `next` and `event` tell of it. `plan_after`: the plan after what it was fed. `GoesOn`: after `feed` it stands there, or is done with the plan's reply |
+//! | `specs/Wait.antt`, `specs/Label.antt` | what a request waits for beside operations and its event; where it begins a part again |
+//! | `specs/Plan.antt` | `Plan`: the steps that are left, a finite tree that branches on the answers. `Wants`, `Asks`, `AsksBy`, `Notes`: what `wants`, `next`, `reason` and `event` tell of it. `plan_after`: the plan after what it was fed. `GoesOn`: after `feed` it stands there and wants something, or is done with the plan's reply. `IsClosed`: its labels stand at operations |
 //! | `specs/Answers.antt` | `CanGive`: the answers that an operation can give. `CanBeFed`: what a machine may be fed |
 //! | `specs/Ready.antt` | only an answer needs memory |
 //! | `specs/Steps.antt` | steps that many requests share, as plans |
 //! | `specs/Approach.antt` | what is left of an [`Approach`], and what comes of a step of it |
 //! | `specs/Path.antt` | the operations of a plan one after another, and how many they are at most |
+//! | `specs/Passes.antt` | the last pass of a request that began again, and how often it did |
+//! | `specs/Turns.antt` | at which objects a request waits for its turn |
 //!
-//! [`laws`] says that what a request asks for, with the answers that it is fed, is a path of its plan, that a path has at
-//! most as many operations as its plan, and that a change has three up to its own look.
+//! [`laws`] says that a request which wants an operation or an event noted has it, that what a request asks for, with the
+//! answers that it is fed, is a path of its plan, that a path has at most as many operations as its plan, that a request
+//! which begins again ends in a pass that doesn't, and has a pass's operations once more each time, and that a change has
+//! three operations up to its own look.
 //!
 //! # A new request
 //!
 //! 1. Its plan goes into `specs/`, in small definitions with a name for each step. Each takes what comes next: in
 //!    `look site image next` a header is looked at, and `next` is the plan by that header. So what is left at any step
 //!    has a name.
-//! 2. A private enum has a variant for each step, with what the steps from there on need.
+//! 2. A private enum `Stage` has a variant for each step, with what the steps from there on need.
 //! 3. `rest_at`, in `specs/`, gives the plan that is left at each variant, one line for each. `stands` is that plan,
 //!    `without_labels`; a request that may begin a part again gives the plans at its labels too.
 //! 4. `new` ensures that the plan of the command is left.
 //! 5. Each call of [`Machine`] is a `match` with one arm for each step. The trait has the contracts. An arm that does more
-//!    than name the next step goes to a function with a contract of its own.
+//!    than name the next step goes to a function with a contract of its own. What can't be asked or fed at a stage is
+//!    `unreachable!()`; what the answers that an operation gives tell is a lemma for each kind (`proofs/Tells.antt`).
 //! 6. A part that several requests have, as [`Approach`] or a piece of a write, is a struct of its own. Its clauses hold for
 //!    every plan that comes next, so the request puts in its own, and proves nothing of the part again. A step of a
 //!    part tells its [`Progress`].
+//! 7. Laws: its labels stand at operations (`IsClosed`), how many operations it has, and what has been done at its end.
 //!
 //! # Cost
 //!
@@ -82,6 +89,7 @@ pub mod laws;
 mod looks;
 mod machine;
 mod progress;
+mod reason;
 #[cfg(test)]
 mod tests;
 mod told;
@@ -90,4 +98,5 @@ pub use approach::{Approach, Refuses};
 pub use looks::{dir_find, header_get};
 pub use machine::Machine;
 pub use progress::Progress;
+pub use reason::Reason;
 pub use told::{non_primary, refusal_of, told_done, told_header, told_image};

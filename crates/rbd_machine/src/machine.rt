@@ -1,10 +1,11 @@
 //! What every request is.
 ghost use Rattle.std.specs.Prelude.{◌≡◌, IfOk, OnOk};
 ghost use Rattle.rbd_kinds.specs.declared.answer.Answer.{Answer};
-ghost use Rattle.rbd_machine.specs.Plan.{Standing, Wants, IsAsking, Asks, Notes, plan_after, GoesOn};
+ghost use Rattle.rbd_machine.specs.Plan.{Standing, IsLive, Wants, IsAsking, Asks, AsksBy, Notes, plan_after, GoesOn};
 ghost use Rattle.rbd_machine.specs.Answers.{CanBeFed};
 ghost use Rattle.rbd_machine.specs.Ready.{IsReadyFor};
 
+use crate::reason::Reason;
 use rbd_kinds::{Event, Fed, NoMemory, Op, Turn, Want};
 use std::alloc::Global;
 
@@ -22,7 +23,8 @@ use std::alloc::Global;
 /// ```
 ///
 /// Contracts see where it stands: the plan that is left. What it wants stays the same until it is fed. Once it is
-/// done it has no plan left, and nothing is said of it.
+/// done it has no plan left, and nothing is said of it. So it isn't asked before what it wants, and a request that may be
+/// refused before any operation has a call that tells so.
 pub trait Machine {
     /// What is left of the request.
     ghost stands: { Self → Standing };
@@ -30,8 +32,9 @@ pub trait Machine {
     /// It has the memory that an answer needs.
     ghost is_ready: { Self → Answer → Type 0 };
 
-    /// What it wants. It takes no memory.
+    /// What it wants, where it hasn't ended. It takes no memory.
     fn wants(&self) -> Want
+        requires { IsLive (stands self.now).plan }
         ensures { Wants (stands self.now).plan result };
 
     /// The operation that it wants.
@@ -39,7 +42,12 @@ pub trait Machine {
         requires { IsAsking (stands self.now).plan }
         ensures { IfOk result (Asks (stands self.now).plan) };
 
-    /// The event that it wants noted. Where it wants none, nothing is said of the answer.
+    /// Why it wants its operation: a request's own steps, the way to a lock and the replay of an event are told apart.
+    fn reason(&self) -> Reason
+        requires { IsAsking (stands self.now).plan }
+        ensures { AsksBy (stands self.now).plan result };
+
+    /// The event that it wants noted, and `None` where it wants none noted.
     fn event(&self, alloc: Global) -> Result<Option<Event>, NoMemory>
         ensures { IfOk result (Notes (stands self.now).plan) };
 
@@ -49,7 +57,7 @@ pub trait Machine {
         ensures stands { stands self.new ≡ stands self.old }
         ensures ready { OnOk result (IsReadyFor (is_ready self.new) fed.now) };
 
-    /// Goes on with what it is fed. It takes no memory.
+    /// Goes on with what it is fed. Where it isn't done there is something that it wants. It takes no memory.
     fn feed(&mut self, fed: &Fed) -> Turn
         requires can { CanBeFed (stands self.old).plan fed.now }
         requires ready { IsReadyFor (is_ready self.old) fed.now }

@@ -1,12 +1,21 @@
 //! The way of a change is fed by hand to its own look, and to a refusal at each look. What it has to want was worked
 //! out from its diagram.
-ghost use Rattle.std.specs.Prelude.{None, Some, ◌==◌, if◌then◌else◌};
+ghost use Rattle.std.specs.Prelude.{◌≡◌, ◌≤◌, None, Some, ◌==◌, if◌then◌else◌, [], ◌∷◌, IfOk, OnOk};
+ghost use Rattle.rbd_kinds.specs.declared.id.SiteId.TheVariants as site;
 ghost use Rattle.rbd_kinds.specs.declared.refusal.Refusal.TheVariants.{BadRange};
+ghost use Rattle.rbd_kinds.specs.declared.reply.Reply.TheVariants.{Done};
+ghost use Rattle.rbd_kinds.specs.Form.{IsHeaderInForm};
+ghost use Rattle.rbd_machine.specs.Answers.{CanBeFed};
+ghost use Rattle.rbd_machine.specs.Approach.{rest_of};
+ghost use Rattle.rbd_machine.specs.Plan.{Return, GoesOn, IsAsking, plan_after, without_labels};
+ghost use Rattle.rbd_machine.specs.Steps.{TellsImage, TellsHeader, TellsDone, change as way_of, looking, owning};
 
-use crate::{Approach, Progress, Refuses, non_primary, told_done, told_header, told_image};
+use crate::{
+    Approach, Machine, Progress, Reason, Refuses, non_primary, told_done, told_header, told_image,
+};
 use rbd_kinds::{
-    Answer, Bytes, Fed, HeaderView, ImageId, Layout, Name, NoMemory, OpKind, Refusal, Role, SiteId,
-    Snaps, Want,
+    Answer, Bytes, Event, Fed, HeaderView, ImageId, Layout, Name, NoMemory, Op, OpKind, Refusal,
+    Reply, Role, SiteId, Snaps, Turn, Want,
 };
 use std::alloc::Global;
 use std::process::Abort;
@@ -48,10 +57,53 @@ impl Refuses for OnlySize {
 
 const RULE: OnlySize = OnlySize { size: 4096 };
 
-/// The way of a change of the image `disk`.
-fn way(rt: &impl Abort, alloc: Global, alone: bool) -> Result<Approach, NoMemory> {
+/// A change that does nothing once its own look told a header.
+#[derive(Debug, Drop)]
+struct Change {
+    way: Approach,
+}
+
+impl Machine for Change {
+    ghost stands = { λ c. without_labels (rest_of c.way (λ header. if header.size == 4096 then None else Some BadRange) (λ image header. Return Done)) };
+
+    ghost is_ready = { λ c answer. Unit {0} };
+
+    fn wants(&self) -> Want {
+        self.way.wants()
+    }
+
+    fn next(&self, _alloc: Global) -> Result<Op, NoMemory> {
+        self.way.next()
+    }
+
+    fn reason(&self) -> Reason {
+        Reason::Own
+    }
+
+    fn event(&self, _alloc: Global) -> Result<Option<Event>, NoMemory> {
+        Ok(None)
+    }
+
+    fn ready(&mut self, _alloc: Global, _fed: &Fed) -> Result<(), NoMemory> {
+        Ok(())
+    }
+
+    fn feed(&mut self, fed: &Fed) -> Turn {
+        match self.way.feed(&RULE, fed) {
+            Progress::More => Turn::More,
+            Progress::Ended(_) => Turn::Done(Reply::Done),
+            Progress::Refused(refusal) => Turn::Done(Reply::Refused(refusal)),
+        }
+    }
+}
+
+/// A change of the image `disk`.
+fn made(rt: &impl Abort, alloc: Global, alone: bool) -> Result<Change, NoMemory>
+    ensures { IfOk result (λ c. rest_of c.way (λ header. if header.size == 4096 then None else Some BadRange) (λ image header. Return Done) ≡ way_of site.A (100 ∷ 105 ∷ 115 ∷ 107 ∷ []) alone (λ header. if header.size == 4096 then None else Some BadRange) (λ image header. Return Done)) }
+{
     let name = Name::parse(Bytes::from_slice(alloc, b"disk")?).expect(rt, "a name");
-    Ok(Approach::new(SiteId::A, name, alone))
+    let way = Approach::new(SiteId::A, name, alone);
+    Ok(Change { way })
 }
 
 fn join(alone: bool) -> Want {
@@ -62,9 +114,13 @@ fn join(alone: bool) -> Want {
     }
 }
 
-/// A header that tells a size.
-fn told_size(alloc: Global, size: u64) -> Fed {
-    let header = HeaderView {
+/// The header of an image of at most 8,192 bytes.
+fn disk(alloc: Global, size: u64) -> HeaderView
+    requires { size ≤ 8192 }
+    ensures size { result.size ≡ size }
+    ensures form { IsHeaderInForm result }
+{
+    HeaderView {
         layout: Layout {
             object: 4096,
             unit: 4096,
@@ -83,120 +139,164 @@ fn told_size(alloc: Global, size: u64) -> Fed {
         owner: None,
         global: None,
         role: Role::Plain,
-    };
-    Fed::Answer(Answer::Header(header))
-}
-
-/// It wants this, is fed, and wants more.
-fn go_on(rt: &impl Abort, way: &mut Approach, want: Want, fed: Fed) {
-    assert!(rt; way.wants() == want);
-    match way.feed(&RULE, &fed) {
-        Progress::More => {}
-        _ => panic!(rt; "it has ended"),
     }
 }
 
-/// It wants this, is fed, and the request is refused.
-fn refusal(rt: &impl Abort, way: &mut Approach, want: Want, fed: Fed) -> Refusal {
-    assert!(rt; way.wants() == want);
-    match way.feed(&RULE, &fed) {
-        Progress::Refused(refusal) => refusal,
-        _ => panic!(rt; "it is not refused"),
+/// A request wants this, is fed, and wants more.
+#[tactic(auto, using(crate::proofs::Fed::fed_is_live))]
+fn go_on<M: Machine>(
+    rt: &impl Abort,
+    alloc: Global,
+    request: &mut M,
+    want: Want,
+    fed: Fed,
+) -> Result<(), NoMemory>
+    requires { CanBeFed (M.stands request.old).plan fed }
+    ensures { OnOk result (GoesOn (M.stands request.old).labels (plan_after (M.stands request.old).plan fed) Turn.More (M.stands request.new)) }
+{
+    assert!(rt; request.wants() == want);
+    request.ready(alloc, &fed)?;
+    match request.feed(&fed) {
+        Turn::More => Ok(()),
+        Turn::Done(_) => panic!(rt; "it has ended"),
     }
 }
 
-/// It looks for the last time, and owns this image.
-fn owned(rt: &impl Abort, way: &mut Approach, fed: Fed) -> ImageId {
-    assert!(rt; way.wants() == LOOK);
-    match way.feed(&RULE, &fed) {
-        Progress::Ended(image) => image,
-        _ => panic!(rt; "it does not own it"),
+/// A request wants this, is fed, and ends.
+#[tactic(auto, using(crate::proofs::Fed::fed_is_live))]
+fn end<M: Machine>(
+    rt: &impl Abort,
+    alloc: Global,
+    request: &mut M,
+    want: Want,
+    fed: Fed,
+) -> Result<Reply, NoMemory>
+    requires { CanBeFed (M.stands request.old).plan fed }
+{
+    assert!(rt; request.wants() == want);
+    request.ready(alloc, &fed)?;
+    match request.feed(&fed) {
+        Turn::More => panic!(rt; "it wants more"),
+        Turn::Done(reply) => Ok(reply),
     }
 }
 
-/// It finds its image and joins the line.
-fn join_line(rt: &impl Abort, way: &mut Approach, alone: bool) {
-    go_on(rt, way, FIND, Fed::Answer(Answer::Id(IMAGE)));
-    go_on(rt, way, join(alone), Fed::Passed);
+/// Whether the operation that a request wants is of a kind, and its own.
+fn asks<M: Machine>(alloc: Global, request: &M, kind: OpKind) -> Result<bool, NoMemory>
+    requires { IsAsking (M.stands request.now).plan }
+{
+    let op = request.next(alloc)?;
+    Ok(op.kind() == kind && request.reason() == Reason::Own)
 }
 
-/// It looks at a header that refuses nothing, and gets the lock.
-fn take_lock(rt: &impl Abort, way: &mut Approach, header: Fed) {
-    go_on(rt, way, LOOK, header);
-    go_on(rt, way, HOLD, Fed::Passed);
+fn is_done(reply: Reply) -> bool {
+    match reply {
+        Reply::Done => true,
+        _ => false,
+    }
+}
+
+fn is_refused(reply: Reply, why: Refusal) -> bool {
+    match reply {
+        Reply::Refused(refusal) => refusal == why,
+        _ => false,
+    }
+}
+
+/// It has found its image and joined the line.
+fn joined(rt: &impl Abort, alloc: Global, alone: bool) -> Result<Change, NoMemory>
+    ensures { IfOk result (λ c. rest_of c.way (λ header. if header.size == 4096 then None else Some BadRange) (λ image header. Return Done) ≡ looking site.A (λ header. if header.size == 4096 then None else Some BadRange) (λ image header. Return Done) 7) }
+{
+    let mut change = made(rt, alloc, alone)?;
+    let found = Fed::Answer(Answer::Id(IMAGE));
+    go_on(rt, alloc, &mut change, FIND, found)?;
+    go_on(rt, alloc, &mut change, join(alone), Fed::Passed)?;
+    Ok(change)
+}
+
+/// It has looked at a header that refuses nothing, and has the lock.
+fn held(rt: &impl Abort, alloc: Global) -> Result<Change, NoMemory>
+    ensures { IfOk result (λ c. rest_of c.way (λ header. if header.size == 4096 then None else Some BadRange) (λ image header. Return Done) ≡ owning site.A (λ header. if header.size == 4096 then None else Some BadRange) (λ image header. Return Done) 7) }
+{
+    let mut change = joined(rt, alloc, true)?;
+    let looked = Fed::Answer(Answer::Header(disk(alloc, 4096)));
+    go_on(rt, alloc, &mut change, LOOK, looked)?;
+    go_on(rt, alloc, &mut change, HOLD, Fed::Passed)?;
+    Ok(change)
 }
 
 #[test]
 fn a_change_looks_before_the_lock_and_under_it(rt: HostRuntime) -> Result<(), Fail> {
     let alloc = rt.alloc();
-    let mut way = way(&rt, alloc, true)?;
-    join_line(&rt, &mut way, true);
-    assert!(rt; way.owning().is_none());
-    take_lock(&rt, &mut way, told_size(alloc, 4096));
-    assert!(rt; way.owning() == Some(IMAGE));
-    assert!(rt; owned(&rt, &mut way, told_size(alloc, 4096)) == IMAGE);
+    let mut change = held(&rt, alloc)?;
+    assert!(rt; change.way.owning() == Some(IMAGE));
+    assert!(rt; asks(alloc, &change, OpKind::HeaderGet)?);
+    let owned = Fed::Answer(Answer::Header(disk(alloc, 4096)));
+    let reply = end(&rt, alloc, &mut change, LOOK, owned)?;
+    assert!(rt; is_done(reply));
     Ok(())
 }
 
 #[test]
 fn the_first_look_refuses(rt: HostRuntime) -> Result<(), Fail> {
     let alloc = rt.alloc();
-    let mut way = way(&rt, alloc, false)?;
-    join_line(&rt, &mut way, false);
-    let header = told_size(alloc, 8192);
-    assert!(rt; refusal(&rt, &mut way, LOOK, header) == Refusal::BadRange);
+    let mut change = joined(&rt, alloc, false)?;
+    assert!(rt; change.way.owning().is_none());
+    let looked = Fed::Answer(Answer::Header(disk(alloc, 8192)));
+    let reply = end(&rt, alloc, &mut change, LOOK, looked)?;
+    assert!(rt; is_refused(reply, Refusal::BadRange));
     Ok(())
 }
 
 #[test]
 fn the_own_look_refuses(rt: HostRuntime) -> Result<(), Fail> {
     let alloc = rt.alloc();
-    let mut way = way(&rt, alloc, true)?;
-    join_line(&rt, &mut way, true);
-    take_lock(&rt, &mut way, told_size(alloc, 4096));
-    let header = told_size(alloc, 8192);
-    assert!(rt; refusal(&rt, &mut way, LOOK, header) == Refusal::BadRange);
+    let mut change = held(&rt, alloc)?;
+    let owned = Fed::Answer(Answer::Header(disk(alloc, 8192)));
+    let reply = end(&rt, alloc, &mut change, LOOK, owned)?;
+    assert!(rt; is_refused(reply, Refusal::BadRange));
     Ok(())
 }
 
 #[test]
 fn no_such_name_is_no_image(rt: HostRuntime) -> Result<(), Fail> {
-    let mut way = way(&rt, rt.alloc(), true)?;
+    let alloc = rt.alloc();
+    let mut change = made(&rt, alloc, true)?;
+    assert!(rt; asks(alloc, &change, OpKind::DirFind)?);
     let absent = Fed::Answer(Answer::Absent);
-    assert!(rt; refusal(&rt, &mut way, FIND, absent) == Refusal::NoImage);
+    let reply = end(&rt, alloc, &mut change, FIND, absent)?;
+    assert!(rt; is_refused(reply, Refusal::NoImage));
     Ok(())
 }
 
 #[test]
 fn the_fence_ends_a_look(rt: HostRuntime) -> Result<(), Fail> {
-    let mut way = way(&rt, rt.alloc(), true)?;
-    join_line(&rt, &mut way, true);
+    let alloc = rt.alloc();
+    let mut change = joined(&rt, alloc, true)?;
     let fenced = Fed::Answer(Answer::Fenced);
-    assert!(rt; refusal(&rt, &mut way, LOOK, fenced) == Refusal::Fenced);
+    let reply = end(&rt, alloc, &mut change, LOOK, fenced)?;
+    assert!(rt; is_refused(reply, Refusal::Fenced));
     Ok(())
 }
 
-#[test]
-fn each_step_asks_for_its_operation(rt: HostRuntime) -> Result<(), Fail> {
-    let mut way = way(&rt, rt.alloc(), true)?;
-    assert!(rt; way.next()?.kind() == OpKind::DirFind);
-    join_line(&rt, &mut way, true);
-    assert!(rt; way.next()?.kind() == OpKind::HeaderGet);
-    Ok(())
-}
-
-fn told_no_image(answer: Answer) -> Option<Refusal> {
+fn told_no_image(answer: Answer) -> Option<Refusal>
+    requires { TellsImage answer }
+{
     told_image(&answer).err()
 }
 
-fn told_no_header(answer: Answer) -> Option<Refusal> {
+fn told_no_header(answer: Answer) -> Option<Refusal>
+    requires { TellsHeader answer }
+{
     match told_header(&answer) {
         Ok(_) => None,
         Err(refusal) => Some(refusal),
     }
 }
 
-fn told_not_done(answer: Answer) -> Option<Refusal> {
+fn told_not_done(answer: Answer) -> Option<Refusal>
+    requires { TellsDone answer }
+{
     told_done(&answer).err()
 }
 

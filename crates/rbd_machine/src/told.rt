@@ -2,13 +2,14 @@
 ghost use Rattle.std.specs.Prelude.{◌≡◌, ℕ, IfOk};
 ghost use Rattle.rbd_kinds.specs.declared.header.HeaderView.{HeaderView};
 ghost use Rattle.rbd_machine.specs.Plan.{Plan};
-ghost use Rattle.rbd_machine.specs.Steps.{on_id, on_header, on_done, not_there, going, refused, non_primary as refused_role};
+ghost use Rattle.rbd_machine.specs.Steps.{on_id, on_header, on_done, not_there, going, refused, EndsIt, TellsImage, TellsHeader, TellsDone, non_primary as refused_role};
 ghost use Rattle.rbd_kinds.specs.declared.answer.Answer.TheVariants.{Header};
 
 use rbd_kinds::{Answer, HeaderView, ImageId, Refusal, Role};
 
 /// The image that a name has, or why the request ends: it is fenced, or there is no such name.
 pub fn told_image(answer: &Answer) -> Result<ImageId, Refusal>
+    requires { TellsImage answer.now }
     ensures { (next : ℕ → Plan) → on_id next answer.now ≡ going next result }
 {
     match answer {
@@ -19,6 +20,7 @@ pub fn told_image(answer: &Answer) -> Result<ImageId, Refusal>
 
 /// The header that an image has, or why the request ends: it is fenced, or there is no such image.
 pub fn told_header(answer: &Answer) -> Result<&HeaderView, Refusal>
+    requires { TellsHeader answer.now }
     ensures plan { (next : HeaderView → Plan) → on_header next answer.now ≡ going (λ h. next h.now) result }
     ensures told { IfOk result (λ header. answer.now ≡ Header header.now) }
 {
@@ -30,6 +32,7 @@ pub fn told_header(answer: &Answer) -> Result<&HeaderView, Refusal>
 
 /// That a change was done, or why the request ends: it is fenced, or what it changes isn't there.
 pub fn told_done(answer: &Answer) -> Result<(), Refusal>
+    requires { TellsDone answer.now }
     ensures { (next : Plan) → on_done next answer.now ≡ going (λ done. next) result }
 {
     match answer {
@@ -38,13 +41,15 @@ pub fn told_done(answer: &Answer) -> Result<(), Refusal>
     }
 }
 
-/// Why an answer that a request can't go on with ends it.
+/// Why an answer ends a request: it is fenced, or what it looked for isn't there.
 pub fn refusal_of(answer: &Answer) -> Refusal
+    requires { EndsIt answer.now }
     ensures { not_there answer.now ≡ refused result }
 {
     match answer {
         Answer::Fenced => Refusal::Fenced,
-        _ => Refusal::NoImage,
+        Answer::Absent => Refusal::NoImage,
+        _ => unreachable!(),
     }
 }
 

@@ -1,1 +1,3 @@
 pub mod Bounded
+pub mod Closed
+pub mod Tells

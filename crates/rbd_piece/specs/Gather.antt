@@ -9,8 +9,8 @@ use Rattle.rbd_kinds.specs.declared.operation.Op.{Op}
 use Rattle.rbd_kinds.specs.declared.operation.Op.TheVariants as op
 use Rattle.rbd_layout.specs.declared.types.Piece.{Piece}
 use Rattle.rbd_kinds.specs.Parts.{parts_len}
-use Rattle.rbd_machine.specs.Plan.{Plan, Ask}
-use Rattle.rbd_machine.specs.Steps.{not_there, refused}
+use Rattle.rbd_machine.specs.Plan.{Plan}
+use Rattle.rbd_machine.specs.Steps.{EndsIt, IsGoing, own, not_there, refused}
 use Rattle.rbd_machine.specs.declared.progress.Progress.{Progress}
 use Rattle.rbd_machine.specs.declared.progress.Progress.TheVariants as progress
 use Rattle.rbd_piece.specs.declared.gather.Gather.{Gather}
@@ -21,6 +21,11 @@ on_bytes parts next (answer.Bytes bytes) = next bytes
 on_bytes parts next answer.Absent = next (replicate (parts_len parts) 0)
 on_bytes parts next a = not_there a
 
+abbrev pub TellsBytes : Answer → Type 0
+TellsBytes (answer.Bytes bytes) = Unit {0}
+TellsBytes answer.Absent = Unit {0}
+TellsBytes a = EndsIt a
+
 abbrev pub data_read : (image : ℕ) → (snap : Option ℕ) → Piece → Op
 data_read image snap piece = op.Data image piece.object (object.Read snap piece.parts)
 
@@ -29,7 +34,7 @@ data_read image snap piece = op.Data image piece.object (object.Read snap piece.
 abbrev pub gather : SiteId → (image : ℕ) → (snap : Option ℕ) → List Piece → (read : List ℕ) → (next : List ℕ → Plan) → Plan
 gather site image snap [] read next = next read
 gather site image snap (p ∷ pieces) read next =
-    Ask site (data_read image snap p) (on_bytes p.parts (λ bytes. gather site image snap pieces (read ++ bytes) next))
+    own site (data_read image snap p) (on_bytes p.parts (λ bytes. gather site image snap pieces (read ++ bytes) next))
 
 -- what is left of one
 abbrev pub rest_of_gather : Gather → (next : List ℕ → Plan) → Plan
@@ -37,7 +42,7 @@ rest_of_gather g next = gather g.site g.image g.snap (g.piece ∷ g.pieces.items
 
 -- Pieces were read, and it goes on, or all were, or the request has ended.
 abbrev pub Gathers : (next : List ℕ → Plan) → (to : Plan) → Progress (Unit {0}) → (new : Gather) → Type 0
-Gathers next to progress.More new = rest_of_gather new next ≡ to
+Gathers next to progress.More new = IsGoing to (rest_of_gather new next)
 Gathers next to (progress.Ended nothing) new = to ≡ next new.bytes.items
 Gathers next to (progress.Refused r) new = to ≡ refused r
 

@@ -5,14 +5,14 @@ ghost use Rattle.rbd_kinds.specs.declared.reply.Reply.TheVariants.{Done};
 ghost use Rattle.rbd_kinds.specs.Parts.{parts_len};
 ghost use Rattle.rbd_machine.specs.Plan.{Plan, Return, Wants, Asks, plan_after, without_labels};
 ghost use Rattle.rbd_machine.specs.Steps.{going};
-ghost use Rattle.rbd_piece.specs.Gather.{gather, rest_of_gather, Gathers, HasRoom, IsRoomFor, on_bytes};
+ghost use Rattle.rbd_piece.specs.Gather.{gather, rest_of_gather, Gathers, HasRoom, IsRoomFor, TellsBytes, on_bytes};
 
 use rbd_kinds::{
     Answer, Bytes, DataOp, Event, Fed, ImageId, NoMemory, Op, OpKind, Part, Refusal, Reply, SiteId,
     SnapId, TryClone, Turn, Want,
 };
 use rbd_layout::Piece;
-use rbd_machine::{Machine, Progress, refusal_of};
+use rbd_machine::{Machine, Progress, Reason, refusal_of};
 use std::alloc::Global;
 use std::collections::VecDeque;
 use std::mem::replace;
@@ -121,7 +121,8 @@ impl Gather {
 
     /// Goes on with an answer that it has the memory for.
     pub fn feed(&mut self, answer: &Answer) -> Progress<()>
-        requires { HasRoom self.old answer.now }
+        requires tells { TellsBytes answer.now }
+        requires room { HasRoom self.old answer.now }
         ensures { (next : List ℕ → Plan) → Gathers next (plan_after (rest_of_gather self.old next) (fed_with.Answer answer.now)) result self.new }
     {
         match read_into(&mut self.bytes, self.piece.parts.as_slice(), answer) {
@@ -161,7 +162,8 @@ fn total(parts: &[Part]) -> Option<usize>
 
 /// Adds what an answer shows of the parts, or tells why the request ends.
 fn read_into(bytes: &mut Vec<u8>, parts: &[Part], answer: &Answer) -> Result<(), Refusal>
-    requires { IsRoomFor (vec_len bytes.old) (vec_capacity bytes.old) parts.now answer.now }
+    requires tells { TellsBytes answer.now }
+    requires room { IsRoomFor (vec_len bytes.old) (vec_capacity bytes.old) parts.now answer.now }
     ensures { (next : List ℕ → Plan) → on_bytes parts.now (λ more. next (bytes.old.items ++ more)) answer.now ≡ going (λ done. next bytes.new.items) result }
 {
     match answer {
@@ -210,6 +212,10 @@ impl Machine for Gather {
         Gather::next(self)
     }
 
+    fn reason(&self) -> Reason {
+        Reason::Own
+    }
+
     fn event(&self, _alloc: Global) -> Result<Option<Event>, NoMemory> {
         Ok(None)
     }
@@ -221,6 +227,7 @@ impl Machine for Gather {
         Gather::ready(self, answer)
     }
 
+    #[tactic(auto, using(crate::proofs::Tells::read_tells))]
     fn feed(&mut self, fed: &Fed) -> Turn {
         let Fed::Answer(answer) = fed else {
             unreachable!()

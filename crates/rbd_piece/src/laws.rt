@@ -1,10 +1,11 @@
-//! How many operations pieces have: laws, each the contract of a function that does nothing.
+//! How many operations pieces have, and that they go to no label: laws, each the contract of a function that does nothing.
 ghost use Rattle.std.specs.Prelude.{ℕ, ◌+◌, List, length, Option};
 ghost use Rattle.rbd_kinds.specs.declared.header.HeaderView.{HeaderView};
 ghost use Rattle.rbd_kinds.specs.declared.id.SiteId.{SiteId};
 ghost use Rattle.rbd_layout.specs.declared.types.Piece.{Piece};
+ghost use Rattle.rbd_machine.specs.Label.{Label};
 ghost use Rattle.rbd_machine.specs.Path.{IsBounded};
-ghost use Rattle.rbd_machine.specs.Plan.{Plan};
+ghost use Rattle.rbd_machine.specs.Plan.{Plan, IsClosed};
 ghost use Rattle.rbd_piece.specs.Gather.{gather};
 ghost use Rattle.rbd_piece.specs.Write.{write_piece};
 
@@ -18,4 +19,12 @@ pub fn pieces_write_once()
 pub fn gathers_read_once()
     ensures { (site : SiteId) (image : ℕ) (snap : Option ℕ) (pieces : List Piece) (read : List ℕ) (next : List ℕ → Plan) (n : ℕ)
         → ((bytes : List ℕ) → IsBounded (next bytes) n) → IsBounded (gather site image snap pieces read next) (n + length pieces) }
+{}
+
+/// Neither begins a part again, unless what comes next does.
+pub fn pieces_go_to_no_label()
+    ensures write { (labels : Label → Plan) (site : SiteId) (image : ℕ) (h : HeaderView) (piece : Piece) (bytes : List ℕ) (next : Plan)
+        → IsClosed labels next → IsClosed labels (write_piece site image h piece bytes next) }
+    ensures gather { (labels : Label → Plan) (site : SiteId) (image : ℕ) (snap : Option ℕ) (pieces : List Piece) (read : List ℕ) (next : List ℕ → Plan)
+        → ((bytes : List ℕ) → IsClosed labels (next bytes)) → IsClosed labels (gather site image snap pieces read next) }
 {}

@@ -35,13 +35,14 @@
 //! # Contracts
 //!
 //! Both are parts of a request: their clauses hold for every plan that comes next, and a step tells a
-//! [`Progress`](rbd_machine::Progress). Each is also a request of its own that ends with Done
-//! ([`Machine`](rbd_machine::Machine)).
+//! [`Progress`](rbd_machine::Progress). They are fed what their operation can be answered, and nothing else. Each is also a
+//! request of its own that ends with Done ([`Machine`](rbd_machine::Machine)).
 //!
 //! The definitions are read after those of `rbd_machine`. `specs/Write.antt`: `write_piece` is the plan of a piece of a
 //! write, and `rest_of_write` what is left of one. `specs/Gather.antt`: `gather` is the plan that reads pieces behind the
 //! bytes that were read before, and `rest_of_gather` what is left of one; `Gathers` says what comes of a step, and
-//! `HasRoom` for which answers it has the memory. [`laws`] says how many operations they have.
+//! `HasRoom` for which answers it has the memory. [`laws`] says how many operations they have, and that neither begins a
+//! part again.
 //!
 //! # Cost
 //!

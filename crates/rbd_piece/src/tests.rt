@@ -1,6 +1,8 @@
 //! A piece of a write and the pieces of a view are fed by hand to their end and to a refusal. What they have to want
 //! was worked out from their diagrams.
 ghost use Rattle.rbd_machine.specs.Answers.{CanBeFed};
+ghost use Rattle.rbd_machine.specs.Steps.{TellsDone};
+ghost use Rattle.rbd_piece.specs.Gather.{TellsBytes};
 
 use crate::{Gather, WritePiece};
 use rbd_header::context_of;
@@ -78,7 +80,9 @@ fn write_piece(alloc: Global) -> Result<WritePiece, NoMemory> {
 }
 
 /// What ends a piece of a write that is answered so, `None` where the request goes on.
-fn write_ends(rt: &impl Abort, write: &mut WritePiece, answer: Answer) -> Option<Refusal> {
+fn write_ends(rt: &impl Abort, write: &mut WritePiece, answer: Answer) -> Option<Refusal>
+    requires { TellsDone answer }
+{
     assert!(rt; write.wants() == WRITE);
     match write.feed(&answer) {
         Progress::Ended(()) => None,
@@ -131,7 +135,9 @@ fn asks_for(rt: &impl Abort, gather: &Gather, object: u64) -> Result<(), NoMemor
 }
 
 /// What comes of an answer, for which there is memory.
-fn feed(gather: &mut Gather, answer: Answer) -> Result<Progress<()>, NoMemory> {
+fn feed(gather: &mut Gather, answer: Answer) -> Result<Progress<()>, NoMemory>
+    requires { TellsBytes answer }
+{
     gather.ready(&answer)?;
     Ok(gather.feed(&answer))
 }
@@ -188,6 +194,7 @@ fn the_fence_ends_a_gather(rt: HostRuntime) -> Result<(), Fail> {
 }
 
 /// Whether a request wants this, and one answer ends it with Done.
+#[tactic(auto, using(rbd_machine::proofs::Fed::fed_is_live))]
 fn one_answer_does<M: Machine>(
     alloc: Global,
     request: &mut M,

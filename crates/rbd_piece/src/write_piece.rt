@@ -3,7 +3,7 @@ ghost use Rattle.std.specs.Prelude.{◌≡◌, IfOk};
 ghost use Rattle.rbd_kinds.specs.declared.machine.Fed.TheVariants as fed_with;
 ghost use Rattle.rbd_kinds.specs.declared.reply.Reply.TheVariants.{Done};
 ghost use Rattle.rbd_machine.specs.Plan.{Plan, Return, Wants, Asks, plan_after, without_labels};
-ghost use Rattle.rbd_machine.specs.Steps.{Progresses};
+ghost use Rattle.rbd_machine.specs.Steps.{Progresses, TellsDone};
 ghost use Rattle.rbd_kinds.specs.declared.header.HeaderView.{HeaderView};
 ghost use Rattle.rbd_header.specs.Header.{context_of};
 ghost use Rattle.rbd_piece.specs.Write.{write_piece, rest_of_write};
@@ -13,7 +13,7 @@ use rbd_kinds::{
     TryClone, Turn, Want,
 };
 use rbd_layout::Piece;
-use rbd_machine::{Machine, Progress, told_done};
+use rbd_machine::{Machine, Progress, Reason, told_done};
 use std::alloc::Global;
 
 /// One piece of a write: those of its bytes that go to one object.
@@ -92,6 +92,7 @@ impl WritePiece {
 
     /// Goes on with an answer. It takes no memory.
     pub fn feed(&mut self, answer: &Answer) -> Progress<()>
+        requires { TellsDone answer.now }
         ensures { (next : Plan) → Progresses next (plan_after (rest_of_write self.old next) (fed_with.Answer answer.now)) result (rest_of_write self.new next) }
     {
         match told_done(answer) {
@@ -114,6 +115,10 @@ impl Machine for WritePiece {
         WritePiece::next(self)
     }
 
+    fn reason(&self) -> Reason {
+        Reason::Own
+    }
+
     fn event(&self, _alloc: Global) -> Result<Option<Event>, NoMemory> {
         Ok(None)
     }
@@ -122,6 +127,7 @@ impl Machine for WritePiece {
         Ok(())
     }
 
+    #[tactic(auto, using(crate::proofs::Tells::write_tells))]
     fn feed(&mut self, fed: &Fed) -> Turn {
         let Fed::Answer(answer) = fed else {
             unreachable!()

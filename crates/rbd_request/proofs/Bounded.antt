@@ -1,21 +1,25 @@
 -- How many operations requests have.
-use Rattle.std.proofs.Common.{◌≡◌, ℕ, ◌+◌, ◌≤◌, suc, List, [], ◌∷◌, length, Bool, true, false, cond, eqb, Option, Some, None, subst, arith}
+use Rattle.std.proofs.Common.{◌≡◌, ℕ, ◌+◌, ◌≤◌, suc, List, [], ◌∷◌, length, Bool, true, false, cond, eqb, Option, Some, None, subst, ◌*◌, add-mul, arith}
 use Rattle.rbd_kinds.specs.declared.answer.Answer.TheVariants as answer
 use Rattle.rbd_kinds.specs.declared.header.HeaderView.{HeaderView}
 use Rattle.rbd_kinds.specs.declared.id.SiteId.{SiteId}
 use Rattle.rbd_kinds.specs.declared.layout.Extent.{Extent}
+use Rattle.rbd_kinds.specs.declared.machine.Fed.{Fed}
 use Rattle.rbd_kinds.specs.declared.reply.Reply.TheVariants as reply
 use Rattle.rbd_layout.specs.Pieces.{pieces_of}
 use Rattle.rbd_layout.specs.declared.types.Piece.{Piece}
 use Rattle.rbd_object.specs.Parts.{bytes_for}
 use Rattle.rbd_header.specs.Header.{view_of}
 use Rattle.rbd_header.specs.declared.view.View.{View}
-use Rattle.rbd_machine.specs.Path.{IsBounded}
-use Rattle.rbd_machine.specs.Plan.{Return, Goto}
+use Rattle.rbd_machine.specs.Path.{Answered, IsBounded, IsWalk}
+use Rattle.rbd_machine.specs.Plan.{Plan, Return, Goto}
+use Rattle.rbd_machine.specs.Label as label
+use Rattle.rbd_machine.specs.Passes.{jumps}
+use Rattle.rbd_machine.proofs.Passed.{walk_bounded}
 use Rattle.rbd_machine.specs.Steps.{applied}
 use Rattle.rbd_machine.proofs.Bounds.{bounded_change, bounded_more, bounded_on_id, bounded_on_header, bounded_unless}
 use Rattle.rbd_piece.proofs.Bounded.{bounded_write, bounded_gather}
-use Rattle.rbd_request.specs.Read.{pass, looking, reading, viewing, gathering, closing}
+use Rattle.rbd_request.specs.Read.{pass, read_labels, looking, reading, viewing, gathering, closing}
 use Rattle.rbd_request.specs.Seen.{Seen, seen_at, shown}
 use Rattle.rbd_request.specs.Write.{extent_at, out_of_range, put, write, write_pieces, write_refuses}
 
@@ -41,7 +45,7 @@ bounded_write_request site name at bytes most few =
 bounded_closing : (site : SiteId) (image : ℕ) (seen : Seen) (read : List ℕ) → IsBounded (closing site image seen read) 1
 bounded_closing site image seen read (answer.Header h) = go (eqb h.generation seen.generation)
   where
-    go : (b : Bool) → IsBounded (cond b (Return (reply.Bytes (shown seen read))) (Goto 0)) 0
+    go : (b : Bool) → IsBounded (cond b (Return (reply.Bytes (shown seen read))) (Goto label.Begin)) 0
     go true = tt
     go false = tt
 bounded_closing site image seen read answer.Absent = tt
@@ -61,3 +65,14 @@ bounded_pass site name snap e most few =
     subst (IsBounded (pass site name snap e)) three_more
     (bounded_on_id (looking site snap e) (suc (suc most))
     (λ image. bounded_on_header (reading site snap e image) (suc most) (λ h. bounded_viewing site image h e (view_of h snap) most (few h))))
+
+pub bounded_read : (site : SiteId) (name : List ℕ) (snap : Option (List ℕ)) (e : Extent) (most : ℕ) (feds : List Fed) (steps : List Answered) (last : Plan)
+    → ((h : HeaderView) → length (pieces_of h.layout e) ≤ most) → IsWalk (read_labels site name snap e) (pass site name snap e) feds steps last
+    → length steps ≤ (1 + jumps (read_labels site name snap e) (pass site name snap e) feds) * (most + 3)
+bounded_read site name snap e most feds steps last few walk =
+    let n = most + 3 in
+    let again = jumps (read_labels site name snap e) (pass site name snap e) feds in
+    let one = bounded_pass site name snap e most few in
+    let short : length steps ≤ n + again * n = walk_bounded (read_labels site name snap e) n (λ label. one) feds (pass site name snap e) n steps last one walk in
+    let each : (1 + again) * n ≡ 1 * n + again * n = add-mul 1 again n in
+    omega arith

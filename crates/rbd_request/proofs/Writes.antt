@@ -13,15 +13,16 @@ use Rattle.rbd_layout.proofs.Within.{lies_in}
 use Rattle.rbd_object.specs.Parts.{AreBehind, bytes_for}
 use Rattle.rbd_kinds.specs.declared.machine.Fed.{Fed}
 use Rattle.rbd_kinds.specs.declared.machine.Fed.TheVariants as fed
-use Rattle.rbd_kinds.specs.declared.machine.Want.TheVariants as want
 use Rattle.rbd_kinds.specs.declared.refusal.Refusal.TheVariants as refusal
 use Rattle.rbd_kinds.specs.Extents.{fits}
 use Rattle.rbd_machine.specs.Answers.{CanBeFed}
-use Rattle.rbd_machine.specs.Plan.{Plan, Await, IsAsking, Notes}
+use Rattle.rbd_machine.specs.Plan.{Plan, Await, Note, plan_after, IsAsking, IsLive, AsksBy, Notes}
+use Rattle.rbd_machine.specs.Wait as wait
+use Rattle.rbd_machine.specs.declared.reason.Reason.TheVariants as reason
 use Rattle.rbd_machine.specs.Steps.{applied}
 use Rattle.rbd_piece.specs.Write.{write_piece, rest_of_write}
 use Rattle.rbd_piece.specs.declared.write_piece.WritePiece.{WritePiece}
-use Rattle.rbd_machine.proofs.Approached.{approach_notes_nothing}
+use Rattle.rbd_machine.proofs.Approached.{approach_asks_by_itself}
 use Rattle.rbd_request.specs.Write.{rest_of_pieces, write_pieces, rest_at, out_of_range, write_refuses, extent_at, put}
 use Rattle.rbd_request.specs.declared.write.WriteRequest.{WriteRequest}
 use Rattle.rbd_request.specs.declared.write.Stage.{Stage}
@@ -29,13 +30,21 @@ use Rattle.rbd_request.specs.declared.write.Stage.TheVariants as stage
 
 -- ---- between pieces
 
-waiting_asks_nothing : (pieces : List WritePiece) (site : SiteId) (image : ℕ) → IsAsking (rest_of_pieces pieces (applied site image)) → ⊥
+pub waiting_asks_nothing : (pieces : List WritePiece) (site : SiteId) (image : ℕ) → IsAsking (rest_of_pieces pieces (applied site image)) → ⊥
 waiting_asks_nothing [] site image asks = asks
 waiting_asks_nothing (w ∷ pieces) site image asks = asks
 
-waiting_notes_nothing : (pieces : List WritePiece) (site : SiteId) (image : ℕ) (e : Option Event) → Notes (rest_of_pieces pieces (applied site image)) e
-waiting_notes_nothing [] site image e = tt
-waiting_notes_nothing (w ∷ pieces) site image e = tt
+pub waiting_notes_nothing : (pieces : List WritePiece) (site : SiteId) (image : ℕ) → Notes (rest_of_pieces pieces (applied site image)) None
+waiting_notes_nothing [] site image = refl
+waiting_notes_nothing (w ∷ pieces) site image = refl
+
+waiting_asks_by_itself : (pieces : List WritePiece) (site : SiteId) (image : ℕ) → AsksBy (rest_of_pieces pieces (applied site image)) reason.Own
+waiting_asks_by_itself [] site image = tt
+waiting_asks_by_itself (w ∷ pieces) site image = tt
+
+pub waiting_is_live : (pieces : List WritePiece) (site : SiteId) (image : ℕ) → IsLive (rest_of_pieces pieces (applied site image))
+waiting_is_live [] site image = tt
+waiting_is_live (w ∷ pieces) site image = tt
 
 pub waiting_passes : (pieces : List WritePiece) (site : SiteId) (image : ℕ) (f : Fed) → CanBeFed (rest_of_pieces pieces (applied site image)) f → f ≡ fed.Passed
 waiting_passes [] site image (fed.Answer a) can = absurd can
@@ -43,27 +52,25 @@ waiting_passes [] site image fed.Passed can = refl
 waiting_passes (w ∷ pieces) site image (fed.Answer a) can = absurd can
 waiting_passes (w ∷ pieces) site image fed.Passed can = refl
 
+-- what was noted is gone past
+pub after_note : (site : SiteId) (image : ℕ) (e : Event) (next : Plan) (f : Fed) → CanBeFed (Note site image e next) f → next ≡ plan_after (Note site image e next) f
+after_note site image e next (fed.Answer a) can = absurd can
+after_note site image e next fed.Passed can = refl
+
 -- one piece more at the end
 pub rest_of_more : (made : List WritePiece) (w : WritePiece) (next : Plan)
-    → rest_of_pieces (made ++ w ∷ []) next ≡ rest_of_pieces made (Await (want.Turn w.piece.object) (rest_of_write w next))
+    → rest_of_pieces (made ++ w ∷ []) next ≡ rest_of_pieces made (Await (wait.Turn w.piece.object) (rest_of_write w next))
 rest_of_more [] w next = refl
-rest_of_more (v ∷ made) w next = ap (λ rest. Await (want.Turn v.piece.object) (rest_of_write v rest)) (rest_of_more made w next)
+rest_of_more (v ∷ made) w next = ap (λ rest. Await (wait.Turn v.piece.object) (rest_of_write v rest)) (rest_of_more made w next)
 
 -- ---- stages
 
--- only on the way and at a piece it asks for an operation
-pub asks_there : (s : Stage) (w : WriteRequest) → IsAsking (rest_at s w) → (s ≡ stage.Approaching → ⊥) → ((image : ℕ) (piece : WritePiece) → s ≡ stage.Writing image piece → ⊥) → ⊥
-asks_there stage.Approaching w asks no_way no_piece = no_way refl
-asks_there (stage.Noting image) w asks no_way no_piece = asks
-asks_there (stage.Waiting image) w asks no_way no_piece = waiting_asks_nothing w.pieces.items w.site image asks
-asks_there (stage.Writing image piece) w asks no_way no_piece = no_piece image piece refl
-
--- the one event that it notes
-pub notes_write : (s : Stage) (w : WriteRequest) → Notes (rest_at s w) (Some (event.Write w.at w.bytes))
-notes_write stage.Approaching w = approach_notes_nothing w.approach.at w.approach (write_refuses (extent_at w.at w.bytes)) (put w.site w.at w.bytes) (Some (event.Write w.at w.bytes))
-notes_write (stage.Noting image) w = refl
-notes_write (stage.Waiting image) w = waiting_notes_nothing w.pieces.items w.site image (Some (event.Write w.at w.bytes))
-notes_write (stage.Writing image piece) w = tt
+-- all that it asks for is its own
+pub asks_by_itself : (s : Stage) (w : WriteRequest) → AsksBy (rest_at s w) reason.Own
+asks_by_itself stage.Approaching w = approach_asks_by_itself w.approach (write_refuses (extent_at w.at w.bytes)) (put w.site w.at w.bytes) w.approach.stage
+asks_by_itself (stage.Noting image) w = tt
+asks_by_itself (stage.Waiting image) w = waiting_asks_by_itself w.pieces.items w.site image
+asks_by_itself (stage.Writing image piece) w = refl
 
 -- ---- extents
 
@@ -91,5 +98,5 @@ pub next_made : (site : SiteId) (image : ℕ) (h : HeaderView) (at : ℕ) (bytes
 next_made site image h at bytes made w p pieces next is object =
     rest_of_more made w (write_pieces site image h at bytes pieces next)
     ∙ ap (rest_of_pieces made)
-    (ap (λ n. Await (want.Turn n) (rest_of_write w (write_pieces site image h at bytes pieces next))) object
-    ∙ ap (Await (want.Turn p.object)) (is (write_pieces site image h at bytes pieces next)))
+    (ap (λ n. Await (wait.Turn n) (rest_of_write w (write_pieces site image h at bytes pieces next))) object
+    ∙ ap (Await (wait.Turn p.object)) (is (write_pieces site image h at bytes pieces next)))

@@ -15,15 +15,17 @@ use Rattle.rbd_kinds.specs.Form.{IsHeaderInForm}
 use Rattle.rbd_layout.specs.Pieces.{pieces_of}
 use Rattle.rbd_header.specs.Header.{view_of}
 use Rattle.rbd_header.specs.declared.view.View.{View}
-use Rattle.rbd_machine.specs.Plan.{Plan, Ask, Return, Goto, Standing}
-use Rattle.rbd_machine.specs.Steps.{refused, not_there, unless, find, look}
+use Rattle.rbd_machine.specs.Plan.{Plan, Return, Goto, Standing}
+use Rattle.rbd_machine.specs.Label.{Label}
+use Rattle.rbd_machine.specs.Label as label
+use Rattle.rbd_machine.specs.Steps.{own, refused, not_there, unless, find, look}
 use Rattle.rbd_piece.specs.Gather.{gather, rest_of_gather, HasRoom}
 use Rattle.rbd_piece.specs.declared.gather.Gather.{Gather}
 use Rattle.rbd_request.specs.Seen.{Seen, seen_at, shown}
 use Rattle.rbd_request.specs.Write.{out_of_range}
 use Rattle.rbd_request.specs.declared.read.ReadRequest.{ReadRequest}
-use Rattle.rbd_request.specs.declared.read.Phase.{Phase}
-use Rattle.rbd_request.specs.declared.read.Phase.TheVariants as phase
+use Rattle.rbd_request.specs.declared.read.Stage.{Stage}
+use Rattle.rbd_request.specs.declared.read.Stage.TheVariants as stage
 
 -- the command that it serves
 abbrev pub is_read : Command → Bool
@@ -35,12 +37,12 @@ is_read _ = false
 -- The closing look. Where the header is still what it was, the bytes are the reply. Where it changed, or is gone,
 -- the read begins again.
 abbrev pub on_closing : Seen → (read : List ℕ) → Answer → Plan
-on_closing seen read (answer.Header h) = if h.generation == seen.generation then Return (reply.Bytes (shown seen read)) else Goto 0
-on_closing seen read answer.Absent = Goto 0
+on_closing seen read (answer.Header h) = if h.generation == seen.generation then Return (reply.Bytes (shown seen read)) else Goto label.Begin
+on_closing seen read answer.Absent = Goto label.Begin
 on_closing seen read a = not_there a
 
 abbrev pub closing : SiteId → (image : ℕ) → Seen → (read : List ℕ) → Plan
-closing site image seen read = Ask site (op.Header image header.Get) (on_closing seen read)
+closing site image seen read = own site (op.Header image header.Get) (on_closing seen read)
 
 abbrev pub gathering : SiteId → (image : ℕ) → HeaderView → Extent → View → Plan
 gathering site image h e view = gather site image view.snap (pieces_of h.layout e) [] (closing site image (seen_at h e))
@@ -58,9 +60,12 @@ looking site snap e image = look site image (reading site snap e image)
 abbrev pub pass : SiteId → (name : List ℕ) → (snap : Option (List ℕ)) → Extent → Plan
 pass site name snap e = find site name (looking site snap e)
 
--- label 0 is the begin
+-- it begins again as a whole
+abbrev pub read_labels : SiteId → (name : List ℕ) → (snap : Option (List ℕ)) → Extent → Label → Plan
+read_labels site name snap e = λ label. pass site name snap e
+
 abbrev pub read_standing : SiteId → (name : List ℕ) → (snap : Option (List ℕ)) → Extent → (plan : Plan) → Standing
-read_standing site name snap e plan = record { labels = λ label. pass site name snap e; plan = plan }
+read_standing site name snap e plan = record { labels = read_labels site name snap e; plan = plan }
 
 abbrev pub IsReadOf : SiteId → Command → Standing → Type 0
 IsReadOf site (command.Read image snap at len) standing =
@@ -69,14 +74,14 @@ IsReadOf site _ standing = ⊥
 
 -- ---- where it stands
 
-abbrev pub rest_at : Phase → ReadRequest → Plan
-rest_at phase.Finding r = pass r.site r.name r.snap r.extent
-rest_at (phase.Looking image) r = looking r.site r.snap r.extent image
-rest_at (phase.Gathering image seen g) r = rest_of_gather g (closing r.site image seen)
-rest_at (phase.Closing image seen read) r = closing r.site image seen read
+abbrev pub rest_at : Stage → ReadRequest → Plan
+rest_at stage.Finding r = pass r.site r.name r.snap r.extent
+rest_at (stage.Looking image) r = looking r.site r.snap r.extent image
+rest_at (stage.Gathering image seen g) r = rest_of_gather g (closing r.site image seen)
+rest_at (stage.Closing image seen read) r = closing r.site image seen read
 
 abbrev pub standing_of : ReadRequest → Standing
-standing_of r = read_standing r.site r.name r.snap r.extent (rest_at r.phase r)
+standing_of r = read_standing r.site r.name r.snap r.extent (rest_at r.stage r)
 
 -- ---- the memory that an answer needs
 
@@ -93,20 +98,20 @@ IsPrepared r image h = (view : View) → view_of h r.snap ≡ Some view → out_
 abbrev pub IsShown : ReadRequest → Seen → (read : List ℕ) → HeaderView → Type 0
 IsShown r seen read h = (h.generation == seen.generation) ≡ true → r.shown ≡ Some (shown seen read)
 
-abbrev pub IsReadyAt : Phase → ReadRequest → Answer → Type 0
-IsReadyAt (phase.Looking image) r (answer.Header h) = IsPrepared r image h
-IsReadyAt (phase.Gathering image seen g) r a = HasRoom g a
-IsReadyAt (phase.Closing image seen read) r (answer.Header h) = IsShown r seen read h
+abbrev pub IsReadyAt : Stage → ReadRequest → Answer → Type 0
+IsReadyAt (stage.Looking image) r (answer.Header h) = IsPrepared r image h
+IsReadyAt (stage.Gathering image seen g) r a = HasRoom g a
+IsReadyAt (stage.Closing image seen read) r (answer.Header h) = IsShown r seen read h
 IsReadyAt _ r _ = Unit {0}
 
 abbrev pub IsReady : ReadRequest → Answer → Type 0
-IsReady r a = IsReadyAt r.phase r a
+IsReady r a = IsReadyAt r.stage r a
 
 -- a header that is told is in form
 abbrev pub IsHeaderToldInForm : Answer → Type 0
 IsHeaderToldInForm (answer.Header h) = IsHeaderInForm h
 IsHeaderToldInForm _ = Unit {0}
 
-abbrev pub IsClosing : Phase → Type 0
-IsClosing (phase.Closing image seen read) = Unit {0}
+abbrev pub IsClosing : Stage → Type 0
+IsClosing (stage.Closing image seen read) = Unit {0}
 IsClosing _ = ⊥

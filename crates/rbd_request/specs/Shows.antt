@@ -48,3 +48,10 @@ pub record ShowsBetween (site : SiteId) (name : List ℕ) (snap : Option (List �
   pub read : AreRead site image view.snap (pieces_of first.layout e) reads
   pub same : closing.generation ≡ first.generation
   pub shows : bytes ≡ shown (seen_at first e) (bytes_read (pieces_of first.layout e) reads)
+
+-- However often it began again, it shows what its last pass did.
+pub record ShowsAtLast (site : SiteId) (name : List ℕ) (snap : Option (List ℕ)) (e : Extent) (steps : List Answered) (bytes : List ℕ) : Type 0 where
+  pub before : List Answered
+  pub pass : List Answered
+  pub are : steps ≡ before ++ pass
+  pub shows : ShowsBetween site name snap e pass bytes

@@ -1,5 +1,5 @@
 -- `write` and `fill`: a change that goes beside other writes, object by object.
-use Rattle.std.specs.Prelude.{◌≡◌, ℕ, List, [], ◌∷◌, length, replicate, Bool, true, false, if◌then◌else◌, Option, Some, None}
+use Rattle.std.specs.Prelude.{◌≡◌, ℕ, List, [], ◌∷◌, length, map, replicate, Bool, true, false, if◌then◌else◌, Option, Some, None}
 use Rattle.rbd_kinds.specs.declared.answer.Answer.{Answer}
 use Rattle.rbd_kinds.specs.declared.answer.Answer.TheVariants as answer
 use Rattle.rbd_kinds.specs.declared.command.Command.{Command}
@@ -8,7 +8,6 @@ use Rattle.rbd_kinds.specs.declared.header.HeaderView.{HeaderView}
 use Rattle.rbd_kinds.specs.declared.id.SiteId.{SiteId}
 use Rattle.rbd_kinds.specs.declared.journal.Event.TheVariants as event
 use Rattle.rbd_kinds.specs.declared.layout.Extent.{Extent}
-use Rattle.rbd_kinds.specs.declared.machine.Want.TheVariants as want
 use Rattle.rbd_kinds.specs.declared.refusal.Refusal.{Refusal}
 use Rattle.rbd_kinds.specs.declared.refusal.Refusal.TheVariants as refusal
 use Rattle.rbd_layout.specs.Pieces.{pieces_of}
@@ -16,9 +15,10 @@ use Rattle.rbd_layout.specs.declared.types.Piece.{Piece}
 use Rattle.rbd_object.specs.Parts.{bytes_for}
 use Rattle.rbd_kinds.specs.Extents.{fits}
 use Rattle.rbd_machine.specs.Approach.{rest_of, owning_at}
-use Rattle.rbd_machine.specs.declared.approach.Place.{Place}
+use Rattle.rbd_machine.specs.declared.approach.Stage as of_way
 use Rattle.rbd_machine.specs.Plan.{Plan, Await, Note}
 use Rattle.rbd_machine.specs.Steps.{refused, change, or_else, non_primary, applied}
+use Rattle.rbd_machine.specs.Wait as wait
 use Rattle.rbd_piece.specs.Write.{write_piece, rest_of_write}
 use Rattle.rbd_piece.specs.declared.write_piece.WritePiece.{WritePiece}
 use Rattle.rbd_request.specs.declared.write.WriteRequest.{WriteRequest}
@@ -46,13 +46,17 @@ write_refuses e h = or_else (non_primary h.role) (out_of_range e h.size)
 abbrev pub write_pieces : SiteId → (image : ℕ) → HeaderView → (at : ℕ) → (bytes : List ℕ) → List Piece → (next : Plan) → Plan
 write_pieces site image h at bytes [] next = next
 write_pieces site image h at bytes (p ∷ pieces) next =
-    Await (want.Turn p.object) (write_piece site image h p (bytes_for p.parts at bytes) (write_pieces site image h at bytes pieces next))
+    Await (wait.Turn p.object) (write_piece site image h p (bytes_for p.parts at bytes) (write_pieces site image h at bytes pieces next))
 
 -- its event is noted, then the pieces are written, and then the event counts as applied
 abbrev pub put : SiteId → (at : ℕ) → (bytes : List ℕ) → (image : ℕ) → HeaderView → Plan
 put site at bytes image h =
     Note site image (event.Write at bytes)
     (write_pieces site image h at bytes (pieces_of h.layout (extent_at at bytes)) (applied site image))
+
+-- the objects of pieces, in their order
+abbrev pub objects_of : List Piece → List ℕ
+objects_of = map (λ (p : Piece). p.object)
 
 abbrev pub write : SiteId → (name : List ℕ) → (at : ℕ) → (bytes : List ℕ) → Plan
 write site name at bytes = change site name false (write_refuses (extent_at at bytes)) (put site at bytes)
@@ -67,7 +71,7 @@ write_plan site _ = refused refusal.NoImage
 -- the pieces that are left
 abbrev pub rest_of_pieces : List WritePiece → (next : Plan) → Plan
 rest_of_pieces [] next = next
-rest_of_pieces (w ∷ pieces) next = Await (want.Turn w.piece.object) (rest_of_write w (rest_of_pieces pieces next))
+rest_of_pieces (w ∷ pieces) next = Await (wait.Turn w.piece.object) (rest_of_write w (rest_of_pieces pieces next))
 
 abbrev pub rest_at : Stage → WriteRequest → Plan
 rest_at stage.Approaching w = rest_of w.approach (write_refuses (extent_at w.at w.bytes)) (put w.site w.at w.bytes)
@@ -82,7 +86,7 @@ rest_of_request w = rest_at w.stage w
 -- ---- the memory that an answer needs: at the own look, the pieces
 
 abbrev pub HasPieces : WriteRequest → HeaderView → Type 0
-HasPieces w h = (image : ℕ) → owning_at w.approach.at ≡ Some image → write_refuses (extent_at w.at w.bytes) h ≡ None
+HasPieces w h = (image : ℕ) → owning_at w.approach.stage ≡ Some image → write_refuses (extent_at w.at w.bytes) h ≡ None
     → rest_of_pieces w.pieces.items (applied w.site image)
     ≡ write_pieces w.site image h w.at w.bytes (pieces_of h.layout (extent_at w.at w.bytes)) (applied w.site image)
 
@@ -94,6 +98,6 @@ abbrev pub IsReady : WriteRequest → Answer → Type 0
 IsReady w a = IsReadyAt w.stage w a
 
 -- the image, where it approaches and is at its own look
-abbrev pub owning_in : Stage → Place → Option ℕ
-owning_in stage.Approaching at = owning_at at
-owning_in _ at = None
+abbrev pub owning_in : Stage → of_way.Stage → Option ℕ
+owning_in stage.Approaching way = owning_at way
+owning_in _ way = None

@@ -1,17 +1,22 @@
 //! What requests do to their end, and by how many operations: laws, each the contract of a function that does nothing.
-ghost use Rattle.std.specs.Prelude.{ℕ, ◌+◌, ◌≤◌, List, length, Option};
+ghost use Rattle.std.specs.Prelude.{ℕ, ◌+◌, ◌*◌, ◌<◌, ◌≤◌, List, AllPairs, length, Option};
 ghost use Rattle.rbd_kinds.specs.declared.header.HeaderView.{HeaderView};
 ghost use Rattle.rbd_kinds.specs.declared.id.SiteId.{SiteId};
+ghost use Rattle.rbd_kinds.specs.declared.command.Command.{Command};
 ghost use Rattle.rbd_kinds.specs.declared.layout.Extent.{Extent};
+ghost use Rattle.rbd_kinds.specs.declared.layout.Layout.{Layout};
+ghost use Rattle.rbd_kinds.specs.Striping.{IsLayout};
 ghost use Rattle.rbd_layout.specs.Pieces.{pieces_of};
 ghost use Rattle.rbd_kinds.specs.declared.machine.Fed.{Fed};
 ghost use Rattle.rbd_kinds.specs.declared.reply.Reply.TheVariants.{Bytes, Done};
 ghost use Rattle.rbd_machine.specs.Path.{Answered, IsBounded, IsWalk};
-ghost use Rattle.rbd_machine.specs.Plan.{Goto, Return};
-ghost use Rattle.rbd_request.specs.Shows.{ShowsBetween};
+ghost use Rattle.rbd_machine.specs.Passes.{jumps};
+ghost use Rattle.rbd_machine.specs.Plan.{Plan, Goto, Return, IsClosed};
+ghost use Rattle.rbd_machine.specs.Turns.{AreTurns};
+ghost use Rattle.rbd_request.specs.Shows.{ShowsAtLast};
 ghost use Rattle.rbd_request.specs.Writes.{WritesWhole};
-ghost use Rattle.rbd_request.specs.Read.{pass};
-ghost use Rattle.rbd_request.specs.Write.{extent_at, put, write};
+ghost use Rattle.rbd_request.specs.Read.{pass, read_labels};
+ghost use Rattle.rbd_request.specs.Write.{extent_at, objects_of, put, write, write_plan};
 
 /// A write has one operation for each piece behind its own look, and three before.
 pub fn writes_are_bounded()
@@ -23,18 +28,36 @@ pub fn writes_are_bounded()
 {}
 
 /// A pass of a read has one operation for each piece, and three beside: it finds its image, and looks at the
-/// header before and after.
-pub fn passes_are_bounded()
-    ensures { (site : SiteId) (name : List ℕ) (snap : Option (List ℕ)) (e : Extent) (most : ℕ)
+/// header before and after. A read has those of as many passes, each time that it begins again one more.
+pub fn reads_are_bounded()
+    ensures pass { (site : SiteId) (name : List ℕ) (snap : Option (List ℕ)) (e : Extent) (most : ℕ)
         → ((h : HeaderView) → length (pieces_of h.layout e) ≤ most)
         → IsBounded (pass site name snap e) (most + 3) }
+    ensures all { (site : SiteId) (name : List ℕ) (snap : Option (List ℕ)) (e : Extent) (most : ℕ) (feds : List Fed) (steps : List Answered) (last : Plan)
+        → ((h : HeaderView) → length (pieces_of h.layout e) ≤ most)
+        → IsWalk (read_labels site name snap e) (pass site name snap e) feds steps last
+        → length steps ≤ (1 + jumps (read_labels site name snap e) (pass site name snap e) feds) * (most + 3) }
 {}
 
-/// A read shows bytes only at the end of a pass between two looks at a header that didn't change, and they are what
-/// that pass read of each piece by the first look, in the order of the image.
+/// A write waits for its turn at the objects of its pieces, the pieces of its extent by the layout that its own look
+/// told, one after another and at no others. They ascend.
+pub fn turns_are_those_of_the_pieces()
+    ensures turns { (site : SiteId) (at : ℕ) (bytes : List ℕ) (image : ℕ) (h : HeaderView)
+        → AreTurns (put site at bytes image h) (objects_of (pieces_of h.layout (extent_at at bytes))) }
+    ensures ascending { (l : Layout) (e : Extent) → IsLayout l → AllPairs (λ p q. p.object < q.object) (pieces_of l e) }
+{}
+
+/// A write begins no part again, and a read begins again at an operation.
+pub fn labels_stand_at_operations()
+    ensures write { (home : SiteId) (command : Command) → IsClosed Goto (write_plan home command) }
+    ensures read { (site : SiteId) (name : List ℕ) (snap : Option (List ℕ)) (e : Extent) → IsClosed (read_labels site name snap e) (pass site name snap e) }
+{}
+
+/// A read, however often it begins again, shows bytes only at the end of a pass between two looks at a header that
+/// didn't change, and they are what that pass read of each piece by the first look, in the order of the image.
 pub fn bytes_are_shown_between_looks()
     ensures { (site : SiteId) (name : List ℕ) (snap : Option (List ℕ)) (e : Extent) (feds : List Fed) (steps : List Answered) (bytes : List ℕ)
-        → IsWalk Goto (pass site name snap e) feds steps (Return (Bytes bytes)) → ShowsBetween site name snap e steps bytes }
+        → IsWalk (read_labels site name snap e) (pass site name snap e) feds steps (Return (Bytes bytes)) → ShowsAtLast site name snap e steps bytes }
 {}
 
 /// A write is done only when each of its pieces was written by its own look, under the snapshot context of that look,

@@ -42,8 +42,9 @@
 //! `specs/Arrange.antt`: how bytes that came object by object are put in the order of the image. `specs/Read.antt`: a
 //! pass over the objects between two looks (`pass`), its closing look (`on_closing`), and where it stands (`rest_at`).
 //! [`laws`] says what such plans come to: a write is done only when each of its pieces was written by its own look
-//! (`specs/Writes.antt`), a read shows bytes only between two looks at a header that didn't change (`specs/Shows.antt`), and
-//! how many operations they have.
+//! (`specs/Writes.antt`), its turns are those at the objects of its pieces, ascending, a read shows bytes only in a pass between
+//! two looks at a header that didn't change, however often it began again (`specs/Shows.antt`), and how many operations they
+//! have.
 //!
 //! # Cost
 //!
@@ -60,8 +61,8 @@
 //! # How it works
 //!
 //! A [`WriteRequest`] goes through stages: the way to its own look is `Approach` of `rbd_machine`, and each piece a
-//! `WritePiece` of `rbd_piece`, in a queue. A [`ReadRequest`] goes through phases, and its reading is a `Gather` of
-//! `rbd_piece`. What an answer needs is made ready in `ready` and put beside the phase, and `feed` takes it from there.
+//! `WritePiece` of `rbd_piece`, in a queue. A [`ReadRequest`] goes through stages too, and its reading is a `Gather` of
+//! `rbd_piece`. What an answer needs is made ready in `ready` and put beside the stage, and `feed` takes it from there.
 #![tactic(auto)]
 
 mod arrange;

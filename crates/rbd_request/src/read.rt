@@ -8,11 +8,11 @@ ghost use Rattle.rbd_header.specs.declared.view.View.{View};
 ghost use Rattle.rbd_layout.specs.Pieces.{pieces_of};
 ghost use Rattle.rbd_piece.specs.Gather.{gather as gathered, rest_of_gather};
 ghost use Rattle.rbd_machine.specs.Plan.{Plan, GoesOn, plan_after};
-ghost use Rattle.rbd_machine.specs.Steps.{going};
+ghost use Rattle.rbd_machine.specs.Steps.{going, TellsHeader};
 ghost use Rattle.rbd_request.specs.Read as of_read;
 ghost use Rattle.rbd_request.specs.Seen as of_seen;
 ghost use Rattle.rbd_request.specs.Write.{out_of_range};
-ghost use Rattle.rbd_request.specs.declared.read.Phase.TheVariants as phase;
+ghost use Rattle.rbd_request.specs.declared.read.Stage.TheVariants as stage;
 
 use crate::extent::out_of_range as refused_range;
 use crate::looked::Looked;
@@ -22,7 +22,9 @@ use rbd_kinds::{
     OpKind, Refusal, Reply, SiteId, TryClone, Turn, Want,
 };
 use rbd_layout::pieces;
-use rbd_machine::{Machine, Progress, dir_find, header_get, refusal_of, told_header, told_image};
+use rbd_machine::{
+    Machine, Progress, Reason, dir_find, header_get, refusal_of, told_header, told_image,
+};
 use rbd_piece::Gather;
 use std::alloc::Global;
 
@@ -47,16 +49,16 @@ pub struct ReadRequest {
     name: Name,
     snap: Option<Name>,
     extent: Extent,
-    phase: Phase,
+    stage: Stage,
     /// The pieces that are read, made ready for the first look.
     prepared: Option<Gather>,
     /// The reply's bytes, made ready for the closing look.
     shown: Option<Bytes>,
 }
 
-/// A phase of a read, with what it found out.
+/// A stage of a read, with what it found out.
 #[derive(Debug, Drop)]
-pub enum Phase {
+pub enum Stage {
     Finding,
     Looking(ImageId),
     Gathering(ImageId, Looked, Gather),
@@ -83,7 +85,7 @@ impl ReadRequest {
                     at: at.get(),
                     len: len.get(),
                 },
-                phase: Phase::Finding,
+                stage: Stage::Finding,
                 prepared: None,
                 shown: None,
             },
@@ -129,7 +131,7 @@ impl ReadRequest {
     ) -> Result<(), NoMemory>
         requires { IsHeaderInForm header.now }
         ensures same { of_read.standing_of self.new ≡ of_read.standing_of self.old }
-        ensures phase { self.new.phase ≡ self.old.phase }
+        ensures stage { self.new.stage ≡ self.old.stage }
         ensures prepared { OnOk result (of_read.IsPrepared self.new image header.now) }
     {
         match self.view(header) {
@@ -161,10 +163,11 @@ impl ReadRequest {
 
     /// Goes on with the answer to the first look.
     fn look(&mut self, image: ImageId, answer: &Answer) -> Turn
-        requires at { self.old.phase ≡ phase.Looking image }
+        requires at { self.old.stage ≡ stage.Looking image }
+        requires tells { TellsHeader answer.now }
         requires form { of_read.IsHeaderToldInForm answer.now }
         requires ready { of_read.IsReady self.old answer.now }
-        ensures { GoesOn (of_read.standing_of self.old).labels (plan_after (of_read.rest_at (phase.Looking image) self.old) (fed_with.Answer answer.now)) result (of_read.standing_of self.new) }
+        ensures { GoesOn (of_read.standing_of self.old).labels (plan_after (of_read.rest_at (stage.Looking image) self.old) (fed_with.Answer answer.now)) result (of_read.standing_of self.new) }
     {
         let header = match told_header(answer) {
             Ok(header) => header,
@@ -176,7 +179,7 @@ impl ReadRequest {
                 let looked = Looked::new(header, &self.extent);
                 match self.prepared.take() {
                     Some(gather) => {
-                        self.phase = Phase::Gathering(image, looked, gather);
+                        self.stage = Stage::Gathering(image, looked, gather);
                         Turn::More
                     }
                     None => unreachable!(),
@@ -189,11 +192,12 @@ impl ReadRequest {
 impl ReadRequest {
     /// Goes on with the answer to the closing look.
     fn close(&mut self, answer: &Answer) -> Turn
-        requires at { of_read.IsClosing self.old.phase }
+        requires at { of_read.IsClosing self.old.stage }
+        requires tells { TellsHeader answer.now }
         requires ready { of_read.IsReady self.old answer.now }
-        ensures { GoesOn (of_read.standing_of self.old).labels (plan_after (of_read.rest_at self.old.phase self.old) (fed_with.Answer answer.now)) result (of_read.standing_of self.new) }
+        ensures { GoesOn (of_read.standing_of self.old).labels (plan_after (of_read.rest_at self.old.stage self.old) (fed_with.Answer answer.now)) result (of_read.standing_of self.new) }
     {
-        let Phase::Closing(_, looked, _) = &self.phase else {
+        let Stage::Closing(_, looked, _) = &self.stage else {
             unreachable!()
         };
         match answer {
@@ -204,12 +208,12 @@ impl ReadRequest {
                         None => unreachable!(),
                     }
                 } else {
-                    self.phase = Phase::Finding;
+                    self.stage = Stage::Finding;
                     Turn::More
                 }
             }
             Answer::Absent => {
-                self.phase = Phase::Finding;
+                self.stage = Stage::Finding;
                 Turn::More
             }
             _ => Turn::Done(Reply::Refused(refusal_of(answer))),
@@ -241,17 +245,17 @@ impl Machine for ReadRequest {
 
     fn wants(&self) -> Want {
         let site = self.site;
-        match &self.phase {
-            Phase::Finding => Want::Op {
+        match &self.stage {
+            Stage::Finding => Want::Op {
                 site,
                 kind: OpKind::DirFind,
             },
-            Phase::Looking(_) => Want::Op {
+            Stage::Looking(_) => Want::Op {
                 site,
                 kind: OpKind::HeaderGet,
             },
-            Phase::Gathering(_, _, gather) => gather.wants(),
-            Phase::Closing(_, _, _) => Want::Op {
+            Stage::Gathering(_, _, gather) => gather.wants(),
+            Stage::Closing(_, _, _) => Want::Op {
                 site,
                 kind: OpKind::HeaderGet,
             },
@@ -259,38 +263,42 @@ impl Machine for ReadRequest {
     }
 
     fn next(&self, _alloc: Global) -> Result<Op, NoMemory> {
-        match &self.phase {
-            Phase::Finding => dir_find(&self.name),
-            Phase::Looking(image) => Ok(header_get(*image)),
-            Phase::Gathering(_, _, gather) => gather.next(),
-            Phase::Closing(image, _, _) => Ok(header_get(*image)),
+        match &self.stage {
+            Stage::Finding => dir_find(&self.name),
+            Stage::Looking(image) => Ok(header_get(*image)),
+            Stage::Gathering(_, _, gather) => gather.next(),
+            Stage::Closing(image, _, _) => Ok(header_get(*image)),
         }
     }
 
+    fn reason(&self) -> Reason {
+        Reason::Own
+    }
+
     fn event(&self, _alloc: Global) -> Result<Option<Event>, NoMemory> {
-        match &self.phase {
-            Phase::Finding => Ok(None),
-            Phase::Looking(_) => Ok(None),
-            Phase::Gathering(_, _, _) => Ok(None),
-            Phase::Closing(_, _, _) => Ok(None),
+        match &self.stage {
+            Stage::Finding => Ok(None),
+            Stage::Looking(_) => Ok(None),
+            Stage::Gathering(_, _, _) => Ok(None),
+            Stage::Closing(_, _, _) => Ok(None),
         }
     }
 
     fn ready(&mut self, alloc: Global, fed: &Fed) -> Result<(), NoMemory> {
         let Fed::Answer(answer) = fed else {
-            return Ok(());
+            unreachable!()
         };
-        match &mut self.phase {
-            Phase::Finding => Ok(()),
-            Phase::Looking(image) => {
+        match &mut self.stage {
+            Stage::Finding => Ok(()),
+            Stage::Looking(image) => {
                 let image = *image;
                 let Answer::Header(header) = answer else {
                     return Ok(());
                 };
                 self.prepare(alloc, image, header)
             }
-            Phase::Gathering(_, _, gather) => gather.ready(answer),
-            Phase::Closing(_, looked, read) => {
+            Stage::Gathering(_, _, gather) => gather.ready(answer),
+            Stage::Closing(_, looked, read) => {
                 let Answer::Header(header) = answer else {
                     return Ok(());
                 };
@@ -301,29 +309,29 @@ impl Machine for ReadRequest {
 
     fn feed(&mut self, fed: &Fed) -> Turn {
         let Fed::Answer(answer) = fed else {
-            return Turn::More;
+            unreachable!()
         };
-        match &mut self.phase {
-            Phase::Finding => match told_image(answer) {
+        match &mut self.stage {
+            Stage::Finding => match told_image(answer) {
                 Ok(image) => {
-                    self.phase = Phase::Looking(image);
+                    self.stage = Stage::Looking(image);
                     Turn::More
                 }
                 Err(refusal) => Turn::Done(Reply::Refused(refusal)),
             },
-            Phase::Looking(image) => {
+            Stage::Looking(image) => {
                 let image = *image;
                 self.look(image, answer)
             }
-            Phase::Gathering(image, looked, gather) => match gather.feed(answer) {
+            Stage::Gathering(image, looked, gather) => match gather.feed(answer) {
                 Progress::More => Turn::More,
                 Progress::Ended(()) => {
-                    self.phase = Phase::Closing(*image, looked.again(), gather.take_bytes());
+                    self.stage = Stage::Closing(*image, looked.again(), gather.take_bytes());
                     Turn::More
                 }
                 Progress::Refused(refusal) => Turn::Done(Reply::Refused(refusal)),
             },
-            Phase::Closing(_, _, _) => self.close(answer),
+            Stage::Closing(_, _, _) => self.close(answer),
         }
     }
 }

@@ -4,13 +4,13 @@ ghost use Rattle.std.specs.Prelude.{◌≡◌, ◌≤◌, false, [], ◌∷◌, 
 ghost use Rattle.rbd_kinds.specs.declared.id.SiteId.TheVariants as site;
 ghost use Rattle.rbd_kinds.specs.declared.data_op.DataOp.TheVariants as object;
 ghost use Rattle.rbd_kinds.specs.declared.journal.Event.TheVariants as event;
-ghost use Rattle.rbd_kinds.specs.declared.machine.Want.TheVariants as want;
 ghost use Rattle.rbd_kinds.specs.declared.operation.Op.TheVariants as op;
 ghost use Rattle.rbd_kinds.specs.Form.{IsHeaderInForm};
 ghost use Rattle.rbd_kinds.specs.Striping.{IsLayout};
 ghost use Rattle.rbd_machine.specs.Answers.{CanBeFed};
-ghost use Rattle.rbd_machine.specs.Plan.{Ask, Await, Note, GoesOn, IsAsking, plan_after};
-ghost use Rattle.rbd_machine.specs.Steps.{looking, owning, on_done, applied};
+ghost use Rattle.rbd_machine.specs.Plan.{Await, Note, GoesOn, IsAsking, plan_after};
+ghost use Rattle.rbd_machine.specs.Steps.{own, looking, owning, on_done, applied};
+ghost use Rattle.rbd_machine.specs.Wait as wait;
 ghost use Rattle.rbd_piece.specs.Gather.{on_bytes};
 ghost use Rattle.rbd_request.specs.Read as of_read;
 ghost use Rattle.rbd_request.specs.Write as of_write;
@@ -100,6 +100,7 @@ fn asks<M: Machine>(alloc: Global, request: &M, kind: OpKind) -> Result<bool, No
 }
 
 /// A request wants this, is fed, and wants more.
+#[tactic(auto, using(rbd_machine::proofs::Fed::fed_is_live))]
 fn go_on<M: Machine>(
     rt: &impl Abort,
     alloc: Global,
@@ -119,6 +120,7 @@ fn go_on<M: Machine>(
 }
 
 /// A request wants this, is fed, and ends.
+#[tactic(auto, using(rbd_machine::proofs::Fed::fed_is_live))]
 fn end<M: Machine>(
     rt: &impl Abort,
     alloc: Global,
@@ -224,8 +226,8 @@ fn a_secondary_is_not_written(rt: HostRuntime) -> Result<(), Fail> {
 fn hello_owned(rt: &impl Abort, alloc: Global) -> Result<WriteRequest, NoMemory>
     ensures { IfOk result (λ w. of_write.rest_of_request w
         ≡ Note site.A 7 (event.Write 4094 (104 ∷ 101 ∷ 108 ∷ 108 ∷ 111 ∷ []))
-        (Await (want.Turn 0) (Ask site.A (op.Data 7 0 (object.Write (record { seq = 0; snaps = [] }) false (record { offset = 4094; at = 4094; len = 2 } ∷ []) (104 ∷ 101 ∷ [])))
-        (on_done (Await (want.Turn 1) (Ask site.A (op.Data 7 1 (object.Write (record { seq = 0; snaps = [] }) false (record { offset = 0; at = 4096; len = 3 } ∷ []) (108 ∷ 108 ∷ 111 ∷ [])))
+        (Await (wait.Turn 0) (own site.A (op.Data 7 0 (object.Write (record { seq = 0; snaps = [] }) false (record { offset = 4094; at = 4094; len = 2 } ∷ []) (104 ∷ 101 ∷ [])))
+        (on_done (Await (wait.Turn 1) (own site.A (op.Data 7 1 (object.Write (record { seq = 0; snaps = [] }) false (record { offset = 0; at = 4096; len = 3 } ∷ []) (108 ∷ 108 ∷ 111 ∷ [])))
         (on_done (applied site.A 7)))))))) }
 {
     let mut request = hello_held(rt, alloc)?;
@@ -322,55 +324,167 @@ fn a_read_past_the_end_is_refused(rt: HostRuntime) -> Result<(), Fail> {
     Ok(())
 }
 
-/// It has looked: what is left is to read two bytes of the object 0 and three of the object 1, and the closing look.
-fn read_looked(rt: &impl Abort, alloc: Global, image: AskedName) -> Result<ReadRequest, NoMemory>
-    ensures { IfOk result (λ r. of_read.standing_of r ≡ of_read.read_standing site.A image None (record { at = 4094; len = 5 })
-        (Ask site.A (op.Data 7 0 (object.Read None (record { offset = 4094; at = 4094; len = 2 } ∷ [])))
-        (on_bytes (record { offset = 4094; at = 4094; len = 2 } ∷ []) (λ first. Ask site.A (op.Data 7 1 (object.Read None (record { offset = 0; at = 4096; len = 3 } ∷ [])))
-        (on_bytes (record { offset = 0; at = 4096; len = 3 } ∷ []) (λ second. of_read.closing site.A 7
-        (record { layout = record { object = 4096; unit = 4096; count = 1 }; extent = record { at = 4094; len = 5 }; generation = 1 }) (([] ++ first) ++ second))))))) }
+/// A read of five bytes of the image of a name.
+fn read_begun(rt: &impl Abort, alloc: Global, image: &[u8]) -> Result<ReadRequest, NoMemory>
+    ensures { IfOk result (λ r. of_read.standing_of r ≡ of_read.read_standing site.A image.now None (record { at = 4094; len = 5 }) (of_read.pass site.A image.now None (record { at = 4094; len = 5 }))) }
 {
-    let mut request = read_found(rt, alloc, image, None)?;
-    let looked = Fed::Answer(Answer::Header(disk(alloc, 8192, 1, Role::Plain)));
-    go_on(rt, alloc, &mut request, op(OpKind::HeaderGet), looked)?;
-    Ok(request)
+    let image = AskedName::parse(Bytes::from_slice(alloc, image)?).expect(rt, "a name");
+    let at = Number::new(4094).expect(rt, "a place");
+    let len = ReadLength::new(5).expect(rt, "a length");
+    let snap = None;
+    let command = Command::Read {
+        image,
+        snap,
+        at,
+        len,
+    };
+    Ok(ReadRequest::new(SiteId::A, command))
 }
 
-/// It has read `he`, and no object 1.
-fn read_gathered(rt: &impl Abort, alloc: Global) -> Result<ReadRequest, NoMemory>
-    ensures { IfOk result (λ r. (of_read.standing_of r).plan ≡ of_read.closing site.A 7
-        (record { layout = record { object = 4096; unit = 4096; count = 1 }; extent = record { at = 4094; len = 5 }; generation = 1 }) (104 ∷ 101 ∷ 0 ∷ 0 ∷ 0 ∷ [])) }
+/// It finds its image.
+fn find(
+    rt: &impl Abort,
+    alloc: Global,
+    request: &mut ReadRequest,
+    image: &[u8],
+) -> Result<(), NoMemory>
+    requires { of_read.standing_of request.old ≡ of_read.read_standing site.A image.now None (record { at = 4094; len = 5 }) (of_read.pass site.A image.now None (record { at = 4094; len = 5 })) }
+    ensures { OnOk result (of_read.standing_of request.new ≡ of_read.read_standing site.A image.now None (record { at = 4094; len = 5 }) (of_read.looking site.A None (record { at = 4094; len = 5 }) 7)) }
 {
-    let mut request = read_looked(rt, alloc, name(rt, alloc, b"disk")?)?;
+    let _image = image;
+    let found = Fed::Answer(Answer::Id(IMAGE));
+    go_on(rt, alloc, request, op(OpKind::DirFind), found)
+}
+
+/// It looks: what is left is to read two bytes of the object 0 and three of the object 1, and the closing look.
+fn look(
+    rt: &impl Abort,
+    alloc: Global,
+    request: &mut ReadRequest,
+    image: &[u8],
+    generation: u64,
+) -> Result<(), NoMemory>
+    requires { of_read.standing_of request.old ≡ of_read.read_standing site.A image.now None (record { at = 4094; len = 5 }) (of_read.looking site.A None (record { at = 4094; len = 5 }) 7) }
+    ensures { OnOk result (of_read.standing_of request.new ≡ of_read.read_standing site.A image.now None (record { at = 4094; len = 5 })
+        (own site.A (op.Data 7 0 (object.Read None (record { offset = 4094; at = 4094; len = 2 } ∷ [])))
+        (on_bytes (record { offset = 4094; at = 4094; len = 2 } ∷ []) (λ first. own site.A (op.Data 7 1 (object.Read None (record { offset = 0; at = 4096; len = 3 } ∷ [])))
+        (on_bytes (record { offset = 0; at = 4096; len = 3 } ∷ []) (λ second. of_read.closing site.A 7 (record { layout = record { object = 4096; unit = 4096; count = 1 }; extent = record { at = 4094; len = 5 }; generation = generation }) (([] ++ first) ++ second))))))) }
+{
+    let _image = image;
+    let looked = Fed::Answer(Answer::Header(disk(alloc, 8192, generation, Role::Plain)));
+    go_on(rt, alloc, request, op(OpKind::HeaderGet), looked)?;
+    Ok(())
+}
+
+/// It reads `he`, and no object 1.
+fn gather(
+    rt: &impl Abort,
+    alloc: Global,
+    request: &mut ReadRequest,
+    image: &[u8],
+    generation: u64,
+) -> Result<(), NoMemory>
+    requires { of_read.standing_of request.old ≡ of_read.read_standing site.A image.now None (record { at = 4094; len = 5 })
+        (own site.A (op.Data 7 0 (object.Read None (record { offset = 4094; at = 4094; len = 2 } ∷ [])))
+        (on_bytes (record { offset = 4094; at = 4094; len = 2 } ∷ []) (λ first. own site.A (op.Data 7 1 (object.Read None (record { offset = 0; at = 4096; len = 3 } ∷ [])))
+        (on_bytes (record { offset = 0; at = 4096; len = 3 } ∷ []) (λ second. of_read.closing site.A 7 (record { layout = record { object = 4096; unit = 4096; count = 1 }; extent = record { at = 4094; len = 5 }; generation = generation }) (([] ++ first) ++ second)))))) }
+    ensures { OnOk result (of_read.standing_of request.new ≡ of_read.read_standing site.A image.now None (record { at = 4094; len = 5 }) (of_read.closing site.A 7 (record { layout = record { object = 4096; unit = 4096; count = 1 }; extent = record { at = 4094; len = 5 }; generation = generation }) (104 ∷ 101 ∷ 0 ∷ 0 ∷ 0 ∷ []))) }
+{
+    let _image = image;
+    let _generation = generation;
     let first = Fed::Answer(Answer::Bytes(Bytes::from_slice(alloc, b"he")?));
-    go_on(rt, alloc, &mut request, op(OpKind::DataRead), first)?;
-    go_on(
-        rt,
-        alloc,
-        &mut request,
-        op(OpKind::DataRead),
-        Fed::Answer(Answer::Absent),
-    )?;
-    Ok(request)
+    go_on(rt, alloc, request, op(OpKind::DataRead), first)?;
+    let second = Fed::Answer(Answer::Absent);
+    go_on(rt, alloc, request, op(OpKind::DataRead), second)
+}
+
+/// It has made a pass up to its closing look, by a header of this generation.
+fn pass(
+    rt: &impl Abort,
+    alloc: Global,
+    request: &mut ReadRequest,
+    image: &[u8],
+    generation: u64,
+) -> Result<(), NoMemory>
+    requires { of_read.standing_of request.old ≡ of_read.read_standing site.A image.now None (record { at = 4094; len = 5 }) (of_read.pass site.A image.now None (record { at = 4094; len = 5 })) }
+    ensures { OnOk result (of_read.standing_of request.new ≡ of_read.read_standing site.A image.now None (record { at = 4094; len = 5 }) (of_read.closing site.A 7 (record { layout = record { object = 4096; unit = 4096; count = 1 }; extent = record { at = 4094; len = 5 }; generation = generation }) (104 ∷ 101 ∷ 0 ∷ 0 ∷ 0 ∷ []))) }
+{
+    find(rt, alloc, request, image)?;
+    look(rt, alloc, request, image, generation)?;
+    gather(rt, alloc, request, image, generation)
+}
+
+/// Its closing look shows the same generation: it ends.
+fn close(
+    rt: &impl Abort,
+    alloc: Global,
+    request: &mut ReadRequest,
+    image: &[u8],
+    generation: u64,
+) -> Result<Reply, NoMemory>
+    requires { of_read.standing_of request.old ≡ of_read.read_standing site.A image.now None (record { at = 4094; len = 5 }) (of_read.closing site.A 7 (record { layout = record { object = 4096; unit = 4096; count = 1 }; extent = record { at = 4094; len = 5 }; generation = generation }) (104 ∷ 101 ∷ 0 ∷ 0 ∷ 0 ∷ [])) }
+{
+    let _image = image;
+    let closed = Fed::Answer(Answer::Header(disk(alloc, 8192, generation, Role::Plain)));
+    end(rt, alloc, request, op(OpKind::HeaderGet), closed)
+}
+
+/// Its closing look shows a second generation, and it begins again.
+fn see_a_change(
+    rt: &impl Abort,
+    alloc: Global,
+    request: &mut ReadRequest,
+    image: &[u8],
+) -> Result<(), NoMemory>
+    requires { of_read.standing_of request.old ≡ of_read.read_standing site.A image.now None (record { at = 4094; len = 5 }) (of_read.closing site.A 7 (record { layout = record { object = 4096; unit = 4096; count = 1 }; extent = record { at = 4094; len = 5 }; generation = 1 }) (104 ∷ 101 ∷ 0 ∷ 0 ∷ 0 ∷ [])) }
+    ensures { OnOk result (of_read.standing_of request.new ≡ of_read.read_standing site.A image.now None (record { at = 4094; len = 5 }) (of_read.pass site.A image.now None (record { at = 4094; len = 5 }))) }
+{
+    let _image = image;
+    let changed = Fed::Answer(Answer::Header(disk(alloc, 8192, 2, Role::Plain)));
+    go_on(rt, alloc, request, op(OpKind::HeaderGet), changed)?;
+    Ok(())
+}
+
+/// Its closing look shows no header, and it begins again.
+fn see_no_header(
+    rt: &impl Abort,
+    alloc: Global,
+    request: &mut ReadRequest,
+    image: &[u8],
+    generation: u64,
+) -> Result<(), NoMemory>
+    requires { of_read.standing_of request.old ≡ of_read.read_standing site.A image.now None (record { at = 4094; len = 5 }) (of_read.closing site.A 7 (record { layout = record { object = 4096; unit = 4096; count = 1 }; extent = record { at = 4094; len = 5 }; generation = generation }) (104 ∷ 101 ∷ 0 ∷ 0 ∷ 0 ∷ [])) }
+    ensures { OnOk result (of_read.standing_of request.new ≡ of_read.read_standing site.A image.now None (record { at = 4094; len = 5 }) (of_read.pass site.A image.now None (record { at = 4094; len = 5 }))) }
+{
+    let _image = image;
+    let _generation = generation;
+    let gone = Fed::Answer(Answer::Absent);
+    go_on(rt, alloc, request, op(OpKind::HeaderGet), gone)?;
+    Ok(())
 }
 
 #[test]
 fn a_read_shows_zeros_where_no_object_is(rt: HostRuntime) -> Result<(), Fail> {
     let alloc = rt.alloc();
-    let mut request = read_gathered(&rt, alloc)?;
-    let closed = Fed::Answer(Answer::Header(disk(alloc, 8192, 1, Role::Plain)));
-    let reply = end(&rt, alloc, &mut request, op(OpKind::HeaderGet), closed)?;
+    let mut request = read_begun(&rt, alloc, b"disk")?;
+    pass(&rt, alloc, &mut request, b"disk", 1)?;
+    let reply = close(&rt, alloc, &mut request, b"disk", 1)?;
     assert!(rt; shows(reply, b"he\0\0\0"));
     Ok(())
 }
 
+/// The header changed in its first pass, and was away at the end of its second.
 #[test]
-fn a_read_begins_again_where_the_header_changed(rt: HostRuntime) -> Result<(), Fail> {
+fn a_read_begins_again_twice(rt: HostRuntime) -> Result<(), Fail> {
     let alloc = rt.alloc();
-    let mut request = read_gathered(&rt, alloc)?;
-    let changed = Fed::Answer(Answer::Header(disk(alloc, 8192, 2, Role::Plain)));
-    go_on(&rt, alloc, &mut request, op(OpKind::HeaderGet), changed)?;
-    assert!(rt; request.wants() == op(OpKind::DirFind));
+    let mut request = read_begun(&rt, alloc, b"disk")?;
+    pass(&rt, alloc, &mut request, b"disk", 1)?;
+    see_a_change(&rt, alloc, &mut request, b"disk")?;
+    pass(&rt, alloc, &mut request, b"disk", 2)?;
+    see_no_header(&rt, alloc, &mut request, b"disk", 2)?;
+    pass(&rt, alloc, &mut request, b"disk", 3)?;
+    let reply = close(&rt, alloc, &mut request, b"disk", 3)?;
+    assert!(rt; shows(reply, b"he\0\0\0"));
     Ok(())
 }
 

@@ -2,12 +2,12 @@
 ghost use Rattle.std.specs.Prelude.{◌≡◌, true, replicate, Option, IfOk};
 ghost use Rattle.rbd_kinds.specs.declared.header.HeaderView.{HeaderView};
 ghost use Rattle.rbd_kinds.specs.declared.refusal.Refusal.{Refusal};
-ghost use Rattle.rbd_machine.specs.Plan.{Plan, Goto, without_labels, Wants, GoesOn, plan_after};
+ghost use Rattle.rbd_machine.specs.Answers.{CanBeFed};
+ghost use Rattle.rbd_machine.specs.Plan.{Goto, without_labels, Wants, GoesOn, plan_after};
 ghost use Rattle.rbd_machine.specs.Ready.{IsReadyFor};
 ghost use Rattle.rbd_kinds.specs.declared.machine.Fed.TheVariants as fed_with;
 ghost use Rattle.rbd_request.specs.declared.write.Stage.TheVariants as stage;
-ghost use Rattle.rbd_machine.specs.Steps.{Progresses};
-ghost use Rattle.rbd_piece.specs.Write.{rest_of_write};
+ghost use Rattle.rbd_kinds.specs.declared.journal.Event.TheVariants as of_event;
 ghost use Rattle.rbd_request.specs.Write as of_write;
 
 use crate::extent::out_of_range;
@@ -16,7 +16,7 @@ use rbd_kinds::{
     Answer, Bytes, Command, Event, Extent, Fed, FillLength, HeaderView, ImageId, Name, NoMemory,
     Op, Refusal, Reply, SiteId, TryClone, Turn, Want,
 };
-use rbd_machine::{Approach, Machine, Progress, Refuses, non_primary};
+use rbd_machine::{Approach, Machine, Progress, Reason, Refuses, non_primary};
 use rbd_piece::WritePiece;
 use std::alloc::Global;
 use std::collections::VecDeque;
@@ -127,7 +127,7 @@ impl WriteRequest {
 
     /// The image, where it approaches and is at its own look.
     fn owning(&self) -> Option<ImageId>
-        ensures { result ≡ of_write.owning_in self.now.stage self.now.approach.at }
+        ensures { result ≡ of_write.owning_in self.now.stage self.now.approach.stage }
     {
         match &self.stage {
             Stage::Approaching => self.approach.owning(),
@@ -138,6 +138,7 @@ impl WriteRequest {
     /// Goes on, where it approaches.
     fn feed_approach(&mut self, fed: &Fed) -> Turn
         requires at { self.old.stage ≡ stage.Approaching }
+        requires can { CanBeFed (of_write.rest_of_request self.old) fed.now }
         requires ready { IsReadyFor (of_write.IsReady self.old) fed.now }
         ensures { GoesOn Goto (plan_after (of_write.rest_of_request self.old) fed.now) result (without_labels (of_write.rest_of_request self.new)) }
     {
@@ -163,6 +164,16 @@ impl WriteRequest {
             }
             None => Turn::Done(Reply::Done),
         }
+    }
+
+    /// Its event.
+    fn noted(&self) -> Result<Event, NoMemory>
+        ensures { IfOk result (λ event. event ≡ of_event.Write self.now.at self.now.bytes) }
+    {
+        Ok(Event::Write {
+            at: self.at,
+            bytes: self.bytes.try_clone()?,
+        })
     }
 
     fn range(&self) -> Range
@@ -206,16 +217,23 @@ impl Machine for WriteRequest {
     fn next(&self, _alloc: Global) -> Result<Op, NoMemory> {
         match &self.stage {
             Stage::Approaching => self.approach.next(),
+            Stage::Noting(_) => unreachable!(),
+            Stage::Waiting(_) => unreachable!(),
             Stage::Writing(_, piece) => piece.next(),
-            _ => unreachable!(),
         }
     }
 
+    fn reason(&self) -> Reason {
+        Reason::Own
+    }
+
     fn event(&self, _alloc: Global) -> Result<Option<Event>, NoMemory> {
-        Ok(Some(Event::Write {
-            at: self.at,
-            bytes: self.bytes.try_clone()?,
-        }))
+        match &self.stage {
+            Stage::Approaching => Ok(None),
+            Stage::Noting(_) => Ok(Some(self.noted()?)),
+            Stage::Waiting(_) => Ok(None),
+            Stage::Writing(_, _) => Ok(None),
+        }
     }
 
     fn ready(&mut self, alloc: Global, fed: &Fed) -> Result<(), NoMemory> {
@@ -243,24 +261,19 @@ impl Machine for WriteRequest {
                 let image = *image;
                 self.begin_piece(image)
             }
-            Stage::Writing(image, piece) => match feed_piece(piece, fed) {
-                Progress::More => Turn::More,
-                Progress::Ended(()) => {
-                    self.stage = Stage::Waiting(*image);
-                    Turn::More
+            Stage::Writing(image, piece) => {
+                let Fed::Answer(answer) = fed else {
+                    unreachable!()
+                };
+                match piece.feed(answer) {
+                    Progress::More => Turn::More,
+                    Progress::Ended(()) => {
+                        self.stage = Stage::Waiting(*image);
+                        Turn::More
+                    }
+                    Progress::Refused(refusal) => Turn::Done(Reply::Refused(refusal)),
                 }
-                Progress::Refused(refusal) => Turn::Done(Reply::Refused(refusal)),
-            },
+            }
         }
-    }
-}
-
-/// Goes on with a piece.
-fn feed_piece(piece: &mut WritePiece, fed: &Fed) -> Progress<()>
-    ensures { (next : Plan) → Progresses next (plan_after (rest_of_write piece.old next) fed.now) result (rest_of_write piece.new next) }
-{
-    match fed {
-        Fed::Answer(answer) => piece.feed(answer),
-        Fed::Passed => Progress::More,
     }
 }

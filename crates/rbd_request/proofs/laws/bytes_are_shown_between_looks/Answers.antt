@@ -1,5 +1,5 @@
-use Rattle.rbd_request.proofs.Passes.{pass_shows}
+use Rattle.rbd_request.proofs.Passes.{read_shows}
 use Rattle.rbd_request.proofs.laws.bytes_are_shown_between_looks.Goals as goal
 
 pub returns : goal.returns
-returns c = pass_shows
+returns c = read_shows

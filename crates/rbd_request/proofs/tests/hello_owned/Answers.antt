@@ -16,6 +16,6 @@ hello = 104 ∷ 101 ∷ 108 ∷ 108 ∷ 111 ∷ []
 
 pub returns : goal.returns
 returns g c =
-    ap (λ (s : Standing). s.plan) c.in_ok-go_on.ensures
+    ap (λ (s : Standing). s.plan) c.in_ok-go_on.ensures.stands
     ∙ ap (told c.disk.result) c.in_ok-request.ensures
     ∙ ap (λ h. told h (owning site.A (of_write.write_refuses (of_write.extent_at 4094 hello)) (of_write.put site.A 4094 hello) 7)) c.disk.ensures.new

@@ -1,4 +1,5 @@
 use Rattle.std.proofs.Common.{◌≡◌, sym, ap, ◌∙◌, subst}
+use Rattle.rbd_kinds.specs.declared.journal.Event.TheVariants as event
 use Rattle.rbd_kinds.specs.declared.machine.Fed.TheVariants as fed
 use Rattle.rbd_machine.specs.Answers.{CanBeFed}
 use Rattle.rbd_machine.specs.Plan.{Goto, GoesOn, plan_after, without_labels}
@@ -7,7 +8,7 @@ use Rattle.rbd_machine.proofs.Settled.{goes_more}
 use Rattle.rbd_piece.specs.Write.{rest_of_write}
 use Rattle.rbd_request.specs.Write.{rest_at, rest_of_pieces, rest_of_request}
 use Rattle.rbd_request.specs.declared.write.Stage.TheVariants as stage
-use Rattle.rbd_request.proofs.Writes.{waiting_passes}
+use Rattle.rbd_request.proofs.Writes.{waiting_passes, waiting_is_live, after_note}
 use Rattle.rbd_request.proofs.write.WriteRequestMachine.feed.Goals as goal
 
 pub returns-in-Waiting : goal.returns-in-Waiting
@@ -17,20 +18,32 @@ returns-in-Waiting c =
     subst (λ s. GoesOn Goto (plan_after (rest_at s w) c.args.fed.now) c.begin_piece.result (without_labels (rest_of_request c.begin_piece.new.self))) (sym c.in-Waiting.is)
     (subst (λ f. GoesOn Goto (plan_after (rest_at (stage.Waiting c.in-Waiting.image) w) f) c.begin_piece.result (without_labels (rest_of_request c.begin_piece.new.self))) (sym passed) c.begin_piece.ensures)
 
+-- its event is noted
+pub returns-in-Noting : goal.returns-in-Noting
+returns-in-Noting c =
+    let w = c.args.self.now in
+    let next = rest_of_pieces w.pieces.items (applied w.site c.in-Noting.image) in
+    let can = subst (λ s. CanBeFed (rest_at s w) c.args.fed.now) c.in-Noting.is c.requires.can in
+    goes_more _ next (waiting_is_live w.pieces.items w.site c.in-Noting.image)
+    (subst (λ s. next ≡ plan_after (rest_at s w) c.args.fed.now) (sym c.in-Noting.is) (after_note w.site c.in-Noting.image (event.Write w.at w.bytes) next c.args.fed.now can))
+
 pub returns-in-More : goal.returns-in-More
 returns-in-More c =
     let w = c.args.self.now in
     let next = rest_of_pieces w.pieces.items (applied w.site c.in-Writing.image) in
-    goes_more _ (rest_of_write c.feed_piece.new.piece next) (c.in-More.ensures next ∙ ap (λ s. plan_after (rest_at s w) c.args.fed.now) (sym c.in-Writing.is))
+    let goes = c.in-More.ensures next in
+    goes_more _ (rest_of_write c.feed.new.self next) goes.live
+    (goes.is ∙ ap (plan_after (rest_of_write c.in-Writing.piece next)) (sym c.in-Answer.is) ∙ ap (λ s. plan_after (rest_at s w) c.args.fed.now) (sym c.in-Writing.is))
 
 pub returns-in-Ended : goal.returns-in-Ended
 returns-in-Ended c =
     let w = c.args.self.now in
     let next = rest_of_pieces w.pieces.items (applied w.site c.in-Writing.image) in
-    goes_more _ next (sym (c.in-Ended.ensures next) ∙ ap (λ s. plan_after (rest_at s w) c.args.fed.now) (sym c.in-Writing.is))
+    goes_more _ next (waiting_is_live w.pieces.items w.site c.in-Writing.image)
+    (sym (c.in-Ended.ensures next) ∙ ap (plan_after (rest_of_write c.in-Writing.piece next)) (sym c.in-Answer.is) ∙ ap (λ s. plan_after (rest_at s w) c.args.fed.now) (sym c.in-Writing.is))
 
 pub returns-in-Refused : goal.returns-in-Refused
 returns-in-Refused c =
     let w = c.args.self.now in
     let next = rest_of_pieces w.pieces.items (applied w.site c.in-Writing.image) in
-    ap (λ s. plan_after (rest_at s w) c.args.fed.now) c.in-Writing.is ∙ c.in-Refused.ensures next
+    ap (λ s. plan_after (rest_at s w) c.args.fed.now) c.in-Writing.is ∙ ap (plan_after (rest_of_write c.in-Writing.piece next)) c.in-Answer.is ∙ c.in-Refused.ensures next

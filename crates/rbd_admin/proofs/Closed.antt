@@ -1,0 +1,81 @@
+-- The plans go to no label.
+use Rattle.std.proofs.Common.{ℕ, List, Option, Some, None, sym, subst}
+use Rattle.rbd_kinds.specs.declared.answer.Answer.{Answer}
+use Rattle.rbd_kinds.specs.declared.answer.Answer.TheVariants as answer
+use Rattle.rbd_kinds.specs.declared.command.Command.{Command}
+use Rattle.rbd_kinds.specs.declared.command.Command.TheVariants as command
+use Rattle.rbd_kinds.specs.declared.command.Shape.{Shape}
+use Rattle.rbd_kinds.specs.declared.header.HeaderView.{HeaderView}
+use Rattle.rbd_kinds.specs.declared.header.SnapView.{SnapView}
+use Rattle.rbd_kinds.specs.declared.id.SiteId.{SiteId}
+use Rattle.rbd_kinds.specs.declared.reply.Reply.{Reply}
+use Rattle.rbd_kinds.specs.Header.{snap_named}
+use Rattle.rbd_header.specs.Header.{new_header}
+use Rattle.rbd_layout.specs.Asked.{layout_of, KeepsLimits}
+use Rattle.rbd_machine.specs.Plan.{Plan, Ask, Await, Note, Return, Goto, IsClosed}
+use Rattle.rbd_machine.specs.Steps.{applied}
+use Rattle.rbd_machine.proofs.Closed.{closed_not_there, closed_on_id, closed_on_header, closed_on_done, closed_change}
+use Rattle.rbd_admin.specs.Create.{IsCreate, IsCreatePlan, on_drawn, making, drawing}
+use Rattle.rbd_admin.specs.Listing.{on_names, list_names, showing, show_header, shown_snaps, listing_plan}
+use Rattle.rbd_admin.specs.Snap.{on_snap, take, remove_listed, remove, create_refuses, remove_refuses, snap_plan}
+
+-- ---- create
+
+closed_on_drawn : (next : ℕ → Plan) → ((image : ℕ) → IsClosed Goto (next image)) → (a : Answer) → IsClosed Goto (on_drawn next a)
+closed_on_drawn next closed (answer.Id image) = closed image
+closed_on_drawn next closed answer.Exists = tt
+closed_on_drawn next closed answer.Full = tt
+closed_on_drawn next closed a = closed_not_there Goto a
+
+closed_drawing : (site : SiteId) (name : List ℕ) (h : HeaderView) → IsClosed Goto (drawing site name h)
+closed_drawing site name h = closed_on_drawn (making site h) (λ image. closed_on_done Goto _ tt)
+
+-- what doesn't fail holds
+closed_stable : (plan : Plan) → ((IsClosed Goto plan → ⊥) → ⊥) → IsClosed Goto plan
+closed_stable (Ask site why op next) fails = λ a. closed_stable (next a) (λ open_there. fails (λ c. open_there (c a)))
+closed_stable (Await wait next) fails = closed_stable next fails
+closed_stable (Note site image event next) fails = closed_stable next fails
+closed_stable (Return reply) fails = tt
+closed_stable (Goto label) fails = absurd (fails (λ c. c))
+
+closed_is_create : (site : SiteId) (name : List ℕ) (size : ℕ) (shape : Shape) (plan : Plan) → IsCreate site name size shape plan → IsClosed Goto plan
+closed_is_create site name size shape plan is =
+    closed_stable plan (λ opened.
+    let outside : KeepsLimits (layout_of shape) size → ⊥ =
+    λ keeps. opened (subst (IsClosed Goto) (sym (is.within keeps)) (closed_drawing site name (new_header (layout_of shape) size))) in
+    opened (subst (IsClosed Goto) (sym (is.outside outside)) tt))
+
+pub closed_create : (site : SiteId) (c : Command) (plan : Plan) → IsCreatePlan site c plan → IsClosed Goto plan
+closed_create site (command.Create image size shape) plan is = closed_is_create site image size shape plan is
+closed_create site _ plan is = absurd is
+
+-- ---- ls, info, snap ls
+
+closed_on_names : (next : List (List ℕ) → Plan) → ((names : List (List ℕ)) → IsClosed Goto (next names)) → (a : Answer) → IsClosed Goto (on_names next a)
+closed_on_names next closed (answer.Names names) = closed names
+closed_on_names next closed a = closed_not_there Goto a
+
+closed_show_header : (site : SiteId) (name : List ℕ) (shown : HeaderView → Reply) → IsClosed Goto (show_header site name shown)
+closed_show_header site name shown = closed_on_id Goto (showing site shown) (λ image. closed_on_header Goto _ (λ h. tt))
+
+pub closed_listing : (site : SiteId) (c : Command) → IsClosed Goto (listing_plan site c)
+closed_listing site command.List = closed_on_names _ (λ names. tt)
+closed_listing site (command.Info image) = closed_show_header site image _
+closed_listing site (command.SnapList image) = closed_show_header site image shown_snaps
+closed_listing site _ = tt
+
+-- ---- snap create, snap rm
+
+closed_on_snap : (next : Plan) → IsClosed Goto next → (a : Answer) → IsClosed Goto (on_snap next a)
+closed_on_snap next closed (answer.Snap snap) = closed
+closed_on_snap next closed a = closed_not_there Goto a
+
+closed_remove_listed : (site : SiteId) (snap : List ℕ) (image : ℕ) (listed : Option SnapView) → IsClosed Goto (remove_listed site snap image listed)
+closed_remove_listed site snap image None = tt
+closed_remove_listed site snap image (Some listed) = closed_on_done Goto (applied site image) tt
+
+pub closed_snap : (site : SiteId) (c : Command) → IsClosed Goto (snap_plan site c)
+closed_snap site (command.SnapCreate image snap) = closed_change Goto site image _ (create_refuses snap) (take site snap) (λ i h. closed_on_snap (applied site i) tt)
+closed_snap site (command.SnapRemove image snap) =
+    closed_change Goto site image _ (remove_refuses snap) (remove site snap) (λ i h. closed_remove_listed site snap i (snap_named h.snaps snap))
+closed_snap site _ = tt

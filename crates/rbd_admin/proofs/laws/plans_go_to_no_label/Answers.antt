@@ -1,0 +1,11 @@
+use Rattle.rbd_admin.proofs.Closed.{closed_create, closed_listing, closed_snap}
+use Rattle.rbd_admin.proofs.laws.plans_go_to_no_label.Goals as goal
+
+pub returns-clause-create : goal.returns-clause-create
+returns-clause-create c = closed_create
+
+pub returns-clause-listing : goal.returns-clause-listing
+returns-clause-listing c = closed_listing
+
+pub returns-clause-snap : goal.returns-clause-snap
+returns-clause-snap c = closed_snap

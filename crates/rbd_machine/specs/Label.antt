@@ -1,0 +1,12 @@
+-- Where a request begins a part again.
+use Rattle.std.specs.Prelude.{ℕ}
+use Rattle.rbd_kinds.specs.declared.header.HeaderView.{HeaderView}
+
+-- with what the part rests on
+pub data Label : Type 0 where
+  -- the whole request
+  Begin : Label
+  -- the piece of a number, of an image whose own look told a header
+  Piece : (image : ℕ) → HeaderView → (number : ℕ) → Label
+  -- the way to the image's lock
+  Lock : Label
