@@ -16,7 +16,7 @@ use Rattle.rbd_machine.specs.Plan.{Plan, Ask, Await, Note, Return, Goto, IsClose
 use Rattle.rbd_machine.specs.Steps.{applied}
 use Rattle.rbd_machine.proofs.Closed.{closed_not_there, closed_on_id, closed_on_header, closed_on_done, closed_change}
 use Rattle.rbd_admin.specs.Create.{IsCreate, IsCreatePlan, on_drawn, making, drawing}
-use Rattle.rbd_admin.specs.Listing.{on_names, list_names, showing, show_header, shown_snaps, listing_plan}
+use Rattle.rbd_admin.specs.Listing.{on_names, showing, show_header, shown_snaps, listing_plan}
 use Rattle.rbd_admin.specs.Snap.{on_snap, take, remove_listed, remove, create_refuses, remove_refuses, snap_plan}
 
 -- ---- create

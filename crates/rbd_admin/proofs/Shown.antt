@@ -1,5 +1,5 @@
 -- Images that are made, and what listings show, step by step.
-use Rattle.std.proofs.Common.{◌≡◌, ℕ, List, [], ◌∷◌, refl, sym, ap, ◌∙◌, subst}
+use Rattle.std.proofs.Common.{◌≡◌, ℕ, List, [], ◌∷◌, refl, ap, ◌∙◌, subst}
 use Rattle.rbd_kinds.specs.declared.answer.Answer.{Answer}
 use Rattle.rbd_kinds.specs.declared.answer.Answer.TheVariants as answer
 use Rattle.rbd_kinds.specs.declared.command.Shape.{Shape}
@@ -17,7 +17,7 @@ use Rattle.rbd_header.specs.Header.{new_header}
 use Rattle.rbd_layout.specs.Asked.{layout_of, KeepsLimits}
 use Rattle.rbd_machine.specs.Path.{Answered, IsWalk, found, looked_at}
 use Rattle.rbd_machine.specs.Plan.{Plan, Return, Goto}
-use Rattle.rbd_machine.specs.Steps.{on_id, on_header, on_done, refused}
+use Rattle.rbd_machine.specs.Steps.{on_id, on_header, on_done}
 use Rattle.rbd_machine.specs.declared.reason.Reason.TheVariants as reason
 use Rattle.rbd_machine.proofs.Walked.{ended, went_on, told_image, told_header, told_done, refusal_ends_otherwise, nothing_ends_otherwise}
 use Rattle.rbd_admin.specs.Create.{IsCreate, on_drawn, making, drawing}

@@ -7,7 +7,7 @@ use Rattle.rbd_kinds.specs.declared.id.SiteId.{SiteId}
 use Rattle.rbd_kinds.specs.declared.refusal.Refusal.{Refusal}
 use Rattle.rbd_machine.specs.Label.{Label}
 use Rattle.rbd_machine.specs.Plan.{Plan, IsClosed}
-use Rattle.rbd_machine.specs.Steps.{unless, not_there, on_id, on_header, on_done, change, looking, looked, holding, owning, owned, joining}
+use Rattle.rbd_machine.specs.Steps.{unless, not_there, on_id, on_header, on_done, change, looked, holding, owned, joining}
 
 module _ (labels : Label → Plan) where
   pub closed_not_there : (a : Answer) → IsClosed labels (not_there a)

@@ -1,15 +1,11 @@
 -- A walk with jumps ends in a pass, and keeps the bounds of its passes.
 use Rattle.std.proofs.Common.{◌≡◌, ℕ, zero, suc, ◌+◌, ◌*◌, ◌≤◌, List, [], ◌∷◌, ◌++◌, length, Option, Some, None, refl, sym, ap, ◌∙◌, subst, append_assoc, add-mul, arith}
-use Rattle.rbd_kinds.specs.declared.id.SiteId.{SiteId}
-use Rattle.rbd_kinds.specs.declared.answer.Answer.{Answer}
 use Rattle.rbd_kinds.specs.declared.machine.Fed.{Fed}
 use Rattle.rbd_kinds.specs.declared.machine.Fed.TheVariants as fed
-use Rattle.rbd_kinds.specs.declared.operation.Op.{Op}
 use Rattle.rbd_machine.specs.Label.{Label}
-use Rattle.rbd_machine.specs.Path.{Answered, IsWalk, IsFirstStep, IsBounded}
+use Rattle.rbd_machine.specs.Path.{Answered, IsWalk, IsBounded}
 use Rattle.rbd_machine.specs.Passes.{EndsInPass, begun_at, jumps, jumps_at}
 use Rattle.rbd_machine.specs.Plan.{Plan, Ask, Await, Note, Return, Goto, settled}
-use Rattle.rbd_machine.specs.declared.reason.Reason.{Reason}
 use Rattle.rbd_machine.proofs.Settled.{settled_goto}
 
 module _ (labels : Label → Plan) where

@@ -1,5 +1,5 @@
 -- The labels of requests stand at operations.
-use Rattle.std.proofs.Common.{◌≡◌, ℕ, List, [], ◌∷◌, replicate, Bool, true, false, cond, eqb, Option, Some, None}
+use Rattle.std.proofs.Common.{ℕ, List, [], ◌∷◌, replicate, Bool, true, false, cond, eqb, Option, Some, None}
 use Rattle.rbd_kinds.specs.declared.answer.Answer.{Answer}
 use Rattle.rbd_kinds.specs.declared.answer.Answer.TheVariants as answer
 use Rattle.rbd_kinds.specs.declared.command.Command.{Command}
