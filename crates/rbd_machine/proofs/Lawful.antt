@@ -19,7 +19,7 @@ use Rattle.rbd_machine.specs.Label.{Label}
 use Rattle.rbd_machine.specs.Lawful.{IsLawful}
 use Rattle.rbd_machine.specs.Permits.{OwnsBy}
 use Rattle.rbd_machine.specs.Plan.{Plan}
-use Rattle.rbd_machine.specs.Steps.{unless, not_there, on_id, on_header, on_done, change, looked, looking, holding, owning, owned, joining}
+use Rattle.rbd_machine.specs.Steps.{or_else, unless, not_there, on_id, on_header, on_done, change, looked, looking, holding, owning, owned, joining}
 use Rattle.rbd_machine.specs.Wait as wait
 
 -- ---- places
@@ -53,6 +53,11 @@ own_told alone s image h =
 pub own_is_found : (alone : Bool) (turn : Option ℕ) (s : SiteId) (image : ℕ) (h : HeaderView)
     → own_of (owning_known alone turn s image h).owns s image ≡ Some (own_at alone s image h)
 own_is_found alone turn s image h = ap (λ b. cond b (Some (own_at alone s image h)) None) (at_itself s image)
+
+-- where neither refusal holds, the second doesn't
+pub or_else_none : (r later : Option Refusal) → or_else r later ≡ None → later ≡ None
+or_else_none None later none = none
+or_else_none (Some r) later none = cc
 
 -- ---- steps
 
