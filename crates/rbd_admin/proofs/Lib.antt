@@ -1,5 +1,6 @@
 pub mod Bounds
 pub mod Closed
+pub mod Lawful
 pub mod Looks
 pub mod Shown
 pub mod Tells

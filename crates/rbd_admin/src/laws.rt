@@ -9,7 +9,8 @@ ghost use Rattle.rbd_kinds.specs.declared.id.SiteId.{SiteId};
 ghost use Rattle.rbd_kinds.specs.declared.layout.Layout.{Layout};
 ghost use Rattle.rbd_kinds.specs.Form.{IsNewHeader};
 ghost use Rattle.rbd_layout.specs.Asked.{KeepsLimits, layout_of};
-ghost use Rattle.rbd_machine.specs.Plan.{Plan, Return, Goto, IsClosed};
+ghost use Rattle.rbd_machine.specs.Lawful.{IsLawfulRequest};
+ghost use Rattle.rbd_machine.specs.Plan.{Plan, Return, Goto, IsClosed, without_labels};
 ghost use Rattle.rbd_kinds.specs.declared.command.Command.TheVariants.{SnapCreate, SnapRemove};
 ghost use Rattle.rbd_kinds.specs.declared.machine.Fed.{Fed};
 ghost use Rattle.rbd_kinds.specs.declared.reply.Reply.TheVariants.{Done, Info as ShownHeader, Names, Snaps};
@@ -45,6 +46,25 @@ pub fn plans_go_to_no_label()
     ensures create { (home : SiteId) (command : Command) (plan : Plan) → IsCreatePlan home command plan → IsClosed Goto plan }
     ensures listing { (home : SiteId) (command : Command) → IsClosed Goto (listing_plan home command) }
     ensures snap { (home : SiteId) (command : Command) → IsClosed Goto (snap_plan home command) }
+{}
+
+/// A `create` is lawful from nothing known: the header that it makes is a new one, under an id that it drew itself.
+pub fn creates_are_lawful()
+    ensures within { (site : SiteId) (name : List ℕ) (size : ℕ) (shape : Shape) (plan : Plan)
+        → IsCreate site name size shape plan → KeepsLimits (layout_of shape) size → IsLawfulRequest (without_labels plan) }
+    ensures outside { (site : SiteId) (name : List ℕ) (size : ℕ) (shape : Shape) (plan : Plan)
+        → IsCreate site name size shape plan → (KeepsLimits (layout_of shape) size → ⊥) → IsLawfulRequest (without_labels plan) }
+{}
+
+/// An `ls`, an `info` and a `snap ls` are lawful from nothing known: they only look.
+pub fn listings_are_lawful()
+    ensures { (home : SiteId) (command : Command) → IsLawfulRequest (without_labels (listing_plan home command)) }
+{}
+
+/// A `snap create` and a `snap rm` are lawful from nothing known: alone on the image, and by what its own look told, a name
+/// is taken that isn't listed, and a snapshot is removed that is listed and isn't protected.
+pub fn snapshots_are_lawful()
+    ensures { (home : SiteId) (command : Command) → IsLawfulRequest (without_labels (snap_plan home command)) }
 {}
 
 /// The header of a new image is one that a site may make.

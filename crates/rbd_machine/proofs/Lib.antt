@@ -5,6 +5,7 @@ pub mod Walks
 pub mod Tells
 pub mod Passed
 pub mod Closed
+pub mod Lawful
 pub mod Walked
 pub mod Fed
 pub mod Wanted

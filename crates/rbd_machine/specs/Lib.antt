@@ -8,3 +8,6 @@ pub mod Path
 pub mod Passes
 pub mod Turns
 pub mod Approach
+pub mod Knowledge
+pub mod Permits
+pub mod Lawful

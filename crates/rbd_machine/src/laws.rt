@@ -1,5 +1,15 @@
 //! What plans mean: laws, each the contract of a function that does nothing.
-ghost use Rattle.std.specs.Prelude.{ℕ, ◌≤◌, ◌+◌, ◌*◌, List, length, Bool, Option};
+ghost use Rattle.std.specs.Prelude.{◌≡◌, ℕ, ◌≤◌, ◌+◌, ◌*◌, List, length, Bool, Option, Some, None};
+ghost use Rattle.rbd_kinds.specs.declared.data_op.DataOp.TheVariants.{Write};
+ghost use Rattle.rbd_kinds.specs.declared.header.SnapContext.{SnapContext};
+ghost use Rattle.rbd_kinds.specs.declared.header.SnapStatus.TheVariants.{Unprotected};
+ghost use Rattle.rbd_kinds.specs.declared.header.SnapView.{SnapView};
+ghost use Rattle.rbd_kinds.specs.declared.header_op.HeaderOp.TheVariants.{SnapAdd, SnapRemove};
+ghost use Rattle.rbd_kinds.specs.declared.layout.Part.{Part};
+ghost use Rattle.rbd_kinds.specs.declared.operation.Op.TheVariants.{Data, Header};
+ghost use Rattle.rbd_header.specs.Header.{context_of, snap_in};
+ghost use Rattle.rbd_machine.specs.Knowledge.{Knowledge, Own, own_of};
+ghost use Rattle.rbd_machine.specs.Permits.{Permits};
 ghost use Rattle.rbd_kinds.specs.declared.header.HeaderView.{HeaderView};
 ghost use Rattle.rbd_kinds.specs.declared.id.SiteId.{SiteId};
 ghost use Rattle.rbd_kinds.specs.declared.refusal.Refusal.{Refusal};
@@ -48,4 +58,27 @@ pub fn walks_keep_bounds()
 pub fn changes_look_twice()
     ensures { (site : SiteId) (name : List ℕ) (alone : Bool) (refuses : HeaderView → Option Refusal) (act : ℕ → HeaderView → Plan) (n : ℕ)
         → ((image : ℕ) (h : HeaderView) → IsBounded (act image h) n) → IsBounded (change site name alone refuses act) (n + 3) }
+{}
+
+/// What a request doesn't own by a look of its own it may not change: no bytes are written, and no snapshot is taken or
+/// removed, before the look behind the lock, whatever was told before.
+pub fn what_is_not_owned_is_left()
+    ensures bytes { (k : Knowledge) (site : SiteId) (image number : ℕ) (context : SnapContext) (must : Bool) (parts : List Part) (bytes : List ℕ)
+        → own_of k.owns site image ≡ None → Permits k site (Data image number (Write context must parts bytes)) → ⊥ }
+    ensures taking { (k : Knowledge) (site : SiteId) (image : ℕ) (name : List ℕ)
+        → own_of k.owns site image ≡ None → Permits k site (Header image (SnapAdd name)) → ⊥ }
+    ensures removing { (k : Knowledge) (site : SiteId) (image snap : ℕ)
+        → own_of k.owns site image ≡ None → Permits k site (Header image (SnapRemove snap)) → ⊥ }
+{}
+
+/// By its own look a request may not write under another snapshot context than that look's, nor remove a snapshot that it
+/// lists as protected.
+pub fn the_own_look_decides()
+    ensures context { (k : Knowledge) (site : SiteId) (image number : ℕ) (alone : Bool) (h : HeaderView) (context : SnapContext) (must : Bool) (parts : List Part) (bytes : List ℕ)
+        → own_of k.owns site image ≡ Some (record { site = site; image = image; alone = alone; header = Some h })
+        → Permits k site (Data image number (Write context must parts bytes)) → context ≡ context_of h }
+    ensures protected { (k : Knowledge) (site : SiteId) (image snap : ℕ) (alone : Bool) (h : HeaderView) (listed : SnapView)
+        → own_of k.owns site image ≡ Some (record { site = site; image = image; alone = alone; header = Some h })
+        → snap_in h.snaps snap ≡ Some listed → (listed.status ≡ Unprotected → ⊥)
+        → Permits k site (Header image (SnapRemove snap)) → ⊥ }
 {}

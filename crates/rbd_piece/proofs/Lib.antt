@@ -1,3 +1,4 @@
 pub mod Bounded
 pub mod Closed
+pub mod Lawful
 pub mod Tells

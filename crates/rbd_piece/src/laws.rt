@@ -1,13 +1,18 @@
-//! How many operations pieces have, and that they go to no label: laws, each the contract of a function that does nothing.
+//! How many operations pieces have, that they go to no label, and that they do what they may: laws, each the contract of
+//! a function that does nothing.
 ghost use Rattle.std.specs.Prelude.{ℕ, ◌+◌, List, length, Option};
 ghost use Rattle.rbd_kinds.specs.declared.header.HeaderView.{HeaderView};
 ghost use Rattle.rbd_kinds.specs.declared.id.SiteId.{SiteId};
 ghost use Rattle.rbd_layout.specs.declared.types.Piece.{Piece};
+ghost use Rattle.rbd_header.specs.Header.{context_of};
+ghost use Rattle.rbd_machine.specs.Knowledge.{Knowledge};
 ghost use Rattle.rbd_machine.specs.Label.{Label};
+ghost use Rattle.rbd_machine.specs.Lawful.{IsLawful};
+ghost use Rattle.rbd_machine.specs.Permits.{Permits};
 ghost use Rattle.rbd_machine.specs.Path.{IsBounded};
 ghost use Rattle.rbd_machine.specs.Plan.{Plan, IsClosed};
 ghost use Rattle.rbd_piece.specs.Gather.{gather};
-ghost use Rattle.rbd_piece.specs.Write.{write_piece};
+ghost use Rattle.rbd_piece.specs.Write.{data_write, write_piece};
 
 /// A piece of a write has one operation.
 pub fn pieces_write_once()
@@ -27,4 +32,13 @@ pub fn pieces_go_to_no_label()
         → IsClosed labels next → IsClosed labels (write_piece site image h piece bytes next) }
     ensures gather { (labels : Label → Plan) (site : SiteId) (image : ℕ) (snap : Option ℕ) (pieces : List Piece) (read : List ℕ) (next : List ℕ → Plan)
         → ((bytes : List ℕ) → IsClosed labels (next bytes)) → IsClosed labels (gather site image snap pieces read next) }
+{}
+
+/// A piece of a write is lawful where its one operation is permitted, and a gather anywhere, given that what comes next is
+/// lawful by what was known before: neither teaches anything.
+pub fn pieces_are_lawful()
+    ensures write { (at : Label → Knowledge) (k : Knowledge) (site : SiteId) (image : ℕ) (h : HeaderView) (piece : Piece) (bytes : List ℕ) (next : Plan)
+        → Permits k site (data_write image (context_of h) piece bytes) → IsLawful at k next → IsLawful at k (write_piece site image h piece bytes next) }
+    ensures gather { (at : Label → Knowledge) (k : Knowledge) (site : SiteId) (image : ℕ) (snap : Option ℕ) (pieces : List Piece) (read : List ℕ) (next : List ℕ → Plan)
+        → ((bytes : List ℕ) → IsLawful at k (next bytes)) → IsLawful at k (gather site image snap pieces read next) }
 {}

@@ -1,6 +1,7 @@
 pub mod Arranged
 pub mod Bounded
 pub mod Closed
+pub mod Lawful
 pub mod Turns
 pub mod Looks
 pub mod Passes

@@ -11,11 +11,12 @@ ghost use Rattle.rbd_kinds.specs.declared.machine.Fed.{Fed};
 ghost use Rattle.rbd_kinds.specs.declared.reply.Reply.TheVariants.{Bytes, Done};
 ghost use Rattle.rbd_machine.specs.Path.{Answered, IsBounded, IsWalk};
 ghost use Rattle.rbd_machine.specs.Passes.{jumps};
-ghost use Rattle.rbd_machine.specs.Plan.{Plan, Goto, Return, IsClosed};
+ghost use Rattle.rbd_machine.specs.Lawful.{IsLawfulRequest};
+ghost use Rattle.rbd_machine.specs.Plan.{Plan, Goto, Return, Standing, IsClosed, without_labels};
 ghost use Rattle.rbd_machine.specs.Turns.{AreTurns};
 ghost use Rattle.rbd_request.specs.Shows.{ShowsAtLast};
 ghost use Rattle.rbd_request.specs.Writes.{WritesWhole};
-ghost use Rattle.rbd_request.specs.Read.{pass, read_labels};
+ghost use Rattle.rbd_request.specs.Read.{IsReadOf, pass, read_labels};
 ghost use Rattle.rbd_request.specs.Write.{extent_at, objects_of, put, write, write_plan};
 
 /// A write has one operation for each piece behind its own look, and three before.
@@ -65,4 +66,15 @@ pub fn bytes_are_shown_between_looks()
 pub fn writes_are_whole()
     ensures { (site : SiteId) (name : List ℕ) (at : ℕ) (bytes : List ℕ) (feds : List Fed) (steps : List Answered)
         → IsWalk Goto (write site name at bytes) feds steps (Return Done) → WritesWhole site name at bytes steps }
+{}
+
+/// A write and a fill are lawful from nothing known: each piece is written under the snapshot context and within the size
+/// that the own look told, at its turn.
+pub fn writes_are_lawful()
+    ensures { (home : SiteId) (command : Command) → IsLawfulRequest (without_labels (write_plan home command)) }
+{}
+
+/// A read is lawful from nothing known, and begins again with nothing known.
+pub fn reads_are_lawful()
+    ensures { (home : SiteId) (command : Command) (standing : Standing) → IsReadOf home command standing → IsLawfulRequest standing }
 {}

@@ -1,0 +1,185 @@
+-- The plans do what they may.
+use Rattle.std.proofs.Common.{◌≡◌, ◌≢◌, ◌⊎◌, inl, inr, ℕ, ◌<◌, ◌≤◌, List, [], ◌∷◌, Bool, true, false, cond, eqb, is_some, Option, Some, None, refl, ap, sym, ◌∙◌, subst, arith}
+use Rattle.std.specs.Prelude.{nat_eq}
+use Rattle.std.specs.Cmp.Lexicographic.{pointwise}
+use Rattle.std.proofs.lemmas.Bool.Decides.{eqb_tells}
+use Rattle.rbd_kinds.specs.declared.answer.Answer.{Answer}
+use Rattle.rbd_kinds.specs.declared.answer.Answer.TheVariants as answer
+use Rattle.rbd_kinds.specs.declared.command.Command.{Command}
+use Rattle.rbd_kinds.specs.declared.command.Command.TheVariants as command
+use Rattle.rbd_kinds.specs.declared.command.Shape.{Shape}
+use Rattle.rbd_kinds.specs.declared.directory_op.DirectoryOp.TheVariants as directory
+use Rattle.rbd_kinds.specs.declared.header.HeaderView.{HeaderView}
+use Rattle.rbd_kinds.specs.declared.header.SnapStatus.{SnapStatus}
+use Rattle.rbd_kinds.specs.declared.header.SnapStatus.TheVariants as status
+use Rattle.rbd_kinds.specs.declared.header.SnapView.{SnapView}
+use Rattle.rbd_kinds.specs.declared.header_op.HeaderOp.TheVariants as header
+use Rattle.rbd_kinds.specs.declared.id.SiteId.{SiteId}
+use Rattle.rbd_kinds.specs.declared.layout.Layout.{Layout}
+use Rattle.rbd_kinds.specs.declared.operation.Op.TheVariants as op
+use Rattle.rbd_kinds.specs.declared.refusal.Refusal.{Refusal}
+use Rattle.rbd_kinds.specs.declared.refusal.Refusal.TheVariants as refusal
+use Rattle.rbd_kinds.specs.declared.reply.Reply.{Reply}
+use Rattle.rbd_kinds.specs.declared.reply.Reply.TheVariants as reply
+use Rattle.rbd_kinds.specs.Form.{RiseFrom, AreRising, IsHeaderInForm, IsNewHeader}
+use Rattle.rbd_kinds.specs.Header.{snap_named}
+use Rattle.rbd_header.specs.Header.{new_header, is_full, snap_in}
+use Rattle.rbd_layout.specs.Asked.{layout_of, KeepsLimits}
+use Rattle.rbd_machine.specs.Answers.{CanGive}
+use Rattle.rbd_machine.specs.Knowledge.{Knowledge, nothing_known, learned, is_drawn, with_drawn}
+use Rattle.rbd_machine.specs.Label.{Label}
+use Rattle.rbd_machine.specs.Lawful.{IsLawful}
+use Rattle.rbd_machine.specs.Permits.{MayMake, MayTake, MayRemove}
+use Rattle.rbd_machine.specs.Plan.{Plan, Return}
+use Rattle.rbd_machine.specs.Steps.{applied, non_primary}
+use Rattle.rbd_machine.proofs.Lawful.{at_itself, or_else_none, owning_known, own_is_found, lawful_not_there, lawful_on_id, lawful_on_header, lawful_on_done, lawful_change}
+use Rattle.rbd_admin.specs.Create.{IsCreate, on_drawn, making, drawing}
+use Rattle.rbd_admin.specs.Listing.{on_names, showing, show_header, shown_snaps, listing_plan}
+use Rattle.rbd_admin.specs.Snap.{on_snap, taking, take, remove_listed, remove, is_unprotected, removal_refusal, create_refuses, remove_refuses, snap_plan}
+
+-- ---- snapshots by name and by id
+
+named_first : (u : SnapView) (snaps : List SnapView) (name : List ℕ) (s : SnapView)
+    → (snap_named snaps name ≡ Some s → (u.id < s.id) × (snap_in snaps s.id ≡ Some s))
+    → snap_named (u ∷ snaps) name ≡ Some s → (u.id ≤ s.id) × (snap_in (u ∷ snaps) s.id ≡ Some s)
+named_first u snaps name s later is = go (pointwise nat_eq u.name name) is
+  where
+    itself : ((eqb u.id u.id ≡ true) × (u.id ≡ u.id)) ⊎ ((eqb u.id u.id ≡ false) × (u.id ≢ u.id)) → snap_in (u ∷ snaps) u.id ≡ Some u
+    itself (inl same) = ap (λ b. cond b (Some u) (snap_in snaps u.id)) same.0
+    itself (inr other) = absurd (other.1 refl)
+
+    behind : (u.id < s.id) × (snap_in snaps s.id ≡ Some s) → ((eqb u.id s.id ≡ true) × (u.id ≡ s.id)) ⊎ ((eqb u.id s.id ≡ false) × (u.id ≢ s.id)) → (u.id ≤ s.id) × (snap_in (u ∷ snaps) s.id ≡ Some s)
+    behind (less, there) (inl same) = let e = same.1 in absurd (omega (arith, less, e))
+    behind (less, there) (inr other) = (omega (arith, less), ap (λ b. cond b (Some u) (snap_in snaps s.id)) other.0 ∙ there)
+
+    go : (b : Bool) → cond b (Some u) (snap_named snaps name) ≡ Some s → (u.id ≤ s.id) × (snap_in (u ∷ snaps) s.id ≡ Some s)
+    go true this = let same : u ≡ s = cc in subst (λ (t : SnapView). (u.id ≤ t.id) × (snap_in (u ∷ snaps) t.id ≡ Some t)) same (let le : u.id ≤ u.id = omega arith in le, itself (eqb_tells u.id u.id))
+    go false rest = behind (later rest) (eqb_tells u.id s.id)
+
+named_above : (snaps : List SnapView) (below most : ℕ) (name : List ℕ) (s : SnapView) → RiseFrom below most snaps → snap_named snaps name ≡ Some s → (below < s.id) × (snap_in snaps s.id ≡ Some s)
+named_above [] below most name s rise is = cc
+named_above (u ∷ snaps) below most name s (above, rise) is =
+    let first = named_first u snaps name s (named_above snaps u.id most name s rise) is in
+    (let le = first.0 in omega (arith, above, le), first.1)
+
+-- the snapshot of a name is the one of its id
+named_by_id : (snaps : List SnapView) (most : ℕ) (name : List ℕ) (s : SnapView) → AreRising most snaps → snap_named snaps name ≡ Some s → snap_in snaps s.id ≡ Some s
+named_by_id [] most name s rise is = cc
+named_by_id (u ∷ snaps) most name s rise is = (named_first u snaps name s (named_above snaps u.id most name s rise) is).1
+
+-- ---- refusals that don't hold
+
+unlisted : (o : Option SnapView) (full : Bool) → cond (is_some o) (Some refusal.SnapExists) (cond full (Some refusal.BadShape) None) ≡ None → (o ≡ None) × (full ≡ false)
+unlisted None false none = (refl, refl)
+unlisted None true none = cc
+unlisted (Some s) full none = cc
+
+may_take : (snap : List ℕ) (h : HeaderView) → create_refuses snap h ≡ None → MayTake snap h
+may_take snap h none =
+    let are = unlisted (snap_named h.snaps snap) (is_full h) (or_else_none (non_primary h.role) _ none) in
+    record { unlisted = are.0; has_room = are.1 }
+
+unprotected : (s : SnapStatus) → cond (is_unprotected s) None (Some refusal.SnapProtected) ≡ None → s ≡ status.Unprotected
+unprotected status.Unprotected none = refl
+unprotected status.Unprotecting none = cc
+unprotected status.Protected none = cc
+
+-- ---- create
+
+new_in_form : (layout : Layout) (size : ℕ) → KeepsLimits layout size → IsNewHeader (new_header layout size)
+new_in_form layout size keeps = record {
+  form = record {
+    layout = keeps.is_layout;
+    objects = keeps.objects;
+    born = keeps.objects;
+    overlap = tt;
+    snaps = λ k s there. cc;
+    few = omega arith;
+    rising = tt;
+    depth = omega arith;
+  };
+  generation = refl;
+  seq = refl;
+  snaps = refl;
+  owner = refl;
+}
+
+module _ (at : Label → Knowledge) where
+  lawful_on_drawn : (known : Answer → Knowledge) (next : ℕ → Plan) → ((image : ℕ) → IsLawful at (known (answer.Id image)) (next image)) → (a : Answer) → IsLawful at (known a) (on_drawn next a)
+  lawful_on_drawn known next lawful (answer.Id image) = lawful image
+  lawful_on_drawn known next lawful answer.Exists = tt
+  lawful_on_drawn known next lawful answer.Full = tt
+  lawful_on_drawn known next lawful a = lawful_not_there at (known a) a
+
+  lawful_making : (site : SiteId) (layout : Layout) (size : ℕ) → KeepsLimits layout size → (image : ℕ) → IsLawful at (with_drawn site image nothing_known) (making site (new_header layout size) image)
+  lawful_making site layout size keeps image = (
+    record {
+      drawn = ap (λ b. cond b true false) (at_itself site image);
+      new = new_in_form layout size keeps;
+      no_parent = refl;
+      no_journal = refl;
+    },
+    λ a can. lawful_on_done at (learned (with_drawn site image nothing_known) site (op.Header image (header.Create (new_header layout size)))) (Return reply.Done) tt a,
+  )
+
+  lawful_drawing : (site : SiteId) (name : List ℕ) (layout : Layout) (size : ℕ) → KeepsLimits layout size → IsLawful at nothing_known (drawing site name (new_header layout size))
+  lawful_drawing site name layout size keeps =
+      (tt, λ a can. lawful_on_drawn (learned nothing_known site (op.Directory (directory.Add name))) (making site (new_header layout size)) (lawful_making site layout size keeps) a)
+
+  pub lawful_within : (site : SiteId) (name : List ℕ) (size : ℕ) (shape : Shape) (plan : Plan) → IsCreate site name size shape plan → KeepsLimits (layout_of shape) size → IsLawful at nothing_known plan
+  lawful_within site name size shape plan is keeps = subst (IsLawful at nothing_known) (sym (is.within keeps)) (lawful_drawing site name (layout_of shape) size keeps)
+
+  pub lawful_outside : (site : SiteId) (name : List ℕ) (size : ℕ) (shape : Shape) (plan : Plan) → IsCreate site name size shape plan → (KeepsLimits (layout_of shape) size → ⊥) → IsLawful at nothing_known plan
+  lawful_outside site name size shape plan is passes = subst (IsLawful at nothing_known) (sym (is.outside passes)) tt
+
+  -- ---- ls, info, snap ls
+
+  lawful_on_names : (k : Knowledge) (next : List (List ℕ) → Plan) → ((names : List (List ℕ)) → IsLawful at k (next names)) → (a : Answer) → IsLawful at k (on_names next a)
+  lawful_on_names k next lawful (answer.Names names) = lawful names
+  lawful_on_names k next lawful a = lawful_not_there at k a
+
+  lawful_show_header : (site : SiteId) (name : List ℕ) (shown : HeaderView → Reply) → IsLawful at nothing_known (show_header site name shown)
+  lawful_show_header site name shown = (
+    tt,
+    λ found can. lawful_on_id at (learned nothing_known site (op.Directory (directory.Find name))) (showing site shown) (λ image.
+        (tt, lawful_on_header at site image (learned nothing_known site (op.Header image header.Get)) (λ h. Return (shown h)) (λ h form. tt))) found,
+  )
+
+  pub lawful_listing : (site : SiteId) (c : Command) → IsLawful at nothing_known (listing_plan site c)
+  lawful_listing site command.List = (tt, λ a can. lawful_on_names nothing_known _ (λ names. tt) a)
+  lawful_listing site (command.Info image) = lawful_show_header site image reply.Info
+  lawful_listing site (command.SnapList image) = lawful_show_header site image shown_snaps
+  lawful_listing site _ = tt
+
+  -- ---- snap create, snap rm
+
+  lawful_on_snap : (known : Answer → Knowledge) (site : SiteId) (image : ℕ) (a : Answer) → IsLawful at (known a) (on_snap (applied site image) a)
+  lawful_on_snap known site image (answer.Snap snap) = tt
+  lawful_on_snap known site image a = lawful_not_there at (known a) a
+
+  lawful_take : (site : SiteId) (snap : List ℕ) (image : ℕ) (h : HeaderView) → create_refuses snap h ≡ None → IsLawful at (owning_known true None site image h) (take site snap image h)
+  lawful_take site snap image h may = (
+    record { alone = true; header = h; is = own_is_found true None site image h; meets = (refl, may_take snap h may) },
+    λ a can. lawful_on_snap (learned (owning_known true None site image h) site (op.Header image (header.SnapAdd snap))) site image a,
+  )
+
+  lawful_remove_listed : (site : SiteId) (snap : List ℕ) (image : ℕ) (h : HeaderView) → IsHeaderInForm h → (listed : Option SnapView)
+      → snap_named h.snaps snap ≡ listed → removal_refusal listed ≡ None → IsLawful at (owning_known true None site image h) (remove_listed site snap image listed)
+  lawful_remove_listed site snap image h form None is may = tt
+  lawful_remove_listed site snap image h form (Some listed) is may = (
+    record {
+      alone = true;
+      header = h;
+      is = own_is_found true None site image h;
+      meets = (refl, record { view = listed; listed = named_by_id h.snaps h.snap_seq snap listed form.rising is; unprotected = unprotected listed.status may });
+    },
+    λ a can. lawful_on_done at (learned (owning_known true None site image h) site (op.Header image (header.SnapRemove listed.id))) (applied site image) tt a,
+  )
+
+  pub lawful_snap : (site : SiteId) (c : Command) → IsLawful at nothing_known (snap_plan site c)
+  lawful_snap site (command.SnapCreate image snap) =
+      lawful_change at site image true (create_refuses snap) (take site snap) (λ i h form may. lawful_take site snap i h may)
+  lawful_snap site (command.SnapRemove image snap) =
+      lawful_change at site image true (remove_refuses snap) (remove site snap) (λ i h form may.
+      lawful_remove_listed site snap i h form (snap_named h.snaps snap) refl (or_else_none (non_primary h.role) _ may))
+  lawful_snap site _ = tt

@@ -1,0 +1,117 @@
+-- Plans that are lawful, step by step.
+use Rattle.std.proofs.Common.{◌≡◌, ◌≢◌, ◌⊎◌, inl, inr, ℕ, List, [], ◌∷◌, Bool, true, false, cond, eqb, Option, Some, None, refl, ap, ◌∙◌, subst, sym}
+use Rattle.std.specs.Prelude.{◌&&◌, unwrap_or}
+use Rattle.std.proofs.lemmas.Bool.Decides.{eqb_tells}
+use Rattle.rbd_kinds.specs.declared.answer.Answer.{Answer}
+use Rattle.rbd_kinds.specs.declared.answer.Answer.TheVariants as answer
+use Rattle.rbd_kinds.specs.declared.directory_op.DirectoryOp.TheVariants as directory
+use Rattle.rbd_kinds.specs.declared.header.HeaderView.{HeaderView}
+use Rattle.rbd_kinds.specs.declared.header.SnapView.{SnapView}
+use Rattle.rbd_kinds.specs.declared.header_op.HeaderOp.TheVariants as header
+use Rattle.rbd_kinds.specs.declared.id.SiteId.{SiteId}
+use Rattle.rbd_kinds.specs.declared.id.SiteId.TheVariants as site
+use Rattle.rbd_kinds.specs.declared.operation.Op.TheVariants as op
+use Rattle.rbd_kinds.specs.declared.refusal.Refusal.{Refusal}
+use Rattle.rbd_kinds.specs.Form.{IsHeaderInForm}
+use Rattle.rbd_machine.specs.Answers.{CanGive}
+use Rattle.rbd_machine.specs.Knowledge.{Knowledge, Place, Own, nothing_known, same_site, is_at, own_of, is_drawn, learned, passed, with_header}
+use Rattle.rbd_machine.specs.Label.{Label}
+use Rattle.rbd_machine.specs.Lawful.{IsLawful}
+use Rattle.rbd_machine.specs.Permits.{OwnsBy}
+use Rattle.rbd_machine.specs.Plan.{Plan}
+use Rattle.rbd_machine.specs.Steps.{or_else, unless, not_there, on_id, on_header, on_done, change, looked, looking, holding, owning, owned, joining}
+use Rattle.rbd_machine.specs.Wait as wait
+
+-- ---- places
+
+pub same_site_itself : (s : SiteId) → same_site s s ≡ true
+same_site_itself site.A = refl
+same_site_itself site.B = refl
+
+pub at_itself : (s : SiteId) (image : ℕ) → is_at s image s image ≡ true
+at_itself s image = rw (same_site_itself s) (go (eqb_tells image image))
+  where
+    go : ((eqb image image ≡ true) × (image ≡ image)) ⊎ ((eqb image image ≡ false) × (image ≢ image)) → eqb image image ≡ true
+    go (inl same) = same.0
+    go (inr other) = absurd (other.1 refl)
+
+-- ---- a change at its own look: it owns its image, by the header that this look told
+
+abbrev pub own_at : (alone : Bool) → SiteId → (image : ℕ) → HeaderView → Own
+own_at alone s image h = record { site = s; image = image; alone = alone; header = Some h }
+
+abbrev pub owning_known : (alone : Bool) → (turn : Option ℕ) → SiteId → (image : ℕ) → HeaderView → Knowledge
+owning_known alone turn s image h = record { alone = alone; owns = own_at alone s image h ∷ []; turn = turn; drawn = [] }
+
+abbrev pub holding_known : (alone : Bool) → SiteId → (image : ℕ) → Knowledge
+holding_known alone s image = record { alone = alone; owns = record { site = s; image = image; alone = alone; header = None } ∷ []; turn = None; drawn = [] }
+
+own_told : (alone : Bool) (s : SiteId) (image : ℕ) (h : HeaderView) → owning_known alone None s image h ≡ learned (holding_known alone s image) s (op.Header image header.Get) (answer.Header h)
+own_told alone s image h =
+    ap (λ b. record { alone = alone; owns = cond b (own_at alone s image h) (record { site = s; image = image; alone = alone; header = None }) ∷ []; turn = None; drawn = [] }) (sym (at_itself s image))
+
+pub own_is_found : (alone : Bool) (turn : Option ℕ) (s : SiteId) (image : ℕ) (h : HeaderView)
+    → own_of (owning_known alone turn s image h).owns s image ≡ Some (own_at alone s image h)
+own_is_found alone turn s image h = ap (λ b. cond b (Some (own_at alone s image h)) None) (at_itself s image)
+
+-- where neither refusal holds, the second doesn't
+pub or_else_none : (r later : Option Refusal) → or_else r later ≡ None → later ≡ None
+or_else_none None later none = none
+or_else_none (Some r) later none = cc
+
+-- ---- steps
+
+module _ (at : Label → Knowledge) where
+  pub lawful_not_there : (k : Knowledge) (a : Answer) → IsLawful at k (not_there a)
+  lawful_not_there k answer.Fenced = tt
+  lawful_not_there k _ = tt
+
+  pub lawful_on_id : (known : Answer → Knowledge) (next : ℕ → Plan) → ((image : ℕ) → IsLawful at (known (answer.Id image)) (next image)) → (a : Answer) → IsLawful at (known a) (on_id next a)
+  lawful_on_id known next lawful (answer.Id image) = lawful image
+  lawful_on_id known next lawful a = lawful_not_there (known a) a
+
+  pub lawful_on_header : (s : SiteId) (image : ℕ) (known : Answer → Knowledge) (next : HeaderView → Plan)
+      → ((h : HeaderView) → IsHeaderInForm h → IsLawful at (known (answer.Header h)) (next h))
+      → (a : Answer) → CanGive (op.Header image header.Get) a → IsLawful at (known a) (on_header next a)
+  lawful_on_header s image known next lawful (answer.Header h) can = lawful h can.form
+  lawful_on_header s image known next lawful a can = lawful_not_there (known a) a
+
+  pub lawful_on_done : (known : Answer → Knowledge) (next : Plan) → IsLawful at (known answer.Done) next → (a : Answer) → IsLawful at (known a) (on_done next a)
+  lawful_on_done known next lawful answer.Done = lawful
+  lawful_on_done known next lawful a = lawful_not_there (known a) a
+
+  pub lawful_unless : (k : Knowledge) (r : Option Refusal) (next : Plan) → (r ≡ None → IsLawful at k next) → IsLawful at k (unless r next)
+  lawful_unless k None next lawful = lawful refl
+  lawful_unless k (Some r) next lawful = tt
+
+  pub lawful_change : (s : SiteId) (name : List ℕ) (alone : Bool) (refuses : HeaderView → Option Refusal) (act : ℕ → HeaderView → Plan)
+      → ((image : ℕ) (h : HeaderView) → IsHeaderInForm h → refuses h ≡ None → IsLawful at (owning_known alone None s image h) (act image h))
+      → IsLawful at nothing_known (change s name alone refuses act)
+  lawful_change s name alone refuses act acts = (
+    tt,
+    λ found can.
+        lawful_on_id (learned nothing_known s (op.Directory (directory.Find name))) (joining s alone refuses act) (λ image. (
+          tt,
+          lawful_on_header s image (learned (passed nothing_known (wait.Join s image alone)) s (op.Header image header.Get)) (looked s refuses act image) (λ h form.
+              lawful_unless (record { alone = alone; owns = []; turn = None; drawn = [] }) (refuses h) (holding s refuses act image) (λ may_wait. (
+                tt,
+                lawful_on_header s image (learned (holding_known alone s image) s (op.Header image header.Get)) (owned refuses act image) (λ own form.
+                    lawful_unless (learned (holding_known alone s image) s (op.Header image header.Get) (answer.Header own)) (refuses own) (act image own) (λ may.
+                    subst (λ k. IsLawful at k (act image own)) (own_told alone s image own) (acts image own form may))),
+              ))),
+        )) found,
+  )
+
+-- ---- what isn't owned
+
+pub not_owned : (k : Knowledge) (s : SiteId) (image : ℕ) (condition : (alone : Bool) → HeaderView → Type 0) → own_of k.owns s image ≡ None → OwnsBy k s image condition → ⊥
+not_owned k s image condition none owns = let is = owns.is in cc
+
+-- what is owned is owned by one header
+abbrev pub header_of : Option Own → HeaderView → HeaderView
+header_of None other = other
+header_of (Some o) other = unwrap_or o.header other
+
+pub one_header : (k : Knowledge) (s : SiteId) (image : ℕ) (alone : Bool) (h : HeaderView) (condition : (alone : Bool) → HeaderView → Type 0)
+    → own_of k.owns s image ≡ Some (own_at alone s image h) → (owns : OwnsBy k s image condition) → owns.header ≡ h
+one_header k s image alone h condition is owns = ap (λ o. header_of o h) (sym owns.is ∙ is)

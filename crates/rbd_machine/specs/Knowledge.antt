@@ -1,0 +1,115 @@
+-- What a request knows: what its operations were answered, and what it waited for. It names no site's state.
+use Rattle.std.specs.Prelude.{ℕ, ◌==◌, ◌&&◌, Bool, true, false, not, if◌then◌else◌, List, [], ◌∷◌, map, filter, Option, Some, None, option_map}
+use Rattle.rbd_kinds.specs.declared.answer.Answer.{Answer}
+use Rattle.rbd_kinds.specs.declared.answer.Answer.TheVariants as answer
+use Rattle.rbd_kinds.specs.declared.directory_op.DirectoryOp.{DirectoryOp}
+use Rattle.rbd_kinds.specs.declared.directory_op.DirectoryOp.TheVariants as directory
+use Rattle.rbd_kinds.specs.declared.header.HeaderView.{HeaderView}
+use Rattle.rbd_kinds.specs.declared.header_op.HeaderOp.{HeaderOp}
+use Rattle.rbd_kinds.specs.declared.header_op.HeaderOp.TheVariants as header
+use Rattle.rbd_kinds.specs.declared.id.SiteId.{SiteId}
+use Rattle.rbd_kinds.specs.declared.id.SiteId.TheVariants as site
+use Rattle.rbd_kinds.specs.declared.operation.Op.{Op}
+use Rattle.rbd_kinds.specs.declared.operation.Op.TheVariants as op
+use Rattle.rbd_header.specs.Header.{with_snap, without_snap}
+use Rattle.rbd_machine.specs.Wait.{Wait}
+use Rattle.rbd_machine.specs.Wait as wait
+
+-- an image at a site
+pub record Place : Type 0 where
+  pub site : SiteId
+  pub image : ℕ
+
+-- An image whose lock it waited for, whether it is alone on it, and its header: what the first look behind told, with
+-- its own changes since.
+pub record Own : Type 0 where
+  pub site : SiteId
+  pub image : ℕ
+  pub alone : Bool
+  pub header : Option HeaderView
+
+pub record Knowledge : Type 0 where
+  -- whether it joined its line alone
+  pub alone : Bool
+  pub owns : List Own
+  -- the object at which it has its turn
+  pub turn : Option ℕ
+  -- ids that it drew, and made no header of yet
+  pub drawn : List Place
+
+abbrev pub nothing_known : Knowledge
+nothing_known = record { alone = false; owns = []; turn = None; drawn = [] }
+
+-- ---- where
+
+abbrev pub same_site : SiteId → SiteId → Bool
+same_site site.A site.A = true
+same_site site.B site.B = true
+same_site _ _ = false
+
+abbrev pub is_at : SiteId → (image : ℕ) → SiteId → (other : ℕ) → Bool
+is_at site image there other = same_site there site && (other == image)
+
+abbrev pub own_of : List Own → SiteId → (image : ℕ) → Option Own
+own_of [] site image = None
+own_of (o ∷ owns) site image = if is_at site image o.site o.image then Some o else own_of owns site image
+
+abbrev pub is_drawn : List Place → SiteId → (image : ℕ) → Bool
+is_drawn [] site image = false
+is_drawn (d ∷ drawn) site image = if is_at site image d.site d.image then true else is_drawn drawn site image
+
+-- ---- what an answer teaches
+
+-- The first look behind the lock tells the header. Later ones tell nothing new.
+abbrev pub first_told : HeaderView → Option HeaderView → Option HeaderView
+first_told h None = Some h
+first_told h (Some own) = Some own
+
+abbrev pub with_header : (Option HeaderView → Option HeaderView) → Own → Own
+with_header change o = record { site = o.site; image = o.image; alone = o.alone; header = change o.header }
+
+abbrev pub told_of : SiteId → (image : ℕ) → (Option HeaderView → Option HeaderView) → Own → Own
+told_of site image change o = if is_at site image o.site o.image then with_header change o else o
+
+abbrev pub header_told : SiteId → (image : ℕ) → (Option HeaderView → Option HeaderView) → Knowledge → Knowledge
+header_told site image change k = record { alone = k.alone; owns = map (told_of site image change) k.owns; turn = k.turn; drawn = k.drawn }
+
+abbrev pub without_drawn : SiteId → (image : ℕ) → Knowledge → Knowledge
+without_drawn site image k = record { alone = k.alone; owns = k.owns; turn = k.turn; drawn = filter (λ d. not (is_at site image d.site d.image)) k.drawn }
+
+abbrev pub with_drawn : SiteId → (image : ℕ) → Knowledge → Knowledge
+with_drawn site image k = record { alone = k.alone; owns = k.owns; turn = k.turn; drawn = record { site = site; image = image } ∷ k.drawn }
+
+abbrev pub learned_of_directory : Knowledge → SiteId → DirectoryOp → Answer → Knowledge
+learned_of_directory k site (directory.Add name) (answer.Id image) = with_drawn site image k
+learned_of_directory k site _ _ = k
+
+abbrev pub learned_of_header : Knowledge → SiteId → (image : ℕ) → HeaderOp → Answer → Knowledge
+learned_of_header k site image header.Get (answer.Header h) = header_told site image (first_told h) k
+learned_of_header k site image (header.Create view) answer.Done = without_drawn site image k
+learned_of_header k site image (header.SnapAdd name) (answer.Snap snap) = header_told site image (option_map (with_snap name)) k
+learned_of_header k site image (header.SnapRemove snap) answer.Done = header_told site image (option_map (without_snap snap)) k
+learned_of_header k site image _ _ = k
+
+-- what is known after an operation and its answer
+abbrev pub learned : Knowledge → SiteId → Op → Answer → Knowledge
+learned k site (op.Directory o) a = learned_of_directory k site o a
+learned k site (op.Header image o) a = learned_of_header k site image o a
+learned k site _ a = k
+
+-- ---- what a wait teaches
+
+abbrev pub left : SiteId → (image : ℕ) → List Own → List Own
+left site image owns = filter (λ o. not (is_at site image o.site o.image)) owns
+
+-- What it knew of the image before it has the lock is forgotten.
+abbrev pub held : Knowledge → SiteId → (image : ℕ) → List Own
+held k site image = record { site = site; image = image; alone = k.alone; header = None } ∷ left site image k.owns
+
+-- What is known once it may go on. A turn lasts up to the next, or up to the end of its event.
+abbrev pub passed : Knowledge → Wait → Knowledge
+passed k (wait.Join site image alone) = record { alone = alone; owns = k.owns; turn = k.turn; drawn = k.drawn }
+passed k (wait.Hold site image) = record { alone = k.alone; owns = held k site image; turn = k.turn; drawn = k.drawn }
+passed k (wait.Turn object) = record { alone = k.alone; owns = k.owns; turn = Some object; drawn = k.drawn }
+passed k (wait.Applied site image) = record { alone = k.alone; owns = k.owns; turn = None; drawn = k.drawn }
+passed k (wait.Leave site image) = record { alone = k.alone; owns = left site image k.owns; turn = k.turn; drawn = k.drawn }

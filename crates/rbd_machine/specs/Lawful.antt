@@ -1,0 +1,23 @@
+-- Requests that do only what they may by what they know.
+use Rattle.std.specs.Prelude.{◌≡◌}
+use Rattle.rbd_kinds.specs.declared.answer.Answer.{Answer}
+use Rattle.rbd_machine.specs.Answers.{CanGive}
+use Rattle.rbd_machine.specs.Knowledge.{Knowledge, nothing_known, learned, passed}
+use Rattle.rbd_machine.specs.Label.{Label}
+use Rattle.rbd_machine.specs.Permits.{Permits}
+use Rattle.rbd_machine.specs.Plan.{Plan, Ask, Await, Note, Return, Goto, Standing}
+
+-- Each operation is permitted by what is known there, whatever those before it were answered of what they can give.
+-- A label is gone to with what is known at it.
+abbrev pub IsLawful : (at : Label → Knowledge) → Knowledge → Plan → Type 0
+IsLawful at k (Ask site why op next) = Permits k site op × ((answer : Answer) → CanGive op answer → IsLawful at (learned k site op answer) (next answer))
+IsLawful at k (Await wait next) = IsLawful at (passed k wait) next
+IsLawful at k (Note site image event next) = IsLawful at k next
+IsLawful at k (Return reply) = Unit {0}
+IsLawful at k (Goto label) = k ≡ at label
+
+-- A request begins with nothing known, and is lawful from there and from each of its labels.
+pub record IsLawfulRequest (standing : Standing) : Type 0 where
+  pub known_at : Label → Knowledge
+  pub plan : IsLawful known_at nothing_known standing.plan
+  pub labels : (label : Label) → IsLawful known_at (known_at label) (standing.labels label)

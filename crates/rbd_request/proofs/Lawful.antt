@@ -1,0 +1,131 @@
+-- The plans do what they may.
+use Rattle.std.proofs.Common.{◌≡◌, ℕ, ◌+◌, ◌-◌, ◌≤◌, List, [], ◌∷◌, length, map, get_or, replicate, All, Bool, true, false, cond, eqb, Option, Some, None, refl, ap, sym, subst, ◌∙◌, arith}
+use Rattle.std.proofs.lemmas.List.{length-append}
+use Rattle.std.proofs.lemmas.List.Elements.{All-head, All-tail}
+use Rattle.rbd_kinds.specs.declared.answer.Answer.{Answer}
+use Rattle.rbd_kinds.specs.declared.answer.Answer.TheVariants as answer
+use Rattle.rbd_kinds.specs.declared.command.Command.{Command}
+use Rattle.rbd_kinds.specs.declared.command.Command.TheVariants as command
+use Rattle.rbd_kinds.specs.declared.directory_op.DirectoryOp.TheVariants as directory
+use Rattle.rbd_kinds.specs.declared.header.HeaderView.{HeaderView}
+use Rattle.rbd_kinds.specs.declared.header_op.HeaderOp.TheVariants as header
+use Rattle.rbd_kinds.specs.declared.id.SiteId.{SiteId}
+use Rattle.rbd_kinds.specs.declared.layout.Extent.{Extent}
+use Rattle.rbd_kinds.specs.declared.layout.Part.{Part}
+use Rattle.rbd_kinds.specs.declared.operation.Op.TheVariants as op
+use Rattle.rbd_kinds.specs.declared.reply.Reply.TheVariants as reply
+use Rattle.rbd_kinds.specs.Form.{IsHeaderInForm}
+use Rattle.rbd_kinds.specs.Parts.{parts_len}
+use Rattle.rbd_layout.specs.Pieces.{pieces_of}
+use Rattle.rbd_layout.specs.declared.types.Piece.{Piece}
+use Rattle.rbd_layout.proofs.Listed.{pieces_listed}
+use Rattle.rbd_layout.proofs.Within.{lies_in}
+use Rattle.rbd_object.specs.Contents.{window}
+use Rattle.rbd_object.specs.Parts.{bytes_for, parts_of, shifted}
+use Rattle.rbd_object.proofs.ContentsLemmas.{length-window}
+use Rattle.rbd_header.specs.Header.{view_of}
+use Rattle.rbd_header.specs.declared.view.View.{View}
+use Rattle.rbd_machine.specs.Knowledge.{Knowledge, nothing_known, learned}
+use Rattle.rbd_machine.specs.Label.{Label}
+use Rattle.rbd_machine.specs.Label as label
+use Rattle.rbd_machine.specs.Lawful.{IsLawful, IsLawfulRequest}
+use Rattle.rbd_machine.specs.Permits.{LiesBelow}
+use Rattle.rbd_machine.specs.Plan.{Return, Goto, Standing}
+use Rattle.rbd_machine.specs.Steps.{applied, non_primary}
+use Rattle.rbd_machine.proofs.Lawful.{owning_known, own_is_found, or_else_none, lawful_not_there, lawful_on_id, lawful_on_header, lawful_unless, lawful_change}
+use Rattle.rbd_piece.proofs.Lawful.{lawful_write, lawful_gather}
+use Rattle.rbd_request.specs.Read.{IsReadOf, pass, looking, reading, viewing, gathering, closing, on_closing}
+use Rattle.rbd_request.specs.Seen.{Seen, seen_at, shown}
+use Rattle.rbd_request.specs.Write.{extent_at, out_of_range, put, write, write_pieces, write_plan, write_refuses}
+use Rattle.rbd_request.proofs.Writes.{within_size}
+
+-- ---- the pieces of a write
+
+-- as many bytes as the parts have
+long_enough : (parts : List Part) (from : ℕ) (bytes : List ℕ) → length (bytes_for parts from bytes) ≡ parts_len parts
+long_enough [] from bytes = refl
+long_enough (p ∷ parts) from bytes =
+    length-append (window bytes (p.at - from) p.len) (parts_of (map (shifted from) parts) bytes)
+    ∙ ap (λ n. n + length (parts_of (map (shifted from) parts) bytes)) (length-window bytes (p.at - from) p.len)
+    ∙ ap (λ n. p.len + n) (long_enough parts from bytes)
+
+-- the parts lie in their objects, and end within the size
+abbrev LieBelow : HeaderView → Piece → Type 0
+LieBelow h p = All (LiesBelow h p.object) p.parts
+
+pieces_below : (h : HeaderView) (e : Extent) → IsHeaderInForm h → out_of_range e h.size ≡ None → All (LieBelow h) (pieces_of h.layout e)
+pieces_below h e form fits =
+    let are = pieces_listed h.layout form.layout e in
+    let ends : e.at + e.len ≤ h.size = within_size e h.size fits in
+    λ k d below k' d' below'.
+    let p = get_or (pieces_of h.layout e) k d in
+    let lies = (lies_in h.layout e p.object p.parts (are.parts k d below) k' d' below').before in
+    record {
+      part = (are.parts k d below).each k' d' below';
+      below = (let last : (get_or p.parts k' d').at + (get_or p.parts k' d').len ≤ e.at + e.len = lies in omega (arith, last, ends));
+    }
+
+module _ (known_at : Label → Knowledge) where
+  lawful_pieces : (pieces : List Piece) (site : SiteId) (image : ℕ) (h : HeaderView) (at : ℕ) (bytes : List ℕ) (turn : Option ℕ) → All (LieBelow h) pieces
+      → IsLawful known_at (owning_known false turn site image h) (write_pieces site image h at bytes pieces (applied site image))
+  lawful_pieces [] site image h at bytes turn below = tt
+  lawful_pieces (p ∷ pieces) site image h at bytes turn below =
+      lawful_write known_at (owning_known false (Some p.object) site image h) site image h p (bytes_for p.parts at bytes) (write_pieces site image h at bytes pieces (applied site image))
+      (record {
+        alone = false;
+        header = h;
+        is = own_is_found false (Some p.object) site image h;
+        meets = record { under = refl; within = All-head (LieBelow h) p pieces below; long = long_enough p.parts at bytes; at_turn = refl };
+      })
+      (lawful_pieces pieces site image h at bytes (Some p.object) (All-tail (LieBelow h) p pieces below))
+
+  lawful_write_request : (site : SiteId) (name : List ℕ) (at : ℕ) (bytes : List ℕ) → IsLawful known_at nothing_known (write site name at bytes)
+  lawful_write_request site name at bytes =
+      lawful_change known_at site name false (write_refuses (extent_at at bytes)) (put site at bytes) (λ image h form may.
+      lawful_pieces (pieces_of h.layout (extent_at at bytes)) site image h at bytes None
+      (pieces_below h (extent_at at bytes) form (or_else_none (non_primary h.role) (out_of_range (extent_at at bytes) h.size) may)))
+
+  pub lawful_write_plan : (site : SiteId) (c : Command) → IsLawful known_at nothing_known (write_plan site c)
+  lawful_write_plan site (command.Write image at bytes) = lawful_write_request site image at bytes
+  lawful_write_plan site (command.Fill image at len byte) = lawful_write_request site image at (replicate len byte)
+  lawful_write_plan site _ = tt
+
+-- ---- reads: where they begin again nothing is known
+
+abbrev pub nothing_at : Label → Knowledge
+nothing_at label = nothing_known
+
+lawful_closing : (site : SiteId) (image : ℕ) (seen : Seen) (read : List ℕ) (a : Answer) → IsLawful nothing_at (learned nothing_known site (op.Header image header.Get) a) (on_closing seen read a)
+lawful_closing site image seen read (answer.Header h) = go (eqb h.generation seen.generation)
+  where
+    go : (b : Bool) → IsLawful nothing_at nothing_known (cond b (Return (reply.Bytes (shown seen read))) (Goto label.Begin))
+    go true = tt
+    go false = refl
+lawful_closing site image seen read answer.Absent = refl
+lawful_closing site image seen read a = lawful_not_there nothing_at (learned nothing_known site (op.Header image header.Get) a) a
+
+lawful_viewing : (site : SiteId) (image : ℕ) (h : HeaderView) (e : Extent) (view : Option View) → IsLawful nothing_at nothing_known (viewing site image h e view)
+lawful_viewing site image h e None = tt
+lawful_viewing site image h e (Some view) =
+    lawful_unless nothing_at nothing_known (out_of_range e view.size) (gathering site image h e view) (λ fits.
+    lawful_gather nothing_at nothing_known (pieces_of h.layout e) site image view.snap [] (closing site image (seen_at h e)) (λ read.
+    (tt, λ a can. lawful_closing site image (seen_at h e) read a)))
+
+pub lawful_pass : (site : SiteId) (name : List ℕ) (snap : Option (List ℕ)) (e : Extent) → IsLawful nothing_at nothing_known (pass site name snap e)
+lawful_pass site name snap e = (
+  tt,
+  λ found can. lawful_on_id nothing_at (learned nothing_known site (op.Directory (directory.Find name))) (looking site snap e) (λ image. (
+    tt,
+    lawful_on_header nothing_at site image (learned nothing_known site (op.Header image header.Get)) (reading site snap e image) (λ h form.
+        lawful_viewing site image h e (view_of h snap)),
+  )) found,
+)
+
+pub lawful_read : (site : SiteId) (c : Command) (standing : Standing) → IsReadOf site c standing → IsLawfulRequest standing
+lawful_read site (command.Read image snap at len) standing is =
+    subst IsLawfulRequest (sym is) (record {
+      known_at = nothing_at;
+      plan = lawful_pass site image snap (record { at = at; len = len });
+      labels = λ label. lawful_pass site image snap (record { at = at; len = len });
+    })
+lawful_read site _ standing is = absurd is
