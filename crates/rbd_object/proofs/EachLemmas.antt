@@ -8,8 +8,8 @@ use Rattle.rbd_kinds.specs.Parts.{parts_len}
 use Rattle.rbd_object.specs.Parts.{parts_written, parts_zeroed, AreWithin}
 use Rattle.rbd_object.specs.declared.content.TheConstants.{LARGEST_OBJECT}
 use Rattle.rbd_object.specs.Sheets.{Sheet, in_use}
-use Rattle.rbd_object.specs.Paging.{AreCounted, Moved}
-use Rattle.rbd_object.specs.Shared.{Listed, IsHead, begun, bytes_in, bytes_of, len_of, pages_of, touched, written_touch, zeroed_touch}
+use Rattle.rbd_object.specs.Paging.{Moved}
+use Rattle.rbd_object.specs.Shared.{Listed, IsHead, begun, bytes_of, len_of, pages_of, touched, written_touch, zeroed_touch}
 use Rattle.rbd_object.proofs.ContentsLemmas.{length_overwritten}
 use Rattle.rbd_object.proofs.HeadLemmas.{empty_content}
 use Rattle.rbd_object.proofs.PagingLemmas.{moved_refl, moved_trans}

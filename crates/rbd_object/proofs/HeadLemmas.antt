@@ -1,11 +1,11 @@
 -- Heads that are changed, and kept beforehand.
-use Rattle.std.proofs.Common.{◌≡◌, ◌≢◌, ℕ, ◌+◌, ◌-◌, ◌/◌, ◌%◌, ◌<◌, ◌≤◌, Bool, true, false, cond, eqb, List, [], ◌∷◌, ◌++◌, Option, Some, None, Result, Ok, Err, length, get_or, max, refl, sym, ap, ◌∙◌, subst, inl, inr, arith}
+use Rattle.std.proofs.Common.{◌≡◌, ℕ, ◌+◌, ◌-◌, ◌/◌, ◌%◌, ◌<◌, Bool, true, false, cond, List, [], ◌∷◌, ◌++◌, Option, Some, None, Result, Ok, Err, length, get_or, max, refl, sym, ap, ◌∙◌, subst, inl, inr, arith}
 use Rattle.std.specs.Prelude.{OnErr}
 use Rattle.std.proofs.lemmas.Bool.{cases_lt}
 use Rattle.std.proofs.lemmas.List.FromFn.{fill_by_all}
 use Rattle.rbd_object.specs.Contents.{overwritten, is_within}
-use Rattle.rbd_object.specs.Sheets.{Sheet, count_at, bytes_at}
-use Rattle.rbd_object.specs.Paging.{occurs, bytes_on, byte_at, AreCounted, AreApart, Moved}
+use Rattle.rbd_object.specs.Sheets.{Sheet, bytes_at}
+use Rattle.rbd_object.specs.Paging.{occurs, bytes_on, byte_at, AreCounted, Moved}
 use Rattle.rbd_object.specs.Shared.{Listed, IsContent, IsHead, IsKept, bytes_in, bytes_of, pages_of}
 use Rattle.rbd_object.proofs.PagingLemmas.{bytes_on_within, bytes_on_past, moved_refl, occurs-at}
 use Rattle.rbd_object.proofs.SharedLemmas.{bytes_same, length-bytes_in}

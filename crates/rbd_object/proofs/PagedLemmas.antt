@@ -1,12 +1,11 @@
 -- The object on its pages.
-use Rattle.std.proofs.Common.{◌≡◌, ◌≢◌, ℕ, ◌+◌, ◌-◌, ◌<◌, ◌≤◌, Bool, true, false, cond, not, eqb, ltb, ◌||◌, List, [], ◌∷◌, ◌++◌, Option, Some, None, map, filter, length, get_or, find, max, min, option_to_list, refl, sym, ap, ◌∙◌, subst, inl, inr, arith}
-use Rattle.std.specs.Prelude.{zero, suc, option_map, unwrap_or, IsSome}
+use Rattle.std.proofs.Common.{◌≡◌, ℕ, ◌+◌, ◌<◌, ◌≤◌, Bool, true, false, cond, not, eqb, ltb, ◌||◌, List, [], ◌∷◌, ◌++◌, Option, Some, None, map, filter, length, find, max, min, option_to_list, refl, sym, ap, ◌∙◌, subst, arith}
+use Rattle.std.specs.Prelude.{zero, suc, option_map, unwrap_or}
 use Rattle.std.specs.FinMap.{get, retain_keys}
-use Rattle.std.proofs.lemmas.Bool.{cases_lt}
 use Rattle.rbd_kinds.specs.declared.header.SnapContext.{SnapContext}
 use Rattle.rbd_object.specs.Sheets.{Sheet, count_at, bytes_at, in_use}
-use Rattle.rbd_object.specs.Paging.{occurs, pages_for, AreCounted, AreApart, Moved}
-use Rattle.rbd_object.specs.Shared.{Listed, Stored, AreContents, AreNamed, AreShared, IsContent, IsHead, IsKept, bytes_in, bytes_of, dead_named, dead_pages, is_live, kept_in, len_of, live_stored, live_versions, named, pages_of, view_in}
+use Rattle.rbd_object.specs.Paging.{occurs, pages_for, AreCounted}
+use Rattle.rbd_object.specs.Shared.{Listed, Stored, AreContents, AreNamed, AreShared, IsContent, IsHead, IsKept, bytes_in, bytes_of, dead_named, dead_pages, is_live, kept_in, len_of, live_versions, named, pages_of, view_in}
 use Rattle.rbd_object.specs.Paged.{IsPaged, Paged, paged_of}
 use Rattle.rbd_object.specs.Changes.{takes}
 use Rattle.rbd_object.specs.declared.change.Change.{Change}
@@ -15,7 +14,7 @@ use Rattle.rbd_object.proofs.VersionLemmas.{live_next}
 use Rattle.rbd_object.proofs.KeptLemmas.{get_kept_by, kept_by-live}
 use Rattle.std.specs.List.{list_any}
 use Rattle.rbd_object.specs.Kept.{AreUsed, Kept, is_listed, is_used, keep_each, kept_by, live_part, new_version}
-use Rattle.rbd_object.specs.Versioned.{IsTidy, view}
+use Rattle.rbd_object.specs.Versioned.{view}
 use Rattle.rbd_object.specs.Mapped.{IsSound, Mapped, due_snaps, looked, mapped_change, mapped_copy_up, mapped_trim, value_of}
 use Rattle.rbd_object.proofs.HeadLemmas.{framed, framed_head, occurs-append}
 use Rattle.rbd_object.proofs.SharedLemmas.{length-bytes_in}

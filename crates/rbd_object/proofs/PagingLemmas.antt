@@ -7,9 +7,9 @@ use Rattle.std.proofs.lemmas.List.FromFn.{fill_by_all, length-map-range_with_len
 use Rattle.std.proofs.lemmas.List.Folds.{list_any_at}
 use Rattle.std.specs.List.{list_any}
 use borrow.Rule.Slice.PartMut.{put_mid}
-use Rattle.rbd_object.specs.Sheets.{Sheet, Changed, free_sheet, sheet_at, count_at, bytes_at, in_use, released}
+use Rattle.rbd_object.specs.Sheets.{Sheet, Changed, sheet_at, count_at, bytes_at, in_use, released}
 use Rattle.rbd_object.specs.Contents.{is_within, window}
-use Rattle.rbd_object.specs.Paging.{occurs, bytes_on, byte_at, AreCounted, AreApart, IsReady, IsChanged, IsWritten, IsZeroed, Moved, Prepared}
+use Rattle.rbd_object.specs.Paging.{occurs, bytes_on, byte_at, AreCounted, IsReady, IsChanged, IsWritten, IsZeroed, Moved, Prepared}
 
 -- ---- how often a list names a page
 

@@ -1,14 +1,13 @@
 -- Contents on pages of an arena.
-use Rattle.std.proofs.Common.{◌≡◌, ◌≢◌, ℕ, ◌+◌, ◌-◌, ◌*◌, ◌/◌, ◌%◌, ◌<◌, ◌≤◌, Bool, true, false, cond, eqb, ltb, List, [], ◌∷◌, ◌++◌, length, get_or, take, drop, replicate, map, min, max, length-take, refl, sym, ap, ◌∙◌, subst, inl, inr, arith}
+use Rattle.std.proofs.Common.{◌≡◌, ℕ, ◌+◌, ◌-◌, ◌/◌, ◌%◌, ◌<◌, ◌≤◌, false, cond, List, [], ◌∷◌, length, get_or, take, replicate, min, max, length-take, refl, sym, ap, ◌∙◌, subst, inl, inr, arith}
 use Rattle.std.specs.Prelude.{zero, suc}
-use Rattle.std.specs.List.{range_with_len}
-use Rattle.std.proofs.lemmas.Bool.{cases_lt, cases_eq}
+use Rattle.std.proofs.lemmas.Bool.{cases_lt}
 use Rattle.std.proofs.lemmas.List.{get_or_past, get_or-take, get_or-replicate, length-replicate}
 use Rattle.std.proofs.lemmas.List.FromFn.{fill_by_all, length-map-range_with_len, get_or-map-range_with_len}
-use Rattle.rbd_object.specs.Sheets.{Sheet, count_at, bytes_at, in_use}
+use Rattle.rbd_object.specs.Sheets.{Sheet, count_at, bytes_at}
 use Rattle.rbd_object.specs.Contents.{is_within, overwritten, window, zeroed}
-use Rattle.rbd_object.specs.Paging.{occurs, bytes_on, byte_at, pages_for, AreCounted, AreApart, IsChanged, IsWritten, IsZeroed, Moved, Prepared}
-use Rattle.rbd_object.specs.Shared.{Listed, IsContent, bytes_in, touched}
+use Rattle.rbd_object.specs.Paging.{occurs, bytes_on, byte_at, pages_for, AreCounted, IsWritten, IsZeroed, Moved, Prepared}
+use Rattle.rbd_object.specs.Shared.{Listed, IsContent, bytes_in}
 use Rattle.rbd_object.proofs.ContentsLemmas.{overwritten-same, length_overwritten, get_or-overwritten_any, length-zeroed, get_or-zeroed}
 use Rattle.rbd_object.proofs.PagingLemmas.{bytes_on_within, bytes_on_past, counted_at, counted_moved, moved_changed, moved_trans}
 

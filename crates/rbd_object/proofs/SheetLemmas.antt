@@ -1,11 +1,11 @@
 -- Changes of one page of an arena.
-use Rattle.std.proofs.Common.{◌≡◌, ◌≢◌, ℕ, ◌+◌, ◌-◌, ◌<◌, ◌≤◌, cond, List, [], ◌∷◌, ◌++◌, length, get_or, set, take, drop, min, refl, sym, ap, ◌∙◌, subst, inl, inr, arith}
+use Rattle.std.proofs.Common.{◌≡◌, ℕ, ◌+◌, ◌-◌, ◌<◌, ◌≤◌, cond, List, [], ◌∷◌, ◌++◌, length, get_or, set, take, drop, min, refl, sym, ap, ◌∙◌, subst, inl, inr, arith}
 use Rattle.std.specs.Prelude.{zero, suc}
 use Rattle.std.proofs.lemmas.Bool.{cases_lt}
 use Rattle.std.proofs.lemmas.List.{get_or_past, get_or_append_left, get_or-set_same, get_or-set_other, get_or_push, length_push, length-set, get_or_read, take_at}
 use Rattle.rbd_object.specs.Contents.{overwritten, zeroed, is_within}
 use Rattle.rbd_object.proofs.ContentsLemmas.{length_overwritten, get_or-overwritten_any, length-zeroed, get_or-zeroed}
-use Rattle.rbd_object.specs.Sheets.{Sheet, Changed, free_sheet, sheet_at, count_at, in_use}
+use Rattle.rbd_object.specs.Sheets.{Sheet, Changed, free_sheet, count_at, in_use}
 
 -- what is named is there
 pub within : (sheets : List Sheet) (i : ℕ) → 0 < count_at sheets i → i < length sheets

@@ -1,7 +1,7 @@
 -- Versions that are left by a trim, and the pages that go.
-use Rattle.std.proofs.Common.{◌≡◌, ℕ, ◌+◌, ◌<◌, ◌≤◌, Bool, true, false, cond, List, [], ◌∷◌, map, filter, length, drop, get_or, refl, sym, ap, ◌∙◌, subst, drop-cons, add-one, arith}
+use Rattle.std.proofs.Common.{◌≡◌, ℕ, ◌+◌, ◌<◌, ◌≤◌, Bool, true, false, cond, List, [], ◌∷◌, length, drop, get_or, sym, ap, ◌∙◌, subst, drop-cons, add-one, arith}
 use Rattle.std.specs.List.Retain.{RetainsInTurn}
-use Rattle.rbd_object.specs.Sheets.{Sheet, count_at, bytes_at, in_use}
+use Rattle.rbd_object.specs.Sheets.{Sheet, count_at}
 use Rattle.rbd_object.specs.Shared.{Stored, AreNamed, dead_named, dead_pages, is_live, live_stored, live_versions, named}
 use Rattle.rbd_object.specs.Paging.{occurs, AreCounted}
 

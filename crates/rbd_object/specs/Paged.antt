@@ -1,5 +1,5 @@
 -- The versioned object as a value, with the number of its pages.
-use Rattle.std.specs.Prelude.{◌≡◌, ℕ, ◌≤◌, List, map, length, Option, Some, None, refl}
+use Rattle.std.specs.Prelude.{ℕ, List, map, Option, refl}
 use Rattle.std.specs.Coded.{Coded, code_by, coded×, coded_ℕ}
 use Rattle.rbd_object.specs.Mapped.{Mapped, mapped_code, value_of, IsSound}
 use Rattle.rbd_object.specs.Sheets.{Sheet, in_use}

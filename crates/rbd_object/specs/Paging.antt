@@ -1,6 +1,5 @@
 -- A content as a list of pages of an arena.
-use Rattle.std.specs.Prelude.{◌≡◌, ◌≢◌, ℕ, ◌+◌, ◌-◌, ◌/◌, ◌%◌, ◌<◌, ◌≤◌, ◌==◌, nat_lt, if◌then◌else◌, List, [], ◌∷◌, map, length, slice_index}
-use Rattle.std.specs.List.{range_with_len}
+use Rattle.std.specs.Prelude.{◌≡◌, ◌≢◌, ℕ, ◌+◌, ◌-◌, ◌/◌, ◌%◌, ◌<◌, ◌≤◌, ◌==◌, nat_lt, if◌then◌else◌, List, [], ◌∷◌, length, slice_index}
 use Rattle.rbd_object.specs.Contents.{is_within}
 use Rattle.rbd_object.specs.Sheets.{Sheet, count_at, bytes_at, in_use}
 use Rattle.rbd_object.specs.declared.page.TheConstants.{PAGE}

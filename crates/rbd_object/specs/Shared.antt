@@ -1,5 +1,5 @@
 -- Contents that share the pages of one arena.
-use Rattle.std.specs.Prelude.{◌≡◌, ℕ, ◌+◌, ◌-◌, ◌/◌, ◌<◌, ◌≤◌, nat_lt, if◌then◌else◌, List, [], ◌∷◌, ◌++◌, map, filter, length, min, max, Bool, Option, Some, None, option_map, find}
+use Rattle.std.specs.Prelude.{◌≡◌, ℕ, ◌+◌, ◌-◌, ◌/◌, ◌≤◌, nat_lt, if◌then◌else◌, List, [], ◌∷◌, ◌++◌, map, filter, length, min, max, Bool, Option, Some, None, option_map, find}
 use Rattle.std.specs.List.{range_with_len, list_any}
 use Rattle.rbd_object.specs.Sheets.{Sheet, count_at}
 use Rattle.rbd_object.specs.Paging.{occurs, byte_at, pages_for, AreApart, Moved}

@@ -40,14 +40,16 @@
 //!
 //! # Cost
 //!
-//! Contents lie on pages of 4,096 bytes. A write costs the bytes that it writes, and an index and an entry for
-//! each page that is new: a page of zeros has no bytes, which are taken at the first one that isn't zero. The
-//! first change after a snapshot adds an index and a count for each page of the object where the head stays in
-//! place (`write`, `zero`), and a copy of each page that it touches; where it is replaced (`write_full`, `empty`,
-//! `remove`) the old head moves into the version. A change of several parts costs as much each time, since the
-//! head is held beside it until the last part is done. A context whose number isn't above `seq` costs nothing. A
-//! read copies into the caller's buffer alone; that of a snapshot looks through the versions first, newest
-//! first. A trim looks at each snapshot that something is kept for, and at the pages of what it drops.
+//! Contents lie on pages of 4,096 bytes. A write costs the bytes that it writes, and an index and
+//! an entry for each page that is new; the memory for these is taken in one step. A page of zeros
+//! has no bytes: they are taken at the first one that isn't zero. The first change after a snapshot
+//! adds an index and a count for each page of the object where the head stays in place (`write`,
+//! `zero`), and a copy of each page that it touches; where it is replaced (`write_full`, `empty`,
+//! `remove`) the old head moves into the version. A change of several parts costs as much each
+//! time, since the head is held beside it until the last part is done; that of one part doesn't. A
+//! context whose number isn't above `seq` costs nothing. A read copies into the caller's buffer
+//! alone; that of a snapshot looks through the versions first, newest first. A trim looks at each
+//! snapshot that something is kept for, and at the pages of what it drops.
 //!
 //! [`Object::pages`] is the number of pages that some content names, each counted once. What each call may add
 //! to it stands in the contracts of [`PagedObject`], which has the same calls and whose contracts see that

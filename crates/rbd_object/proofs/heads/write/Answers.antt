@@ -1,5 +1,5 @@
 use Rattle.std.proofs.Common.{[], Some, ◌∙◌, ap}
-use Rattle.std.specs.Prelude.{option_map, unwrap_or}
+use Rattle.std.specs.Prelude.{unwrap_or}
 use Rattle.rbd_object.specs.Contents.{overwritten}
 use Rattle.rbd_object.specs.Shared.{pages_of}
 use Rattle.rbd_object.proofs.HeadLemmas.{head_after, kept_change, on_err, undone, untouched}

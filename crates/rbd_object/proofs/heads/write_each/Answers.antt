@@ -2,7 +2,6 @@ use Rattle.std.proofs.lemmas.Option.{slice_get-get_or}
 use Rattle.std.proofs.Common.{get_or, arith}
 use Rattle.rbd_object.proofs.PagingLemmas.{counted_moved, moved_trans}
 use Rattle.rbd_object.proofs.EachLemmas.{no_part, parts_begun, parts_done, parts_fit, parts_more, parts_refused, parts_used}
-use Rattle.rbd_object.proofs.HeadLemmas.{on_err}
 use Rattle.rbd_object.proofs.heads.write_each.Goals as goal
 
 pub loop-part-init : goal.loop-part-init

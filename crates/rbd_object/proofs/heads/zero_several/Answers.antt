@@ -1,5 +1,5 @@
-use Rattle.std.proofs.Common.{[], Some, None, true, cond, ◌∙◌, ap}
-use Rattle.std.specs.Prelude.{option_map, unwrap_or}
+use Rattle.std.proofs.Common.{None, true, cond, ◌∙◌, ap}
+use Rattle.std.specs.Prelude.{option_map}
 use Rattle.rbd_object.specs.Parts.{parts_zeroed}
 use Rattle.rbd_object.specs.Shared.{pages_of}
 use Rattle.rbd_object.proofs.HeadLemmas.{head_after, kept_change, kept_if, on_err, restored, untouched}

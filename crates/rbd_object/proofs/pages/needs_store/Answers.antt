@@ -1,4 +1,4 @@
-use Rattle.std.proofs.Common.{◌≡◌, ap, ◌∙◌, take, drop, arith}
+use Rattle.std.proofs.Common.{ap, ◌∙◌, drop, arith}
 use Rattle.std.specs.Prelude.{nat_lt}
 use Rattle.std.specs.List.{list_any}
 use Rattle.rbd_object.proofs.PagingLemmas.{value_in_part}

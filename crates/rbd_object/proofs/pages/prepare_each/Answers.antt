@@ -1,5 +1,4 @@
-use Rattle.std.proofs.Common.{◌≡◌, ℕ, ◌+◌, ◌/◌, ◌<◌, ◌≤◌, length, get_or, max, rules, arith}
-use Rattle.rbd_object.specs.Sheets.{in_use}
+use Rattle.std.proofs.Common.{arith}
 use Rattle.rbd_object.proofs.PagingLemmas.{prepared_refl, prepared_trans, counted_moved, ready_more, past_first}
 use Rattle.rbd_object.proofs.pages.prepare_each.Goals as goal
 

@@ -1,5 +1,3 @@
-use Rattle.std.proofs.Common.{subst}
-use Rattle.rbd_object.specs.Paging.{Prepared}
 use Rattle.rbd_object.proofs.PagingLemmas.{prepared_trans}
 use Rattle.rbd_object.proofs.pages.prepare_page.Goals as goal
 

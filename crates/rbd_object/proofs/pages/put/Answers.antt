@@ -1,5 +1,5 @@
 use Rattle.std.proofs.Common.{◌<◌, length, rules, arith}
-use Rattle.rbd_object.proofs.PagingLemmas.{IsWriting, writing_begun, writing_done, writing_more, begins, stored_there}
+use Rattle.rbd_object.proofs.PagingLemmas.{writing_begun, writing_done, writing_more, begins, stored_there}
 use Rattle.rbd_object.proofs.pages.put.Goals as goal
 
 pub loop-rest-init : goal.loop-rest-init

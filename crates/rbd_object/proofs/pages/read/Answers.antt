@@ -1,4 +1,4 @@
-use Rattle.std.proofs.Common.{◌≡◌, ◌+◌, ◌∙◌, ◌≤◌, length, refl, rules, arith}
+use Rattle.std.proofs.Common.{◌+◌, ◌∙◌, ◌≤◌, length, refl, rules, arith}
 use Rattle.rbd_object.proofs.PagingLemmas.{read_more, length-read_more, length-slot}
 use Rattle.rbd_object.proofs.pages.read.Goals as goal
 

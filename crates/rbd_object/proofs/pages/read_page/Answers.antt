@@ -1,6 +1,5 @@
-use Rattle.std.proofs.Common.{◌∙◌, ap, length}
-use Rattle.rbd_object.specs.Contents.{window}
-use Rattle.rbd_object.proofs.PagingLemmas.{counted_at, zeros_read, page_read}
+use Rattle.std.proofs.Common.{◌∙◌, length}
+use Rattle.rbd_object.proofs.PagingLemmas.{counted_at, zeros_read}
 use Rattle.rbd_object.proofs.pages.read_page.Goals as goal
 
 pub read-requires : goal.read-requires

@@ -1,4 +1,4 @@
-use Rattle.std.proofs.Common.{◌≡◌, ◌+◌, ◌<◌, ◌∙◌, ◌++◌, ◌∷◌, [], ap, sym, subst, refl, get_or, rules, arith}
+use Rattle.std.proofs.Common.{◌≡◌, ◌+◌, ◌∙◌, ◌++◌, ◌∷◌, [], ap, sym, subst, get_or, rules, arith}
 use Rattle.std.proofs.lemmas.List.{take_more}
 use Rattle.rbd_object.specs.Sheets.{count_at}
 use Rattle.rbd_object.specs.Paging.{Moved}

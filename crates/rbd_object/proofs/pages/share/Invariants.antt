@@ -1,4 +1,4 @@
-use Rattle.std.proofs.Common.{◌≡◌, ◌≤◌, [], length, take, vec_len}
+use Rattle.std.proofs.Common.{◌≡◌, ◌≤◌, [], length, take}
 use Rattle.std.specs.Vec.{vec_capacity}
 use Rattle.rbd_object.specs.Sheets.{in_use}
 use Rattle.rbd_object.specs.Paging.{Moved}

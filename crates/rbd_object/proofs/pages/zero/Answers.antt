@@ -1,5 +1,5 @@
-use Rattle.std.proofs.Common.{◌<◌, length, rules, arith}
-use Rattle.rbd_object.proofs.PagingLemmas.{IsZeroing, zeroing_begun, zeroing_done, zeroing_more, begins}
+use Rattle.std.proofs.Common.{arith}
+use Rattle.rbd_object.proofs.PagingLemmas.{zeroing_begun, zeroing_done, zeroing_more, begins}
 use Rattle.rbd_object.proofs.pages.zero.Goals as goal
 
 pub loop-left-init : goal.loop-left-init

@@ -1,4 +1,4 @@
-use Rattle.std.proofs.Common.{◌<◌, length, arith, ap}
+use Rattle.std.proofs.Common.{◌<◌, arith, ap}
 use Rattle.rbd_object.specs.Sheets.{Sheet, count_at}
 use Rattle.rbd_object.proofs.SheetLemmas.{changed_at, used_after, within_items, count_read}
 use Rattle.rbd_object.proofs.arena.Arena.hold.Goals as goal

@@ -1,4 +1,4 @@
-use Rattle.std.proofs.Common.{◌+◌, ◌≤◌, ◌≡◌, ◌∙◌, ap, length, subst, arith}
+use Rattle.std.proofs.Common.{◌+◌, ◌≡◌, ◌∙◌, ap, length, arith}
 use Rattle.rbd_object.specs.Paging.{byte_at}
 use Rattle.rbd_object.specs.Shared.{Listed}
 use Rattle.rbd_object.proofs.SharedLemmas.{past_window, read_window}

@@ -1,5 +1,5 @@
 use Rattle.std.proofs.Common.{◌+◌, ◌≡◌, ◌∙◌, ap, length, max, sym, subst, rules, arith}
-use Rattle.rbd_object.specs.Paging.{IsWritten, Prepared, pages_for}
+use Rattle.rbd_object.specs.Paging.{IsWritten, Prepared}
 use Rattle.rbd_object.specs.Shared.{Listed}
 use Rattle.rbd_object.proofs.SharedLemmas.{overwritten_none, length-bytes_in, written_content}
 use Rattle.rbd_object.proofs.content.Content.write.Goals as goal

@@ -1,4 +1,4 @@
-use Rattle.std.proofs.Common.{◌-◌, ◌≡◌, ◌∙◌, ap, min, subst, rules, arith}
+use Rattle.std.proofs.Common.{◌-◌, ◌≡◌, ◌∙◌, ap, min, subst}
 use Rattle.rbd_object.specs.Paging.{IsZeroed}
 use Rattle.rbd_object.specs.Shared.{Listed}
 use Rattle.rbd_object.proofs.SharedLemmas.{zeroed_none, zeroed_content}

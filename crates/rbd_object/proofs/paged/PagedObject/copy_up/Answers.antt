@@ -1,6 +1,6 @@
 use Rattle.std.proofs.Common.{◌≡◌, false, None, ◌∙◌, ap, sym, subst, rules}
 use Rattle.rbd_object.specs.Paged.{Paged}
-use Rattle.rbd_object.specs.Shared.{IsKept, bytes_of, kept_in}
+use Rattle.rbd_object.specs.Shared.{IsKept, bytes_of}
 use Rattle.rbd_object.proofs.HeadLemmas.{on_err}
 use Rattle.rbd_object.proofs.PagedLemmas.{filled_paged, refused_paged}
 use Rattle.std.proofs.Common.{refl}

@@ -1,4 +1,4 @@
-use Rattle.std.proofs.Common.{◌∙◌, ap, sym, arith}
+use Rattle.std.proofs.Common.{ap, arith}
 use Rattle.rbd_object.specs.Paged.{Paged}
 use Rattle.rbd_object.proofs.PagedLemmas.{pages_least}
 use Rattle.rbd_object.proofs.paged.PagedObject.pages.Goals as goal

@@ -1,4 +1,4 @@
-use Rattle.std.proofs.Common.{Some, None, ◌∙◌, ap, sym, refl}
+use Rattle.std.proofs.Common.{Some, None, ◌∙◌, ap, refl}
 use Rattle.rbd_object.specs.Paged.{Paged}
 use Rattle.rbd_object.proofs.PagedLemmas.{shown_is, shown_sound}
 use Rattle.rbd_object.proofs.paged.PagedObject.read_parts.Goals as goal

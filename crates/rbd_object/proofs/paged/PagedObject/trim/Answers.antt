@@ -1,6 +1,6 @@
 use Rattle.std.proofs.Common.{ap}
 use Rattle.rbd_object.specs.Paged.{Paged}
-use Rattle.rbd_object.proofs.PagedLemmas.{trimmed_paged, versions_counted}
+use Rattle.rbd_object.proofs.PagedLemmas.{trimmed_paged}
 use Rattle.rbd_object.proofs.paged.PagedObject.trim.Goals as goal
 
 pub invariant_of-self : goal.invariant_of-self

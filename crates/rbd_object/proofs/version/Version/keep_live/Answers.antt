@@ -1,7 +1,7 @@
 use Rattle.std.proofs.Common.{◌≡◌, ◌∙◌, ap, List, ℕ, filter, rules}
 use Rattle.std.proofs.lemmas.Fn.{filter_same}
 use Rattle.rbd_object.specs.Kept.{is_listed}
-use Rattle.rbd_object.specs.Shared.{Stored, live_stored}
+use Rattle.rbd_object.specs.Shared.{live_stored}
 use Rattle.rbd_object.proofs.version.Version.keep_live.Goals as goal
 
 pub returns : goal.returns
