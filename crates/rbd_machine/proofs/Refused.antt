@@ -15,12 +15,11 @@ use Rattle.rbd_kinds.specs.declared.refusal.Refusal.TheVariants as refusal
 use Rattle.rbd_kinds.specs.declared.reply.Reply.{Reply}
 use Rattle.rbd_kinds.specs.declared.reply.Reply.TheVariants as reply
 use Rattle.rbd_machine.specs.Answers.{CanGive}
+use Rattle.rbd_machine.specs.Label.{Label}
 use Rattle.rbd_machine.specs.Path.{Answered, IsWalk, IsFirstStep}
 use Rattle.rbd_machine.specs.Plan.{Plan, Ask, Await, Note, Return, Goto, settled}
 use Rattle.rbd_machine.specs.Refused.{refusal_by, only_looks, AreLooks, AreGiven, IsRefusedBy}
 use Rattle.rbd_machine.specs.Steps.{refused, unless, on_id, on_header, change, joining, looking, looked, holding, owning, owned}
-use Rattle.rbd_machine.proofs.Settled.{settled_goto}
-use Rattle.rbd_machine.proofs.Walked.{ended}
 
 -- whether something was changed, once an operation is done
 abbrev pub changed_by : Bool → Op → Bool
@@ -40,7 +39,7 @@ module _ (refuses : HeaderView → Option Refusal) (grants : Reply → Type 0) w
   IsRefusing changed (Await wait next) = IsRefusing changed next
   IsRefusing changed (Note site image event next) = IsRefusing changed next
   IsRefusing changed (Return r) = grants r
-  IsRefusing changed (Goto label) = Unit {0}
+  IsRefusing changed (Goto label) = changed ≡ false
 
   -- ---- where its walks end
 
@@ -73,60 +72,76 @@ module _ (refuses : HeaderView → Option Refusal) (grants : Reply → Type 0) w
       still was true = was
       still was false = refl
 
-  at_last : (changed : Bool) (site : SiteId) (o : Op) (a : Answer) (next : Plan) (feds : List Fed) (rest : List Answered) (r : Reply)
-      → EndsRefused refuses changed o a next → IsWalk Goto next feds rest (Return r) → EndsBy changed (record { site = site; op = o; answer = a } ∷ rest) r
-  at_last changed site o a next feds rest r is walk =
-      let end = ended (reply.Refused is.why) feds rest (Return r) (subst (λ p. IsWalk Goto p feds rest (Return r)) is.ends walk) in
-      let none : rest ≡ [] = end.0 in
-      let same : Return r ≡ Return (reply.Refused is.why) = end.1 in
-      inr (
-        is.why,
-        (let e : r ≡ reply.Refused is.why = cc in e),
-        record {
-          by = record {
-            before = [];
-            last = record { site = site; op = o; answer = a };
-            are = ap (λ s. record { site = site; op = o; answer = a } ∷ s) none;
-            refused = is.is;
-            unchanged = λ not_fenced. tt;
-          };
-          fenced = is.fenced;
-        },
-      )
-
   step_more : (changed : Bool) (site : SiteId) (o : Op) (a : Answer) (rest : List Answered) (r : Reply)
       → EndsBy (changed_by changed o) rest r → EndsBy changed (record { site = site; op = o; answer = a } ∷ rest) r
   step_more changed site o a rest r (inl granted) = inl granted
   step_more changed site o a rest r (inr (x, is, from)) = inr (x, is, one_more changed site o a rest x from)
 
-  answered : (changed : Bool) (site : SiteId) (o : Op) (a : Answer) (next : Plan) (feds : List Fed) (rest : List Answered) (r : Reply)
-      → (IsRefusing (changed_by changed o) next → EndsBy (changed_by changed o) rest r) → IsWalk Goto next feds rest (Return r)
-      → EndsRefused refuses changed o a next ⊎ IsRefusing (changed_by changed o) next → EndsBy changed (record { site = site; op = o; answer = a } ∷ rest) r
-  answered changed site o a next feds rest r on walk (inl is) = at_last changed site o a next feds rest r is walk
-  answered changed site o a next feds rest r on walk (inr goes_on) = step_more changed site o a rest r (on goes_on)
+  module _ (labels : Label → Plan) (there : (label : Label) → IsRefusing false (labels label)) where
+    refusing_settled : (changed : Bool) (plan : Plan) → IsRefusing changed plan → IsRefusing changed (settled labels plan)
+    refusing_settled changed (Ask site why o next) is = is
+    refusing_settled changed (Await wait next) is = is
+    refusing_settled changed (Note site image event next) is = is
+    refusing_settled changed (Return r) is = is
+    refusing_settled changed (Goto label) same = subst (λ c. IsRefusing c (labels label)) (sym same) (there label)
 
+    ended_there : (s : Reply) (feds : List Fed) (steps : List Answered) (last : Plan) → IsWalk labels (Return s) feds steps last → (steps ≡ []) × (last ≡ Return s)
+    ended_there s [] steps last walk = walk
+    ended_there s (f ∷ more) steps last walk = absurd walk
+
+    at_last : (changed : Bool) (site : SiteId) (o : Op) (a : Answer) (next : Plan) (feds : List Fed) (rest : List Answered) (r : Reply)
+        → EndsRefused refuses changed o a next → IsWalk labels (settled labels next) feds rest (Return r) → EndsBy changed (record { site = site; op = o; answer = a } ∷ rest) r
+    at_last changed site o a next feds rest r is walk =
+        let end = ended_there (reply.Refused is.why) feds rest (Return r) (subst (λ p. IsWalk labels (settled labels p) feds rest (Return r)) is.ends walk) in
+        let none : rest ≡ [] = end.0 in
+        let same : Return r ≡ Return (reply.Refused is.why) = end.1 in
+        inr (
+          is.why,
+          (let e : r ≡ reply.Refused is.why = cc in e),
+          record {
+            by = record {
+              before = [];
+              last = record { site = site; op = o; answer = a };
+              are = ap (λ s. record { site = site; op = o; answer = a } ∷ s) none;
+              refused = is.is;
+              unchanged = λ not_fenced. tt;
+            };
+            fenced = is.fenced;
+          },
+        )
+
+    answered : (changed : Bool) (site : SiteId) (o : Op) (a : Answer) (next : Plan) (feds : List Fed) (rest : List Answered) (r : Reply)
+        → (IsRefusing (changed_by changed o) next → EndsBy (changed_by changed o) rest r) → IsWalk labels (settled labels next) feds rest (Return r)
+        → EndsRefused refuses changed o a next ⊎ IsRefusing (changed_by changed o) next → EndsBy changed (record { site = site; op = o; answer = a } ∷ rest) r
+    answered changed site o a next feds rest r on walk (inl is) = at_last changed site o a next feds rest r is walk
+    answered changed site o a next feds rest r on walk (inr goes_on) = step_more changed site o a rest r (on goes_on)
+
+    pub walk_ends_by : (feds : List Fed) (changed : Bool) (plan : Plan) (steps : List Answered) (r : Reply)
+        → IsRefusing changed plan → AreGiven steps → IsWalk labels plan feds steps (Return r) → EndsBy changed steps r
+    walk_ends_by [] changed (Return s) steps r is given walk = inl (let same : Return r ≡ Return s = walk.1 in subst grants (let e : s ≡ r = cc in e) is)
+    walk_ends_by [] changed (Ask site why o next) steps r is given walk = let same = walk.1 in cc
+    walk_ends_by [] changed (Await wait next) steps r is given walk = let same = walk.1 in cc
+    walk_ends_by [] changed (Note site image event next) steps r is given walk = let same = walk.1 in cc
+    walk_ends_by [] changed (Goto label) steps r is given walk = let same = walk.1 in cc
+    walk_ends_by (fed.Answer a ∷ more) changed (Ask site why o next) steps r is given (first, walk) =
+        let given' : AreGiven (record { site = site; op = o; answer = a } ∷ first.rest) = subst AreGiven first.is given in
+        subst (λ s. EndsBy changed s r) (sym first.is)
+        (answered changed site o a (next a) more first.rest r
+        (λ goes_on. walk_ends_by more (changed_by changed o) (settled labels (next a)) first.rest r (refusing_settled (changed_by changed o) (next a) goes_on) given'.1 walk) walk (is a given'.0))
+    walk_ends_by (fed.Passed ∷ more) changed (Ask site why o next) steps r is given walk = absurd walk
+    walk_ends_by (fed.Passed ∷ more) changed (Await wait next) steps r is given walk =
+        walk_ends_by more changed (settled labels next) steps r (refusing_settled changed next is) given walk
+    walk_ends_by (fed.Answer a ∷ more) changed (Await wait next) steps r is given walk = absurd walk
+    walk_ends_by (fed.Passed ∷ more) changed (Note site image event next) steps r is given walk =
+        walk_ends_by more changed (settled labels next) steps r (refusing_settled changed next is) given walk
+    walk_ends_by (fed.Answer a ∷ more) changed (Note site image event next) steps r is given walk = absurd walk
+    walk_ends_by (f ∷ more) changed (Return s) steps r is given walk = absurd walk
+    walk_ends_by (f ∷ more) changed (Goto label) steps r is given walk = absurd walk
+
+  -- of a request that begins no part again
   pub ends_by : (feds : List Fed) (changed : Bool) (plan : Plan) (steps : List Answered) (r : Reply)
       → IsRefusing changed plan → AreGiven steps → IsWalk Goto plan feds steps (Return r) → EndsBy changed steps r
-  ends_by [] changed (Return s) steps r is given walk = inl (let same : Return r ≡ Return s = walk.1 in subst grants (let e : s ≡ r = cc in e) is)
-  ends_by [] changed (Ask site why o next) steps r is given walk = let same = walk.1 in cc
-  ends_by [] changed (Await wait next) steps r is given walk = let same = walk.1 in cc
-  ends_by [] changed (Note site image event next) steps r is given walk = let same = walk.1 in cc
-  ends_by [] changed (Goto label) steps r is given walk = let same = walk.1 in cc
-  ends_by (fed.Answer a ∷ more) changed (Ask site why o next) steps r is given (first, walk) =
-      let given' : AreGiven (record { site = site; op = o; answer = a } ∷ first.rest) = subst AreGiven first.is given in
-      let walk' : IsWalk Goto (next a) more first.rest (Return r) = subst (λ p. IsWalk Goto p more first.rest (Return r)) (settled_goto (next a)) walk in
-      subst (λ s. EndsBy changed s r) (sym first.is)
-      (answered changed site o a (next a) more first.rest r
-      (λ goes_on. ends_by more (changed_by changed o) (next a) first.rest r goes_on given'.1 walk') walk' (is a given'.0))
-  ends_by (fed.Passed ∷ more) changed (Ask site why o next) steps r is given walk = absurd walk
-  ends_by (fed.Passed ∷ more) changed (Await wait next) steps r is given walk =
-      ends_by more changed next steps r is given (subst (λ p. IsWalk Goto p more steps (Return r)) (settled_goto next) walk)
-  ends_by (fed.Answer a ∷ more) changed (Await wait next) steps r is given walk = absurd walk
-  ends_by (fed.Passed ∷ more) changed (Note site image event next) steps r is given walk =
-      ends_by more changed next steps r is given (subst (λ p. IsWalk Goto p more steps (Return r)) (settled_goto next) walk)
-  ends_by (fed.Answer a ∷ more) changed (Note site image event next) steps r is given walk = absurd walk
-  ends_by (f ∷ more) changed (Return s) steps r is given walk = absurd walk
-  ends_by (f ∷ more) changed (Goto label) steps r is given walk = absurd walk
+  ends_by feds changed plan steps r is given walk = walk_ends_by Goto (λ label. refl) feds changed plan steps r is given walk
 
   -- ---- steps
 
