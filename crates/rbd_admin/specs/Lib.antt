@@ -2,3 +2,4 @@ pub mod Create
 pub mod Listing
 pub mod Snap
 pub mod Whole
+pub mod Meant

@@ -1,5 +1,5 @@
 //! What the plans of requests keep to: laws, each the contract of a function that does nothing.
-ghost use Rattle.std.specs.Prelude.{◌≡◌, ℕ, List, [], ◌∷◌};
+ghost use Rattle.std.specs.Prelude.{◌≡◌, ℕ, List, [], ◌∷◌, true};
 ghost use Rattle.rbd_kinds.specs.declared.command.Command.{Command};
 ghost use Rattle.rbd_kinds.specs.declared.command.Command.TheVariants.{List as ListAll, Info, SnapList};
 ghost use Rattle.rbd_kinds.specs.declared.command.Shape.{Shape};
@@ -11,15 +11,18 @@ ghost use Rattle.rbd_kinds.specs.Form.{IsNewHeader};
 ghost use Rattle.rbd_layout.specs.Asked.{KeepsLimits, layout_of};
 ghost use Rattle.rbd_machine.specs.Lawful.{IsLawfulRequest};
 ghost use Rattle.rbd_machine.specs.Plan.{Plan, Return, Goto, IsClosed, without_labels};
-ghost use Rattle.rbd_kinds.specs.declared.command.Command.TheVariants.{SnapCreate, SnapRemove};
+ghost use Rattle.rbd_kinds.specs.declared.command.Command.TheVariants.{Create, SnapCreate, SnapRemove};
 ghost use Rattle.rbd_kinds.specs.declared.machine.Fed.{Fed};
+ghost use Rattle.rbd_kinds.specs.declared.reply.Reply.{Reply};
 ghost use Rattle.rbd_kinds.specs.declared.reply.Reply.TheVariants.{Done, Info as ShownHeader, Names, Snaps};
 ghost use Rattle.rbd_machine.specs.Path.{Answered, IsBounded, IsWalk};
 ghost use Rattle.rbd_admin.specs.Whole.{TakesOne, RemovesOne, MakesOne, ShowsHeader, listed};
 ghost use Rattle.rbd_admin.specs.Create.{IsCreate, IsCreatePlan};
 ghost use Rattle.rbd_header.specs.Header.{new_header};
-ghost use Rattle.rbd_admin.specs.Listing.{listing_plan, shown_snaps};
-ghost use Rattle.rbd_admin.specs.Snap.{snap_plan};
+ghost use Rattle.rbd_admin.specs.Listing.{is_listing, listing_plan, shown_snaps};
+ghost use Rattle.rbd_admin.specs.Meant.{IsMeantBy};
+ghost use Rattle.rbd_admin.specs.Snap.{is_snap, snap_plan};
+ghost use Rattle.rbd_machine.specs.Refused.{AreGiven};
 
 /// A `create` has two operations at most: one draws the id, and one makes the header.
 pub fn creates_draw_and_make()
@@ -101,4 +104,20 @@ pub fn snapshots_change_behind_two_looks()
         → IsWalk Goto (snap_plan site (SnapCreate image snap)) feds steps (Return Done) → TakesOne site image snap steps }
     ensures removed { (site : SiteId) (image snap : List ℕ) (feds : List Fed) (steps : List Answered)
         → IsWalk Goto (snap_plan site (SnapRemove image snap)) feds steps (Return Done) → RemovesOne site image snap steps }
+{}
+
+/// A reply means what its command and the operations that were done say (`IsMeantBy`), where each answer is one that its
+/// operation can give: what a request did or was told when it isn't refused, and which answer refused it when it is, the
+/// last one, before which nothing was changed but where the fence did it. No other reply comes.
+pub fn replies_are_meant()
+    ensures within { (site : SiteId) (name : List ℕ) (size : ℕ) (shape : Shape) (plan : Plan) → IsCreate site name size shape plan
+        → (feds : List Fed) (steps : List Answered) (reply : Reply) → AreGiven steps → KeepsLimits (layout_of shape) size
+        → IsWalk Goto plan feds steps (Return reply) → IsMeantBy site (Create name size shape) steps reply }
+    ensures outside { (site : SiteId) (name : List ℕ) (size : ℕ) (shape : Shape) (plan : Plan) → IsCreate site name size shape plan
+        → (feds : List Fed) (steps : List Answered) (reply : Reply) → (KeepsLimits (layout_of shape) size → ⊥)
+        → IsWalk Goto plan feds steps (Return reply) → IsMeantBy site (Create name size shape) steps reply }
+    ensures listing { (site : SiteId) (command : Command) (feds : List Fed) (steps : List Answered) (reply : Reply) → is_listing command ≡ true → AreGiven steps
+        → IsWalk Goto (listing_plan site command) feds steps (Return reply) → IsMeantBy site command steps reply }
+    ensures snap { (site : SiteId) (command : Command) (feds : List Fed) (steps : List Answered) (reply : Reply) → is_snap command ≡ true → AreGiven steps
+        → IsWalk Goto (snap_plan site command) feds steps (Return reply) → IsMeantBy site command steps reply }
 {}

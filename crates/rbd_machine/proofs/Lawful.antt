@@ -10,15 +10,17 @@ use Rattle.rbd_kinds.specs.declared.header.SnapView.{SnapView}
 use Rattle.rbd_kinds.specs.declared.header_op.HeaderOp.TheVariants as header
 use Rattle.rbd_kinds.specs.declared.id.SiteId.{SiteId}
 use Rattle.rbd_kinds.specs.declared.id.SiteId.TheVariants as site
+use Rattle.rbd_kinds.specs.declared.machine.Fed.{Fed}
+use Rattle.rbd_kinds.specs.declared.machine.Fed.TheVariants as fed
 use Rattle.rbd_kinds.specs.declared.operation.Op.TheVariants as op
 use Rattle.rbd_kinds.specs.declared.refusal.Refusal.{Refusal}
 use Rattle.rbd_kinds.specs.Form.{IsHeaderInForm}
-use Rattle.rbd_machine.specs.Answers.{CanGive}
+use Rattle.rbd_machine.specs.Answers.{CanGive, CanBeFed}
 use Rattle.rbd_machine.specs.Knowledge.{Knowledge, Place, Own, nothing_known, same_site, is_at, own_of, is_drawn, learned, passed, with_header}
 use Rattle.rbd_machine.specs.Label.{Label}
-use Rattle.rbd_machine.specs.Lawful.{IsLawful}
+use Rattle.rbd_machine.specs.Lawful.{IsLawful, known_after}
 use Rattle.rbd_machine.specs.Permits.{OwnsBy}
-use Rattle.rbd_machine.specs.Plan.{Plan}
+use Rattle.rbd_machine.specs.Plan.{Plan, Ask, Await, Note, Return, Goto, settled, plan_after}
 use Rattle.rbd_machine.specs.Steps.{or_else, unless, not_there, on_id, on_header, on_done, change, looked, looking, holding, owning, owned, joining}
 use Rattle.rbd_machine.specs.Wait as wait
 
@@ -115,3 +117,23 @@ header_of (Some o) other = unwrap_or o.header other
 pub one_header : (k : Knowledge) (s : SiteId) (image : ℕ) (alone : Bool) (h : HeaderView) (condition : (alone : Bool) → HeaderView → Type 0)
     → own_of k.owns s image ≡ Some (own_at alone s image h) → (owns : OwnsBy k s image condition) → owns.header ≡ h
 one_header k s image alone h condition is owns = ap (λ o. header_of o h) (sym owns.is ∙ is)
+
+-- ---- a lawful request that is fed stays lawful
+
+module _ (labels : Label → Plan) (at : Label → Knowledge) (lawful_there : (label : Label) → IsLawful at (at label) (labels label)) where
+  lawful_settled : (k : Knowledge) (plan : Plan) → IsLawful at k plan → IsLawful at k (settled labels plan)
+  lawful_settled k (Ask site why op next) lawful = lawful
+  lawful_settled k (Await wait next) lawful = lawful
+  lawful_settled k (Note site image event next) lawful = lawful
+  lawful_settled k (Return reply) lawful = lawful
+  lawful_settled k (Goto label) same = subst (λ known. IsLawful at known (labels label)) (sym same) (lawful_there label)
+
+  pub stays_lawful : (k : Knowledge) (plan : Plan) (f : Fed) → CanBeFed plan f → IsLawful at k plan → IsLawful at (known_after k plan f) (settled labels (plan_after plan f))
+  stays_lawful k (Ask site why op next) (fed.Answer a) can lawful = lawful_settled (learned k site op a) (next a) (lawful.1 a can)
+  stays_lawful k (Ask site why op next) fed.Passed can lawful = absurd can
+  stays_lawful k (Await wait next) (fed.Answer a) can lawful = absurd can
+  stays_lawful k (Await wait next) fed.Passed can lawful = lawful_settled (passed k wait) next lawful
+  stays_lawful k (Note site image event next) (fed.Answer a) can lawful = absurd can
+  stays_lawful k (Note site image event next) fed.Passed can lawful = lawful_settled k next lawful
+  stays_lawful k (Return reply) f can lawful = absurd can
+  stays_lawful k (Goto label) f can lawful = absurd can

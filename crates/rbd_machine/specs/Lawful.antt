@@ -1,6 +1,8 @@
 -- Requests that do only what they may by what they know.
 use Rattle.std.specs.Prelude.{◌≡◌}
 use Rattle.rbd_kinds.specs.declared.answer.Answer.{Answer}
+use Rattle.rbd_kinds.specs.declared.machine.Fed.{Fed}
+use Rattle.rbd_kinds.specs.declared.machine.Fed.TheVariants as fed
 use Rattle.rbd_machine.specs.Answers.{CanGive}
 use Rattle.rbd_machine.specs.Knowledge.{Knowledge, nothing_known, learned, passed}
 use Rattle.rbd_machine.specs.Label.{Label}
@@ -21,3 +23,9 @@ pub record IsLawfulRequest (standing : Standing) : Type 0 where
   pub known_at : Label → Knowledge
   pub plan : IsLawful known_at nothing_known standing.plan
   pub labels : (label : Label) → IsLawful known_at (known_at label) (standing.labels label)
+
+-- what is known after what it was fed
+abbrev pub known_after : Knowledge → Plan → Fed → Knowledge
+known_after k (Ask site why op next) (fed.Answer answer) = learned k site op answer
+known_after k (Await wait next) fed.Passed = passed k wait
+known_after k plan _ = k

@@ -11,3 +11,4 @@ pub mod Approach
 pub mod Knowledge
 pub mod Permits
 pub mod Lawful
+pub mod Refused

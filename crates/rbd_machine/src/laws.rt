@@ -6,6 +6,7 @@ ghost use Rattle.rbd_kinds.specs.declared.header.SnapStatus.TheVariants.{Unprote
 ghost use Rattle.rbd_kinds.specs.declared.header.SnapView.{SnapView};
 ghost use Rattle.rbd_kinds.specs.declared.header_op.HeaderOp.TheVariants.{SnapAdd, SnapRemove};
 ghost use Rattle.rbd_kinds.specs.declared.layout.Part.{Part};
+ghost use Rattle.rbd_kinds.specs.declared.operation.Op.{Op};
 ghost use Rattle.rbd_kinds.specs.declared.operation.Op.TheVariants.{Data, Header};
 ghost use Rattle.rbd_header.specs.Header.{context_of, snap_in};
 ghost use Rattle.rbd_machine.specs.Knowledge.{Knowledge, Own, own_of};
@@ -14,17 +15,21 @@ ghost use Rattle.rbd_kinds.specs.declared.header.HeaderView.{HeaderView};
 ghost use Rattle.rbd_kinds.specs.declared.id.SiteId.{SiteId};
 ghost use Rattle.rbd_kinds.specs.declared.refusal.Refusal.{Refusal};
 ghost use Rattle.rbd_kinds.specs.declared.machine.Fed.{Fed};
-ghost use Rattle.rbd_kinds.specs.declared.machine.Want.TheVariants.{Note, Op};
+ghost use Rattle.rbd_kinds.specs.declared.machine.Want.TheVariants.{Note, Op as WantsOp};
 ghost use Rattle.rbd_kinds.specs.declared.operation_kind.OpKind.{OpKind};
 ghost use Rattle.rbd_machine.specs.Label.{Label};
-ghost use Rattle.rbd_machine.specs.Plan.{Plan, IsAsking, IsLive, IsNoting, Wants};
+ghost use Rattle.rbd_kinds.specs.declared.answer.Answer.{Answer};
+ghost use Rattle.rbd_machine.specs.Answers.{CanBeFed};
+ghost use Rattle.rbd_machine.specs.Lawful.{IsLawful, known_after};
+ghost use Rattle.rbd_machine.specs.Plan.{Plan, Ask, IsAsking, IsLive, IsNoting, Wants, settled, plan_after};
+ghost use Rattle.rbd_machine.specs.declared.reason.Reason.{Reason};
 ghost use Rattle.rbd_machine.specs.Path.{Answered, IsPath, IsPass, IsWalk, IsBounded};
 ghost use Rattle.rbd_machine.specs.Passes.{EndsInPass, jumps};
 ghost use Rattle.rbd_machine.specs.Steps.{change};
 
 /// A request that wants an operation has one to ask for, and one that wants an event noted has that event.
 pub fn what_is_wanted_is_there()
-    ensures operation { (plan : Plan) (site : SiteId) (kind : OpKind) → IsLive plan → Wants plan (Op site kind) → IsAsking plan }
+    ensures operation { (plan : Plan) (site : SiteId) (kind : OpKind) → IsLive plan → Wants plan (WantsOp site kind) → IsAsking plan }
     ensures event { (plan : Plan) (site : SiteId) (image : ℕ) → IsLive plan → Wants plan (Note site image) → IsNoting plan }
 {}
 
@@ -81,4 +86,12 @@ pub fn the_own_look_decides()
         → own_of k.owns site image ≡ Some (record { site = site; image = image; alone = alone; header = Some h })
         → snap_in h.snaps snap ≡ Some listed → (listed.status ≡ Unprotected → ⊥)
         → Permits k site (Header image (SnapRemove snap)) → ⊥ }
+{}
+
+/// A lawful request asks only for what it may by what it knows, and stays lawful by what it then knows, whatever it is fed.
+pub fn lawful_requests_stay_lawful()
+    ensures asks { (at : Label → Knowledge) (k : Knowledge) (site : SiteId) (why : Reason) (op : Op) (next : Answer → Plan)
+        → IsLawful at k (Ask site why op next) → Permits k site op }
+    ensures stays { (labels : Label → Plan) (at : Label → Knowledge) → ((label : Label) → IsLawful at (at label) (labels label))
+        → (k : Knowledge) (plan : Plan) (f : Fed) → CanBeFed plan f → IsLawful at k plan → IsLawful at (known_after k plan f) (settled labels (plan_after plan f)) }
 {}

@@ -2,6 +2,7 @@ pub mod Arranged
 pub mod Bounded
 pub mod Closed
 pub mod Lawful
+pub mod Meant
 pub mod Turns
 pub mod Looks
 pub mod Passes

@@ -4,3 +4,4 @@ pub mod Seen
 pub mod Shows
 pub mod Write
 pub mod Writes
+pub mod Meant

@@ -1,5 +1,5 @@
 //! What requests do to their end, and by how many operations: laws, each the contract of a function that does nothing.
-ghost use Rattle.std.specs.Prelude.{ℕ, ◌+◌, ◌*◌, ◌<◌, ◌≤◌, List, AllPairs, length, Option};
+ghost use Rattle.std.specs.Prelude.{◌≡◌, ℕ, ◌+◌, ◌*◌, ◌<◌, ◌≤◌, List, AllPairs, length, Option, true};
 ghost use Rattle.rbd_kinds.specs.declared.header.HeaderView.{HeaderView};
 ghost use Rattle.rbd_kinds.specs.declared.id.SiteId.{SiteId};
 ghost use Rattle.rbd_kinds.specs.declared.command.Command.{Command};
@@ -8,16 +8,19 @@ ghost use Rattle.rbd_kinds.specs.declared.layout.Layout.{Layout};
 ghost use Rattle.rbd_kinds.specs.Striping.{IsLayout};
 ghost use Rattle.rbd_layout.specs.Pieces.{pieces_of};
 ghost use Rattle.rbd_kinds.specs.declared.machine.Fed.{Fed};
+ghost use Rattle.rbd_kinds.specs.declared.reply.Reply.{Reply};
 ghost use Rattle.rbd_kinds.specs.declared.reply.Reply.TheVariants.{Bytes, Done};
 ghost use Rattle.rbd_machine.specs.Path.{Answered, IsBounded, IsWalk};
 ghost use Rattle.rbd_machine.specs.Passes.{jumps};
 ghost use Rattle.rbd_machine.specs.Lawful.{IsLawfulRequest};
 ghost use Rattle.rbd_machine.specs.Plan.{Plan, Goto, Return, Standing, IsClosed, without_labels};
+ghost use Rattle.rbd_machine.specs.Refused.{AreGiven};
 ghost use Rattle.rbd_machine.specs.Turns.{AreTurns};
+ghost use Rattle.rbd_request.specs.Meant.{IsMeantBy};
 ghost use Rattle.rbd_request.specs.Shows.{ShowsAtLast};
 ghost use Rattle.rbd_request.specs.Writes.{WritesWhole};
 ghost use Rattle.rbd_request.specs.Read.{IsReadOf, pass, read_labels};
-ghost use Rattle.rbd_request.specs.Write.{extent_at, objects_of, put, write, write_plan};
+ghost use Rattle.rbd_request.specs.Write.{is_write, extent_at, objects_of, put, write, write_plan};
 
 /// A write has one operation for each piece behind its own look, and three before.
 pub fn writes_are_bounded()
@@ -77,4 +80,14 @@ pub fn writes_are_lawful()
 /// A read is lawful from nothing known, and begins again with nothing known.
 pub fn reads_are_lawful()
     ensures { (home : SiteId) (command : Command) (standing : Standing) → IsReadOf home command standing → IsLawfulRequest standing }
+{}
+
+/// A reply means what its command and the operations that were done say (`IsMeantBy`), where each answer is one that its
+/// operation can give: what was written or is shown when a request isn't refused, and which answer refused it when it is, the
+/// last one, before which nothing was changed but where the fence did it. No other reply comes.
+pub fn replies_are_meant()
+    ensures write { (home : SiteId) (command : Command) (feds : List Fed) (steps : List Answered) (reply : Reply) → is_write command ≡ true → AreGiven steps
+        → IsWalk Goto (write_plan home command) feds steps (Return reply) → IsMeantBy home command steps reply }
+    ensures read { (home : SiteId) (command : Command) (standing : Standing) (feds : List Fed) (steps : List Answered) (reply : Reply) → IsReadOf home command standing → AreGiven steps
+        → IsWalk standing.labels standing.plan feds steps (Return reply) → IsMeantBy home command steps reply }
 {}

@@ -1,0 +1,59 @@
+-- When a request is refused: by the answer to its last operation.
+use Rattle.std.specs.Prelude.{◌≡◌, ℕ, Bool, true, false, List, [], ◌∷◌, ◌++◌, Option, Some, None}
+use Rattle.rbd_kinds.specs.declared.answer.Answer.{Answer}
+use Rattle.rbd_kinds.specs.declared.answer.Answer.TheVariants as answer
+use Rattle.rbd_kinds.specs.declared.children_op.ChildrenOp.TheVariants as child
+use Rattle.rbd_kinds.specs.declared.data_op.DataOp.TheVariants as object
+use Rattle.rbd_kinds.specs.declared.directory_op.DirectoryOp.TheVariants as directory
+use Rattle.rbd_kinds.specs.declared.header.HeaderView.{HeaderView}
+use Rattle.rbd_kinds.specs.declared.header_op.HeaderOp.TheVariants as header
+use Rattle.rbd_kinds.specs.declared.journal_op.JournalOp.TheVariants as journal
+use Rattle.rbd_kinds.specs.declared.map_op.MapOp.TheVariants as states
+use Rattle.rbd_kinds.specs.declared.operation.Op.{Op}
+use Rattle.rbd_kinds.specs.declared.operation.Op.TheVariants as op
+use Rattle.rbd_kinds.specs.declared.refusal.Refusal.{Refusal}
+use Rattle.rbd_kinds.specs.declared.refusal.Refusal.TheVariants as refusal
+use Rattle.rbd_machine.specs.Answers.{CanGive}
+use Rattle.rbd_machine.specs.Path.{Answered}
+
+-- What an answer to an operation refuses, where a request refuses some headers: the fence refuses anything, what isn't
+-- there is no image, and a new name may be held, or be one too many.
+abbrev pub refusal_by : (HeaderView → Option Refusal) → Op → Answer → Option Refusal
+refusal_by refuses o answer.Fenced = Some refusal.Fenced
+refusal_by refuses (op.Directory (directory.Find name)) answer.Absent = Some refusal.NoImage
+refusal_by refuses (op.Directory (directory.Add name)) answer.Exists = Some refusal.ImageExists
+refusal_by refuses (op.Directory (directory.Add name)) answer.Full = Some refusal.BadShape
+refusal_by refuses (op.Header image o) answer.Absent = Some refusal.NoImage
+refusal_by refuses (op.Header image header.Get) (answer.Header h) = refuses h
+refusal_by refuses o a = None
+
+-- the operation changes nothing
+abbrev pub only_looks : Op → Bool
+only_looks (op.Directory (directory.Find name)) = true
+only_looks (op.Directory directory.List) = true
+only_looks (op.Children (child.List parent snap)) = true
+only_looks (op.Header image header.Get) = true
+only_looks (op.Header image header.WatchersGet) = true
+only_looks (op.Data image number (object.Read snap parts)) = true
+only_looks (op.Map image (states.Get snap)) = true
+only_looks (op.Journal image (journal.Read seq)) = true
+only_looks (op.Journal image journal.Spans) = true
+only_looks _ = false
+
+abbrev pub AreLooks : List Answered → Type 0
+AreLooks [] = Unit {0}
+AreLooks (step ∷ steps) = (only_looks step.op ≡ true) × AreLooks steps
+
+-- each answer is one that its operation can give
+abbrev pub AreGiven : List Answered → Type 0
+AreGiven [] = Unit {0}
+AreGiven (step ∷ steps) = CanGive step.op step.answer × AreGiven steps
+
+-- The answer to the last operation refuses it so, as the first refusal that holds there; and but for the fence, which may
+-- come at any time, nothing was changed before.
+pub record IsRefusedBy (refuses : HeaderView → Option Refusal) (steps : List Answered) (x : Refusal) : Type 0 where
+  pub before : List Answered
+  pub last : Answered
+  pub are : steps ≡ before ++ last ∷ []
+  pub refused : refusal_by refuses last.op last.answer ≡ Some x
+  pub unchanged : (x ≡ refusal.Fenced → ⊥) → AreLooks before

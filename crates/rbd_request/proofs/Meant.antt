@@ -1,0 +1,145 @@
+-- What replies mean, command by command.
+use Rattle.std.proofs.Common.{◌≡◌, ◌⊎◌, inl, inr, ℕ, List, [], ◌∷◌, ◌++◌, replicate, Bool, true, false, cond, eqb, Option, Some, None, refl, ap, sym, subst, ◌∙◌}
+use Rattle.rbd_kinds.specs.declared.answer.Answer.{Answer}
+use Rattle.rbd_kinds.specs.declared.answer.Answer.TheVariants as answer
+use Rattle.rbd_kinds.specs.declared.command.Command.{Command}
+use Rattle.rbd_kinds.specs.declared.command.Command.TheVariants as command
+use Rattle.rbd_kinds.specs.declared.header.HeaderView.{HeaderView}
+use Rattle.rbd_kinds.specs.declared.header.SnapContext.{SnapContext}
+use Rattle.rbd_kinds.specs.declared.header_op.HeaderOp.TheVariants as header
+use Rattle.rbd_kinds.specs.declared.id.SiteId.{SiteId}
+use Rattle.rbd_kinds.specs.declared.layout.Extent.{Extent}
+use Rattle.rbd_kinds.specs.declared.machine.Fed.{Fed}
+use Rattle.rbd_kinds.specs.declared.operation.Op.TheVariants as op
+use Rattle.rbd_kinds.specs.declared.refusal.Refusal.{Refusal}
+use Rattle.rbd_kinds.specs.declared.refusal.Refusal.TheVariants as refusal
+use Rattle.rbd_kinds.specs.declared.reply.Reply.{Reply}
+use Rattle.rbd_kinds.specs.declared.reply.Reply.TheVariants as reply
+use Rattle.rbd_layout.specs.Pieces.{pieces_of}
+use Rattle.rbd_layout.specs.declared.types.Piece.{Piece}
+use Rattle.rbd_object.specs.Parts.{bytes_for}
+use Rattle.rbd_header.specs.Header.{context_of, view_of}
+use Rattle.rbd_header.specs.declared.view.View.{View}
+use Rattle.rbd_machine.specs.Answers.{CanGive}
+use Rattle.rbd_machine.specs.Label as label
+use Rattle.rbd_machine.specs.Path.{Answered, IsWalk}
+use Rattle.rbd_machine.specs.Plan.{Plan, Return, Goto, Standing}
+use Rattle.rbd_machine.specs.Refused.{AreGiven, IsRefusedBy}
+use Rattle.rbd_machine.specs.Steps.{on_done, applied}
+use Rattle.rbd_machine.proofs.Refused.{EndsRefused, IsRefusing, EndsBy, changed_by, ends_by, walk_ends_by, refusing_find, refusing_look, refusing_header, refusing_change}
+use Rattle.rbd_piece.specs.Gather.{gather, data_read, on_bytes}
+use Rattle.rbd_piece.specs.Write.{data_write}
+use Rattle.rbd_request.specs.Meant.{WriteMeans, ReadMeans, IsMeantBy, view_refuses, read_refuses}
+use Rattle.rbd_request.specs.Read.{IsReadOf, pass, read_labels, looking, reading, viewing, gathering, closing, on_closing}
+use Rattle.rbd_request.specs.Seen.{Seen, seen_at, shown}
+use Rattle.rbd_request.specs.Write.{is_write, extent_at, out_of_range, put, write, write_pieces, write_plan, write_refuses}
+use Rattle.rbd_request.proofs.Passes.{read_shows}
+use Rattle.rbd_request.proofs.Whole.{write_is_whole}
+
+same_refusal : (x y : Refusal) → reply.Refused x ≡ reply.Refused y → y ≡ x
+same_refusal x y is = cc
+
+-- ---- writes
+
+abbrev IsDone : Reply → Type 0
+IsDone reply.Done = Unit {0}
+IsDone _ = ⊥
+
+module _ (refuses : HeaderView → Option Refusal) where
+  refusing_piece : (changed : Bool) (image : ℕ) (context : SnapContext) (p : Piece) (bytes : List ℕ) (next : Plan) → IsRefusing refuses IsDone true next
+      → (a : Answer) → CanGive (data_write image context p bytes) a
+      → EndsRefused refuses changed (data_write image context p bytes) a (on_done next a) ⊎ IsRefusing refuses IsDone true (on_done next a)
+  refusing_piece changed image context p bytes next goes_on answer.Done can = inr goes_on
+  refusing_piece changed image context p bytes next goes_on answer.Fenced can = inl (record { why = refusal.Fenced; is = refl; ends = refl; fenced = λ was. refl })
+  refusing_piece changed image context p bytes next goes_on _ can = let no = can.word in cc
+
+  refusing_pieces : (pieces : List Piece) (changed : Bool) (site : SiteId) (image : ℕ) (h : HeaderView) (at : ℕ) (bytes : List ℕ)
+      → IsRefusing refuses IsDone changed (write_pieces site image h at bytes pieces (applied site image))
+  refusing_pieces [] changed site image h at bytes = tt
+  refusing_pieces (p ∷ pieces) changed site image h at bytes =
+      refusing_piece changed image (context_of h) p (bytes_for p.parts at bytes) (write_pieces site image h at bytes pieces (applied site image)) (refusing_pieces pieces true site image h at bytes)
+
+write_means : (site : SiteId) (name : List ℕ) (at : ℕ) (bytes : List ℕ) (feds : List Fed) (steps : List Answered) (r : Reply) → AreGiven steps
+    → IsWalk Goto (write site name at bytes) feds steps (Return r) → WriteMeans site name at bytes steps r
+write_means site name at bytes feds steps r given walk = go r (ends_by (write_refuses (extent_at at bytes)) IsDone feds false (write site name at bytes) steps r is given walk) walk
+  where
+    is : IsRefusing (write_refuses (extent_at at bytes)) IsDone false (write site name at bytes)
+    is =
+        refusing_change (write_refuses (extent_at at bytes)) IsDone site name false (put site at bytes) (λ image h may.
+        refusing_pieces (write_refuses (extent_at at bytes)) (pieces_of h.layout (extent_at at bytes)) false site image h at bytes)
+
+    go : (r : Reply) → EndsBy (write_refuses (extent_at at bytes)) IsDone false steps r → IsWalk Goto (write site name at bytes) feds steps (Return r) → WriteMeans site name at bytes steps r
+    go reply.Done ends walk = write_is_whole site name at bytes feds steps walk
+    go (reply.Refused x) (inl granted) walk = absurd granted
+    go (reply.Refused x) (inr (y, same, from)) walk = subst (IsRefusedBy (write_refuses (extent_at at bytes)) steps) (same_refusal x y same) from.by
+    go _ (inl granted) walk = absurd granted
+    go _ (inr (y, same, from)) walk = cc
+
+pub write_plan_means : (site : SiteId) (c : Command) (feds : List Fed) (steps : List Answered) (r : Reply) → is_write c ≡ true → AreGiven steps
+    → IsWalk Goto (write_plan site c) feds steps (Return r) → IsMeantBy site c steps r
+write_plan_means site (command.Write image at bytes) feds steps r is given walk = write_means site image at bytes feds steps r given walk
+write_plan_means site (command.Fill image at len byte) feds steps r is given walk = write_means site image at (replicate len byte) feds steps r given walk
+write_plan_means site _ feds steps r is given walk = cc
+
+-- ---- reads
+
+abbrev IsShowing : Reply → Type 0
+IsShowing (reply.Bytes bytes) = Unit {0}
+IsShowing _ = ⊥
+
+module _ (refuses : HeaderView → Option Refusal) where
+  refusing_read : (image : ℕ) (snap : Option ℕ) (p : Piece) (next : List ℕ → Plan) → ((bytes : List ℕ) → IsRefusing refuses IsShowing false (next bytes))
+      → (a : Answer) → CanGive (data_read image snap p) a
+      → EndsRefused refuses false (data_read image snap p) a (on_bytes p.parts next a) ⊎ IsRefusing refuses IsShowing false (on_bytes p.parts next a)
+  refusing_read image snap p next goes_on (answer.Bytes bytes) can = inr (goes_on bytes)
+  refusing_read image snap p next goes_on answer.Absent can = inr (goes_on _)
+  refusing_read image snap p next goes_on answer.Fenced can = inl (record { why = refusal.Fenced; is = refl; ends = refl; fenced = λ was. refl })
+  refusing_read image snap p next goes_on _ can = let no = can.word in cc
+
+  refusing_gather : (pieces : List Piece) (site : SiteId) (image : ℕ) (snap : Option ℕ) (read : List ℕ) (next : List ℕ → Plan)
+      → ((bytes : List ℕ) → IsRefusing refuses IsShowing false (next bytes)) → IsRefusing refuses IsShowing false (gather site image snap pieces read next)
+  refusing_gather [] site image snap read next goes_on = goes_on read
+  refusing_gather (p ∷ pieces) site image snap read next goes_on =
+      refusing_read image snap p (λ bytes. gather site image snap pieces (read ++ bytes) next) (λ bytes. refusing_gather pieces site image snap (read ++ bytes) next goes_on)
+
+  refusing_closing : (image : ℕ) (seen : Seen) (read : List ℕ) (a : Answer) → CanGive (op.Header image header.Get) a
+      → EndsRefused refuses false (op.Header image header.Get) a (on_closing seen read a) ⊎ IsRefusing refuses IsShowing false (on_closing seen read a)
+  refusing_closing image seen read (answer.Header h) can = inr (go (eqb h.generation seen.generation))
+    where
+      go : (b : Bool) → IsRefusing refuses IsShowing false (cond b (Return (reply.Bytes (shown seen read))) (Goto label.Begin))
+      go true = tt
+      go false = refl
+  refusing_closing image seen read answer.Absent can = inr refl
+  refusing_closing image seen read answer.Fenced can = inl (record { why = refusal.Fenced; is = refl; ends = refl; fenced = λ was. refl })
+  refusing_closing image seen read _ can = let no = can.word in cc
+
+module _ (site : SiteId) (name : List ℕ) (snap : Option (List ℕ)) (e : Extent) where
+  refusing_viewing : (image : ℕ) (h : HeaderView) (view : Option View) → view_of h snap ≡ view
+      → EndsRefused (read_refuses snap e) false (op.Header image header.Get) (answer.Header h) (viewing site image h e view) ⊎ IsRefusing (read_refuses snap e) IsShowing false (viewing site image h e view)
+  refusing_viewing image h None is = inl (record { why = refusal.NoSnap; is = ap (view_refuses e) is; ends = refl; fenced = λ was. cc })
+  refusing_viewing image h (Some view) is =
+      refusing_header (read_refuses snap e) IsShowing image h (out_of_range e view.size) (gathering site image h e view) (ap (view_refuses e) is) (λ may.
+      refusing_gather (read_refuses snap e) (pieces_of h.layout e) site image view.snap [] (closing site image (seen_at h e)) (refusing_closing (read_refuses snap e) image (seen_at h e)))
+
+  refusing_pass : IsRefusing (read_refuses snap e) IsShowing false (pass site name snap e)
+  refusing_pass =
+      refusing_find (read_refuses snap e) IsShowing name (looking site snap e) (λ image.
+      refusing_look (read_refuses snap e) IsShowing image (reading site snap e image) (λ h. refusing_viewing image h (view_of h snap) refl))
+
+  pub read_means : (feds : List Fed) (steps : List Answered) (r : Reply) → AreGiven steps
+      → IsWalk (read_labels site name snap e) (pass site name snap e) feds steps (Return r) → ReadMeans site name snap e steps r
+  read_means feds steps r given walk =
+      go r (walk_ends_by (read_refuses snap e) IsShowing (read_labels site name snap e) (λ label. refusing_pass) feds false (pass site name snap e) steps r refusing_pass given walk) walk
+    where
+      go : (r : Reply) → EndsBy (read_refuses snap e) IsShowing false steps r → IsWalk (read_labels site name snap e) (pass site name snap e) feds steps (Return r) → ReadMeans site name snap e steps r
+      go (reply.Bytes bytes) ends walk = read_shows site name snap e feds steps bytes walk
+      go (reply.Refused x) (inl granted) walk = absurd granted
+      go (reply.Refused x) (inr (y, same, from)) walk = subst (IsRefusedBy (read_refuses snap e) steps) (same_refusal x y same) from.by
+      go _ (inl granted) walk = absurd granted
+      go _ (inr (y, same, from)) walk = cc
+
+pub read_plan_means : (site : SiteId) (c : Command) (standing : Standing) (feds : List Fed) (steps : List Answered) (r : Reply) → IsReadOf site c standing → AreGiven steps
+    → IsWalk standing.labels standing.plan feds steps (Return r) → IsMeantBy site c steps r
+read_plan_means site (command.Read image snap at len) standing feds steps r is given walk =
+    read_means site image snap (record { at = at; len = len }) feds steps r given (subst (λ (s : Standing). IsWalk s.labels s.plan feds steps (Return r)) is walk)
+read_plan_means site _ standing feds steps r is given walk = absurd is
