@@ -17,7 +17,6 @@ use Rattle.rbd_kinds.specs.declared.header_op.HeaderOp.TheVariants as header
 use Rattle.rbd_kinds.specs.declared.id.SiteId.{SiteId}
 use Rattle.rbd_kinds.specs.declared.layout.Layout.{Layout}
 use Rattle.rbd_kinds.specs.declared.operation.Op.TheVariants as op
-use Rattle.rbd_kinds.specs.declared.refusal.Refusal.{Refusal}
 use Rattle.rbd_kinds.specs.declared.refusal.Refusal.TheVariants as refusal
 use Rattle.rbd_kinds.specs.declared.reply.Reply.{Reply}
 use Rattle.rbd_kinds.specs.declared.reply.Reply.TheVariants as reply
@@ -25,17 +24,16 @@ use Rattle.rbd_kinds.specs.Form.{RiseFrom, AreRising, IsHeaderInForm, IsNewHeade
 use Rattle.rbd_kinds.specs.Header.{snap_named}
 use Rattle.rbd_header.specs.Header.{new_header, is_full, snap_in}
 use Rattle.rbd_layout.specs.Asked.{layout_of, KeepsLimits}
-use Rattle.rbd_machine.specs.Answers.{CanGive}
-use Rattle.rbd_machine.specs.Knowledge.{Knowledge, nothing_known, learned, is_drawn, with_drawn}
+use Rattle.rbd_machine.specs.Knowledge.{Knowledge, nothing_known, learned, with_drawn}
 use Rattle.rbd_machine.specs.Label.{Label}
 use Rattle.rbd_machine.specs.Lawful.{IsLawful}
-use Rattle.rbd_machine.specs.Permits.{MayMake, MayTake, MayRemove}
+use Rattle.rbd_machine.specs.Permits.{MayTake}
 use Rattle.rbd_machine.specs.Plan.{Plan, Return}
 use Rattle.rbd_machine.specs.Steps.{applied, non_primary}
 use Rattle.rbd_machine.proofs.Lawful.{at_itself, or_else_none, owning_known, own_is_found, lawful_not_there, lawful_on_id, lawful_on_header, lawful_on_done, lawful_change}
 use Rattle.rbd_admin.specs.Create.{IsCreate, on_drawn, making, drawing}
 use Rattle.rbd_admin.specs.Listing.{on_names, showing, show_header, shown_snaps, listing_plan}
-use Rattle.rbd_admin.specs.Snap.{on_snap, taking, take, remove_listed, remove, is_unprotected, removal_refusal, create_refuses, remove_refuses, snap_plan}
+use Rattle.rbd_admin.specs.Snap.{on_snap, take, remove_listed, remove, is_unprotected, removal_refusal, create_refuses, remove_refuses, snap_plan}
 
 -- ---- snapshots by name and by id
 

@@ -1,5 +1,5 @@
 -- What replies mean, command by command.
-use Rattle.std.proofs.Common.{◌≡◌, ◌⊎◌, inl, inr, ℕ, List, [], ◌∷◌, Bool, true, false, Option, Some, None, refl, ap, sym, subst, ◌∙◌}
+use Rattle.std.proofs.Common.{◌≡◌, ◌⊎◌, inl, inr, ℕ, List, true, false, Option, Some, None, refl, subst}
 use Rattle.rbd_kinds.specs.declared.answer.Answer.{Answer}
 use Rattle.rbd_kinds.specs.declared.answer.Answer.TheVariants as answer
 use Rattle.rbd_kinds.specs.declared.command.Command.{Command}
@@ -11,7 +11,6 @@ use Rattle.rbd_kinds.specs.declared.header.SnapView.{SnapView}
 use Rattle.rbd_kinds.specs.declared.header_op.HeaderOp.TheVariants as header
 use Rattle.rbd_kinds.specs.declared.id.SiteId.{SiteId}
 use Rattle.rbd_kinds.specs.declared.machine.Fed.{Fed}
-use Rattle.rbd_kinds.specs.declared.operation.Op.{Op}
 use Rattle.rbd_kinds.specs.declared.operation.Op.TheVariants as op
 use Rattle.rbd_kinds.specs.declared.refusal.Refusal.{Refusal}
 use Rattle.rbd_kinds.specs.declared.refusal.Refusal.TheVariants as refusal
@@ -26,7 +25,7 @@ use Rattle.rbd_machine.specs.Plan.{Plan, Return, Goto}
 use Rattle.rbd_machine.specs.Refused.{AreGiven, IsRefusedBy}
 use Rattle.rbd_machine.specs.Steps.{on_done, applied, non_primary}
 use Rattle.rbd_machine.proofs.Lawful.{or_else_none}
-use Rattle.rbd_machine.proofs.Refused.{EndsRefused, IsRefusing, EndsBy, RefusedFrom, changed_by, ends_by, refusing_find, refusing_look, refusing_change}
+use Rattle.rbd_machine.proofs.Refused.{EndsRefused, IsRefusing, EndsBy, ends_by, refusing_find, refusing_look, refusing_change}
 use Rattle.rbd_machine.proofs.Walked.{ended}
 use Rattle.rbd_admin.specs.Create.{IsCreate, on_drawn, making, drawing}
 use Rattle.rbd_admin.specs.Listing.{is_listing, on_names, list_names, showing, show_header, shown_snaps, listing_plan}
