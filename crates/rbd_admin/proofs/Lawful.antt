@@ -17,7 +17,6 @@ use Rattle.rbd_kinds.specs.declared.header_op.HeaderOp.TheVariants as header
 use Rattle.rbd_kinds.specs.declared.id.SiteId.{SiteId}
 use Rattle.rbd_kinds.specs.declared.layout.Layout.{Layout}
 use Rattle.rbd_kinds.specs.declared.operation.Op.TheVariants as op
-use Rattle.rbd_kinds.specs.declared.refusal.Refusal.{Refusal}
 use Rattle.rbd_kinds.specs.declared.refusal.Refusal.TheVariants as refusal
 use Rattle.rbd_kinds.specs.declared.reply.Reply.{Reply}
 use Rattle.rbd_kinds.specs.declared.reply.Reply.TheVariants as reply
@@ -25,17 +24,17 @@ use Rattle.rbd_kinds.specs.Form.{RiseFrom, AreRising, IsHeaderInForm, IsNewHeade
 use Rattle.rbd_kinds.specs.Header.{snap_named}
 use Rattle.rbd_header.specs.Header.{new_header, is_full, snap_in}
 use Rattle.rbd_layout.specs.Asked.{layout_of, KeepsLimits}
-use Rattle.rbd_machine.specs.Answers.{CanGive}
-use Rattle.rbd_machine.specs.Knowledge.{Knowledge, nothing_known, learned, is_drawn, with_drawn}
+use Rattle.rbd_machine.specs.Knowledge.{Knowledge, nothing_known, learned, with_drawn}
 use Rattle.rbd_machine.specs.Label.{Label}
-use Rattle.rbd_machine.specs.Lawful.{IsLawful}
-use Rattle.rbd_machine.specs.Permits.{MayMake, MayTake, MayRemove}
-use Rattle.rbd_machine.specs.Plan.{Plan, Return}
+use Rattle.rbd_machine.specs.Lawful.{IsLawful, IsLawfulRequest}
+use Rattle.rbd_machine.specs.Permits.{MayTake}
+use Rattle.rbd_machine.specs.Plan.{Plan, Return, without_labels}
 use Rattle.rbd_machine.specs.Steps.{applied, non_primary}
 use Rattle.rbd_machine.proofs.Lawful.{at_itself, or_else_none, owning_known, own_is_found, lawful_not_there, lawful_on_id, lawful_on_header, lawful_on_done, lawful_change}
-use Rattle.rbd_admin.specs.Create.{IsCreate, on_drawn, making, drawing}
+use Rattle.rbd_admin.proofs.Decided.{limits_or_not}
+use Rattle.rbd_admin.specs.Create.{IsCreate, IsCreatePlan, on_drawn, making, drawing}
 use Rattle.rbd_admin.specs.Listing.{on_names, showing, show_header, shown_snaps, listing_plan}
-use Rattle.rbd_admin.specs.Snap.{on_snap, taking, take, remove_listed, remove, is_unprotected, removal_refusal, create_refuses, remove_refuses, snap_plan}
+use Rattle.rbd_admin.specs.Snap.{on_snap, take, remove_listed, remove, is_unprotected, removal_refusal, create_refuses, remove_refuses, snap_plan}
 
 -- ---- snapshots by name and by id
 
@@ -126,10 +125,10 @@ module _ (at : Label → Knowledge) where
   lawful_drawing site name layout size keeps =
       (tt, λ a can. lawful_on_drawn (learned nothing_known site (op.Directory (directory.Add name))) (making site (new_header layout size)) (lawful_making site layout size keeps) a)
 
-  pub lawful_within : (site : SiteId) (name : List ℕ) (size : ℕ) (shape : Shape) (plan : Plan) → IsCreate site name size shape plan → KeepsLimits (layout_of shape) size → IsLawful at nothing_known plan
+  lawful_within : (site : SiteId) (name : List ℕ) (size : ℕ) (shape : Shape) (plan : Plan) → IsCreate site name size shape plan → KeepsLimits (layout_of shape) size → IsLawful at nothing_known plan
   lawful_within site name size shape plan is keeps = subst (IsLawful at nothing_known) (sym (is.within keeps)) (lawful_drawing site name (layout_of shape) size keeps)
 
-  pub lawful_outside : (site : SiteId) (name : List ℕ) (size : ℕ) (shape : Shape) (plan : Plan) → IsCreate site name size shape plan → (KeepsLimits (layout_of shape) size → ⊥) → IsLawful at nothing_known plan
+  lawful_outside : (site : SiteId) (name : List ℕ) (size : ℕ) (shape : Shape) (plan : Plan) → IsCreate site name size shape plan → (KeepsLimits (layout_of shape) size → ⊥) → IsLawful at nothing_known plan
   lawful_outside site name size shape plan is passes = subst (IsLawful at nothing_known) (sym (is.outside passes)) tt
 
   -- ---- ls, info, snap ls
@@ -183,3 +182,11 @@ module _ (at : Label → Knowledge) where
       lawful_change at site image true (remove_refuses snap) (remove site snap) (λ i h form may.
       lawful_remove_listed site snap i h form (snap_named h.snaps snap) refl (or_else_none (non_primary h.role) _ may))
   lawful_snap site _ = tt
+
+pub lawful_create : (site : SiteId) (c : Command) (plan : Plan) → IsCreatePlan site c plan → IsLawfulRequest (without_labels plan)
+lawful_create site (command.Create name size shape) plan is = record { known_at = λ label. nothing_known; plan = go (limits_or_not (layout_of shape) size); labels = λ label. refl }
+  where
+    go : KeepsLimits (layout_of shape) size ⊎ (KeepsLimits (layout_of shape) size → ⊥) → IsLawful (λ label. nothing_known) nothing_known plan
+    go (inl keeps) = lawful_within (λ label. nothing_known) site name size shape plan is keeps
+    go (inr passes) = lawful_outside (λ label. nothing_known) site name size shape plan is passes
+lawful_create site _ plan is = absurd is

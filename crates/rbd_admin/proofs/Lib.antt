@@ -1,5 +1,6 @@
 pub mod Bounds
 pub mod Closed
+pub mod Decided
 pub mod Lawful
 pub mod Meant
 pub mod Looks

@@ -1,5 +1,5 @@
 -- What replies mean, command by command.
-use Rattle.std.proofs.Common.{◌≡◌, ◌⊎◌, inl, inr, ℕ, List, [], ◌∷◌, Bool, true, false, Option, Some, None, refl, ap, sym, subst, ◌∙◌}
+use Rattle.std.proofs.Common.{◌≡◌, ◌⊎◌, inl, inr, ℕ, List, true, false, Option, Some, None, refl, subst}
 use Rattle.rbd_kinds.specs.declared.answer.Answer.{Answer}
 use Rattle.rbd_kinds.specs.declared.answer.Answer.TheVariants as answer
 use Rattle.rbd_kinds.specs.declared.command.Command.{Command}
@@ -11,7 +11,6 @@ use Rattle.rbd_kinds.specs.declared.header.SnapView.{SnapView}
 use Rattle.rbd_kinds.specs.declared.header_op.HeaderOp.TheVariants as header
 use Rattle.rbd_kinds.specs.declared.id.SiteId.{SiteId}
 use Rattle.rbd_kinds.specs.declared.machine.Fed.{Fed}
-use Rattle.rbd_kinds.specs.declared.operation.Op.{Op}
 use Rattle.rbd_kinds.specs.declared.operation.Op.TheVariants as op
 use Rattle.rbd_kinds.specs.declared.refusal.Refusal.{Refusal}
 use Rattle.rbd_kinds.specs.declared.refusal.Refusal.TheVariants as refusal
@@ -26,12 +25,13 @@ use Rattle.rbd_machine.specs.Plan.{Plan, Return, Goto}
 use Rattle.rbd_machine.specs.Refused.{AreGiven, IsRefusedBy}
 use Rattle.rbd_machine.specs.Steps.{on_done, applied, non_primary}
 use Rattle.rbd_machine.proofs.Lawful.{or_else_none}
-use Rattle.rbd_machine.proofs.Refused.{EndsRefused, IsRefusing, EndsBy, RefusedFrom, changed_by, ends_by, refusing_find, refusing_look, refusing_change}
+use Rattle.rbd_machine.proofs.Refused.{EndsRefused, IsRefusing, EndsBy, ends_by, refusing_find, refusing_look, refusing_change}
 use Rattle.rbd_machine.proofs.Walked.{ended}
-use Rattle.rbd_admin.specs.Create.{IsCreate, on_drawn, making, drawing}
+use Rattle.rbd_admin.specs.Create.{IsCreate, IsCreatePlan, on_drawn, making, drawing}
 use Rattle.rbd_admin.specs.Listing.{is_listing, on_names, list_names, showing, show_header, shown_snaps, listing_plan}
 use Rattle.rbd_admin.specs.Meant.{refuses_none, CreateMeans, InfoMeans, SnapListMeans, ListMeans, SnapCreateMeans, SnapRemoveMeans, IsMeantBy}
 use Rattle.rbd_admin.specs.Snap.{is_snap, on_snap, take, remove_listed, remove, removal_refusal, create_refuses, remove_refuses, snap_plan}
+use Rattle.rbd_admin.proofs.Decided.{limits_or_not}
 use Rattle.rbd_admin.proofs.Changes.{takes_one, removes_one}
 use Rattle.rbd_admin.proofs.Shown.{create_makes_one, names_are_listed, header_is_shown}
 
@@ -74,7 +74,7 @@ module _ (h : HeaderView) where
   refusing_drawn site name _ can = let no = can.word in cc
 
 module _ (site : SiteId) (name : List ℕ) (size : ℕ) (shape : Shape) (plan : Plan) (is : IsCreate site name size shape plan) (feds : List Fed) (steps : List Answered) where
-  pub create_within : (r : Reply) → AreGiven steps → KeepsLimits (layout_of shape) size → IsWalk Goto plan feds steps (Return r) → CreateMeans site name size shape steps r
+  create_within : (r : Reply) → AreGiven steps → KeepsLimits (layout_of shape) size → IsWalk Goto plan feds steps (Return r) → CreateMeans site name size shape steps r
   create_within r given keeps walk =
       let made : IsWalk Goto (drawing site name (new_header (layout_of shape) size)) feds steps (Return r) = subst (λ p. IsWalk Goto p feds steps (Return r)) (is.within keeps) walk in
       go r (ends_by refuses_none IsDone feds false (drawing site name (new_header (layout_of shape) size)) steps r (refusing_drawn (new_header (layout_of shape) size) site name) given made) walk
@@ -86,11 +86,20 @@ module _ (site : SiteId) (name : List ℕ) (size : ℕ) (shape : Shape) (plan : 
       go _ (inl granted) walk = absurd granted
       go _ (inr (y, same, from)) walk = cc
 
-  pub create_outside : (r : Reply) → (KeepsLimits (layout_of shape) size → ⊥) → IsWalk Goto plan feds steps (Return r) → CreateMeans site name size shape steps r
+  create_outside : (r : Reply) → (KeepsLimits (layout_of shape) size → ⊥) → IsWalk Goto plan feds steps (Return r) → CreateMeans site name size shape steps r
   create_outside r outside walk =
       let end = ended (reply.Refused refusal.BadShape) feds steps (Return r) (subst (λ p. IsWalk Goto p feds steps (Return r)) (is.outside outside) walk) in
       let same : Return r ≡ Return (reply.Refused refusal.BadShape) = end.1 in
       subst (CreateMeans site name size shape steps) (let e : reply.Refused refusal.BadShape ≡ r = cc in e) (inl (record { outside = outside; none = end.0; is = refl }))
+
+pub create_means : (site : SiteId) (c : Command) (plan : Plan) (feds : List Fed) (steps : List Answered) (r : Reply) → IsCreatePlan site c plan → AreGiven steps
+    → IsWalk Goto plan feds steps (Return r) → IsMeantBy site c steps r
+create_means site (command.Create name size shape) plan feds steps r is given walk = go (limits_or_not (layout_of shape) size)
+  where
+    go : KeepsLimits (layout_of shape) size ⊎ (KeepsLimits (layout_of shape) size → ⊥) → CreateMeans site name size shape steps r
+    go (inl keeps) = create_within site name size shape plan is feds steps r given keeps walk
+    go (inr passes) = create_outside site name size shape plan is feds steps r passes walk
+create_means site _ plan feds steps r is given walk = absurd is
 
 -- ---- ls, info, snap ls
 

@@ -11,7 +11,7 @@ ghost use Rattle.rbd_kinds.specs.Form.{IsNewHeader};
 ghost use Rattle.rbd_layout.specs.Asked.{KeepsLimits, layout_of};
 ghost use Rattle.rbd_machine.specs.Lawful.{IsLawfulRequest};
 ghost use Rattle.rbd_machine.specs.Plan.{Plan, Return, Goto, IsClosed, without_labels};
-ghost use Rattle.rbd_kinds.specs.declared.command.Command.TheVariants.{Create, SnapCreate, SnapRemove};
+ghost use Rattle.rbd_kinds.specs.declared.command.Command.TheVariants.{SnapCreate, SnapRemove};
 ghost use Rattle.rbd_kinds.specs.declared.machine.Fed.{Fed};
 ghost use Rattle.rbd_kinds.specs.declared.reply.Reply.{Reply};
 ghost use Rattle.rbd_kinds.specs.declared.reply.Reply.TheVariants.{Done, Info as ShownHeader, Names, Snaps};
@@ -53,10 +53,7 @@ pub fn plans_go_to_no_label()
 
 /// A `create` is lawful from nothing known: the header that it makes is a new one, under an id that it drew itself.
 pub fn creates_are_lawful()
-    ensures within { (site : SiteId) (name : List ℕ) (size : ℕ) (shape : Shape) (plan : Plan)
-        → IsCreate site name size shape plan → KeepsLimits (layout_of shape) size → IsLawfulRequest (without_labels plan) }
-    ensures outside { (site : SiteId) (name : List ℕ) (size : ℕ) (shape : Shape) (plan : Plan)
-        → IsCreate site name size shape plan → (KeepsLimits (layout_of shape) size → ⊥) → IsLawfulRequest (without_labels plan) }
+    ensures { (home : SiteId) (command : Command) (plan : Plan) → IsCreatePlan home command plan → IsLawfulRequest (without_labels plan) }
 {}
 
 /// An `ls`, an `info` and a `snap ls` are lawful from nothing known: they only look.
@@ -110,12 +107,8 @@ pub fn snapshots_change_behind_two_looks()
 /// operation can give: what a request did or was told when it isn't refused, and which answer refused it when it is, the
 /// last one, before which nothing was changed but where the fence did it. No other reply comes.
 pub fn replies_are_meant()
-    ensures within { (site : SiteId) (name : List ℕ) (size : ℕ) (shape : Shape) (plan : Plan) → IsCreate site name size shape plan
-        → (feds : List Fed) (steps : List Answered) (reply : Reply) → AreGiven steps → KeepsLimits (layout_of shape) size
-        → IsWalk Goto plan feds steps (Return reply) → IsMeantBy site (Create name size shape) steps reply }
-    ensures outside { (site : SiteId) (name : List ℕ) (size : ℕ) (shape : Shape) (plan : Plan) → IsCreate site name size shape plan
-        → (feds : List Fed) (steps : List Answered) (reply : Reply) → (KeepsLimits (layout_of shape) size → ⊥)
-        → IsWalk Goto plan feds steps (Return reply) → IsMeantBy site (Create name size shape) steps reply }
+    ensures create { (site : SiteId) (command : Command) (plan : Plan) (feds : List Fed) (steps : List Answered) (reply : Reply) → IsCreatePlan site command plan → AreGiven steps
+        → IsWalk Goto plan feds steps (Return reply) → IsMeantBy site command steps reply }
     ensures listing { (site : SiteId) (command : Command) (feds : List Fed) (steps : List Answered) (reply : Reply) → is_listing command ≡ true → AreGiven steps
         → IsWalk Goto (listing_plan site command) feds steps (Return reply) → IsMeantBy site command steps reply }
     ensures snap { (site : SiteId) (command : Command) (feds : List Fed) (steps : List Answered) (reply : Reply) → is_snap command ≡ true → AreGiven steps

@@ -1,5 +1,5 @@
 -- Plans that are refused by their last answer alone, step by step.
-use Rattle.std.proofs.Common.{◌≡◌, ◌⊎◌, inl, inr, ℕ, List, [], ◌∷◌, ◌++◌, Bool, true, false, cond, Option, Some, None, refl, ap, sym, subst, ◌∙◌}
+use Rattle.std.proofs.Common.{◌≡◌, ◌⊎◌, inl, inr, ℕ, List, [], ◌∷◌, Bool, true, false, cond, Option, Some, None, refl, ap, sym, subst}
 use Rattle.rbd_kinds.specs.declared.answer.Answer.{Answer}
 use Rattle.rbd_kinds.specs.declared.answer.Answer.TheVariants as answer
 use Rattle.rbd_kinds.specs.declared.directory_op.DirectoryOp.TheVariants as directory
@@ -16,10 +16,10 @@ use Rattle.rbd_kinds.specs.declared.reply.Reply.{Reply}
 use Rattle.rbd_kinds.specs.declared.reply.Reply.TheVariants as reply
 use Rattle.rbd_machine.specs.Answers.{CanGive}
 use Rattle.rbd_machine.specs.Label.{Label}
-use Rattle.rbd_machine.specs.Path.{Answered, IsWalk, IsFirstStep}
+use Rattle.rbd_machine.specs.Path.{Answered, IsWalk}
 use Rattle.rbd_machine.specs.Plan.{Plan, Ask, Await, Note, Return, Goto, settled}
-use Rattle.rbd_machine.specs.Refused.{refusal_by, only_looks, AreLooks, AreGiven, IsRefusedBy}
-use Rattle.rbd_machine.specs.Steps.{refused, unless, on_id, on_header, change, joining, looking, looked, holding, owning, owned}
+use Rattle.rbd_machine.specs.Refused.{refusal_by, only_looks, AreGiven, IsRefusedBy}
+use Rattle.rbd_machine.specs.Steps.{refused, unless, on_id, on_header, change, joining, looked, holding, owned}
 
 -- whether something was changed, once an operation is done
 abbrev pub changed_by : Bool → Op → Bool

@@ -66,19 +66,19 @@ first_told h None = Some h
 first_told h (Some own) = Some own
 
 abbrev pub with_header : (Option HeaderView → Option HeaderView) → Own → Own
-with_header change o = record { site = o.site; image = o.image; alone = o.alone; header = change o.header }
+with_header change o = record o { header = change o.header }
 
 abbrev pub told_of : SiteId → (image : ℕ) → (Option HeaderView → Option HeaderView) → Own → Own
 told_of site image change o = if is_at site image o.site o.image then with_header change o else o
 
 abbrev pub header_told : SiteId → (image : ℕ) → (Option HeaderView → Option HeaderView) → Knowledge → Knowledge
-header_told site image change k = record { alone = k.alone; owns = map (told_of site image change) k.owns; turn = k.turn; drawn = k.drawn }
+header_told site image change k = record k { owns = map (told_of site image change) k.owns }
 
 abbrev pub without_drawn : SiteId → (image : ℕ) → Knowledge → Knowledge
-without_drawn site image k = record { alone = k.alone; owns = k.owns; turn = k.turn; drawn = filter (λ d. not (is_at site image d.site d.image)) k.drawn }
+without_drawn site image k = record k { drawn = filter (λ d. not (is_at site image d.site d.image)) k.drawn }
 
 abbrev pub with_drawn : SiteId → (image : ℕ) → Knowledge → Knowledge
-with_drawn site image k = record { alone = k.alone; owns = k.owns; turn = k.turn; drawn = record { site = site; image = image } ∷ k.drawn }
+with_drawn site image k = record k { drawn = record { site = site; image = image } ∷ k.drawn }
 
 abbrev pub learned_of_directory : Knowledge → SiteId → DirectoryOp → Answer → Knowledge
 learned_of_directory k site (directory.Add name) (answer.Id image) = with_drawn site image k
@@ -108,8 +108,8 @@ held k site image = record { site = site; image = image; alone = k.alone; header
 
 -- What is known once it may go on. A turn lasts up to the next, or up to the end of its event.
 abbrev pub passed : Knowledge → Wait → Knowledge
-passed k (wait.Join site image alone) = record { alone = alone; owns = k.owns; turn = k.turn; drawn = k.drawn }
-passed k (wait.Hold site image) = record { alone = k.alone; owns = held k site image; turn = k.turn; drawn = k.drawn }
-passed k (wait.Turn object) = record { alone = k.alone; owns = k.owns; turn = Some object; drawn = k.drawn }
-passed k (wait.Applied site image) = record { alone = k.alone; owns = k.owns; turn = None; drawn = k.drawn }
-passed k (wait.Leave site image) = record { alone = k.alone; owns = left site image k.owns; turn = k.turn; drawn = k.drawn }
+passed k (wait.Join site image alone) = record k { alone = alone }
+passed k (wait.Hold site image) = record k { owns = held k site image }
+passed k (wait.Turn object) = record k { turn = Some object }
+passed k (wait.Applied site image) = record k { turn = None }
+passed k (wait.Leave site image) = record k { owns = left site image k.owns }

@@ -20,7 +20,7 @@ use Rattle.rbd_kinds.specs.Header.{snap_named}
 use Rattle.rbd_kinds.specs.Parts.{parts_len}
 use Rattle.rbd_header.specs.Header.{context_of, is_full, snap_in}
 use Rattle.rbd_layout.specs.Pieces.{IsPart}
-use Rattle.rbd_machine.specs.Knowledge.{Knowledge, Own, own_of, is_drawn}
+use Rattle.rbd_machine.specs.Knowledge.{Knowledge, own_of, is_drawn}
 
 -- It has the image's lock, and by its own look, with its own changes since, the header meets a condition.
 pub record OwnsBy (k : Knowledge) (site : SiteId) (image : ℕ) (condition : (alone : Bool) → HeaderView → Type 0) : Type 0 where

@@ -9,7 +9,7 @@ ghost use Rattle.rbd_kinds.specs.declared.layout.Part.{Part};
 ghost use Rattle.rbd_kinds.specs.declared.operation.Op.{Op};
 ghost use Rattle.rbd_kinds.specs.declared.operation.Op.TheVariants.{Data, Header};
 ghost use Rattle.rbd_header.specs.Header.{context_of, snap_in};
-ghost use Rattle.rbd_machine.specs.Knowledge.{Knowledge, Own, own_of};
+ghost use Rattle.rbd_machine.specs.Knowledge.{Knowledge, own_of};
 ghost use Rattle.rbd_machine.specs.Permits.{Permits};
 ghost use Rattle.rbd_kinds.specs.declared.header.HeaderView.{HeaderView};
 ghost use Rattle.rbd_kinds.specs.declared.id.SiteId.{SiteId};

@@ -49,11 +49,16 @@
 //! | `specs/Path.antt` | the operations of a plan one after another, and how many they are at most |
 //! | `specs/Passes.antt` | the last pass of a request that began again, and how often it did |
 //! | `specs/Turns.antt` | at which objects a request waits for its turn |
+//! | `specs/Knowledge.antt` | what a request knows, and what each answer (`learned`) and each wait (`passed`) teaches it |
+//! | `specs/Permits.antt` | what is permitted by that |
+//! | `specs/Lawful.antt` | a plan does only what it may by what is known there (`IsLawful`), and a request begins with nothing known (`IsLawfulRequest`) |
+//! | `specs/Refused.antt` | what an answer refuses (`refusal_by`), and what a refusal rests on (`IsRefusedBy`) |
 //!
 //! [`laws`] says that a request which wants an operation or an event noted has it, that what a request asks for, with the
 //! answers that it is fed, is a path of its plan, that a path has at most as many operations as its plan, that a request
 //! which begins again ends in a pass that doesn't, and has a pass's operations once more each time, and that a change has
-//! three operations up to its own look.
+//! three operations up to its own look. A request that is lawful stays so, whatever it is fed. What it doesn't own by a look
+//! behind the lock it may not change, and that look decides what it may.
 //!
 //! # A new request
 //!
@@ -70,7 +75,9 @@
 //! 6. A part that several requests have, as [`Approach`] or a piece of a write, is a struct of its own. Its clauses hold for
 //!    every plan that comes next, so the request puts in its own, and proves nothing of the part again. A step of a
 //!    part tells its [`Progress`].
-//! 7. Laws: its labels stand at operations (`IsClosed`), how many operations it has, and what has been done at its end.
+//! 7. Laws: its labels stand at operations (`IsClosed`), how many operations it has, that it is lawful (`IsLawfulRequest`; an
+//!    operation that no request did before gets its row in `Permits`, by what its effect on a site needs), and what each
+//!    reply means (`IsMeantBy` of its crate).
 //!
 //! # Cost
 //!

@@ -1,5 +1,5 @@
 -- What replies mean, command by command.
-use Rattle.std.proofs.Common.{◌≡◌, ◌⊎◌, inl, inr, ℕ, List, [], ◌∷◌, ◌++◌, replicate, Bool, true, false, cond, eqb, Option, Some, None, refl, ap, sym, subst, ◌∙◌}
+use Rattle.std.proofs.Common.{◌≡◌, ◌⊎◌, inl, inr, ℕ, List, [], ◌∷◌, ◌++◌, replicate, Bool, true, false, cond, eqb, Option, Some, None, refl, ap, subst}
 use Rattle.rbd_kinds.specs.declared.answer.Answer.{Answer}
 use Rattle.rbd_kinds.specs.declared.answer.Answer.TheVariants as answer
 use Rattle.rbd_kinds.specs.declared.command.Command.{Command}
@@ -26,7 +26,7 @@ use Rattle.rbd_machine.specs.Path.{Answered, IsWalk}
 use Rattle.rbd_machine.specs.Plan.{Plan, Return, Goto, Standing}
 use Rattle.rbd_machine.specs.Refused.{AreGiven, IsRefusedBy}
 use Rattle.rbd_machine.specs.Steps.{on_done, applied}
-use Rattle.rbd_machine.proofs.Refused.{EndsRefused, IsRefusing, EndsBy, changed_by, ends_by, walk_ends_by, refusing_find, refusing_look, refusing_header, refusing_change}
+use Rattle.rbd_machine.proofs.Refused.{EndsRefused, IsRefusing, EndsBy, ends_by, walk_ends_by, refusing_find, refusing_look, refusing_header, refusing_change}
 use Rattle.rbd_piece.specs.Gather.{gather, data_read, on_bytes}
 use Rattle.rbd_piece.specs.Write.{data_write}
 use Rattle.rbd_request.specs.Meant.{WriteMeans, ReadMeans, IsMeantBy, view_refuses, read_refuses}

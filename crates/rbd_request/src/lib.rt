@@ -43,7 +43,8 @@
 //! pass over the objects between two looks (`pass`), its closing look (`on_closing`), and where it stands (`rest_at`).
 //! [`laws`] says what such plans come to: a write is done only when each of its pieces was written by its own look
 //! (`specs/Writes.antt`), its turns are those at the objects of its pieces, ascending, a read shows bytes only in a pass between
-//! two looks at a header that didn't change, however often it began again (`specs/Shows.antt`), and how many operations they
+//! two looks at a header that didn't change, however often it began again (`specs/Shows.antt`), what each reply means, refusals
+//! among them (`specs/Meant.antt`), that the plans are lawful from nothing known (`rbd_machine`), and how many operations they
 //! have.
 //!
 //! # Cost

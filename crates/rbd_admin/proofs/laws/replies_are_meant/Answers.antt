@@ -1,11 +1,8 @@
-use Rattle.rbd_admin.proofs.Meant.{create_within, create_outside, listing_means, snap_means}
+use Rattle.rbd_admin.proofs.Meant.{create_means, listing_means, snap_means}
 use Rattle.rbd_admin.proofs.laws.replies_are_meant.Goals as goal
 
-pub returns-clause-within : goal.returns-clause-within
-returns-clause-within c = create_within
-
-pub returns-clause-outside : goal.returns-clause-outside
-returns-clause-outside c = create_outside
+pub returns-clause-create : goal.returns-clause-create
+returns-clause-create c = create_means
 
 pub returns-clause-listing : goal.returns-clause-listing
 returns-clause-listing c = listing_means
