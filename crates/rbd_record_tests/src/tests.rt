@@ -1,14 +1,7 @@
-mod edge;
 mod fence;
-mod flat;
-mod frame;
 mod guard;
 mod header;
 mod journal;
-mod kinds;
-mod layout;
 mod map;
-mod object;
 mod registry;
-mod site;
 mod watch;

@@ -1,0 +1,3 @@
+mod edge;
+mod flat;
+mod site;
