@@ -69,7 +69,7 @@ module _ (p s : ℕ) where
   later x from other c = past (nat_cmp p x.parent) (nat_cmp s x.snap) (nat_cmp 0 x.child) (nat_cmp c x.child) from (λ e g.
       true≢false (sym (ap (λ b. b && eqb x.snap s) (itself x.parent p (sym (exact_unsigned p x.parent e))) ∙ itself x.snap s (sym (exact_unsigned s x.snap g))) ∙ other))
 
-  tied_child : (x : Entry) (c : ℕ) → is_of x ≡ true → is_at (entry_cmp (at c)) x ≡ eqb x.child c
+  pub tied_child : (x : Entry) (c : ℕ) → is_of x ≡ true → is_at (entry_cmp (at c)) x ≡ eqb x.child c
   tied_child x c e = ap (is_at (entry_cmp (at c))) (at_child x e) ∙ ap is_eq (by_child c x.child) ∙ unsigned_tied c x.child ∙ nat_eq_equiv.symm c x.child
 
   none_later : (x : Entry) (xs : List Entry) (c : ℕ) → entry_cmp (at c) x ≡ Less → AllByRecursion (λ y. entry_cmp x y ≡ Less) xs → list_any (is_at (entry_cmp (at c))) xs ≡ false

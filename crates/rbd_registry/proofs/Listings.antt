@@ -2,8 +2,8 @@
 use Rattle.std.proofs.Common.{◌≡◌, ℕ, ◌+◌, ◌-◌, ◌<◌, ◌≤◌, ◌^◌, Bool, true, false, cond, eqb, leb, not, ◌||◌, List, [], ◌∷◌, length, is_some, Option, Some, None, refl, sym, ◌∙◌, ap, subst, arith, suc, ◌⊎◌, inl, inr}
 use Rattle.std.specs.Prelude.{◌↔◌, IsTrue}
 use Rattle.std.specs.Bool.{OnFalse}
-use Rattle.std.specs.List.{filter, slice_get}
-use Rattle.std.specs.Map.{lookup, keys_of}
+use Rattle.std.specs.List.{filter, list_any, slice_get}
+use Rattle.std.specs.Map.{lookup, keys_of, values_of}
 use Rattle.std.specs.BTreeMap.{is_at}
 use Rattle.std.specs.Ordering.{eq_by_cmp}
 use Rattle.std.specs.Cmp.{Equal-is, tied_itself, eq_by_cmp_equiv}
@@ -15,7 +15,7 @@ use Rattle.std.proofs.lemmas.Bool.Decides.{eqb_tells}
 use Rattle.std.proofs.lemmas.Map.Lookups.{exact_bytes}
 use Rattle.std.proofs.lemmas.Map.Keys.{IsDistinct-from_sorted}
 use Rattle.std.proofs.lemmas.Map.Entries.{option_filter, lookup-filter-values, lookup_from_place}
-use Rattle.rbd_registry.specs.Directory.{Listing, name_cmp, nothing_listed, listing_of, id_of, but, is_full, added, freed, renamed, IsNamed, IsSoundListing}
+use Rattle.rbd_registry.specs.Directory.{Listing, name_cmp, nothing_listed, listing_of, id_of, but, is_full, added, freed, holds, renamed, IsNamed, IsSoundListing}
 use Rattle.rbd_kinds.proofs.Ordered.{get_entries, one_given, one_taken, entries_in_order, len_in_order}
 
 -- ---- from entries to names
@@ -278,6 +278,42 @@ module _ (image : ℕ) where
             none : (b : Bool) → b ≡ true → cond b None (Some image) ≡ Some image → ⊥
             none true t e = cc
             none false t e = cc
+
+    -- a name has the id exactly where one of the values is it
+    held_listed : holds image (listing_of es n) ≡ list_any (λ e. eqb e.1 image) es
+    held_listed = ap (list_any (λ e. eqb e.1 image)) (entries_in_order nat_list_cmp_total es sorted)
+
+    valued : (fs : List (List ℕ × ℕ)) → list_any (λ held. eqb held image) (values_of fs) ≡ list_any (λ e. eqb e.1 image) fs
+    valued [] = refl
+    valued (e ∷ fs) = ap (λ b. eqb e.1 image || b) (valued fs)
+
+    pub held_valued : list_any (λ held. eqb held image) (values_of es) ≡ holds image (listing_of es n)
+    held_valued = valued es ∙ sym held_listed
+
+    one_or_none : (fs : List (List ℕ × ℕ)) → ((list_any (λ e. eqb e.1 image) fs ≡ true) × (length (filter stays fs) < length fs)) ⊎ ((list_any (λ e. eqb e.1 image) fs ≡ false) × (filter stays fs ≡ fs))
+    one_or_none [] = inr (refl, refl)
+    one_or_none (e ∷ fs) = go (eqb e.1 image) refl (one_or_none fs) (shorter fs)
+      where
+        go : (b : Bool) → eqb e.1 image ≡ b
+            → ((list_any (λ e. eqb e.1 image) fs ≡ true) × (length (filter stays fs) < length fs)) ⊎ ((list_any (λ e. eqb e.1 image) fs ≡ false) × (filter stays fs ≡ fs))
+            → length (filter stays fs) ≤ length fs
+            → ((b || list_any (λ e. eqb e.1 image) fs ≡ true) × (length (cond (not b) (e ∷ filter stays fs) (filter stays fs)) < suc (length fs)))
+              ⊎ ((b || list_any (λ e. eqb e.1 image) fs ≡ false) × (cond (not b) (e ∷ filter stays fs) (filter stays fs) ≡ e ∷ fs))
+        go true t rest l = inl (refl, omega arith)
+        go false t (inl found) l = let fewer = found.1 in inl (found.0, omega arith)
+        go false t (inr same) l = inr (same.0, ap (λ gs. e ∷ gs) same.1)
+
+    -- whether there are fewer tells whether a name has the id
+    pub held_freed : (after before : ℕ) → after ≡ length (filter stays es) → before ≡ length es → not (eqb after before) ≡ holds image (listing_of es n)
+    held_freed after before p q =
+        elim (one_or_none es) [
+        | inl found ↦ let fewer = found.1 in ap not (ne_eqb after before (λ same. omega arith)) ∙ sym found.0
+        | inr same ↦ ap not (equal (p ∙ ap length same.1 ∙ sym q)) ∙ sym same.0
+        ]
+        ∙ sym held_listed
+      where
+        equal : after ≡ before → eqb after before ≡ true
+        equal e = elim (eqb_tells after before) [ inl y ↦ y.0 | inr apart ↦ absurd (apart.1 e) ]
 
     pub same_freed : (after before : ℕ) → after ≡ length (filter stays es) → before ≡ length es → OnFalse (not (eqb after before)) (listing_of (filter stays es) n ≡ listing_of es n)
     same_freed after before p q = elim (splits es) [

@@ -1,6 +1,6 @@
 -- A site's directory: which image a name has, and which id was drawn last.
 use Rattle.std.specs.Prelude.{◌≡◌, ℕ, ◌+◌, ◌<◌, ◌≤◌, ◌^◌, ◌==◌, nat_le, not, Bool, ◌||◌, List, Option, None, Some, if◌then◌else◌}
-use Rattle.std.specs.List.{filter}
+use Rattle.std.specs.List.{filter, list_any}
 use Rattle.std.specs.Ordering.{nat_cmp}
 use Rattle.std.specs.Cmp.Lexicographic.{slice_cmp}
 use Rattle.std.specs.declared.cmp.Ordering.{Ordering}
@@ -27,6 +27,10 @@ id_of d name = finmap.get d.names name
 -- a name has the id
 abbrev pub IsNamed : Listing → ℕ → Type 0
 IsNamed d image = (name : List ℕ) × (id_of d name ≡ Some image)
+
+-- whether a name has the id
+abbrev pub holds : (image : ℕ) → Listing → Bool
+holds image d = list_any (λ e. e.1 == image) (finmap.entries d.names)
 
 -- 4,096 names are held, or the ids are used up
 abbrev pub is_full : Listing → Bool

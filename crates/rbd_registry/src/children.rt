@@ -1,6 +1,6 @@
 ghost use Rattle.std.specs.Prelude.{◌≡◌, OnOk, OnErr, IfOk};
 ghost use Rattle.std.specs.FinSet as finset;
-ghost use Rattle.rbd_registry.specs.Children.{AreChildren};
+ghost use Rattle.rbd_registry.specs.Children.{AreChildren, children_in};
 
 use crate::entry::Entry;
 use rbd_kinds::{Ids, ImageId, NoMemory, SnapId};
@@ -68,6 +68,7 @@ impl Children {
     /// The children of a parent's snapshot, ascending.
     pub fn of(&self, parent: ImageId, snap: SnapId) -> Result<Ids, NoMemory>
         ensures children { IfOk result (AreChildren self.now parent snap) }
+        ensures list { IfOk result (λ ids. ids ≡ children_in self.now parent snap) }
     {
         let mut ids = Ids::new(self.alloc);
         let first = Entry {

@@ -1,8 +1,11 @@
-ghost use Rattle.std.specs.Prelude.{◌≡◌, ◌+◌, ℕ, List, ◌↔◌, OnOk, OnErr, IfOk, IsTrue, IsErrOf, IsSome, None, Some, false};
+ghost use Rattle.std.specs.Prelude.{◌≡◌, ◌+◌, ◌==◌, ℕ, List, ◌↔◌, OnOk, OnErr, IfOk, IsTrue, IsErrOf, IsSome, None, Some, false};
 ghost use Rattle.std.specs.Bool.{OnFalse};
 ghost use Rattle.std.specs.FinMap as finmap;
+ghost use Rattle.std.specs.List.{list_any};
+ghost use Rattle.std.specs.List.Sorted.{IsStrictlySortedBy};
+ghost use Rattle.std.specs.Map.{keys_of, values_of};
 ghost use Rattle.std.specs.BTreeMap.{IsUnchanged, Updates};
-ghost use Rattle.rbd_registry.specs.Directory.{name_cmp, nothing_listed, id_of, but, is_full, added, freed, renamed, IsNamed, IsSoundListing};
+ghost use Rattle.rbd_registry.specs.Directory.{name_cmp, nothing_listed, id_of, but, is_full, added, freed, holds, renamed, IsNamed, IsSoundListing};
 
 use crate::fault::{AddFault, RenameFault};
 use rbd_kinds::{ImageId, Name, Names, NoMemory, TryClone};
@@ -100,10 +103,18 @@ impl Directory {
         self.drawn
     }
 
+    /// Whether a name has this id. It takes no memory, and reads each name's id at most once.
+    pub fn holds(&self, image: ImageId) -> bool
+        ensures { result ≡ holds image self.now }
+    {
+        is_value(&self.names, image)
+    }
+
     /// Takes the name of an image away, and answers whether it had one. It takes no memory, and reads each
     /// name's id once. The id isn't drawn again.
     pub fn remove(&mut self, image: ImageId) -> bool
         ensures found { IsTrue result ↔ IsNamed self.old image }
+        ensures held { result ≡ holds image self.old }
         ensures each { (name : List ℕ) → id_of self.new name ≡ but image (id_of self.old name) }
         ensures freed { self.new ≡ freed image self.old }
         ensures missing { OnFalse result (self.new ≡ self.old) }
@@ -148,6 +159,14 @@ impl Directory {
         }
         Ok(names)
     }
+}
+
+/// Whether a name has this id.
+fn is_value(names: &BTreeMap<Name, ImageId>, image: ImageId) -> bool
+    ensures value { result ≡ list_any (λ held. held == image) (values_of names.now.entries) }
+    ensures ordered { IsStrictlySortedBy name_cmp (keys_of names.now.entries) }
+{
+    names.values().any(|held| *held == image)
 }
 
 /// Gives a name an id, or changes nothing.

@@ -1,7 +1,8 @@
-use Rattle.std.proofs.Common.{◌++◌, sym, ◌∙◌, subst}
+use Rattle.std.proofs.Common.{◌++◌, sym, ◌∙◌, subst, rules}
 use Rattle.std.specs.List.{filter}
 use Rattle.rbd_registry.specs.Children.{AreChildren}
 use Rattle.rbd_registry.proofs.Entries.{front, from_first, range_children}
+use Rattle.rbd_registry.proofs.Ascending.{children_are}
 use Rattle.rbd_registry.proofs.children.Children.of.Goals as goal
 
 pub loop-entry-init : goal.loop-entry-init
@@ -14,3 +15,6 @@ loop-entry-init c =
     (subst (λ xs. AreChildren c.args.self.now parent snap (front parent snap xs)) (sym yielded)
     (subst (λ set. AreChildren set parent snap (front parent snap (filter (from_first parent snap) keys))) c.self.view_is
     (range_children parent snap keys c.range-entry-items.ensures.ordered)))
+
+pub returns-clause-list : goal.returns-clause-list
+returns-clause-list c = children_are c.args.self.now c.args.parent c.args.snap c.loop-entry.ids (search rules)
