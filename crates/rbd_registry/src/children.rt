@@ -1,4 +1,5 @@
 ghost use Rattle.std.specs.Prelude.{◌≡◌, OnOk, OnErr, IfOk};
+ghost use Rattle.std.specs.Bool.{OnFalse};
 ghost use Rattle.std.specs.FinSet as finset;
 ghost use Rattle.rbd_registry.specs.Children.{AreChildren, children_in};
 
@@ -52,9 +53,22 @@ impl Children {
         Ok(())
     }
 
+    /// Whether an entry is there. It takes no memory.
+    pub fn contains(&self, parent: ImageId, snap: SnapId, child: ImageId) -> bool
+        ensures { result ≡ finset.contains self.now (record { parent = parent; snap = snap; child = child }) }
+    {
+        let entry = Entry {
+            parent,
+            snap,
+            child,
+        };
+        self.entries.contains(&entry)
+    }
+
     /// Removes an entry, and answers whether it was there. It takes no memory.
     pub fn remove(&mut self, parent: ImageId, snap: SnapId, child: ImageId) -> bool
         ensures found { result ≡ finset.contains self.old (record { parent = parent; snap = snap; child = child }) }
+        ensures missing { OnFalse result (self.new ≡ self.old) }
         ensures removed { self.new ≡ finset.remove self.old (record { parent = parent; snap = snap; child = child }) }
     {
         let entry = Entry {

@@ -197,5 +197,6 @@ form_after r me (on.Header image op) most held may = record {
       (after_generation me (r.headers image) op most (held.generation image) may) (λ i h is. omega (arith, held.generation i h is));
 }
 form_after r me (on.Directory op) most held may = record { form = held.form; generation = λ i h is. omega (arith, held.generation i h is) }
+form_after r me (on.Children op) most held may = record { form = held.form; generation = λ i h is. omega (arith, held.generation i h is) }
 form_after r me (on.Data image number op) most held may = record { form = held.form; generation = λ i h is. omega (arith, held.generation i h is) }
 form_after r me op most held may = absurd may

@@ -1,3 +1,4 @@
+pub mod GenerationLemmas
 pub mod FormLemmas
 pub mod HeaderLemmas
 pub mod LogLemmas

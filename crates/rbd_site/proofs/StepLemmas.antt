@@ -15,13 +15,18 @@ use Rattle.rbd_kinds.specs.declared.operation.Op.{Op}
 use Rattle.rbd_kinds.specs.declared.operation.Op.TheVariants as on
 use Rattle.rbd_kinds.specs.Header.{snap_named}
 use Rattle.rbd_header.specs.Header.{is_full, snap_in, with_snap, with_status, without_snap}
-use Rattle.rbd_registry.specs.Directory.{Listing, id_of, is_full as is_full_directory, added, renamed}
+use Rattle.rbd_registry.specs.Directory.{Listing, id_of, is_full as is_full_directory, added, freed, holds, renamed}
 use Rattle.rbd_object.specs.Mapped.{Mapped}
+use Rattle.std.specs.FinSet as finset
+use Rattle.rbd_kinds.specs.declared.children_op.ChildrenOp.{ChildrenOp}
+use Rattle.rbd_kinds.specs.declared.children_op.ChildrenOp.TheVariants as child
+use Rattle.rbd_site.specs.ChildrenStep.{Entries, entry, children_answer, children_after}
+use Rattle.rbd_site.specs.Found.{done_where}
 use Rattle.rbd_site.specs.DataStep.{blank_answer, data_change, where_object_done, data_after}
 use Rattle.rbd_site.specs.DirectoryStep.{directory_answer, directory_after, name_added, name_changed, where_added, where_done}
 use Rattle.rbd_site.specs.HeaderStep.{header_answer, header_after, is_owner, lock_taken, snap_added, where_made}
-use Rattle.rbd_site.specs.Laws.{is_change, is_on_directory, is_on_header, is_on_object}
-use Rattle.rbd_site.specs.Records.{Records, or_blank, put, with_directory}
+use Rattle.rbd_site.specs.Laws.{is_change, is_on_children, is_on_directory, is_on_header, is_on_object}
+use Rattle.rbd_site.specs.Records.{Records, or_blank, put, with_children, with_directory}
 use Rattle.rbd_site.specs.Step.{answer_to, after}
 use Rattle.rbd_site.proofs.TrimLemmas.{put_same, with_object_same}
 
@@ -48,6 +53,10 @@ other_object r me (on.Data image number op) i n other = go (eqb i image) (eqb n 
     go false t a b other = refl
 other_object r me op i n other = refl
 
+pub other_children : (r : Records) (me : Instance) (op : Op) → IsFalse (is_on_children op) → (after r me op).children ≡ r.children
+other_children r me (on.Children op) other = cc
+other_children r me op other = refl
+
 pub refused_directory : (d : Listing) (op : DirectoryOp) → IsFalse (is_change (directory_answer d op)) → directory_after d op ≡ d
 refused_directory d (dir.Add name) other = go (id_of d name) (is_full_directory d) other
   where
@@ -55,6 +64,11 @@ refused_directory d (dir.Add name) other = go (id_of d name) (is_full_directory 
     go (Some image) full other = refl
     go None true other = refl
     go None false other = cc
+refused_directory d (dir.Remove image) other = go (holds image d) other
+  where
+    go : (b : Bool) → is_change (done_where b) ≡ false → cond b (freed image d) d ≡ d
+    go true other = cc
+    go false other = refl
 refused_directory d (dir.Rename from to) other = go (id_of d from) (id_of d to) other
   where
     go : (a b : Option ℕ) → is_change (name_changed a b) ≡ false → where_done (name_changed a b) (renamed (id_of d from) from to d) d ≡ d
@@ -62,6 +76,15 @@ refused_directory d (dir.Rename from to) other = go (id_of d from) (id_of d to) 
     go (Some image) None other = cc
     go (Some image) (Some held) other = refl
 refused_directory d op other = refl
+
+pub refused_children : (entries : Entries) (op : ChildrenOp) → IsFalse (is_change (children_answer entries op)) → children_after entries op ≡ entries
+refused_children entries (child.Add parent snap child) other = cc
+refused_children entries (child.Remove parent snap child) other = go (finset.contains entries (entry parent snap child)) other
+  where
+    go : (b : Bool) → is_change (done_where b) ≡ false → cond b (finset.remove entries (entry parent snap child)) entries ≡ entries
+    go true other = cc
+    go false other = refl
+refused_children entries (child.List parent snap) other = refl
 
 -- what wasn't done left the header
 not_done : (done : Bool) (refusal : Answer) (changed old : HeaderView) → is_change (cond done answer.Done refusal) ≡ false → Some (cond done changed old) ≡ Some old
@@ -99,8 +122,9 @@ refused_object o op other = go (blank_answer (or_blank o) op) other
 
 pub refused : (r : Records) (me : Instance) (op : Op) → IsFalse (is_change (answer_to r me op)) → after r me op ≡ r
 refused r me (on.Directory op) other = ap (λ d. with_directory d r) (refused_directory r.directory op other)
+refused r me (on.Children op) other = ap (λ entries. with_children entries r) (refused_children r.children op other)
 refused r me (on.Header image op) other =
-    ap (λ (headers : ℕ → Option HeaderView). record { directory = r.directory; headers = headers; objects = r.objects })
+    ap (λ (headers : ℕ → Option HeaderView). record { directory = r.directory; children = r.children; headers = headers; objects = r.objects })
     (put_same r.headers image (header_after me (r.headers image) op) (refused_header me (r.headers image) op other))
 refused r me (on.Data image number op) other =
     with_object_same image number (data_after (r.objects image number) op) r (refused_object (r.objects image number) op other)

@@ -17,7 +17,7 @@ put_same {T} f place value is = fun_ext (λ n. go n (eqb n place) refl)
 
 pub with_object_same : (image number : ℕ) (object : Option Mapped) (r : Records) → object ≡ r.objects image number → with_object image number object r ≡ r
 with_object_same image number object r is =
-    ap (λ (objects : ℕ → ℕ → Option Mapped). record { directory = r.directory; headers = r.headers; objects = objects })
+    ap (λ (objects : ℕ → ℕ → Option Mapped). record { directory = r.directory; children = r.children; headers = r.headers; objects = objects })
     (put_same r.objects image (put (r.objects image) number object) (put_same (r.objects image) number object is))
 
 -- nothing is there to trim

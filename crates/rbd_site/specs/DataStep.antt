@@ -12,6 +12,7 @@ use Rattle.rbd_object.specs.Mapped.{Mapped, looked, mapped_change, mapped_copy_u
 use Rattle.rbd_object.specs.Versioned.{view}
 use Rattle.rbd_object.specs.declared.content.TheConstants.{LARGEST_OBJECT}
 use Rattle.rbd_site.specs.Records.{or_blank}
+use Rattle.rbd_site.specs.Found.{done_where}
 
 -- The operations that are built, and their conditions: parts within the largest object, with as many bytes
 -- as they have.
@@ -34,9 +35,9 @@ finds must o = not must || is_some o.head
 
 abbrev pub blank_answer : Mapped → DataOp → Answer
 blank_answer o (Read snap parts) = parts_read parts (view (looked o) snap)
-blank_answer o (Write context must parts bytes) = if finds must o then answer.Done else answer.Absent
+blank_answer o (Write context must parts bytes) = done_where (finds must o)
 blank_answer o (WriteFull context bytes) = answer.Done
-blank_answer o (Zero context must parts) = if finds must o then answer.Done else answer.Absent
+blank_answer o (Zero context must parts) = done_where (finds must o)
 blank_answer o (Empty context) = answer.Done
 blank_answer o (Remove context) = answer.Done
 blank_answer o (CopyUp bytes) = if is_some o.head then answer.Exists else answer.Done

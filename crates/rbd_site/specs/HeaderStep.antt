@@ -9,6 +9,7 @@ use Rattle.rbd_kinds.specs.declared.id.Instance.{Instance}
 use Rattle.rbd_kinds.specs.Form.{HasFewObjects, IsNewHeader}
 use Rattle.rbd_kinds.specs.Header.{snap_named}
 use Rattle.rbd_header.specs.Header.{snap_in, is_full, with_size, with_snap, with_status, without_snap, detached, with_role, in_step}
+use Rattle.rbd_site.specs.Found.{done_where}
 
 abbrev pub same_instance : Instance → Instance → Bool
 same_instance a b = (a.session == b.session) && (a.life == b.life)
@@ -27,9 +28,6 @@ MayDoOnHeader header op = Unit {0}
 
 abbrev pub snap_added : (listed full : Bool) → (next : ℕ) → Answer
 snap_added listed full next = if listed then answer.Exists else if full then answer.Full else answer.Snap next
-
-abbrev pub done_where : Bool → Answer
-done_where there = if there then answer.Done else answer.Absent
 
 abbrev pub lock_taken : Instance → (owner : Option Instance) → Answer
 lock_taken me None = answer.Done

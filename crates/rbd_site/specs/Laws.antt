@@ -2,12 +2,20 @@
 use Rattle.std.specs.Prelude.{ℕ, ◌==◌, ◌&&◌, Bool, true, false}
 use Rattle.rbd_kinds.specs.declared.answer.Answer.{Answer}
 use Rattle.rbd_kinds.specs.declared.answer.Answer.TheVariants as answer
+use Rattle.rbd_kinds.specs.declared.children_op.ChildrenOp.TheVariants as children
+use Rattle.rbd_kinds.specs.declared.data_op.DataOp.TheVariants as object
+use Rattle.rbd_kinds.specs.declared.directory_op.DirectoryOp.TheVariants as directory
+use Rattle.rbd_kinds.specs.declared.header_op.HeaderOp.TheVariants as header
 use Rattle.rbd_kinds.specs.declared.operation.Op.{Op}
 use Rattle.rbd_kinds.specs.declared.operation.Op.TheVariants as on
 
 abbrev pub is_on_directory : Op → Bool
 is_on_directory (on.Directory op) = true
 is_on_directory op = false
+
+abbrev pub is_on_children : Op → Bool
+is_on_children (on.Children op) = true
+is_on_children op = false
 
 abbrev pub is_on_header : (image : ℕ) → Op → Bool
 is_on_header i (on.Header image op) = i == image
@@ -23,3 +31,19 @@ is_change answer.Done = true
 is_change (answer.Id image) = true
 is_change (answer.Snap snap) = true
 is_change a = false
+
+-- an operation that only reads
+abbrev pub is_look : Op → Bool
+is_look (on.Directory (directory.Find name)) = true
+is_look (on.Directory directory.List) = true
+is_look (on.Children (children.List parent snap)) = true
+is_look (on.Header image header.Get) = true
+is_look (on.Data image number (object.Read snap parts)) = true
+is_look _ = false
+
+-- an operation on the lock of an image
+abbrev pub is_on_lock : Op → Bool
+is_on_lock (on.Header image header.LockTake) = true
+is_on_lock (on.Header image header.LockDrop) = true
+is_on_lock (on.Header image (header.LockBreak owner)) = true
+is_on_lock _ = false

@@ -1,5 +1,7 @@
+pub mod ChildrenStep
 pub mod DataStep
 pub mod DirectoryStep
+pub mod Found
 pub mod HeaderStep
 pub mod InForm
 pub mod Laws

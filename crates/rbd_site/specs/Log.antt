@@ -1,5 +1,5 @@
 -- The log of a site: what each operation did to the records, from none on, and what it was answered.
-use Rattle.std.specs.Prelude.{◌≡◌, ℕ, ◌+◌, List, [], ◌∷◌, length, Option, Some, None, option_map}
+use Rattle.std.specs.Prelude.{◌≡◌, ℕ, ◌+◌, List, [], ◌∷◌, length, Option, Some, None, option_map, IsSome}
 use Rattle.rbd_kinds.specs.declared.answer.Answer.{Answer}
 use Rattle.rbd_kinds.specs.declared.answer.Answer.TheVariants as answer
 use Rattle.rbd_kinds.specs.declared.header.HeaderView.{HeaderView}
@@ -35,11 +35,12 @@ abbrev pub after_all : Records → List Done → Records
 after_all r [] = r
 after_all r (d ∷ log) = after_all (after_op r d.instance d.op) log
 
--- an operation's answer is that of the records before it; a step of the store is done
+-- An operation is an instance's, and its answer is that of the records before it. A trim is the store's own, of an object
+-- that is there, and is done.
 abbrev pub IsAnswer : Records → Option Instance → DoneOp → Answer → Type 0
 IsAnswer r (Some me) (done.Op op) a = a ≡ answer_to r me op
 IsAnswer r None (done.Op op) a = ⊥
-IsAnswer r instance (done.Trim image number) a = (instance ≡ None) × (a ≡ answer.Done)
+IsAnswer r instance (done.Trim image number) a = (instance ≡ None) × IsSome (r.objects image number) × (a ≡ answer.Done)
 IsAnswer r instance (done.Expire image i) a = ⊥
 
 abbrev pub AreAnswered : Records → List Done → Type 0

@@ -24,4 +24,4 @@ object_in objects image number = get key_cmp objects (key image number)
 
 -- the records that a store keeps
 abbrev pub kept : Store → Records
-kept s = record { directory = s.directory; headers = header_in s.headers; objects = object_in s.objects }
+kept s = record { directory = s.directory; children = s.children; headers = header_in s.headers; objects = object_in s.objects }

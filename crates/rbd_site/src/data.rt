@@ -5,6 +5,7 @@ ghost use Rattle.rbd_site.specs.Records.{put};
 ghost use Rattle.rbd_site.specs.Maps.{object_in};
 ghost use Rattle.rbd_site.specs.DataStep.{MayDoOnData, finds, blank_answer, data_answer, data_change, data_after, where_object_done};
 
+use crate::found::done_where;
 use crate::object_key::ObjectKey;
 use rbd_kinds::{Answer, DataOp, NoMemory, Part, SnapId};
 use rbd_object::Object;
@@ -164,12 +165,6 @@ fn read(object: &Object, snap: Option<SnapId>, parts: &[Part]) -> Result<Answer,
         Some(bytes) => Ok(Answer::Bytes(bytes.share()?)),
         None => Ok(Answer::Absent),
     }
-}
-
-fn done_where(found: bool) -> Answer
-    ensures { result ≡ (if found then Answer.Done else Answer.Absent) }
-{
-    if found { Answer::Done } else { Answer::Absent }
 }
 
 fn copied_up(object: &Object) -> Answer

@@ -1,13 +1,13 @@
 //! Operations on the directory.
 ghost use Rattle.std.specs.Prelude.{◌≡◌, IfOk, OnOk, OnErr};
-ghost use Rattle.rbd_site.specs.DirectoryStep.{IsDirectoryOp, image_found, directory_answer, directory_after};
+ghost use Rattle.rbd_site.specs.DirectoryStep.{image_found, directory_answer, directory_after};
 
+use crate::found::done_where;
 use rbd_kinds::{Answer, DirectoryOp, ImageId, Name, NoMemory};
 use rbd_registry::{AddFault, Directory, RenameFault};
 
 /// What an operation is answered now.
 pub fn answer(directory: &Directory, op: &DirectoryOp) -> Result<Answer, NoMemory>
-    requires { IsDirectoryOp op.now }
     ensures { IfOk result (λ answer. answer ≡ directory_answer directory.now op.now) }
 {
     match op {
@@ -15,13 +15,12 @@ pub fn answer(directory: &Directory, op: &DirectoryOp) -> Result<Answer, NoMemor
         DirectoryOp::Add { name } => Ok(added(directory, name)),
         DirectoryOp::Rename { from, to } => Ok(renamed(directory, from, to)),
         DirectoryOp::List => Ok(Answer::Names(directory.list()?)),
-        DirectoryOp::Remove { image: _ } => unreachable!(),
+        DirectoryOp::Remove { image } => Ok(done_where(directory.holds(*image))),
     }
 }
 
 /// Does an operation, or nothing at all.
 pub fn change(directory: &mut Directory, op: &DirectoryOp) -> Result<(), NoMemory>
-    requires { IsDirectoryOp op.now }
     ensures ok { OnOk result (directory.new ≡ directory_after directory.old op.now) }
     ensures err { OnErr result (directory.new ≡ directory.old) }
 {
@@ -29,7 +28,10 @@ pub fn change(directory: &mut Directory, op: &DirectoryOp) -> Result<(), NoMemor
         DirectoryOp::Add { name } => add(directory, name),
         DirectoryOp::Rename { from, to } => rename(directory, from, to),
         DirectoryOp::Find { name: _ } | DirectoryOp::List => Ok(()),
-        DirectoryOp::Remove { image: _ } => unreachable!(),
+        DirectoryOp::Remove { image } => {
+            remove(directory, *image);
+            Ok(())
+        }
     }
 }
 
@@ -92,4 +94,10 @@ fn rename(directory: &mut Directory, from: &Name, to: &Name) -> Result<(), NoMem
             RenameFault::NoMemory => Err(NoMemory),
         },
     }
+}
+
+fn remove(directory: &mut Directory, image: ImageId)
+    ensures { directory.new ≡ directory_after directory.old (DirectoryOp.Remove image) }
+{
+    directory.remove(image);
 }

@@ -5,8 +5,9 @@ ghost use Rattle.rbd_site.specs.Maps.{header_in};
 ghost use Rattle.rbd_site.specs.Log.{live_in};
 ghost use Rattle.rbd_kinds.specs.Header.{snap_named};
 ghost use Rattle.rbd_header.specs.Header.{snap_in, is_full, with_snap};
-ghost use Rattle.rbd_site.specs.HeaderStep.{MayDoOnHeader, is_owner, lock_taken, lock_left, done_where, snap_added, where_made, there_answer, missing_answer, header_answer, header_then, header_after};
+ghost use Rattle.rbd_site.specs.HeaderStep.{MayDoOnHeader, is_owner, lock_taken, lock_left, snap_added, where_made, there_answer, missing_answer, header_answer, header_then, header_after};
 
+use crate::found::done_where;
 use rbd_header::{Header, SnapAddFault, ids_of};
 use rbd_kinds::{
     Answer, HeaderOp, HeaderView, ImageId, Instance, Name, NoMemory, SnapId, TryClone,
@@ -272,12 +273,6 @@ fn lists(header: &Header, snap: SnapId) -> bool
     ensures { result ≡ is_some (snap_in header.now.snaps snap) }
 {
     header.snapshot(snap).is_some()
-}
-
-fn done_where(there: bool) -> Answer
-    ensures { result ≡ done_where there }
-{
-    if there { Answer::Done } else { Answer::Absent }
 }
 
 fn lock_taken(instance: Instance, owner: Option<Instance>) -> Answer

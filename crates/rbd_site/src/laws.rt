@@ -1,12 +1,13 @@
 //! What the definitions of a site's operations mean: each law is the contract of a function that does
 //! nothing.
-ghost use Rattle.std.specs.Prelude.{◌≡◌, ℕ, ◌+◌, ◌≤◌, List, Some, IsFalse};
+ghost use Rattle.std.specs.Prelude.{◌≡◌, ℕ, ◌+◌, ◌≤◌, List, Some, IsFalse, IsTrue};
+ghost use Rattle.rbd_kinds.specs.declared.header.HeaderView.{HeaderView};
 ghost use Rattle.rbd_kinds.specs.declared.id.Instance.{Instance};
 ghost use Rattle.rbd_kinds.specs.declared.operation.Op.{Op};
 ghost use Rattle.rbd_object.specs.Mapped.{looked};
 ghost use Rattle.rbd_object.specs.Versioned.{view};
 ghost use Rattle.rbd_site.specs.InForm.{AreInForm};
-ghost use Rattle.rbd_site.specs.Laws.{is_change, is_on_directory, is_on_header, is_on_object};
+ghost use Rattle.rbd_site.specs.Laws.{is_change, is_look, is_on_children, is_on_directory, is_on_header, is_on_lock, is_on_object};
 ghost use Rattle.rbd_site.specs.Log.{trimmed};
 ghost use Rattle.rbd_site.specs.Records.{Records, no_records, object_at};
 ghost use Rattle.rbd_site.specs.Step.{MayDo, answer_to, after};
@@ -15,6 +16,9 @@ ghost use Rattle.rbd_site.specs.Step.{MayDo, answer_to, after};
 pub fn operations_change_one_object()
     ensures directory { (r : Records) (me : Instance) (op : Op)
         → IsFalse (is_on_directory op) → (after r me op).directory ≡ r.directory }
+
+    ensures children { (r : Records) (me : Instance) (op : Op)
+        → IsFalse (is_on_children op) → (after r me op).children ≡ r.children }
 
     ensures header { (r : Records) (me : Instance) (op : Op) (image : ℕ)
         → IsFalse (is_on_header image op) → (after r me op).headers image ≡ r.headers image }
@@ -26,6 +30,26 @@ pub fn operations_change_one_object()
 /// An operation that isn't answered done, with an id or with a snapshot changes nothing.
 pub fn other_answers_change_nothing()
     ensures { (r : Records) (me : Instance) (op : Op) → IsFalse (is_change (answer_to r me op)) → after r me op ≡ r }
+{}
+
+/// A look changes nothing.
+pub fn looks_change_nothing()
+    ensures { (r : Records) (me : Instance) (op : Op) → IsTrue (is_look op) → after r me op ≡ r }
+{}
+
+/// As long as a header is there its generation never falls, and an operation that leaves it leaves the header, but for its
+/// lock. So two looks with one generation say that the header was one all the time between, but for its owner.
+pub fn changes_raise_the_generation()
+    ensures lasts { (r : Records) (me : Instance) (op : Op) (image : ℕ) (old new : HeaderView)
+        → r.headers image ≡ Some old → (after r me op).headers image ≡ Some new → old.generation ≤ new.generation }
+
+    ensures same { (r : Records) (me : Instance) (op : Op) (image : ℕ) (old new : HeaderView)
+        → r.headers image ≡ Some old → (after r me op).headers image ≡ Some new → IsFalse (is_on_lock op)
+        → new.generation ≡ old.generation → new ≡ old }
+
+    ensures lock { (r : Records) (me : Instance) (op : Op) (image : ℕ) (old new : HeaderView)
+        → r.headers image ≡ Some old → (after r me op).headers image ≡ Some new → IsTrue (is_on_lock op)
+        → new ≡ record old { owner = new.owner } }
 {}
 
 /// No operation changes what a snapshot shows that an object has a number for: only a trim for which it isn't

@@ -11,8 +11,8 @@
 //!
 //! # Rules
 //!
-//! - A site keeps its directory, the header of each image, and the data objects of each image by number
-//!   (Ceph: `rbd_directory`, `rbd_header.<id>`, `rbd_data.<id>.<number>`).
+//! - A site keeps its directory, the children of its snapshots, the header of each image, and the data objects of
+//!   each image by number (Ceph: `rbd_directory`, `rbd_children`, `rbd_header.<id>`, `rbd_data.<id>.<number>`).
 //! - An operation is done on one of these, whole or not at all, and answered. Only one that is answered done,
 //!   or with an id or a snapshot that was drawn, has changed something (own).
 //! - An object is there once a change was done to it, a removal too, and for good. One that isn't answers as
@@ -24,8 +24,8 @@
 //! - Each operation and each trim is a line of the log, with its number, its instance and its answer. One that
 //!   was refused memory has no line and changed nothing.
 //!
-//! Operations on children, blocklist, watchers, object maps and journals, and the removal of a name, aren't
-//! built yet: each call's condition rules them out.
+//! Operations on blocklist, watchers, object maps and journals aren't built yet: each call's condition rules them
+//! out.
 //!
 //! # Contracts
 //!
@@ -44,15 +44,17 @@
 //!
 //! # How it works
 //!
-//! Three maps, and one file for each kind of object, with what an operation is answered and what it changes.
+//! A directory, a list of children and two maps, and one file for each kind of object, with what an operation is answered and what it changes.
 //! `apply` asks for the answer, takes the memory for the line, changes the object, and then logs it: only the
 //! change could still be refused, and changes all or nothing. Before a look at a header it has the header share its
 //! list, and behind a change of one too, where there is memory: that is no part of the records.
 #![tactic(auto)]
 
+mod children;
 mod data;
 mod directory;
 mod done;
+mod found;
 mod header;
 pub mod laws;
 mod object_key;

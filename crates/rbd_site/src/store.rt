@@ -8,19 +8,20 @@ ghost use Rattle.rbd_site.specs.Maps.{kept};
 ghost use Rattle.rbd_site.specs.Step.{MayDo, answer_to, after};
 
 use crate::object_key::ObjectKey;
-use crate::{data, directory, header};
+use crate::{children, data, directory, header};
 use rbd_header::Header;
 use rbd_kinds::{Answer, ImageId, Instance, NoMemory, Op, SnapId, TryClone};
 use rbd_object::Object;
-use rbd_registry::Directory;
+use rbd_registry::{Children, Directory};
 use std::alloc::Global;
 use std::collections::BTreeMap;
 
-/// The records of a site: its directory, and the headers and data objects of its images.
+/// The records of a site: its directory, the children of its snapshots, and the headers and data objects of its images.
 #[derive(Debug, Drop)]
 pub struct Store {
     pub alloc: Global,
     pub directory: Directory,
+    pub children: Children,
     pub headers: BTreeMap<ImageId, Header>,
     pub objects: BTreeMap<ObjectKey, Object>,
 }
@@ -33,6 +34,7 @@ impl Store {
         Store {
             alloc,
             directory: Directory::new(alloc),
+            children: Children::new(alloc),
             headers: BTreeMap::new(alloc),
             objects: BTreeMap::new(alloc),
         }
@@ -45,6 +47,7 @@ impl Store {
     {
         match op {
             Op::Directory(op) => directory::answer(&self.directory, op),
+            Op::Children(op) => children::answer(&self.children, *op),
             Op::Header { image, op } => header::answer(&self.headers, *image, instance, op),
             Op::Data { image, object, op } => {
                 let key = ObjectKey {
@@ -93,6 +96,7 @@ impl Store {
     {
         match op {
             Op::Directory(op) => directory::change(&mut self.directory, op),
+            Op::Children(op) => children::change(&mut self.children, *op),
             Op::Header { image, op } => header::change(&mut self.headers, *image, instance, op),
             Op::Data { image, object, op } => {
                 let key = ObjectKey {

@@ -1,4 +1,5 @@
-use Rattle.std.proofs.Common.{◌≡◌, ◌+◌, List, ℕ, length, sym, ap, ◌∙◌, option_map, subst, refl}
+use Rattle.std.proofs.Common.{◌≡◌, ◌+◌, List, ℕ, length, sym, ap, ◌∙◌, option_map, subst, refl, rules}
+use Rattle.std.specs.Option.{IsSome}
 use Rattle.rbd_object.specs.Mapped.{mapped_trim}
 use Rattle.rbd_site.specs.InForm.{AreInForm}
 use Rattle.rbd_site.specs.Log.{SiteLog, records_of, trim_line, trimmed}
@@ -13,12 +14,13 @@ invariant_of-self-2 c =
     let r = kept c.self.inside.store in
     let image = c.args.image in
     let object = c.args.object in
+    let there : IsSome (r.objects image object) = sym c.has.ensures ∙ search rules in
     let done : kept c.trim.new.self ≡ trimmed image object r =
     c.trim.ensures
     ∙ ap (λ (live : List ℕ). with_object image object (option_map (mapped_trim live) (r.objects image object)) r) (c.as_slice.ensures.value ∙ c.in_ok-live.ensures) in
     rw (c.push_reserved.ensures.items, c.in_ok-reserve.ensures.items)
     (sound_more r (kept c.trim.new.self) c.self.inside.log.items (trim_line (c.next_number.result) image object) c.self.invariant
-    done (refl, refl) (c.next_number.ensures ∙ ap (λ (s : SiteLog). length s.log + 1) (sym c.self.view_is))
+    done (refl, there, refl) (c.next_number.ensures ∙ ap (λ (s : SiteLog). length s.log + 1) (sym c.self.view_is))
     (subst (λ x. AreInForm x (length c.self.inside.log.items + 1)) (sym done)
     (form_trimmed image object r (length c.self.inside.log.items) c.self.invariant.form)))
 

@@ -9,6 +9,6 @@ pub returns-in-Data-clause-ok : goal.returns-in-Data-clause-ok
 returns-in-Data-clause-ok c =
     rw c.in-Data.is
     (on_ok_weaker c.change-in-Data.result
-    (λ each. ap (λ (objects : ℕ → ℕ → Option Mapped). record { directory = c.args.self.now.directory; headers = header_in c.args.self.now.headers; objects = objects })
+    (λ each. ap (λ (objects : ℕ → ℕ → Option Mapped). record { directory = c.args.self.now.directory; children = c.args.self.now.children; headers = header_in c.args.self.now.headers; objects = objects })
     (fun_ext (λ image. fun_ext (each image))))
     c.change-in-Data.ensures.ok)
