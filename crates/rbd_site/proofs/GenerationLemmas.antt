@@ -22,7 +22,7 @@ use Rattle.rbd_site.specs.Laws.{is_look, is_on_header, is_on_lock}
 use Rattle.rbd_site.specs.Records.{Records, or_blank}
 use Rattle.rbd_site.specs.Step.{after}
 use Rattle.rbd_site.proofs.StepLemmas.{other_header}
-use Rattle.rbd_site.proofs.TrimLemmas.{put_same, with_object_same}
+use Rattle.rbd_site.proofs.TrimLemmas.{with_header_same, with_object_same}
 
 -- ---- looks
 
@@ -39,7 +39,7 @@ looked_at r me (on.Directory (dir.Find name)) look = refl
 looked_at r me (on.Directory dir.List) look = refl
 looked_at r me (on.Children (child.List parent snap)) look = refl
 looked_at r me (on.Header image head.Get) look =
-    ap (λ (headers : ℕ → Option HeaderView). record r { headers = headers }) (put_same r.headers image (header_after me (r.headers image) head.Get) (header_got me (r.headers image)))
+    with_header_same image (header_after me (r.headers image) head.Get) r (header_got me (r.headers image))
 looked_at r me (on.Data image number (data_op.Read snap parts)) look =
     with_object_same image number (where_object_done (parts_read parts (view (looked (or_blank (r.objects image number))) snap)) (or_blank (r.objects image number)) (r.objects image number)) r
     (object_read parts (view (looked (or_blank (r.objects image number))) snap) (or_blank (r.objects image number)) (r.objects image number))

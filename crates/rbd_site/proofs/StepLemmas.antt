@@ -28,7 +28,7 @@ use Rattle.rbd_site.specs.HeaderStep.{header_answer, header_after, is_owner, loc
 use Rattle.rbd_site.specs.Laws.{is_change, is_on_children, is_on_directory, is_on_header, is_on_object}
 use Rattle.rbd_site.specs.Records.{Records, or_blank, put, with_children, with_directory}
 use Rattle.rbd_site.specs.Step.{answer_to, after}
-use Rattle.rbd_site.proofs.TrimLemmas.{put_same, with_object_same}
+use Rattle.rbd_site.proofs.TrimLemmas.{with_header_same, with_object_same}
 
 pub other_directory : (r : Records) (me : Instance) (op : Op) → IsFalse (is_on_directory op) → (after r me op).directory ≡ r.directory
 other_directory r me (on.Directory op) other = cc
@@ -124,8 +124,7 @@ pub refused : (r : Records) (me : Instance) (op : Op) → IsFalse (is_change (an
 refused r me (on.Directory op) other = ap (λ d. with_directory d r) (refused_directory r.directory op other)
 refused r me (on.Children op) other = ap (λ entries. with_children entries r) (refused_children r.children op other)
 refused r me (on.Header image op) other =
-    ap (λ (headers : ℕ → Option HeaderView). record { directory = r.directory; children = r.children; headers = headers; objects = r.objects })
-    (put_same r.headers image (header_after me (r.headers image) op) (refused_header me (r.headers image) op other))
+    with_header_same image (header_after me (r.headers image) op) r (refused_header me (r.headers image) op other)
 refused r me (on.Data image number op) other =
     with_object_same image number (data_after (r.objects image number) op) r (refused_object (r.objects image number) op other)
 refused r me op other = refl

@@ -2,10 +2,11 @@
 use Rattle.std.proofs.Common.{◌≡◌, ℕ, ◌+◌, Bool, true, false, cond, eqb, Option, None, option_map, refl, sym, ap, ◌∙◌, arith}
 use Rattle.std.proofs.Math.Path.{fun_ext}
 use Rattle.std.proofs.lemmas.Bool.{eqb-true}
+use Rattle.rbd_kinds.specs.declared.header.HeaderView.{HeaderView}
 use Rattle.rbd_object.specs.Mapped.{Mapped, mapped_trim}
 use Rattle.rbd_site.specs.InForm.{AreInForm}
 use Rattle.rbd_site.specs.Log.{live_in, trimmed}
-use Rattle.rbd_site.specs.Records.{Records, put, with_object}
+use Rattle.rbd_site.specs.Records.{Records, put, with_header, with_object}
 
 -- the value that is there is put again
 pub put_same : {T : Type 0} (f : ℕ → T) (place : ℕ) (value : T) → value ≡ f place → put f place value ≡ f
@@ -14,6 +15,9 @@ put_same {T} f place value is = fun_ext (λ n. go n (eqb n place) refl)
     go : (n : ℕ) (t : Bool) → eqb n place ≡ t → cond t value (f n) ≡ f n
     go n true at = is ∙ ap f (sym (eqb-true n place at))
     go n false at = refl
+
+pub with_header_same : (image : ℕ) (header : Option HeaderView) (r : Records) → header ≡ r.headers image → with_header image header r ≡ r
+with_header_same image header r is = ap (λ (headers : ℕ → Option HeaderView). record r { headers = headers }) (put_same r.headers image header is)
 
 pub with_object_same : (image number : ℕ) (object : Option Mapped) (r : Records) → object ≡ r.objects image number → with_object image number object r ≡ r
 with_object_same image number object r is =

@@ -28,14 +28,15 @@ use Rattle.rbd_object.specs.Parts.{parts_written, parts_zeroed}
 use Rattle.rbd_site.specs.DataStep.{MayWrite, data_answer, data_after, data_change, where_object_done}
 use Rattle.rbd_site.specs.Records.{Records, put, or_blank, object_at, with_object}
 use Rattle.rbd_site.specs.Step.{answer_to, after}
-use Rattle.rbd_stands.specs.Shown.{Snapshots, IsInOverlap, snapshots_of, inherited, shown}
+use Rattle.rbd_stands.specs.Shown.{Snapshots, IsInOverlap, snapshots_of, inherited, shown, Links, links_of}
 use Rattle.rbd_stands.specs.Image.{ImageStands}
-use Rattle.rbd_stands.specs.Site.{StandsFor}
-use Rattle.rbd_stands.specs.Condition.{IsContextOf, ArePartsBelow, IsInside, IsCopiedUp, IsChanged, AreWhole, IsZeroPast, extents_of}
+use Rattle.rbd_stands.specs.Site.{StandsFor, Pending}
+use Rattle.rbd_stands.specs.Image.{IsInside}
+use Rattle.rbd_stands.specs.Condition.{IsContextOf, ArePartsBelow, IsCopiedUp, IsChanged, AreWhole, IsZeroPast, extents_of}
 use Rattle.rbd_stands.proofs.ObjectSteps.{object_changed}
 use Rattle.rbd_stands.proofs.Painting.{parts_at, painted_beside, beside_elsewhere, beside_past, zeros_at, any_covered}
 use Rattle.rbd_stands.proofs.Whole.{whole_places, in_whole, held_none}
-use Rattle.rbd_stands.proofs.SiteSteps.{here, stands_at, keep_all, site_change, is_drawn, other_object, object_there, flat_there}
+use Rattle.rbd_stands.proofs.SiteSteps.{here, stands_at, keep_all, site_change, is_drawn, other_object, object_there, flat_there, links_same}
 
 -- ---- what an object shows of itself
 
@@ -78,48 +79,56 @@ names_stay f image change = go (image_at f image)
     go None = refl
     go (Some i) = refl
 
+links_stay : (f : Flat) (image : ℕ) (change : FlatImage → FlatImage) → (with_image f image change).links ≡ f.links
+links_stay f image change = go (image_at f image)
+  where
+    go : (o : Option FlatImage) → (changed change image o f).links ≡ f.links
+    go None = refl
+    go (Some i) = refl
+
 elsewhere : (f : Flat) (image : ℕ) (change : FlatImage → FlatImage) (j : ℕ) → j ≢ image → image_at (with_image f image change) j ≡ image_at f j
 elsewhere f image change j other = with_image_at f image change j ∙ ap (λ b. cond b (option_map change (image_at f j)) (image_at f j)) (ne_eqb j image other)
 
-pub head_stands : (r : Records) (f : Flat) (image number : ℕ) (h : HeaderView) (context : SnapContext) (new : Option (List ℕ)) (repaint : List ℕ → List ℕ)
-    → StandsFor r f → r.headers image ≡ Some h → IsContextOf h context
-    → ((i : FlatImage) → image_at f image ≡ Some i → ImageStands (snapshots_of f) h (object_at r image) i → IsChanged (snapshots_of f) h number new i.bytes (repaint i.bytes))
-    → StandsFor (with_object image number (Some (mapped_change context new (object_at r image number))) r) (repainted f image repaint)
-head_stands r f image number h context new repaint stands is of isChanged =
+pub head_stands : (pending : List Pending) (r : Records) (f : Flat) (image number : ℕ) (h : HeaderView) (context : SnapContext) (new : Option (List ℕ)) (repaint : List ℕ → List ℕ)
+    → StandsFor pending r f → r.headers image ≡ Some h → IsContextOf h context
+    → ((i : FlatImage) → image_at f image ≡ Some i → ImageStands (snapshots_of f) (links_of f image) h (object_at r image) i → IsChanged (snapshots_of f) h number new i.bytes (repaint i.bytes))
+    → StandsFor pending (with_object image number (Some (mapped_change context new (object_at r image number))) r) (repainted f image repaint)
+head_stands pending r f image number h context new repaint stands is of isChanged =
     let g = repainted f image repaint in
     let now : Mapped = mapped_change context new (object_at r image number) in
     let s = with_object image number (Some now) r in
-    let was = here (snapshots_of f) (r.headers image) (object_at r image) (image_at f image) h is (stands.images image) in
+    let was = here (snapshots_of f) (links_of f image) (r.headers image) (object_at r image) (image_at f image) h is (stands.images image) in
     let image_now : FlatImage = record was.image { bytes = repaint was.image.bytes } in
-    let stands_now : ImageStands (snapshots_of f) h (put (object_at r image) number now) image_now =
-    object_changed (snapshots_of f) h (object_at r image) was.image was.stands context of number new (repaint was.image.bytes) (isChanged was.image was.is was.stands) in
-    site_change image r s f g stands
-    (other_object image number (Some now) r f g (names_stay f image _) (elsewhere f image _))
-    (keep_all r (snapshots_of f) (snapshots_of g) (λ i t u at. ap (λ (below : Snapshots). below i t) (snaps_stay f image repaint) ∙ at))
-    (λ st. stands_at (snapshots_of g) (r.headers image) (object_at s image) (image_at g image) h image_now is (flat_there f image _ was.image was.is)
-    (subst (λ (objects : ℕ → Mapped). ImageStands (snapshots_of g) h objects image_now) (sym (object_there image number now r))
-    (subst (λ (below : Snapshots). ImageStands below h (put (object_at r image) number now) image_now) (sym (snaps_stay f image repaint)) stands_now)))
-    (is_drawn r f stands image h is s g)
+    let stands_now : ImageStands (snapshots_of f) (links_of f image) h (put (object_at r image) number now) image_now =
+    object_changed (snapshots_of f) (links_of f image) h (object_at r image) was.image was.stands context of number new (repaint was.image.bytes) (isChanged was.image was.is was.stands) in
+    site_change pending image r s f g stands
+    (other_object image number (Some now) r f g (names_stay f image _) (links_stay f image _) (elsewhere f image _))
+    (keep_all pending r (snapshots_of f) (snapshots_of g) (λ i t u at. ap (λ (below : Snapshots). below i t) (snaps_stay f image repaint) ∙ at))
+    (λ st. stands_at (snapshots_of g) (links_of g image) (r.headers image) (object_at s image) (image_at g image) h image_now is (flat_there f image _ was.image was.is)
+    (subst (λ (objects : ℕ → Mapped). ImageStands (snapshots_of g) (links_of g image) h objects image_now) (sym (object_there image number now r))
+    (subst (λ (below : Snapshots). ImageStands below (links_of g image) h (put (object_at r image) number now) image_now) (sym (snaps_stay f image repaint))
+    (subst (λ (linked : Links). ImageStands (snapshots_of f) linked h (put (object_at r image) number now) image_now) (sym (links_same f g (links_stay f image _) image)) stands_now))))
+    (is_drawn pending r f stands image h is s g)
 
-pub any_head_stands : (r : Records) (f : Flat) (image number : ℕ) (h : HeaderView) (context : SnapContext) (new : Option (List ℕ)) (i : FlatImage) (bytes : List ℕ)
-    → StandsFor r f → r.headers image ≡ Some h → image_at f image ≡ Some i → IsContextOf h context
+pub any_head_stands : (pending : List Pending) (r : Records) (f : Flat) (image number : ℕ) (h : HeaderView) (context : SnapContext) (new : Option (List ℕ)) (i : FlatImage) (bytes : List ℕ)
+    → StandsFor pending r f → r.headers image ≡ Some h → image_at f image ≡ Some i → IsContextOf h context
     → IsChanged (snapshots_of f) h number new i.bytes bytes
-    → StandsFor (with_object image number (Some (mapped_change context new (object_at r image number))) r) (repainted f image (λ old. bytes))
-any_head_stands r f image number h context new i bytes stands is at of isChanged =
-    head_stands r f image number h context new (λ old. bytes) stands is of
+    → StandsFor pending (with_object image number (Some (mapped_change context new (object_at r image number))) r) (repainted f image (λ old. bytes))
+any_head_stands pending r f image number h context new i bytes stands is at of isChanged =
+    head_stands pending r f image number h context new (λ old. bytes) stands is of
     (λ j found st. subst (λ (k : FlatImage). IsChanged (snapshots_of f) h number new k.bytes bytes) (same_Some i j (sym at ∙ found)) isChanged)
 
 -- the same, of an operation that was done
-pub data_stands : (r : Records) (f : Flat) (me : Instance) (image number : ℕ) (h : HeaderView) (context : SnapContext) (new : Option (List ℕ)) (repaint : List ℕ → List ℕ) (o : DataOp)
-    → StandsFor r f → r.headers image ≡ Some h → IsContextOf h context
+pub data_stands : (pending : List Pending) (r : Records) (f : Flat) (me : Instance) (image number : ℕ) (h : HeaderView) (context : SnapContext) (new : Option (List ℕ)) (repaint : List ℕ → List ℕ) (o : DataOp)
+    → StandsFor pending r f → r.headers image ≡ Some h → IsContextOf h context
     → answer_to r me (op.Data image number o) ≡ answer.Done
     → data_change (object_at r image number) o ≡ mapped_change context new (object_at r image number)
-    → ((i : FlatImage) → image_at f image ≡ Some i → ImageStands (snapshots_of f) h (object_at r image) i → IsChanged (snapshots_of f) h number new i.bytes (repaint i.bytes))
-    → StandsFor (after r me (op.Data image number o)) (repainted f image repaint)
-data_stands r f me image number h context new repaint o stands is of done made isChanged =
-    subst (λ (object : Option Mapped). StandsFor (with_object image number object r) (repainted f image repaint))
+    → ((i : FlatImage) → image_at f image ≡ Some i → ImageStands (snapshots_of f) (links_of f image) h (object_at r image) i → IsChanged (snapshots_of f) h number new i.bytes (repaint i.bytes))
+    → StandsFor pending (after r me (op.Data image number o)) (repainted f image repaint)
+data_stands pending r f me image number h context new repaint o stands is of done made isChanged =
+    subst (λ (object : Option Mapped). StandsFor pending (with_object image number object r) (repainted f image repaint))
     (sym (done_after (r.objects image number) o done ∙ ap Some made))
-    (head_stands r f image number h context new repaint stands is of isChanged)
+    (head_stands pending r f image number h context new repaint stands is of isChanged)
 
 -- ---- what is painted
 
@@ -127,7 +136,7 @@ zero_anyway : (b : Bool) → ◌≡◌ {A = ℕ} (cond b 0 0) 0
 zero_anyway true = refl
 zero_anyway false = refl
 
-module _ (below : Snapshots) (h : HeaderView) (objects : ℕ → Mapped) (i : FlatImage) (stands : ImageStands below h objects i) (n : ℕ) (parts : List Part) where
+module _ (below : Snapshots) (linked : Links) (h : HeaderView) (objects : ℕ → Mapped) (i : FlatImage) (stands : ImageStands below linked h objects i) (n : ℕ) (parts : List Part) where
   abbrev old_head : List ℕ
   old_head = unwrap_or (objects n).head []
 
@@ -250,41 +259,41 @@ module _ (below : Snapshots) (h : HeaderView) (objects : ℕ → Mapped) (i : Fl
 
 -- ---- each operation
 
-pub write_stands : (r : Records) (f : Flat) (me : Instance) (image number : ℕ) (h : HeaderView) (context : SnapContext) (must : Bool) (parts : List Part) (bytes : List ℕ)
-    → StandsFor r f → r.headers image ≡ Some h → IsContextOf h context → MayWrite parts bytes
+pub write_stands : (pending : List Pending) (r : Records) (f : Flat) (me : Instance) (image number : ℕ) (h : HeaderView) (context : SnapContext) (must : Bool) (parts : List Part) (bytes : List ℕ)
+    → StandsFor pending r f → r.headers image ≡ Some h → IsContextOf h context → MayWrite parts bytes
     → ArePartsBelow h h.size number parts → IsCopiedUp h number (object_at r image number)
     → answer_to r me (op.Data image number (data_op.Write context must parts bytes)) ≡ answer.Done
-    → StandsFor (after r me (op.Data image number (data_op.Write context must parts bytes))) (flat.after f (effect.Piece image (extents_of parts) bytes))
-write_stands r f me image number h context must parts bytes stands is of may lie up done =
-    data_stands r f me image number h context _ (painted (places_of (extents_of parts)) bytes) (data_op.Write context must parts bytes) stands is of done refl
-    (λ i at st. write_is_change (snapshots_of f) h (object_at r image) i st number parts bytes may lie up)
+    → StandsFor pending (after r me (op.Data image number (data_op.Write context must parts bytes))) (flat.after f (effect.Piece image (extents_of parts) bytes))
+write_stands pending r f me image number h context must parts bytes stands is of may lie up done =
+    data_stands pending r f me image number h context _ (painted (places_of (extents_of parts)) bytes) (data_op.Write context must parts bytes) stands is of done refl
+    (λ i at st. write_is_change (snapshots_of f) (links_of f image) h (object_at r image) i st number parts bytes may lie up)
 
-pub zero_stands : (r : Records) (f : Flat) (me : Instance) (image number : ℕ) (h : HeaderView) (context : SnapContext) (must : Bool) (parts : List Part)
-    → StandsFor r f → r.headers image ≡ Some h → IsContextOf h context
+pub zero_stands : (pending : List Pending) (r : Records) (f : Flat) (me : Instance) (image number : ℕ) (h : HeaderView) (context : SnapContext) (must : Bool) (parts : List Part)
+    → StandsFor pending r f → r.headers image ≡ Some h → IsContextOf h context
     → All (IsPart h.layout number) parts → IsCopiedUp h number (object_at r image number)
     → answer_to r me (op.Data image number (data_op.Zero context must parts)) ≡ answer.Done
-    → StandsFor (after r me (op.Data image number (data_op.Zero context must parts))) (flat.after f (effect.Zero image (extents_of parts)))
-zero_stands r f me image number h context must parts stands is of lie up done =
-    data_stands r f me image number h context _ (painted (places_of (extents_of parts)) []) (data_op.Zero context must parts) stands is of done refl
-    (λ i at st. zero_is_change (snapshots_of f) h (object_at r image) i st number parts lie up)
+    → StandsFor pending (after r me (op.Data image number (data_op.Zero context must parts))) (flat.after f (effect.Zero image (extents_of parts)))
+zero_stands pending r f me image number h context must parts stands is of lie up done =
+    data_stands pending r f me image number h context _ (painted (places_of (extents_of parts)) []) (data_op.Zero context must parts) stands is of done refl
+    (λ i at st. zero_is_change (snapshots_of f) (links_of f image) h (object_at r image) i st number parts lie up)
 
-pub empty_stands : (r : Records) (f : Flat) (me : Instance) (image number : ℕ) (h : HeaderView) (context : SnapContext) (parts : List Part)
-    → StandsFor r f → r.headers image ≡ Some h → IsContextOf h context → AreWhole h number parts
-    → StandsFor (after r me (op.Data image number (data_op.Empty context))) (flat.after f (effect.Zero image (extents_of parts)))
-empty_stands r f me image number h context parts stands is of are =
-    data_stands r f me image number h context _ (painted (places_of (extents_of parts)) []) (data_op.Empty context) stands is of refl refl
-    (λ i at st. empty_is_change (snapshots_of f) h (object_at r image) i st number parts are)
+pub empty_stands : (pending : List Pending) (r : Records) (f : Flat) (me : Instance) (image number : ℕ) (h : HeaderView) (context : SnapContext) (parts : List Part)
+    → StandsFor pending r f → r.headers image ≡ Some h → IsContextOf h context → AreWhole h number parts
+    → StandsFor pending (after r me (op.Data image number (data_op.Empty context))) (flat.after f (effect.Zero image (extents_of parts)))
+empty_stands pending r f me image number h context parts stands is of are =
+    data_stands pending r f me image number h context _ (painted (places_of (extents_of parts)) []) (data_op.Empty context) stands is of refl refl
+    (λ i at st. empty_is_change (snapshots_of f) (links_of f image) h (object_at r image) i st number parts are)
 
-pub remove_stands : (r : Records) (f : Flat) (me : Instance) (image number : ℕ) (h : HeaderView) (context : SnapContext) (parts : List Part)
-    → StandsFor r f → r.headers image ≡ Some h → IsContextOf h context → AreWhole h number parts → (IsInside h number → ⊥)
-    → StandsFor (after r me (op.Data image number (data_op.Remove context))) (flat.after f (effect.Zero image (extents_of parts)))
-remove_stands r f me image number h context parts stands is of are outside =
-    data_stands r f me image number h context _ (painted (places_of (extents_of parts)) []) (data_op.Remove context) stands is of refl refl
-    (λ i at st. remove_is_change (snapshots_of f) h (object_at r image) i st number parts are outside)
+pub remove_stands : (pending : List Pending) (r : Records) (f : Flat) (me : Instance) (image number : ℕ) (h : HeaderView) (context : SnapContext) (parts : List Part)
+    → StandsFor pending r f → r.headers image ≡ Some h → IsContextOf h context → AreWhole h number parts → (IsInside h number → ⊥)
+    → StandsFor pending (after r me (op.Data image number (data_op.Remove context))) (flat.after f (effect.Zero image (extents_of parts)))
+remove_stands pending r f me image number h context parts stands is of are outside =
+    data_stands pending r f me image number h context _ (painted (places_of (extents_of parts)) []) (data_op.Remove context) stands is of refl refl
+    (λ i at st. remove_is_change (snapshots_of f) (links_of f image) h (object_at r image) i st number parts are outside)
 
-pub replace_stands : (r : Records) (f : Flat) (me : Instance) (image number : ℕ) (h : HeaderView) (context : SnapContext) (bytes : List ℕ) (parts : List Part)
-    → StandsFor r f → r.headers image ≡ Some h → IsContextOf h context → AreWhole h number parts → IsZeroPast h number bytes
-    → StandsFor (after r me (op.Data image number (data_op.WriteFull context bytes))) (flat.after f (effect.Piece image (extents_of parts) bytes))
-replace_stands r f me image number h context bytes parts stands is of are past_zero =
-    data_stands r f me image number h context _ (painted (places_of (extents_of parts)) bytes) (data_op.WriteFull context bytes) stands is of refl refl
-    (λ i at st. replace_is_change (snapshots_of f) h (object_at r image) i st number parts bytes are past_zero)
+pub replace_stands : (pending : List Pending) (r : Records) (f : Flat) (me : Instance) (image number : ℕ) (h : HeaderView) (context : SnapContext) (bytes : List ℕ) (parts : List Part)
+    → StandsFor pending r f → r.headers image ≡ Some h → IsContextOf h context → AreWhole h number parts → IsZeroPast h number bytes
+    → StandsFor pending (after r me (op.Data image number (data_op.WriteFull context bytes))) (flat.after f (effect.Piece image (extents_of parts) bytes))
+replace_stands pending r f me image number h context bytes parts stands is of are past_zero =
+    data_stands pending r f me image number h context _ (painted (places_of (extents_of parts)) bytes) (data_op.WriteFull context bytes) stands is of refl refl
+    (λ i at st. replace_is_change (snapshots_of f) (links_of f image) h (object_at r image) i st number parts bytes are past_zero)

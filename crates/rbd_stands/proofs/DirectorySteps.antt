@@ -1,6 +1,8 @@
 -- Changes of the directory, and of the flat site's names.
-use Rattle.std.proofs.Common.{◌≡◌, ℕ, ◌+◌, ◌<◌, Bool, true, false, List, Option, Some, None, refl, sym, ◌∙◌, ap, subst, arith}
+use Rattle.std.proofs.Common.{◌≡◌, ◌↔◌, cond, eqb, not, is_some, ℕ, ◌+◌, ◌<◌, Bool, true, false, List, Option, Some, None, refl, sym, ◌∙◌, ap, subst, arith}
 use Rattle.std.specs.FinMap as finmap
+use Rattle.std.specs.List.{filter}
+use Rattle.std.specs.Option.{IsSome}
 use Rattle.std.specs.Ordering.{nat_cmp}
 use Rattle.std.specs.Cmp.Lexicographic.{slice_cmp}
 use Rattle.rbd_kinds.specs.declared.answer.Answer.{Answer}
@@ -8,14 +10,15 @@ use Rattle.rbd_kinds.specs.declared.answer.Answer.TheVariants as answer
 use Rattle.rbd_kinds.specs.declared.directory_op.DirectoryOp.TheVariants as directory_op
 use Rattle.rbd_kinds.specs.declared.id.Instance.{Instance}
 use Rattle.rbd_kinds.specs.declared.operation.Op.TheVariants as op
-use Rattle.rbd_registry.specs.Directory.{Listing, id_of, is_full, added, renamed}
+use Rattle.rbd_registry.specs.Directory.{Listing, id_of, is_full, added, freed, holds, renamed}
 use Rattle.rbd_flat.specs.declared.effect.Effect.TheVariants as effect
 use Rattle.rbd_flat.specs.Flat.{Flat, FlatImage, image_at}
 use Rattle.rbd_flat.specs.Flat as flat
 use Rattle.rbd_site.specs.Records.{Records, object_at, with_directory}
-use Rattle.rbd_site.specs.DirectoryStep.{name_added, where_added, where_done}
+use Rattle.rbd_site.specs.Found.{done_where}
+use Rattle.rbd_site.specs.DirectoryStep.{name_added, name_changed, where_added, where_done}
 use Rattle.rbd_site.specs.Step.{answer_to, after}
-use Rattle.rbd_stands.specs.Site.{StandsAt, StandsFor}
+use Rattle.rbd_stands.specs.Site.{StandsAt, StandsFor, Pending}
 
 -- ---- a name is added
 
@@ -24,16 +27,18 @@ drawn_next (Some other) full next image e = absurd (cc)
 drawn_next None true next image e = absurd (cc)
 drawn_next None false next image e = cc
 
-pub name_stands : (r : Records) (f : Flat) (me : Instance) (name : List ℕ) (image : ℕ) → StandsFor r f
+pub name_stands : (pending : List Pending) (r : Records) (f : Flat) (me : Instance) (name : List ℕ) (image : ℕ) → StandsFor pending r f
     → answer_to r me (op.Directory (directory_op.Add name)) ≡ answer.Id image
-    → StandsFor (after r me (op.Directory (directory_op.Add name))) (flat.after f (effect.Name name image))
-name_stands r f me name image stands e =
-    subst (λ (d : Listing). StandsFor (with_directory d r) (flat.after f (effect.Name name image)))
+    → StandsFor pending (after r me (op.Directory (directory_op.Add name))) (flat.after f (effect.Name name image))
+name_stands pending r f me name image stands e =
+    subst (λ (d : Listing). StandsFor pending (with_directory d r) (flat.after f (effect.Name name image)))
     (sym (ap (λ (a : Answer). where_added a (added name r.directory) r.directory) e))
     (record {
       names = ap (λ (m : finmap.FinMap (slice_cmp nat_cmp) ℕ). finmap.insert m name (r.directory.drawn + 1)) stands.names
           ∙ ap (finmap.insert f.names name) (drawn_next (id_of r.directory name) (is_full r.directory) (r.directory.drawn + 1) image e);
+      links = stands.links;
       images = stands.images;
+      awaited = stands.awaited;
       fresh = λ j above. let was = stands.fresh j (omega arith) in record { header = was.header; flat = was.flat; blank = was.blank };
     })
 
@@ -47,28 +52,86 @@ drawn_stays : (o : Option ℕ) (from to : List ℕ) (d : Listing) → (renamed o
 drawn_stays None from to d = refl
 drawn_stays (Some image) from to d = refl
 
-images_stay : (o : Option ℕ) (from to : List ℕ) (f : Flat) → (flat.renamed o from to f).images ≡ f.images
-images_stay None from to f = refl
-images_stay (Some image) from to f = refl
+renamed_names : (o : Option ℕ) (from to : List ℕ) (f : Flat) → flat.renamed o from to f ≡ record f { names = (flat.renamed o from to f).names }
+renamed_names None from to f = refl
+renamed_names (Some image) from to f = refl
 
 -- a directory and a flat site with other names
-pub other_names : (r : Records) (f g : Flat) (d : Listing) → StandsFor r f → d.drawn ≡ r.directory.drawn → d.names ≡ g.names → g.images ≡ f.images → StandsFor (with_directory d r) g
-other_names r f g d stands drawn names images = record {
-  names = names;
-  images = λ image. subst (λ (m : finmap.FinMap nat_cmp FlatImage). StandsAt (λ i t. flat.snap_of (finmap.get m i) t) (r.headers image) (object_at r image) (finmap.get m image)) (sym images) (stands.images image);
+pub other_names : (pending : List Pending) (r : Records) (f : Flat) (d : Listing) (names : finmap.FinMap (slice_cmp nat_cmp) ℕ) → StandsFor pending r f → d.drawn ≡ r.directory.drawn → d.names ≡ names
+    → StandsFor pending (with_directory d r) (record f { names = names })
+other_names pending r f d names stands drawn same = record {
+  names = same;
+  links = stands.links;
+  images = stands.images;
+  awaited = stands.awaited;
   fresh = λ image above.
       let was = stands.fresh image (subst (λ n. n < image) drawn above) in
-      record { header = was.header; flat = ap (λ (m : finmap.FinMap nat_cmp FlatImage). finmap.get m image) images ∙ was.flat; blank = was.blank };
+      record { header = was.header; flat = was.flat; blank = was.blank };
 }
 
-pub rename_stands : (r : Records) (f : Flat) (me : Instance) (from to : List ℕ) → StandsFor r f
+pub rename_stands : (pending : List Pending) (r : Records) (f : Flat) (me : Instance) (from to : List ℕ) → StandsFor pending r f
     → answer_to r me (op.Directory (directory_op.Rename from to)) ≡ answer.Done
-    → StandsFor (after r me (op.Directory (directory_op.Rename from to))) (flat.after f (effect.Rename from to))
-rename_stands r f me from to stands e =
+    → StandsFor pending (after r me (op.Directory (directory_op.Rename from to))) (flat.after f (effect.Rename from to))
+rename_stands pending r f me from to stands e =
     let now : Listing = renamed (id_of r.directory from) from to r.directory in
     let same : id_of r.directory from ≡ flat.id_of f from = ap (λ (m : finmap.FinMap (slice_cmp nat_cmp) ℕ). finmap.get m from) stands.names in
-    subst (λ (d : Listing). StandsFor (with_directory d r) (flat.after f (effect.Rename from to)))
+    let g : Flat = flat.renamed (flat.id_of f from) from to f in
+    subst (λ (d : Listing). StandsFor pending (with_directory d r) g)
     (sym (ap (λ (a : Answer). where_done a now r.directory) e))
-    (other_names r f (flat.after f (effect.Rename from to)) now stands (drawn_stays (id_of r.directory from) from to r.directory)
-    (name_replaced (id_of r.directory from) from to r.directory f stands.names ∙ ap (λ o. (flat.renamed o from to f).names) same)
-    (images_stay (flat.id_of f from) from to f))
+    (subst (λ (x : Flat). StandsFor pending (with_directory now r) x) (sym (renamed_names (flat.id_of f from) from to f))
+    (other_names pending r f now g.names stands (drawn_stays (id_of r.directory from) from to r.directory)
+    (name_replaced (id_of r.directory from) from to r.directory f stands.names ∙ ap (λ o. (flat.renamed o from to f).names) same)))
+
+-- ---- a name is freed
+
+held : (b : Bool) → done_where b ≡ answer.Done → b ≡ true
+held true e = refl
+held false e = absurd (cc)
+
+pub free_stands : (pending : List Pending) (r : Records) (f : Flat) (me : Instance) (image : ℕ) → StandsFor pending r f
+    → answer_to r me (op.Directory (directory_op.Remove image)) ≡ answer.Done
+    → StandsFor pending (after r me (op.Directory (directory_op.Remove image))) (flat.after f (effect.NameFree image))
+free_stands pending r f me image stands e =
+    let g : Flat = flat.after f (effect.NameFree image) in
+    subst (λ (b : Bool). StandsFor pending (with_directory (cond b (freed image r.directory) r.directory) r) g) (sym (held (holds image r.directory) e))
+    (other_names pending r f (freed image r.directory) g.names stands refl
+    (ap (λ (m : finmap.FinMap (slice_cmp nat_cmp) ℕ). finmap.from_entries (filter (λ e. not (eqb e.1 image)) (finmap.entries m))) stands.names))
+
+-- ---- what the answers tell of the flat site
+
+pub id_same : (r : Records) (f : Flat) → r.directory.names ≡ f.names → (name : List ℕ) → id_of r.directory name ≡ flat.id_of f name
+id_same r f same name = ap (λ (m : finmap.FinMap (slice_cmp nat_cmp) ℕ). finmap.get m name) same
+
+added_told : (held : Option ℕ) (full : Bool) (next : ℕ) → (name_added held full next ≡ answer.Exists) ↔ (is_some held ≡ true)
+added_told (Some image) full next = (λ _. refl, λ _. refl)
+added_told None true next = (λ e. absurd (cc), λ e. absurd (cc))
+added_told None false next = (λ e. absurd (cc), λ e. absurd (cc))
+
+pub held_told : (pending : List Pending) (r : Records) (f : Flat) (me : Instance) (name : List ℕ) → StandsFor pending r f
+    → (answer_to r me (op.Directory (directory_op.Add name)) ≡ answer.Exists) ↔ IsSome (flat.id_of f name)
+held_told pending r f me name stands =
+    subst (λ (o : Option ℕ). (answer_to r me (op.Directory (directory_op.Add name)) ≡ answer.Exists) ↔ IsSome o) (id_same r f stands.names name)
+    (added_told (id_of r.directory name) (is_full r.directory) (r.directory.drawn + 1))
+
+from_told : (from to : Option ℕ) → (name_changed from to ≡ answer.Absent) ↔ (from ≡ None)
+from_told None to = (λ _. refl, λ _. refl)
+from_told (Some image) None = (λ e. absurd (cc), λ e. absurd (cc))
+from_told (Some image) (Some other) = (λ e. absurd (cc), λ e. absurd (cc))
+
+pub missing_told : (pending : List Pending) (r : Records) (f : Flat) (me : Instance) (from to : List ℕ) → StandsFor pending r f
+    → (answer_to r me (op.Directory (directory_op.Rename from to)) ≡ answer.Absent) ↔ (flat.id_of f from ≡ None)
+missing_told pending r f me from to stands =
+    subst (λ (o : Option ℕ). (answer_to r me (op.Directory (directory_op.Rename from to)) ≡ answer.Absent) ↔ (o ≡ None)) (id_same r f stands.names from)
+    (from_told (id_of r.directory from) (id_of r.directory to))
+
+to_told : (from to : Option ℕ) → (name_changed from to ≡ answer.Exists) ↔ ((is_some from ≡ true) × (is_some to ≡ true))
+to_told None to = (λ e. absurd (cc), λ e. absurd (let n = e.0 in cc))
+to_told (Some image) None = (λ e. absurd (cc), λ e. absurd (let n = e.1 in cc))
+to_told (Some image) (Some other) = (λ _. (refl, refl), λ _. refl)
+
+pub taken_told : (pending : List Pending) (r : Records) (f : Flat) (me : Instance) (from to : List ℕ) → StandsFor pending r f
+    → (answer_to r me (op.Directory (directory_op.Rename from to)) ≡ answer.Exists) ↔ (IsSome (flat.id_of f from) × IsSome (flat.id_of f to))
+taken_told pending r f me from to stands =
+    subst (λ (o : Option ℕ). (answer_to r me (op.Directory (directory_op.Rename from to)) ≡ answer.Exists) ↔ (IsSome o × IsSome (flat.id_of f to))) (id_same r f stands.names from)
+    (subst (λ (o : Option ℕ). (answer_to r me (op.Directory (directory_op.Rename from to)) ≡ answer.Exists) ↔ (IsSome (id_of r.directory from) × IsSome o)) (id_same r f stands.names to)
+    (to_told (id_of r.directory from) (id_of r.directory to)))

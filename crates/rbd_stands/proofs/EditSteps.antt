@@ -18,23 +18,23 @@ use Rattle.rbd_kinds.specs.declared.id.Instance.{Instance}
 use Rattle.rbd_kinds.specs.declared.operation.Op.{Op}
 use Rattle.rbd_kinds.specs.declared.operation.Op.TheVariants as op
 use Rattle.rbd_header.specs.Header.{snap_in, with_size, with_status, with_role, detached}
-use Rattle.rbd_registry.specs.Directory.{Listing, id_of, added, renamed}
+use Rattle.rbd_registry.specs.Directory.{Listing, id_of, added, renamed, freed, holds}
 use Rattle.rbd_flat.specs.declared.effect.Effect.{Effect}
 use Rattle.rbd_flat.specs.declared.effect.Effect.TheVariants as effect
 use Rattle.rbd_flat.specs.Flat.{Flat, FlatImage, FlatSnap, image_at, snap_of, resized}
 use Rattle.rbd_flat.specs.Flat as flat
 use Rattle.rbd_flat.specs.Laws.{snap_at}
 use Rattle.rbd_flat.proofs.Images.{image_law}
-use Rattle.rbd_flat.proofs.Steps.{snap_law, names_stay}
+use Rattle.rbd_flat.proofs.Steps.{snap_law, names_stay, links_stay}
 use Rattle.rbd_site.specs.DirectoryStep.{directory_answer, directory_after, where_added, where_done}
 use Rattle.rbd_site.specs.DataStep.{data_after}
 use Rattle.rbd_site.specs.HeaderStep.{header_answer, header_after, there_after}
 use Rattle.rbd_site.specs.Records.{Records, put, or_blank, object_at, with_header}
 use Rattle.rbd_site.specs.Step.{answer_to, after}
-use Rattle.rbd_stands.specs.Shown.{Snapshots, snapshots_of, HasParent}
+use Rattle.rbd_stands.specs.Shown.{Snapshots, snapshots_of, HasParent, Links, links_of}
 use Rattle.rbd_stands.specs.Image.{SnapLine, line_of_snap, line_of_flat}
-use Rattle.rbd_stands.specs.Same.{is_about}
-use Rattle.rbd_stands.specs.Site.{StandsFor, IsUntouched}
+use Rattle.rbd_stands.specs.Unseen.{is_about}
+use Rattle.rbd_stands.specs.Site.{StandsFor, IsUntouched, Pending, IsAwaited}
 use Rattle.rbd_stands.specs.Condition.{IsCopiedUp, IsZeroedFrom, IsUnnamed, IsDrawn, NamesOther}
 use Rattle.rbd_stands.proofs.Frame.{KeepsParent}
 use Rattle.rbd_stands.proofs.HeaderEdits.{size_set, role_set, status_set, parent_taken}
@@ -45,45 +45,45 @@ use Rattle.rbd_stands.proofs.SiteSteps.{Here, here, stands_without, keep_all, si
 
 -- ---- a size
 
-pub size_stands : (r : Records) (f : Flat) (me : Instance) (image size : ℕ) (h : HeaderView) → StandsFor r f → r.headers image ≡ Some h → IsZeroedFrom h size (object_at r image)
-    → StandsFor (after r me (op.Header image (header_op.SetSize size))) (flat.after f (effect.Size image size))
-size_stands r f me image size h stands is zeroed =
+pub size_stands : (pending : List Pending) (r : Records) (f : Flat) (me : Instance) (image size : ℕ) (h : HeaderView) → StandsFor pending r f → r.headers image ≡ Some h → IsZeroedFrom h size (object_at r image)
+    → StandsFor pending (after r me (op.Header image (header_op.SetSize size))) (flat.after f (effect.Size image size))
+size_stands pending r f me image size h stands is zeroed =
     let e : Effect = effect.Size image size in
     let g = flat.after f e in
-    header_change r f g me image (header_op.SetSize size) h (with_size size h) stands is refl (names_stay f e refl) (flat_elsewhere f e image refl)
-    (keep_all r (snapshots_of f) (snapshots_of g) (λ i t s at. snap_law f e i t ∙ at))
+    header_change pending r f g me image (header_op.SetSize size) h (with_size size h) stands is refl (names_stay f e refl) (links_stay f e refl) (flat_elsewhere f e image refl)
+    (keep_all pending r (snapshots_of f) (snapshots_of g) (λ i t s at. snap_law f e i t ∙ at))
     (λ i at st. record {
       image = record i { bytes = resized size i.bytes };
       is = flat_there f image _ i at;
-      stands = size_set (snapshots_of g) h (object_at r image) i st size zeroed;
+      stands = size_set (snapshots_of g) (links_of g image) h (object_at r image) i st size zeroed;
     })
 
 -- ---- a role
 
-pub role_stands : (r : Records) (f : Flat) (me : Instance) (image : ℕ) (role : Role) → StandsFor r f
+pub role_stands : (pending : List Pending) (r : Records) (f : Flat) (me : Instance) (image : ℕ) (role : Role) → StandsFor pending r f
     → answer_to r me (op.Header image (header_op.Role role)) ≡ answer.Done
-    → StandsFor (after r me (op.Header image (header_op.Role role))) (flat.after f (effect.Role image role))
-role_stands r f me image role stands answered = go (r.headers image) refl
+    → StandsFor pending (after r me (op.Header image (header_op.Role role))) (flat.after f (effect.Role image role))
+role_stands pending r f me image role stands answered = go (r.headers image) refl
   where
-    go : (header : Option HeaderView) → r.headers image ≡ header → StandsFor (after r me (op.Header image (header_op.Role role))) (flat.after f (effect.Role image role))
+    go : (header : Option HeaderView) → r.headers image ≡ header → StandsFor pending (after r me (op.Header image (header_op.Role role))) (flat.after f (effect.Role image role))
     go None is = absurd (let a = sym (ap (λ (p : Option HeaderView). header_answer me p (header_op.Role role)) is) ∙ answered in cc)
     go (Some h) is =
         let e : Effect = effect.Role image role in
         let g = flat.after f e in
-        header_change r f g me image (header_op.Role role) h (with_role role h) stands is refl (names_stay f e refl) (flat_elsewhere f e image refl)
-        (keep_all r (snapshots_of f) (snapshots_of g) (λ i t s at. snap_law f e i t ∙ at))
+        header_change pending r f g me image (header_op.Role role) h (with_role role h) stands is refl (names_stay f e refl) (links_stay f e refl) (flat_elsewhere f e image refl)
+        (keep_all pending r (snapshots_of f) (snapshots_of g) (λ i t s at. snap_law f e i t ∙ at))
         (λ i at st. record {
           image = record i { role = role };
           is = flat_there f image _ i at;
-          stands = role_set (snapshots_of g) h (object_at r image) i st role;
+          stands = role_set (snapshots_of g) (links_of g image) h (object_at r image) i st role;
         })
 
 -- ---- the status of a snapshot
 
-pub status_stands : (r : Records) (f : Flat) (me : Instance) (image snap : ℕ) (status : SnapStatus) → StandsFor r f → (status ≡ Unprotected → IsUnnamed r image snap)
+pub status_stands : (pending : List Pending) (r : Records) (f : Flat) (me : Instance) (image snap : ℕ) (status : SnapStatus) → StandsFor pending r f → (status ≡ Unprotected → IsUnnamed pending r image snap)
     → answer_to r me (op.Header image (header_op.SnapStatus snap status)) ≡ answer.Done
-    → StandsFor (after r me (op.Header image (header_op.SnapStatus snap status))) (flat.after f (effect.Status image snap status))
-status_stands r f me image snap status stands free answered = go (r.headers image) refl
+    → StandsFor pending (after r me (op.Header image (header_op.SnapStatus snap status))) (flat.after f (effect.Status image snap status))
+status_stands pending r f me image snap status stands free answered = go (r.headers image) refl
   where
     -- a parent's status may change, but not to unprotected
     given : (b : Bool) (parent : Option FlatSnap) (s : FlatSnap) → parent ≡ Some s → (b ≡ true → status ≢ Unprotected)
@@ -98,73 +98,84 @@ status_stands r f me image snap status stands free answered = go (r.headers imag
         (λ both unprotected. let t = both_tests (eqb link.image image) (eqb link.snap snap) both in other unprotected (eqb-true link.image image t.0) (eqb-true link.snap snap t.1)) in
         record { snap = found.0; is = snap_law f (effect.Status image snap status) link.image link.snap ∙ found.1; bytes = found.2; kept = found.3 }
 
-    go : (header : Option HeaderView) → r.headers image ≡ header → StandsFor (after r me (op.Header image (header_op.SnapStatus snap status))) (flat.after f (effect.Status image snap status))
+    go : (header : Option HeaderView) → r.headers image ≡ header → StandsFor pending (after r me (op.Header image (header_op.SnapStatus snap status))) (flat.after f (effect.Status image snap status))
     go None is = absurd (let a = sym (ap (λ (p : Option HeaderView). header_answer me p (header_op.SnapStatus snap status)) is) ∙ answered in cc)
     go (Some h) is =
         let there = was_there (is_some (snap_in h.snaps snap)) (sym (ap (λ (p : Option HeaderView). header_answer me p (header_op.SnapStatus snap status)) is) ∙ answered) in
         let made : there_after me h (header_op.SnapStatus snap status) ≡ Some (with_status snap status h) = ap (λ b. Some (cond b (with_status snap status h) h)) there in
         let e : Effect = effect.Status image snap status in
         let g = flat.after f e in
-        header_change r f g me image (header_op.SnapStatus snap status) h (with_status snap status h) stands is made (names_stay f e refl) (flat_elsewhere f e image refl)
-        (record { each = λ child k at. record { head = kept k.parent (λ u. (free u child k at).head); snap = λ t s listed. kept s.parent (λ u. (free u child k at).snap t s listed) } })
+        header_change pending r f g me image (header_op.SnapStatus snap status) h (with_status snap status h) stands is made (names_stay f e refl) (links_stay f e refl) (flat_elsewhere f e image refl)
+        (record {
+          awaited = λ k p at. kept (Some p.link) (λ u. (free u).awaited k p at);
+          each = λ child k at. record { head = kept k.parent (λ u. ((free u).views child k at).head); snap = λ t s listed. kept s.parent (λ u. ((free u).views child k at).snap t s listed) };
+        })
         (λ i at st. record {
           image = record i { snaps = map (flat.with_status snap status) i.snaps };
           is = flat_there f image _ i at;
-          stands = status_set (snapshots_of g) h (object_at r image) i st snap status;
+          stands = status_set (snapshots_of g) (links_of g image) h (object_at r image) i st snap status;
         })
 
 -- a snapshot that is unprotected is no view's parent
-other_of : (below : Snapshots) (image snap : ℕ) (parent : Option ParentLink) (o : Option FlatSnap) → below image snap ≡ o → ((u : FlatSnap) → o ≡ Some u → u.status ≡ Unprotected) → HasParent below parent → NamesOther image snap parent
-other_of below image snap None o at free has = tt
-other_of below image snap (Some link) o at free has = λ same_image same_snap.
+other_of : (below : Snapshots) (linked : Links) (image snap : ℕ) (parent : Option ParentLink) (o : Option FlatSnap) → below image snap ≡ o → ((u : FlatSnap) → o ≡ Some u → u.status ≡ Unprotected) → HasParent below linked parent → NamesOther image snap parent
+other_of below linked image snap None o at free has = tt
+other_of below linked image snap (Some link) o at free has = λ same_image same_snap.
+    has.kept (free has.snap (sym at ∙ ap (λ i. below i snap) (sym same_image) ∙ ap (below link.image) (sym same_snap) ∙ has.is))
+
+awaited_other : (below : Snapshots) (linked : Links) (image snap : ℕ) (link : ParentLink) (o : Option FlatSnap) → below image snap ≡ o → ((u : FlatSnap) → o ≡ Some u → u.status ≡ Unprotected) → IsAwaited below linked link
+    → NamesOther image snap (Some link)
+awaited_other below linked image snap link o at free has = λ same_image same_snap.
     has.kept (free has.snap (sym at ∙ ap (λ i. below i snap) (sym same_image) ∙ ap (below link.image) (sym same_snap) ∙ has.is))
 
 -- ---- the parent is taken away
 
-pub detach_stands : (r : Records) (f : Flat) (me : Instance) (image : ℕ) (h : HeaderView) → StandsFor r f → r.headers image ≡ Some h → ((n : ℕ) → IsCopiedUp h n (object_at r image n))
-    → StandsFor (after r me (op.Header image header_op.Detach)) f
-detach_stands r f me image h stands is up =
-    header_change r f f me image header_op.Detach h (detached h) stands is refl refl (λ j other. refl)
-    (keep_all r (snapshots_of f) (snapshots_of f) (λ i t s at. at))
-    (λ i at st. record { image = i; is = at; stands = parent_taken (snapshots_of f) h (object_at r image) i st up })
+pub detach_stands : (pending : List Pending) (r : Records) (f : Flat) (me : Instance) (image : ℕ) (h : HeaderView) → StandsFor pending r f → r.headers image ≡ Some h → ((n : ℕ) → IsCopiedUp h n (object_at r image n))
+    → StandsFor pending (after r me (op.Header image header_op.Detach)) f
+detach_stands pending r f me image h stands is up =
+    header_change pending r f f me image header_op.Detach h (detached h) stands is refl refl refl (λ j other. refl)
+    (keep_all pending r (snapshots_of f) (snapshots_of f) (λ i t s at. at))
+    (λ i at st. record { image = i; is = at; stands = parent_taken (snapshots_of f) (links_of f image) h (object_at r image) i st up })
 
 -- ---- the header is removed
 
-pub gone_stands : (r : Records) (f : Flat) (me : Instance) (image : ℕ) (h : HeaderView) → StandsFor r f → r.headers image ≡ Some h → h.snaps ≡ []
-    → StandsFor (after r me (op.Header image header_op.Remove)) (flat.after f (effect.Gone image))
-gone_stands r f me image h stands is alone =
+pub gone_stands : (pending : List Pending) (r : Records) (f : Flat) (me : Instance) (image : ℕ) (h : HeaderView) → StandsFor pending r f → r.headers image ≡ Some h → h.snaps ≡ []
+    → StandsFor pending (after r me (op.Header image header_op.Remove)) (flat.after f (effect.Gone image))
+gone_stands pending r f me image h stands is alone =
     let e : Effect = effect.Gone image in
     let g = flat.after f e in
     let header : Option HeaderView = header_after me (r.headers image) header_op.Remove in
     let now : header ≡ None = ap (λ (p : Option HeaderView). header_after me p header_op.Remove) is in
     let none : image_at g image ≡ None = image_law f e image ∙ ap (λ b. cond b None (image_at f image)) (eq-eqb image image refl) in
-    site_change image r (with_header image header r) f g stands
-    (other_header image header r f g (names_stay f e refl) (flat_elsewhere f e image refl))
-    (keep_all r (snapshots_of f) (snapshots_of g) (λ i t s at. snap_law f e i t ∙ kept i t s at (eqb i image) refl))
-    (λ st. stands_without (snapshots_of g) ((with_header image header r).headers image) (object_at r image) (image_at g image) (put_there r.headers image header ∙ now) none)
-    (is_drawn r f stands image h is (with_header image header r) g)
+    site_change pending image r (with_header image header r) f g stands
+    (other_header image header r f g (names_stay f e refl) (links_stay f e refl) (flat_elsewhere f e image refl))
+    (keep_all pending r (snapshots_of f) (snapshots_of g) (λ i t s at. snap_law f e i t ∙ kept i t s at (eqb i image) refl))
+    (λ st. stands_without (snapshots_of g) (links_of g image) ((with_header image header r).headers image) (object_at r image) (image_at g image) (put_there r.headers image header ∙ now) none)
+    (is_drawn pending r f stands image h is (with_header image header r) g)
   where
     kept : (i t : ℕ) (s : FlatSnap) → snap_at f i t ≡ Some s → (b : Bool) → eqb i image ≡ b → cond b None (snap_at f i t) ≡ Some s
     kept i t s at true e =
-        let was = here (snapshots_of f) (r.headers image) (object_at r image) (image_at f image) h is (stands.images image) in
+        let was = here (snapshots_of f) (links_of f image) (r.headers image) (object_at r image) (image_at f image) h is (stands.images image) in
         let missing : snap_at f i t ≡ None =
         ap (λ k. snap_at f k t) (eqb-true i image e) ∙ ap (λ o. snap_of o t) was.is
         ∙ flat_missing h.snaps was.image.snaps was.stands.same t (ap (λ snaps. snap_in snaps t) alone) in
         absurd (none-some s (sym missing ∙ at))
     kept i t s at false e = at
 
-pub unnamed : (r : Records) (f : Flat) (image snap : ℕ) (h : HeaderView) (s : SnapView) → StandsFor r f → r.headers image ≡ Some h → snap_in h.snaps snap ≡ Some s → s.status ≡ Unprotected
-    → IsUnnamed r image snap
-unnamed r f image snap h s stands is listed status child k at = record {
-  head = other_of (snapshots_of f) image snap k.parent (snap_at f image snap) refl free own.stands.parents.head;
-  snap = λ t u found. other_of (snapshots_of f) image snap u.parent (snap_at f image snap) refl free (own.stands.parents.snap t u found);
+pub unnamed : (pending : List Pending) (r : Records) (f : Flat) (image snap : ℕ) (h : HeaderView) (s : SnapView) → StandsFor pending r f → r.headers image ≡ Some h → snap_in h.snaps snap ≡ Some s → s.status ≡ Unprotected
+    → IsUnnamed pending r image snap
+unnamed pending r f image snap h s stands is listed status = record {
+  views = λ child k at. record {
+    head = other_of (snapshots_of f) (links_of f child) image snap k.parent (snap_at f image snap) refl free (own child k at).stands.parents.head;
+    snap = λ t u found. other_of (snapshots_of f) (links_of f child) image snap u.parent (snap_at f image snap) refl free ((own child k at).stands.parents.snap t u found);
+  };
+  awaited = λ k p at. let waits = stands.awaited k p at in awaited_other (snapshots_of f) (links_of f p.child) image snap p.link (snap_at f image snap) refl free waits;
 }
   where
-    own : Here (snapshots_of f) k (object_at r child) (image_at f child)
-    own = here (snapshots_of f) (r.headers child) (object_at r child) (image_at f child) k at (stands.images child)
+    own : (child : ℕ) (k : HeaderView) → r.headers child ≡ Some k → Here (snapshots_of f) (links_of f child) k (object_at r child) (image_at f child)
+    own child k at = here (snapshots_of f) (links_of f child) (r.headers child) (object_at r child) (image_at f child) k at (stands.images child)
 
-    was : Here (snapshots_of f) h (object_at r image) (image_at f image)
-    was = here (snapshots_of f) (r.headers image) (object_at r image) (image_at f image) h is (stands.images image)
+    was : Here (snapshots_of f) (links_of f image) h (object_at r image) (image_at f image)
+    was = here (snapshots_of f) (links_of f image) (r.headers image) (object_at r image) (image_at f image) h is (stands.images image)
 
     free : (u : FlatSnap) → snap_at f image snap ≡ Some u → u.status ≡ Unprotected
     free u found =
@@ -202,10 +213,14 @@ drawn_done answer.Done None from to d = omega arith
 drawn_done answer.Done (Some image) from to d = omega arith
 drawn_done _ o from to d = omega arith
 
+drawn_freed : (b : Bool) (image : ℕ) (d : Listing) → d.drawn ≤ (cond b (freed image d) d).drawn
+drawn_freed true image d = omega arith
+drawn_freed false image d = omega arith
+
 directory_drawn : (d : Listing) (o : DirectoryOp) → d.drawn ≤ (directory_after d o).drawn
 directory_drawn d (directory_op.Find name) = omega arith
 directory_drawn d (directory_op.Add name) = drawn_added (directory_answer d (directory_op.Add name)) (added name d) d (omega arith)
-directory_drawn d (directory_op.Remove image) = omega arith
+directory_drawn d (directory_op.Remove image) = drawn_freed (holds image d) image d
 directory_drawn d (directory_op.Rename from to) = drawn_done (directory_answer d (directory_op.Rename from to)) (id_of d from) from to d
 directory_drawn d directory_op.List = omega arith
 

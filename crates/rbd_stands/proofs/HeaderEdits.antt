@@ -1,5 +1,5 @@
 -- Size, status, role and parent of a header are set, and what it then stands for.
-use Rattle.std.proofs.Common.{◌≡◌, ℕ, ◌<◌, ◌≤◌, min, cond, ltb, inl, inr, List, [], length, map, get_or, Option, Some, None, unwrap_or, refl, sym, ◌∙◌, ap, arith}
+use Rattle.std.proofs.Common.{◌≡◌, ℕ, ◌<◌, ◌≤◌, min, cond, ltb, inl, inr, List, [], length, map, get_or, Option, Some, None, unwrap_or, refl, sym, ◌∙◌, ap, arith, true≢false, is_some}
 use Rattle.std.proofs.lemmas.Bool.{cases_lt, lt-ltb, le-ltb}
 use Rattle.std.proofs.lemmas.List.{get_or_past}
 use Rattle.std.proofs.lemmas.List.FromFn.{length-map-range_with_len, get_or-map-range_with_len}
@@ -16,7 +16,7 @@ use Rattle.rbd_flat.specs.Flat.{FlatImage, FlatSnap, resized}
 use Rattle.rbd_flat.specs.Flat as flat
 use Rattle.rbd_flat.specs.Laws.{snap_byte}
 use Rattle.rbd_stands.specs.View.{flat_bytes}
-use Rattle.rbd_stands.specs.Shown.{Snapshots, HasParent, inherited, shown}
+use Rattle.rbd_stands.specs.Shown.{Snapshots, HasParent, inherited, shown, Links, IsInOverlap}
 use Rattle.rbd_stands.specs.Image.{ImageStands}
 use Rattle.rbd_stands.specs.Condition.{IsCopiedUp, IsZeroedFrom}
 use Rattle.rbd_stands.proofs.DataSteps.{own_bytes}
@@ -49,15 +49,23 @@ grown_shown : (below : Snapshots) (parent : Option ParentLink) (old size : ℕ) 
 grown_shown below parent old size None offset x within past clear = grown_inherited below parent old size x within past
 grown_shown below parent old size (Some bytes) offset x within past clear = clear
 
-cut_parent : (below : Snapshots) (parent : Option ParentLink) (size : ℕ) → HasParent below parent → HasParent below (cut size parent)
-cut_parent below None size has = tt
-cut_parent below (Some link) size has = record { snap = has.snap; is = has.is; long = (let l = has.long in omega arith); kept = has.kept }
+cut_parent : (below : Snapshots) (linked : Links) (parent : Option ParentLink) (size : ℕ) → HasParent below linked parent → HasParent below linked (cut size parent)
+cut_parent below linked None size has = tt
+cut_parent below linked (Some link) size has = record { snap = has.snap; is = has.is; long = (let l = has.long in omega arith); kept = has.kept; child = has.child }
 
 cut_within : (parent : Option ParentLink) (size : ℕ) → IsOverlapWithin size (cut size parent)
 cut_within None size = tt
 cut_within (Some link) size = omega arith
 
-module _ (below : Snapshots) (h : HeaderView) (objects : ℕ → Mapped) (i : FlatImage) (stands : ImageStands below h objects i) where
+cut_inside : (parent : Option ParentLink) (size x : ℕ) → IsInOverlap (cut size parent) x → IsInOverlap parent x
+cut_inside None size x inside = inside
+cut_inside (Some link) size x inside = omega arith
+
+past_inherited : (below : Snapshots) (parent : Option ParentLink) (size x : ℕ) → IsOverlapWithin size parent → size ≤ x → inherited below parent x ≡ 0
+past_inherited below None size x within past = refl
+past_inherited below (Some link) size x within past = ap (λ b. cond b (snap_byte (below link.image link.snap) 0 x) 0) (le-ltb x link.overlap (omega arith))
+
+module _ (below : Snapshots) (linked : Links) (h : HeaderView) (objects : ℕ → Mapped) (i : FlatImage) (stands : ImageStands below linked h objects i) where
   -- ---- a size
 
   resized_byte : (size x : ℕ) → x < size → get_or (resized size i.bytes) x 0 ≡ get_or i.bytes x 0
@@ -70,14 +78,32 @@ module _ (below : Snapshots) (h : HeaderView) (objects : ℕ → Mapped) (i : Fl
         ∙ sym (grown_shown below h.parent h.size size (objects (object_of h.layout x)).head (offset_of h.layout x) x stands.within.head new (stands.clear x new))
   ]
 
-  pub size_set : (size : ℕ) → IsZeroedFrom h size objects → ImageStands below (with_size size h) objects (record i { bytes = resized size i.bytes })
+  -- where an object inside the new overlap is absent, the head inherits what it did
+  cut_alike : (size : ℕ) → IsZeroedFrom h size objects → (x : ℕ) → IsInOverlap (cut size h.parent) (byte_at h.layout (object_of h.layout x) 0) → (objects (object_of h.layout x)).head ≡ None
+      → inherited below (cut size h.parent) x ≡ inherited below h.parent x
+  cut_alike size zeroed x inside absent = elim (cases_lt x size) [
+    | inl within ↦ cut_inherited below h.parent size x within
+    | inr past ↦ elim (cases_lt x h.size) [
+      | inl old ↦ absurd (true≢false (sym (zeroed.copied_up x past old inside) ∙ ap is_some absent))
+      | inr new ↦ grown_inherited below h.parent h.size size x stands.within.head new ∙ sym (past_inherited below h.parent h.size x stands.within.head new)
+      ]
+  ]
+
+  pub size_set : (size : ℕ) → IsZeroedFrom h size objects → ImageStands below linked (with_size size h) objects (record i { bytes = resized size i.bytes })
   size_set size zeroed = record {
     same = stands.same;
     role = stands.role;
     long = record { head = length-map-range_with_len (λ y. get_or i.bytes y 0) 0 size; snap = stands.long.snap };
     bytes = record { head = λ x within. resized_shown size x within; snap = stands.bytes.snap };
-    parents = record { head = cut_parent below h.parent size stands.parents.head; snap = stands.parents.snap };
+    parents = record { head = cut_parent below linked h.parent size stands.parents.head; snap = stands.parents.snap };
     within = record { head = cut_within h.parent size; snap = stands.within.snap };
+    untouched = λ n inside absent. stands.untouched n (cut_inside h.parent size (byte_at h.layout n 0) inside) absent;
+    alike = record {
+      head = λ x inside absent. refl;
+      snap = λ t s is x inside absent.
+          stands.alike.snap t s is x (cut_inside h.parent size (byte_at h.layout (object_of h.layout x) 0) inside) absent
+          ∙ sym (cut_alike size zeroed x inside absent);
+    };
     clear = λ x past. elim (cases_lt x h.size) [
       | inl old ↦ zeroed.zeros x past old
       | inr new ↦ stands.clear x new
@@ -90,7 +116,7 @@ module _ (below : Snapshots) (h : HeaderView) (objects : ℕ → Mapped) (i : Fl
 
   -- ---- a role
 
-  pub role_set : (role : Role) → ImageStands below (with_role role h) objects (record i { role = role })
+  pub role_set : (role : Role) → ImageStands below linked (with_role role h) objects (record i { role = role })
   role_set role = record {
     same = stands.same;
     role = refl;
@@ -98,6 +124,8 @@ module _ (below : Snapshots) (h : HeaderView) (objects : ℕ → Mapped) (i : Fl
     bytes = record { head = stands.bytes.head; snap = stands.bytes.snap };
     parents = record { head = stands.parents.head; snap = stands.parents.snap };
     within = record { head = stands.within.head; snap = stands.within.snap };
+    untouched = stands.untouched;
+    alike = record { head = stands.alike.head; snap = stands.alike.snap };
     clear = stands.clear;
     tidy = stands.tidy;
     seen = stands.seen;
@@ -110,7 +138,7 @@ module _ (below : Snapshots) (h : HeaderView) (objects : ℕ → Mapped) (i : Fl
   status_bytes : (t : ℕ) (status : SnapStatus) (u : ℕ) → flat_bytes (record i { snaps = map (flat.with_status t status) i.snaps }) (Some u) ≡ flat_bytes i (Some u)
   status_bytes t status u = ap (λ (o : Option (List ℕ)). unwrap_or o []) (flat_bytes_marked t status i.snaps u)
 
-  pub status_set : (t : ℕ) (status : SnapStatus) → ImageStands below (with_status t status h) objects (record i { snaps = map (flat.with_status t status) i.snaps })
+  pub status_set : (t : ℕ) (status : SnapStatus) → ImageStands below linked (with_status t status h) objects (record i { snaps = map (flat.with_status t status) i.snaps })
   status_set t status = record {
     same = lines_marked t status h.snaps i.snaps stands.same;
     role = stands.role;
@@ -118,6 +146,8 @@ module _ (below : Snapshots) (h : HeaderView) (objects : ℕ → Mapped) (i : Fl
     bytes = each_marked t status h (λ p. p) (λ u s is p x within. ap (λ bytes. get_or bytes x 0) (status_bytes t status u) ∙ p x within) stands.bytes;
     parents = each_marked t status h (λ p. p) (λ u s is p. p) stands.parents;
     within = each_marked t status h (λ p. p) (λ u s is p. p) stands.within;
+    untouched = stands.untouched;
+    alike = each_marked t status h (λ p. p) (λ u s is p. p) stands.alike;
     clear = stands.clear;
     tidy = stands.tidy;
     seen = stands.seen;
@@ -127,7 +157,7 @@ module _ (below : Snapshots) (h : HeaderView) (objects : ℕ → Mapped) (i : Fl
 
   -- ---- the parent is taken away
 
-  pub parent_taken : ((n : ℕ) → IsCopiedUp h n (objects n)) → ImageStands below (detached h) objects i
+  pub parent_taken : ((n : ℕ) → IsCopiedUp h n (objects n)) → ImageStands below linked (detached h) objects i
   parent_taken up = record {
     same = stands.same;
     role = stands.role;
@@ -140,6 +170,8 @@ module _ (below : Snapshots) (h : HeaderView) (objects : ℕ → Mapped) (i : Fl
     };
     parents = record { head = tt; snap = stands.parents.snap };
     within = record { head = tt; snap = stands.within.snap };
+    untouched = λ n inside absent. absurd inside;
+    alike = record { head = λ x inside absent. refl; snap = λ t s is x inside absent. absurd inside };
     clear = stands.clear;
     tidy = stands.tidy;
     seen = stands.seen;

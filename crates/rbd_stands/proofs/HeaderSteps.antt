@@ -10,7 +10,7 @@ use Rattle.rbd_object.specs.Mapped.{Mapped, looked}
 use Rattle.rbd_object.specs.Versioned.{view}
 use Rattle.rbd_flat.specs.Flat.{FlatImage, FlatSnap}
 use Rattle.rbd_stands.specs.View.{flat_bytes}
-use Rattle.rbd_stands.specs.Shown.{Snapshots, shown}
+use Rattle.rbd_stands.specs.Shown.{Snapshots, shown, Links}
 use Rattle.rbd_stands.specs.Image.{ImageStands, line_of_snap, line_of_flat}
 use Rattle.rbd_stands.proofs.Lookups.{flat_there, flat_missing, flat_older, flat_last, flat_left, lines_left}
 use Rattle.rbd_stands.proofs.Views.{each_added, each_removed}
@@ -21,7 +21,7 @@ map_push g (y ∷ xs) x = ap (λ zs. g y ∷ zs) (map_push g xs x)
 
 -- ---- a snapshot is taken
 
-module _ (below : Snapshots) (name : List ℕ) (h : HeaderView) (objects : ℕ → Mapped) (i : FlatImage) (stands : ImageStands below h objects i) where
+module _ (below : Snapshots) (linked : Links) (name : List ℕ) (h : HeaderView) (objects : ℕ → Mapped) (i : FlatImage) (stands : ImageStands below linked h objects i) where
   abbrev taken : FlatSnap
   taken = record { id = h.snap_seq + 1; name = name; bytes = i.bytes; status = Unprotected }
 
@@ -47,7 +47,7 @@ module _ (below : Snapshots) (name : List ℕ) (h : HeaderView) (objects : ℕ �
   new_view : (n : ℕ) → view (looked (objects n)) (Some (h.snap_seq + 1)) ≡ (objects n).head
   new_view n = ap (λ b. cond b (objects n).head ((looked (objects n)).kept (h.snap_seq + 1))) (lt-ltb (objects n).seq (h.snap_seq + 1) (let e = stands.seen n in omega arith))
 
-  pub snap_added : ImageStands below (with_snap name h) objects with_flat_snap
+  pub snap_added : ImageStands below linked (with_snap name h) objects with_flat_snap
   snap_added = record {
     same = map_push line_of_snap h.snaps (snap_taken name h) ∙ ap (λ lines. lines ++ line_of_flat taken ∷ []) stands.same ∙ sym (map_push line_of_flat i.snaps taken);
     role = stands.role;
@@ -59,6 +59,8 @@ module _ (below : Snapshots) (name : List ℕ) (h : HeaderView) (objects : ℕ �
         stands.bytes;
     parents = each_added name h (λ p. p) (λ t s is p. p) (λ p. p) stands.parents;
     within = each_added name h (λ p. p) (λ t s is p. p) (λ p. p) stands.within;
+    untouched = stands.untouched;
+    alike = each_added name h (λ p. p) (λ t s is p. p) (λ p x inside absent. refl) stands.alike;
     clear = stands.clear;
     tidy = stands.tidy;
     seen = λ n. let e = stands.seen n in omega arith;
@@ -68,14 +70,14 @@ module _ (below : Snapshots) (name : List ℕ) (h : HeaderView) (objects : ℕ �
 
 -- ---- a snapshot is removed
 
-module _ (below : Snapshots) (snap : ℕ) (h : HeaderView) (objects : ℕ → Mapped) (i : FlatImage) (stands : ImageStands below h objects i) where
+module _ (below : Snapshots) (linked : Links) (snap : ℕ) (h : HeaderView) (objects : ℕ → Mapped) (i : FlatImage) (stands : ImageStands below linked h objects i) where
   abbrev pub without_flat_snap : FlatImage
   without_flat_snap = record i { snaps = filter (λ s. not (eqb s.id snap)) i.snaps }
 
   left_bytes : (t : ℕ) → t ≢ snap → flat_bytes without_flat_snap (Some t) ≡ flat_bytes i (Some t)
   left_bytes t other = ap (λ (o : Option FlatSnap). unwrap_or (option_map {T = FlatSnap} (λ u. u.bytes) o) []) (flat_left i.snaps snap t other)
 
-  pub snap_removed : ImageStands below (without_snap snap h) objects without_flat_snap
+  pub snap_removed : ImageStands below linked (without_snap snap h) objects without_flat_snap
   snap_removed = record {
     same = lines_left snap h.snaps i.snaps stands.same;
     role = stands.role;
@@ -83,6 +85,8 @@ module _ (below : Snapshots) (snap : ℕ) (h : HeaderView) (objects : ℕ → Ma
     bytes = each_removed snap h (λ p. p) (λ t s is other p x within. ap (λ bytes. get_or bytes x 0) (left_bytes t other) ∙ p x within) stands.bytes;
     parents = each_removed snap h (λ p. p) (λ t s is other p. p) stands.parents;
     within = each_removed snap h (λ p. p) (λ t s is other p. p) stands.within;
+    untouched = stands.untouched;
+    alike = each_removed snap h (λ p. p) (λ t s is other p. p) stands.alike;
     clear = stands.clear;
     tidy = stands.tidy;
     seen = stands.seen;

@@ -6,7 +6,7 @@ pub mod ObjectSteps
 pub mod Painting
 pub mod Whole
 pub mod SiteSteps
-pub mod Refusals
+pub mod Nothing
 pub mod StoreSteps
 pub mod Contexts
 pub mod DirectorySteps

@@ -1,19 +1,20 @@
 -- A change of one object's head, and what the image then stands for.
-use Rattle.std.proofs.Common.{◌≡◌, ◌≢◌, ℕ, ◌<◌, ◌≤◌, cond, ◌⊎◌, inl, inr, List, [], get_or, Option, Some, unwrap_or, refl, sym, ◌∙◌, ap, subst, arith}
+use Rattle.std.proofs.Common.{◌≡◌, ◌≢◌, ℕ, ◌<◌, ◌≤◌, cond, ◌⊎◌, inl, inr, List, [], get_or, Option, Some, unwrap_or, refl, sym, ◌∙◌, ap, subst, arith, None, is_some}
 use Rattle.std.proofs.lemmas.Bool.{cases_eq, eq-eqb, ne_eqb}
+use Rattle.std.proofs.lemmas.Bool.{true≢false}
 use Rattle.rbd_kinds.specs.declared.header.HeaderView.{HeaderView}
 use Rattle.rbd_kinds.specs.declared.header.SnapContext.{SnapContext}
 use Rattle.rbd_kinds.specs.declared.header.SnapView.{SnapView}
 use Rattle.rbd_kinds.specs.Striping.{object_of, offset_of}
 use Rattle.rbd_header.specs.Header.{snap_in}
-use Rattle.rbd_object.specs.Mapped.{Mapped, looked, mapped_change}
+use Rattle.rbd_object.specs.Mapped.{Mapped, looked, mapped_change, mapped_blank}
 use Rattle.rbd_object.specs.Versioned.{Versioned, IsTidy, view, change}
 use Rattle.rbd_object.proofs.MappedLemmas.{looked-mapped_change}
 use Rattle.rbd_object.proofs.StepLemmas.{view-change}
 use Rattle.rbd_flat.specs.Flat.{FlatImage}
 use Rattle.rbd_site.specs.Records.{put}
-use Rattle.rbd_stands.specs.Shown.{Snapshots, shown}
-use Rattle.rbd_stands.specs.Image.{ImageStands}
+use Rattle.rbd_stands.specs.Shown.{Snapshots, shown, Links, inherited}
+use Rattle.rbd_stands.specs.Image.{ImageStands, IsInside}
 use Rattle.rbd_stands.specs.Condition.{IsContextOf, IsChanged}
 
 -- ---- a function with another value at one place
@@ -36,7 +37,7 @@ put_both P f n a here there m = go (cases_eq m n)
 tidy_changed : (c : SnapContext) (new : Option (List ℕ)) (o : Versioned) → IsTidy o → IsTidy (change c new o)
 tidy_changed c new o tidy = record { above = λ snap h. grind (arith, tidy.above snap) }
 
-module _ (below : Snapshots) (h : HeaderView) (objects : ℕ → Mapped) (i : FlatImage) (stands : ImageStands below h objects i) (c : SnapContext) (context : IsContextOf h c)
+module _ (below : Snapshots) (linked : Links) (h : HeaderView) (objects : ℕ → Mapped) (i : FlatImage) (stands : ImageStands below linked h objects i) (c : SnapContext) (context : IsContextOf h c)
     (n : ℕ) (new : Option (List ℕ)) (bytes : List ℕ) (changed : IsChanged below h n new i.bytes bytes) where
   abbrev now : ℕ → Mapped
   now = put objects n (mapped_change c new (objects n))
@@ -54,7 +55,7 @@ module _ (below : Snapshots) (h : HeaderView) (objects : ℕ → Mapped) (i : Fl
       (λ m other same. changed.elsewhere x within (λ e. other (sym same ∙ e)) ∙ stands.bytes.head x within
       ∙ ap (λ k. shown below h.parent (objects k).head (offset_of h.layout x) x) same)
 
-  pub object_changed : ImageStands below h now (record i { bytes = bytes })
+  pub object_changed : ImageStands below linked h now (record i { bytes = bytes })
   object_changed = record {
     same = stands.same;
     role = stands.role;
@@ -66,6 +67,16 @@ module _ (below : Snapshots) (h : HeaderView) (objects : ℕ → Mapped) (i : Fl
     };
     parents = stands.parents;
     within = stands.within;
+    untouched = put_both (λ m o. IsInside h m → o.head ≡ None → o ≡ mapped_blank) objects n (mapped_change c new (objects n))
+        (λ inside absent. absurd (true≢false (sym (changed.there inside) ∙ ap is_some absent)))
+        (λ m other. stands.untouched m);
+    alike = record {
+      head = λ x inside absent. refl;
+      snap = λ t s is x inside absent. put_both (λ m o. IsInside h m → o.head ≡ None → object_of h.layout x ≡ m → inherited below s.parent x ≡ inherited below h.parent x) objects n (mapped_change c new (objects n))
+          (λ inside absent same. absurd (true≢false (sym (changed.there inside) ∙ ap is_some absent)))
+          (λ m other inside absent same. stands.alike.snap t s is x (subst (IsInside h) (sym same) inside) (ap (λ k. (objects k).head) same ∙ absent))
+          (object_of h.layout x) inside absent refl;
+    };
     clear = λ x past. put_both (λ m o. object_of h.layout x ≡ m → get_or (unwrap_or o.head []) (offset_of h.layout x) 0 ≡ 0) objects n (mapped_change c new (objects n))
         (λ same. changed.clear x past same)
         (λ m other same. ap (λ k. get_or (unwrap_or (objects k).head []) (offset_of h.layout x) 0) (sym same) ∙ stands.clear x past)

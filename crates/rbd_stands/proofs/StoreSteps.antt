@@ -26,20 +26,20 @@ use Rattle.rbd_site.specs.DataStep.{data_after}
 use Rattle.rbd_site.specs.Log.{live_in, trimmed}
 use Rattle.rbd_site.specs.Records.{Records, put, or_blank, object_at, with_header, with_object}
 use Rattle.rbd_site.specs.Step.{after}
-use Rattle.rbd_stands.specs.Shown.{Snapshots, snapshots_of, shown}
-use Rattle.rbd_stands.specs.Image.{ImageStands}
-use Rattle.rbd_stands.specs.Site.{StandsFor, IsUntouched}
+use Rattle.rbd_stands.specs.Shown.{Snapshots, snapshots_of, shown, Links, links_of}
+use Rattle.rbd_stands.specs.Image.{ImageStands, IsInside}
+use Rattle.rbd_stands.specs.Site.{StandsFor, IsUntouched, Pending}
 use Rattle.rbd_stands.specs.Condition.{IsContextOf, IsDrawn}
-use Rattle.rbd_stands.specs.Same.{is_unseen}
+use Rattle.rbd_stands.specs.Unseen.{is_unseen}
 use Rattle.rbd_stands.proofs.ObjectSteps.{put_both, put_there}
-use Rattle.rbd_stands.proofs.Refusals.{stands_same, same_header, same_object}
+use Rattle.rbd_site.proofs.TrimLemmas.{with_header_same, with_object_same}
 use Rattle.rbd_stands.proofs.SiteSteps.{here, stands_at, no_flat, stands_without, keep_all, site_change, is_drawn, other_header, other_object, object_there}
 
 -- ---- what a flat image doesn't have
 
-unseen : (below : Snapshots) (h : HeaderView) (objects : ℕ → Mapped) (i : FlatImage) (owner : Option Instance) (generation : ℕ) (syncing : Bool) → ImageStands below h objects i
-    → ImageStands below (record h { owner = owner; generation = generation; syncing = syncing }) objects i
-unseen below h objects i owner generation syncing stands = record {
+unseen : (below : Snapshots) (linked : Links) (h : HeaderView) (objects : ℕ → Mapped) (i : FlatImage) (owner : Option Instance) (generation : ℕ) (syncing : Bool) → ImageStands below linked h objects i
+    → ImageStands below linked (record h { owner = owner; generation = generation; syncing = syncing }) objects i
+unseen below linked h objects i owner generation syncing stands = record {
   same = stands.same;
   role = stands.role;
   long = record { head = stands.long.head; snap = stands.long.snap };
@@ -49,6 +49,8 @@ unseen below h objects i owner generation syncing stands = record {
   clear = stands.clear;
   tidy = stands.tidy;
   seen = stands.seen;
+  untouched = stands.untouched;
+  alike = record { head = stands.alike.head; snap = stands.alike.snap };
   numbered = record { head = stands.numbered.head; snap = stands.numbered.snap };
   laid = stands.laid;
 }
@@ -57,15 +59,15 @@ where_mine : (P : HeaderView → Type 0) (mine : Bool) (changed old : HeaderView
 where_mine P true changed old p q = p
 where_mine P false changed old p q = q
 
-unseen_then : (below : Snapshots) (me : Instance) (h : HeaderView) (objects : ℕ → Mapped) (i : FlatImage) (o : HeaderOp) → is_unseen o ≡ true → ImageStands below h objects i
-    → ImageStands below (header_then me h o) objects i
-unseen_then below me h objects i header_op.LockTake e stands = unseen below h objects i (cond (is_some h.owner) h.owner (Some me)) h.generation h.syncing stands
-unseen_then below me h objects i header_op.LockDrop e stands =
-    where_mine (λ k. ImageStands below k objects i) (is_owner me h.owner) (record h { owner = None }) h (unseen below h objects i None h.generation h.syncing stands) stands
-unseen_then below me h objects i (header_op.LockBreak owner) e stands =
-    where_mine (λ k. ImageStands below k objects i) (is_owner owner h.owner) (record h { owner = None }) h (unseen below h objects i None h.generation h.syncing stands) stands
-unseen_then below me h objects i header_op.Synced e stands = unseen below h objects i h.owner (h.generation + 1) false stands
-unseen_then below me h objects i _ e stands = absurd (true≢false (sym e))
+unseen_then : (below : Snapshots) (linked : Links) (me : Instance) (h : HeaderView) (objects : ℕ → Mapped) (i : FlatImage) (o : HeaderOp) → is_unseen o ≡ true → ImageStands below linked h objects i
+    → ImageStands below linked (header_then me h o) objects i
+unseen_then below linked me h objects i header_op.LockTake e stands = unseen below linked h objects i (cond (is_some h.owner) h.owner (Some me)) h.generation h.syncing stands
+unseen_then below linked me h objects i header_op.LockDrop e stands =
+    where_mine (λ k. ImageStands below linked k objects i) (is_owner me h.owner) (record h { owner = None }) h (unseen below linked h objects i None h.generation h.syncing stands) stands
+unseen_then below linked me h objects i (header_op.LockBreak owner) e stands =
+    where_mine (λ k. ImageStands below linked k objects i) (is_owner owner h.owner) (record h { owner = None }) h (unseen below linked h objects i None h.generation h.syncing stands) stands
+unseen_then below linked me h objects i header_op.Synced e stands = unseen below linked h objects i h.owner (h.generation + 1) false stands
+unseen_then below linked me h objects i _ e stands = absurd (true≢false (sym e))
 
 unseen_there : (me : Instance) (h : HeaderView) (o : HeaderOp) → is_unseen o ≡ true → there_after me h o ≡ Some (header_then me h o)
 unseen_there me h header_op.Remove e = absurd (true≢false (sym e))
@@ -75,32 +77,32 @@ unseen_missing : (me : Instance) (o : HeaderOp) → is_unseen o ≡ true → hea
 unseen_missing me (header_op.Create view) e = absurd (true≢false (sym e))
 unseen_missing me _ e = refl
 
-pub unseen_change : (r : Records) (f : Flat) (me : Instance) (image : ℕ) (o : HeaderOp) → StandsFor r f → is_unseen o ≡ true → StandsFor (after r me (op.Header image o)) f
-unseen_change r f me image o stands e = go (r.headers image) refl
+pub unseen_change : (pending : List Pending) (r : Records) (f : Flat) (me : Instance) (image : ℕ) (o : HeaderOp) → StandsFor pending r f → is_unseen o ≡ true → StandsFor pending (after r me (op.Header image o)) f
+unseen_change pending r f me image o stands e = go (r.headers image) refl
   where
-    go : (header : Option HeaderView) → r.headers image ≡ header → StandsFor (with_header image (header_after me header o) r) f
-    go None is = stands_same r _ f (same_header r image (header_after me None o) (unseen_missing me o e ∙ sym is)) stands
+    go : (header : Option HeaderView) → r.headers image ≡ header → StandsFor pending (with_header image (header_after me header o) r) f
+    go None is = subst (λ (s : Records). StandsFor pending s f) (sym (with_header_same image (header_after me None o) r (unseen_missing me o e ∙ sym is))) stands
     go (Some h) is =
         let s = with_header image (there_after me h o) r in
-        site_change image r s f f stands (other_header image (there_after me h o) r f f refl (λ j other. refl))
-        (keep_all r (snapshots_of f) (snapshots_of f) (λ i t s is. is))
-        (λ st. let k = here (snapshots_of f) (r.headers image) (object_at r image) (image_at f image) h is st in
-        stands_at (snapshots_of f) (s.headers image) (object_at r image) (image_at f image) (header_then me h o) k.image
-        (put_there r.headers image (there_after me h o) ∙ unseen_there me h o e) k.is (unseen_then (snapshots_of f) me h (object_at r image) k.image o e k.stands))
-        (is_drawn r f stands image h is s f)
+        site_change pending image r s f f stands (other_header image (there_after me h o) r f f refl refl (λ j other. refl))
+        (keep_all pending r (snapshots_of f) (snapshots_of f) (λ i t s is. is))
+        (λ st. let k = here (snapshots_of f) (links_of f image) (r.headers image) (object_at r image) (image_at f image) h is st in
+        stands_at (snapshots_of f) (links_of f image) (s.headers image) (object_at r image) (image_at f image) (header_then me h o) k.image
+        (put_there r.headers image (there_after me h o) ∙ unseen_there me h o e) k.is (unseen_then (snapshots_of f) (links_of f image) me h (object_at r image) k.image o e k.stands))
+        (is_drawn pending r f stands image h is s f)
 
 -- ---- objects of no image
 
-pub data_without : (r : Records) (f : Flat) (image number : ℕ) (object : Option Mapped) → StandsFor r f → r.headers image ≡ None → (r.directory.drawn < image → IsUntouched (with_object image number object r) f image)
-    → StandsFor (with_object image number object r) f
-data_without r f image number object stands none untouched =
-    site_change image r (with_object image number object r) f f stands (other_object image number object r f f refl (λ j other. refl))
-    (keep_all r (snapshots_of f) (snapshots_of f) (λ i t s is. is))
-    (λ st. stands_without (snapshots_of f) (r.headers image) (object_at (with_object image number object r) image) (image_at f image) none (no_flat (snapshots_of f) (r.headers image) (object_at r image) (image_at f image) none st))
+pub data_without : (pending : List Pending) (r : Records) (f : Flat) (image number : ℕ) (object : Option Mapped) → StandsFor pending r f → r.headers image ≡ None → (r.directory.drawn < image → IsUntouched (with_object image number object r) f image)
+    → StandsFor pending (with_object image number object r) f
+data_without pending r f image number object stands none untouched =
+    site_change pending image r (with_object image number object r) f f stands (other_object image number object r f f refl refl (λ j other. refl))
+    (keep_all pending r (snapshots_of f) (snapshots_of f) (λ i t s is. is))
+    (λ st. stands_without (snapshots_of f) (links_of f image) (r.headers image) (object_at (with_object image number object r) image) (image_at f image) none (no_flat (snapshots_of f) (links_of f image) (r.headers image) (object_at r image) (image_at f image) none st))
     untouched
 
-pub data_of_none : (r : Records) (f : Flat) (me : Instance) (image number : ℕ) (o : DataOp) → StandsFor r f → r.headers image ≡ None → IsDrawn r image → StandsFor (after r me (op.Data image number o)) f
-data_of_none r f me image number o stands none drawn = data_without r f image number (data_after (r.objects image number) o) stands none (λ above. absurd (omega (arith, above, drawn)))
+pub data_of_none : (pending : List Pending) (r : Records) (f : Flat) (me : Instance) (image number : ℕ) (o : DataOp) → StandsFor pending r f → r.headers image ≡ None → IsDrawn r image → StandsFor pending (after r me (op.Data image number o)) f
+data_of_none pending r f me image number o stands none drawn = data_without pending r f image number (data_after (r.objects image number) o) stands none (λ above. absurd (omega (arith, above, drawn)))
 
 -- ---- the store's trim
 
@@ -124,7 +126,16 @@ view_trimmed live t o listed =
 tidy_trimmed : (live : List ℕ) (o : Versioned) → IsTidy o → IsTidy (trim live o)
 tidy_trimmed live o tidy = record { above = λ snap h. grind (arith, tidy.above snap) }
 
-module _ (below : Snapshots) (h : HeaderView) (objects : ℕ → Mapped) (i : FlatImage) (n : ℕ) (stands : ImageStands below h objects i) where
+blank_trimmed : (live : List ℕ) → mapped_trim live mapped_blank ≡ mapped_blank
+blank_trimmed live = ap (λ (kept : FinMap nat_cmp (List ℕ)). record mapped_blank { kept = kept })
+    (same_map nat_cmp_total nat_cmp-IsAntisymmetric _ _ (λ snap.
+    get-live live empty snap ∙ ap (λ (o : Option (List ℕ)). cond (is_listed live snap) o None) (get-empty nat_cmp snap) ∙ both (is_listed live snap) ∙ sym (get-empty nat_cmp snap)))
+  where
+    both : (b : Bool) → ◌≡◌ {A = Option (List ℕ)} (cond b None None) None
+    both true = refl
+    both false = refl
+
+module _ (below : Snapshots) (linked : Links) (h : HeaderView) (objects : ℕ → Mapped) (i : FlatImage) (n : ℕ) (stands : ImageStands below linked h objects i) where
   abbrev now : Mapped
   now = mapped_trim (live_in (Some h)) (objects n)
 
@@ -135,7 +146,7 @@ module _ (below : Snapshots) (h : HeaderView) (objects : ℕ → Mapped) (i : Fl
   view_kept t s is = put_both (λ m o. view (looked o) (Some t) ≡ view (looked (objects m)) (Some t)) objects n now
       (view_trimmed (live_in (Some h)) t (objects n) (listed_by_id h.snaps t s is)) (λ m other. refl)
 
-  pub object_trimmed : ImageStands below h (put objects n now) i
+  pub object_trimmed : ImageStands below linked h (put objects n now) i
   object_trimmed = record {
     same = stands.same;
     role = stands.role;
@@ -148,6 +159,13 @@ module _ (below : Snapshots) (h : HeaderView) (objects : ℕ → Mapped) (i : Fl
     };
     parents = stands.parents;
     within = stands.within;
+    untouched = put_both (λ m o. IsInside h m → o.head ≡ None → o ≡ mapped_blank) objects n now
+        (λ inside absent. ap (mapped_trim (live_in (Some h))) (stands.untouched n inside absent) ∙ blank_trimmed (live_in (Some h)))
+        (λ m other. stands.untouched m);
+    alike = record {
+      head = λ x inside absent. refl;
+      snap = λ t s is x inside absent. stands.alike.snap t s is x inside (sym (head_kept (object_of h.layout x)) ∙ absent);
+    };
     clear = λ x past. ap (λ (head : Option (List ℕ)). get_or (unwrap_or head []) (offset_of h.layout x) 0) (head_kept (object_of h.layout x)) ∙ stands.clear x past;
     tidy = put_both (λ m o. IsTidy (looked o)) objects n now
         (subst IsTidy (sym (looked-mapped_trim (live_in (Some h)) (objects n))) (tidy_trimmed (live_in (Some h)) (looked (objects n)) (stands.tidy n)))
@@ -157,22 +175,13 @@ module _ (below : Snapshots) (h : HeaderView) (objects : ℕ → Mapped) (i : Fl
     laid = stands.laid;
   }
 
-blank_trimmed : (live : List ℕ) → mapped_trim live mapped_blank ≡ mapped_blank
-blank_trimmed live = ap (λ (kept : FinMap nat_cmp (List ℕ)). record mapped_blank { kept = kept })
-    (same_map nat_cmp_total nat_cmp-IsAntisymmetric _ _ (λ snap.
-    get-live live empty snap ∙ ap (λ (o : Option (List ℕ)). cond (is_listed live snap) o None) (get-empty nat_cmp snap) ∙ both (is_listed live snap) ∙ sym (get-empty nat_cmp snap)))
-  where
-    both : (b : Bool) → ◌≡◌ {A = Option (List ℕ)} (cond b None None) None
-    both true = refl
-    both false = refl
-
-pub trim_stands : (r : Records) (f : Flat) (image number : ℕ) → StandsFor r f → StandsFor (trimmed image number r) f
-trim_stands r f image number stands = go (r.objects image number) (r.headers image) refl refl
+pub trim_stands : (pending : List Pending) (r : Records) (f : Flat) (image number : ℕ) → StandsFor pending r f → StandsFor pending (trimmed image number r) f
+trim_stands pending r f image number stands = go (r.objects image number) (r.headers image) refl refl
   where
     go : (object : Option Mapped) (header : Option HeaderView) → r.objects image number ≡ object → r.headers image ≡ header
-        → StandsFor (with_object image number (option_map (mapped_trim (live_in header)) object) r) f
-    go None header is at = stands_same r _ f (same_object r image number None (ap or_blank (sym is))) stands
-    go (Some o) None is none = data_without r f image number (Some (mapped_trim [] o)) stands none (λ above.
+        → StandsFor pending (with_object image number (option_map (mapped_trim (live_in header)) object) r) f
+    go None header is at = subst (λ (s : Records). StandsFor pending s f) (sym (with_object_same image number None r (sym is))) stands
+    go (Some o) None is none = data_without pending r f image number (Some (mapped_trim [] o)) stands none (λ above.
         let was = stands.fresh image above in
         record {
           header = was.header;
@@ -186,9 +195,9 @@ trim_stands r f image number stands = go (r.objects image number) (r.headers ima
         let s = with_object image number (Some now) r in
         let same : object_at s image ≡ put (object_at r image) number (mapped_trim (live_in (Some h)) (object_at r image number)) =
         object_there image number now r ∙ ap (λ x. put (object_at r image) number (mapped_trim (live_in (Some h)) x)) (ap or_blank (sym is)) in
-        site_change image r s f f stands (other_object image number (Some now) r f f refl (λ j other. refl))
-        (keep_all r (snapshots_of f) (snapshots_of f) (λ i t s is. is))
-        (λ st. let k = here (snapshots_of f) (r.headers image) (object_at r image) (image_at f image) h at st in
-        stands_at (snapshots_of f) (r.headers image) (object_at s image) (image_at f image) h k.image at k.is
-        (subst (λ (objects : ℕ → Mapped). ImageStands (snapshots_of f) h objects k.image) (sym same) (object_trimmed (snapshots_of f) h (object_at r image) k.image number k.stands)))
-        (is_drawn r f stands image h at s f)
+        site_change pending image r s f f stands (other_object image number (Some now) r f f refl refl (λ j other. refl))
+        (keep_all pending r (snapshots_of f) (snapshots_of f) (λ i t s is. is))
+        (λ st. let k = here (snapshots_of f) (links_of f image) (r.headers image) (object_at r image) (image_at f image) h at st in
+        stands_at (snapshots_of f) (links_of f image) (r.headers image) (object_at s image) (image_at f image) h k.image at k.is
+        (subst (λ (objects : ℕ → Mapped). ImageStands (snapshots_of f) (links_of f image) h objects k.image) (sym same) (object_trimmed (snapshots_of f) (links_of f image) h (object_at r image) k.image number k.stands)))
+        (is_drawn pending r f stands image h at s f)

@@ -32,9 +32,9 @@ use Rattle.rbd_site.specs.HeaderStep.{header_answer}
 use Rattle.rbd_site.specs.Records.{Records, object_at}
 use Rattle.rbd_site.specs.Step.{answer_to}
 use Rattle.rbd_stands.specs.View.{Shape, shape_of, shape_of_head, shape_of_snap}
-use Rattle.rbd_stands.specs.Shown.{Snapshots, IsInOverlap, snapshots_of, inherited, shown}
+use Rattle.rbd_stands.specs.Shown.{Snapshots, IsInOverlap, snapshots_of, inherited, shown, Links, links_of}
 use Rattle.rbd_stands.specs.Image.{ImageStands, SnapLine, line_of_snap, line_of_flat}
-use Rattle.rbd_stands.specs.Site.{StandsFor}
+use Rattle.rbd_stands.specs.Site.{StandsFor, Pending}
 use Rattle.rbd_stands.specs.Condition.{IsPartBelow, ArePartsBelow}
 use Rattle.rbd_stands.specs.Reading.{IsToldBy, Tells, IsAt, AreFlatBytes, AreInherited, flat_snap_named, bytes_at_parts}
 use Rattle.rbd_stands.proofs.Lookups.{map_cond, a_value, line_at, flat_there, flat_missing}
@@ -58,7 +58,7 @@ flat_named [] name = refl
 flat_named (s ∷ snaps) name =
     map_cond line_of_flat (pointwise nat_eq s.name name) s (flat_snap_named snaps name) ∙ ap (cond (pointwise nat_eq s.name name) (Some (line_of_flat s))) (flat_named snaps name)
 
-module _ (below : Snapshots) (h : HeaderView) (objects : ℕ → Mapped) (i : FlatImage) (stands : ImageStands below h objects i) where
+module _ (below : Snapshots) (linked : Links) (h : HeaderView) (objects : ℕ → Mapped) (i : FlatImage) (stands : ImageStands below linked h objects i) where
   snap_size : (t : ℕ) (o : Option SnapView) → snap_in h.snaps t ≡ o → option_map (λ (s : FlatSnap). length s.bytes) (flat.snap_in i.snaps t) ≡ option_map (λ (s : SnapView). s.size) o
   snap_size t None is = ap (option_map (λ (s : FlatSnap). length s.bytes)) (flat_missing h.snaps i.snaps stands.same t is)
   snap_size t (Some s) is =
@@ -76,18 +76,18 @@ module _ (below : Snapshots) (h : HeaderView) (objects : ℕ → Mapped) (i : Fl
     snap_sizes = λ t. snap_size t (snap_in h.snaps t) refl;
   }
 
-pub header_told : (r : Records) (f : Flat) (me : Instance) (image : ℕ) (h : HeaderView) → StandsFor r f
+pub header_told : (pending : List Pending) (r : Records) (f : Flat) (me : Instance) (image : ℕ) (h : HeaderView) → StandsFor pending r f
     → answer_to r me (op.Header image header_op.Get) ≡ answer.Header h → Tells h (image_at f image)
-header_told r f me image h stands answered = go (r.headers image) refl
+header_told pending r f me image h stands answered = go (r.headers image) refl
   where
     go : (header : Option HeaderView) → r.headers image ≡ header → Tells h (image_at f image)
     go None is = absurd (let e = sym (ap (λ (p : Option HeaderView). header_answer me p header_op.Get) is) ∙ answered in cc)
     go (Some k) is =
         let e : answer.Header k ≡ answer.Header h = sym (ap (λ (p : Option HeaderView). header_answer me p header_op.Get) is) ∙ answered in
         let same : k ≡ h = cc in
-        let was = here (snapshots_of f) (r.headers image) (object_at r image) (image_at f image) k is (stands.images image) in
+        let was = here (snapshots_of f) (links_of f image) (r.headers image) (object_at r image) (image_at f image) k is (stands.images image) in
         subst (λ j. Tells j (image_at f image)) same
-        (subst (Tells k) (sym was.is) (told (snapshots_of f) k (object_at r image) was.image was.stands))
+        (subst (Tells k) (sym was.is) (told (snapshots_of f) (links_of f image) k (object_at r image) was.image was.stands))
 
 -- ---- the objects
 
@@ -97,12 +97,12 @@ record Viewed (below : Snapshots) (h : HeaderView) (objects : ℕ → Mapped) (i
   pub is : image_view i v ≡ Some shown_bytes
   pub shows : (x : ℕ) → x < shape.size → get_or shown_bytes x 0 ≡ shown below shape.parent (view (looked (objects (object_of h.layout x))) v) (offset_of h.layout x) x
 
-viewed : (below : Snapshots) (h : HeaderView) (objects : ℕ → Mapped) (i : FlatImage) (v : Option ℕ) (shape : Shape) → ImageStands below h objects i → shape_of h v ≡ Some shape
+viewed : (below : Snapshots) (linked : Links) (h : HeaderView) (objects : ℕ → Mapped) (i : FlatImage) (v : Option ℕ) (shape : Shape) → ImageStands below linked h objects i → shape_of h v ≡ Some shape
     → Viewed below h objects i v shape
-viewed below h objects i None shape stands e =
+viewed below linked h objects i None shape stands e =
     subst (Viewed below h objects i None) (same_Some (shape_of_head h) shape e)
     (record { shown_bytes = i.bytes; is = refl; shows = stands.bytes.head })
-viewed below h objects i (Some t) shape stands e =
+viewed below linked h objects i (Some t) shape stands e =
     let s = a_value shape_of_snap (snap_in h.snaps t) shape e in
     let there = flat_there h.snaps i.snaps stands.same t s.0 s.1 in
     let is : image_view i (Some t) ≡ Some there.0.bytes = ap (option_map {T = FlatSnap} (λ u. u.bytes)) there.1 in
@@ -135,13 +135,13 @@ read_none : (parts : List Part) (content : Option (List ℕ)) → parts_read par
 read_none parts None e = refl
 read_none parts (Some c) e = absurd (cc)
 
-pub bytes_told : (r : Records) (f : Flat) (me : Instance) (image number : ℕ) (h : HeaderView) (v : Option ℕ) (shape : Shape) (parts : List Part) (bytes : List ℕ)
-    → StandsFor r f → r.headers image ≡ Some h → shape_of h v ≡ Some shape → ArePartsBelow h shape.size number parts
+pub bytes_told : (pending : List Pending) (r : Records) (f : Flat) (me : Instance) (image number : ℕ) (h : HeaderView) (v : Option ℕ) (shape : Shape) (parts : List Part) (bytes : List ℕ)
+    → StandsFor pending r f → r.headers image ≡ Some h → shape_of h v ≡ Some shape → ArePartsBelow h shape.size number parts
     → answer_to r me (op.Data image number (data_op.Read v parts)) ≡ answer.Bytes bytes
     → AreFlatBytes f image v parts bytes
-bytes_told r f me image number h v shape parts bytes stands is seen lie answered =
-    let was = here (snapshots_of f) (r.headers image) (object_at r image) (image_at f image) h is (stands.images image) in
-    let at = viewed (snapshots_of f) h (object_at r image) was.image v shape was.stands seen in
+bytes_told pending r f me image number h v shape parts bytes stands is seen lie answered =
+    let was = here (snapshots_of f) (links_of f image) (r.headers image) (object_at r image) (image_at f image) h is (stands.images image) in
+    let at = viewed (snapshots_of f) (links_of f image) h (object_at r image) was.image v shape was.stands seen in
     let read = read_bytes parts (view (looked (object_at r image number)) v) bytes answered in
     record {
       flat = at.shown_bytes;
@@ -159,13 +159,13 @@ uncovered below (Some link) x none = elim (cases_lt x link.overlap) [
   | inr past ↦ ap (λ b. cond b (snap_byte (below link.image link.snap) 0 x) 0) (le-ltb x link.overlap past)
 ]
 
-pub absence_told : (r : Records) (f : Flat) (me : Instance) (image number : ℕ) (h : HeaderView) (v : Option ℕ) (shape : Shape) (parts : List Part)
-    → StandsFor r f → r.headers image ≡ Some h → shape_of h v ≡ Some shape → ArePartsBelow h shape.size number parts
+pub absence_told : (pending : List Pending) (r : Records) (f : Flat) (me : Instance) (image number : ℕ) (h : HeaderView) (v : Option ℕ) (shape : Shape) (parts : List Part)
+    → StandsFor pending r f → r.headers image ≡ Some h → shape_of h v ≡ Some shape → ArePartsBelow h shape.size number parts
     → answer_to r me (op.Data image number (data_op.Read v parts)) ≡ answer.Absent
     → AreInherited f image v shape.parent parts
-absence_told r f me image number h v shape parts stands is seen lie answered =
-    let was = here (snapshots_of f) (r.headers image) (object_at r image) (image_at f image) h is (stands.images image) in
-    let at = viewed (snapshots_of f) h (object_at r image) was.image v shape was.stands seen in
+absence_told pending r f me image number h v shape parts stands is seen lie answered =
+    let was = here (snapshots_of f) (links_of f image) (r.headers image) (object_at r image) (image_at f image) h is (stands.images image) in
+    let at = viewed (snapshots_of f) (links_of f image) h (object_at r image) was.image v shape was.stands seen in
     let none = read_none parts (view (looked (object_at r image number)) v) answered in
     let from : (x : ℕ) → IsAt parts x → get_or at.shown_bytes x 0 ≡ inherited (snapshots_of f) shape.parent x =
     λ x place.

@@ -1,5 +1,5 @@
 -- What operations have to meet, so that the records after them stand for a flat site again.
-use Rattle.std.specs.Prelude.{◌≡◌, ◌≢◌, ℕ, ◌+◌, ◌<◌, ◌≤◌, List, [], length, map, slice_index, All, IsTrue, IsSome, Option, Some, None, unwrap_or}
+use Rattle.std.specs.Prelude.{◌≡◌, ◌≢◌, ℕ, ◌+◌, ◌<◌, ◌≤◌, List, [], length, map, slice_get, slice_index, All, IsTrue, IsSome, Option, Some, None, unwrap_or}
 use Rattle.rbd_kinds.specs.declared.header.HeaderView.{HeaderView}
 use Rattle.rbd_kinds.specs.declared.header.ParentLink.{ParentLink}
 use Rattle.rbd_kinds.specs.declared.header.SnapContext.{SnapContext}
@@ -12,6 +12,8 @@ use Rattle.rbd_header.specs.Header.{snap_in, cut}
 use Rattle.rbd_object.specs.Kept.{is_listed}
 use Rattle.rbd_object.specs.Mapped.{Mapped}
 use Rattle.rbd_site.specs.Records.{Records}
+use Rattle.rbd_stands.specs.Image.{IsInside}
+use Rattle.rbd_stands.specs.Site.{Pending}
 use Rattle.rbd_stands.specs.View.{EachView}
 use Rattle.rbd_stands.specs.Shown.{Snapshots, IsInOverlap, shown}
 
@@ -40,10 +42,6 @@ extent_of p = record { at = p.at; len = p.len }
 abbrev pub extents_of : List Part → List Extent
 extents_of parts = map extent_of parts
 
--- an object inside the head's overlap: its first byte is below it
-abbrev pub IsInside : HeaderView → (number : ℕ) → Type 0
-IsInside h number = IsInOverlap h.parent (byte_at h.layout number 0)
-
 -- inside the head's overlap the object's head exists, so that it was copied up
 abbrev pub IsCopiedUp : HeaderView → (number : ℕ) → Mapped → Type 0
 IsCopiedUp h number o = IsInside h number → IsSome o.head
@@ -53,9 +51,10 @@ abbrev pub NamesOther : (image snap : ℕ) → Option ParentLink → Type 0
 NamesOther image snap None = Unit {0}
 NamesOther image snap (Some link) = (link.image ≡ image) → (link.snap ≡ snap) → ⊥
 
--- no header has a view whose parent is this snapshot
-abbrev pub IsUnnamed : Records → (image snap : ℕ) → Type 0
-IsUnnamed r image snap = (child : ℕ) (h : HeaderView) → r.headers child ≡ Some h → EachView h (λ v shape. NamesOther image snap shape.parent)
+-- no header has a view whose parent is this snapshot, and no clone that is being made awaits it
+pub record IsUnnamed (pending : List Pending) (r : Records) (image snap : ℕ) : Type 0 where
+  pub views : (child : ℕ) (h : HeaderView) → r.headers child ≡ Some h → EachView h (λ v shape. NamesOther image snap shape.parent)
+  pub awaited : (k : ℕ) (p : Pending) → slice_get pending k ≡ Some p → NamesOther image snap (Some p.link)
 
 -- the parts are all places of an object below the image's size, in order
 abbrev pub AreWhole : HeaderView → (number : ℕ) → List Part → Type 0

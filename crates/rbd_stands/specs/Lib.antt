@@ -3,6 +3,6 @@ pub mod Shown
 pub mod Image
 pub mod Site
 pub mod Condition
-pub mod Same
+pub mod Unseen
 pub mod Reading
 pub mod Writing

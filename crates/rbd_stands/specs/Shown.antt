@@ -1,6 +1,7 @@
 -- The byte that an object shows, its own or the parent's (Ceph: RBD layering). The parent's byte is taken from
 -- the flat snapshot that the view names, one step away, and never through the parent's objects.
-use Rattle.std.specs.Prelude.{◌≡◌, ◌≢◌, ℕ, ◌<◌, ◌≤◌, nat_lt, if◌then◌else◌, List, length, slice_index, Option, Some, None}
+use Rattle.std.specs.Prelude.{◌≡◌, ◌≢◌, ℕ, ◌<◌, ◌≤◌, nat_lt, if◌then◌else◌, Bool, IsTrue, List, length, slice_index, Option, Some, None}
+use Rattle.std.specs.FinSet as finset
 use Rattle.rbd_kinds.specs.declared.header.ParentLink.{ParentLink}
 use Rattle.rbd_kinds.specs.declared.header.SnapStatus.TheVariants.{Unprotected}
 use Rattle.rbd_flat.specs.Flat.{Flat, FlatSnap}
@@ -29,13 +30,21 @@ abbrev pub shown : Snapshots → Option ParentLink → (content : Option (List �
 shown below parent None offset x = inherited below parent x
 shown below parent (Some bytes) offset x = slice_index bytes offset
 
--- the parent has that snapshot, it is at least as long as the overlap, and it isn't unprotected
-pub record HasSnapshot (below : Snapshots) (link : ParentLink) : Type 0 where
+-- which snapshots a child is linked to, by image and snapshot
+abbrev pub Links : Type 0
+Links = (image snap : ℕ) → Bool
+
+abbrev pub links_of : Flat → (child : ℕ) → Links
+links_of f child image snap = finset.contains f.links (record { parent = image; snap = snap; child = child })
+
+-- The parent has that snapshot, it is at least as long as the overlap, it isn't unprotected, and the child is linked to it.
+pub record HasSnapshot (below : Snapshots) (linked : Links) (link : ParentLink) : Type 0 where
   pub snap : FlatSnap
   pub is : below link.image link.snap ≡ Some snap
   pub long : link.overlap ≤ length snap.bytes
   pub kept : snap.status ≢ Unprotected
+  pub child : IsTrue (linked link.image link.snap)
 
-abbrev pub HasParent : Snapshots → Option ParentLink → Type 0
-HasParent below None = Unit {0}
-HasParent below (Some link) = HasSnapshot below link
+abbrev pub HasParent : Snapshots → Links → Option ParentLink → Type 0
+HasParent below linked None = Unit {0}
+HasParent below linked (Some link) = HasSnapshot below linked link

@@ -32,77 +32,69 @@ ghost use Rattle.rbd_layout.specs.Pieces.{IsPieces};
 ghost use Rattle.rbd_layout.specs.declared.types.Piece.{Piece};
 ghost use Rattle.rbd_site.specs.DataStep.{MayWrite};
 ghost use Rattle.rbd_site.specs.DirectoryStep.{image_found};
-ghost use Rattle.rbd_site.specs.Laws.{is_change};
 ghost use Rattle.rbd_site.specs.Log.{live_in, trimmed};
 ghost use Rattle.rbd_site.specs.Records.{Records, no_records, object_at, with_object};
 ghost use Rattle.rbd_site.specs.Step.{answer_to, after};
-ghost use Rattle.rbd_stands.specs.Condition.{IsContextOf, ArePartsBelow, AreWhole, IsInside, IsCopiedUp, IsChanged, IsZeroPast, IsZeroedFrom, IsUnnamed, IsDrawn, extents_of};
+ghost use Rattle.rbd_stands.specs.Condition.{IsContextOf, ArePartsBelow, AreWhole, IsCopiedUp, IsChanged, IsZeroPast, IsZeroedFrom, IsUnnamed, IsDrawn, extents_of};
+ghost use Rattle.rbd_stands.specs.Image.{IsInside};
 ghost use Rattle.rbd_stands.specs.Reading.{Tells, AreFlatBytes, AreInherited};
-ghost use Rattle.rbd_stands.specs.Same.{AreSame, is_look, is_about, is_unseen};
+ghost use Rattle.rbd_stands.specs.Unseen.{is_about, is_unseen};
 ghost use Rattle.rbd_stands.specs.Shown.{snapshots_of};
-ghost use Rattle.rbd_stands.specs.Site.{StandsFor, IsUntouched};
+ghost use Rattle.rbd_stands.specs.Site.{StandsFor, IsUntouched, IsAwaited, Pending};
 ghost use Rattle.rbd_stands.specs.Writing.{piece_effects};
 ghost use Rattle.rbd_stands.specs.View.{Shape, shape_of};
 
 /// At the start there is nothing.
 pub fn no_records_stand()
-    ensures { StandsFor no_records no_images }
+    ensures { StandsFor [] no_records no_images }
 {}
 
 // ---- what changes nothing
 
-/// Records that nothing tells apart stand for the same. So does what an operation leaves that only reads,
-/// or that was answered with no change.
-pub fn nothing_is_changed()
-    ensures same { (r s : Records) (f : Flat) → AreSame r s → StandsFor r f → StandsFor s f }
-    ensures looks { (r : Records) (me : Instance) (o : Op) → is_look o ≡ true → AreSame r (after r me o) }
-    ensures refusals { (r : Records) (me : Instance) (o : Op) → is_change (answer_to r me o) ≡ false → AreSame r (after r me o) }
-{}
-
 /// The flat image doesn't have what these operations change: the lock, and whether a copy is under way.
 pub fn unseen_changes()
-    ensures { (r : Records) (f : Flat) (me : Instance) (image : ℕ) (o : HeaderOp) → StandsFor r f → is_unseen o ≡ true
-        → StandsFor (after r me (op.Header image o)) f }
+    ensures { (pending : List Pending) (r : Records) (f : Flat) (me : Instance) (image : ℕ) (o : HeaderOp) → StandsFor pending r f → is_unseen o ≡ true
+        → StandsFor pending (after r me (op.Header image o)) f }
 {}
 
 /// What is done late to the objects of an image that is gone has no effect.
 pub fn data_of_no_image()
-    ensures { (r : Records) (f : Flat) (me : Instance) (image number : ℕ) (o : DataOp) → StandsFor r f
-        → r.headers image ≡ None → IsDrawn r image → StandsFor (after r me (op.Data image number o)) f }
+    ensures { (pending : List Pending) (r : Records) (f : Flat) (me : Instance) (image number : ℕ) (o : DataOp) → StandsFor pending r f
+        → r.headers image ≡ None → IsDrawn r image → StandsFor pending (after r me (op.Data image number o)) f }
 {}
 
 /// The store may trim any object at any moment: what is dropped is no listed snapshot's.
 pub fn trimming_an_object()
-    ensures { (r : Records) (f : Flat) (image number : ℕ) → StandsFor r f → StandsFor (trimmed image number r) f }
+    ensures { (pending : List Pending) (r : Records) (f : Flat) (image number : ℕ) → StandsFor pending r f → StandsFor pending (trimmed image number r) f }
 {}
 
 // ---- what is told
 
 /// The directory tells the flat site's names.
 pub fn telling_names()
-    ensures find { (r : Records) (f : Flat) (me : Instance) (name : List ℕ) → StandsFor r f
+    ensures find { (pending : List Pending) (r : Records) (f : Flat) (me : Instance) (name : List ℕ) → StandsFor pending r f
         → answer_to r me (op.Directory (directory_op.Find name)) ≡ image_found (id_of f name) }
-    ensures list { (r : Records) (f : Flat) (me : Instance) → StandsFor r f
+    ensures list { (pending : List Pending) (r : Records) (f : Flat) (me : Instance) → StandsFor pending r f
         → answer_to r me (op.Directory directory_op.List) ≡ answer.Names (finmap.keys f.names) }
 {}
 
 /// `header-get` tells the flat image, and that there is none exactly where there is none.
 pub fn telling_a_header()
-    ensures told { (r : Records) (f : Flat) (me : Instance) (image : ℕ) (h : HeaderView) → StandsFor r f
+    ensures told { (pending : List Pending) (r : Records) (f : Flat) (me : Instance) (image : ℕ) (h : HeaderView) → StandsFor pending r f
         → answer_to r me (op.Header image header_op.Get) ≡ answer.Header h → Tells h (image_at f image) }
-    ensures missing { (r : Records) (f : Flat) (me : Instance) (image : ℕ) → StandsFor r f
+    ensures missing { (pending : List Pending) (r : Records) (f : Flat) (me : Instance) (image : ℕ) → StandsFor pending r f
         → (answer_to r me (op.Header image header_op.Get) ≡ answer.Absent) ↔ (image_at f image ≡ None) }
 {}
 
 /// `data-read` of parts below the size of the view that is read: bytes are the flat image's, and where the
 /// object is absent the flat image has what it inherits, or zeros.
 pub fn reading_an_object()
-    ensures bytes { (r : Records) (f : Flat) (me : Instance) (image number : ℕ) (h : HeaderView) (view : Option ℕ) (shape : Shape) (parts : List Part) (bytes : List ℕ)
-        → StandsFor r f → r.headers image ≡ Some h → shape_of h view ≡ Some shape → ArePartsBelow h shape.size number parts
+    ensures bytes { (pending : List Pending) (r : Records) (f : Flat) (me : Instance) (image number : ℕ) (h : HeaderView) (view : Option ℕ) (shape : Shape) (parts : List Part) (bytes : List ℕ)
+        → StandsFor pending r f → r.headers image ≡ Some h → shape_of h view ≡ Some shape → ArePartsBelow h shape.size number parts
         → answer_to r me (op.Data image number (data_op.Read view parts)) ≡ answer.Bytes bytes
         → AreFlatBytes f image view parts bytes }
-    ensures absent { (r : Records) (f : Flat) (me : Instance) (image number : ℕ) (h : HeaderView) (view : Option ℕ) (shape : Shape) (parts : List Part)
-        → StandsFor r f → r.headers image ≡ Some h → shape_of h view ≡ Some shape → ArePartsBelow h shape.size number parts
+    ensures absent { (pending : List Pending) (r : Records) (f : Flat) (me : Instance) (image number : ℕ) (h : HeaderView) (view : Option ℕ) (shape : Shape) (parts : List Part)
+        → StandsFor pending r f → r.headers image ≡ Some h → shape_of h view ≡ Some shape → ArePartsBelow h shape.size number parts
         → answer_to r me (op.Data image number (data_op.Read view parts)) ≡ answer.Absent
         → AreInherited f image view shape.parent parts }
 {}
@@ -111,10 +103,10 @@ pub fn reading_an_object()
 
 /// `dir-add` that drew an id: the name is added, and the id is drawn and untouched.
 pub fn adding_a_name()
-    ensures stands { (r : Records) (f : Flat) (me : Instance) (name : List ℕ) (image : ℕ) → StandsFor r f
+    ensures stands { (pending : List Pending) (r : Records) (f : Flat) (me : Instance) (name : List ℕ) (image : ℕ) → StandsFor pending r f
         → answer_to r me (op.Directory (directory_op.Add name)) ≡ answer.Id image
-        → StandsFor (after r me (op.Directory (directory_op.Add name))) (flat.after f (effect.Name name image)) }
-    ensures untouched { (r : Records) (f : Flat) (me : Instance) (name : List ℕ) (image : ℕ) → StandsFor r f
+        → StandsFor pending (after r me (op.Directory (directory_op.Add name))) (flat.after f (effect.Name name image)) }
+    ensures untouched { (pending : List Pending) (r : Records) (f : Flat) (me : Instance) (name : List ℕ) (image : ℕ) → StandsFor pending r f
         → answer_to r me (op.Directory (directory_op.Add name)) ≡ answer.Id image
         → IsUntouched (after r me (op.Directory (directory_op.Add name))) (flat.after f (effect.Name name image)) image }
     ensures drawn { (r : Records) (me : Instance) (name : List ℕ) (image : ℕ)
@@ -131,72 +123,72 @@ pub fn waiting_for_a_header()
 
 /// `dir-rename` that was done: the name is replaced.
 pub fn renaming()
-    ensures { (r : Records) (f : Flat) (me : Instance) (from to : List ℕ) → StandsFor r f
+    ensures { (pending : List Pending) (r : Records) (f : Flat) (me : Instance) (from to : List ℕ) → StandsFor pending r f
         → answer_to r me (op.Directory (directory_op.Rename from to)) ≡ answer.Done
-        → StandsFor (after r me (op.Directory (directory_op.Rename from to))) (flat.after f (effect.Rename from to)) }
+        → StandsFor pending (after r me (op.Directory (directory_op.Rename from to))) (flat.after f (effect.Rename from to)) }
 {}
 
 // ---- changes of a header
 
 /// `header-create` at a drawn id that is untouched: an image of zeros.
 pub fn making_a_header()
-    ensures { (r : Records) (f : Flat) (me : Instance) (image : ℕ) (view : HeaderView) → StandsFor r f
+    ensures { (pending : List Pending) (r : Records) (f : Flat) (me : Instance) (image : ℕ) (view : HeaderView) → StandsFor pending r f
         → IsDrawn r image → IsUntouched r f image → IsNewHeader view → view.parent ≡ None
-        → StandsFor (after r me (op.Header image (header_op.Create view))) (flat.after f (effect.Create image view.size view.role)) }
+        → StandsFor pending (after r me (op.Header image (header_op.Create view))) (flat.after f (effect.Create image view.size view.role)) }
 {}
 
 /// `header-snap-add` that was answered with a snapshot: a copy of the bytes.
 pub fn taking_a_snapshot()
-    ensures { (r : Records) (f : Flat) (me : Instance) (image snap : ℕ) (name : List ℕ) → StandsFor r f
+    ensures { (pending : List Pending) (r : Records) (f : Flat) (me : Instance) (image snap : ℕ) (name : List ℕ) → StandsFor pending r f
         → answer_to r me (op.Header image (header_op.SnapAdd name)) ≡ answer.Snap snap
-        → StandsFor (after r me (op.Header image (header_op.SnapAdd name))) (flat.after f (effect.Snap image snap name)) }
+        → StandsFor pending (after r me (op.Header image (header_op.SnapAdd name))) (flat.after f (effect.Snap image snap name)) }
 {}
 
 /// `header-snap-remove` that was done, of a snapshot that is no view's parent: it goes. An unprotected one
 /// is no view's parent.
 pub fn removing_a_snapshot()
-    ensures stands { (r : Records) (f : Flat) (me : Instance) (image snap : ℕ) → StandsFor r f → IsUnnamed r image snap
+    ensures stands { (pending : List Pending) (r : Records) (f : Flat) (me : Instance) (image snap : ℕ) → StandsFor pending r f → IsUnnamed pending r image snap
         → answer_to r me (op.Header image (header_op.SnapRemove snap)) ≡ answer.Done
-        → StandsFor (after r me (op.Header image (header_op.SnapRemove snap))) (flat.after f (effect.Unsnap image snap)) }
-    ensures unnamed { (r : Records) (f : Flat) (image snap : ℕ) (h : HeaderView) (s : SnapView) → StandsFor r f
-        → r.headers image ≡ Some h → snap_in h.snaps snap ≡ Some s → s.status ≡ Unprotected → IsUnnamed r image snap }
+        → StandsFor pending (after r me (op.Header image (header_op.SnapRemove snap))) (flat.after f (effect.Unsnap image snap)) }
+    ensures unnamed { (pending : List Pending) (r : Records) (f : Flat) (image snap : ℕ) (h : HeaderView) (s : SnapView) → StandsFor pending r f
+        → r.headers image ≡ Some h → snap_in h.snaps snap ≡ Some s → s.status ≡ Unprotected → IsUnnamed pending r image snap }
 {}
 
 /// `header-snap-status` that was done: the status is set. A snapshot that becomes unprotected is no view's
 /// parent.
 pub fn marking_a_snapshot()
-    ensures { (r : Records) (f : Flat) (me : Instance) (image snap : ℕ) (status : SnapStatus) → StandsFor r f
-        → (status ≡ Unprotected → IsUnnamed r image snap)
+    ensures { (pending : List Pending) (r : Records) (f : Flat) (me : Instance) (image snap : ℕ) (status : SnapStatus) → StandsFor pending r f
+        → (status ≡ Unprotected → IsUnnamed pending r image snap)
         → answer_to r me (op.Header image (header_op.SnapStatus snap status)) ≡ answer.Done
-        → StandsFor (after r me (op.Header image (header_op.SnapStatus snap status))) (flat.after f (effect.Status image snap status)) }
+        → StandsFor pending (after r me (op.Header image (header_op.SnapStatus snap status))) (flat.after f (effect.Status image snap status)) }
 {}
 
 /// `header-set-size`, to a greater size or a smaller one: the image is lengthened by zeros, or cut.
 pub fn setting_the_size()
-    ensures { (r : Records) (f : Flat) (me : Instance) (image size : ℕ) (h : HeaderView) → StandsFor r f
+    ensures { (pending : List Pending) (r : Records) (f : Flat) (me : Instance) (image size : ℕ) (h : HeaderView) → StandsFor pending r f
         → r.headers image ≡ Some h → IsZeroedFrom h size (object_at r image)
-        → StandsFor (after r me (op.Header image (header_op.SetSize size))) (flat.after f (effect.Size image size)) }
+        → StandsFor pending (after r me (op.Header image (header_op.SetSize size))) (flat.after f (effect.Size image size)) }
 {}
 
 /// `header-role` that was done: the role is set.
 pub fn setting_the_role()
-    ensures { (r : Records) (f : Flat) (me : Instance) (image : ℕ) (role : Role) → StandsFor r f
+    ensures { (pending : List Pending) (r : Records) (f : Flat) (me : Instance) (image : ℕ) (role : Role) → StandsFor pending r f
         → answer_to r me (op.Header image (header_op.Role role)) ≡ answer.Done
-        → StandsFor (after r me (op.Header image (header_op.Role role))) (flat.after f (effect.Role image role)) }
+        → StandsFor pending (after r me (op.Header image (header_op.Role role))) (flat.after f (effect.Role image role)) }
 {}
 
 /// `header-detach`, once each object inside the overlap was copied up, has no effect.
 pub fn detaching()
-    ensures { (r : Records) (f : Flat) (me : Instance) (image : ℕ) (h : HeaderView) → StandsFor r f
+    ensures { (pending : List Pending) (r : Records) (f : Flat) (me : Instance) (image : ℕ) (h : HeaderView) → StandsFor pending r f
         → r.headers image ≡ Some h → ((number : ℕ) → IsCopiedUp h number (object_at r image number))
-        → StandsFor (after r me (op.Header image header_op.Detach)) f }
+        → StandsFor pending (after r me (op.Header image header_op.Detach)) f }
 {}
 
 /// `header-remove` of an image without snapshots: the image goes.
 pub fn removing_a_header()
-    ensures { (r : Records) (f : Flat) (me : Instance) (image : ℕ) (h : HeaderView) → StandsFor r f
+    ensures { (pending : List Pending) (r : Records) (f : Flat) (me : Instance) (image : ℕ) (h : HeaderView) → StandsFor pending r f
         → r.headers image ≡ Some h → h.snaps ≡ []
-        → StandsFor (after r me (op.Header image header_op.Remove)) (flat.after f (effect.Gone image)) }
+        → StandsFor pending (after r me (op.Header image header_op.Remove)) (flat.after f (effect.Gone image)) }
 {}
 
 // ---- changes of an object
@@ -212,49 +204,49 @@ pub fn context_of_a_header()
 /// Any change of an object's head under the header's context: where the flat bytes change as `IsChanged`
 /// says, the records after it stand for them. Each operation below is one of these.
 pub fn changing_a_head()
-    ensures { (r : Records) (f : Flat) (image number : ℕ) (h : HeaderView) (context : SnapContext) (new : Option (List ℕ)) (i : FlatImage) (bytes : List ℕ)
-        → StandsFor r f → r.headers image ≡ Some h → image_at f image ≡ Some i → IsContextOf h context
+    ensures { (pending : List Pending) (r : Records) (f : Flat) (image number : ℕ) (h : HeaderView) (context : SnapContext) (new : Option (List ℕ)) (i : FlatImage) (bytes : List ℕ)
+        → StandsFor pending r f → r.headers image ≡ Some h → image_at f image ≡ Some i → IsContextOf h context
         → IsChanged (snapshots_of f) h number new i.bytes bytes
-        → StandsFor (with_object image number (Some (mapped_change context new (object_at r image number))) r) (with_image f image (λ j. record j { bytes = bytes })) }
+        → StandsFor pending (with_object image number (Some (mapped_change context new (object_at r image number))) r) (with_image f image (λ j. record j { bytes = bytes })) }
 {}
 
 /// `data-write` that was done: the bytes go to the image places of the parts.
 pub fn writing_an_object()
-    ensures { (r : Records) (f : Flat) (me : Instance) (image number : ℕ) (h : HeaderView) (context : SnapContext) (must : Bool) (parts : List Part) (bytes : List ℕ)
-        → StandsFor r f → r.headers image ≡ Some h → IsContextOf h context → MayWrite parts bytes
+    ensures { (pending : List Pending) (r : Records) (f : Flat) (me : Instance) (image number : ℕ) (h : HeaderView) (context : SnapContext) (must : Bool) (parts : List Part) (bytes : List ℕ)
+        → StandsFor pending r f → r.headers image ≡ Some h → IsContextOf h context → MayWrite parts bytes
         → ArePartsBelow h h.size number parts → IsCopiedUp h number (object_at r image number)
         → answer_to r me (op.Data image number (data_op.Write context must parts bytes)) ≡ answer.Done
-        → StandsFor (after r me (op.Data image number (data_op.Write context must parts bytes))) (flat.after f (effect.Piece image (extents_of parts) bytes)) }
+        → StandsFor pending (after r me (op.Data image number (data_op.Write context must parts bytes))) (flat.after f (effect.Piece image (extents_of parts) bytes)) }
 {}
 
 /// `data-zero` that was done: the image places of the parts become zeros.
 pub fn zeroing_an_object()
-    ensures { (r : Records) (f : Flat) (me : Instance) (image number : ℕ) (h : HeaderView) (context : SnapContext) (must : Bool) (parts : List Part)
-        → StandsFor r f → r.headers image ≡ Some h → IsContextOf h context
+    ensures { (pending : List Pending) (r : Records) (f : Flat) (me : Instance) (image number : ℕ) (h : HeaderView) (context : SnapContext) (must : Bool) (parts : List Part)
+        → StandsFor pending r f → r.headers image ≡ Some h → IsContextOf h context
         → All (IsPart h.layout number) parts → IsCopiedUp h number (object_at r image number)
         → answer_to r me (op.Data image number (data_op.Zero context must parts)) ≡ answer.Done
-        → StandsFor (after r me (op.Data image number (data_op.Zero context must parts))) (flat.after f (effect.Zero image (extents_of parts))) }
+        → StandsFor pending (after r me (op.Data image number (data_op.Zero context must parts))) (flat.after f (effect.Zero image (extents_of parts))) }
 {}
 
 /// `data-empty`: all places of the object become zeros.
 pub fn emptying_an_object()
-    ensures { (r : Records) (f : Flat) (me : Instance) (image number : ℕ) (h : HeaderView) (context : SnapContext) (parts : List Part)
-        → StandsFor r f → r.headers image ≡ Some h → IsContextOf h context → AreWhole h number parts
-        → StandsFor (after r me (op.Data image number (data_op.Empty context))) (flat.after f (effect.Zero image (extents_of parts))) }
+    ensures { (pending : List Pending) (r : Records) (f : Flat) (me : Instance) (image number : ℕ) (h : HeaderView) (context : SnapContext) (parts : List Part)
+        → StandsFor pending r f → r.headers image ≡ Some h → IsContextOf h context → AreWhole h number parts
+        → StandsFor pending (after r me (op.Data image number (data_op.Empty context))) (flat.after f (effect.Zero image (extents_of parts))) }
 {}
 
 /// `data-remove` of an object outside the overlap: all its places become zeros.
 pub fn removing_an_object()
-    ensures { (r : Records) (f : Flat) (me : Instance) (image number : ℕ) (h : HeaderView) (context : SnapContext) (parts : List Part)
-        → StandsFor r f → r.headers image ≡ Some h → IsContextOf h context → AreWhole h number parts → (IsInside h number → ⊥)
-        → StandsFor (after r me (op.Data image number (data_op.Remove context))) (flat.after f (effect.Zero image (extents_of parts))) }
+    ensures { (pending : List Pending) (r : Records) (f : Flat) (me : Instance) (image number : ℕ) (h : HeaderView) (context : SnapContext) (parts : List Part)
+        → StandsFor pending r f → r.headers image ≡ Some h → IsContextOf h context → AreWhole h number parts → (IsInside h number → ⊥)
+        → StandsFor pending (after r me (op.Data image number (data_op.Remove context))) (flat.after f (effect.Zero image (extents_of parts))) }
 {}
 
 /// `data-write-full`: the bytes go to the object's places in order, and places past them become zeros.
 pub fn replacing_an_object()
-    ensures { (r : Records) (f : Flat) (me : Instance) (image number : ℕ) (h : HeaderView) (context : SnapContext) (bytes : List ℕ) (parts : List Part)
-        → StandsFor r f → r.headers image ≡ Some h → IsContextOf h context → AreWhole h number parts → IsZeroPast h number bytes
-        → StandsFor (after r me (op.Data image number (data_op.WriteFull context bytes))) (flat.after f (effect.Piece image (extents_of parts) bytes)) }
+    ensures { (pending : List Pending) (r : Records) (f : Flat) (me : Instance) (image number : ℕ) (h : HeaderView) (context : SnapContext) (bytes : List ℕ) (parts : List Part)
+        → StandsFor pending r f → r.headers image ≡ Some h → IsContextOf h context → AreWhole h number parts → IsZeroPast h number bytes
+        → StandsFor pending (after r me (op.Data image number (data_op.WriteFull context bytes))) (flat.after f (effect.Piece image (extents_of parts) bytes)) }
 {}
 
 /// A write of bytes to an extent is its pieces, one after another: each has the bytes of its parts.
