@@ -1,15 +1,15 @@
 -- Numbers that ascend, and the children of a snapshot as such.
 use Rattle.std.proofs.Common.{◌≡◌, ℕ, ◌<◌, ◌⊎◌, Bool, true, false, cond, eqb, ltb, ◌&&◌, ◌||◌, List, [], ◌∷◌, map, refl, sym, ◌∙◌, ap, arith, inl, inr}
-use Rattle.std.specs.declared.cmp.Ordering.TheVariants.{Less}
+use Rattle.std.specs.declared.cmp.Ordering.TheVariants.{Less, Equal, Greater}
 use Rattle.std.specs.List.{list_any, filter, AllByRecursion}
 use Rattle.std.specs.BTreeMap.{is_at}
 use Rattle.std.specs.Ordering.{nat_cmp}
 use Rattle.std.specs.Cmp.{Equal-is}
 use Rattle.std.specs.List.Sorted.{IsStrictlySortedBy}
-use Rattle.std.proofs.lemmas.Bool.{true≢false, eqb-true, eqb-false, ltb-true, ltb-false, ne_eqb, cases_order}
+use Rattle.std.proofs.lemmas.Bool.{true≢false, eqb-true, eqb-false, ltb-true, ltb-false, lt-ltb, ne_eqb, cases_order}
 use Rattle.std.proofs.lemmas.Bool.Decides.{eqb_tells}
 use Rattle.std.proofs.lemmas.Cmp.{ranked}
-use Rattle.std.proofs.lemmas.Map.Keys.{sorted_from_strictly_increasing}
+use Rattle.std.proofs.lemmas.Map.Keys.{sorted_from_strictly_increasing, IsStrictlyIncreasing-from_sorted}
 use Rattle.std.specs.FinSet as finset
 use Rattle.rbd_registry.specs.Children.{Entry, entry_cmp, AreChildren, is_child_of, placed, ascending, children_in}
 use Rattle.rbd_registry.proofs.Entries.{at, entry_exact, tied_child}
@@ -146,3 +146,24 @@ children_are entries p s ids are =
         ∙ finset.contains-items entries (at p s c)
         ∙ sym (has_children p s c (finset.items entries))
         ∙ sym (has_ascending c (map (λ e. e.child) (filter (is_child_of p s) (finset.items entries)))))
+
+less_cmp : (a b : ℕ) → a < b → nat_cmp a b ≡ Less
+less_cmp a b less = ap (λ t. cond t Less (cond (eqb a b) Equal Greater)) (lt-ltb a b less)
+
+sorted_ascend : (xs : List ℕ) → Ascend xs → IsStrictlySortedBy nat_cmp xs
+unfolding IsStrictlySortedBy
+sorted_ascend [] ordered = tt
+sorted_ascend (x ∷ xs) ordered = (above xs ordered.0, sorted_ascend xs ordered.1)
+  where
+    above : (ys : List ℕ) → AllAbove x ys → AllByRecursion (λ y. nat_cmp x y ≡ Less) ys
+    above [] all = tt
+    above (y ∷ ys) all = (less_cmp x y all.0, above ys all.1)
+
+pub are_children : (entries : finset.FinSet entry_cmp) (p s : ℕ) → AreChildren entries p s (children_in entries p s)
+are_children entries p s = record {
+  each = λ c.
+      has_ascending c (map (λ e. e.child) (filter (is_child_of p s) (finset.items entries)))
+      ∙ has_children p s c (finset.items entries)
+      ∙ sym (finset.contains-items entries (at p s c));
+  ascending = IsStrictlyIncreasing-from_sorted (children_in entries p s) (sorted_ascend (children_in entries p s) (ascend (map (λ e. e.child) (filter (is_child_of p s) (finset.items entries)))));
+}

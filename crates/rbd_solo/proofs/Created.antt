@@ -33,12 +33,11 @@ use Rattle.rbd_site.specs.Records.{Records, put}
 use Rattle.rbd_site.specs.Step.{answer_to, after}
 use Rattle.rbd_stands.specs.Condition.{IsDrawn}
 use Rattle.rbd_site.specs.Laws.{is_change}
-use Rattle.rbd_stands.specs.Same.{AreSame}
 use Rattle.rbd_stands.specs.Site.{IsUntouched}
 use Rattle.rbd_stands.proofs.DirectorySteps.{name_stands}
 use Rattle.rbd_stands.proofs.EditSteps.{untouched_stays}
 use Rattle.rbd_stands.proofs.ImageSteps.{create_stands}
-use Rattle.rbd_stands.proofs.Refusals.{refused}
+use Rattle.rbd_site.proofs.StepLemmas.{refused}
 use Rattle.rbd_solo.specs.History.{where_some, effect_of_op}
 use Rattle.rbd_layout.specs.Asked.{KeepsLimits, layout_of}
 use Rattle.rbd_solo.specs.Meaning.{FlatState, name_reply, is_full as all_held, state_after}
@@ -81,7 +80,7 @@ create_refused old new me name size shape number a x keeps answered grown record
       lines = line_of number me (op.Directory (directory_op.Add name)) a ∷ [];
       grown = grown;
       quiet = ap (λ o. where_some o []) (un.quiet name);
-      same = subst (AreSame r) (sym records) (refused r me (op.Directory (directory_op.Add name)) (ap is_change (sym answered) ∙ un.still));
+      same = sym (records ∙ refused r me (op.Directory (directory_op.Add name)) (ap is_change (sym answered) ∙ un.still));
     })
     (λ s holds. record {
       outside = λ o. absurd (o keeps);
@@ -172,7 +171,7 @@ module _ (r : Records) (s : FlatState) (me : Instance) (name : List ℕ) (size :
 
     create_holds : Holds (after mid me create) after_it
     create_holds = record {
-      stands = create_stands mid named me image view (name_stands r s.site me name image holds.stands id_answer) drawn untouched new alone;
+      stands = create_stands [] mid named me image view (name_stands [] r s.site me name image holds.stands id_answer) drawn untouched new alone made_answer;
       drawn = ap (λ (d : Listing). d.drawn) directory ∙ ap (λ n. n + 1) holds.drawn;
       own =
           headers_own r.headers s after_it image (header_after me (r.headers image) (header_op.Create view)) view holds.own

@@ -15,10 +15,8 @@ use Rattle.rbd_site.specs.declared.done.Done.{Done}
 use Rattle.rbd_site.specs.Log.{SiteLog, records_of}
 use Rattle.rbd_site.specs.Records.{Records, object_at}
 use Rattle.rbd_stands.specs.Reading.{IsToldBy}
-use Rattle.rbd_stands.specs.Same.{AreSame}
 use Rattle.rbd_stands.specs.Shown.{snapshots_of}
 use Rattle.rbd_stands.specs.Site.{StandsFor}
-use Rattle.rbd_stands.proofs.Refusals.{stands_same}
 use Rattle.rbd_stands.proofs.SiteSteps.{here}
 use Rattle.rbd_stands.proofs.Telling.{told}
 use Rattle.rbd_solo.specs.History.{log_effects}
@@ -29,16 +27,11 @@ use Rattle.rbd_solo.specs.declared.look.Opened.{Opened}
 
 -- ---- the records
 
-pub holds_same : (r t : Records) (s : FlatState) → AreSame r t → Holds r s → Holds t s
-holds_same r t s same h = record {
-  stands = stands_same r t s.site same h.stands;
-  drawn = ap (λ d. d.drawn) (sym same.directory) ∙ h.drawn;
-  own = λ image k is. h.own image k (same.headers image ∙ is);
-  made = λ name image is. subst IsSome (same.headers image) (h.made name image is);
-}
+pub holds_same : (r t : Records) (s : FlatState) → r ≡ t → Holds r s → Holds t s
+holds_same r t s same h = subst (λ x. Holds x s) same h
 
 -- the same names
-pub same_id : (r : Records) (f : Flat) (name : List ℕ) → StandsFor r f → id_of r.directory name ≡ flat.id_of f name
+pub same_id : (r : Records) (f : Flat) (name : List ℕ) → StandsFor [] r f → id_of r.directory name ≡ flat.id_of f name
 same_id r f name stands = ap (λ names. finmap.get names name) stands.names
 
 -- what is known of an image that was looked up
@@ -90,12 +83,8 @@ found_some r s name o holds is = go (id_of r.directory name) refl
         by_header image (r.headers image) (sym (same_id r s.site name holds.stands) ∙ e) refl (ap (opened_by r) (sym e) ∙ is)
 
 -- the same look-up
-pub opened_same : (r t : Records) (name : List ℕ) → AreSame r t → opened_in r name ≡ opened_in t name
-opened_same r t name same = ap (λ d. opened_by r (id_of d name)) same.directory ∙ go (id_of t.directory name)
-  where
-    go : (id : Option ℕ) → opened_by r id ≡ opened_by t id
-    go None = refl
-    go (Some image) = ap (opened_at image) (same.headers image)
+pub opened_same : (r t : Records) (name : List ℕ) → r ≡ t → opened_in r name ≡ opened_in t name
+opened_same r t name same = ap (λ x. opened_in x name) same
 
 -- ---- commands that only looked
 

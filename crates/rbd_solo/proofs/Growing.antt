@@ -2,6 +2,7 @@
 use Rattle.std.proofs.Common.{◌≡◌, ℕ, true, List, [], ◌∷◌, ◌++◌, Option, Some, None, Result, Ok, Err, append_assoc, append-nil, refl, sym, ap, ◌∙◌, subst}
 use Rattle.std.specs.Prelude.{IfOk, OnOk}
 use Rattle.rbd_kinds.specs.declared.answer.Answer.{Answer}
+use Rattle.rbd_kinds.specs.declared.children_op.ChildrenOp.TheVariants as children_op
 use Rattle.rbd_kinds.specs.declared.data_op.DataOp.TheVariants as data_op
 use Rattle.rbd_kinds.specs.declared.directory_op.DirectoryOp.TheVariants as directory_op
 use Rattle.rbd_kinds.specs.declared.header.HeaderView.{HeaderView}
@@ -18,8 +19,8 @@ use Rattle.rbd_site.specs.DataStep.{parts_read, where_object_done, data_after}
 use Rattle.rbd_site.specs.HeaderStep.{header_after}
 use Rattle.rbd_site.specs.Records.{Records, object_at, or_blank}
 use Rattle.rbd_site.specs.Step.{after}
-use Rattle.rbd_stands.proofs.Refusals.{same_header, same_object}
-use Rattle.rbd_stands.specs.Same.{AreSame, is_look}
+use Rattle.rbd_site.proofs.GenerationLemmas.{looked_at}
+use Rattle.rbd_site.specs.Laws.{is_look}
 use Rattle.rbd_solo.specs.History.{where_some, effect_of, effect_of_op, log_effects}
 use Rattle.rbd_solo.specs.Steps.{Looks, with_lines}
 use Rattle.rbd_solo.proofs.HistoryLemmas.{where_some_append}
@@ -38,13 +39,6 @@ grown_on a b old mid new first then = then ∙ ap (with_lines b) first ∙ lines
 
 -- ---- looks
 
-pub same_trans : (a b c : Records) → AreSame a b → AreSame b c → AreSame a c
-same_trans a b c first then = record {
-  directory = first.directory ∙ then.directory;
-  headers = λ image. first.headers image ∙ then.headers image;
-  objects = λ image number. first.objects image number ∙ then.objects image number;
-}
-
 quiet_append : (a b : List Done) → log_effects a ≡ [] → log_effects b ≡ [] → log_effects (a ++ b) ≡ []
 quiet_append a b first then = effects_append a b ∙ ap (λ es. es ++ log_effects b) first ∙ then
 
@@ -53,7 +47,7 @@ looks_on old mid new first then = record {
   lines = first.lines ++ then.lines;
   grown = grown_on first.lines then.lines old mid new first.grown then.grown;
   quiet = quiet_append first.lines then.lines first.quiet then.quiet;
-  same = same_trans (records_of old) (records_of mid) (records_of new) first.same then.same;
+  same = first.same ∙ then.same;
 }
 
 -- nothing was done
@@ -62,7 +56,7 @@ looks_none s = record {
   lines = [];
   grown = ap (λ (log : List Done). let t : SiteLog = record s { log = log } in t) (sym (append-nil s.log));
   quiet = refl;
-  same = record { directory = refl; headers = λ image. refl; objects = λ image number. refl };
+  same = refl;
 }
 
 -- a look has no effect
@@ -70,29 +64,12 @@ pub look_is_quiet : (o : Op) (a : Answer) → is_look o ≡ true → effect_of_o
 look_is_quiet (op.Directory (directory_op.Find name)) a is = refl
 look_is_quiet (op.Directory directory_op.List) a is = refl
 look_is_quiet (op.Header image header_op.Get) a is = refl
+look_is_quiet (op.Children (children_op.List parent snap)) a is = refl
 look_is_quiet (op.Data image number (data_op.Read snap parts)) a is = refl
 look_is_quiet (op.Directory (directory_op.Add name)) a is = cc
 look_is_quiet (op.Directory (directory_op.Remove image)) a is = cc
 look_is_quiet (op.Directory (directory_op.Rename from to)) a is = cc
 look_is_quiet _ a is = cc
-
--- and changes nothing
-header_look : (me : Instance) (h : Option HeaderView) → header_after me h header_op.Get ≡ h
-header_look me None = refl
-header_look me (Some h) = refl
-
-object_look : (parts : List Part) (content : Option (List ℕ)) (changed old : Option Mapped) (o : Mapped) → where_object_done (parts_read parts content) o old ≡ old
-object_look parts None changed old o = refl
-object_look parts (Some bytes) changed old o = refl
-
-pub look_same : (r : Records) (me : Instance) (o : Op) → is_look o ≡ true → AreSame r (after r me o)
-look_same r me (op.Directory (directory_op.Find name)) is = record { directory = refl; headers = λ image. refl; objects = λ image number. refl }
-look_same r me (op.Directory directory_op.List) is = record { directory = refl; headers = λ image. refl; objects = λ image number. refl }
-look_same r me (op.Header image header_op.Get) is = same_header r image (header_after me (r.headers image) header_op.Get) (header_look me (r.headers image))
-look_same r me (op.Data image number (data_op.Read snap parts)) is =
-    same_object r image number (data_after (r.objects image number) (data_op.Read snap parts))
-    (ap or_blank (object_look parts (view (looked (object_at r image number)) snap) None (r.objects image number) (object_at r image number)))
-look_same _ me o is = absurd cc
 
 -- one operation that only looked
 pub looks_once : {E : Type 0} (result : Result Answer E) (old new : SiteLog) (me : Instance) (o : Op) (number : ℕ) → is_look o ≡ true
@@ -101,6 +78,6 @@ looks_once (Ok a) old new me o number is grown records = record {
   lines = line_of number me o a ∷ [];
   grown = grown;
   quiet = ap (λ e. where_some e []) (look_is_quiet o a is);
-  same = subst (AreSame (records_of old)) (sym records) (look_same (records_of old) me o is);
+  same = sym (records ∙ looked_at (records_of old) me o is);
 }
 looks_once (Err e) old new me o number is grown records = tt

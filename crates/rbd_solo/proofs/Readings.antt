@@ -55,7 +55,6 @@ use Rattle.rbd_solo.specs.Steps.{IsPlain, IsAnswered, Looks, opened_in, bytes_to
 use Rattle.rbd_solo.specs.declared.look.Opened.{Opened}
 use Rattle.rbd_solo.proofs.Found.{IsFound, found_some, found_none, answered_refused, answered_bytes}
 use Rattle.rbd_solo.proofs.Growing.{looks_on}
-use Rattle.rbd_stands.proofs.Refusals.{stands_same}
 use Rattle.rbd_solo.proofs.Snapshots.{of_in, of_named, named_in, flat_named_in}
 use Rattle.rbd_solo.proofs.Written.{parts_below}
 
@@ -138,7 +137,7 @@ module _ (r : Records) (me : Instance) (o : Opened) (view : View) (e : Extent) (
     pub long_told : (told : List ℕ) → bytes_told a ≡ Some told → length told ≡ parts_len (map (shifted e.at) piece.parts)
     long_told told is = long_bytes r me o.image piece.object view.snap piece.parts e.at a told asked is
 
-    pub absent_read : (into : List ℕ) → bytes_told a ≡ None → (f : Flat) (bytes : List ℕ) → StandsFor r f → HasNoParent o.header view → IsFlatView f o view bytes → IsRead bytes e.at piece.parts into into
+    pub absent_read : (into : List ℕ) → bytes_told a ≡ None → (f : Flat) (bytes : List ℕ) → StandsFor [] r f → HasNoParent o.header view → IsFlatView f o view bytes → IsRead bytes e.at piece.parts into into
     absent_read into told f bytes stands alone is k read within_ old = go (is_at e.at piece.parts k) refl
       where
         go : (b : Bool) → is_at e.at piece.parts k ≡ b → get_or into k 0 ≡ cond b (get_or bytes (e.at + k) 0) (get_or into k 0)
@@ -152,9 +151,9 @@ module _ (r : Records) (me : Instance) (o : Opened) (view : View) (e : Extent) (
             old ∙ ap (λ n. cond read n 0) zero ∙ either read 0 ∙ sym zero
 
     pub bytes_read : (into new told : List ℕ) → length into ≡ e.len → bytes_told a ≡ Some told → new ≡ parts_written (map (shifted e.at) piece.parts) told into
-        → (f : Flat) (bytes : List ℕ) → StandsFor r f → HasNoParent o.header view → IsFlatView f o view bytes → IsRead bytes e.at piece.parts into new
+        → (f : Flat) (bytes : List ℕ) → StandsFor [] r f → HasNoParent o.header view → IsFlatView f o view bytes → IsRead bytes e.at piece.parts into new
     bytes_read into new told long is_told put f bytes stands alone is k read within_ old =
-        let shown = flat_bytes_told r f me o.image piece.object o.header view.snap is_view.shape piece.parts told stands there is_view.is_shape (parts_below o.header is_view.shape.size e piece.object piece.parts are below) (sym asked ∙ that_answer a told is_told _ piece.parts asked) in
+        let shown = flat_bytes_told [] r f me o.image piece.object o.header view.snap is_view.shape piece.parts told stands there is_view.is_shape (parts_below o.header is_view.shape.size e piece.object piece.parts are below) (sym asked ∙ that_answer a told is_told _ piece.parts asked) in
         let that : shown.flat ≡ bytes = same_Some shown.flat bytes (sym shown.is ∙ is) in
         ap (λ bs. get_or bs k 0) (put ∙ ap (λ bs. parts_written (map (shifted e.at) piece.parts) bs into) (shown.same ∙ ap (bytes_at_parts piece.parts) that))
         ∙ bytes_put piece.parts e.at bytes into k (behind o.header.layout e piece.object piece.parts are) (subst (λ n. Before e.at n piece.parts) (sym long) (before o.header.layout e piece.object piece.parts are)) within_
@@ -254,7 +253,7 @@ flat_viewed r s name o found (Some label) view form is =
 
 -- ---- how long a view is
 
-pub flat_long : (r : Records) (f : Flat) (o : Opened) (view : View) (bytes : List ℕ) → StandsFor r f → r.headers o.image ≡ Some o.header → IsViewOf o.header view → IsFlatView f o view bytes
+pub flat_long : (r : Records) (f : Flat) (o : Opened) (view : View) (bytes : List ℕ) → StandsFor [] r f → r.headers o.image ≡ Some o.header → IsViewOf o.header view → IsFlatView f o view bytes
     → length bytes ≡ view.size
 flat_long r f o view bytes stands there is_view is =
     let h = o.header in
@@ -315,14 +314,14 @@ read_outside old new name snap at len o view looks is form is_view outside =
 
 pub read_done : (old mid new : SiteLog) (name : List ℕ) (snap : Option (List ℕ)) (at len : ℕ) (o : Opened) (view : View) (shown : List ℕ) → Looks old mid → Looks mid new → opened_in (records_of old) name ≡ Some o → IsHeaderInForm o.header
     → named_view o.header snap ≡ Some view → fits (record { at = at; len = len }) view.size ≡ true
-    → ((f : Flat) (bytes : List ℕ) → StandsFor (records_of mid) f → HasNoParent o.header view → IsFlatView f o view bytes → shown ≡ bytes_in bytes (record { at = at; len = len }))
+    → ((f : Flat) (bytes : List ℕ) → StandsFor [] (records_of mid) f → HasNoParent o.header view → IsFlatView f o view bytes → shown ≡ bytes_in bytes (record { at = at; len = len }))
     → IsAnswered old new (Read name snap at len) (Bytes shown)
 read_done old mid new name snap at len o view shown looks more is form is_view within shows =
     answered_bytes old new (Read name snap at len) shown (looks_on old mid new looks more) (λ s holds.
     let e : Extent = record { at = at; len = len } in
     let found = found_some (records_of old) s name o holds is in
     let v = flat_viewed (records_of old) s name o found snap view form is_view in
-    ap Bytes (shows s.site v.bytes (stands_same (records_of old) (records_of mid) s.site looks.same holds.stands) v.alone v.is)
+    ap Bytes (shows s.site v.bytes (subst (λ x. StandsFor [] x s.site) looks.same holds.stands) v.alone v.is)
     ∙ sym (ap (read_reply e snap) found.is ∙ v.replied e
     ∙ ap (λ n. cond (fits e n) (Bytes (bytes_in v.bytes e)) (Refused refusal.BadRange)) v.long
     ∙ ap (λ b. cond b (Bytes (bytes_in v.bytes e)) (Refused refusal.BadRange)) within))

@@ -120,7 +120,7 @@ module _ (r : Records) (s : FlatState) (me : Instance) (name snap : List ℕ) (o
   create_holds : snap_named h.snaps snap ≡ None → is_full h ≡ false
       → Holds (after r me (op.Header image (header_op.SnapAdd snap))) (state_after s (SnapCreate name snap) Done (effect.Snap image (h.snap_seq + 1) snap ∷ []))
   create_holds none free = record {
-    stands = snap_stands r s.site me image (h.snap_seq + 1) snap holds.stands (create_answer none free);
+    stands = snap_stands [] r s.site me image (h.snap_seq + 1) snap holds.stands (create_answer none free);
     drawn = holds.drawn;
     own =
         headers_own r.headers s (state_after s (SnapCreate name snap) Done (effect.Snap image (h.snap_seq + 1) snap ∷ [])) image (header_after me (r.headers image) (header_op.SnapAdd snap)) (with_snap snap h)
@@ -175,8 +175,8 @@ module _ (r : Records) (s : FlatState) (me : Instance) (name snap : List ℕ) (o
     remove_holds : Holds (after r me (op.Header image (header_op.SnapRemove listed.id))) (state_after s (SnapRemove name snap) Done (effect.Unsnap image listed.id ∷ []))
     remove_holds = record {
       stands =
-          unsnap_stands r s.site me image listed.id holds.stands
-          (unnamed r s.site image listed.id h gone_there.0 holds.stands found.header gone_there.1 (of_in IsPlain h.snaps listed.id gone_there.0 found.own.snaps gone_there.1).status)
+          unsnap_stands [] r s.site me image listed.id holds.stands
+          (unnamed [] r s.site image listed.id h gone_there.0 holds.stands found.header gone_there.1 (of_in IsPlain h.snaps listed.id gone_there.0 found.own.snaps gone_there.1).status)
           remove_answer;
       drawn = holds.drawn;
       own =

@@ -16,7 +16,7 @@ use Rattle.rbd_flat.specs.Flat.{after_all}
 use Rattle.rbd_flat.proofs.Steps.{steps_in_turn}
 use Rattle.rbd_site.specs.declared.done.Done.{Done}
 use Rattle.rbd_site.specs.Log.{SiteLog, records_of}
-use Rattle.rbd_stands.proofs.Refusals.{nothing_stands}
+use Rattle.rbd_stands.proofs.Nothing.{nothing_stands}
 use Rattle.rbd_solo.specs.History.{operation_entry, entry_of, effect_of, request_entries, effects_in, log_effects, operations_in, operations_of}
 use Rattle.rbd_solo.specs.Meaning.{FlatState, at_first, AreEffects, state_after}
 use Rattle.rbd_solo.specs.Steps.{IsAnswered, Means}

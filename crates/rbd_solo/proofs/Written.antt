@@ -100,7 +100,7 @@ writes_on old mid new o at bytes some more first then =
       directory = then.directory ∙ first.directory;
       headers = λ image. then.headers image ∙ first.headers image;
       stands = λ alone f stands.
-          subst (StandsFor (records_of new)) (sym (ap (after_all f) both ∙ steps_in_turn f (piece_effects o.image at bytes some) (piece_effects o.image at bytes more)))
+          subst (StandsFor [] (records_of new)) (sym (ap (after_all f) both ∙ steps_in_turn f (piece_effects o.image at bytes some) (piece_effects o.image at bytes more)))
           (then.stands alone (after_all f (piece_effects o.image at bytes some)) (first.stands alone f stands));
     }
 
@@ -125,8 +125,8 @@ piece_written old new me o e bytes piece context parts put number a form there w
   directory = ap (λ (r : Records). r.directory) records;
   headers = λ image. ap (λ (r : Records). r.headers image) records;
   stands = λ alone f stands.
-      subst (λ r. StandsFor r (flat.after f (piece_effect o.image e.at bytes piece))) (sym (records ∙ ap (λ ps. after (records_of old) me (op.Data o.image piece.object (data_op.Write context false ps put))) same_parts ∙ ap (λ bs. after (records_of old) me (op.Data o.image piece.object (data_op.Write context false piece.parts bs))) same_data))
-      (write_stands (records_of old) f me o.image piece.object o.header context false piece.parts (bytes_for piece.parts e.at bytes) stands there is_context
+      subst (λ r. StandsFor [] r (flat.after f (piece_effect o.image e.at bytes piece))) (sym (records ∙ ap (λ ps. after (records_of old) me (op.Data o.image piece.object (data_op.Write context false ps put))) same_parts ∙ ap (λ bs. after (records_of old) me (op.Data o.image piece.object (data_op.Write context false piece.parts bs))) same_data))
+      (write_stands [] (records_of old) f me o.image piece.object o.header context false piece.parts (bytes_for piece.parts e.at bytes) stands there is_context
       (may_write o.header.layout e piece.object piece.parts e.at bytes form.layout are)
       (parts_below o.header o.header.size e piece.object piece.parts are within)
       (λ inside. absurd (uncovered o.header.parent (byte_at o.header.layout piece.object 0) alone inside))

@@ -21,7 +21,6 @@ use Rattle.rbd_flat.specs.declared.effect.Effect.{Effect}
 use Rattle.rbd_site.specs.declared.done.Done.{Done}
 use Rattle.rbd_site.specs.Log.{SiteLog, records_of}
 use Rattle.rbd_site.specs.Records.{Records}
-use Rattle.rbd_stands.specs.Same.{AreSame}
 use Rattle.rbd_stands.specs.Site.{StandsFor}
 use Rattle.rbd_stands.specs.Writing.{piece_effects}
 use Rattle.rbd_solo.specs.History.{log_effects}
@@ -80,7 +79,7 @@ pub record Looks (old new : SiteLog) : Type 0 where
   pub lines : List Done
   pub grown : new ≡ with_lines lines old
   pub quiet : log_effects lines ≡ []
-  pub same : AreSame (records_of old) (records_of new)
+  pub same : records_of old ≡ records_of new
 
 -- Pieces of a write from the image byte `at` on were written, one after another.
 pub record Writes (old new : SiteLog) (opened : Opened) (at : ℕ) (bytes : List ℕ) (pieces : List Piece) : Type 0 where
@@ -89,8 +88,8 @@ pub record Writes (old new : SiteLog) (opened : Opened) (at : ℕ) (bytes : List
   pub are : log_effects lines ≡ piece_effects opened.image at bytes pieces
   pub directory : (records_of new).directory ≡ (records_of old).directory
   pub headers : (image : ℕ) → (records_of new).headers image ≡ (records_of old).headers image
-  pub stands : opened.header.parent ≡ None → (f : Flat) → StandsFor (records_of old) f
-      → StandsFor (records_of new) (after_all f (piece_effects opened.image at bytes pieces))
+  pub stands : opened.header.parent ≡ None → (f : Flat) → StandsFor [] (records_of old) f
+      → StandsFor [] (records_of new) (after_all f (piece_effects opened.image at bytes pieces))
 
 -- all pieces of an extent
 pub record WritesAll (old new : SiteLog) (opened : Opened) (at : ℕ) (bytes : List ℕ) : Type 0 where
@@ -138,7 +137,7 @@ pub record IsOwn (s : FlatState) (image : ℕ) (h : HeaderView) : Type 0 where
 
 -- The records stand for the flat site, and the state knows the rest; each name's image is there.
 pub record Holds (r : Records) (s : FlatState) : Type 0 where
-  pub stands : StandsFor r s.site
+  pub stands : StandsFor [] r s.site
   pub drawn : r.directory.drawn ≡ s.drawn
   pub own : (image : ℕ) (h : HeaderView) → r.headers image ≡ Some h → IsOwn s image h
   pub made : (name : List ℕ) (image : ℕ) → flat.id_of s.site name ≡ Some image → IsSome (r.headers image)

@@ -70,7 +70,7 @@ fn read_pieces(
     requires within { extent.now.at + extent.now.len ≤ view.now.size }
     requires blank { into.old ≡ replicate extent.now.len 0 }
     ensures looks { OnOk result (Looks site.old site.new) }
-    ensures bytes { OnOk result ((f : Flat) (flat : List ℕ) → StandsFor (records_of site.old) f → HasNoParent opened.now.header view.now → IsFlatView f opened.now view.now flat
+    ensures bytes { OnOk result ((f : Flat) (flat : List ℕ) → StandsFor [] (records_of site.old) f → HasNoParent opened.now.header view.now → IsFlatView f opened.now view.now flat
         → into.new ≡ bytes_in flat extent.now) }
 {
     let pieces = pieces(alloc, &opened.header.layout, extent)?;
@@ -99,7 +99,7 @@ fn read_piece(
     requires long { length into.old ≡ extent.now.len }
     ensures looks { OnOk result (Looks site.old site.new) }
     ensures long { length into.new ≡ length into.old }
-    ensures bytes { OnOk result ((f : Flat) (flat : List ℕ) → StandsFor (records_of site.old) f → HasNoParent opened.now.header view.now → IsFlatView f opened.now view.now flat
+    ensures bytes { OnOk result ((f : Flat) (flat : List ℕ) → StandsFor [] (records_of site.old) f → HasNoParent opened.now.header view.now → IsFlatView f opened.now view.now flat
         → IsRead flat extent.now.at piece.now.parts into.old into.new) }
 {
     let op = DataOp::Read {

@@ -56,7 +56,7 @@ own_bytes below parent first None up offset x later = nothing_inherited below pa
 
 -- ---- a change of an object's head, and an effect on the image's bytes
 
-done_after : (object : Option Mapped) (o : DataOp) → data_answer object o ≡ answer.Done → data_after object o ≡ Some (data_change (or_blank object) o)
+pub done_after : (object : Option Mapped) (o : DataOp) → data_answer object o ≡ answer.Done → data_after object o ≡ Some (data_change (or_blank object) o)
 done_after object o done = ap (λ a. where_object_done a (data_change (or_blank object) o) object) done
 
 -- the flat site with the bytes of one image repainted
@@ -279,21 +279,24 @@ zero_stands pending r f me image number h context must parts stands is of lie up
 
 pub empty_stands : (pending : List Pending) (r : Records) (f : Flat) (me : Instance) (image number : ℕ) (h : HeaderView) (context : SnapContext) (parts : List Part)
     → StandsFor pending r f → r.headers image ≡ Some h → IsContextOf h context → AreWhole h number parts
+    → answer_to r me (op.Data image number (data_op.Empty context)) ≡ answer.Done
     → StandsFor pending (after r me (op.Data image number (data_op.Empty context))) (flat.after f (effect.Zero image (extents_of parts)))
-empty_stands pending r f me image number h context parts stands is of are =
-    data_stands pending r f me image number h context _ (painted (places_of (extents_of parts)) []) (data_op.Empty context) stands is of refl refl
+empty_stands pending r f me image number h context parts stands is of are done =
+    data_stands pending r f me image number h context _ (painted (places_of (extents_of parts)) []) (data_op.Empty context) stands is of done refl
     (λ i at st. empty_is_change (snapshots_of f) (links_of f image) h (object_at r image) i st number parts are)
 
 pub remove_stands : (pending : List Pending) (r : Records) (f : Flat) (me : Instance) (image number : ℕ) (h : HeaderView) (context : SnapContext) (parts : List Part)
     → StandsFor pending r f → r.headers image ≡ Some h → IsContextOf h context → AreWhole h number parts → (IsInside h number → ⊥)
+    → answer_to r me (op.Data image number (data_op.Remove context)) ≡ answer.Done
     → StandsFor pending (after r me (op.Data image number (data_op.Remove context))) (flat.after f (effect.Zero image (extents_of parts)))
-remove_stands pending r f me image number h context parts stands is of are outside =
-    data_stands pending r f me image number h context _ (painted (places_of (extents_of parts)) []) (data_op.Remove context) stands is of refl refl
+remove_stands pending r f me image number h context parts stands is of are outside done =
+    data_stands pending r f me image number h context _ (painted (places_of (extents_of parts)) []) (data_op.Remove context) stands is of done refl
     (λ i at st. remove_is_change (snapshots_of f) (links_of f image) h (object_at r image) i st number parts are outside)
 
 pub replace_stands : (pending : List Pending) (r : Records) (f : Flat) (me : Instance) (image number : ℕ) (h : HeaderView) (context : SnapContext) (bytes : List ℕ) (parts : List Part)
     → StandsFor pending r f → r.headers image ≡ Some h → IsContextOf h context → AreWhole h number parts → IsZeroPast h number bytes
+    → answer_to r me (op.Data image number (data_op.WriteFull context bytes)) ≡ answer.Done
     → StandsFor pending (after r me (op.Data image number (data_op.WriteFull context bytes))) (flat.after f (effect.Piece image (extents_of parts) bytes))
-replace_stands pending r f me image number h context bytes parts stands is of are past_zero =
-    data_stands pending r f me image number h context _ (painted (places_of (extents_of parts)) bytes) (data_op.WriteFull context bytes) stands is of refl refl
+replace_stands pending r f me image number h context bytes parts stands is of are past_zero done =
+    data_stands pending r f me image number h context _ (painted (places_of (extents_of parts)) bytes) (data_op.WriteFull context bytes) stands is of done refl
     (λ i at st. replace_is_change (snapshots_of f) (links_of f image) h (object_at r image) i st number parts bytes are past_zero)

@@ -46,8 +46,9 @@ use Rattle.rbd_stands.proofs.SiteSteps.{Here, here, stands_without, keep_all, si
 -- ---- a size
 
 pub size_stands : (pending : List Pending) (r : Records) (f : Flat) (me : Instance) (image size : ℕ) (h : HeaderView) → StandsFor pending r f → r.headers image ≡ Some h → IsZeroedFrom h size (object_at r image)
+    → answer_to r me (op.Header image (header_op.SetSize size)) ≡ answer.Done
     → StandsFor pending (after r me (op.Header image (header_op.SetSize size))) (flat.after f (effect.Size image size))
-size_stands pending r f me image size h stands is zeroed =
+size_stands pending r f me image size h stands is zeroed done =
     let e : Effect = effect.Size image size in
     let g = flat.after f e in
     header_change pending r f g me image (header_op.SetSize size) h (with_size size h) stands is refl (names_stay f e refl) (links_stay f e refl) (flat_elsewhere f e image refl)
@@ -130,8 +131,9 @@ awaited_other below linked image snap link o at free has = λ same_image same_sn
 -- ---- the parent is taken away
 
 pub detach_stands : (pending : List Pending) (r : Records) (f : Flat) (me : Instance) (image : ℕ) (h : HeaderView) → StandsFor pending r f → r.headers image ≡ Some h → ((n : ℕ) → IsCopiedUp h n (object_at r image n))
+    → answer_to r me (op.Header image header_op.Detach) ≡ answer.Done
     → StandsFor pending (after r me (op.Header image header_op.Detach)) f
-detach_stands pending r f me image h stands is up =
+detach_stands pending r f me image h stands is up done =
     header_change pending r f f me image header_op.Detach h (detached h) stands is refl refl refl (λ j other. refl)
     (keep_all pending r (snapshots_of f) (snapshots_of f) (λ i t s at. at))
     (λ i at st. record { image = i; is = at; stands = parent_taken (snapshots_of f) (links_of f image) h (object_at r image) i st up })
@@ -139,8 +141,9 @@ detach_stands pending r f me image h stands is up =
 -- ---- the header is removed
 
 pub gone_stands : (pending : List Pending) (r : Records) (f : Flat) (me : Instance) (image : ℕ) (h : HeaderView) → StandsFor pending r f → r.headers image ≡ Some h → h.snaps ≡ []
+    → answer_to r me (op.Header image header_op.Remove) ≡ answer.Done
     → StandsFor pending (after r me (op.Header image header_op.Remove)) (flat.after f (effect.Gone image))
-gone_stands pending r f me image h stands is alone =
+gone_stands pending r f me image h stands is alone done =
     let e : Effect = effect.Gone image in
     let g = flat.after f e in
     let header : Option HeaderView = header_after me (r.headers image) header_op.Remove in

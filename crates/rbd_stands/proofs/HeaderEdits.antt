@@ -61,7 +61,7 @@ cut_inside : (parent : Option ParentLink) (size x : ℕ) → IsInOverlap (cut si
 cut_inside None size x inside = inside
 cut_inside (Some link) size x inside = omega arith
 
-past_inherited : (below : Snapshots) (parent : Option ParentLink) (size x : ℕ) → IsOverlapWithin size parent → size ≤ x → inherited below parent x ≡ 0
+pub past_inherited : (below : Snapshots) (parent : Option ParentLink) (size x : ℕ) → IsOverlapWithin size parent → size ≤ x → inherited below parent x ≡ 0
 past_inherited below None size x within past = refl
 past_inherited below (Some link) size x within past = ap (λ b. cond b (snap_byte (below link.image link.snap) 0 x) 0) (le-ltb x link.overlap (omega arith))
 

@@ -101,9 +101,9 @@ no_snap_of_none : (f : Flat) (image i t : ℕ) (s : FlatSnap) → image_at f ima
 no_snap_of_none f image i t s none same is = none-some s (sym (ap (λ o. snap_of o t) (ap (image_at f) same ∙ none)) ∙ is)
 
 pub create_stands : (pending : List Pending) (r : Records) (f : Flat) (me : Instance) (image : ℕ) (view : HeaderView) → StandsFor pending r f
-    → IsDrawn r image → IsUntouched r f image → IsNewHeader view → view.parent ≡ None
+    → IsDrawn r image → IsUntouched r f image → IsNewHeader view → view.parent ≡ None → answer_to r me (op.Header image (header_op.Create view)) ≡ answer.Done
     → StandsFor pending (after r me (op.Header image (header_op.Create view))) (flat.after f (effect.Create image view.size view.role))
-create_stands pending r f me image view stands drawn untouched new alone =
+create_stands pending r f me image view stands drawn untouched new alone done =
     let e : Effect = effect.Create image view.size view.role in
     let g = flat.after f e in
     let header : Option HeaderView = header_after me (r.headers image) (header_op.Create view) in

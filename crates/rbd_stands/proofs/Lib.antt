@@ -1,3 +1,5 @@
+pub mod CloneSteps
+pub mod ChildSteps
 pub mod Lookups
 pub mod Views
 pub mod HeaderSteps

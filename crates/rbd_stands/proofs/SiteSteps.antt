@@ -14,7 +14,7 @@ use Rattle.rbd_flat.proofs.Images.{with_image_at}
 use Rattle.rbd_flat.proofs.Steps.{images_stay}
 use Rattle.rbd_site.specs.Records.{Records, put, or_blank, object_at, with_header, with_object}
 use Rattle.rbd_stands.specs.View.{EachView}
-use Rattle.rbd_stands.specs.Shown.{Snapshots, snapshots_of, Links, links_of}
+use Rattle.rbd_stands.specs.Shown.{Snapshots, snapshots_of, Links, links_of, HasParent}
 use Rattle.rbd_stands.specs.Image.{ImageStands}
 use Rattle.std.specs.FinSet as finset
 use Rattle.std.specs.List.{slice_get}
@@ -127,6 +127,11 @@ site_change pending image r s f g stands same keeps step untouched = record {
 -- an image with a header was drawn
 pub is_drawn : (pending : List Pending) (r : Records) (f : Flat) → StandsFor pending r f → (image : ℕ) (h : HeaderView) → r.headers image ≡ Some h → (s : Records) (g : Flat) → r.directory.drawn < image → IsUntouched s g image
 is_drawn pending r f stands image h is s g above = absurd (none-some h (sym (stands.fresh image above).header ∙ is))
+
+-- the parent of each view is there
+pub parents_there : (pending : List Pending) (r : Records) (f : Flat) (image : ℕ) (h : HeaderView) → StandsFor pending r f → r.headers image ≡ Some h
+    → EachView h (λ v shape. HasParent (snapshots_of f) (links_of f image) shape.parent)
+parents_there pending r f image h stands is = (here (snapshots_of f) (links_of f image) (r.headers image) (object_at r image) (image_at f image) h is (stands.images image)).stands.parents
 
 -- ---- records with another header, or another object
 

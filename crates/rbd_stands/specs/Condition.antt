@@ -6,6 +6,8 @@ use Rattle.rbd_kinds.specs.declared.header.SnapContext.{SnapContext}
 use Rattle.rbd_kinds.specs.declared.header.SnapView.{SnapView}
 use Rattle.rbd_kinds.specs.declared.layout.Extent.{Extent}
 use Rattle.rbd_kinds.specs.declared.layout.Part.{Part}
+use Rattle.rbd_kinds.specs.declared.header.Role.TheVariants.{Plain}
+use Rattle.rbd_kinds.specs.Form.{IsNewHeader}
 use Rattle.rbd_kinds.specs.Striping.{byte_at, object_of, offset_of}
 use Rattle.rbd_layout.specs.Pieces.{IsPart, IsPartsOf}
 use Rattle.rbd_header.specs.Header.{snap_in, cut}
@@ -15,7 +17,7 @@ use Rattle.rbd_site.specs.Records.{Records}
 use Rattle.rbd_stands.specs.Image.{IsInside}
 use Rattle.rbd_stands.specs.Site.{Pending}
 use Rattle.rbd_stands.specs.View.{EachView}
-use Rattle.rbd_stands.specs.Shown.{Snapshots, IsInOverlap, shown}
+use Rattle.rbd_stands.specs.Shown.{Snapshots, IsInOverlap, inherited, shown}
 
 -- the directory has drawn the id
 abbrev pub IsDrawn : Records → (image : ℕ) → Type 0
@@ -78,3 +80,25 @@ pub record IsChanged (below : Snapshots) (h : HeaderView) (n : ℕ) (new : Optio
   pub elsewhere : (x : ℕ) → x < h.size → object_of h.layout x ≢ n → slice_index bytes x ≡ slice_index old x
   pub clear : (x : ℕ) → h.size ≤ x → object_of h.layout x ≡ n → slice_index (unwrap_or new []) (offset_of h.layout x) ≡ 0
   pub there : IsInside h n → IsSome new
+
+-- the bytes are those that the head inherits at an object's places
+abbrev pub IsGathered : Snapshots → HeaderView → (number : ℕ) → (bytes : List ℕ) → Type 0
+IsGathered below h number bytes = (x : ℕ) → object_of h.layout x ≡ number → slice_index bytes (offset_of h.layout x) ≡ inherited below h.parent x
+
+-- What a copy-up has to meet, if the head is still absent: the object is inside the overlap, and the bytes are those that it
+-- inherits. If the head is there, nothing is done.
+pub record MayCopyUp (below : Snapshots) (h : HeaderView) (number : ℕ) (o : Mapped) (bytes : List ℕ) : Type 0 where
+  pub inside : o.head ≡ None → IsInside h number
+  pub gathered : o.head ≡ None → IsGathered below h number bytes
+
+-- A clone's header as it is made: its parent is the link, with the whole snapshot as overlap, and it isn't mirrored.
+pub record IsCloneHeader (view : HeaderView) (link : ParentLink) : Type 0 where
+  pub new : IsNewHeader view
+  pub parent : view.parent ≡ Some link
+  pub whole : view.size ≡ link.overlap
+  pub role : view.role ≡ Plain
+
+-- No view of the child has this snapshot as its parent, and no clone of its id that is being made awaits it.
+pub record IsFree (pending : List Pending) (r : Records) (parent snap child : ℕ) : Type 0 where
+  pub views : (h : HeaderView) → r.headers child ≡ Some h → EachView h (λ v shape. NamesOther parent snap shape.parent)
+  pub awaited : (k : ℕ) (p : Pending) → slice_get pending k ≡ Some p → p.child ≡ child → NamesOther parent snap (Some p.link)

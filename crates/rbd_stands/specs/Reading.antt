@@ -1,5 +1,7 @@
 -- What operations that read tell of the flat site.
-use Rattle.std.specs.Prelude.{◌≡◌, ℕ, ◌+◌, ◌<◌, ◌≤◌, nat_eq, if◌then◌else◌, List, [], ◌∷◌, ◌++◌, length, map, slice_index, Any, Option, Some, None, option_map}
+use Rattle.std.specs.Prelude.{◌≡◌, ℕ, ◌+◌, ◌<◌, ◌≤◌, ◌==◌, nat_eq, if◌then◌else◌, List, [], ◌∷◌, ◌++◌, length, map, slice_index, Any, Option, Some, None, option_map}
+use Rattle.std.specs.List.{list_any}
+use Rattle.std.specs.List.Sorted.{IsStrictlyIncreasing}
 use Rattle.std.specs.Cmp.Lexicographic.{pointwise}
 use Rattle.rbd_kinds.specs.declared.header.HeaderView.{HeaderView}
 use Rattle.rbd_kinds.specs.declared.header.ParentLink.{ParentLink}
@@ -9,7 +11,7 @@ use Rattle.rbd_header.specs.Header.{snap_in}
 use Rattle.rbd_object.specs.Contents.{window}
 use Rattle.rbd_flat.specs.Flat.{Flat, FlatImage, FlatSnap, image_at, snap_in as flat_snap_in}
 use Rattle.rbd_flat.specs.Read.{view_at}
-use Rattle.rbd_stands.specs.Shown.{IsInOverlap, inherited, snapshots_of}
+use Rattle.rbd_stands.specs.Shown.{IsInOverlap, inherited, links_of, snapshots_of}
 use Rattle.rbd_stands.specs.Image.{line_of_snap, line_of_flat}
 
 -- the first flat snapshot with a name
@@ -51,3 +53,8 @@ pub record AreInherited (f : Flat) (image : ℕ) (v : Option ℕ) (parent : Opti
   pub is : view_at (image_at f image) v ≡ Some flat
   pub covered : (x : ℕ) → IsAt parts x → IsInOverlap parent x → slice_index flat x ≡ inherited (snapshots_of f) parent x
   pub zeros : (x : ℕ) → IsAt parts x → (IsInOverlap parent x → ⊥) → slice_index flat x ≡ 0
+
+-- the ids are those of the children that the flat site links to a snapshot, each once, ascending
+pub record AreLinkedTo (f : Flat) (parent snap : ℕ) (ids : List ℕ) : Type 0 where
+  pub each : (child : ℕ) → list_any (λ id. id == child) ids ≡ links_of f child parent snap
+  pub ascending : IsStrictlyIncreasing ids

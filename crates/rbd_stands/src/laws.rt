@@ -1,12 +1,14 @@
 //! What each operation does to the relation `StandsFor`: laws, each the contract of a function that does
 //! nothing. A law speaks of any records, and of any flat site that they stand for.
-ghost use Rattle.std.specs.Prelude.{◌≡◌, ℕ, ◌≤◌, ◌↔◌, List, [], All, Option, Some, None, Bool, true, false, IsTrue, ◌∷◌};
+ghost use Rattle.std.specs.Prelude.{◌≡◌, ℕ, ◌≤◌, ◌↔◌, List, [], All, Option, Some, None, Bool, true, false, IsTrue, IsSome, ◌∷◌, slice_get};
 ghost use Rattle.std.specs.FinMap as finmap;
 ghost use Rattle.rbd_kinds.specs.declared.answer.Answer.TheVariants as answer;
+ghost use Rattle.rbd_kinds.specs.declared.children_op.ChildrenOp.TheVariants as children_op;
 ghost use Rattle.rbd_kinds.specs.declared.data_op.DataOp.{DataOp};
 ghost use Rattle.rbd_kinds.specs.declared.data_op.DataOp.TheVariants as data_op;
 ghost use Rattle.rbd_kinds.specs.declared.directory_op.DirectoryOp.TheVariants as directory_op;
 ghost use Rattle.rbd_kinds.specs.declared.header.HeaderView.{HeaderView};
+ghost use Rattle.rbd_kinds.specs.declared.header.ParentLink.{ParentLink};
 ghost use Rattle.rbd_kinds.specs.declared.header.Role.{Role};
 ghost use Rattle.rbd_kinds.specs.declared.header.SnapContext.{SnapContext};
 ghost use Rattle.rbd_kinds.specs.declared.header.SnapStatus.{SnapStatus};
@@ -25,8 +27,10 @@ ghost use Rattle.rbd_layout.specs.Pieces.{IsPart};
 ghost use Rattle.rbd_header.specs.Header.{context_of, snap_in};
 ghost use Rattle.rbd_object.specs.Kept.{is_listed};
 ghost use Rattle.rbd_object.specs.Mapped.{mapped_change};
+ghost use Rattle.rbd_flat.specs.declared.effect.Effect.{Effect};
 ghost use Rattle.rbd_flat.specs.declared.effect.Effect.TheVariants as effect;
-ghost use Rattle.rbd_flat.specs.Flat.{Flat, FlatImage, no_images, image_at, id_of, with_image};
+ghost use Rattle.rbd_flat.specs.Laws.{snap_at};
+ghost use Rattle.rbd_flat.specs.Flat.{Flat, FlatImage, FlatSnap, no_images, image_at, id_of, with_image};
 ghost use Rattle.rbd_flat.specs.Flat as flat;
 ghost use Rattle.rbd_layout.specs.Pieces.{IsPieces};
 ghost use Rattle.rbd_layout.specs.declared.types.Piece.{Piece};
@@ -35,14 +39,14 @@ ghost use Rattle.rbd_site.specs.DirectoryStep.{image_found};
 ghost use Rattle.rbd_site.specs.Log.{live_in, trimmed};
 ghost use Rattle.rbd_site.specs.Records.{Records, no_records, object_at, with_object};
 ghost use Rattle.rbd_site.specs.Step.{answer_to, after};
-ghost use Rattle.rbd_stands.specs.Condition.{IsContextOf, ArePartsBelow, AreWhole, IsCopiedUp, IsChanged, IsZeroPast, IsZeroedFrom, IsUnnamed, IsDrawn, extents_of};
+ghost use Rattle.rbd_stands.specs.Condition.{IsContextOf, ArePartsBelow, AreWhole, IsCopiedUp, IsChanged, IsZeroPast, IsZeroedFrom, IsUnnamed, IsDrawn, IsFree, IsCloneHeader, MayCopyUp, extents_of};
 ghost use Rattle.rbd_stands.specs.Image.{IsInside};
-ghost use Rattle.rbd_stands.specs.Reading.{Tells, AreFlatBytes, AreInherited};
+ghost use Rattle.rbd_stands.specs.Reading.{Tells, AreFlatBytes, AreInherited, AreLinkedTo};
 ghost use Rattle.rbd_stands.specs.Unseen.{is_about, is_unseen};
-ghost use Rattle.rbd_stands.specs.Shown.{snapshots_of};
+ghost use Rattle.rbd_stands.specs.Shown.{HasParent, links_of, snapshots_of};
 ghost use Rattle.rbd_stands.specs.Site.{StandsFor, IsUntouched, IsAwaited, Pending};
 ghost use Rattle.rbd_stands.specs.Writing.{piece_effects};
-ghost use Rattle.rbd_stands.specs.View.{Shape, shape_of};
+ghost use Rattle.rbd_stands.specs.View.{EachView, Shape, shape_of};
 
 /// At the start there is nothing.
 pub fn no_records_stand()
@@ -70,12 +74,24 @@ pub fn trimming_an_object()
 
 // ---- what is told
 
-/// The directory tells the flat site's names.
+/// The directory tells the flat site's names: where one leads, all of them, and when a name is held or missing.
 pub fn telling_names()
     ensures find { (pending : List Pending) (r : Records) (f : Flat) (me : Instance) (name : List ℕ) → StandsFor pending r f
         → answer_to r me (op.Directory (directory_op.Find name)) ≡ image_found (id_of f name) }
     ensures list { (pending : List Pending) (r : Records) (f : Flat) (me : Instance) → StandsFor pending r f
         → answer_to r me (op.Directory directory_op.List) ≡ answer.Names (finmap.keys f.names) }
+    ensures held { (pending : List Pending) (r : Records) (f : Flat) (me : Instance) (name : List ℕ) → StandsFor pending r f
+        → (answer_to r me (op.Directory (directory_op.Add name)) ≡ answer.Exists) ↔ IsSome (id_of f name) }
+    ensures missing { (pending : List Pending) (r : Records) (f : Flat) (me : Instance) (from to : List ℕ) → StandsFor pending r f
+        → (answer_to r me (op.Directory (directory_op.Rename from to)) ≡ answer.Absent) ↔ (id_of f from ≡ None) }
+    ensures taken { (pending : List Pending) (r : Records) (f : Flat) (me : Instance) (from to : List ℕ) → StandsFor pending r f
+        → (answer_to r me (op.Directory (directory_op.Rename from to)) ≡ answer.Exists) ↔ (IsSome (id_of f from) × IsSome (id_of f to)) }
+{}
+
+/// `child-list` tells the children that the flat site links to a snapshot.
+pub fn telling_children()
+    ensures { (pending : List Pending) (r : Records) (f : Flat) (me : Instance) (parent snap : ℕ) (ids : List ℕ) → StandsFor pending r f
+        → answer_to r me (op.Children (children_op.List parent snap)) ≡ answer.Ids ids → AreLinkedTo f parent snap ids }
 {}
 
 /// `header-get` tells the flat image, and that there is none exactly where there is none.
@@ -128,13 +144,71 @@ pub fn renaming()
         → StandsFor pending (after r me (op.Directory (directory_op.Rename from to))) (flat.after f (effect.Rename from to)) }
 {}
 
+/// `dir-remove` that was done: no name leads to the image any more.
+pub fn freeing_a_name()
+    ensures { (pending : List Pending) (r : Records) (f : Flat) (me : Instance) (image : ℕ) → StandsFor pending r f
+        → answer_to r me (op.Directory (directory_op.Remove image)) ≡ answer.Done
+        → StandsFor pending (after r me (op.Directory (directory_op.Remove image))) (flat.after f (effect.NameFree image)) }
+{}
+
+// ---- changes of the list of children, and clones that are being made
+
+/// `child-add`: the child is linked to the snapshot.
+pub fn linking_a_child()
+    ensures { (pending : List Pending) (r : Records) (f : Flat) (me : Instance) (parent snap child : ℕ) → StandsFor pending r f
+        → answer_to r me (op.Children (children_op.Add parent snap child)) ≡ answer.Done
+        → StandsFor pending (after r me (op.Children (children_op.Add parent snap child))) (flat.after f (effect.Link parent snap child)) }
+{}
+
+/// `child-remove` that was done, where neither a view of the child nor its making relies on the snapshot: the link goes.
+pub fn unlinking_a_child()
+    ensures { (pending : List Pending) (r : Records) (f : Flat) (me : Instance) (parent snap child : ℕ) → StandsFor pending r f
+        → IsFree pending r parent snap child
+        → answer_to r me (op.Children (children_op.Remove parent snap child)) ≡ answer.Done
+        → StandsFor pending (after r me (op.Children (children_op.Remove parent snap child))) (flat.after f (effect.Unlink parent snap child)) }
+{}
+
+/// A clone counts as being made from the moment on at which its link is there and the snapshot not unprotected. So the
+/// snapshot stays, with its bytes, until the clone's header names it.
+pub fn beginning_a_clone()
+    ensures { (pending : List Pending) (r : Records) (f : Flat) (p : Pending) → StandsFor pending r f
+        → IsAwaited (snapshots_of f) (links_of f p.child) p.link → StandsFor (p ∷ pending) r f }
+{}
+
+/// Clones may end to count at any moment.
+pub fn ending_clones()
+    ensures { (pending fewer : List Pending) (r : Records) (f : Flat) → StandsFor pending r f
+        → ((k : ℕ) (p : Pending) → slice_get fewer k ≡ Some p → (j : ℕ) × (slice_get pending j ≡ Some p)) → StandsFor fewer r f }
+{}
+
+/// What a view of a header has as its parent is there: the snapshot, as long as the overlap at least, not unprotected, and
+/// linked to the child. So whoever reads behind a header that stays the same finds the snapshot at each moment; and no step
+/// changes the bytes of a flat snapshot that is there before and after it.
+pub fn relying_on_a_snapshot()
+    ensures there { (pending : List Pending) (r : Records) (f : Flat) (image : ℕ) (h : HeaderView) → StandsFor pending r f
+        → r.headers image ≡ Some h → EachView h (λ v shape. HasParent (snapshots_of f) (links_of f image) shape.parent) }
+    ensures same { (f : Flat) (e : Effect) (image snap : ℕ) (old new : FlatSnap) → snap_at f image snap ≡ Some old
+        → snap_at (flat.after f e) image snap ≡ Some new → new.bytes ≡ old.bytes }
+{}
+
 // ---- changes of a header
 
-/// `header-create` at a drawn id that is untouched: an image of zeros.
+/// `header-create` that was done at a drawn id that is untouched: an image of zeros.
 pub fn making_a_header()
     ensures { (pending : List Pending) (r : Records) (f : Flat) (me : Instance) (image : ℕ) (view : HeaderView) → StandsFor pending r f
         → IsDrawn r image → IsUntouched r f image → IsNewHeader view → view.parent ≡ None
+        → answer_to r me (op.Header image (header_op.Create view)) ≡ answer.Done
         → StandsFor pending (after r me (op.Header image (header_op.Create view))) (flat.after f (effect.Create image view.size view.role)) }
+{}
+
+/// `header-create` that was done at a drawn id that is untouched, with the parent that the clone awaits: an image with a copy
+/// of the snapshot's bytes.
+pub fn making_a_clone()
+    ensures { (pending : List Pending) (r : Records) (f : Flat) (me : Instance) (image k : ℕ) (view : HeaderView) (link : ParentLink) → StandsFor pending r f
+        → slice_get pending k ≡ Some (record { child = image; link = link })
+        → IsDrawn r image → IsUntouched r f image → IsCloneHeader view link
+        → answer_to r me (op.Header image (header_op.Create view)) ≡ answer.Done
+        → StandsFor pending (after r me (op.Header image (header_op.Create view))) (flat.after f (effect.Clone image link.image link.snap)) }
 {}
 
 /// `header-snap-add` that was answered with a snapshot: a copy of the bytes.
@@ -163,10 +237,11 @@ pub fn marking_a_snapshot()
         → StandsFor pending (after r me (op.Header image (header_op.SnapStatus snap status))) (flat.after f (effect.Status image snap status)) }
 {}
 
-/// `header-set-size`, to a greater size or a smaller one: the image is lengthened by zeros, or cut.
+/// `header-set-size` that was done, to a greater size or a smaller one: the image is lengthened by zeros, or cut.
 pub fn setting_the_size()
     ensures { (pending : List Pending) (r : Records) (f : Flat) (me : Instance) (image size : ℕ) (h : HeaderView) → StandsFor pending r f
         → r.headers image ≡ Some h → IsZeroedFrom h size (object_at r image)
+        → answer_to r me (op.Header image (header_op.SetSize size)) ≡ answer.Done
         → StandsFor pending (after r me (op.Header image (header_op.SetSize size))) (flat.after f (effect.Size image size)) }
 {}
 
@@ -177,17 +252,18 @@ pub fn setting_the_role()
         → StandsFor pending (after r me (op.Header image (header_op.Role role))) (flat.after f (effect.Role image role)) }
 {}
 
-/// `header-detach`, once each object inside the overlap was copied up, has no effect.
+/// `header-detach` that was done, once each object inside the overlap was copied up, has no effect.
 pub fn detaching()
     ensures { (pending : List Pending) (r : Records) (f : Flat) (me : Instance) (image : ℕ) (h : HeaderView) → StandsFor pending r f
         → r.headers image ≡ Some h → ((number : ℕ) → IsCopiedUp h number (object_at r image number))
+        → answer_to r me (op.Header image header_op.Detach) ≡ answer.Done
         → StandsFor pending (after r me (op.Header image header_op.Detach)) f }
 {}
 
-/// `header-remove` of an image without snapshots: the image goes.
+/// `header-remove` that was done of an image without snapshots: the image goes.
 pub fn removing_a_header()
     ensures { (pending : List Pending) (r : Records) (f : Flat) (me : Instance) (image : ℕ) (h : HeaderView) → StandsFor pending r f
-        → r.headers image ≡ Some h → h.snaps ≡ []
+        → r.headers image ≡ Some h → h.snaps ≡ [] → answer_to r me (op.Header image header_op.Remove) ≡ answer.Done
         → StandsFor pending (after r me (op.Header image header_op.Remove)) (flat.after f (effect.Gone image)) }
 {}
 
@@ -228,25 +304,36 @@ pub fn zeroing_an_object()
         → StandsFor pending (after r me (op.Data image number (data_op.Zero context must parts))) (flat.after f (effect.Zero image (extents_of parts))) }
 {}
 
-/// `data-empty`: all places of the object become zeros.
+/// `data-empty` that was done: all places of the object become zeros.
 pub fn emptying_an_object()
     ensures { (pending : List Pending) (r : Records) (f : Flat) (me : Instance) (image number : ℕ) (h : HeaderView) (context : SnapContext) (parts : List Part)
         → StandsFor pending r f → r.headers image ≡ Some h → IsContextOf h context → AreWhole h number parts
+        → answer_to r me (op.Data image number (data_op.Empty context)) ≡ answer.Done
         → StandsFor pending (after r me (op.Data image number (data_op.Empty context))) (flat.after f (effect.Zero image (extents_of parts))) }
 {}
 
-/// `data-remove` of an object outside the overlap: all its places become zeros.
+/// `data-remove` that was done of an object outside the overlap: all its places become zeros.
 pub fn removing_an_object()
     ensures { (pending : List Pending) (r : Records) (f : Flat) (me : Instance) (image number : ℕ) (h : HeaderView) (context : SnapContext) (parts : List Part)
         → StandsFor pending r f → r.headers image ≡ Some h → IsContextOf h context → AreWhole h number parts → (IsInside h number → ⊥)
+        → answer_to r me (op.Data image number (data_op.Remove context)) ≡ answer.Done
         → StandsFor pending (after r me (op.Data image number (data_op.Remove context))) (flat.after f (effect.Zero image (extents_of parts))) }
 {}
 
-/// `data-write-full`: the bytes go to the object's places in order, and places past them become zeros.
+/// `data-write-full` that was done: the bytes go to the object's places in order, and places past them become zeros.
 pub fn replacing_an_object()
     ensures { (pending : List Pending) (r : Records) (f : Flat) (me : Instance) (image number : ℕ) (h : HeaderView) (context : SnapContext) (bytes : List ℕ) (parts : List Part)
         → StandsFor pending r f → r.headers image ≡ Some h → IsContextOf h context → AreWhole h number parts → IsZeroPast h number bytes
+        → answer_to r me (op.Data image number (data_op.WriteFull context bytes)) ≡ answer.Done
         → StandsFor pending (after r me (op.Data image number (data_op.WriteFull context bytes))) (flat.after f (effect.Piece image (extents_of parts) bytes)) }
+{}
+
+/// `data-copy-up` of the bytes that the image inherits has no effect.
+pub fn copying_up_an_object()
+    ensures { (pending : List Pending) (r : Records) (f : Flat) (me : Instance) (image number : ℕ) (h : HeaderView) (bytes : List ℕ)
+        → StandsFor pending r f → r.headers image ≡ Some h → MayCopyUp (snapshots_of f) h number (object_at r image number) bytes
+        → answer_to r me (op.Data image number (data_op.CopyUp bytes)) ≡ answer.Done
+        → StandsFor pending (after r me (op.Data image number (data_op.CopyUp bytes))) f }
 {}
 
 /// A write of bytes to an extent is its pieces, one after another: each has the bytes of its parts.

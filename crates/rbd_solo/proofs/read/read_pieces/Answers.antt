@@ -2,7 +2,7 @@ use Rattle.std.proofs.Common.{◌≡◌, ◌+◌, ◌≤◌, length, sym, ◌∙
 use Rattle.std.proofs.lemmas.List.{take_all}
 use Rattle.rbd_layout.specs.Pieces.{IsPieces}
 use Rattle.rbd_site.specs.Log.{records_of}
-use Rattle.rbd_stands.proofs.Refusals.{stands_same}
+use Rattle.rbd_stands.specs.Site.{StandsFor}
 use Rattle.rbd_solo.specs.Steps.{IsRead}
 use Rattle.rbd_solo.proofs.Growing.{looks_on}
 use Rattle.rbd_solo.proofs.Readings.{AreRead, read_more, read_all, flat_long, view_few}
@@ -22,7 +22,7 @@ loop-piece-preserved c = record {
       read_more bytes c.args.extent.now c.as_slice-piece-items.result.now c.loop-piece.piece-index c.piece-item.result c.loop-piece.into c.read_piece.new.into c.loop-piece.invariant.long c.loop-piece-test.true
       (c.loop-piece.invariant.read f bytes stands alone is)
       (subst (λ p. IsRead bytes c.args.extent.now.at p.parts c.loop-piece.into c.read_piece.new.into) c.piece-item.is
-      (c.in_ok-read_piece.ensures.bytes f bytes (stands_same (records_of c.args.site.now) (records_of c.loop-piece.site) f c.loop-piece.invariant.looks.same stands) alone is));
+      (c.in_ok-read_piece.ensures.bytes f bytes (subst (λ x. StandsFor [] x f) c.loop-piece.invariant.looks.same stands) alone is));
 }
 
 pub returns-clause-bytes : goal.returns-clause-bytes
