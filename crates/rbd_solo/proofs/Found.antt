@@ -15,7 +15,7 @@ use Rattle.rbd_site.specs.declared.done.Done.{Done}
 use Rattle.rbd_site.specs.Log.{SiteLog, records_of}
 use Rattle.rbd_site.specs.Records.{Records, object_at}
 use Rattle.rbd_stands.specs.Reading.{IsToldBy}
-use Rattle.rbd_stands.specs.Shown.{snapshots_of}
+use Rattle.rbd_stands.specs.Shown.{snapshots_of, links_of}
 use Rattle.rbd_stands.specs.Site.{StandsFor}
 use Rattle.rbd_stands.proofs.SiteSteps.{here}
 use Rattle.rbd_stands.proofs.Telling.{told}
@@ -62,14 +62,14 @@ found_some r s name o holds is = go (id_of r.directory name) refl
   where
     with_header : (image : ℕ) (h : HeaderView) → flat.id_of s.site name ≡ Some image → r.headers image ≡ Some h → IsFound r s name (record { image = image; header = h })
     with_header image h e there =
-        let was = here (snapshots_of s.site) (r.headers image) (object_at r image) (image_at s.site image) h there (holds.stands.images image) in
+        let was = here (snapshots_of s.site) (links_of s.site image) (r.headers image) (object_at r image) (image_at s.site image) h there (holds.stands.images image) in
         record {
           image = was.image;
           id = e;
           is = ap (found_by s.site) e ∙ ap (found_at image) was.is;
           flat = was.is;
           header = there;
-          told = told (snapshots_of s.site) h (object_at r image) was.image was.stands;
+          told = told (snapshots_of s.site) (links_of s.site image) h (object_at r image) was.image was.stands;
           own = holds.own image h there;
         }
 

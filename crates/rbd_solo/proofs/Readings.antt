@@ -42,7 +42,7 @@ use Rattle.rbd_site.specs.Step.{answer_to}
 use Rattle.rbd_stands.specs.Condition.{extent_of}
 use Rattle.rbd_stands.specs.Image.{line_of_snap, line_of_flat}
 use Rattle.rbd_stands.specs.Reading.{flat_snap_named, bytes_at_parts, IsAt, IsToldBy}
-use Rattle.rbd_stands.specs.Shown.{IsInOverlap, snapshots_of}
+use Rattle.rbd_stands.specs.Shown.{IsInOverlap, snapshots_of, links_of}
 use Rattle.rbd_stands.specs.Site.{StandsFor}
 use Rattle.rbd_stands.specs.View.{Shape, shape_of, shape_of_head, shape_of_snap}
 use Rattle.rbd_stands.proofs.Lookups.{a_value, no_value}
@@ -143,7 +143,7 @@ module _ (r : Records) (me : Instance) (o : Opened) (view : View) (e : Extent) (
         go : (b : Bool) → is_at e.at piece.parts k ≡ b → get_or into k 0 ≡ cond b (get_or bytes (e.at + k) 0) (get_or into k 0)
         go false eq = refl
         go true eq =
-            let inherited = absence_told r f me o.image piece.object o.header view.snap is_view.shape piece.parts stands there is_view.is_shape (parts_below o.header is_view.shape.size e piece.object piece.parts are below) (sym asked ∙ absent piece.parts _ a asked told) in
+            let inherited = absence_told [] r f me o.image piece.object o.header view.snap is_view.shape piece.parts stands there is_view.is_shape (parts_below o.header is_view.shape.size e piece.object piece.parts are below) (sym asked ∙ absent piece.parts _ a asked told) in
             let that : inherited.flat ≡ bytes = same_Some inherited.flat bytes (sym inherited.is ∙ is) in
             let byte : ℕ = get_or bytes (e.at + k) 0 in
             let zero : byte ≡ 0 =
@@ -257,8 +257,8 @@ pub flat_long : (r : Records) (f : Flat) (o : Opened) (view : View) (bytes : Lis
     → length bytes ≡ view.size
 flat_long r f o view bytes stands there is_view is =
     let h = o.header in
-    let was = here (snapshots_of f) (r.headers o.image) (object_at r o.image) (image_at f o.image) h there (stands.images o.image) in
-    let tells = tells_image (snapshots_of f) h (object_at r o.image) was.image was.stands in
+    let was = here (snapshots_of f) (links_of f o.image) (r.headers o.image) (object_at r o.image) (image_at f o.image) h there (stands.images o.image) in
+    let tells = tells_image (snapshots_of f) (links_of f o.image) h (object_at r o.image) was.image was.stands in
     of_view was.image h tells view.snap is_view.shape is_view.is_shape (ap (λ i. view_at i view.snap) (sym was.is) ∙ is) ∙ is_view.size
   where
     of_view : (i : FlatImage) (h : HeaderView) → IsToldBy h i → (v : Option ℕ) (shape : Shape) → shape_of h v ≡ Some shape → image_view i v ≡ Some bytes → length bytes ≡ shape.size

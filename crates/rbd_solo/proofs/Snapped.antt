@@ -21,7 +21,8 @@ use Rattle.rbd_flat.specs.declared.effect.Effect.TheVariants as effect
 use Rattle.rbd_flat.specs.Flat.{Flat, FlatImage, FlatSnap}
 use Rattle.rbd_flat.specs.Flat as flat
 use Rattle.rbd_flat.proofs.Steps.{names_stay}
-use Rattle.rbd_site.specs.HeaderStep.{header_answer, header_after, snap_added, done_where, where_made}
+use Rattle.rbd_site.specs.Found.{done_where}
+use Rattle.rbd_site.specs.HeaderStep.{header_answer, header_after, snap_added, where_made}
 use Rattle.rbd_site.specs.Log.{SiteLog, records_of, line_of}
 use Rattle.rbd_site.specs.Records.{Records, put}
 use Rattle.rbd_site.specs.Step.{answer_to, after}

@@ -3,7 +3,7 @@ ghost use Rattle.std.specs.Prelude.{◌≡◌, ◌+◌, ◌++◌, [], ◌∷◌,
 ghost use Rattle.rbd_site.specs.InForm.{AreInForm};
 ghost use Rattle.rbd_site.specs.Log.{records_of, line_of};
 ghost use Rattle.rbd_site.specs.Step.{MayDo, answer_to, after};
-ghost use Rattle.rbd_stands.specs.Same.{is_look};
+ghost use Rattle.rbd_site.specs.Laws.{is_look};
 ghost use Rattle.rbd_solo.specs.Steps.{with_lines, id_told, header_told, bytes_told, names_told, drawn_for, Looks};
 
 use rbd_kinds::{Answer, Bytes, HeaderView, ImageId, Instance, Names, NoMemory, Op, Refusal};

@@ -1,5 +1,5 @@
 //! `read`
-ghost use Rattle.std.specs.Prelude.{◌≡◌, ℕ, ◌+◌, ◌≤◌, List, length, replicate, option_copied, Some, IfOk, OnOk};
+ghost use Rattle.std.specs.Prelude.{◌≡◌, ℕ, ◌+◌, ◌≤◌, List, length, replicate, option_copied, Some, IfOk, OnOk, []};
 ghost use Rattle.rbd_kinds.specs.declared.command.Command.TheVariants.{Read};
 ghost use Rattle.rbd_kinds.specs.Form.{IsHeaderInForm};
 ghost use Rattle.rbd_layout.specs.Pieces.{IsPartsOf};

@@ -1,4 +1,4 @@
-use Rattle.std.proofs.Common.{◌≡◌, ◌+◌, ◌≤◌, length, sym, ◌∙◌, subst, arith}
+use Rattle.std.proofs.Common.{◌≡◌, ◌+◌, ◌≤◌, length, sym, ◌∙◌, subst, arith, []}
 use Rattle.std.proofs.lemmas.List.{take_all}
 use Rattle.rbd_layout.specs.Pieces.{IsPieces}
 use Rattle.rbd_site.specs.Log.{records_of}
