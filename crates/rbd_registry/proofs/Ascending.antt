@@ -97,8 +97,8 @@ same_numbers (x ∷ xs) (y ∷ ys) p q same = elim (cases_order x y) [
         ∙ ap (λ b. b || has x ys) (ne_eqb y x (λ e. omega arith)) ∙ none_above x y ys q.0 (inl less)))
     | inr more ↦ absurd (true≢false (sym (ap (λ b. b || has y ys) (itself y y refl)) ∙ sym (same y)
         ∙ ap (λ b. b || has y xs) (ne_eqb x y (λ e. omega arith)) ∙ none_above y x xs p.0 (inl more)))
-    ]
   ]
+]
   where
     rest : (c : ℕ) → x ≡ y → (b : Bool) → eqb x c ≡ b → has c xs ≡ has c ys
     rest c is true e =
@@ -142,10 +142,10 @@ has_children p s c (x ∷ xs) = go (is_child_of p s x) refl (has_children p s c 
 pub children_are : (entries : finset.FinSet entry_cmp) (p s : ℕ) (ids : List ℕ) → AreChildren entries p s ids → ids ≡ children_in entries p s
 children_are entries p s ids are =
     same_numbers ids (children_in entries p s) (ascend_sorted ids (sorted_from_strictly_increasing ids are.ascending)) (ascend (map (λ e. e.child) (filter (is_child_of p s) (finset.items entries)))) (λ c.
-        are.each c
-        ∙ finset.contains-items entries (at p s c)
-        ∙ sym (has_children p s c (finset.items entries))
-        ∙ sym (has_ascending c (map (λ e. e.child) (filter (is_child_of p s) (finset.items entries)))))
+    are.each c
+    ∙ finset.contains-items entries (at p s c)
+    ∙ sym (has_children p s c (finset.items entries))
+    ∙ sym (has_ascending c (map (λ e. e.child) (filter (is_child_of p s) (finset.items entries)))))
 
 less_cmp : (a b : ℕ) → a < b → nat_cmp a b ≡ Less
 less_cmp a b less = ap (λ t. cond t Less (cond (eqb a b) Equal Greater)) (lt-ltb a b less)

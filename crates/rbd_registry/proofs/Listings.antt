@@ -298,7 +298,7 @@ module _ (image : ℕ) where
             → ((list_any (λ e. eqb e.1 image) fs ≡ true) × (length (filter stays fs) < length fs)) ⊎ ((list_any (λ e. eqb e.1 image) fs ≡ false) × (filter stays fs ≡ fs))
             → length (filter stays fs) ≤ length fs
             → ((b || list_any (λ e. eqb e.1 image) fs ≡ true) × (length (cond (not b) (e ∷ filter stays fs) (filter stays fs)) < suc (length fs)))
-              ⊎ ((b || list_any (λ e. eqb e.1 image) fs ≡ false) × (cond (not b) (e ∷ filter stays fs) (filter stays fs) ≡ e ∷ fs))
+            ⊎ ((b || list_any (λ e. eqb e.1 image) fs ≡ false) × (cond (not b) (e ∷ filter stays fs) (filter stays fs) ≡ e ∷ fs))
         go true t rest l = inl (refl, omega arith)
         go false t (inl found) l = let fewer = found.1 in inl (found.0, omega arith)
         go false t (inr same) l = inr (same.0, ap (λ gs. e ∷ gs) same.1)
@@ -307,8 +307,8 @@ module _ (image : ℕ) where
     pub held_freed : (after before : ℕ) → after ≡ length (filter stays es) → before ≡ length es → not (eqb after before) ≡ holds image (listing_of es n)
     held_freed after before p q =
         elim (one_or_none es) [
-        | inl found ↦ let fewer = found.1 in ap not (ne_eqb after before (λ same. omega arith)) ∙ sym found.0
-        | inr same ↦ ap not (equal (p ∙ ap length same.1 ∙ sym q)) ∙ sym same.0
+          | inl found ↦ let fewer = found.1 in ap not (ne_eqb after before (λ same. omega arith)) ∙ sym found.0
+          | inr same ↦ ap not (equal (p ∙ ap length same.1 ∙ sym q)) ∙ sym same.0
         ]
         ∙ sym held_listed
       where

@@ -8,9 +8,5 @@ use rbd_kinds::Answer;
 pub fn done_where(there: bool) -> Answer
     ensures { result ≡ done_where there }
 {
-    if there {
-        Answer::Done
-    } else {
-        Answer::Absent
-    }
+    if there { Answer::Done } else { Answer::Absent }
 }

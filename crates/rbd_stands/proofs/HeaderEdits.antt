@@ -86,7 +86,7 @@ module _ (below : Snapshots) (linked : Links) (h : HeaderView) (objects : ℕ �
     | inr past ↦ elim (cases_lt x h.size) [
       | inl old ↦ absurd (true≢false (sym (zeroed.copied_up x past old inside) ∙ ap is_some absent))
       | inr new ↦ grown_inherited below h.parent h.size size x stands.within.head new ∙ sym (past_inherited below h.parent h.size x stands.within.head new)
-      ]
+    ]
   ]
 
   pub size_set : (size : ℕ) → IsZeroedFrom h size objects → ImageStands below linked (with_size size h) objects (record i { bytes = resized size i.bytes })

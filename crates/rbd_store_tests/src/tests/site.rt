@@ -6,8 +6,9 @@ ghost use Rattle.rbd_object.specs.Parts.{AreWithin};
 ghost use Rattle.rbd_site.specs.DataStep.{MayDoOnData};
 
 use rbd_kinds::{
-    Answer, Bytes, DataOp, DirectoryOp, HeaderOp, HeaderView, ImageId, Instance, Layout, Name,
-    NoMemory, Op, Part, Parts, Role, SessionNo, SiteId, SnapContext, SnapId, SnapIds, Snaps,
+    Answer, Bytes, ChildrenOp, DataOp, DirectoryOp, HeaderOp, HeaderView, ImageId, Instance,
+    Layout, Name, NoMemory, Op, Part, Parts, Role, SessionNo, SiteId, SnapContext, SnapId, SnapIds,
+    Snaps,
 };
 use rbd_site::{Done, DoneOp, Site};
 use std::alloc::Global;
@@ -110,15 +111,26 @@ fn on_object(site: &mut Site, object: u64, op: DataOp) -> Result<Answer, NoMemor
     )
 }
 
-/// Writes one byte at the front of object 0, while there are snapshots up to a number.
-fn write(site: &mut Site, alloc: Global, number: u32, byte: u8) -> Result<Answer, NoMemory> {
+/// Writes one byte at the front of an object, while there are snapshots up to a number.
+fn write_to(
+    site: &mut Site,
+    alloc: Global,
+    object: u64,
+    number: u32,
+    byte: u8,
+) -> Result<Answer, NoMemory> {
     let op = DataOp::Write {
         context: context(alloc, number)?,
         must: false,
         parts: front(alloc, 1)?,
         bytes: Bytes::from_slice(alloc, &[byte])?,
     };
-    on_object(site, 0, op)
+    on_object(site, object, op)
+}
+
+/// The same at object 0.
+fn write(site: &mut Site, alloc: Global, number: u32, byte: u8) -> Result<Answer, NoMemory> {
+    write_to(site, alloc, 0, number, byte)
 }
 
 /// Reads the first bytes of an object.
@@ -240,5 +252,104 @@ fn an_object_is_there_once_it_was_changed(rt: HostRuntime) -> Result<(), Fail> {
     let seventh = site.trim(IMAGE, 7)?;
     assert!(rt; first && !seventh);
     assert_eq!(rt; site.log().len(), 6);
+    Ok(())
+}
+
+#[test]
+fn a_write_to_object_7_is_read_there_alone(rt: HostRuntime) -> Result<(), Fail> {
+    let alloc = rt.alloc();
+    let mut site = with_image(&rt, alloc)?;
+    let written = write_to(&mut site, alloc, 7, 0, 51)?;
+    assert!(rt; is_done(&written));
+    let seventh = read(&mut site, alloc, 7, None, 2)?;
+    assert!(rt; are_bytes(&seventh, &[51, 0]));
+    let first = read(&mut site, alloc, 0, None, 2)?;
+    assert!(rt; are_bytes(&first, &[17, 0]));
+    Ok(())
+}
+
+#[test]
+fn a_listed_snapshot_reads_the_same_after_a_trim(rt: HostRuntime) -> Result<(), Fail> {
+    let alloc = rt.alloc();
+    let mut site = with_snapshot(&rt, alloc)?;
+    let found = site.trim(IMAGE, 0)?;
+    assert!(rt; found);
+    let old = read(&mut site, alloc, 0, Some(SnapId(1)), 2)?;
+    assert!(rt; are_bytes(&old, &[17, 0]));
+    Ok(())
+}
+
+#[test]
+fn a_freed_name_is_absent_and_its_id_is_not_drawn_again(rt: HostRuntime) -> Result<(), Fail> {
+    let alloc = rt.alloc();
+    let mut site = with_image(&rt, alloc)?;
+    let freed = free(&mut site)?;
+    assert!(rt; is_done(&freed));
+    let again = free(&mut site)?;
+    assert!(rt; is_absent(&again));
+    let name = name(&rt, alloc, b"d")?;
+    let added = site.apply(C1, Op::Directory(DirectoryOp::Add { name }))?;
+    assert!(rt; matches!(added, Answer::Id(ImageId(2))));
+    Ok(())
+}
+
+fn free(site: &mut Site) -> Result<Answer, NoMemory> {
+    site.apply(C1, Op::Directory(DirectoryOp::Remove { image: IMAGE }))
+}
+
+fn add_child(site: &mut Site, snap: u32, child: u32) -> Result<Answer, NoMemory> {
+    let add = ChildrenOp::Add {
+        parent: IMAGE,
+        snap: SnapId(snap),
+        child: ImageId(child),
+    };
+    site.apply(C1, Op::Children(add))
+}
+
+fn remove_child(site: &mut Site, snap: u32, child: u32) -> Result<Answer, NoMemory> {
+    let remove = ChildrenOp::Remove {
+        parent: IMAGE,
+        snap: SnapId(snap),
+        child: ImageId(child),
+    };
+    site.apply(C1, Op::Children(remove))
+}
+
+/// Whether these are the children of a snapshot.
+fn are_children(site: &mut Site, snap: u32, wanted: &[u32]) -> Result<bool, NoMemory> {
+    let list = ChildrenOp::List {
+        parent: IMAGE,
+        snap: SnapId(snap),
+    };
+    match site.apply(C1, Op::Children(list))? {
+        Answer::Ids(ids) => Ok(are_ids(ids.as_slice(), wanted)),
+        _ => Ok(false),
+    }
+}
+
+fn are_ids(ids: &[ImageId], wanted: &[u32]) -> bool {
+    if ids.len() != wanted.len() {
+        return false;
+    }
+    ids.iter()
+        .zip(wanted.iter())
+        .all(|(id, number)| id.0 == *number)
+}
+
+#[test]
+fn children_are_listed_by_snapshot(rt: HostRuntime) -> Result<(), Fail> {
+    let mut site = Site::new(rt.alloc(), SiteId::A)?;
+    let _third = add_child(&mut site, 1, 3)?;
+    let _second = add_child(&mut site, 1, 2)?;
+    let _other = add_child(&mut site, 2, 4)?;
+    let both = are_children(&mut site, 1, &[2, 3])?;
+    assert!(rt; both);
+    let removed = remove_child(&mut site, 1, 2)?;
+    assert!(rt; is_done(&removed));
+    let again = remove_child(&mut site, 1, 2)?;
+    assert!(rt; is_absent(&again));
+    let one = are_children(&mut site, 1, &[3])?;
+    let other = are_children(&mut site, 2, &[4])?;
+    assert!(rt; one && other);
     Ok(())
 }
