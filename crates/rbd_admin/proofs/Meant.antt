@@ -22,15 +22,18 @@ use Rattle.rbd_layout.specs.Asked.{layout_of, KeepsLimits}
 use Rattle.rbd_machine.specs.Answers.{CanGive}
 use Rattle.rbd_machine.specs.Path.{Answered, IsWalk}
 use Rattle.rbd_machine.specs.Plan.{Plan, Return, Goto}
-use Rattle.rbd_machine.specs.Refused.{AreGiven, IsRefusedBy}
+use Rattle.rbd_machine.specs.Refused.{refuses_none, AreGiven, IsRefusedBy}
 use Rattle.rbd_machine.specs.Steps.{on_done, applied, non_primary}
 use Rattle.rbd_machine.proofs.Lawful.{or_else_none}
-use Rattle.rbd_machine.proofs.Refused.{EndsRefused, IsRefusing, EndsBy, ends_by, refusing_find, refusing_look, refusing_change}
+use Rattle.rbd_machine.proofs.Refused.{IsRefusing, Answers, EndsBy, ends_by, refusing_find, refusing_look, refusing_change}
 use Rattle.rbd_machine.proofs.Walked.{ended}
+use Rattle.rbd_meaning.specs.Creates.{CreateMeans}
+use Rattle.rbd_meaning.specs.Listings.{shown_snaps, InfoMeans, SnapListMeans, ListMeans}
+use Rattle.rbd_meaning.specs.Meant.{IsMeantBy}
+use Rattle.rbd_meaning.specs.Snaps.{SnapCreateMeans, SnapRemoveMeans, removal_refusal, create_refuses, remove_refuses}
 use Rattle.rbd_admin.specs.Create.{IsCreate, IsCreatePlan, on_drawn, making, drawing}
-use Rattle.rbd_admin.specs.Listing.{is_listing, on_names, list_names, showing, show_header, shown_snaps, listing_plan}
-use Rattle.rbd_admin.specs.Meant.{refuses_none, CreateMeans, InfoMeans, SnapListMeans, ListMeans, SnapCreateMeans, SnapRemoveMeans, IsMeantBy}
-use Rattle.rbd_admin.specs.Snap.{is_snap, on_snap, take, remove_listed, remove, removal_refusal, create_refuses, remove_refuses, snap_plan}
+use Rattle.rbd_admin.specs.Listing.{is_listing, on_names, list_names, showing, show_header, listing_plan}
+use Rattle.rbd_admin.specs.Snap.{is_snap, on_snap, take, remove_listed, remove, snap_plan}
 use Rattle.rbd_admin.proofs.Decided.{limits_or_not}
 use Rattle.rbd_admin.proofs.Changes.{takes_one, removes_one}
 use Rattle.rbd_admin.proofs.Shown.{create_makes_one, names_are_listed, header_is_shown}
@@ -60,14 +63,14 @@ same_refusal x y is = cc
 
 module _ (h : HeaderView) where
   refusing_made : (image : ℕ) (a : Answer) → CanGive (op.Header image (header.Create h)) a
-      → EndsRefused refuses_none true (op.Header image (header.Create h)) a (on_done (Return reply.Done) a) ⊎ IsRefusing refuses_none IsDone true (on_done (Return reply.Done) a)
-  refusing_made image answer.Done can = inr tt
+      → Answers refuses_none IsDone true (op.Header image (header.Create h)) a (on_done (Return reply.Done) a)
+  refusing_made image answer.Done can = inr (λ live. refl, tt)
   refusing_made image answer.Fenced can = inl (record { why = refusal.Fenced; is = refl; ends = refl; fenced = λ was. refl })
   refusing_made image _ can = let no = can.word in cc
 
   refusing_drawn : (site : SiteId) (name : List ℕ) (a : Answer) → CanGive (op.Directory (directory.Add name)) a
-      → EndsRefused refuses_none false (op.Directory (directory.Add name)) a (on_drawn (making site h) a) ⊎ IsRefusing refuses_none IsDone true (on_drawn (making site h) a)
-  refusing_drawn site name (answer.Id image) can = inr (refusing_made image)
+      → Answers refuses_none IsDone false (op.Directory (directory.Add name)) a (on_drawn (making site h) a)
+  refusing_drawn site name (answer.Id image) can = inr (λ live. refl, refusing_made image)
   refusing_drawn site name answer.Exists can = inl (record { why = refusal.ImageExists; is = refl; ends = refl; fenced = λ was. cc })
   refusing_drawn site name answer.Full can = inl (record { why = refusal.BadShape; is = refl; ends = refl; fenced = λ was. cc })
   refusing_drawn site name answer.Fenced can = inl (record { why = refusal.Fenced; is = refl; ends = refl; fenced = λ was. refl })
@@ -94,7 +97,7 @@ module _ (site : SiteId) (name : List ℕ) (size : ℕ) (shape : Shape) (plan : 
 
 pub create_means : (site : SiteId) (c : Command) (plan : Plan) (feds : List Fed) (steps : List Answered) (r : Reply) → IsCreatePlan site c plan → AreGiven steps
     → IsWalk Goto plan feds steps (Return r) → IsMeantBy site c steps r
-create_means site (command.Create name size shape) plan feds steps r is given walk = go (limits_or_not (layout_of shape) size)
+create_means site (command.Create name size shape) plan feds steps r is given walk = (is.plain, go (limits_or_not (layout_of shape) size))
   where
     go : KeepsLimits (layout_of shape) size ⊎ (KeepsLimits (layout_of shape) size → ⊥) → CreateMeans site name size shape steps r
     go (inl keeps) = create_within site name size shape plan is feds steps r given keeps walk
@@ -104,14 +107,14 @@ create_means site _ plan feds steps r is given walk = absurd is
 -- ---- ls, info, snap ls
 
 refusing_names : (site : SiteId) (a : Answer) → CanGive (op.Directory directory.List) a
-    → EndsRefused refuses_none false (op.Directory directory.List) a (on_names (λ names. Return (reply.Names names)) a) ⊎ IsRefusing refuses_none TellsNames false (on_names (λ names. Return (reply.Names names)) a)
-refusing_names site (answer.Names names) can = inr tt
+    → Answers refuses_none TellsNames false (op.Directory directory.List) a (on_names (λ names. Return (reply.Names names)) a)
+refusing_names site (answer.Names names) can = inr (λ live. refl, tt)
 refusing_names site answer.Fenced can = inl (record { why = refusal.Fenced; is = refl; ends = refl; fenced = λ was. refl })
 refusing_names site _ can = let no = can.word in cc
 
 refusing_shown : (grants : Reply → Type 0) (site : SiteId) (name : List ℕ) (shown : HeaderView → Reply) → ((h : HeaderView) → grants (shown h)) → IsRefusing refuses_none grants false (show_header site name shown)
 refusing_shown grants site name shown granted =
-    refusing_find refuses_none grants name (showing site shown) (λ image. refusing_look refuses_none grants image (λ h. Return (shown h)) (λ h. inr (granted h)))
+    refusing_find refuses_none grants name (showing site shown) (λ image. refusing_look refuses_none grants image (λ h. Return (shown h)) (λ h. inr (λ live. refl, granted h)))
 
 list_means : (site : SiteId) (feds : List Fed) (steps : List Answered) (r : Reply) → EndsBy refuses_none TellsNames false steps r → IsWalk Goto (list_names site) feds steps (Return r) → ListMeans site steps r
 list_means site feds steps (reply.Names names) ends walk = names_are_listed site names feds steps walk
@@ -120,23 +123,17 @@ list_means site feds steps (reply.Refused x) (inr (y, same, from)) walk = subst 
 list_means site feds steps _ (inl granted) walk = absurd granted
 list_means site feds steps _ (inr (y, same, from)) walk = cc
 
-info_isnt_refused : (h : HeaderView) (x : Refusal) → reply.Info h ≡ reply.Refused x → ⊥
-info_isnt_refused h x same = cc
-
 info_means : (site : SiteId) (image : List ℕ) (feds : List Fed) (steps : List Answered) (r : Reply) → EndsBy refuses_none TellsInfo false steps r
     → IsWalk Goto (show_header site image reply.Info) feds steps (Return r) → InfoMeans site image steps r
-info_means site image feds steps (reply.Info h) ends walk = header_is_shown site image reply.Info (reply.Info h) feds steps (info_isnt_refused h) walk
+info_means site image feds steps (reply.Info h) ends walk = header_is_shown site image reply.Info (reply.Info h) feds steps tt walk
 info_means site image feds steps (reply.Refused x) (inl granted) walk = absurd granted
 info_means site image feds steps (reply.Refused x) (inr (y, same, from)) walk = subst (IsRefusedBy refuses_none steps) (same_refusal x y same) from.by
 info_means site image feds steps _ (inl granted) walk = absurd granted
 info_means site image feds steps _ (inr (y, same, from)) walk = cc
 
-snaps_arent_refused : (snaps : List SnapView) (x : Refusal) → reply.Snaps snaps ≡ reply.Refused x → ⊥
-snaps_arent_refused snaps x same = cc
-
 snap_list_means : (site : SiteId) (image : List ℕ) (feds : List Fed) (steps : List Answered) (r : Reply) → EndsBy refuses_none TellsSnaps false steps r
     → IsWalk Goto (show_header site image shown_snaps) feds steps (Return r) → SnapListMeans site image steps r
-snap_list_means site image feds steps (reply.Snaps snaps) ends walk = header_is_shown site image shown_snaps (reply.Snaps snaps) feds steps (snaps_arent_refused snaps) walk
+snap_list_means site image feds steps (reply.Snaps snaps) ends walk = header_is_shown site image shown_snaps (reply.Snaps snaps) feds steps tt walk
 snap_list_means site image feds steps (reply.Refused x) (inl granted) walk = absurd granted
 snap_list_means site image feds steps (reply.Refused x) (inr (y, same, from)) walk = subst (IsRefusedBy refuses_none steps) (same_refusal x y same) from.by
 snap_list_means site image feds steps _ (inl granted) walk = absurd granted
@@ -155,15 +152,15 @@ listing_means site _ feds steps r is given walk = cc
 -- ---- snap create, snap rm
 
 refusing_taken : (snap : List ℕ) (site : SiteId) (image : ℕ) (a : Answer) → CanGive (op.Header image (header.SnapAdd snap)) a
-    → EndsRefused (create_refuses snap) false (op.Header image (header.SnapAdd snap)) a (on_snap (applied site image) a) ⊎ IsRefusing (create_refuses snap) IsDone true (on_snap (applied site image) a)
-refusing_taken snap site image (answer.Snap taken) can = inr tt
+    → Answers (create_refuses snap) IsDone false (op.Header image (header.SnapAdd snap)) a (on_snap (applied site image) a)
+refusing_taken snap site image (answer.Snap taken) can = inr (λ live. refl, tt)
 refusing_taken snap site image answer.Absent can = inl (record { why = refusal.NoImage; is = refl; ends = refl; fenced = λ was. cc })
 refusing_taken snap site image answer.Fenced can = inl (record { why = refusal.Fenced; is = refl; ends = refl; fenced = λ was. refl })
 refusing_taken snap site image _ can = let no = can.word in cc
 
 refusing_removed : (snap : List ℕ) (site : SiteId) (image id : ℕ) (a : Answer) → CanGive (op.Header image (header.SnapRemove id)) a
-    → EndsRefused (remove_refuses snap) false (op.Header image (header.SnapRemove id)) a (on_done (applied site image) a) ⊎ IsRefusing (remove_refuses snap) IsDone true (on_done (applied site image) a)
-refusing_removed snap site image id answer.Done can = inr tt
+    → Answers (remove_refuses snap) IsDone false (op.Header image (header.SnapRemove id)) a (on_done (applied site image) a)
+refusing_removed snap site image id answer.Done can = inr (λ live. refl, tt)
 refusing_removed snap site image id answer.Absent can = inl (record { why = refusal.NoImage; is = refl; ends = refl; fenced = λ was. cc })
 refusing_removed snap site image id answer.Fenced can = inl (record { why = refusal.Fenced; is = refl; ends = refl; fenced = λ was. refl })
 refusing_removed snap site image id _ can = let no = can.word in cc

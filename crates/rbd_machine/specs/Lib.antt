@@ -4,6 +4,7 @@ pub mod Plan
 pub mod Answers
 pub mod Ready
 pub mod Steps
+pub mod Objects
 pub mod Path
 pub mod Passes
 pub mod Turns

@@ -27,6 +27,10 @@ refusal_by refuses (op.Header image o) answer.Absent = Some refusal.NoImage
 refusal_by refuses (op.Header image header.Get) (answer.Header h) = refuses h
 refusal_by refuses o a = None
 
+-- a request that refuses no header
+abbrev pub refuses_none : HeaderView → Option Refusal
+refuses_none h = None
+
 -- the operation changes nothing
 abbrev pub only_looks : Op → Bool
 only_looks (op.Directory (directory.Find name)) = true
@@ -49,11 +53,17 @@ abbrev pub AreGiven : List Answered → Type 0
 AreGiven [] = Unit {0}
 AreGiven (step ∷ steps) = CanGive step.op step.answer × AreGiven steps
 
--- The answer to the last operation refuses it so, as the first refusal that holds there; and but for the fence, which may
--- come at any time, nothing was changed before.
+-- no answer refuses
+abbrev pub AreAllowed : (HeaderView → Option Refusal) → List Answered → Type 0
+AreAllowed refuses [] = Unit {0}
+AreAllowed refuses (step ∷ steps) = (refusal_by refuses step.op step.answer ≡ None) × AreAllowed refuses steps
+
+-- The answer to the last operation refuses it so, as the first refusal that holds there, and no answer before refused it;
+-- and but for the fence, which may come at any time, nothing was changed before.
 pub record IsRefusedBy (refuses : HeaderView → Option Refusal) (steps : List Answered) (x : Refusal) : Type 0 where
   pub before : List Answered
   pub last : Answered
   pub are : steps ≡ before ++ last ∷ []
   pub refused : refusal_by refuses last.op last.answer ≡ Some x
+  pub allowed : AreAllowed refuses before
   pub unchanged : (x ≡ refusal.Fenced → ⊥) → AreLooks before

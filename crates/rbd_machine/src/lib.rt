@@ -46,8 +46,9 @@
 //! | `specs/Ready.antt` | only an answer needs memory |
 //! | `specs/Steps.antt` | steps that many requests share, as plans |
 //! | `specs/Approach.antt` | what is left of an [`Approach`], and what comes of a step of it |
+//! | `specs/Objects.antt` | the operations on the object of a piece |
 //! | `specs/Path.antt` | the operations of a plan one after another, and how many they are at most |
-//! | `specs/Passes.antt` | the last pass of a request that began again, and how often it did |
+//! | `specs/Passes.antt` | the passes of a request that began again, and how often it did |
 //! | `specs/Turns.antt` | at which objects a request waits for its turn |
 //! | `specs/Knowledge.antt` | what a request knows, and what each answer (`learned`) and each wait (`passed`) teaches it |
 //! | `specs/Permits.antt` | what is permitted by that |
@@ -76,8 +77,8 @@
 //!    every plan that comes next, so the request puts in its own, and proves nothing of the part again. A step of a
 //!    part tells its [`Progress`].
 //! 7. Laws: its labels stand at operations (`IsClosed`), how many operations it has, that it is lawful (`IsLawfulRequest`; an
-//!    operation that no request did before gets its row in `Permits`, by what its effect on a site needs), and what each
-//!    reply means (`IsMeantBy` of its crate).
+//!    operation that no request did before gets its row in `Permits`, by what its effect on a site needs), and that each
+//!    reply is meant (`IsMeantBy` of `rbd_meaning`, which has the definitions by command).
 //!
 //! # Cost
 //!

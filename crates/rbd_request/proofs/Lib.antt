@@ -5,6 +5,7 @@ pub mod Lawful
 pub mod Meant
 pub mod Turns
 pub mod Looks
+pub mod Early
 pub mod Passes
 pub mod Whole
 pub mod Writes

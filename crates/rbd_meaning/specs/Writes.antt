@@ -1,15 +1,24 @@
--- When a write is done: behind two looks, with each of its pieces written by the second.
-use Rattle.std.specs.Prelude.{◌≡◌, ℕ, List, [], ◌∷◌, None}
+-- `write` and `fill`: what refuses one, what has been written when it is done, and what its replies mean.
+use Rattle.std.specs.Prelude.{◌≡◌, ℕ, List, [], ◌∷◌, Option, None}
 use Rattle.rbd_kinds.specs.declared.answer.Answer.TheVariants as answer
 use Rattle.rbd_kinds.specs.declared.header.HeaderView.{HeaderView}
 use Rattle.rbd_kinds.specs.declared.id.SiteId.{SiteId}
+use Rattle.rbd_kinds.specs.declared.layout.Extent.{Extent}
+use Rattle.rbd_kinds.specs.declared.refusal.Refusal.{Refusal}
+use Rattle.rbd_kinds.specs.declared.reply.Reply.{Reply}
+use Rattle.rbd_kinds.specs.declared.reply.Reply.TheVariants as reply
 use Rattle.rbd_layout.specs.Pieces.{pieces_of}
 use Rattle.rbd_layout.specs.declared.types.Piece.{Piece}
 use Rattle.rbd_object.specs.Parts.{bytes_for}
 use Rattle.rbd_header.specs.Header.{context_of}
+use Rattle.rbd_machine.specs.Objects.{data_write}
 use Rattle.rbd_machine.specs.Path.{Answered, found, looked_at}
-use Rattle.rbd_piece.specs.Write.{data_write}
-use Rattle.rbd_request.specs.Write.{extent_at, write_refuses}
+use Rattle.rbd_machine.specs.Refused.{IsRefusedBy}
+use Rattle.rbd_machine.specs.Steps.{or_else, non_primary}
+use Rattle.rbd_meaning.specs.Range.{extent_at, out_of_range}
+
+abbrev pub write_refuses : Extent → HeaderView → Option Refusal
+write_refuses e h = or_else (non_primary h.role) (out_of_range e h.size)
 
 -- a piece that was written, under the snapshot context of a header
 abbrev pub piece_written : SiteId → (image : ℕ) → HeaderView → (at : ℕ) → (bytes : List ℕ) → Piece → Answered
@@ -31,3 +40,8 @@ pub record WritesWhole (site : SiteId) (name : List ℕ) (at : ℕ) (bytes : Lis
   pub may : write_refuses (extent_at at bytes) own ≡ None
   pub are : steps ≡ found site name image ∷ looked_at site image first ∷ looked_at site image own
       ∷ pieces_written site image own at bytes (pieces_of own.layout (extent_at at bytes))
+
+abbrev pub WriteMeans : SiteId → (image : List ℕ) → (at : ℕ) → (bytes : List ℕ) → List Answered → Reply → Type 0
+WriteMeans site image at bytes steps reply.Done = WritesWhole site image at bytes steps
+WriteMeans site image at bytes steps (reply.Refused x) = IsRefusedBy (write_refuses (extent_at at bytes)) steps x
+WriteMeans site image at bytes steps _ = ⊥
