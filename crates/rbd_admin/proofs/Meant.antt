@@ -34,6 +34,7 @@ use Rattle.rbd_meaning.specs.Snaps.{SnapCreateMeans, SnapRemoveMeans, removal_re
 use Rattle.rbd_admin.specs.Create.{IsCreate, IsCreatePlan, on_drawn, making, drawing}
 use Rattle.rbd_admin.specs.Listing.{is_listing, on_names, list_names, showing, show_header, listing_plan}
 use Rattle.rbd_admin.specs.Snap.{is_snap, on_snap, take, remove_listed, remove, snap_plan}
+use Rattle.rbd_admin.proofs.About.{create_is_own, list_is_own, listing_is_own, taking_is_own, removing_is_own}
 use Rattle.rbd_admin.proofs.Decided.{limits_or_not}
 use Rattle.rbd_admin.proofs.Changes.{takes_one, removes_one}
 use Rattle.rbd_admin.proofs.Shown.{create_makes_one, names_are_listed, header_is_shown}
@@ -85,7 +86,13 @@ module _ (site : SiteId) (name : List ℕ) (size : ℕ) (shape : Shape) (plan : 
       go : (r : Reply) → EndsBy refuses_none IsDone false steps r → IsWalk Goto plan feds steps (Return r) → CreateMeans site name size shape steps r
       go reply.Done ends walk = record { within = keeps; made = create_makes_one site name size shape plan feds steps is keeps walk }
       go (reply.Refused x) (inl granted) walk = absurd granted
-      go (reply.Refused x) (inr (y, same, from)) walk = inr (record { within = keeps; by = subst (IsRefusedBy refuses_none steps) (same_refusal x y same) from.by })
+      go (reply.Refused x) (inr (y, same, from)) walk = inr (record {
+        within = keeps;
+        by = record {
+          own = create_is_own site name (new_header (layout_of shape) size) feds steps (Return (reply.Refused x)) (subst (λ p. IsWalk Goto p feds steps (Return (reply.Refused x))) (is.within keeps) walk);
+          by = subst (IsRefusedBy refuses_none steps) (same_refusal x y same) from.by;
+        };
+      })
       go _ (inl granted) walk = absurd granted
       go _ (inr (y, same, from)) walk = cc
 
@@ -119,7 +126,10 @@ refusing_shown grants site name shown granted =
 list_means : (site : SiteId) (feds : List Fed) (steps : List Answered) (r : Reply) → EndsBy refuses_none TellsNames false steps r → IsWalk Goto (list_names site) feds steps (Return r) → ListMeans site steps r
 list_means site feds steps (reply.Names names) ends walk = names_are_listed site names feds steps walk
 list_means site feds steps (reply.Refused x) (inl granted) walk = absurd granted
-list_means site feds steps (reply.Refused x) (inr (y, same, from)) walk = subst (IsRefusedBy refuses_none steps) (same_refusal x y same) from.by
+list_means site feds steps (reply.Refused x) (inr (y, same, from)) walk = record {
+  own = list_is_own site feds steps (Return (reply.Refused x)) walk;
+  by = subst (IsRefusedBy refuses_none steps) (same_refusal x y same) from.by;
+}
 list_means site feds steps _ (inl granted) walk = absurd granted
 list_means site feds steps _ (inr (y, same, from)) walk = cc
 
@@ -127,7 +137,10 @@ info_means : (site : SiteId) (image : List ℕ) (feds : List Fed) (steps : List 
     → IsWalk Goto (show_header site image reply.Info) feds steps (Return r) → InfoMeans site image steps r
 info_means site image feds steps (reply.Info h) ends walk = header_is_shown site image reply.Info (reply.Info h) feds steps tt walk
 info_means site image feds steps (reply.Refused x) (inl granted) walk = absurd granted
-info_means site image feds steps (reply.Refused x) (inr (y, same, from)) walk = subst (IsRefusedBy refuses_none steps) (same_refusal x y same) from.by
+info_means site image feds steps (reply.Refused x) (inr (y, same, from)) walk = record {
+  own = listing_is_own site image reply.Info feds steps (Return (reply.Refused x)) walk;
+  by = subst (IsRefusedBy refuses_none steps) (same_refusal x y same) from.by;
+}
 info_means site image feds steps _ (inl granted) walk = absurd granted
 info_means site image feds steps _ (inr (y, same, from)) walk = cc
 
@@ -135,7 +148,10 @@ snap_list_means : (site : SiteId) (image : List ℕ) (feds : List Fed) (steps : 
     → IsWalk Goto (show_header site image shown_snaps) feds steps (Return r) → SnapListMeans site image steps r
 snap_list_means site image feds steps (reply.Snaps snaps) ends walk = header_is_shown site image shown_snaps (reply.Snaps snaps) feds steps tt walk
 snap_list_means site image feds steps (reply.Refused x) (inl granted) walk = absurd granted
-snap_list_means site image feds steps (reply.Refused x) (inr (y, same, from)) walk = subst (IsRefusedBy refuses_none steps) (same_refusal x y same) from.by
+snap_list_means site image feds steps (reply.Refused x) (inr (y, same, from)) walk = record {
+  own = listing_is_own site image shown_snaps feds steps (Return (reply.Refused x)) walk;
+  by = subst (IsRefusedBy refuses_none steps) (same_refusal x y same) from.by;
+}
 snap_list_means site image feds steps _ (inl granted) walk = absurd granted
 snap_list_means site image feds steps _ (inr (y, same, from)) walk = cc
 
@@ -173,7 +189,10 @@ taking_means : (site : SiteId) (image snap : List ℕ) (feds : List Fed) (steps 
     → IsWalk Goto (snap_plan site (command.SnapCreate image snap)) feds steps (Return r) → SnapCreateMeans site image snap steps r
 taking_means site image snap feds steps reply.Done ends walk = takes_one site image snap feds steps walk
 taking_means site image snap feds steps (reply.Refused x) (inl granted) walk = absurd granted
-taking_means site image snap feds steps (reply.Refused x) (inr (y, same, from)) walk = subst (IsRefusedBy (create_refuses snap) steps) (same_refusal x y same) from.by
+taking_means site image snap feds steps (reply.Refused x) (inr (y, same, from)) walk = record {
+  own = taking_is_own site image snap feds steps (Return (reply.Refused x)) walk;
+  by = subst (IsRefusedBy (create_refuses snap) steps) (same_refusal x y same) from.by;
+}
 taking_means site image snap feds steps _ (inl granted) walk = absurd granted
 taking_means site image snap feds steps _ (inr (y, same, from)) walk = cc
 
@@ -181,7 +200,10 @@ removing_means : (site : SiteId) (image snap : List ℕ) (feds : List Fed) (step
     → IsWalk Goto (snap_plan site (command.SnapRemove image snap)) feds steps (Return r) → SnapRemoveMeans site image snap steps r
 removing_means site image snap feds steps reply.Done ends walk = removes_one site image snap feds steps walk
 removing_means site image snap feds steps (reply.Refused x) (inl granted) walk = absurd granted
-removing_means site image snap feds steps (reply.Refused x) (inr (y, same, from)) walk = subst (IsRefusedBy (remove_refuses snap) steps) (same_refusal x y same) from.by
+removing_means site image snap feds steps (reply.Refused x) (inr (y, same, from)) walk = record {
+  own = removing_is_own site image snap feds steps (Return (reply.Refused x)) walk;
+  by = subst (IsRefusedBy (remove_refuses snap) steps) (same_refusal x y same) from.by;
+}
 removing_means site image snap feds steps _ (inl granted) walk = absurd granted
 removing_means site image snap feds steps _ (inr (y, same, from)) walk = cc
 

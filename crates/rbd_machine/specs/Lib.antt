@@ -12,4 +12,5 @@ pub mod Approach
 pub mod Knowledge
 pub mod Permits
 pub mod Lawful
+pub mod About
 pub mod Refused

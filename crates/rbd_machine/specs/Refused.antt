@@ -7,12 +7,14 @@ use Rattle.rbd_kinds.specs.declared.data_op.DataOp.TheVariants as object
 use Rattle.rbd_kinds.specs.declared.directory_op.DirectoryOp.TheVariants as directory
 use Rattle.rbd_kinds.specs.declared.header.HeaderView.{HeaderView}
 use Rattle.rbd_kinds.specs.declared.header_op.HeaderOp.TheVariants as header
+use Rattle.rbd_kinds.specs.declared.id.SiteId.{SiteId}
 use Rattle.rbd_kinds.specs.declared.journal_op.JournalOp.TheVariants as journal
 use Rattle.rbd_kinds.specs.declared.map_op.MapOp.TheVariants as states
 use Rattle.rbd_kinds.specs.declared.operation.Op.{Op}
 use Rattle.rbd_kinds.specs.declared.operation.Op.TheVariants as op
 use Rattle.rbd_kinds.specs.declared.refusal.Refusal.{Refusal}
 use Rattle.rbd_kinds.specs.declared.refusal.Refusal.TheVariants as refusal
+use Rattle.rbd_machine.specs.About.{AreOwn}
 use Rattle.rbd_machine.specs.Answers.{CanGive}
 use Rattle.rbd_machine.specs.Path.{Answered}
 
@@ -67,3 +69,8 @@ pub record IsRefusedBy (refuses : HeaderView → Option Refusal) (steps : List A
   pub refused : refusal_by refuses last.op last.answer ≡ Some x
   pub allowed : AreAllowed refuses before
   pub unchanged : (x ≡ refusal.Fenced → ⊥) → AreLooks before
+
+-- A request was refused so, by an answer to an operation of its own.
+pub record IsRefused (site : SiteId) (ask : Op) (refuses : HeaderView → Option Refusal) (steps : List Answered) (x : Refusal) : Type 0 where
+  pub own : AreOwn site ask steps
+  pub by : IsRefusedBy refuses steps x

@@ -53,7 +53,8 @@
 //! | `specs/Knowledge.antt` | what a request knows, and what each answer (`learned`) and each wait (`passed`) teaches it |
 //! | `specs/Permits.antt` | what is permitted by that |
 //! | `specs/Lawful.antt` | a plan does only what it may by what is known there (`IsLawful`), and a request begins with nothing known (`IsLawfulRequest`) |
-//! | `specs/Refused.antt` | what an answer refuses (`refusal_by`), and what a refusal rests on (`IsRefusedBy`) |
+//! | `specs/About.antt` | which operations are a request's own: of the image that the first was told |
+//! | `specs/Refused.antt` | what an answer refuses (`refusal_by`), what a refusal rests on (`IsRefusedBy`), and that it is of the request's own (`IsRefused`) |
 //!
 //! [`laws`] says that a request which wants an operation or an event noted has it, that what a request asks for, with the
 //! answers that it is fed, is a path of its plan, that a path has at most as many operations as its plan, that a request

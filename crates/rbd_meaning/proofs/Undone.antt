@@ -91,19 +91,19 @@ passes_change_nothing site name snap e (pass ∷ passes) (sees, see) =
 read_changes_nothing : (site : SiteId) (name : List ℕ) (snap : Option (List ℕ)) (e : Extent) (steps : List Answered) (x : Refusal) → RefusedAtLast site name snap e steps x → (x ≡ refusal.Fenced → ⊥) → ChangeNothing steps
 read_changes_nothing site name snap e steps x refused not_fenced =
     subst ChangeNothing (sym refused.are)
-    (nothing_after (joined refused.passes) refused.pass (passes_change_nothing site name snap e refused.passes refused.before) (refused_changes_nothing _ x refused.pass refused.by not_fenced))
+    (nothing_after (joined refused.passes) refused.pass (passes_change_nothing site name snap e refused.passes refused.before) (refused_changes_nothing _ x refused.pass refused.by.by not_fenced))
 
 -- ---- all commands
 
 pub meant_changes_nothing : (site : SiteId) (c : Command) (steps : List Answered) (x : Refusal) → IsMeantBy site c steps (reply.Refused x) → (x ≡ refusal.Fenced → ⊥) → ChangeNothing steps
 meant_changes_nothing site (command.Create image size shape) steps x (plain, inl outside) not_fenced = subst ChangeNothing (sym outside.none) tt
-meant_changes_nothing site (command.Create image size shape) steps x (plain, inr unmade) not_fenced = refused_changes_nothing _ x steps unmade.by not_fenced
-meant_changes_nothing site (command.Write image at bytes) steps x by not_fenced = refused_changes_nothing _ x steps by not_fenced
-meant_changes_nothing site (command.Fill image at len byte) steps x by not_fenced = refused_changes_nothing _ x steps by not_fenced
+meant_changes_nothing site (command.Create image size shape) steps x (plain, inr unmade) not_fenced = refused_changes_nothing _ x steps unmade.by.by not_fenced
+meant_changes_nothing site (command.Write image at bytes) steps x by not_fenced = refused_changes_nothing _ x steps by.by not_fenced
+meant_changes_nothing site (command.Fill image at len byte) steps x by not_fenced = refused_changes_nothing _ x steps by.by not_fenced
 meant_changes_nothing site (command.Read image snap at len) steps x refused not_fenced = read_changes_nothing site image snap _ steps x refused not_fenced
-meant_changes_nothing site command.List steps x by not_fenced = refused_changes_nothing _ x steps by not_fenced
-meant_changes_nothing site (command.Info image) steps x by not_fenced = refused_changes_nothing _ x steps by not_fenced
-meant_changes_nothing site (command.SnapList image) steps x by not_fenced = refused_changes_nothing _ x steps by not_fenced
-meant_changes_nothing site (command.SnapCreate image snap) steps x by not_fenced = refused_changes_nothing _ x steps by not_fenced
-meant_changes_nothing site (command.SnapRemove image snap) steps x by not_fenced = refused_changes_nothing _ x steps by not_fenced
+meant_changes_nothing site command.List steps x by not_fenced = refused_changes_nothing _ x steps by.by not_fenced
+meant_changes_nothing site (command.Info image) steps x by not_fenced = refused_changes_nothing _ x steps by.by not_fenced
+meant_changes_nothing site (command.SnapList image) steps x by not_fenced = refused_changes_nothing _ x steps by.by not_fenced
+meant_changes_nothing site (command.SnapCreate image snap) steps x by not_fenced = refused_changes_nothing _ x steps by.by not_fenced
+meant_changes_nothing site (command.SnapRemove image snap) steps x by not_fenced = refused_changes_nothing _ x steps by.by not_fenced
 meant_changes_nothing site _ steps x meant not_fenced = absurd meant

@@ -7,4 +7,5 @@ pub mod Listings
 pub mod Snaps
 pub mod Meant
 pub mod Replies
+pub mod Named
 pub mod Undone

@@ -11,9 +11,10 @@ use Rattle.rbd_layout.specs.Pieces.{pieces_of}
 use Rattle.rbd_layout.specs.declared.types.Piece.{Piece}
 use Rattle.rbd_object.specs.Parts.{bytes_for}
 use Rattle.rbd_header.specs.Header.{context_of}
+use Rattle.rbd_machine.specs.About.{look_up}
 use Rattle.rbd_machine.specs.Objects.{data_write}
 use Rattle.rbd_machine.specs.Path.{Answered, found, looked_at}
-use Rattle.rbd_machine.specs.Refused.{IsRefusedBy}
+use Rattle.rbd_machine.specs.Refused.{IsRefused}
 use Rattle.rbd_machine.specs.Steps.{or_else, non_primary}
 use Rattle.rbd_meaning.specs.Range.{extent_at, out_of_range}
 
@@ -43,5 +44,5 @@ pub record WritesWhole (site : SiteId) (name : List ℕ) (at : ℕ) (bytes : Lis
 
 abbrev pub WriteMeans : SiteId → (image : List ℕ) → (at : ℕ) → (bytes : List ℕ) → List Answered → Reply → Type 0
 WriteMeans site image at bytes steps reply.Done = WritesWhole site image at bytes steps
-WriteMeans site image at bytes steps (reply.Refused x) = IsRefusedBy (write_refuses (extent_at at bytes)) steps x
+WriteMeans site image at bytes steps (reply.Refused x) = IsRefused site (look_up image) (write_refuses (extent_at at bytes)) steps x
 WriteMeans site image at bytes steps _ = ⊥

@@ -1,5 +1,6 @@
 //! What holds of every reply that is meant: laws, each the contract of a function that does nothing.
-ghost use Rattle.std.specs.Prelude.{◌≡◌, ℕ, List, [], ◌∷◌, ◌++◌, true, None};
+ghost use Rattle.std.specs.Prelude.{◌≡◌, ℕ, List, [], ◌∷◌, ◌++◌, true, Some, None};
+ghost use Rattle.rbd_kinds.specs.declared.answer.Answer.TheVariants.{Absent};
 ghost use Rattle.rbd_kinds.specs.declared.command.Command.{Command};
 ghost use Rattle.rbd_kinds.specs.declared.command.Command.TheVariants.{Write, Fill, SnapCreate, SnapRemove};
 ghost use Rattle.rbd_kinds.specs.declared.header.HeaderView.{HeaderView};
@@ -7,12 +8,14 @@ ghost use Rattle.rbd_kinds.specs.declared.header.Role.TheVariants.{Secondary};
 ghost use Rattle.rbd_kinds.specs.declared.header.SnapStatus.TheVariants.{Unprotected};
 ghost use Rattle.rbd_kinds.specs.declared.id.SiteId.{SiteId};
 ghost use Rattle.rbd_kinds.specs.declared.refusal.Refusal.{Refusal};
-ghost use Rattle.rbd_kinds.specs.declared.refusal.Refusal.TheVariants.{BadShape, Fenced, NonPrimary};
+ghost use Rattle.rbd_kinds.specs.declared.refusal.Refusal.TheVariants.{BadShape, Fenced, NoImage, NonPrimary};
 ghost use Rattle.rbd_kinds.specs.declared.reply.Reply.{Reply};
 ghost use Rattle.rbd_kinds.specs.declared.reply.Reply.TheVariants.{Refused};
 ghost use Rattle.rbd_kinds.specs.Header.{snap_named};
+ghost use Rattle.rbd_machine.specs.About.{look_up};
 ghost use Rattle.rbd_machine.specs.Path.{Answered, looked_at};
 ghost use Rattle.rbd_meaning.specs.Meant.{IsMeantBy};
+ghost use Rattle.rbd_meaning.specs.Named.{looks_up};
 ghost use Rattle.rbd_meaning.specs.Replies.{may_answer};
 ghost use Rattle.rbd_meaning.specs.Snaps.{TakesOne, RemovesOne};
 ghost use Rattle.rbd_meaning.specs.Undone.{ChangeNothing};
@@ -27,14 +30,22 @@ pub fn nothing_is_granted_for_nothing()
     ensures { (site : SiteId) (command : Command) (reply : Reply) → IsMeantBy site command [] reply → reply ≡ Refused BadShape }
 {}
 
-/// A request that was refused has changed nothing, but where the fence refused it, which may come at any time.
+/// A request that was refused has changed nothing, but where the fence refused it, which may come at
+/// any time.
 pub fn refusals_change_nothing()
     ensures { (site : SiteId) (command : Command) (steps : List Answered) (x : Refusal)
         → IsMeantBy site command steps (Refused x) → (x ≡ Fenced → ⊥) → ChangeNothing steps }
 {}
 
-/// Where a look refused it the first refusal of that header is told: at a secondary, that clients don't change it, whatever
-/// else holds there.
+/// A name that isn't there is the command's own: where NoImage is told behind one operation, that was
+/// the look-up of its image, at its site, and it was answered none.
+pub fn unknown_names_are_looked_up()
+    ensures { (site : SiteId) (command : Command) (name : List ℕ) (step : Answered) → looks_up command ≡ Some name
+        → IsMeantBy site command (step ∷ []) (Refused NoImage) → step ≡ record { site = site; op = look_up name; answer = Absent } }
+{}
+
+/// Where a look refused it the first refusal of that header is told: at a secondary, that clients don't
+/// change it, whatever else holds there.
 pub fn secondaries_refuse_first()
     ensures write { (site there : SiteId) (image : List ℕ) (at : ℕ) (bytes : List ℕ) (before : List Answered) (id : ℕ) (h : HeaderView) (x : Refusal)
         → IsMeantBy site (Write image at bytes) (before ++ looked_at there id h ∷ []) (Refused x) → h.role ≡ Secondary → x ≡ NonPrimary }
@@ -46,8 +57,8 @@ pub fn secondaries_refuse_first()
         → IsMeantBy site (SnapRemove image snap) (before ++ looked_at there id h ∷ []) (Refused x) → h.role ≡ Secondary → x ≡ NonPrimary }
 {}
 
-/// What was done was allowed by the own look: the name of a snapshot that was taken wasn't listed there, and a snapshot that
-/// was removed wasn't protected there.
+/// What was done was allowed by the own look: the name of a snapshot that was taken wasn't listed
+/// there, and a snapshot that was removed wasn't protected there.
 pub fn the_own_look_allowed()
     ensures taken { (site : SiteId) (image snap : List ℕ) (steps : List Answered) (takes : TakesOne site image snap steps) → snap_named takes.own.snaps snap ≡ None }
     ensures removed { (site : SiteId) (image snap : List ℕ) (steps : List Answered) (removes : RemovesOne site image snap steps) → removes.listed.status ≡ Unprotected }

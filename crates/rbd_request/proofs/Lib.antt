@@ -1,3 +1,4 @@
+pub mod About
 pub mod Arranged
 pub mod Bounded
 pub mod Closed

@@ -37,6 +37,7 @@ use Rattle.rbd_piece.specs.Gather.{gather, on_bytes}
 use Rattle.rbd_request.specs.Read.{IsReadOf, pass, read_labels, looking, reading, viewing, gathering, closing, on_closing}
 use Rattle.rbd_request.specs.Seen.{Seen, seen_at, shown}
 use Rattle.rbd_request.specs.Write.{is_write, put, write, write_pieces, write_plan}
+use Rattle.rbd_request.proofs.About.{write_is_own, pass_is_own}
 use Rattle.rbd_request.proofs.Early.{pass_refused_early}
 use Rattle.rbd_request.proofs.Passes.{LastPass, last_pass, read_shows}
 use Rattle.rbd_request.proofs.Whole.{write_is_whole}
@@ -76,7 +77,10 @@ write_means site name at bytes feds steps r given walk = go r (ends_by (write_re
     go : (r : Reply) → EndsBy (write_refuses (extent_at at bytes)) IsDone false steps r → IsWalk Goto (write site name at bytes) feds steps (Return r) → WriteMeans site name at bytes steps r
     go reply.Done ends walk = write_is_whole site name at bytes feds steps walk
     go (reply.Refused x) (inl granted) walk = absurd granted
-    go (reply.Refused x) (inr (y, same, from)) walk = subst (IsRefusedBy (write_refuses (extent_at at bytes)) steps) (same_refusal x y same) from.by
+    go (reply.Refused x) (inr (y, same, from)) walk = record {
+      own = write_is_own site name at bytes feds steps (Return (reply.Refused x)) walk;
+      by = subst (IsRefusedBy (write_refuses (extent_at at bytes)) steps) (same_refusal x y same) from.by;
+    }
     go _ (inl granted) walk = absurd granted
     go _ (inr (y, same, from)) walk = cc
 
@@ -145,7 +149,10 @@ module _ (site : SiteId) (name : List ℕ) (snap : Option (List ℕ)) (e : Exten
         pass = l.final;
         are = l.are;
         before = l.before;
-        by = go (ends_by (read_refuses snap e) IsShowing l.feds false (pass site name snap e) l.final (reply.Refused x) refusing_pass given_there l.walk);
+        by = record {
+          own = pass_is_own site name snap e l.feds l.final (Return (reply.Refused x)) l.walk;
+          by = go (ends_by (read_refuses snap e) IsShowing l.feds false (pass site name snap e) l.final (reply.Refused x) refusing_pass given_there l.walk);
+        };
         early = pass_refused_early site name snap e x l.feds l.final given_there l.walk;
       }
     where
