@@ -27,18 +27,18 @@ abbrev pub changed_by : Bool → Op → Bool
 changed_by changed o = cond (only_looks o) changed true
 
 -- an answer that ends the request refused
-pub record EndsRefused (refuses : HeaderView → Option Refusal) (changed : Bool) (o : Op) (a : Answer) (next : Plan) : Type 0 where
+pub record EndsRefused (refuses : HeaderView → Option Refusal) (late : Refusal → Type 0) (changed : Bool) (o : Op) (a : Answer) (next : Plan) : Type 0 where
   pub why : Refusal
   pub is : refusal_by refuses o a ≡ Some why
   pub ends : next ≡ Return (reply.Refused why)
-  pub fenced : changed ≡ true → why ≡ refusal.Fenced
+  pub comes : changed ≡ true → late why
 
-module _ (refuses : HeaderView → Option Refusal) (grants : Reply → Type 0) where
+module _ (refuses : HeaderView → Option Refusal) (late : Refusal → Type 0) (grants : Reply → Type 0) where
   -- Each answer refuses it, or it goes on, and then the answer refuses nothing; where it isn't refused it grants a reply.
   abbrev pub IsRefusing : Bool → Plan → Type 0
   IsRefusing changed (Ask site why o next) =
       (a : Answer) → CanGive o a
-      → EndsRefused refuses changed o a (next a) ⊎ ((IsLive (next a) → refusal_by refuses o a ≡ None) × IsRefusing (changed_by changed o) (next a))
+      → EndsRefused refuses late changed o a (next a) ⊎ ((IsLive (next a) → refusal_by refuses o a ≡ None) × IsRefusing (changed_by changed o) (next a))
   IsRefusing changed (Await wait next) = IsRefusing changed next
   IsRefusing changed (Note site image event next) = IsRefusing changed next
   IsRefusing changed (Return r) = grants r
@@ -46,13 +46,13 @@ module _ (refuses : HeaderView → Option Refusal) (grants : Reply → Type 0) w
 
   -- one answer of these
   abbrev pub Answers : Bool → (o : Op) → (a : Answer) → (next : Plan) → Type 0
-  Answers changed o a next = EndsRefused refuses changed o a next ⊎ ((IsLive next → refusal_by refuses o a ≡ None) × IsRefusing (changed_by changed o) next)
+  Answers changed o a next = EndsRefused refuses late changed o a next ⊎ ((IsLive next → refusal_by refuses o a ≡ None) × IsRefusing (changed_by changed o) next)
 
   -- ---- where its walks end
 
   pub record RefusedFrom (changed : Bool) (steps : List Answered) (x : Refusal) : Type 0 where
-    pub by : IsRefusedBy refuses steps x
-    pub fenced : changed ≡ true → x ≡ refusal.Fenced
+    pub by : IsRefusedBy refuses late steps x
+    pub comes : changed ≡ true → late x
 
   -- it grants the reply, or was refused
   abbrev pub EndsBy : Bool → List Answered → Reply → Type 0
@@ -67,14 +67,14 @@ module _ (refuses : HeaderView → Option Refusal) (grants : Reply → Type 0) w
       are = ap (λ s. record { site = site; op = o; answer = a } ∷ s) from.by.are;
       refused = from.by.refused;
       allowed = (allowed, from.by.allowed);
-      unchanged = λ not_fenced. (looks not_fenced (only_looks o) refl, from.by.unchanged not_fenced);
+      unchanged = λ not_late. (looks not_late (only_looks o) refl, from.by.unchanged not_late);
     };
-    fenced = λ was. from.fenced (still was (only_looks o));
+    comes = λ was. from.comes (still was (only_looks o));
   }
     where
-      looks : (x ≡ refusal.Fenced → ⊥) → (b : Bool) → only_looks o ≡ b → only_looks o ≡ true
-      looks not_fenced true is = is
-      looks not_fenced false is = absurd (not_fenced (from.fenced (ap (λ b. cond b changed true) is)))
+      looks : (late x → ⊥) → (b : Bool) → only_looks o ≡ b → only_looks o ≡ true
+      looks not_late true is = is
+      looks not_late false is = absurd (not_late (from.comes (ap (λ b. cond b changed true) is)))
 
       still : changed ≡ true → (b : Bool) → cond b changed true ≡ true
       still was true = was
@@ -104,7 +104,7 @@ module _ (refuses : HeaderView → Option Refusal) (grants : Reply → Type 0) w
   refusing_settled changed plan is = subst (IsRefusing changed) (sym (settled_goto plan)) is
 
   at_last : (changed : Bool) (site : SiteId) (o : Op) (a : Answer) (next : Plan) (feds : List Fed) (rest : List Answered) (r : Reply)
-      → EndsRefused refuses changed o a next → IsWalk Goto (settled Goto next) feds rest (Return r) → EndsBy changed (record { site = site; op = o; answer = a } ∷ rest) r
+      → EndsRefused refuses late changed o a next → IsWalk Goto (settled Goto next) feds rest (Return r) → EndsBy changed (record { site = site; op = o; answer = a } ∷ rest) r
   at_last changed site o a next feds rest r is walk =
       let end = ended (reply.Refused is.why) feds rest (Return r) (subst (λ p. IsWalk Goto (settled Goto p) feds rest (Return r)) is.ends walk) in
       let none : rest ≡ [] = end.0 in
@@ -119,9 +119,9 @@ module _ (refuses : HeaderView → Option Refusal) (grants : Reply → Type 0) w
             are = ap (λ s. record { site = site; op = o; answer = a } ∷ s) none;
             refused = is.is;
             allowed = tt;
-            unchanged = λ not_fenced. tt;
+            unchanged = λ not_late. tt;
           };
-          fenced = is.fenced;
+          comes = is.comes;
         },
       )
 
@@ -158,22 +158,22 @@ module _ (refuses : HeaderView → Option Refusal) (grants : Reply → Type 0) w
   pub refusing_find : (name : List ℕ) (next : ℕ → Plan) → ((image : ℕ) → IsRefusing false (next image)) → (a : Answer) → CanGive (op.Directory (directory.Find name)) a
       → Answers false (op.Directory (directory.Find name)) a (on_id next a)
   refusing_find name next goes_on (answer.Id image) can = inr (λ live. refl, goes_on image)
-  refusing_find name next goes_on answer.Absent can = inl (record { why = refusal.NoImage; is = refl; ends = refl; fenced = λ was. cc })
-  refusing_find name next goes_on answer.Fenced can = inl (record { why = refusal.Fenced; is = refl; ends = refl; fenced = λ was. refl })
+  refusing_find name next goes_on answer.Absent can = inl (record { why = refusal.NoImage; is = refl; ends = refl; comes = λ was. cc })
+  refusing_find name next goes_on answer.Fenced can = inl (record { why = refusal.Fenced; is = refl; ends = refl; comes = λ was. cc })
   refusing_find name next goes_on _ can = let no = can.word in cc
 
   pub refusing_look : (image : ℕ) (next : HeaderView → Plan)
       → ((h : HeaderView) → Answers false (op.Header image header.Get) (answer.Header h) (next h))
       → (a : Answer) → CanGive (op.Header image header.Get) a → Answers false (op.Header image header.Get) a (on_header next a)
   refusing_look image next goes_on (answer.Header h) can = goes_on h
-  refusing_look image next goes_on answer.Absent can = inl (record { why = refusal.NoImage; is = refl; ends = refl; fenced = λ was. cc })
-  refusing_look image next goes_on answer.Fenced can = inl (record { why = refusal.Fenced; is = refl; ends = refl; fenced = λ was. refl })
+  refusing_look image next goes_on answer.Absent can = inl (record { why = refusal.NoImage; is = refl; ends = refl; comes = λ was. cc })
+  refusing_look image next goes_on answer.Fenced can = inl (record { why = refusal.Fenced; is = refl; ends = refl; comes = λ was. cc })
   refusing_look image next goes_on _ can = let no = can.word in cc
 
   pub refusing_header : (image : ℕ) (h : HeaderView) (r : Option Refusal) (next : Plan) → refuses h ≡ r → (refuses h ≡ None → IsRefusing false next)
       → Answers false (op.Header image header.Get) (answer.Header h) (unless r next)
   refusing_header image h None next is goes_on = inr (λ live. is, goes_on is)
-  refusing_header image h (Some x) next is goes_on = inl (record { why = x; is = is; ends = refl; fenced = λ was. cc })
+  refusing_header image h (Some x) next is goes_on = inl (record { why = x; is = is; ends = refl; comes = λ was. cc })
 
   pub refusing_change : (site : SiteId) (name : List ℕ) (alone : Bool) (act : ℕ → HeaderView → Plan)
       → ((image : ℕ) (h : HeaderView) → refuses h ≡ None → IsRefusing false (act image h)) → IsRefusing false (change site name alone refuses act)

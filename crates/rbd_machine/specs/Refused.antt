@@ -60,17 +60,25 @@ abbrev pub AreAllowed : (HeaderView → Option Refusal) → List Answered → Ty
 AreAllowed refuses [] = Unit {0}
 AreAllowed refuses (step ∷ steps) = (refusal_by refuses step.op step.answer ≡ None) × AreAllowed refuses steps
 
+-- Which refusals may come when a part was done: none, of a request that changes by its last operation alone, or the
+-- fence's, which may come at any time.
+abbrev pub never : Refusal → Type 0
+never x = ⊥
+
+abbrev pub by_fence : Refusal → Type 0
+by_fence x = x ≡ refusal.Fenced
+
 -- The answer to the last operation refuses it so, as the first refusal that holds there, and no answer before refused it;
--- and but for the fence, which may come at any time, nothing was changed before.
-pub record IsRefusedBy (refuses : HeaderView → Option Refusal) (steps : List Answered) (x : Refusal) : Type 0 where
+-- and unless it may come late, nothing was changed before.
+pub record IsRefusedBy (refuses : HeaderView → Option Refusal) (late : Refusal → Type 0) (steps : List Answered) (x : Refusal) : Type 0 where
   pub before : List Answered
   pub last : Answered
   pub are : steps ≡ before ++ last ∷ []
   pub refused : refusal_by refuses last.op last.answer ≡ Some x
   pub allowed : AreAllowed refuses before
-  pub unchanged : (x ≡ refusal.Fenced → ⊥) → AreLooks before
+  pub unchanged : (late x → ⊥) → AreLooks before
 
 -- A request was refused so, by an answer to an operation of its own.
-pub record IsRefused (site : SiteId) (ask : Op) (refuses : HeaderView → Option Refusal) (steps : List Answered) (x : Refusal) : Type 0 where
+pub record IsRefused (site : SiteId) (ask : Op) (refuses : HeaderView → Option Refusal) (late : Refusal → Type 0) (steps : List Answered) (x : Refusal) : Type 0 where
   pub own : AreOwn site ask steps
-  pub by : IsRefusedBy refuses steps x
+  pub by : IsRefusedBy refuses late steps x

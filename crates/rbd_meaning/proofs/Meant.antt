@@ -17,7 +17,7 @@ use Rattle.rbd_kinds.specs.declared.reply.Reply.TheVariants as reply
 use Rattle.rbd_machine.specs.About.{look_up}
 use Rattle.rbd_machine.specs.Passes.{joined}
 use Rattle.rbd_machine.specs.Path.{Answered, looked_at}
-use Rattle.rbd_machine.specs.Refused.{refusal_by, IsRefusedBy, IsRefused}
+use Rattle.rbd_machine.specs.Refused.{refusal_by, never, by_fence, IsRefusedBy, IsRefused}
 use Rattle.rbd_machine.specs.Steps.{or_else, non_primary}
 use Rattle.rbd_meaning.specs.Creates.{CreateMeans}
 use Rattle.rbd_meaning.specs.Listings.{ListMeans, InfoMeans, SnapListMeans}
@@ -99,48 +99,48 @@ none_left [] steps same = same
 none_left (first ∷ before) steps same = cc
 
 -- a refusal has a last operation
-refused_by_one : (refuses : HeaderView → Option Refusal) (steps : List Answered) (x : Refusal) → [] ≡ steps → IsRefusedBy refuses steps x → ⊥
-refused_by_one refuses steps x none by = some_steps by.before by.last [] (none ∙ by.are)
+refused_by_one : (refuses : HeaderView → Option Refusal) (late : Refusal → Type 0) (steps : List Answered) (x : Refusal) → [] ≡ steps → IsRefusedBy refuses late steps x → ⊥
+refused_by_one refuses late steps x none by = some_steps by.before by.last [] (none ∙ by.are)
 
 create_for_nothing : (site : SiteId) (name : List ℕ) (size : ℕ) (shape : Shape) (r : Reply) → CreateMeans site name size shape [] r → r ≡ reply.Refused refusal.BadShape
 create_for_nothing site name size shape reply.Done meant = let are = meant.made.are in cc
 create_for_nothing site name size shape (reply.Refused x) (inl outside) = ap reply.Refused outside.is
-create_for_nothing site name size shape (reply.Refused x) (inr unmade) = absurd (refused_by_one _ [] x refl unmade.by.by)
+create_for_nothing site name size shape (reply.Refused x) (inr unmade) = absurd (refused_by_one _ _ [] x refl unmade.by.by)
 create_for_nothing site name size shape _ meant = absurd meant
 
 write_for_nothing : (site : SiteId) (name : List ℕ) (at : ℕ) (bytes : List ℕ) (r : Reply) → WriteMeans site name at bytes [] r → r ≡ reply.Refused refusal.BadShape
 write_for_nothing site name at bytes reply.Done meant = let are = meant.are in cc
-write_for_nothing site name at bytes (reply.Refused x) by = absurd (refused_by_one _ [] x refl by.by)
+write_for_nothing site name at bytes (reply.Refused x) by = absurd (refused_by_one _ _ [] x refl by.by)
 write_for_nothing site name at bytes _ meant = absurd meant
 
 read_for_nothing : (site : SiteId) (name : List ℕ) (snap : Option (List ℕ)) (e : Extent) (r : Reply) → ReadMeans site name snap e [] r → r ≡ reply.Refused refusal.BadShape
 read_for_nothing site name snap e (reply.Bytes bytes) meant = absurd (some_steps [] _ _ (none_left (joined meant.passes) meant.pass meant.are ∙ meant.shows.pass.are))
-read_for_nothing site name snap e (reply.Refused x) refused = absurd (refused_by_one _ refused.pass x (none_left (joined refused.passes) refused.pass refused.are) refused.by.by)
+read_for_nothing site name snap e (reply.Refused x) refused = absurd (refused_by_one _ _ refused.pass x (none_left (joined refused.passes) refused.pass refused.are) refused.by.by)
 read_for_nothing site name snap e _ meant = absurd meant
 
 list_for_nothing : (site : SiteId) (r : Reply) → ListMeans site [] r → r ≡ reply.Refused refusal.BadShape
 list_for_nothing site (reply.Names names) meant = cc
-list_for_nothing site (reply.Refused x) by = absurd (refused_by_one _ [] x refl by.by)
+list_for_nothing site (reply.Refused x) by = absurd (refused_by_one _ _ [] x refl by.by)
 list_for_nothing site _ meant = absurd meant
 
 info_for_nothing : (site : SiteId) (name : List ℕ) (r : Reply) → InfoMeans site name [] r → r ≡ reply.Refused refusal.BadShape
 info_for_nothing site name (reply.Info h) meant = let are = meant.are in cc
-info_for_nothing site name (reply.Refused x) by = absurd (refused_by_one _ [] x refl by.by)
+info_for_nothing site name (reply.Refused x) by = absurd (refused_by_one _ _ [] x refl by.by)
 info_for_nothing site name _ meant = absurd meant
 
 snap_list_for_nothing : (site : SiteId) (name : List ℕ) (r : Reply) → SnapListMeans site name [] r → r ≡ reply.Refused refusal.BadShape
 snap_list_for_nothing site name (reply.Snaps snaps) meant = let are = meant.are in cc
-snap_list_for_nothing site name (reply.Refused x) by = absurd (refused_by_one _ [] x refl by.by)
+snap_list_for_nothing site name (reply.Refused x) by = absurd (refused_by_one _ _ [] x refl by.by)
 snap_list_for_nothing site name _ meant = absurd meant
 
 snap_create_for_nothing : (site : SiteId) (name snap : List ℕ) (r : Reply) → SnapCreateMeans site name snap [] r → r ≡ reply.Refused refusal.BadShape
 snap_create_for_nothing site name snap reply.Done meant = let are = meant.are in cc
-snap_create_for_nothing site name snap (reply.Refused x) by = absurd (refused_by_one _ [] x refl by.by)
+snap_create_for_nothing site name snap (reply.Refused x) by = absurd (refused_by_one _ _ [] x refl by.by)
 snap_create_for_nothing site name snap _ meant = absurd meant
 
 snap_remove_for_nothing : (site : SiteId) (name snap : List ℕ) (r : Reply) → SnapRemoveMeans site name snap [] r → r ≡ reply.Refused refusal.BadShape
 snap_remove_for_nothing site name snap reply.Done meant = let are = meant.are in cc
-snap_remove_for_nothing site name snap (reply.Refused x) by = absurd (refused_by_one _ [] x refl by.by)
+snap_remove_for_nothing site name snap (reply.Refused x) by = absurd (refused_by_one _ _ [] x refl by.by)
 snap_remove_for_nothing site name snap _ meant = absurd meant
 
 pub meant_for_nothing : (site : SiteId) (c : Command) (r : Reply) → IsMeantBy site c [] r → r ≡ reply.Refused refusal.BadShape
@@ -168,9 +168,9 @@ same_last (u ∷ one) (v ∷ two) s t same = let rest : one ++ s ∷ [] ≡ two 
 -- ---- a name that isn't there
 
 -- at its one operation
-unknown_name : (site : SiteId) (name : List ℕ) (refuses : HeaderView → Option Refusal) (step : Answered) → IsRefused site (look_up name) refuses (step ∷ []) refusal.NoImage
+unknown_name : (site : SiteId) (name : List ℕ) (refuses : HeaderView → Option Refusal) (late : Refusal → Type 0) (step : Answered) → IsRefused site (look_up name) refuses late (step ∷ []) refusal.NoImage
     → step ≡ record { site = site; op = look_up name; answer = answer.Absent }
-unknown_name site name refuses step refused = go step refused.own refused.by.refused (same_last [] refused.by.before step refused.by.last refused.by.are)
+unknown_name site name refuses late step refused = go step refused.own refused.by.refused (same_last [] refused.by.before step refused.by.last refused.by.are)
   where
     absent : (a : Answer) → refusal_by refuses (look_up name) a ≡ Some refusal.NoImage → a ≡ answer.Absent
     absent answer.Absent is = refl
@@ -201,21 +201,21 @@ one_pass site name snap e (p ∷ passes) pass step (sees, see) are =
 
 pub unknown_image : (site : SiteId) (c : Command) (name : List ℕ) (step : Answered) → looks_up c ≡ Some name → IsMeantBy site c (step ∷ []) (reply.Refused refusal.NoImage)
     → step ≡ record { site = site; op = look_up name; answer = answer.Absent }
-unknown_image site (command.Write image at bytes) name step is refused = subst (Unknown site step) (named image name is) (unknown_name site image _ step refused)
-unknown_image site (command.Fill image at len byte) name step is refused = subst (Unknown site step) (named image name is) (unknown_name site image _ step refused)
+unknown_image site (command.Write image at bytes) name step is refused = subst (Unknown site step) (named image name is) (unknown_name site image _ _ step refused)
+unknown_image site (command.Fill image at len byte) name step is refused = subst (Unknown site step) (named image name is) (unknown_name site image _ _ step refused)
 unknown_image site (command.Read image snap at len) name step is refused =
     subst (Unknown site step) (named image name is)
-    (unknown_name site image _ step (subst (λ pass. IsRefused site (look_up image) _ pass refusal.NoImage) (sym (one_pass site image snap _ refused.passes refused.pass step refused.before refused.are)) refused.by))
-unknown_image site (command.Info image) name step is refused = subst (Unknown site step) (named image name is) (unknown_name site image _ step refused)
-unknown_image site (command.SnapList image) name step is refused = subst (Unknown site step) (named image name is) (unknown_name site image _ step refused)
-unknown_image site (command.SnapCreate image snap) name step is refused = subst (Unknown site step) (named image name is) (unknown_name site image _ step refused)
-unknown_image site (command.SnapRemove image snap) name step is refused = subst (Unknown site step) (named image name is) (unknown_name site image _ step refused)
+    (unknown_name site image _ _ step (subst (λ pass. IsRefused site (look_up image) _ _ pass refusal.NoImage) (sym (one_pass site image snap _ refused.passes refused.pass step refused.before refused.are)) refused.by))
+unknown_image site (command.Info image) name step is refused = subst (Unknown site step) (named image name is) (unknown_name site image _ _ step refused)
+unknown_image site (command.SnapList image) name step is refused = subst (Unknown site step) (named image name is) (unknown_name site image _ _ step refused)
+unknown_image site (command.SnapCreate image snap) name step is refused = subst (Unknown site step) (named image name is) (unknown_name site image _ _ step refused)
+unknown_image site (command.SnapRemove image snap) name step is refused = subst (Unknown site step) (named image name is) (unknown_name site image _ _ step refused)
 unknown_image site _ name step is refused = cc
 
 -- ---- which refusal a look is refused by
 
-module _ (refuses : HeaderView → Option Refusal) (x : Refusal) (before : List Answered) (there : SiteId) (id : ℕ) (h : HeaderView) where
-  refused_at_look : IsRefusedBy refuses (before ++ looked_at there id h ∷ []) x → refuses h ≡ Some x
+module _ (refuses : HeaderView → Option Refusal) (late : Refusal → Type 0) (x : Refusal) (before : List Answered) (there : SiteId) (id : ℕ) (h : HeaderView) where
+  refused_at_look : IsRefusedBy refuses late (before ++ looked_at there id h ∷ []) x → refuses h ≡ Some x
   refused_at_look by =
       let last = same_last before by.before (looked_at there id h) by.last by.are in
       subst (λ (s : Answered). refusal_by refuses s.op s.answer ≡ Some x) (sym last) by.refused
@@ -227,12 +227,12 @@ secondary_first _ later x refused is = cc
 module _ (site there : SiteId) (image : List ℕ) where
   pub write_secondary_first : (at : ℕ) (bytes : List ℕ) (before : List Answered) (id : ℕ) (h : HeaderView) (x : Refusal)
       → WriteMeans site image at bytes (before ++ looked_at there id h ∷ []) (reply.Refused x) → h.role ≡ role.Secondary → x ≡ refusal.NonPrimary
-  write_secondary_first at bytes before id h x meant is = secondary_first h.role _ x (refused_at_look (write_refuses (extent_at at bytes)) x before there id h meant.by) is
+  write_secondary_first at bytes before id h x meant is = secondary_first h.role _ x (refused_at_look (write_refuses (extent_at at bytes)) by_fence x before there id h meant.by) is
 
   pub take_secondary_first : (snap : List ℕ) (before : List Answered) (id : ℕ) (h : HeaderView) (x : Refusal)
       → SnapCreateMeans site image snap (before ++ looked_at there id h ∷ []) (reply.Refused x) → h.role ≡ role.Secondary → x ≡ refusal.NonPrimary
-  take_secondary_first snap before id h x meant is = secondary_first h.role _ x (refused_at_look (create_refuses snap) x before there id h meant.by) is
+  take_secondary_first snap before id h x meant is = secondary_first h.role _ x (refused_at_look (create_refuses snap) never x before there id h meant.by) is
 
   pub remove_secondary_first : (snap : List ℕ) (before : List Answered) (id : ℕ) (h : HeaderView) (x : Refusal)
       → SnapRemoveMeans site image snap (before ++ looked_at there id h ∷ []) (reply.Refused x) → h.role ≡ role.Secondary → x ≡ refusal.NonPrimary
-  remove_secondary_first snap before id h x meant is = secondary_first h.role _ x (refused_at_look (remove_refuses snap) x before there id h meant.by) is
+  remove_secondary_first snap before id h x meant is = secondary_first h.role _ x (refused_at_look (remove_refuses snap) never x before there id h meant.by) is

@@ -22,7 +22,7 @@ use Rattle.rbd_machine.specs.Path.{Answered}
 use Rattle.rbd_machine.specs.Refused.{refusal_by, only_looks, AreLooks, IsRefusedBy}
 use Rattle.rbd_meaning.specs.Meant.{IsMeantBy}
 use Rattle.rbd_meaning.specs.Reads.{AreRead, SeeOthers, RefusedAtLast}
-use Rattle.rbd_meaning.specs.Undone.{tells_undone, ChangeNothing}
+use Rattle.rbd_meaning.specs.Undone.{ComesLate, tells_undone, ChangeNothing}
 
 nothing_after : (one two : List Answered) → ChangeNothing one → ChangeNothing two → ChangeNothing (one ++ two)
 nothing_after [] two none more = more
@@ -67,10 +67,10 @@ module _ (refuses : HeaderView → Option Refusal) (x : Refusal) where
   undone o answer.Fenced is = inr refl
   undone _ _ is = cc
 
-  refused_changes_nothing : (steps : List Answered) → IsRefusedBy refuses steps x → (x ≡ refusal.Fenced → ⊥) → ChangeNothing steps
-  refused_changes_nothing steps by not_fenced =
-      subst ChangeNothing (sym by.are)
-      (nothing_after by.before (by.last ∷ []) (looks_change_nothing by.before (by.unchanged not_fenced)) (undone by.last.op by.last.answer by.refused, tt))
+refused_changes_nothing : (refuses : HeaderView → Option Refusal) (late : Refusal → Type 0) (x : Refusal) (steps : List Answered) → IsRefusedBy refuses late steps x → (late x → ⊥) → ChangeNothing steps
+refused_changes_nothing refuses late x steps by not_late =
+    subst ChangeNothing (sym by.are)
+    (nothing_after by.before (by.last ∷ []) (looks_change_nothing by.before (by.unchanged not_late)) (undone refuses x by.last.op by.last.answer by.refused, tt))
 
 -- ---- the passes of a read
 
@@ -88,22 +88,32 @@ passes_change_nothing site name snap e (pass ∷ passes) (sees, see) =
     (subst ChangeNothing (sym sees.pass.are) (inl refl, (inl refl, nothing_after sees.pass.reads (_ ∷ []) (reads_change_nothing _ sees.pass.reads site sees.pass.image sees.pass.view.snap sees.pass.read) (inl refl, tt))))
     (passes_change_nothing site name snap e passes see)
 
-read_changes_nothing : (site : SiteId) (name : List ℕ) (snap : Option (List ℕ)) (e : Extent) (steps : List Answered) (x : Refusal) → RefusedAtLast site name snap e steps x → (x ≡ refusal.Fenced → ⊥) → ChangeNothing steps
-read_changes_nothing site name snap e steps x refused not_fenced =
+read_changes_nothing : (site : SiteId) (name : List ℕ) (snap : Option (List ℕ)) (e : Extent) (steps : List Answered) (x : Refusal) → RefusedAtLast site name snap e steps x → ChangeNothing steps
+read_changes_nothing site name snap e steps x refused =
     subst ChangeNothing (sym refused.are)
-    (nothing_after (joined refused.passes) refused.pass (passes_change_nothing site name snap e refused.passes refused.before) (refused_changes_nothing _ x refused.pass refused.by.by not_fenced))
+    (nothing_after (joined refused.passes) refused.pass (passes_change_nothing site name snap e refused.passes refused.before) (refused_changes_nothing _ _ x refused.pass refused.by.by (λ late. late)))
 
 -- ---- all commands
 
-pub meant_changes_nothing : (site : SiteId) (c : Command) (steps : List Answered) (x : Refusal) → IsMeantBy site c steps (reply.Refused x) → (x ≡ refusal.Fenced → ⊥) → ChangeNothing steps
-meant_changes_nothing site (command.Create image size shape) steps x (plain, inl outside) not_fenced = subst ChangeNothing (sym outside.none) tt
-meant_changes_nothing site (command.Create image size shape) steps x (plain, inr unmade) not_fenced = refused_changes_nothing _ x steps unmade.by.by not_fenced
-meant_changes_nothing site (command.Write image at bytes) steps x by not_fenced = refused_changes_nothing _ x steps by.by not_fenced
-meant_changes_nothing site (command.Fill image at len byte) steps x by not_fenced = refused_changes_nothing _ x steps by.by not_fenced
-meant_changes_nothing site (command.Read image snap at len) steps x refused not_fenced = read_changes_nothing site image snap _ steps x refused not_fenced
-meant_changes_nothing site command.List steps x by not_fenced = refused_changes_nothing _ x steps by.by not_fenced
-meant_changes_nothing site (command.Info image) steps x by not_fenced = refused_changes_nothing _ x steps by.by not_fenced
-meant_changes_nothing site (command.SnapList image) steps x by not_fenced = refused_changes_nothing _ x steps by.by not_fenced
-meant_changes_nothing site (command.SnapCreate image snap) steps x by not_fenced = refused_changes_nothing _ x steps by.by not_fenced
-meant_changes_nothing site (command.SnapRemove image snap) steps x by not_fenced = refused_changes_nothing _ x steps by.by not_fenced
-meant_changes_nothing site _ steps x meant not_fenced = absurd meant
+pub meant_changes_nothing : (site : SiteId) (c : Command) (steps : List Answered) (x : Refusal) → IsMeantBy site c steps (reply.Refused x) → (ComesLate c x → ⊥) → ChangeNothing steps
+meant_changes_nothing site (command.Create image size shape) steps x (plain, inl outside) not_late = subst ChangeNothing (sym outside.none) tt
+meant_changes_nothing site (command.Create image size shape) steps x (plain, inr unmade) not_late = refused_changes_nothing _ _ x steps unmade.by.by not_late
+meant_changes_nothing site (command.Write image at bytes) steps x by not_late = refused_changes_nothing _ _ x steps by.by not_late
+meant_changes_nothing site (command.Fill image at len byte) steps x by not_late = refused_changes_nothing _ _ x steps by.by not_late
+meant_changes_nothing site (command.Read image snap at len) steps x refused not_late = read_changes_nothing site image snap _ steps x refused
+meant_changes_nothing site command.List steps x by not_late = refused_changes_nothing _ _ x steps by.by not_late
+meant_changes_nothing site (command.Info image) steps x by not_late = refused_changes_nothing _ _ x steps by.by not_late
+meant_changes_nothing site (command.SnapList image) steps x by not_late = refused_changes_nothing _ _ x steps by.by not_late
+meant_changes_nothing site (command.SnapCreate image snap) steps x by not_late = refused_changes_nothing _ _ x steps by.by not_late
+meant_changes_nothing site (command.SnapRemove image snap) steps x by not_late = refused_changes_nothing _ _ x steps by.by not_late
+meant_changes_nothing site _ steps x meant not_late = absurd meant
+
+-- but for the fence, whatever the command is
+pub meant_unless_fenced : (site : SiteId) (c : Command) (steps : List Answered) (x : Refusal) → IsMeantBy site c steps (reply.Refused x) → (x ≡ refusal.Fenced → ⊥) → ChangeNothing steps
+meant_unless_fenced site c steps x meant not_fenced = meant_changes_nothing site c steps x meant (not_late c)
+  where
+    not_late : (c : Command) → ComesLate c x → ⊥
+    not_late (command.Create image size shape) late = not_fenced late
+    not_late (command.Write image at bytes) late = not_fenced late
+    not_late (command.Fill image at len byte) late = not_fenced late
+    not_late _ late = absurd late

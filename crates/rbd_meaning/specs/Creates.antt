@@ -14,7 +14,7 @@ use Rattle.rbd_kinds.specs.declared.reply.Reply.TheVariants as reply
 use Rattle.rbd_header.specs.Header.{new_header}
 use Rattle.rbd_layout.specs.Asked.{layout_of, KeepsLimits}
 use Rattle.rbd_machine.specs.Path.{Answered}
-use Rattle.rbd_machine.specs.Refused.{refuses_none, IsRefused}
+use Rattle.rbd_machine.specs.Refused.{refuses_none, by_fence, IsRefused}
 
 -- An id was drawn for the name, and the header of a new image was made under it.
 pub record MakesOne (site : SiteId) (name : List ℕ) (h : HeaderView) (steps : List Answered) : Type 0 where
@@ -36,7 +36,7 @@ pub record IsOutside (size : ℕ) (shape : Shape) (steps : List Answered) (x : R
 -- The shape is within them, and the last answer refused it.
 pub record IsNotMade (site : SiteId) (name : List ℕ) (size : ℕ) (shape : Shape) (steps : List Answered) (x : Refusal) : Type 0 where
   pub within : KeepsLimits (layout_of shape) size
-  pub by : IsRefused site (op.Directory (directory.Add name)) refuses_none steps x
+  pub by : IsRefused site (op.Directory (directory.Add name)) refuses_none by_fence steps x
 
 abbrev pub CreateMeans : SiteId → (name : List ℕ) → (size : ℕ) → Shape → List Answered → Reply → Type 0
 CreateMeans site name size shape steps reply.Done = Makes site name size shape steps

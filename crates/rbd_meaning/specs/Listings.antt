@@ -9,7 +9,7 @@ use Rattle.rbd_kinds.specs.declared.reply.Reply.{Reply}
 use Rattle.rbd_kinds.specs.declared.reply.Reply.TheVariants as reply
 use Rattle.rbd_machine.specs.About.{look_up}
 use Rattle.rbd_machine.specs.Path.{Answered, found, looked_at}
-use Rattle.rbd_machine.specs.Refused.{refuses_none, IsRefused}
+use Rattle.rbd_machine.specs.Refused.{refuses_none, never, IsRefused}
 
 -- The site told the names.
 abbrev pub listed : SiteId → (names : List (List ℕ)) → Answered
@@ -27,15 +27,15 @@ pub record ShowsHeader (site : SiteId) (name : List ℕ) (shown : HeaderView →
 
 abbrev pub ListMeans : SiteId → List Answered → Reply → Type 0
 ListMeans site steps (reply.Names names) = steps ≡ listed site names ∷ []
-ListMeans site steps (reply.Refused x) = IsRefused site (op.Directory directory.List) refuses_none steps x
+ListMeans site steps (reply.Refused x) = IsRefused site (op.Directory directory.List) refuses_none never steps x
 ListMeans site steps _ = ⊥
 
 abbrev pub InfoMeans : SiteId → (image : List ℕ) → List Answered → Reply → Type 0
 InfoMeans site image steps (reply.Info h) = ShowsHeader site image reply.Info (reply.Info h) steps
-InfoMeans site image steps (reply.Refused x) = IsRefused site (look_up image) refuses_none steps x
+InfoMeans site image steps (reply.Refused x) = IsRefused site (look_up image) refuses_none never steps x
 InfoMeans site image steps _ = ⊥
 
 abbrev pub SnapListMeans : SiteId → (image : List ℕ) → List Answered → Reply → Type 0
 SnapListMeans site image steps (reply.Snaps snaps) = ShowsHeader site image shown_snaps (reply.Snaps snaps) steps
-SnapListMeans site image steps (reply.Refused x) = IsRefused site (look_up image) refuses_none steps x
+SnapListMeans site image steps (reply.Refused x) = IsRefused site (look_up image) refuses_none never steps x
 SnapListMeans site image steps _ = ⊥

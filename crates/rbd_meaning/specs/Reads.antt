@@ -22,7 +22,7 @@ use Rattle.rbd_machine.specs.About.{look_up}
 use Rattle.rbd_machine.specs.Objects.{data_read}
 use Rattle.rbd_machine.specs.Passes.{joined}
 use Rattle.rbd_machine.specs.Path.{Answered, found, looked_at}
-use Rattle.rbd_machine.specs.Refused.{IsRefused}
+use Rattle.rbd_machine.specs.Refused.{never, IsRefused}
 use Rattle.rbd_meaning.specs.Arrange.{bytes_of_extent}
 use Rattle.rbd_meaning.specs.Range.{out_of_range}
 
@@ -111,7 +111,7 @@ pub record RefusedAtLast (site : SiteId) (name : List ℕ) (snap : Option (List 
   pub pass : List Answered
   pub are : steps ≡ joined passes ++ pass
   pub before : SeeOthers site name snap e passes
-  pub by : IsRefused site (look_up name) (read_refuses snap e) pass x
+  pub by : IsRefused site (look_up name) (read_refuses snap e) never pass x
   pub early : (x ≡ refusal.Fenced → ⊥) → length pass ≤ 2
 
 abbrev pub ReadMeans : SiteId → (image : List ℕ) → (snap : Option (List ℕ)) → Extent → List Answered → Reply → Type 0

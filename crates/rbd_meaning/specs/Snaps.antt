@@ -16,7 +16,7 @@ use Rattle.rbd_kinds.specs.Header.{snap_named}
 use Rattle.rbd_header.specs.Header.{is_full}
 use Rattle.rbd_machine.specs.About.{look_up}
 use Rattle.rbd_machine.specs.Path.{Answered, found, looked_at}
-use Rattle.rbd_machine.specs.Refused.{IsRefused}
+use Rattle.rbd_machine.specs.Refused.{never, IsRefused}
 use Rattle.rbd_machine.specs.Steps.{or_else, non_primary}
 
 -- ---- refusals
@@ -70,10 +70,10 @@ pub record RemovesOne (site : SiteId) (image_name snap : List ℕ) (steps : List
 
 abbrev pub SnapCreateMeans : SiteId → (image snap : List ℕ) → List Answered → Reply → Type 0
 SnapCreateMeans site image snap steps reply.Done = TakesOne site image snap steps
-SnapCreateMeans site image snap steps (reply.Refused x) = IsRefused site (look_up image) (create_refuses snap) steps x
+SnapCreateMeans site image snap steps (reply.Refused x) = IsRefused site (look_up image) (create_refuses snap) never steps x
 SnapCreateMeans site image snap steps _ = ⊥
 
 abbrev pub SnapRemoveMeans : SiteId → (image snap : List ℕ) → List Answered → Reply → Type 0
 SnapRemoveMeans site image snap steps reply.Done = RemovesOne site image snap steps
-SnapRemoveMeans site image snap steps (reply.Refused x) = IsRefused site (look_up image) (remove_refuses snap) steps x
+SnapRemoveMeans site image snap steps (reply.Refused x) = IsRefused site (look_up image) (remove_refuses snap) never steps x
 SnapRemoveMeans site image snap steps _ = ⊥

@@ -14,7 +14,7 @@ use Rattle.rbd_header.specs.Header.{context_of}
 use Rattle.rbd_machine.specs.About.{look_up}
 use Rattle.rbd_machine.specs.Objects.{data_write}
 use Rattle.rbd_machine.specs.Path.{Answered, found, looked_at}
-use Rattle.rbd_machine.specs.Refused.{IsRefused}
+use Rattle.rbd_machine.specs.Refused.{by_fence, IsRefused}
 use Rattle.rbd_machine.specs.Steps.{or_else, non_primary}
 use Rattle.rbd_meaning.specs.Range.{extent_at, out_of_range}
 
@@ -44,5 +44,5 @@ pub record WritesWhole (site : SiteId) (name : List ℕ) (at : ℕ) (bytes : Lis
 
 abbrev pub WriteMeans : SiteId → (image : List ℕ) → (at : ℕ) → (bytes : List ℕ) → List Answered → Reply → Type 0
 WriteMeans site image at bytes steps reply.Done = WritesWhole site image at bytes steps
-WriteMeans site image at bytes steps (reply.Refused x) = IsRefused site (look_up image) (write_refuses (extent_at at bytes)) steps x
+WriteMeans site image at bytes steps (reply.Refused x) = IsRefused site (look_up image) (write_refuses (extent_at at bytes)) by_fence steps x
 WriteMeans site image at bytes steps _ = ⊥

@@ -18,7 +18,7 @@ ghost use Rattle.rbd_meaning.specs.Meant.{IsMeantBy};
 ghost use Rattle.rbd_meaning.specs.Named.{looks_up};
 ghost use Rattle.rbd_meaning.specs.Replies.{may_answer};
 ghost use Rattle.rbd_meaning.specs.Snaps.{TakesOne, RemovesOne};
-ghost use Rattle.rbd_meaning.specs.Undone.{ChangeNothing};
+ghost use Rattle.rbd_meaning.specs.Undone.{ChangeNothing, ComesLate};
 
 /// No reply of one kind is meant for a command of another.
 pub fn replies_are_of_their_command()
@@ -33,7 +33,9 @@ pub fn nothing_is_granted_for_nothing()
 /// A request that was refused has changed nothing, but where the fence refused it, which may come at
 /// any time.
 pub fn refusals_change_nothing()
-    ensures { (site : SiteId) (command : Command) (steps : List Answered) (x : Refusal)
+    ensures early { (site : SiteId) (command : Command) (steps : List Answered) (x : Refusal)
+        → IsMeantBy site command steps (Refused x) → (ComesLate command x → ⊥) → ChangeNothing steps }
+    ensures but_for_the_fence { (site : SiteId) (command : Command) (steps : List Answered) (x : Refusal)
         → IsMeantBy site command steps (Refused x) → (x ≡ Fenced → ⊥) → ChangeNothing steps }
 {}
 
