@@ -37,7 +37,7 @@ use Rattle.rbd_admin.specs.Snap.{is_snap, on_snap, take, remove_listed, remove, 
 use Rattle.rbd_admin.proofs.About.{create_is_own, list_is_own, listing_is_own, taking_is_own, removing_is_own}
 use Rattle.rbd_admin.proofs.Decided.{limits_or_not}
 use Rattle.rbd_admin.proofs.Changes.{takes_one, removes_one}
-use Rattle.rbd_admin.proofs.Shown.{create_makes_one, names_are_listed, header_is_shown}
+use Rattle.rbd_admin.proofs.Shown.{create_makes_one, create_has_few, names_are_listed, header_is_shown}
 
 -- ---- what is granted
 
@@ -92,6 +92,7 @@ module _ (site : SiteId) (name : List ℕ) (size : ℕ) (shape : Shape) (plan : 
           own = create_is_own site name (new_header (layout_of shape) size) feds steps (Return (reply.Refused x)) (subst (λ p. IsWalk Goto p feds steps (Return (reply.Refused x))) (is.within keeps) walk);
           by = subst (IsRefusedBy refuses_none by_fence steps) (same_refusal x y same) from.by;
         };
+        few = create_has_few site name (new_header (layout_of shape) size) x feds steps (subst (λ p. IsWalk Goto p feds steps (Return (reply.Refused x))) (is.within keeps) walk);
       })
       go _ (inl granted) walk = absurd granted
       go _ (inr (y, same, from)) walk = cc

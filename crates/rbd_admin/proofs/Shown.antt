@@ -1,5 +1,5 @@
 -- Images that are made, and what listings show, step by step.
-use Rattle.std.proofs.Common.{◌≡◌, ℕ, List, [], ◌∷◌, refl, ap, ◌∙◌, subst}
+use Rattle.std.proofs.Common.{◌≡◌, ◌≤◌, ℕ, suc, length, arith, List, [], ◌∷◌, refl, ap, ◌∙◌, subst}
 use Rattle.rbd_kinds.specs.declared.answer.Answer.{Answer}
 use Rattle.rbd_kinds.specs.declared.answer.Answer.TheVariants as answer
 use Rattle.rbd_kinds.specs.declared.command.Shape.{Shape}
@@ -9,6 +9,7 @@ use Rattle.rbd_kinds.specs.declared.header_op.HeaderOp.TheVariants as header
 use Rattle.rbd_kinds.specs.declared.id.SiteId.{SiteId}
 use Rattle.rbd_kinds.specs.declared.machine.Fed.{Fed}
 use Rattle.rbd_kinds.specs.declared.operation.Op.TheVariants as op
+use Rattle.rbd_kinds.specs.declared.refusal.Refusal.{Refusal}
 use Rattle.rbd_kinds.specs.declared.refusal.Refusal.TheVariants as refusal
 use Rattle.rbd_kinds.specs.declared.reply.Reply.{Reply}
 use Rattle.rbd_kinds.specs.declared.reply.Reply.TheVariants as reply
@@ -18,7 +19,7 @@ use Rattle.rbd_machine.specs.Path.{Answered, IsWalk, found, looked_at}
 use Rattle.rbd_machine.specs.Plan.{Plan, Return, Goto}
 use Rattle.rbd_machine.specs.Steps.{on_id, on_header, on_done}
 use Rattle.rbd_machine.specs.declared.reason.Reason.TheVariants as reason
-use Rattle.rbd_machine.proofs.Walked.{EndsUnrefused, ended, went_on, told_image, told_header, told_done, refusal_ends_otherwise, nothing_ends_otherwise}
+use Rattle.rbd_machine.proofs.Walked.{EndsUnrefused, ended, absent_ends, asked_to, went_on, told_image, told_header, told_done, refusal_ends_otherwise, nothing_ends_otherwise}
 use Rattle.rbd_meaning.specs.Creates.{MakesOne}
 use Rattle.rbd_meaning.specs.Listings.{ShowsHeader, listed}
 use Rattle.rbd_admin.specs.Create.{IsCreate, on_drawn, making, drawing}
@@ -62,6 +63,30 @@ pub create_keeps_limits : (site : SiteId) (name : List ℕ) (size : ℕ) (shape 
     → IsCreate site name size shape plan → (KeepsLimits (layout_of shape) size → ⊥) → IsWalk Goto plan feds steps (Return reply.Done) → ⊥
 create_keeps_limits site name size shape plan feds steps is outside walk =
     refusal_ends_otherwise (Return reply.Done) tt refusal.BadShape feds steps (subst (λ p. IsWalk Goto p feds steps (Return reply.Done)) (is.outside outside) walk)
+
+pub create_has_few : (site : SiteId) (name : List ℕ) (h : HeaderView) (x : Refusal) (feds : List Fed) (steps : List Answered) → IsWalk Goto (drawing site name h) feds steps (Return (reply.Refused x)) → length steps ≤ 2
+create_has_few site name h x feds steps walk =
+    let w = asked_to (reply.Refused x) site reason.Own (op.Directory (directory.Add name)) (on_drawn (making site h)) feds steps walk in
+    let one_more : length steps ≡ suc (length w.rest) = ap length w.are in
+    let short = at_drawn w.answer w.more w.rest w.walk in
+    omega arith
+  where
+    none_left : (rest : List Answered) → rest ≡ [] → length rest ≤ 1
+    none_left rest none = let no : length rest ≡ 0 = ap length none in omega arith
+
+    at_made : (a : Answer) (more : List Fed) (rest : List Answered) → IsWalk Goto (on_done (Return reply.Done) a) more rest (Return (reply.Refused x)) → rest ≡ []
+    at_made answer.Done more rest w = (ended reply.Done more rest (Return (reply.Refused x)) w).0
+    at_made a more rest w = absent_ends a more rest (Return (reply.Refused x)) w
+
+    at_drawn : (a : Answer) (more : List Fed) (rest : List Answered) → IsWalk Goto (on_drawn (making site h) a) more rest (Return (reply.Refused x)) → length rest ≤ 1
+    at_drawn (answer.Id image) more rest w =
+        let m = asked_to (reply.Refused x) site reason.Own (op.Header image (header.Create h)) (on_done (Return reply.Done)) more rest w in
+        let one_more : length rest ≡ suc (length m.rest) = ap length m.are in
+        let none : length m.rest ≡ 0 = ap length (at_made m.answer m.more m.rest m.walk) in
+        omega arith
+    at_drawn answer.Exists more rest w = none_left rest (ended _ more rest (Return (reply.Refused x)) w).0
+    at_drawn answer.Full more rest w = none_left rest (ended _ more rest (Return (reply.Refused x)) w).0
+    at_drawn a more rest w = none_left rest (absent_ends a more rest (Return (reply.Refused x)) w)
 
 -- ---- ls, info, snap ls
 

@@ -96,6 +96,24 @@ went_on_to last site why op next (fed.Answer a ∷ more) steps other (first, wal
   walk = subst (λ p. IsWalk Goto p more first.rest last) (settled_goto (next a)) walk;
 }
 
+pub awaited_to : (r : Reply) (wait : Wait) (next : Plan) (feds : List Fed) (steps : List Answered) → IsWalk Goto (Await wait next) feds steps (Return r) → Passed (Return r) next steps
+awaited_to r wait next [] steps walk = let same = walk.1 in cc
+awaited_to r wait next (fed.Answer a ∷ more) steps walk = absurd walk
+awaited_to r wait next (fed.Passed ∷ more) steps walk = record { more = more; walk = subst (λ p. IsWalk Goto p more steps (Return r)) (settled_goto next) walk }
+
+pub noted_to : (r : Reply) (site : SiteId) (image : ℕ) (event : Event) (next : Plan) (feds : List Fed) (steps : List Answered) → IsWalk Goto (Note site image event next) feds steps (Return r) → Passed (Return r) next steps
+noted_to r site image event next [] steps walk = let same = walk.1 in cc
+noted_to r site image event next (fed.Answer a ∷ more) steps walk = absurd walk
+noted_to r site image event next (fed.Passed ∷ more) steps walk = record { more = more; walk = subst (λ p. IsWalk Goto p more steps (Return r)) (settled_goto next) walk }
+
+pub asked_to : (r : Reply) (site : SiteId) (why : Reason) (op : Op) (next : Answer → Plan) (feds : List Fed) (steps : List Answered) → IsWalk Goto (Ask site why op next) feds steps (Return r) → WentOn (Return r) site op next steps
+asked_to r site why op next feds steps walk = went_on_to (Return r) site why op next feds steps (λ same. cc) walk
+
+-- what isn't there ends it
+pub absent_ends : (a : Answer) (feds : List Fed) (steps : List Answered) (last : Plan) → IsWalk Goto (not_there a) feds steps last → steps ≡ []
+absent_ends answer.Fenced feds steps last walk = (ended _ feds steps last walk).0
+absent_ends _ feds steps last walk = (ended _ feds steps last walk).0
+
 module _ (last : Plan) (kind : EndsUnrefused last) where
   pub refusal_ends_otherwise : (x : Refusal) (feds : List Fed) (steps : List Answered) → IsWalk Goto (Return (reply.Refused x)) feds steps last → ⊥
   refusal_ends_otherwise x feds steps w = subst EndsUnrefused (ended (reply.Refused x) feds steps last w).1 kind

@@ -110,7 +110,7 @@ create_for_nothing site name size shape _ meant = absurd meant
 
 write_for_nothing : (site : SiteId) (name : List ℕ) (at : ℕ) (bytes : List ℕ) (r : Reply) → WriteMeans site name at bytes [] r → r ≡ reply.Refused refusal.BadShape
 write_for_nothing site name at bytes reply.Done meant = let are = meant.are in cc
-write_for_nothing site name at bytes (reply.Refused x) by = absurd (refused_by_one _ _ [] x refl by.by)
+write_for_nothing site name at bytes (reply.Refused x) refuses = absurd (refused_by_one _ _ [] x refl refuses.refused.by)
 write_for_nothing site name at bytes _ meant = absurd meant
 
 read_for_nothing : (site : SiteId) (name : List ℕ) (snap : Option (List ℕ)) (e : Extent) (r : Reply) → ReadMeans site name snap e [] r → r ≡ reply.Refused refusal.BadShape
@@ -201,8 +201,8 @@ one_pass site name snap e (p ∷ passes) pass step (sees, see) are =
 
 pub unknown_image : (site : SiteId) (c : Command) (name : List ℕ) (step : Answered) → looks_up c ≡ Some name → IsMeantBy site c (step ∷ []) (reply.Refused refusal.NoImage)
     → step ≡ record { site = site; op = look_up name; answer = answer.Absent }
-unknown_image site (command.Write image at bytes) name step is refused = subst (Unknown site step) (named image name is) (unknown_name site image _ _ step refused)
-unknown_image site (command.Fill image at len byte) name step is refused = subst (Unknown site step) (named image name is) (unknown_name site image _ _ step refused)
+unknown_image site (command.Write image at bytes) name step is refuses = subst (Unknown site step) (named image name is) (unknown_name site image _ _ step refuses.refused)
+unknown_image site (command.Fill image at len byte) name step is refuses = subst (Unknown site step) (named image name is) (unknown_name site image _ _ step refuses.refused)
 unknown_image site (command.Read image snap at len) name step is refused =
     subst (Unknown site step) (named image name is)
     (unknown_name site image _ _ step (subst (λ pass. IsRefused site (look_up image) _ _ pass refusal.NoImage) (sym (one_pass site image snap _ refused.passes refused.pass step refused.before refused.are)) refused.by))
@@ -227,7 +227,7 @@ secondary_first _ later x refused is = cc
 module _ (site there : SiteId) (image : List ℕ) where
   pub write_secondary_first : (at : ℕ) (bytes : List ℕ) (before : List Answered) (id : ℕ) (h : HeaderView) (x : Refusal)
       → WriteMeans site image at bytes (before ++ looked_at there id h ∷ []) (reply.Refused x) → h.role ≡ role.Secondary → x ≡ refusal.NonPrimary
-  write_secondary_first at bytes before id h x meant is = secondary_first h.role _ x (refused_at_look (write_refuses (extent_at at bytes)) by_fence x before there id h meant.by) is
+  write_secondary_first at bytes before id h x meant is = secondary_first h.role _ x (refused_at_look (write_refuses (extent_at at bytes)) by_fence x before there id h meant.refused.by) is
 
   pub take_secondary_first : (snap : List ℕ) (before : List Answered) (id : ℕ) (h : HeaderView) (x : Refusal)
       → SnapCreateMeans site image snap (before ++ looked_at there id h ∷ []) (reply.Refused x) → h.role ≡ role.Secondary → x ≡ refusal.NonPrimary

@@ -98,8 +98,8 @@ read_changes_nothing site name snap e steps x refused =
 pub meant_changes_nothing : (site : SiteId) (c : Command) (steps : List Answered) (x : Refusal) → IsMeantBy site c steps (reply.Refused x) → (ComesLate c x → ⊥) → ChangeNothing steps
 meant_changes_nothing site (command.Create image size shape) steps x (plain, inl outside) not_late = subst ChangeNothing (sym outside.none) tt
 meant_changes_nothing site (command.Create image size shape) steps x (plain, inr unmade) not_late = refused_changes_nothing _ _ x steps unmade.by.by not_late
-meant_changes_nothing site (command.Write image at bytes) steps x by not_late = refused_changes_nothing _ _ x steps by.by not_late
-meant_changes_nothing site (command.Fill image at len byte) steps x by not_late = refused_changes_nothing _ _ x steps by.by not_late
+meant_changes_nothing site (command.Write image at bytes) steps x refuses not_late = refused_changes_nothing _ _ x steps refuses.refused.by not_late
+meant_changes_nothing site (command.Fill image at len byte) steps x refuses not_late = refused_changes_nothing _ _ x steps refuses.refused.by not_late
 meant_changes_nothing site (command.Read image snap at len) steps x refused not_late = read_changes_nothing site image snap _ steps x refused
 meant_changes_nothing site command.List steps x by not_late = refused_changes_nothing _ _ x steps by.by not_late
 meant_changes_nothing site (command.Info image) steps x by not_late = refused_changes_nothing _ _ x steps by.by not_late

@@ -1,5 +1,5 @@
 -- `create`: what has been made when one is done, and what its replies mean.
-use Rattle.std.specs.Prelude.{◌≡◌, ◌⊎◌, ℕ, List, [], ◌∷◌}
+use Rattle.std.specs.Prelude.{◌≡◌, ◌⊎◌, ◌≤◌, ℕ, List, [], ◌∷◌, length}
 use Rattle.rbd_kinds.specs.declared.answer.Answer.TheVariants as answer
 use Rattle.rbd_kinds.specs.declared.command.Shape.{Shape}
 use Rattle.rbd_kinds.specs.declared.directory_op.DirectoryOp.TheVariants as directory
@@ -33,10 +33,11 @@ pub record IsOutside (size : ℕ) (shape : Shape) (steps : List Answered) (x : R
   pub none : steps ≡ []
   pub is : x ≡ refusal.BadShape
 
--- The shape is within them, and the last answer refused it.
+-- The shape is within them, and the last answer refused it. Before, its id was drawn at most.
 pub record IsNotMade (site : SiteId) (name : List ℕ) (size : ℕ) (shape : Shape) (steps : List Answered) (x : Refusal) : Type 0 where
   pub within : KeepsLimits (layout_of shape) size
   pub by : IsRefused site (op.Directory (directory.Add name)) refuses_none by_fence steps x
+  pub few : length steps ≤ 2
 
 abbrev pub CreateMeans : SiteId → (name : List ℕ) → (size : ℕ) → Shape → List Answered → Reply → Type 0
 CreateMeans site name size shape steps reply.Done = Makes site name size shape steps

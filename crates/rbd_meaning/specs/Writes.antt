@@ -1,5 +1,5 @@
 -- `write` and `fill`: what refuses one, what has been written when it is done, and what its replies mean.
-use Rattle.std.specs.Prelude.{◌≡◌, ℕ, List, [], ◌∷◌, Option, None}
+use Rattle.std.specs.Prelude.{◌≡◌, ◌⊎◌, ℕ, List, [], ◌∷◌, ◌++◌, Option, None}
 use Rattle.rbd_kinds.specs.declared.answer.Answer.TheVariants as answer
 use Rattle.rbd_kinds.specs.declared.header.HeaderView.{HeaderView}
 use Rattle.rbd_kinds.specs.declared.id.SiteId.{SiteId}
@@ -14,7 +14,7 @@ use Rattle.rbd_header.specs.Header.{context_of}
 use Rattle.rbd_machine.specs.About.{look_up}
 use Rattle.rbd_machine.specs.Objects.{data_write}
 use Rattle.rbd_machine.specs.Path.{Answered, found, looked_at}
-use Rattle.rbd_machine.specs.Refused.{by_fence, IsRefused}
+use Rattle.rbd_machine.specs.Refused.{by_fence, AreLooks, IsRefused}
 use Rattle.rbd_machine.specs.Steps.{or_else, non_primary}
 use Rattle.rbd_meaning.specs.Range.{extent_at, out_of_range}
 
@@ -42,7 +42,25 @@ pub record WritesWhole (site : SiteId) (name : List ℕ) (at : ℕ) (bytes : Lis
   pub are : steps ≡ found site name image ∷ looked_at site image first ∷ looked_at site image own
       ∷ pieces_written site image own at bytes (pieces_of own.layout (extent_at at bytes))
 
+-- The same, up to some of its pieces: the first of them were written.
+pub record WritesSome (site : SiteId) (name : List ℕ) (at : ℕ) (bytes : List ℕ) (steps : List Answered) : Type 0 where
+  pub image : ℕ
+  pub first : HeaderView
+  pub own : HeaderView
+  pub may_wait : write_refuses (extent_at at bytes) first ≡ None
+  pub may : write_refuses (extent_at at bytes) own ≡ None
+  pub written : List Piece
+  pub left : List Piece
+  pub pieces : pieces_of own.layout (extent_at at bytes) ≡ written ++ left
+  pub are : steps ≡ found site name image ∷ looked_at site image first ∷ looked_at site image own
+      ∷ pieces_written site image own at bytes written
+
+-- It was refused, and before had only looked, or written its first pieces.
+pub record RefusesWrite (site : SiteId) (name : List ℕ) (at : ℕ) (bytes : List ℕ) (steps : List Answered) (x : Refusal) : Type 0 where
+  pub refused : IsRefused site (look_up name) (write_refuses (extent_at at bytes)) by_fence steps x
+  pub so_far : AreLooks refused.by.before ⊎ WritesSome site name at bytes refused.by.before
+
 abbrev pub WriteMeans : SiteId → (image : List ℕ) → (at : ℕ) → (bytes : List ℕ) → List Answered → Reply → Type 0
 WriteMeans site image at bytes steps reply.Done = WritesWhole site image at bytes steps
-WriteMeans site image at bytes steps (reply.Refused x) = IsRefused site (look_up image) (write_refuses (extent_at at bytes)) by_fence steps x
+WriteMeans site image at bytes steps (reply.Refused x) = RefusesWrite site image at bytes steps x
 WriteMeans site image at bytes steps _ = ⊥

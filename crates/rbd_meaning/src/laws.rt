@@ -30,8 +30,8 @@ pub fn nothing_is_granted_for_nothing()
     ensures { (site : SiteId) (command : Command) (reply : Reply) → IsMeantBy site command [] reply → reply ≡ Refused BadShape }
 {}
 
-/// A request that was refused has changed nothing, but where the fence refused it, which may come at
-/// any time.
+/// A request that was refused has changed nothing, unless its refusal may come late: the fence's, which
+/// may come at any time, of a command that changes by more than its last operation.
 pub fn refusals_change_nothing()
     ensures early { (site : SiteId) (command : Command) (steps : List Answered) (x : Refusal)
         → IsMeantBy site command steps (Refused x) → (ComesLate command x → ⊥) → ChangeNothing steps }

@@ -36,10 +36,11 @@
 //! A refusal is that of the last answer (`refusal_by` in `rbd_machine`): the first that holds there, in
 //! the order in which the command's definition names them. The operations were the command's own: it
 //! looked its name up, or drew an id for it, and the others are of the image that it was told. No
-//! answer before refused, and nothing was changed before, but where the fence refused it: that may come
-//! at any time. A `create` of a shape outside the limits is refused behind no operation. A read that
-//! began again is refused by its last pass, and each pass before saw another header at its end, or
-//! none.
+//! answer before refused. Nothing was changed before, but where the fence refused a write, a fill or a
+//! create, which may come at any time: the write had only looked, or had written its first pieces by
+//! its own look, and the create had drawn its id at most. A `create` of a shape outside the limits is
+//! refused behind no operation. A read that began again is refused by its last pass, and each pass
+//! before saw another header at its end, or none.
 //!
 //! No other reply is meant, and none for a command that isn't in the table, nor for a `create` with a
 //! journal.
@@ -58,9 +59,9 @@
 //!
 //! [`laws`] says that no reply of one kind is meant for a command of another, that nothing is done or
 //! shown for no operation, that a request which was refused has changed nothing, but where the fence
-//! refused it, that a name which isn't there is the command's own, that a secondary is refused as such
-//! whatever else holds there, and that what was taken wasn't listed and what was removed wasn't
-//! protected.
+//! refused a write, a fill or a create, that a name which isn't there is the command's own, that a
+//! secondary is refused as such whatever else holds there, and that what was taken wasn't listed and
+//! what was removed wasn't protected.
 //!
 //! # A new command
 //!

@@ -8,7 +8,6 @@ use Rattle.rbd_kinds.specs.declared.header_op.HeaderOp.TheVariants as header
 use Rattle.rbd_kinds.specs.declared.id.SiteId.{SiteId}
 use Rattle.rbd_kinds.specs.declared.layout.Extent.{Extent}
 use Rattle.rbd_kinds.specs.declared.machine.Fed.{Fed}
-use Rattle.rbd_kinds.specs.declared.operation.Op.{Op}
 use Rattle.rbd_kinds.specs.declared.operation.Op.TheVariants as op
 use Rattle.rbd_kinds.specs.declared.refusal.Refusal.{Refusal}
 use Rattle.rbd_kinds.specs.declared.refusal.Refusal.TheVariants as refusal
@@ -21,12 +20,11 @@ use Rattle.rbd_machine.specs.Answers.{CanGive}
 use Rattle.rbd_machine.specs.Label as label
 use Rattle.rbd_machine.specs.Objects.{data_read}
 use Rattle.rbd_machine.specs.Path.{Answered, IsWalk}
-use Rattle.rbd_machine.specs.Plan.{Plan, Ask, Return, Goto}
+use Rattle.rbd_machine.specs.Plan.{Plan, Return, Goto}
 use Rattle.rbd_machine.specs.Refused.{AreGiven}
 use Rattle.rbd_machine.specs.Steps.{on_id, on_header, not_there, unless}
-use Rattle.rbd_machine.specs.declared.reason.Reason.{Reason}
 use Rattle.rbd_machine.specs.declared.reason.Reason.TheVariants as reason
-use Rattle.rbd_machine.proofs.Walked.{ended, went_on_to, jump_ends_otherwise}
+use Rattle.rbd_machine.proofs.Walked.{ended, asked_to, absent_ends, jump_ends_otherwise}
 use Rattle.rbd_meaning.specs.Range.{out_of_range}
 use Rattle.rbd_piece.specs.Gather.{gather, on_bytes}
 use Rattle.rbd_request.specs.Read.{pass, looking, reading, viewing, gathering, closing, on_closing}
@@ -36,16 +34,13 @@ module _ (x : Refusal) where
   abbrev Refused : Plan
   Refused = Return (reply.Refused x)
 
-  asks_nothing : (site : SiteId) (why : Reason) (op : Op) (next : Answer → Plan) → Refused ≡ Ask site why op next → ⊥
-  asks_nothing site why op next same = cc
-
   fenced_by : (feds : List Fed) (steps : List Answered) → IsWalk Goto (Return (reply.Refused refusal.Fenced)) feds steps Refused → x ≡ refusal.Fenced
   fenced_by feds steps walk = let same = (ended (reply.Refused refusal.Fenced) feds steps Refused walk).1 in cc
 
   closing_fenced : (site : SiteId) (image : ℕ) (seen : Seen) (read : List ℕ) (feds : List Fed) (steps : List Answered)
       → AreGiven steps → IsWalk Goto (closing site image seen read) feds steps Refused → x ≡ refusal.Fenced
   closing_fenced site image seen read feds steps given walk =
-      let w = went_on_to Refused site reason.Own (op.Header image header.Get) (on_closing seen read) feds steps (asks_nothing _ _ _ _) walk in
+      let w = asked_to (reply.Refused x) site reason.Own (op.Header image header.Get) (on_closing seen read) feds steps walk in
       go w.answer w.more w.rest (subst AreGiven w.are given).0 w.walk
     where
       at_header : (b : Bool) (more : List Fed) (rest : List Answered) → IsWalk Goto (cond b (Return (reply.Bytes (shown seen read))) (Goto label.Begin)) more rest Refused → x ≡ refusal.Fenced
@@ -63,7 +58,7 @@ module _ (x : Refusal) where
       → (feds : List Fed) (steps : List Answered) → AreGiven steps → IsWalk Goto (gather site image snap pieces got next) feds steps Refused → x ≡ refusal.Fenced
   gather_fenced [] site image snap got next later feds steps given walk = later got feds steps given walk
   gather_fenced (p ∷ pieces) site image snap got next later feds steps given walk =
-      let w = went_on_to Refused site reason.Own (data_read image snap p) (on_bytes p.parts (λ more. gather site image snap pieces (got ++ more) next)) feds steps (asks_nothing _ _ _ _) walk in
+      let w = asked_to (reply.Refused x) site reason.Own (data_read image snap p) (on_bytes p.parts (λ more. gather site image snap pieces (got ++ more) next)) feds steps walk in
       let given_there = subst AreGiven w.are given in
       go w.answer w.more w.rest given_there.0 given_there.1 w.walk (λ bytes. gather_fenced pieces site image snap (got ++ bytes) next later w.more w.rest given_there.1)
     where
@@ -81,8 +76,7 @@ module _ (x : Refusal) where
   stopped y feds steps walk = let none : length steps ≡ 0 = ap length (ended (reply.Refused y) feds steps Refused walk).0 in omega arith
 
   absent : (a : Answer) (feds : List Fed) (steps : List Answered) → IsWalk Goto (not_there a) feds steps Refused → length steps ≤ 0
-  absent answer.Fenced feds steps walk = stopped _ feds steps walk
-  absent _ feds steps walk = stopped _ feds steps walk
+  absent a feds steps walk = let none : length steps ≡ 0 = ap length (absent_ends a feds steps Refused walk) in omega arith
 
   module _ (site : SiteId) (name : List ℕ) (snap : Option (List ℕ)) (e : Extent) (fenced : x ≡ refusal.Fenced → ⊥) where
     view_early : (image : ℕ) (h : HeaderView) (view : Option View) (feds : List Fed) (steps : List Answered) → AreGiven steps → IsWalk Goto (viewing site image h e view) feds steps Refused → length steps ≤ 0
@@ -96,7 +90,7 @@ module _ (x : Refusal) where
 
     look_early : (image : ℕ) (feds : List Fed) (steps : List Answered) → AreGiven steps → IsWalk Goto (looking site snap e image) feds steps Refused → length steps ≤ 1
     look_early image feds steps given walk =
-        let w = went_on_to Refused site reason.Own (op.Header image header.Get) (on_header (reading site snap e image)) feds steps (asks_nothing _ _ _ _) walk in
+        let w = asked_to (reply.Refused x) site reason.Own (op.Header image header.Get) (on_header (reading site snap e image)) feds steps walk in
         let one_more : length steps ≡ suc (length w.rest) = ap length w.are in
         let short = go w.answer w.more w.rest (subst AreGiven w.are given).1 w.walk in
         omega arith
@@ -107,7 +101,7 @@ module _ (x : Refusal) where
 
     pass_early : (feds : List Fed) (steps : List Answered) → AreGiven steps → IsWalk Goto (pass site name snap e) feds steps Refused → length steps ≤ 2
     pass_early feds steps given walk =
-        let w = went_on_to Refused site reason.Own (op.Directory (directory.Find name)) (on_id (looking site snap e)) feds steps (asks_nothing _ _ _ _) walk in
+        let w = asked_to (reply.Refused x) site reason.Own (op.Directory (directory.Find name)) (on_id (looking site snap e)) feds steps walk in
         let one_more : length steps ≡ suc (length w.rest) = ap length w.are in
         let short = go w.answer w.more w.rest (subst AreGiven w.are given).1 w.walk in
         omega arith

@@ -8,5 +8,6 @@ pub mod Turns
 pub mod Looks
 pub mod Early
 pub mod Passes
+pub mod Stopped
 pub mod Whole
 pub mod Writes

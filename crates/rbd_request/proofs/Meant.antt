@@ -40,6 +40,7 @@ use Rattle.rbd_request.specs.Write.{is_write, put, write, write_pieces, write_pl
 use Rattle.rbd_request.proofs.About.{write_is_own, pass_is_own}
 use Rattle.rbd_request.proofs.Early.{pass_refused_early}
 use Rattle.rbd_request.proofs.Passes.{LastPass, last_pass, read_shows}
+use Rattle.rbd_request.proofs.Stopped.{refuses_write, write_stops}
 use Rattle.rbd_request.proofs.Whole.{write_is_whole}
 
 same_refusal : (x y : Refusal) → reply.Refused x ≡ reply.Refused y → y ≡ x
@@ -77,10 +78,10 @@ write_means site name at bytes feds steps r given walk = go r (ends_by (write_re
     go : (r : Reply) → EndsBy (write_refuses (extent_at at bytes)) by_fence IsDone false steps r → IsWalk Goto (write site name at bytes) feds steps (Return r) → WriteMeans site name at bytes steps r
     go reply.Done ends walk = write_is_whole site name at bytes feds steps walk
     go (reply.Refused x) (inl granted) walk = absurd granted
-    go (reply.Refused x) (inr (y, same, from)) walk = record {
-      own = write_is_own site name at bytes feds steps (Return (reply.Refused x)) walk;
-      by = subst (IsRefusedBy (write_refuses (extent_at at bytes)) by_fence steps) (same_refusal x y same) from.by;
-    }
+    go (reply.Refused x) (inr (y, same, from)) walk =
+        refuses_write site name at bytes steps x (write_is_own site name at bytes feds steps (Return (reply.Refused x)) walk)
+        (subst (IsRefusedBy (write_refuses (extent_at at bytes)) by_fence steps) (same_refusal x y same) from.by)
+        (write_stops x site name at bytes feds steps walk)
     go _ (inl granted) walk = absurd granted
     go _ (inr (y, same, from)) walk = cc
 
