@@ -68,8 +68,8 @@ never x = ⊥
 abbrev pub by_fence : Refusal → Type 0
 by_fence x = x ≡ refusal.Fenced
 
--- The answer to the last operation refuses it so, as the first refusal that holds there, and no answer before refused it;
--- and unless it may come late, nothing was changed before.
+-- The answer to the last operation refuses it so, as the first refusal that holds there, and no answer before refused
+-- it; and unless it may come late, nothing was changed before.
 pub record IsRefusedBy (refuses : HeaderView → Option Refusal) (late : Refusal → Type 0) (steps : List Answered) (x : Refusal) : Type 0 where
   pub before : List Answered
   pub last : Answered

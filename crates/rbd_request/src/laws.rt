@@ -59,7 +59,8 @@ pub fn labels_stand_at_operations()
 {}
 
 /// A read, however often it begins again, shows bytes only at the end of a pass between two looks at a header that
-/// didn't change, and they are what that pass read of each piece by the first look, in the order of the image.
+/// didn't change, and they are what that pass read of each piece by the first look, in the order of the image. Each pass
+/// before saw another header at its second look, or none.
 pub fn bytes_are_shown_between_looks()
     ensures { (site : SiteId) (name : List ℕ) (snap : Option (List ℕ)) (e : Extent) (feds : List Fed) (steps : List Answered) (bytes : List ℕ)
         → IsWalk (read_labels site name snap e) (pass site name snap e) feds steps (Return (Bytes bytes)) → ShowsAtLast site name snap e steps bytes }
