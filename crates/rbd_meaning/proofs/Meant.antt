@@ -28,6 +28,7 @@ use Rattle.rbd_meaning.specs.Reads.{ReadMeans, SeeOthers}
 use Rattle.rbd_meaning.specs.Replies.{may_answer}
 use Rattle.rbd_meaning.specs.Snaps.{create_refuses, remove_refuses, SnapCreateMeans, SnapRemoveMeans}
 use Rattle.rbd_meaning.specs.Writes.{write_refuses, WriteMeans}
+use Rattle.rbd_meaning.proofs.Ends.{same_last}
 
 -- ---- kinds of replies
 
@@ -154,16 +155,6 @@ meant_for_nothing site (command.SnapList name) r meant = snap_list_for_nothing s
 meant_for_nothing site (command.SnapCreate name snap) r meant = snap_create_for_nothing site name snap r meant
 meant_for_nothing site (command.SnapRemove name snap) r meant = snap_remove_for_nothing site name snap r meant
 meant_for_nothing site _ r meant = absurd meant
-
--- ---- the last of two equal lists
-
-same_last : (one two : List Answered) (s t : Answered) → one ++ s ∷ [] ≡ two ++ t ∷ [] → s ≡ t
-same_last [] [] s t same = cc
-same_last [] (v ∷ []) s t same = cc
-same_last [] (v ∷ w ∷ two) s t same = cc
-same_last (u ∷ []) [] s t same = cc
-same_last (u ∷ w ∷ one) [] s t same = cc
-same_last (u ∷ one) (v ∷ two) s t same = let rest : one ++ s ∷ [] ≡ two ++ t ∷ [] = cc in same_last one two s t rest
 
 -- ---- a name that isn't there
 

@@ -25,6 +25,12 @@ pub fn replies_are_of_their_command()
     ensures { (site : SiteId) (command : Command) (steps : List Answered) (reply : Reply) → IsMeantBy site command steps reply → may_answer command reply ≡ true }
 {}
 
+/// Behind the same operations one reply is meant.
+pub fn one_reply_is_meant()
+    ensures { (site : SiteId) (command : Command) (steps : List Answered) (one other : Reply)
+        → IsMeantBy site command steps one → IsMeantBy site command steps other → one ≡ other }
+{}
+
 /// Behind no operation at all only BadShape is meant: nothing is done or shown for nothing.
 pub fn nothing_is_granted_for_nothing()
     ensures { (site : SiteId) (command : Command) (reply : Reply) → IsMeantBy site command [] reply → reply ≡ Refused BadShape }

@@ -57,11 +57,11 @@
 //! | `specs/Meant.antt` | `IsMeantBy`: all commands |
 //! | `specs/Replies.antt`, `specs/Named.antt`, `specs/Undone.antt` | which kinds of reply a command has, which name it looks up, and which steps changed nothing: the words of the laws |
 //!
-//! [`laws`] says that no reply of one kind is meant for a command of another, that nothing is done or
-//! shown for no operation, that a request which was refused has changed nothing, but where the fence
-//! refused a write, a fill or a create, that a name which isn't there is the command's own, that a
-//! secondary is refused as such whatever else holds there, and that what was taken wasn't listed and
-//! what was removed wasn't protected.
+//! [`laws`] says that behind the same operations one reply is meant, that no reply of one kind is meant
+//! for a command of another, that nothing is done or shown for no operation, that a request which was
+//! refused has changed nothing, but where the fence refused a write, a fill or a create, that a name
+//! which isn't there is the command's own, that a secondary is refused as such whatever else holds
+//! there, and that what was taken wasn't listed and what was removed wasn't protected.
 //!
 //! # A new command
 //!

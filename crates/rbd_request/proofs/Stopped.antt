@@ -26,6 +26,7 @@ use Rattle.rbd_machine.specs.declared.reason.Reason.TheVariants as reason
 use Rattle.rbd_machine.proofs.Walked.{ended, absent_ends, asked_to, awaited_to, noted_to}
 use Rattle.rbd_meaning.specs.Range.{extent_at}
 use Rattle.rbd_meaning.specs.Writes.{write_refuses, piece_written, pieces_written, WritesSome, RefusesWrite}
+use Rattle.rbd_meaning.proofs.Ends.{same_front}
 use Rattle.rbd_piece.specs.Write.{write_piece}
 use Rattle.rbd_request.specs.Write.{put, write, write_pieces}
 
@@ -187,17 +188,6 @@ module _ (x : Refusal) (site : SiteId) (name : List ℕ) (at : ℕ) (bytes : Lis
       }
 
 -- ---- where it was refused
-
-same_front : (one two : List Answered) (s t : Answered) → one ++ s ∷ [] ≡ two ++ t ∷ [] → one ≡ two
-same_front [] [] s t same = refl
-same_front [] (v ∷ []) s t same = cc
-same_front [] (v ∷ w ∷ two) s t same = cc
-same_front (u ∷ []) [] s t same = cc
-same_front (u ∷ w ∷ one) [] s t same = cc
-same_front (u ∷ one) (v ∷ two) s t same =
-    let rest : one ++ s ∷ [] ≡ two ++ t ∷ [] = cc in
-    let first : u ≡ v = cc in
-    ap (λ h. h ∷ one) first ∙ ap (λ r. v ∷ r) (same_front one two s t rest)
 
 pub refuses_write : (site : SiteId) (name : List ℕ) (at : ℕ) (bytes : List ℕ) (steps : List Answered) (x : Refusal) → AreOwn site (look_up name) steps
     → IsRefusedBy (write_refuses (extent_at at bytes)) by_fence steps x → Stops site name at bytes steps → RefusesWrite site name at bytes steps x
