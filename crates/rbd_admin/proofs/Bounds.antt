@@ -16,9 +16,11 @@ use Rattle.rbd_machine.specs.Path.{IsBounded}
 use Rattle.rbd_machine.proofs.Bounds.{bounded_on_id, bounded_on_header, bounded_on_done, bounded_change}
 use Rattle.rbd_admin.specs.Create.{IsCreate, IsCreatePlan, on_drawn, making, drawing}
 use Rattle.rbd_header.specs.Header.{new_header}
-use Rattle.rbd_admin.specs.Listing.{on_names, list_names, showing, show_header, shown_snaps, listing_plan}
+use Rattle.rbd_admin.specs.Listing.{on_names, list_names, showing, show_header, listing_plan}
 use Rattle.rbd_machine.specs.Steps.{applied}
-use Rattle.rbd_admin.specs.Snap.{on_snap, take, remove_listed, remove, create_refuses, remove_refuses, snap_plan}
+use Rattle.rbd_meaning.specs.Listings.{shown_snaps}
+use Rattle.rbd_meaning.specs.Snaps.{create_refuses, remove_refuses}
+use Rattle.rbd_admin.specs.Snap.{on_snap, take, remove_listed, remove, snap_plan}
 
 -- ---- create
 

@@ -9,7 +9,6 @@ use Rattle.rbd_kinds.specs.declared.id.SiteId.{SiteId}
 use Rattle.rbd_kinds.specs.declared.journal.Event.TheVariants as event
 use Rattle.rbd_kinds.specs.declared.machine.Fed.{Fed}
 use Rattle.rbd_kinds.specs.declared.operation.Op.TheVariants as op
-use Rattle.rbd_kinds.specs.declared.refusal.Refusal.{Refusal}
 use Rattle.rbd_kinds.specs.declared.refusal.Refusal.TheVariants as refusal
 use Rattle.rbd_kinds.specs.declared.reply.Reply.TheVariants as reply
 use Rattle.rbd_kinds.specs.Header.{snap_named}
@@ -19,16 +18,13 @@ use Rattle.rbd_machine.specs.Wait as wait
 use Rattle.rbd_machine.specs.declared.reason.Reason.TheVariants as reason
 use Rattle.rbd_machine.specs.Steps.{applied, on_done}
 use Rattle.rbd_machine.proofs.Walked.{ended, went_on, awaited, noted, told_done, changed, refusal_ends_otherwise, nothing_ends_otherwise}
-use Rattle.rbd_admin.specs.Snap.{create_refuses, remove_refuses, on_snap, taking, take, removing, remove, remove_listed, snap_plan}
-use Rattle.rbd_admin.specs.Whole.{TakesOne, RemovesOne}
-
-done_isnt_refused : (x : Refusal) → reply.Done ≡ reply.Refused x → ⊥
-done_isnt_refused x same = cc
+use Rattle.rbd_meaning.specs.Snaps.{create_refuses, remove_refuses, TakesOne, RemovesOne}
+use Rattle.rbd_admin.specs.Snap.{on_snap, taking, take, removing, remove, remove_listed, snap_plan}
 
 -- that it counts as applied is no operation
 applied_at_the_end : (site : SiteId) (image : ℕ) (feds : List Fed) (steps : List Answered) → IsWalk Goto (applied site image) feds steps (Return reply.Done) → steps ≡ []
 applied_at_the_end site image feds steps walk =
-    let a = awaited reply.Done done_isnt_refused (wait.Applied site image) (Return reply.Done) feds steps walk in
+    let a = awaited (Return reply.Done) tt (wait.Applied site image) (Return reply.Done) feds steps walk in
     (ended reply.Done a.more steps (Return reply.Done) a.walk).0
 
 record ToldSnap (next : Plan) (a : Answer) (feds : List Fed) (steps : List Answered) : Type 0 where
@@ -38,13 +34,13 @@ record ToldSnap (next : Plan) (a : Answer) (feds : List Fed) (steps : List Answe
 
 told_snap : (next : Plan) (a : Answer) (feds : List Fed) (steps : List Answered) → IsWalk Goto (on_snap next a) feds steps (Return reply.Done) → ToldSnap next a feds steps
 told_snap next (answer.Snap taken) feds steps walk = record { taken = taken; is = refl; walk = walk }
-told_snap next a feds steps walk = absurd (nothing_ends_otherwise reply.Done done_isnt_refused a feds steps walk)
+told_snap next a feds steps walk = absurd (nothing_ends_otherwise (Return reply.Done) tt a feds steps walk)
 
 pub takes_one : (site : SiteId) (name snap : List ℕ) (feds : List Fed) (steps : List Answered) → IsWalk Goto (snap_plan site (command.SnapCreate name snap)) feds steps (Return reply.Done) → TakesOne site name snap steps
 takes_one site name snap feds steps walk =
-    let c = changed reply.Done done_isnt_refused site name true (create_refuses snap) (take site snap) feds steps walk in
-    let n = noted reply.Done done_isnt_refused site c.image (event.SnapCreate snap) (taking site snap c.image) c.more c.rest c.walk in
-    let w = went_on reply.Done done_isnt_refused site reason.Own (op.Header c.image (header.SnapAdd snap)) (on_snap (applied site c.image)) n.more c.rest n.walk in
+    let c = changed (Return reply.Done) tt site name true (create_refuses snap) (take site snap) feds steps walk in
+    let n = noted (Return reply.Done) tt site c.image (event.SnapCreate snap) (taking site snap c.image) c.more c.rest c.walk in
+    let w = went_on (Return reply.Done) tt site reason.Own (op.Header c.image (header.SnapAdd snap)) (on_snap (applied site c.image)) n.more c.rest n.walk in
     let t = told_snap (applied site c.image) w.answer w.more w.rest w.walk in
     record {
       image = c.image;
@@ -65,11 +61,11 @@ record Listed (site : SiteId) (image : ℕ) (found : Option SnapView) (steps : L
   pub are : steps ≡ record { site = site; op = op.Header image (header.SnapRemove listed.id); answer = answer.Done } ∷ []
 
 removed : (site : SiteId) (snap : List ℕ) (image : ℕ) (found : Option SnapView) (feds : List Fed) (steps : List Answered) → IsWalk Goto (remove_listed site snap image found) feds steps (Return reply.Done) → Listed site image found steps
-removed site snap image None feds steps walk = absurd (refusal_ends_otherwise reply.Done done_isnt_refused refusal.NoSnap feds steps walk)
+removed site snap image None feds steps walk = absurd (refusal_ends_otherwise (Return reply.Done) tt refusal.NoSnap feds steps walk)
 removed site snap image (Some listed) feds steps walk =
-    let n = noted reply.Done done_isnt_refused site image (event.SnapRemove snap) (removing site image listed.id) feds steps walk in
-    let w = went_on reply.Done done_isnt_refused site reason.Own (op.Header image (header.SnapRemove listed.id)) (on_done (applied site image)) n.more steps n.walk in
-    let d = told_done reply.Done done_isnt_refused (applied site image) w.answer w.more w.rest w.walk in
+    let n = noted (Return reply.Done) tt site image (event.SnapRemove snap) (removing site image listed.id) feds steps walk in
+    let w = went_on (Return reply.Done) tt site reason.Own (op.Header image (header.SnapRemove listed.id)) (on_done (applied site image)) n.more steps n.walk in
+    let d = told_done (Return reply.Done) tt (applied site image) w.answer w.more w.rest w.walk in
     record {
       listed = listed;
       is = refl;
@@ -80,7 +76,7 @@ removed site snap image (Some listed) feds steps walk =
 
 pub removes_one : (site : SiteId) (name snap : List ℕ) (feds : List Fed) (steps : List Answered) → IsWalk Goto (snap_plan site (command.SnapRemove name snap)) feds steps (Return reply.Done) → RemovesOne site name snap steps
 removes_one site name snap feds steps walk =
-    let c = changed reply.Done done_isnt_refused site name true (remove_refuses snap) (remove site snap) feds steps walk in
+    let c = changed (Return reply.Done) tt site name true (remove_refuses snap) (remove site snap) feds steps walk in
     let l = removed site snap c.image (snap_named c.own.snaps snap) c.more c.rest c.walk in
     record {
       image = c.image;

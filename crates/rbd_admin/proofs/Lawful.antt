@@ -1,5 +1,5 @@
 -- The plans do what they may.
-use Rattle.std.proofs.Common.{◌≡◌, ◌≢◌, ◌⊎◌, inl, inr, ℕ, ◌<◌, ◌≤◌, List, [], ◌∷◌, Bool, true, false, cond, eqb, is_some, Option, Some, None, refl, ap, sym, ◌∙◌, subst, arith}
+use Rattle.std.proofs.Common.{◌≡◌, ◌≢◌, ◌⊎◌, inl, inr, ℕ, ◌<◌, ◌≤◌, List, [], ◌∷◌, Bool, true, false, cond, eqb, Option, Some, None, refl, ap, sym, ◌∙◌, subst, arith}
 use Rattle.std.specs.Prelude.{nat_eq}
 use Rattle.std.specs.Cmp.Lexicographic.{pointwise}
 use Rattle.std.proofs.lemmas.Bool.Decides.{eqb_tells}
@@ -10,31 +10,30 @@ use Rattle.rbd_kinds.specs.declared.command.Command.TheVariants as command
 use Rattle.rbd_kinds.specs.declared.command.Shape.{Shape}
 use Rattle.rbd_kinds.specs.declared.directory_op.DirectoryOp.TheVariants as directory
 use Rattle.rbd_kinds.specs.declared.header.HeaderView.{HeaderView}
-use Rattle.rbd_kinds.specs.declared.header.SnapStatus.{SnapStatus}
-use Rattle.rbd_kinds.specs.declared.header.SnapStatus.TheVariants as status
 use Rattle.rbd_kinds.specs.declared.header.SnapView.{SnapView}
 use Rattle.rbd_kinds.specs.declared.header_op.HeaderOp.TheVariants as header
 use Rattle.rbd_kinds.specs.declared.id.SiteId.{SiteId}
 use Rattle.rbd_kinds.specs.declared.layout.Layout.{Layout}
 use Rattle.rbd_kinds.specs.declared.operation.Op.TheVariants as op
-use Rattle.rbd_kinds.specs.declared.refusal.Refusal.TheVariants as refusal
 use Rattle.rbd_kinds.specs.declared.reply.Reply.{Reply}
 use Rattle.rbd_kinds.specs.declared.reply.Reply.TheVariants as reply
 use Rattle.rbd_kinds.specs.Form.{RiseFrom, AreRising, IsHeaderInForm, IsNewHeader}
 use Rattle.rbd_kinds.specs.Header.{snap_named}
-use Rattle.rbd_header.specs.Header.{new_header, is_full, snap_in}
+use Rattle.rbd_header.specs.Header.{new_header, snap_in}
 use Rattle.rbd_layout.specs.Asked.{layout_of, KeepsLimits}
 use Rattle.rbd_machine.specs.Knowledge.{Knowledge, nothing_known, learned, with_drawn}
 use Rattle.rbd_machine.specs.Label.{Label}
 use Rattle.rbd_machine.specs.Lawful.{IsLawful, IsLawfulRequest}
-use Rattle.rbd_machine.specs.Permits.{MayTake}
 use Rattle.rbd_machine.specs.Plan.{Plan, Return, without_labels}
 use Rattle.rbd_machine.specs.Steps.{applied, non_primary}
 use Rattle.rbd_machine.proofs.Lawful.{at_itself, or_else_none, owning_known, own_is_found, lawful_not_there, lawful_on_id, lawful_on_header, lawful_on_done, lawful_change}
+use Rattle.rbd_meaning.specs.Listings.{shown_snaps}
+use Rattle.rbd_meaning.specs.Snaps.{removal_refusal, create_refuses, remove_refuses}
+use Rattle.rbd_meaning.proofs.Allowed.{may_take, unprotected}
 use Rattle.rbd_admin.proofs.Decided.{limits_or_not}
 use Rattle.rbd_admin.specs.Create.{IsCreate, IsCreatePlan, on_drawn, making, drawing}
-use Rattle.rbd_admin.specs.Listing.{on_names, showing, show_header, shown_snaps, listing_plan}
-use Rattle.rbd_admin.specs.Snap.{on_snap, take, remove_listed, remove, is_unprotected, removal_refusal, create_refuses, remove_refuses, snap_plan}
+use Rattle.rbd_admin.specs.Listing.{on_names, showing, show_header, listing_plan}
+use Rattle.rbd_admin.specs.Snap.{on_snap, take, remove_listed, remove, snap_plan}
 
 -- ---- snapshots by name and by id
 
@@ -65,23 +64,6 @@ named_above (u ∷ snaps) below most name s (above, rise) is =
 named_by_id : (snaps : List SnapView) (most : ℕ) (name : List ℕ) (s : SnapView) → AreRising most snaps → snap_named snaps name ≡ Some s → snap_in snaps s.id ≡ Some s
 named_by_id [] most name s rise is = cc
 named_by_id (u ∷ snaps) most name s rise is = (named_first u snaps name s (named_above snaps u.id most name s rise) is).1
-
--- ---- refusals that don't hold
-
-unlisted : (o : Option SnapView) (full : Bool) → cond (is_some o) (Some refusal.SnapExists) (cond full (Some refusal.BadShape) None) ≡ None → (o ≡ None) × (full ≡ false)
-unlisted None false none = (refl, refl)
-unlisted None true none = cc
-unlisted (Some s) full none = cc
-
-may_take : (snap : List ℕ) (h : HeaderView) → create_refuses snap h ≡ None → MayTake snap h
-may_take snap h none =
-    let are = unlisted (snap_named h.snaps snap) (is_full h) (or_else_none (non_primary h.role) _ none) in
-    record { unlisted = are.0; has_room = are.1 }
-
-unprotected : (s : SnapStatus) → cond (is_unprotected s) None (Some refusal.SnapProtected) ≡ None → s ≡ status.Unprotected
-unprotected status.Unprotected none = refl
-unprotected status.Unprotecting none = cc
-unprotected status.Protected none = cc
 
 -- ---- create
 

@@ -1,3 +1,4 @@
+pub mod About
 pub mod Bounds
 pub mod Closed
 pub mod Decided

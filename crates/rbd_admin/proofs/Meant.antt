@@ -22,18 +22,22 @@ use Rattle.rbd_layout.specs.Asked.{layout_of, KeepsLimits}
 use Rattle.rbd_machine.specs.Answers.{CanGive}
 use Rattle.rbd_machine.specs.Path.{Answered, IsWalk}
 use Rattle.rbd_machine.specs.Plan.{Plan, Return, Goto}
-use Rattle.rbd_machine.specs.Refused.{AreGiven, IsRefusedBy}
+use Rattle.rbd_machine.specs.Refused.{refuses_none, never, by_fence, AreGiven, IsRefusedBy}
 use Rattle.rbd_machine.specs.Steps.{on_done, applied, non_primary}
 use Rattle.rbd_machine.proofs.Lawful.{or_else_none}
-use Rattle.rbd_machine.proofs.Refused.{EndsRefused, IsRefusing, EndsBy, ends_by, refusing_find, refusing_look, refusing_change}
+use Rattle.rbd_machine.proofs.Refused.{IsRefusing, Answers, EndsBy, ends_by, refusing_find, refusing_look, refusing_change}
 use Rattle.rbd_machine.proofs.Walked.{ended}
+use Rattle.rbd_meaning.specs.Creates.{CreateMeans}
+use Rattle.rbd_meaning.specs.Listings.{shown_snaps, InfoMeans, SnapListMeans, ListMeans}
+use Rattle.rbd_meaning.specs.Meant.{IsMeantBy}
+use Rattle.rbd_meaning.specs.Snaps.{SnapCreateMeans, SnapRemoveMeans, removal_refusal, create_refuses, remove_refuses}
 use Rattle.rbd_admin.specs.Create.{IsCreate, IsCreatePlan, on_drawn, making, drawing}
-use Rattle.rbd_admin.specs.Listing.{is_listing, on_names, list_names, showing, show_header, shown_snaps, listing_plan}
-use Rattle.rbd_admin.specs.Meant.{refuses_none, CreateMeans, InfoMeans, SnapListMeans, ListMeans, SnapCreateMeans, SnapRemoveMeans, IsMeantBy}
-use Rattle.rbd_admin.specs.Snap.{is_snap, on_snap, take, remove_listed, remove, removal_refusal, create_refuses, remove_refuses, snap_plan}
+use Rattle.rbd_admin.specs.Listing.{is_listing, on_names, list_names, showing, show_header, listing_plan}
+use Rattle.rbd_admin.specs.Snap.{is_snap, on_snap, take, remove_listed, remove, snap_plan}
+use Rattle.rbd_admin.proofs.About.{create_is_own, list_is_own, listing_is_own, taking_is_own, removing_is_own}
 use Rattle.rbd_admin.proofs.Decided.{limits_or_not}
 use Rattle.rbd_admin.proofs.Changes.{takes_one, removes_one}
-use Rattle.rbd_admin.proofs.Shown.{create_makes_one, names_are_listed, header_is_shown}
+use Rattle.rbd_admin.proofs.Shown.{create_makes_one, create_has_few, names_are_listed, header_is_shown}
 
 -- ---- what is granted
 
@@ -60,29 +64,36 @@ same_refusal x y is = cc
 
 module _ (h : HeaderView) where
   refusing_made : (image : ℕ) (a : Answer) → CanGive (op.Header image (header.Create h)) a
-      → EndsRefused refuses_none true (op.Header image (header.Create h)) a (on_done (Return reply.Done) a) ⊎ IsRefusing refuses_none IsDone true (on_done (Return reply.Done) a)
-  refusing_made image answer.Done can = inr tt
-  refusing_made image answer.Fenced can = inl (record { why = refusal.Fenced; is = refl; ends = refl; fenced = λ was. refl })
+      → Answers refuses_none by_fence IsDone true (op.Header image (header.Create h)) a (on_done (Return reply.Done) a)
+  refusing_made image answer.Done can = inr (λ live. refl, tt)
+  refusing_made image answer.Fenced can = inl (record { why = refusal.Fenced; is = refl; ends = refl; comes = λ was. refl })
   refusing_made image _ can = let no = can.word in cc
 
   refusing_drawn : (site : SiteId) (name : List ℕ) (a : Answer) → CanGive (op.Directory (directory.Add name)) a
-      → EndsRefused refuses_none false (op.Directory (directory.Add name)) a (on_drawn (making site h) a) ⊎ IsRefusing refuses_none IsDone true (on_drawn (making site h) a)
-  refusing_drawn site name (answer.Id image) can = inr (refusing_made image)
-  refusing_drawn site name answer.Exists can = inl (record { why = refusal.ImageExists; is = refl; ends = refl; fenced = λ was. cc })
-  refusing_drawn site name answer.Full can = inl (record { why = refusal.BadShape; is = refl; ends = refl; fenced = λ was. cc })
-  refusing_drawn site name answer.Fenced can = inl (record { why = refusal.Fenced; is = refl; ends = refl; fenced = λ was. refl })
+      → Answers refuses_none by_fence IsDone false (op.Directory (directory.Add name)) a (on_drawn (making site h) a)
+  refusing_drawn site name (answer.Id image) can = inr (λ live. refl, refusing_made image)
+  refusing_drawn site name answer.Exists can = inl (record { why = refusal.ImageExists; is = refl; ends = refl; comes = λ was. cc })
+  refusing_drawn site name answer.Full can = inl (record { why = refusal.BadShape; is = refl; ends = refl; comes = λ was. cc })
+  refusing_drawn site name answer.Fenced can = inl (record { why = refusal.Fenced; is = refl; ends = refl; comes = λ was. refl })
   refusing_drawn site name _ can = let no = can.word in cc
 
 module _ (site : SiteId) (name : List ℕ) (size : ℕ) (shape : Shape) (plan : Plan) (is : IsCreate site name size shape plan) (feds : List Fed) (steps : List Answered) where
   create_within : (r : Reply) → AreGiven steps → KeepsLimits (layout_of shape) size → IsWalk Goto plan feds steps (Return r) → CreateMeans site name size shape steps r
   create_within r given keeps walk =
       let made : IsWalk Goto (drawing site name (new_header (layout_of shape) size)) feds steps (Return r) = subst (λ p. IsWalk Goto p feds steps (Return r)) (is.within keeps) walk in
-      go r (ends_by refuses_none IsDone feds false (drawing site name (new_header (layout_of shape) size)) steps r (refusing_drawn (new_header (layout_of shape) size) site name) given made) walk
+      go r (ends_by refuses_none by_fence IsDone feds false (drawing site name (new_header (layout_of shape) size)) steps r (refusing_drawn (new_header (layout_of shape) size) site name) given made) walk
     where
-      go : (r : Reply) → EndsBy refuses_none IsDone false steps r → IsWalk Goto plan feds steps (Return r) → CreateMeans site name size shape steps r
+      go : (r : Reply) → EndsBy refuses_none by_fence IsDone false steps r → IsWalk Goto plan feds steps (Return r) → CreateMeans site name size shape steps r
       go reply.Done ends walk = record { within = keeps; made = create_makes_one site name size shape plan feds steps is keeps walk }
       go (reply.Refused x) (inl granted) walk = absurd granted
-      go (reply.Refused x) (inr (y, same, from)) walk = inr (record { within = keeps; by = subst (IsRefusedBy refuses_none steps) (same_refusal x y same) from.by })
+      go (reply.Refused x) (inr (y, same, from)) walk = inr (record {
+        within = keeps;
+        by = record {
+          own = create_is_own site name (new_header (layout_of shape) size) feds steps (Return (reply.Refused x)) (subst (λ p. IsWalk Goto p feds steps (Return (reply.Refused x))) (is.within keeps) walk);
+          by = subst (IsRefusedBy refuses_none by_fence steps) (same_refusal x y same) from.by;
+        };
+        few = create_has_few site name (new_header (layout_of shape) size) x feds steps (subst (λ p. IsWalk Goto p feds steps (Return (reply.Refused x))) (is.within keeps) walk);
+      })
       go _ (inl granted) walk = absurd granted
       go _ (inr (y, same, from)) walk = cc
 
@@ -94,7 +105,7 @@ module _ (site : SiteId) (name : List ℕ) (size : ℕ) (shape : Shape) (plan : 
 
 pub create_means : (site : SiteId) (c : Command) (plan : Plan) (feds : List Fed) (steps : List Answered) (r : Reply) → IsCreatePlan site c plan → AreGiven steps
     → IsWalk Goto plan feds steps (Return r) → IsMeantBy site c steps r
-create_means site (command.Create name size shape) plan feds steps r is given walk = go (limits_or_not (layout_of shape) size)
+create_means site (command.Create name size shape) plan feds steps r is given walk = (is.plain, go (limits_or_not (layout_of shape) size))
   where
     go : KeepsLimits (layout_of shape) size ⊎ (KeepsLimits (layout_of shape) size → ⊥) → CreateMeans site name size shape steps r
     go (inl keeps) = create_within site name size shape plan is feds steps r given keeps walk
@@ -104,87 +115,96 @@ create_means site _ plan feds steps r is given walk = absurd is
 -- ---- ls, info, snap ls
 
 refusing_names : (site : SiteId) (a : Answer) → CanGive (op.Directory directory.List) a
-    → EndsRefused refuses_none false (op.Directory directory.List) a (on_names (λ names. Return (reply.Names names)) a) ⊎ IsRefusing refuses_none TellsNames false (on_names (λ names. Return (reply.Names names)) a)
-refusing_names site (answer.Names names) can = inr tt
-refusing_names site answer.Fenced can = inl (record { why = refusal.Fenced; is = refl; ends = refl; fenced = λ was. refl })
+    → Answers refuses_none never TellsNames false (op.Directory directory.List) a (on_names (λ names. Return (reply.Names names)) a)
+refusing_names site (answer.Names names) can = inr (λ live. refl, tt)
+refusing_names site answer.Fenced can = inl (record { why = refusal.Fenced; is = refl; ends = refl; comes = λ was. cc })
 refusing_names site _ can = let no = can.word in cc
 
-refusing_shown : (grants : Reply → Type 0) (site : SiteId) (name : List ℕ) (shown : HeaderView → Reply) → ((h : HeaderView) → grants (shown h)) → IsRefusing refuses_none grants false (show_header site name shown)
+refusing_shown : (grants : Reply → Type 0) (site : SiteId) (name : List ℕ) (shown : HeaderView → Reply) → ((h : HeaderView) → grants (shown h)) → IsRefusing refuses_none never grants false (show_header site name shown)
 refusing_shown grants site name shown granted =
-    refusing_find refuses_none grants name (showing site shown) (λ image. refusing_look refuses_none grants image (λ h. Return (shown h)) (λ h. inr (granted h)))
+    refusing_find refuses_none never grants name (showing site shown) (λ image. refusing_look refuses_none never grants image (λ h. Return (shown h)) (λ h. inr (λ live. refl, granted h)))
 
-list_means : (site : SiteId) (feds : List Fed) (steps : List Answered) (r : Reply) → EndsBy refuses_none TellsNames false steps r → IsWalk Goto (list_names site) feds steps (Return r) → ListMeans site steps r
+list_means : (site : SiteId) (feds : List Fed) (steps : List Answered) (r : Reply) → EndsBy refuses_none never TellsNames false steps r → IsWalk Goto (list_names site) feds steps (Return r) → ListMeans site steps r
 list_means site feds steps (reply.Names names) ends walk = names_are_listed site names feds steps walk
 list_means site feds steps (reply.Refused x) (inl granted) walk = absurd granted
-list_means site feds steps (reply.Refused x) (inr (y, same, from)) walk = subst (IsRefusedBy refuses_none steps) (same_refusal x y same) from.by
+list_means site feds steps (reply.Refused x) (inr (y, same, from)) walk = record {
+  own = list_is_own site feds steps (Return (reply.Refused x)) walk;
+  by = subst (IsRefusedBy refuses_none never steps) (same_refusal x y same) from.by;
+}
 list_means site feds steps _ (inl granted) walk = absurd granted
 list_means site feds steps _ (inr (y, same, from)) walk = cc
 
-info_isnt_refused : (h : HeaderView) (x : Refusal) → reply.Info h ≡ reply.Refused x → ⊥
-info_isnt_refused h x same = cc
-
-info_means : (site : SiteId) (image : List ℕ) (feds : List Fed) (steps : List Answered) (r : Reply) → EndsBy refuses_none TellsInfo false steps r
+info_means : (site : SiteId) (image : List ℕ) (feds : List Fed) (steps : List Answered) (r : Reply) → EndsBy refuses_none never TellsInfo false steps r
     → IsWalk Goto (show_header site image reply.Info) feds steps (Return r) → InfoMeans site image steps r
-info_means site image feds steps (reply.Info h) ends walk = header_is_shown site image reply.Info (reply.Info h) feds steps (info_isnt_refused h) walk
+info_means site image feds steps (reply.Info h) ends walk = header_is_shown site image reply.Info (reply.Info h) feds steps tt walk
 info_means site image feds steps (reply.Refused x) (inl granted) walk = absurd granted
-info_means site image feds steps (reply.Refused x) (inr (y, same, from)) walk = subst (IsRefusedBy refuses_none steps) (same_refusal x y same) from.by
+info_means site image feds steps (reply.Refused x) (inr (y, same, from)) walk = record {
+  own = listing_is_own site image reply.Info feds steps (Return (reply.Refused x)) walk;
+  by = subst (IsRefusedBy refuses_none never steps) (same_refusal x y same) from.by;
+}
 info_means site image feds steps _ (inl granted) walk = absurd granted
 info_means site image feds steps _ (inr (y, same, from)) walk = cc
 
-snaps_arent_refused : (snaps : List SnapView) (x : Refusal) → reply.Snaps snaps ≡ reply.Refused x → ⊥
-snaps_arent_refused snaps x same = cc
-
-snap_list_means : (site : SiteId) (image : List ℕ) (feds : List Fed) (steps : List Answered) (r : Reply) → EndsBy refuses_none TellsSnaps false steps r
+snap_list_means : (site : SiteId) (image : List ℕ) (feds : List Fed) (steps : List Answered) (r : Reply) → EndsBy refuses_none never TellsSnaps false steps r
     → IsWalk Goto (show_header site image shown_snaps) feds steps (Return r) → SnapListMeans site image steps r
-snap_list_means site image feds steps (reply.Snaps snaps) ends walk = header_is_shown site image shown_snaps (reply.Snaps snaps) feds steps (snaps_arent_refused snaps) walk
+snap_list_means site image feds steps (reply.Snaps snaps) ends walk = header_is_shown site image shown_snaps (reply.Snaps snaps) feds steps tt walk
 snap_list_means site image feds steps (reply.Refused x) (inl granted) walk = absurd granted
-snap_list_means site image feds steps (reply.Refused x) (inr (y, same, from)) walk = subst (IsRefusedBy refuses_none steps) (same_refusal x y same) from.by
+snap_list_means site image feds steps (reply.Refused x) (inr (y, same, from)) walk = record {
+  own = listing_is_own site image shown_snaps feds steps (Return (reply.Refused x)) walk;
+  by = subst (IsRefusedBy refuses_none never steps) (same_refusal x y same) from.by;
+}
 snap_list_means site image feds steps _ (inl granted) walk = absurd granted
 snap_list_means site image feds steps _ (inr (y, same, from)) walk = cc
 
 pub listing_means : (site : SiteId) (c : Command) (feds : List Fed) (steps : List Answered) (r : Reply) → is_listing c ≡ true → AreGiven steps
     → IsWalk Goto (listing_plan site c) feds steps (Return r) → IsMeantBy site c steps r
 listing_means site command.List feds steps r is given walk =
-    list_means site feds steps r (ends_by refuses_none TellsNames feds false (list_names site) steps r (refusing_names site) given walk) walk
+    list_means site feds steps r (ends_by refuses_none never TellsNames feds false (list_names site) steps r (refusing_names site) given walk) walk
 listing_means site (command.Info image) feds steps r is given walk =
-    info_means site image feds steps r (ends_by refuses_none TellsInfo feds false (show_header site image reply.Info) steps r (refusing_shown TellsInfo site image reply.Info (λ h. tt)) given walk) walk
+    info_means site image feds steps r (ends_by refuses_none never TellsInfo feds false (show_header site image reply.Info) steps r (refusing_shown TellsInfo site image reply.Info (λ h. tt)) given walk) walk
 listing_means site (command.SnapList image) feds steps r is given walk =
-    snap_list_means site image feds steps r (ends_by refuses_none TellsSnaps feds false (show_header site image shown_snaps) steps r (refusing_shown TellsSnaps site image shown_snaps (λ h. tt)) given walk) walk
+    snap_list_means site image feds steps r (ends_by refuses_none never TellsSnaps feds false (show_header site image shown_snaps) steps r (refusing_shown TellsSnaps site image shown_snaps (λ h. tt)) given walk) walk
 listing_means site _ feds steps r is given walk = cc
 
 -- ---- snap create, snap rm
 
 refusing_taken : (snap : List ℕ) (site : SiteId) (image : ℕ) (a : Answer) → CanGive (op.Header image (header.SnapAdd snap)) a
-    → EndsRefused (create_refuses snap) false (op.Header image (header.SnapAdd snap)) a (on_snap (applied site image) a) ⊎ IsRefusing (create_refuses snap) IsDone true (on_snap (applied site image) a)
-refusing_taken snap site image (answer.Snap taken) can = inr tt
-refusing_taken snap site image answer.Absent can = inl (record { why = refusal.NoImage; is = refl; ends = refl; fenced = λ was. cc })
-refusing_taken snap site image answer.Fenced can = inl (record { why = refusal.Fenced; is = refl; ends = refl; fenced = λ was. refl })
+    → Answers (create_refuses snap) never IsDone false (op.Header image (header.SnapAdd snap)) a (on_snap (applied site image) a)
+refusing_taken snap site image (answer.Snap taken) can = inr (λ live. refl, tt)
+refusing_taken snap site image answer.Absent can = inl (record { why = refusal.NoImage; is = refl; ends = refl; comes = λ was. cc })
+refusing_taken snap site image answer.Fenced can = inl (record { why = refusal.Fenced; is = refl; ends = refl; comes = λ was. cc })
 refusing_taken snap site image _ can = let no = can.word in cc
 
 refusing_removed : (snap : List ℕ) (site : SiteId) (image id : ℕ) (a : Answer) → CanGive (op.Header image (header.SnapRemove id)) a
-    → EndsRefused (remove_refuses snap) false (op.Header image (header.SnapRemove id)) a (on_done (applied site image) a) ⊎ IsRefusing (remove_refuses snap) IsDone true (on_done (applied site image) a)
-refusing_removed snap site image id answer.Done can = inr tt
-refusing_removed snap site image id answer.Absent can = inl (record { why = refusal.NoImage; is = refl; ends = refl; fenced = λ was. cc })
-refusing_removed snap site image id answer.Fenced can = inl (record { why = refusal.Fenced; is = refl; ends = refl; fenced = λ was. refl })
+    → Answers (remove_refuses snap) never IsDone false (op.Header image (header.SnapRemove id)) a (on_done (applied site image) a)
+refusing_removed snap site image id answer.Done can = inr (λ live. refl, tt)
+refusing_removed snap site image id answer.Absent can = inl (record { why = refusal.NoImage; is = refl; ends = refl; comes = λ was. cc })
+refusing_removed snap site image id answer.Fenced can = inl (record { why = refusal.Fenced; is = refl; ends = refl; comes = λ was. cc })
 refusing_removed snap site image id _ can = let no = can.word in cc
 
-refusing_remove : (site : SiteId) (snap : List ℕ) (image : ℕ) (listed : Option SnapView) → removal_refusal listed ≡ None → IsRefusing (remove_refuses snap) IsDone false (remove_listed site snap image listed)
+refusing_remove : (site : SiteId) (snap : List ℕ) (image : ℕ) (listed : Option SnapView) → removal_refusal listed ≡ None → IsRefusing (remove_refuses snap) never IsDone false (remove_listed site snap image listed)
 refusing_remove site snap image None may = cc
 refusing_remove site snap image (Some listed) may = refusing_removed snap site image listed.id
 
-taking_means : (site : SiteId) (image snap : List ℕ) (feds : List Fed) (steps : List Answered) (r : Reply) → EndsBy (create_refuses snap) IsDone false steps r
+taking_means : (site : SiteId) (image snap : List ℕ) (feds : List Fed) (steps : List Answered) (r : Reply) → EndsBy (create_refuses snap) never IsDone false steps r
     → IsWalk Goto (snap_plan site (command.SnapCreate image snap)) feds steps (Return r) → SnapCreateMeans site image snap steps r
 taking_means site image snap feds steps reply.Done ends walk = takes_one site image snap feds steps walk
 taking_means site image snap feds steps (reply.Refused x) (inl granted) walk = absurd granted
-taking_means site image snap feds steps (reply.Refused x) (inr (y, same, from)) walk = subst (IsRefusedBy (create_refuses snap) steps) (same_refusal x y same) from.by
+taking_means site image snap feds steps (reply.Refused x) (inr (y, same, from)) walk = record {
+  own = taking_is_own site image snap feds steps (Return (reply.Refused x)) walk;
+  by = subst (IsRefusedBy (create_refuses snap) never steps) (same_refusal x y same) from.by;
+}
 taking_means site image snap feds steps _ (inl granted) walk = absurd granted
 taking_means site image snap feds steps _ (inr (y, same, from)) walk = cc
 
-removing_means : (site : SiteId) (image snap : List ℕ) (feds : List Fed) (steps : List Answered) (r : Reply) → EndsBy (remove_refuses snap) IsDone false steps r
+removing_means : (site : SiteId) (image snap : List ℕ) (feds : List Fed) (steps : List Answered) (r : Reply) → EndsBy (remove_refuses snap) never IsDone false steps r
     → IsWalk Goto (snap_plan site (command.SnapRemove image snap)) feds steps (Return r) → SnapRemoveMeans site image snap steps r
 removing_means site image snap feds steps reply.Done ends walk = removes_one site image snap feds steps walk
 removing_means site image snap feds steps (reply.Refused x) (inl granted) walk = absurd granted
-removing_means site image snap feds steps (reply.Refused x) (inr (y, same, from)) walk = subst (IsRefusedBy (remove_refuses snap) steps) (same_refusal x y same) from.by
+removing_means site image snap feds steps (reply.Refused x) (inr (y, same, from)) walk = record {
+  own = removing_is_own site image snap feds steps (Return (reply.Refused x)) walk;
+  by = subst (IsRefusedBy (remove_refuses snap) never steps) (same_refusal x y same) from.by;
+}
 removing_means site image snap feds steps _ (inl granted) walk = absurd granted
 removing_means site image snap feds steps _ (inr (y, same, from)) walk = cc
 
@@ -192,11 +212,11 @@ pub snap_means : (site : SiteId) (c : Command) (feds : List Fed) (steps : List A
     → IsWalk Goto (snap_plan site c) feds steps (Return r) → IsMeantBy site c steps r
 snap_means site (command.SnapCreate image snap) feds steps r is given walk =
     taking_means site image snap feds steps r
-    (ends_by (create_refuses snap) IsDone feds false (snap_plan site (command.SnapCreate image snap)) steps r
-    (refusing_change (create_refuses snap) IsDone site image true (take site snap) (λ i h may. refusing_taken snap site i)) given walk) walk
+    (ends_by (create_refuses snap) never IsDone feds false (snap_plan site (command.SnapCreate image snap)) steps r
+    (refusing_change (create_refuses snap) never IsDone site image true (take site snap) (λ i h may. refusing_taken snap site i)) given walk) walk
 snap_means site (command.SnapRemove image snap) feds steps r is given walk =
     removing_means site image snap feds steps r
-    (ends_by (remove_refuses snap) IsDone feds false (snap_plan site (command.SnapRemove image snap)) steps r
-    (refusing_change (remove_refuses snap) IsDone site image true (remove site snap) (λ i h may.
+    (ends_by (remove_refuses snap) never IsDone feds false (snap_plan site (command.SnapRemove image snap)) steps r
+    (refusing_change (remove_refuses snap) never IsDone site image true (remove site snap) (λ i h may.
     refusing_remove site snap i (snap_named h.snaps snap) (or_else_none (non_primary h.role) _ may))) given walk) walk
 snap_means site _ feds steps r is given walk = cc

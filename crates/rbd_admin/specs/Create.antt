@@ -45,8 +45,9 @@ making site h image = own site (op.Header image (header.Create h)) (on_done (Ret
 abbrev pub drawing : SiteId → (name : List ℕ) → HeaderView → Plan
 drawing site name h = own site (op.Directory (directory.Add name)) (on_drawn (making site h))
 
--- A shape outside the limits is refused before any operation.
+-- An image without a journal is asked for. A shape outside the limits is refused before any operation.
 pub record IsCreate (site : SiteId) (name : List ℕ) (size : ℕ) (shape : Shape) (plan : Plan) : Type 0 where
+  pub plain : shape.journal ≡ false
   pub outside : (KeepsLimits (layout_of shape) size → ⊥) → plan ≡ refused refusal.BadShape
   pub within : KeepsLimits (layout_of shape) size → plan ≡ drawing site name (new_header (layout_of shape) size)
 

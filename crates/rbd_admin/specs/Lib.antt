@@ -1,5 +1,3 @@
 pub mod Create
 pub mod Listing
 pub mod Snap
-pub mod Whole
-pub mod Meant

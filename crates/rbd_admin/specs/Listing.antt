@@ -18,6 +18,7 @@ use Rattle.rbd_kinds.specs.declared.reply.Reply.{Reply}
 use Rattle.rbd_kinds.specs.declared.reply.Reply.TheVariants as reply
 use Rattle.rbd_machine.specs.Plan.{Plan, Return}
 use Rattle.rbd_machine.specs.Steps.{own, refused, not_there, find, look, EndsIt}
+use Rattle.rbd_meaning.specs.Listings.{shown_snaps}
 
 -- the commands that it serves
 abbrev pub is_listing : Command → Bool
@@ -44,9 +45,6 @@ showing site shown image = look site image (λ h. Return (shown h))
 
 abbrev pub show_header : SiteId → (name : List ℕ) → (HeaderView → Reply) → Plan
 show_header site name shown = find site name (showing site shown)
-
-abbrev pub shown_snaps : HeaderView → Reply
-shown_snaps h = reply.Snaps h.snaps
 
 abbrev pub listing_plan : SiteId → Command → Plan
 listing_plan site command.List = list_names site

@@ -1,5 +1,5 @@
 -- `snap create` and `snap rm`: plans of changes that are alone on their image.
-use Rattle.std.specs.Prelude.{ℕ, List, Bool, true, false, if◌then◌else◌, Option, Some, None, is_some}
+use Rattle.std.specs.Prelude.{ℕ, List, Bool, true, false, Option, Some, None}
 use Rattle.rbd_admin.specs.declared.snap.Act.{Act}
 use Rattle.rbd_admin.specs.declared.snap.Act.TheVariants as act
 use Rattle.rbd_admin.specs.declared.snap.ChangeKind.{ChangeKind}
@@ -13,8 +13,6 @@ use Rattle.rbd_kinds.specs.declared.answer.Answer.TheVariants as answer
 use Rattle.rbd_kinds.specs.declared.command.Command.{Command}
 use Rattle.rbd_kinds.specs.declared.command.Command.TheVariants as command
 use Rattle.rbd_kinds.specs.declared.header.HeaderView.{HeaderView}
-use Rattle.rbd_kinds.specs.declared.header.SnapStatus.{SnapStatus}
-use Rattle.rbd_kinds.specs.declared.header.SnapStatus.TheVariants.{Unprotected}
 use Rattle.rbd_kinds.specs.declared.header.SnapView.{SnapView}
 use Rattle.rbd_kinds.specs.declared.header_op.HeaderOp.{HeaderOp}
 use Rattle.rbd_kinds.specs.declared.header_op.HeaderOp.TheVariants as header
@@ -25,38 +23,16 @@ use Rattle.rbd_kinds.specs.declared.operation.Op.TheVariants as op
 use Rattle.rbd_kinds.specs.declared.refusal.Refusal.{Refusal}
 use Rattle.rbd_kinds.specs.declared.refusal.Refusal.TheVariants as refusal
 use Rattle.rbd_kinds.specs.Header.{snap_named}
-use Rattle.rbd_header.specs.Header.{is_full}
 use Rattle.rbd_machine.specs.Approach.{rest_of}
 use Rattle.rbd_machine.specs.Plan.{Plan, Note}
-use Rattle.rbd_machine.specs.Steps.{own, refused, not_there, on_done, EndsIt, TellsDone, change, or_else, non_primary, applied}
+use Rattle.rbd_machine.specs.Steps.{own, refused, not_there, on_done, EndsIt, TellsDone, change, applied}
+use Rattle.rbd_meaning.specs.Snaps.{create_refuses, remove_refuses}
 
 -- the commands that it serves
 abbrev pub is_snap : Command → Bool
 is_snap (command.SnapCreate image snap) = true
 is_snap (command.SnapRemove image snap) = true
 is_snap _ = false
-
--- ---- refusals
-
--- the name is listed, or no more snapshots can be
-abbrev pub create_refuses : (snap : List ℕ) → HeaderView → Option Refusal
-create_refuses snap h =
-    or_else (non_primary h.role)
-    (if is_some (snap_named h.snaps snap) then Some refusal.SnapExists
-    else if is_full h then Some refusal.BadShape
-    else None)
-
-abbrev pub is_unprotected : SnapStatus → Bool
-is_unprotected Unprotected = true
-is_unprotected _ = false
-
--- the name isn't listed, or its snapshot may have clones
-abbrev pub removal_refusal : Option SnapView → Option Refusal
-removal_refusal None = Some refusal.NoSnap
-removal_refusal (Some snap) = if is_unprotected snap.status then None else Some refusal.SnapProtected
-
-abbrev pub remove_refuses : (snap : List ℕ) → HeaderView → Option Refusal
-remove_refuses snap h = or_else (non_primary h.role) (removal_refusal (snap_named h.snaps snap))
 
 -- ---- what they do once they may
 

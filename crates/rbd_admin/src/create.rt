@@ -1,5 +1,5 @@
 //! `create`
-ghost use Rattle.std.specs.Prelude.{◌≡◌, ℕ, true, None};
+ghost use Rattle.std.specs.Prelude.{◌≡◌, ℕ, true, false, None};
 ghost use Rattle.rbd_machine.specs.Plan.{Plan, IsAsking, without_labels};
 ghost use Rattle.rbd_machine.specs.Steps.{going};
 ghost use Rattle.rbd_admin.specs.Create.{is_create, on_drawn, rest_of_create, IsCreate, IsCreatePlan, TellsDrawn, refusal_at};
@@ -62,8 +62,9 @@ impl CreateRequest {
         }
     }
 
-    /// The request for an image of a name, a size in bytes and a shape.
+    /// The request for an image of a name, a size in bytes and a shape without a journal.
     fn asked(site: SiteId, name: Name, size: Number, shape: &Shape) -> Self
+        requires { shape.now.journal ≡ false }
         ensures { IsCreate site name size shape.now (rest_of_create result) }
     {
         let layout = layout_of(shape);

@@ -16,13 +16,15 @@ ghost use Rattle.rbd_kinds.specs.declared.machine.Fed.{Fed};
 ghost use Rattle.rbd_kinds.specs.declared.reply.Reply.{Reply};
 ghost use Rattle.rbd_kinds.specs.declared.reply.Reply.TheVariants.{Done, Info as ShownHeader, Names, Snaps};
 ghost use Rattle.rbd_machine.specs.Path.{Answered, IsBounded, IsWalk};
-ghost use Rattle.rbd_admin.specs.Whole.{TakesOne, RemovesOne, MakesOne, ShowsHeader, listed};
 ghost use Rattle.rbd_admin.specs.Create.{IsCreate, IsCreatePlan};
 ghost use Rattle.rbd_header.specs.Header.{new_header};
-ghost use Rattle.rbd_admin.specs.Listing.{is_listing, listing_plan, shown_snaps};
-ghost use Rattle.rbd_admin.specs.Meant.{IsMeantBy};
+ghost use Rattle.rbd_admin.specs.Listing.{is_listing, listing_plan};
 ghost use Rattle.rbd_admin.specs.Snap.{is_snap, snap_plan};
 ghost use Rattle.rbd_machine.specs.Refused.{AreGiven};
+ghost use Rattle.rbd_meaning.specs.Creates.{MakesOne};
+ghost use Rattle.rbd_meaning.specs.Listings.{ShowsHeader, listed, shown_snaps};
+ghost use Rattle.rbd_meaning.specs.Meant.{IsMeantBy};
+ghost use Rattle.rbd_meaning.specs.Snaps.{TakesOne, RemovesOne};
 
 /// A `create` has two operations at most: one draws the id, and one makes the header.
 pub fn creates_draw_and_make()
@@ -103,9 +105,9 @@ pub fn snapshots_change_behind_two_looks()
         → IsWalk Goto (snap_plan site (SnapRemove image snap)) feds steps (Return Done) → RemovesOne site image snap steps }
 {}
 
-/// A reply means what its command and the operations that were done say (`IsMeantBy`), where each answer is one that its
-/// operation can give: what a request did or was told when it isn't refused, and which answer refused it when it is, the
-/// last one, before which nothing was changed but where the fence did it. No other reply comes.
+/// A reply is meant by its command, behind the operations that were done (`IsMeantBy` of `rbd_meaning`), where each answer is
+/// one that its operation can give: it was done or told when a request isn't refused, and when it is, the last answer refused
+/// it, and none before. No other reply comes.
 pub fn replies_are_meant()
     ensures create { (site : SiteId) (command : Command) (plan : Plan) (feds : List Fed) (steps : List Answered) (reply : Reply) → IsCreatePlan site command plan → AreGiven steps
         → IsWalk Goto plan feds steps (Return reply) → IsMeantBy site command steps reply }

@@ -38,9 +38,9 @@
 //! `specs/Create.antt`, `specs/Listing.antt` and `specs/Snap.antt` have the plan of each command: what a request wants,
 //! and how it goes on after each answer. A request that is made has this plan left, and each of its calls keeps to it
 //! ([`Machine`](rbd_machine::Machine)). [`laws`] says how many operations each plan has at most, that none begins a part
-//! again, that the header of a new image is in form, that each plan is lawful from nothing known (`rbd_machine`), and what each
-//! reply means (`specs/Meant.antt`): what has been done when a request is done, what is shown of what it was told
-//! (`specs/Whole.antt`), and which answer refused it.
+//! again, that the header of a new image is in form, that each plan is lawful from nothing known (`rbd_machine`), and that each
+//! reply is meant (`rbd_meaning`): what has been done when a request is done, what is shown of what it was told, and which
+//! answer refused it.
 //!
 //! # Cost
 //!

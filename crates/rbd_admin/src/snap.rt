@@ -7,7 +7,8 @@ ghost use Rattle.rbd_header.specs.Header.{is_full as lists_all};
 ghost use Rattle.rbd_machine.specs.Answers.{CanBeFed};
 ghost use Rattle.rbd_machine.specs.Plan.{Plan, GoesOn, Goto, plan_after, without_labels};
 ghost use Rattle.rbd_machine.specs.Steps.{going, change as change_of};
-ghost use Rattle.rbd_admin.specs.Snap.{is_snap, snap_plan, rest_of_snap, IsApproaching, removal_refusal, is_unprotected, refuses_by, does_by, refuses_of, does, noting, event_of, operation_of, on_act, Tells};
+ghost use Rattle.rbd_meaning.specs.Snaps.{removal_refusal, is_unprotected};
+ghost use Rattle.rbd_admin.specs.Snap.{is_snap, snap_plan, rest_of_snap, IsApproaching, refuses_by, does_by, refuses_of, does, noting, event_of, operation_of, on_act, Tells};
 
 use rbd_header::is_full;
 use rbd_kinds::{

@@ -1,95 +1,81 @@
 -- A walk with jumps ends in a pass, and keeps the bounds of its passes.
-use Rattle.std.proofs.Common.{◌≡◌, ℕ, zero, suc, ◌+◌, ◌*◌, ◌≤◌, List, [], ◌∷◌, ◌++◌, length, Option, Some, None, refl, sym, ap, ◌∙◌, subst, append_assoc, add-mul, arith}
+use Rattle.std.proofs.Common.{◌≡◌, ℕ, zero, suc, ◌+◌, ◌*◌, ◌≤◌, List, [], ◌∷◌, ◌++◌, length, refl, sym, ap, ◌∙◌, subst, append_assoc, append-nil, add-mul, arith}
 use Rattle.rbd_kinds.specs.declared.machine.Fed.{Fed}
 use Rattle.rbd_kinds.specs.declared.machine.Fed.TheVariants as fed
 use Rattle.rbd_machine.specs.Label.{Label}
 use Rattle.rbd_machine.specs.Path.{Answered, IsWalk, IsBounded}
-use Rattle.rbd_machine.specs.Passes.{EndsInPass, begun_at, jumps, jumps_at}
+use Rattle.rbd_machine.specs.Passes.{EndsInPass, ArePasses, joined, jumps, jumps_at}
 use Rattle.rbd_machine.specs.Plan.{Plan, Ask, Await, Note, Return, Goto, settled}
 use Rattle.rbd_machine.proofs.Settled.{settled_goto}
 
 module _ (labels : Label → Plan) where
   -- what the rest of a walk ends in, once it has gone to a label
-  begun_again : (label : Label) (head : List Answered) (rest : List Answered) (plan last : Plan) (steps : List Answered) → steps ≡ head ++ rest
-      → EndsInPass labels (labels label) rest last → EndsInPass labels plan steps last
-  begun_again label head rest plan last steps are ends = go ends.begun refl
-    where
-      go : (begun : Option Label) → ends.begun ≡ begun → EndsInPass labels plan steps last
-      go None is = record {
-        begun = Some label;
-        before = head;
-        pass = rest;
-        feds = ends.feds;
-        are = are;
-        none_before = λ none. cc;
-        walk =
-            let same : rest ≡ ends.pass = subst (λ before. rest ≡ before ++ ends.pass) (ends.none_before is) ends.are in
-            subst (λ pass. IsWalk Goto (labels label) ends.feds pass last) (sym same)
-            (subst (λ b. IsWalk Goto (begun_at labels (labels label) b) ends.feds ends.pass last) is ends.walk);
-      }
-      go (Some l) is = record {
-        begun = Some l;
-        before = head ++ ends.before;
-        pass = ends.pass;
-        feds = ends.feds;
-        are = are ∙ ap (λ r. head ++ r) ends.are ∙ sym (append_assoc head ends.before ends.pass);
-        none_before = λ none. cc;
-        walk = subst (λ b. IsWalk Goto (begun_at labels (labels label) b) ends.feds ends.pass last) is ends.walk;
-      }
+  begun_again : (label : Label) (f : Fed) (head rest : List Answered) (plan last : Plan) (steps : List Answered) → steps ≡ head ++ rest
+      → IsWalk Goto plan (f ∷ []) head (Goto label) → EndsInPass labels (labels label) rest last → EndsInPass labels plan steps last
+  begun_again label f head rest plan last steps are goes ends = record {
+    passes = head ∷ ends.passes;
+    left = ends.left;
+    pass = ends.pass;
+    feds = ends.feds;
+    are = are ∙ ap (λ r. head ++ r) ends.are ∙ sym (append_assoc head (joined ends.passes) ends.pass);
+    before = (record { label = label; feds = f ∷ []; walk = goes }, ends.before);
+    walk = ends.walk;
+  }
 
   -- a step in front of what the rest of a walk ends in, where it is no jump
   unbroken : (plan next last : Plan) (f : Fed) (head rest steps : List Answered) → steps ≡ head ++ rest
-      → ((feds : List Fed) (pass : List Answered) → IsWalk Goto next feds pass last → IsWalk Goto plan (f ∷ feds) (head ++ pass) last)
+      → ((feds : List Fed) (pass : List Answered) (end : Plan) → IsWalk Goto next feds pass end → IsWalk Goto plan (f ∷ feds) (head ++ pass) end)
       → EndsInPass labels next rest last → EndsInPass labels plan steps last
-  unbroken plan next last f head rest steps are step ends = go ends.begun refl
+  unbroken plan next last f head rest steps are step ends = go ends.passes ends.are ends.before
     where
-      go : (begun : Option Label) → ends.begun ≡ begun → EndsInPass labels plan steps last
-      go None is = record {
-        begun = None;
-        before = [];
-        pass = steps;
+      go : (passes : List (List Answered)) → rest ≡ joined passes ++ ends.pass → ArePasses labels next passes ends.left → EndsInPass labels plan steps last
+      go [] is before = record {
+        passes = [];
+        left = plan;
+        pass = head ++ ends.pass;
         feds = f ∷ ends.feds;
-        are = refl;
-        none_before = λ none. refl;
-        walk =
-            let same : rest ≡ ends.pass = subst (λ before. rest ≡ before ++ ends.pass) (ends.none_before is) ends.are in
-            subst (λ pass. IsWalk Goto plan (f ∷ ends.feds) pass last) (sym (are ∙ ap (λ r. head ++ r) same))
-            (step ends.feds ends.pass (subst (λ b. IsWalk Goto (begun_at labels next b) ends.feds ends.pass last) is ends.walk));
+        are = are ∙ ap (λ r. head ++ r) is;
+        before = refl;
+        walk = step ends.feds ends.pass last (subst (λ p. IsWalk Goto p ends.feds ends.pass last) before ends.walk);
       }
-      go (Some l) is = record {
-        begun = Some l;
-        before = head ++ ends.before;
+      go (p ∷ passes) is (goes, before) = record {
+        passes = (head ++ p) ∷ passes;
+        left = ends.left;
         pass = ends.pass;
         feds = ends.feds;
-        are = are ∙ ap (λ r. head ++ r) ends.are ∙ sym (append_assoc head ends.before ends.pass);
-        none_before = λ none. cc;
-        walk = subst (λ b. IsWalk Goto (begun_at labels next b) ends.feds ends.pass last) is ends.walk;
+        are =
+            are ∙ ap (λ r. head ++ r) is ∙ sym (append_assoc head (p ++ joined passes) ends.pass)
+            ∙ ap (λ r. r ++ ends.pass) (sym (append_assoc head p (joined passes)));
+        before = (record { label = goes.label; feds = f ∷ goes.feds; walk = step goes.feds p (Goto goes.label) goes.walk }, before);
+        walk = ends.walk;
       }
 
   stepped : (plan next last : Plan) (f : Fed) (head rest steps : List Answered) → steps ≡ head ++ rest
-      → ((feds : List Fed) (pass : List Answered) → IsWalk Goto next feds pass last → IsWalk Goto plan (f ∷ feds) (head ++ pass) last)
+      → ((feds : List Fed) (pass : List Answered) (end : Plan) → IsWalk Goto next feds pass end → IsWalk Goto plan (f ∷ feds) (head ++ pass) end)
       → EndsInPass labels (settled labels next) rest last → EndsInPass labels plan steps last
   stepped plan (Ask site why op next) last f head rest steps are step ends = unbroken plan (Ask site why op next) last f head rest steps are step ends
   stepped plan (Await wait next) last f head rest steps are step ends = unbroken plan (Await wait next) last f head rest steps are step ends
   stepped plan (Note site image event next) last f head rest steps are step ends = unbroken plan (Note site image event next) last f head rest steps are step ends
   stepped plan (Return reply) last f head rest steps are step ends = unbroken plan (Return reply) last f head rest steps are step ends
-  stepped plan (Goto label) last f head rest steps are step ends = begun_again label head rest plan last steps are ends
+  stepped plan (Goto label) last f head rest steps are step ends =
+      begun_again label f head rest plan last steps are
+      (subst (λ h. IsWalk Goto plan (f ∷ []) h (Goto label)) (append-nil head) (step [] [] (Goto label) (refl, refl))) ends
 
   pub walk_ends : (feds : List Fed) (plan : Plan) (steps : List Answered) (last : Plan) → IsWalk labels plan feds steps last → EndsInPass labels plan steps last
-  walk_ends [] plan steps last walk = record { begun = None; before = []; pass = steps; feds = []; are = refl; none_before = λ none. refl; walk = walk }
+  walk_ends [] plan steps last walk = record { passes = []; left = plan; pass = steps; feds = []; are = refl; before = refl; walk = walk }
   walk_ends (fed.Answer a ∷ more) (Ask site why op next) steps last (first, walk) =
       stepped (Ask site why op next) (next a) last (fed.Answer a) (record { site = site; op = op; answer = a } ∷ []) first.rest steps first.is
-      (λ feds pass w. (record { rest = pass; is = refl }, subst (λ p. IsWalk Goto p feds pass last) (sym (settled_goto (next a))) w))
+      (λ feds pass end w. (record { rest = pass; is = refl }, subst (λ p. IsWalk Goto p feds pass end) (sym (settled_goto (next a))) w))
       (walk_ends more (settled labels (next a)) first.rest last walk)
   walk_ends (fed.Passed ∷ more) (Ask site why op next) steps last walk = absurd walk
   walk_ends (fed.Passed ∷ more) (Await wait next) steps last walk =
       stepped (Await wait next) next last fed.Passed [] steps steps refl
-      (λ feds pass w. subst (λ p. IsWalk Goto p feds pass last) (sym (settled_goto next)) w)
+      (λ feds pass end w. subst (λ p. IsWalk Goto p feds pass end) (sym (settled_goto next)) w)
       (walk_ends more (settled labels next) steps last walk)
   walk_ends (fed.Answer a ∷ more) (Await wait next) steps last walk = absurd walk
   walk_ends (fed.Passed ∷ more) (Note site image event next) steps last walk =
       stepped (Note site image event next) next last fed.Passed [] steps steps refl
-      (λ feds pass w. subst (λ p. IsWalk Goto p feds pass last) (sym (settled_goto next)) w)
+      (λ feds pass end w. subst (λ p. IsWalk Goto p feds pass end) (sym (settled_goto next)) w)
       (walk_ends more (settled labels next) steps last walk)
   walk_ends (fed.Answer a ∷ more) (Note site image event next) steps last walk = absurd walk
   walk_ends (f ∷ more) (Return reply) steps last walk = absurd walk

@@ -1,5 +1,5 @@
 -- Plans that are refused by their last answer alone, step by step.
-use Rattle.std.proofs.Common.{◌≡◌, ◌⊎◌, inl, inr, ℕ, List, [], ◌∷◌, Bool, true, false, cond, Option, Some, None, refl, ap, sym, subst}
+use Rattle.std.proofs.Common.{◌≡◌, ◌∙◌, ◌⊎◌, inl, inr, ℕ, List, [], ◌∷◌, ◌++◌, Bool, true, false, cond, Option, Some, None, refl, ap, sym, subst}
 use Rattle.rbd_kinds.specs.declared.answer.Answer.{Answer}
 use Rattle.rbd_kinds.specs.declared.answer.Answer.TheVariants as answer
 use Rattle.rbd_kinds.specs.declared.directory_op.DirectoryOp.TheVariants as directory
@@ -15,155 +15,165 @@ use Rattle.rbd_kinds.specs.declared.refusal.Refusal.TheVariants as refusal
 use Rattle.rbd_kinds.specs.declared.reply.Reply.{Reply}
 use Rattle.rbd_kinds.specs.declared.reply.Reply.TheVariants as reply
 use Rattle.rbd_machine.specs.Answers.{CanGive}
-use Rattle.rbd_machine.specs.Label.{Label}
 use Rattle.rbd_machine.specs.Path.{Answered, IsWalk}
-use Rattle.rbd_machine.specs.Plan.{Plan, Ask, Await, Note, Return, Goto, settled}
+use Rattle.rbd_machine.specs.Plan.{Plan, Ask, Await, Note, Return, Goto, IsLive, settled}
 use Rattle.rbd_machine.specs.Refused.{refusal_by, only_looks, AreGiven, IsRefusedBy}
-use Rattle.rbd_machine.specs.Steps.{refused, unless, on_id, on_header, change, joining, looked, holding, owned}
+use Rattle.rbd_machine.specs.Steps.{unless, on_id, on_header, change, joining, looked, holding, owned}
+use Rattle.rbd_machine.proofs.Settled.{settled_goto}
+use Rattle.rbd_machine.proofs.Walked.{ended, jump_ends_otherwise}
 
 -- whether something was changed, once an operation is done
 abbrev pub changed_by : Bool → Op → Bool
 changed_by changed o = cond (only_looks o) changed true
 
 -- an answer that ends the request refused
-pub record EndsRefused (refuses : HeaderView → Option Refusal) (changed : Bool) (o : Op) (a : Answer) (next : Plan) : Type 0 where
+pub record EndsRefused (refuses : HeaderView → Option Refusal) (late : Refusal → Type 0) (changed : Bool) (o : Op) (a : Answer) (next : Plan) : Type 0 where
   pub why : Refusal
   pub is : refusal_by refuses o a ≡ Some why
   pub ends : next ≡ Return (reply.Refused why)
-  pub fenced : changed ≡ true → why ≡ refusal.Fenced
+  pub comes : changed ≡ true → late why
 
-module _ (refuses : HeaderView → Option Refusal) (grants : Reply → Type 0) where
-  -- Each answer refuses it, or it goes on; where it isn't refused it grants a reply.
+module _ (refuses : HeaderView → Option Refusal) (late : Refusal → Type 0) (grants : Reply → Type 0) where
+  -- Each answer refuses it, or it goes on, and then the answer refuses nothing; where it isn't refused it grants a reply.
   abbrev pub IsRefusing : Bool → Plan → Type 0
-  IsRefusing changed (Ask site why o next) = (a : Answer) → CanGive o a → EndsRefused refuses changed o a (next a) ⊎ IsRefusing (changed_by changed o) (next a)
+  IsRefusing changed (Ask site why o next) =
+      (a : Answer) → CanGive o a
+      → EndsRefused refuses late changed o a (next a) ⊎ ((IsLive (next a) → refusal_by refuses o a ≡ None) × IsRefusing (changed_by changed o) (next a))
   IsRefusing changed (Await wait next) = IsRefusing changed next
   IsRefusing changed (Note site image event next) = IsRefusing changed next
   IsRefusing changed (Return r) = grants r
-  IsRefusing changed (Goto label) = changed ≡ false
+  IsRefusing changed (Goto label) = Unit {0}
+
+  -- one answer of these
+  abbrev pub Answers : Bool → (o : Op) → (a : Answer) → (next : Plan) → Type 0
+  Answers changed o a next = EndsRefused refuses late changed o a next ⊎ ((IsLive next → refusal_by refuses o a ≡ None) × IsRefusing (changed_by changed o) next)
 
   -- ---- where its walks end
 
   pub record RefusedFrom (changed : Bool) (steps : List Answered) (x : Refusal) : Type 0 where
-    pub by : IsRefusedBy refuses steps x
-    pub fenced : changed ≡ true → x ≡ refusal.Fenced
+    pub by : IsRefusedBy refuses late steps x
+    pub comes : changed ≡ true → late x
 
   -- it grants the reply, or was refused
   abbrev pub EndsBy : Bool → List Answered → Reply → Type 0
   EndsBy changed steps r = grants r ⊎ ((x : Refusal) × (r ≡ reply.Refused x) × RefusedFrom changed steps x)
 
   one_more : (changed : Bool) (site : SiteId) (o : Op) (a : Answer) (rest : List Answered) (x : Refusal)
-      → RefusedFrom (changed_by changed o) rest x → RefusedFrom changed (record { site = site; op = o; answer = a } ∷ rest) x
-  one_more changed site o a rest x from = record {
+      → refusal_by refuses o a ≡ None → RefusedFrom (changed_by changed o) rest x → RefusedFrom changed (record { site = site; op = o; answer = a } ∷ rest) x
+  one_more changed site o a rest x allowed from = record {
     by = record {
       before = record { site = site; op = o; answer = a } ∷ from.by.before;
       last = from.by.last;
       are = ap (λ s. record { site = site; op = o; answer = a } ∷ s) from.by.are;
       refused = from.by.refused;
-      unchanged = λ not_fenced. (looks not_fenced (only_looks o) refl, from.by.unchanged not_fenced);
+      allowed = (allowed, from.by.allowed);
+      unchanged = λ not_late. (looks not_late (only_looks o) refl, from.by.unchanged not_late);
     };
-    fenced = λ was. from.fenced (still was (only_looks o));
+    comes = λ was. from.comes (still was (only_looks o));
   }
     where
-      looks : (x ≡ refusal.Fenced → ⊥) → (b : Bool) → only_looks o ≡ b → only_looks o ≡ true
-      looks not_fenced true is = is
-      looks not_fenced false is = absurd (not_fenced (from.fenced (ap (λ b. cond b changed true) is)))
+      looks : (late x → ⊥) → (b : Bool) → only_looks o ≡ b → only_looks o ≡ true
+      looks not_late true is = is
+      looks not_late false is = absurd (not_late (from.comes (ap (λ b. cond b changed true) is)))
 
       still : changed ≡ true → (b : Bool) → cond b changed true ≡ true
       still was true = was
       still was false = refl
 
-  step_more : (changed : Bool) (site : SiteId) (o : Op) (a : Answer) (rest : List Answered) (r : Reply)
+  -- a plan that has operations left hasn't ended
+  is_live : (next : Plan) (feds : List Fed) (rest before : List Answered) (last : Answered) (r : Reply)
+      → IsWalk Goto (settled Goto next) feds rest (Return r) → rest ≡ before ++ last ∷ [] → IsLive next
+  is_live (Ask site why o next) feds rest before last r walk are = tt
+  is_live (Await wait next) feds rest before last r walk are = tt
+  is_live (Note site image event next) feds rest before last r walk are = tt
+  is_live (Return s) feds rest before last r walk are = none before (sym (ended s feds rest (Return r) walk).0 ∙ are)
+    where
+      none : (before : List Answered) → [] ≡ before ++ last ∷ [] → ⊥
+      none [] same = cc
+      none (step ∷ before) same = cc
+  is_live (Goto label) feds rest before last r walk are = jump_ends_otherwise r label feds rest walk
+
+  step_more : (changed : Bool) (site : SiteId) (o : Op) (a : Answer) (next : Plan) (feds : List Fed) (rest : List Answered) (r : Reply)
+      → (IsLive next → refusal_by refuses o a ≡ None) → IsWalk Goto (settled Goto next) feds rest (Return r)
       → EndsBy (changed_by changed o) rest r → EndsBy changed (record { site = site; op = o; answer = a } ∷ rest) r
-  step_more changed site o a rest r (inl granted) = inl granted
-  step_more changed site o a rest r (inr (x, is, from)) = inr (x, is, one_more changed site o a rest x from)
+  step_more changed site o a next feds rest r allowed walk (inl granted) = inl granted
+  step_more changed site o a next feds rest r allowed walk (inr (x, is, from)) =
+      inr (x, is, one_more changed site o a rest x (allowed (is_live next feds rest from.by.before from.by.last r walk from.by.are)) from)
 
-  module _ (labels : Label → Plan) (there : (label : Label) → IsRefusing false (labels label)) where
-    refusing_settled : (changed : Bool) (plan : Plan) → IsRefusing changed plan → IsRefusing changed (settled labels plan)
-    refusing_settled changed (Ask site why o next) is = is
-    refusing_settled changed (Await wait next) is = is
-    refusing_settled changed (Note site image event next) is = is
-    refusing_settled changed (Return r) is = is
-    refusing_settled changed (Goto label) same = subst (λ c. IsRefusing c (labels label)) (sym same) (there label)
+  refusing_settled : (changed : Bool) (plan : Plan) → IsRefusing changed plan → IsRefusing changed (settled Goto plan)
+  refusing_settled changed plan is = subst (IsRefusing changed) (sym (settled_goto plan)) is
 
-    ended_there : (s : Reply) (feds : List Fed) (steps : List Answered) (last : Plan) → IsWalk labels (Return s) feds steps last → (steps ≡ []) × (last ≡ Return s)
-    ended_there s [] steps last walk = walk
-    ended_there s (f ∷ more) steps last walk = absurd walk
+  at_last : (changed : Bool) (site : SiteId) (o : Op) (a : Answer) (next : Plan) (feds : List Fed) (rest : List Answered) (r : Reply)
+      → EndsRefused refuses late changed o a next → IsWalk Goto (settled Goto next) feds rest (Return r) → EndsBy changed (record { site = site; op = o; answer = a } ∷ rest) r
+  at_last changed site o a next feds rest r is walk =
+      let end = ended (reply.Refused is.why) feds rest (Return r) (subst (λ p. IsWalk Goto (settled Goto p) feds rest (Return r)) is.ends walk) in
+      let none : rest ≡ [] = end.0 in
+      let same : Return r ≡ Return (reply.Refused is.why) = end.1 in
+      inr (
+        is.why,
+        (let e : r ≡ reply.Refused is.why = cc in e),
+        record {
+          by = record {
+            before = [];
+            last = record { site = site; op = o; answer = a };
+            are = ap (λ s. record { site = site; op = o; answer = a } ∷ s) none;
+            refused = is.is;
+            allowed = tt;
+            unchanged = λ not_late. tt;
+          };
+          comes = is.comes;
+        },
+      )
 
-    at_last : (changed : Bool) (site : SiteId) (o : Op) (a : Answer) (next : Plan) (feds : List Fed) (rest : List Answered) (r : Reply)
-        → EndsRefused refuses changed o a next → IsWalk labels (settled labels next) feds rest (Return r) → EndsBy changed (record { site = site; op = o; answer = a } ∷ rest) r
-    at_last changed site o a next feds rest r is walk =
-        let end = ended_there (reply.Refused is.why) feds rest (Return r) (subst (λ p. IsWalk labels (settled labels p) feds rest (Return r)) is.ends walk) in
-        let none : rest ≡ [] = end.0 in
-        let same : Return r ≡ Return (reply.Refused is.why) = end.1 in
-        inr (
-          is.why,
-          (let e : r ≡ reply.Refused is.why = cc in e),
-          record {
-            by = record {
-              before = [];
-              last = record { site = site; op = o; answer = a };
-              are = ap (λ s. record { site = site; op = o; answer = a } ∷ s) none;
-              refused = is.is;
-              unchanged = λ not_fenced. tt;
-            };
-            fenced = is.fenced;
-          },
-        )
+  answered : (changed : Bool) (site : SiteId) (o : Op) (a : Answer) (next : Plan) (feds : List Fed) (rest : List Answered) (r : Reply)
+      → (IsRefusing (changed_by changed o) next → EndsBy (changed_by changed o) rest r) → IsWalk Goto (settled Goto next) feds rest (Return r)
+      → Answers changed o a next → EndsBy changed (record { site = site; op = o; answer = a } ∷ rest) r
+  answered changed site o a next feds rest r on walk (inl is) = at_last changed site o a next feds rest r is walk
+  answered changed site o a next feds rest r on walk (inr (allowed, goes_on)) = step_more changed site o a next feds rest r allowed walk (on goes_on)
 
-    answered : (changed : Bool) (site : SiteId) (o : Op) (a : Answer) (next : Plan) (feds : List Fed) (rest : List Answered) (r : Reply)
-        → (IsRefusing (changed_by changed o) next → EndsBy (changed_by changed o) rest r) → IsWalk labels (settled labels next) feds rest (Return r)
-        → EndsRefused refuses changed o a next ⊎ IsRefusing (changed_by changed o) next → EndsBy changed (record { site = site; op = o; answer = a } ∷ rest) r
-    answered changed site o a next feds rest r on walk (inl is) = at_last changed site o a next feds rest r is walk
-    answered changed site o a next feds rest r on walk (inr goes_on) = step_more changed site o a rest r (on goes_on)
-
-    pub walk_ends_by : (feds : List Fed) (changed : Bool) (plan : Plan) (steps : List Answered) (r : Reply)
-        → IsRefusing changed plan → AreGiven steps → IsWalk labels plan feds steps (Return r) → EndsBy changed steps r
-    walk_ends_by [] changed (Return s) steps r is given walk = inl (let same : Return r ≡ Return s = walk.1 in subst grants (let e : s ≡ r = cc in e) is)
-    walk_ends_by [] changed (Ask site why o next) steps r is given walk = let same = walk.1 in cc
-    walk_ends_by [] changed (Await wait next) steps r is given walk = let same = walk.1 in cc
-    walk_ends_by [] changed (Note site image event next) steps r is given walk = let same = walk.1 in cc
-    walk_ends_by [] changed (Goto label) steps r is given walk = let same = walk.1 in cc
-    walk_ends_by (fed.Answer a ∷ more) changed (Ask site why o next) steps r is given (first, walk) =
-        let given' : AreGiven (record { site = site; op = o; answer = a } ∷ first.rest) = subst AreGiven first.is given in
-        subst (λ s. EndsBy changed s r) (sym first.is)
-        (answered changed site o a (next a) more first.rest r
-        (λ goes_on. walk_ends_by more (changed_by changed o) (settled labels (next a)) first.rest r (refusing_settled (changed_by changed o) (next a) goes_on) given'.1 walk) walk (is a given'.0))
-    walk_ends_by (fed.Passed ∷ more) changed (Ask site why o next) steps r is given walk = absurd walk
-    walk_ends_by (fed.Passed ∷ more) changed (Await wait next) steps r is given walk =
-        walk_ends_by more changed (settled labels next) steps r (refusing_settled changed next is) given walk
-    walk_ends_by (fed.Answer a ∷ more) changed (Await wait next) steps r is given walk = absurd walk
-    walk_ends_by (fed.Passed ∷ more) changed (Note site image event next) steps r is given walk =
-        walk_ends_by more changed (settled labels next) steps r (refusing_settled changed next is) given walk
-    walk_ends_by (fed.Answer a ∷ more) changed (Note site image event next) steps r is given walk = absurd walk
-    walk_ends_by (f ∷ more) changed (Return s) steps r is given walk = absurd walk
-    walk_ends_by (f ∷ more) changed (Goto label) steps r is given walk = absurd walk
-
-  -- of a request that begins no part again
   pub ends_by : (feds : List Fed) (changed : Bool) (plan : Plan) (steps : List Answered) (r : Reply)
       → IsRefusing changed plan → AreGiven steps → IsWalk Goto plan feds steps (Return r) → EndsBy changed steps r
-  ends_by feds changed plan steps r is given walk = walk_ends_by Goto (λ label. refl) feds changed plan steps r is given walk
+  ends_by [] changed (Return s) steps r is given walk = inl (let same : Return r ≡ Return s = walk.1 in subst grants (let e : s ≡ r = cc in e) is)
+  ends_by [] changed (Ask site why o next) steps r is given walk = let same = walk.1 in cc
+  ends_by [] changed (Await wait next) steps r is given walk = let same = walk.1 in cc
+  ends_by [] changed (Note site image event next) steps r is given walk = let same = walk.1 in cc
+  ends_by [] changed (Goto label) steps r is given walk = let same = walk.1 in cc
+  ends_by (fed.Answer a ∷ more) changed (Ask site why o next) steps r is given (first, walk) =
+      let given' : AreGiven (record { site = site; op = o; answer = a } ∷ first.rest) = subst AreGiven first.is given in
+      subst (λ s. EndsBy changed s r) (sym first.is)
+      (answered changed site o a (next a) more first.rest r
+      (λ goes_on. ends_by more (changed_by changed o) (settled Goto (next a)) first.rest r (refusing_settled (changed_by changed o) (next a) goes_on) given'.1 walk) walk (is a given'.0))
+  ends_by (fed.Passed ∷ more) changed (Ask site why o next) steps r is given walk = absurd walk
+  ends_by (fed.Passed ∷ more) changed (Await wait next) steps r is given walk =
+      ends_by more changed (settled Goto next) steps r (refusing_settled changed next is) given walk
+  ends_by (fed.Answer a ∷ more) changed (Await wait next) steps r is given walk = absurd walk
+  ends_by (fed.Passed ∷ more) changed (Note site image event next) steps r is given walk =
+      ends_by more changed (settled Goto next) steps r (refusing_settled changed next is) given walk
+  ends_by (fed.Answer a ∷ more) changed (Note site image event next) steps r is given walk = absurd walk
+  ends_by (f ∷ more) changed (Return s) steps r is given walk = absurd walk
+  ends_by (f ∷ more) changed (Goto label) steps r is given walk = absurd walk
 
   -- ---- steps
 
   pub refusing_find : (name : List ℕ) (next : ℕ → Plan) → ((image : ℕ) → IsRefusing false (next image)) → (a : Answer) → CanGive (op.Directory (directory.Find name)) a
-      → EndsRefused refuses false (op.Directory (directory.Find name)) a (on_id next a) ⊎ IsRefusing false (on_id next a)
-  refusing_find name next goes_on (answer.Id image) can = inr (goes_on image)
-  refusing_find name next goes_on answer.Absent can = inl (record { why = refusal.NoImage; is = refl; ends = refl; fenced = λ was. cc })
-  refusing_find name next goes_on answer.Fenced can = inl (record { why = refusal.Fenced; is = refl; ends = refl; fenced = λ was. refl })
+      → Answers false (op.Directory (directory.Find name)) a (on_id next a)
+  refusing_find name next goes_on (answer.Id image) can = inr (λ live. refl, goes_on image)
+  refusing_find name next goes_on answer.Absent can = inl (record { why = refusal.NoImage; is = refl; ends = refl; comes = λ was. cc })
+  refusing_find name next goes_on answer.Fenced can = inl (record { why = refusal.Fenced; is = refl; ends = refl; comes = λ was. cc })
   refusing_find name next goes_on _ can = let no = can.word in cc
 
   pub refusing_look : (image : ℕ) (next : HeaderView → Plan)
-      → ((h : HeaderView) → EndsRefused refuses false (op.Header image header.Get) (answer.Header h) (next h) ⊎ IsRefusing false (next h))
-      → (a : Answer) → CanGive (op.Header image header.Get) a → EndsRefused refuses false (op.Header image header.Get) a (on_header next a) ⊎ IsRefusing false (on_header next a)
+      → ((h : HeaderView) → Answers false (op.Header image header.Get) (answer.Header h) (next h))
+      → (a : Answer) → CanGive (op.Header image header.Get) a → Answers false (op.Header image header.Get) a (on_header next a)
   refusing_look image next goes_on (answer.Header h) can = goes_on h
-  refusing_look image next goes_on answer.Absent can = inl (record { why = refusal.NoImage; is = refl; ends = refl; fenced = λ was. cc })
-  refusing_look image next goes_on answer.Fenced can = inl (record { why = refusal.Fenced; is = refl; ends = refl; fenced = λ was. refl })
+  refusing_look image next goes_on answer.Absent can = inl (record { why = refusal.NoImage; is = refl; ends = refl; comes = λ was. cc })
+  refusing_look image next goes_on answer.Fenced can = inl (record { why = refusal.Fenced; is = refl; ends = refl; comes = λ was. cc })
   refusing_look image next goes_on _ can = let no = can.word in cc
 
   pub refusing_header : (image : ℕ) (h : HeaderView) (r : Option Refusal) (next : Plan) → refuses h ≡ r → (refuses h ≡ None → IsRefusing false next)
-      → EndsRefused refuses false (op.Header image header.Get) (answer.Header h) (unless r next) ⊎ IsRefusing false (unless r next)
-  refusing_header image h None next is goes_on = inr (goes_on is)
-  refusing_header image h (Some x) next is goes_on = inl (record { why = x; is = is; ends = refl; fenced = λ was. cc })
+      → Answers false (op.Header image header.Get) (answer.Header h) (unless r next)
+  refusing_header image h None next is goes_on = inr (λ live. is, goes_on is)
+  refusing_header image h (Some x) next is goes_on = inl (record { why = x; is = is; ends = refl; comes = λ was. cc })
 
   pub refusing_change : (site : SiteId) (name : List ℕ) (alone : Bool) (act : ℕ → HeaderView → Plan)
       → ((image : ℕ) (h : HeaderView) → refuses h ≡ None → IsRefusing false (act image h)) → IsRefusing false (change site name alone refuses act)

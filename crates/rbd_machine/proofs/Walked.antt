@@ -1,4 +1,4 @@
--- What a request that isn't refused was fed, step by step.
+-- What a request was fed up to an end that is no refusal, step by step.
 use Rattle.std.proofs.Common.{◌≡◌, ℕ, List, [], ◌∷◌, Bool, Option, Some, None, refl, ap, ◌∙◌, subst}
 use Rattle.rbd_kinds.specs.declared.answer.Answer.{Answer}
 use Rattle.rbd_kinds.specs.declared.answer.Answer.TheVariants as answer
@@ -29,39 +29,50 @@ pub ended : (r : Reply) (feds : List Fed) (steps : List Answered) (last : Plan) 
 ended r [] steps last walk = walk
 ended r (f ∷ more) steps last walk = absurd walk
 
+pub jump_ends_otherwise : (r : Reply) (label : Label) (feds : List Fed) (steps : List Answered) → IsWalk Goto (Goto label) feds steps (Return r) → ⊥
+jump_ends_otherwise r label [] steps walk = let same = walk.1 in cc
+jump_ends_otherwise r label (f ∷ more) steps walk = absurd walk
+
+-- It has ended and isn't refused, or goes to a label.
+abbrev pub EndsUnrefused : Plan → Type 0
+EndsUnrefused (Return (reply.Refused x)) = ⊥
+EndsUnrefused (Return r) = Unit {0}
+EndsUnrefused (Goto label) = Unit {0}
+EndsUnrefused _ = ⊥
+
 -- an operation, its answer, and what came then
-pub record WentOn (r : Reply) (site : SiteId) (op : Op) (next : Answer → Plan) (steps : List Answered) : Type 0 where
+pub record WentOn (last : Plan) (site : SiteId) (op : Op) (next : Answer → Plan) (steps : List Answered) : Type 0 where
   pub answer : Answer
   pub more : List Fed
   pub rest : List Answered
   pub are : steps ≡ record { site = site; op = op; answer = answer } ∷ rest
-  pub walk : IsWalk Goto (next answer) more rest (Return r)
+  pub walk : IsWalk Goto (next answer) more rest last
 
-pub record ToldImage (r : Reply) (next : ℕ → Plan) (a : Answer) (feds : List Fed) (steps : List Answered) : Type 0 where
+pub record ToldImage (last : Plan) (next : ℕ → Plan) (a : Answer) (feds : List Fed) (steps : List Answered) : Type 0 where
   pub image : ℕ
   pub is : a ≡ answer.Id image
-  pub walk : IsWalk Goto (next image) feds steps (Return r)
+  pub walk : IsWalk Goto (next image) feds steps last
 
-pub record ToldHeader (r : Reply) (next : HeaderView → Plan) (a : Answer) (feds : List Fed) (steps : List Answered) : Type 0 where
+pub record ToldHeader (last : Plan) (next : HeaderView → Plan) (a : Answer) (feds : List Fed) (steps : List Answered) : Type 0 where
   pub header : HeaderView
   pub is : a ≡ answer.Header header
-  pub walk : IsWalk Goto (next header) feds steps (Return r)
+  pub walk : IsWalk Goto (next header) feds steps last
 
-pub record ToldDone (r : Reply) (next : Plan) (a : Answer) (feds : List Fed) (steps : List Answered) : Type 0 where
+pub record ToldDone (last : Plan) (next : Plan) (a : Answer) (feds : List Fed) (steps : List Answered) : Type 0 where
   pub is : a ≡ answer.Done
-  pub walk : IsWalk Goto next feds steps (Return r)
+  pub walk : IsWalk Goto next feds steps last
 
-pub record Passed (r : Reply) (next : Plan) (steps : List Answered) : Type 0 where
+pub record Passed (last : Plan) (next : Plan) (steps : List Answered) : Type 0 where
   pub more : List Fed
-  pub walk : IsWalk Goto next more steps (Return r)
+  pub walk : IsWalk Goto next more steps last
 
 -- a look that refused nothing
-pub record WentPast (r : Reply) (refusal : Option Refusal) (next : Plan) (feds : List Fed) (steps : List Answered) : Type 0 where
+pub record WentPast (last : Plan) (refusal : Option Refusal) (next : Plan) (feds : List Fed) (steps : List Answered) : Type 0 where
   pub may : refusal ≡ None
-  pub walk : IsWalk Goto next feds steps (Return r)
+  pub walk : IsWalk Goto next feds steps last
 
 -- a change came to its own look, and what it did then
-pub record Changed (r : Reply) (site : SiteId) (name : List ℕ) (refuses : HeaderView → Option Refusal) (act : ℕ → HeaderView → Plan) (steps : List Answered) : Type 0 where
+pub record Changed (last : Plan) (site : SiteId) (name : List ℕ) (refuses : HeaderView → Option Refusal) (act : ℕ → HeaderView → Plan) (steps : List Answered) : Type 0 where
   pub image : ℕ
   pub first : HeaderView
   pub own : HeaderView
@@ -70,60 +81,78 @@ pub record Changed (r : Reply) (site : SiteId) (name : List ℕ) (refuses : Head
   pub more : List Fed
   pub rest : List Answered
   pub are : steps ≡ found site name image ∷ looked_at site image first ∷ looked_at site image own ∷ rest
-  pub walk : IsWalk Goto (act image own) more rest (Return r)
+  pub walk : IsWalk Goto (act image own) more rest last
 
--- a reply that is no refusal
-module _ (r : Reply) (kind : (x : Refusal) → r ≡ reply.Refused x → ⊥) where
-  pub refusal_ends_otherwise : (x : Refusal) (feds : List Fed) (steps : List Answered) → IsWalk Goto (Return (reply.Refused x)) feds steps (Return r) → ⊥
-  refusal_ends_otherwise x feds steps w = let same = (ended (reply.Refused x) feds steps (Return r) w).1 in kind x cc
+-- whatever end it is, but the operation itself
+pub went_on_to : (last : Plan) (site : SiteId) (why : Reason) (op : Op) (next : Answer → Plan) (feds : List Fed) (steps : List Answered)
+    → (last ≡ Ask site why op next → ⊥) → IsWalk Goto (Ask site why op next) feds steps last → WentOn last site op next steps
+went_on_to last site why op next [] steps other walk = absurd (other walk.1)
+went_on_to last site why op next (fed.Passed ∷ more) steps other walk = absurd walk
+went_on_to last site why op next (fed.Answer a ∷ more) steps other (first, walk) = record {
+  answer = a;
+  more = more;
+  rest = first.rest;
+  are = first.is;
+  walk = subst (λ p. IsWalk Goto p more first.rest last) (settled_goto (next a)) walk;
+}
 
-  pub nothing_ends_otherwise : (a : Answer) (feds : List Fed) (steps : List Answered) → IsWalk Goto (not_there a) feds steps (Return r) → ⊥
+pub awaited_to : (r : Reply) (wait : Wait) (next : Plan) (feds : List Fed) (steps : List Answered) → IsWalk Goto (Await wait next) feds steps (Return r) → Passed (Return r) next steps
+awaited_to r wait next [] steps walk = let same = walk.1 in cc
+awaited_to r wait next (fed.Answer a ∷ more) steps walk = absurd walk
+awaited_to r wait next (fed.Passed ∷ more) steps walk = record { more = more; walk = subst (λ p. IsWalk Goto p more steps (Return r)) (settled_goto next) walk }
+
+pub noted_to : (r : Reply) (site : SiteId) (image : ℕ) (event : Event) (next : Plan) (feds : List Fed) (steps : List Answered) → IsWalk Goto (Note site image event next) feds steps (Return r) → Passed (Return r) next steps
+noted_to r site image event next [] steps walk = let same = walk.1 in cc
+noted_to r site image event next (fed.Answer a ∷ more) steps walk = absurd walk
+noted_to r site image event next (fed.Passed ∷ more) steps walk = record { more = more; walk = subst (λ p. IsWalk Goto p more steps (Return r)) (settled_goto next) walk }
+
+pub asked_to : (r : Reply) (site : SiteId) (why : Reason) (op : Op) (next : Answer → Plan) (feds : List Fed) (steps : List Answered) → IsWalk Goto (Ask site why op next) feds steps (Return r) → WentOn (Return r) site op next steps
+asked_to r site why op next feds steps walk = went_on_to (Return r) site why op next feds steps (λ same. cc) walk
+
+-- what isn't there ends it
+pub absent_ends : (a : Answer) (feds : List Fed) (steps : List Answered) (last : Plan) → IsWalk Goto (not_there a) feds steps last → steps ≡ []
+absent_ends answer.Fenced feds steps last walk = (ended _ feds steps last walk).0
+absent_ends _ feds steps last walk = (ended _ feds steps last walk).0
+
+module _ (last : Plan) (kind : EndsUnrefused last) where
+  pub refusal_ends_otherwise : (x : Refusal) (feds : List Fed) (steps : List Answered) → IsWalk Goto (Return (reply.Refused x)) feds steps last → ⊥
+  refusal_ends_otherwise x feds steps w = subst EndsUnrefused (ended (reply.Refused x) feds steps last w).1 kind
+
+  pub nothing_ends_otherwise : (a : Answer) (feds : List Fed) (steps : List Answered) → IsWalk Goto (not_there a) feds steps last → ⊥
   nothing_ends_otherwise answer.Fenced feds steps w = refusal_ends_otherwise _ feds steps w
   nothing_ends_otherwise _ feds steps w = refusal_ends_otherwise _ feds steps w
 
-  pub jump_ends_otherwise : (label : Label) (feds : List Fed) (steps : List Answered) → IsWalk Goto (Goto label) feds steps (Return r) → ⊥
-  jump_ends_otherwise label [] steps walk = let same = walk.1 in cc
-  jump_ends_otherwise label (f ∷ more) steps walk = absurd walk
+  pub went_on : (site : SiteId) (why : Reason) (op : Op) (next : Answer → Plan) (feds : List Fed) (steps : List Answered) → IsWalk Goto (Ask site why op next) feds steps last → WentOn last site op next steps
+  went_on site why op next feds steps walk = went_on_to last site why op next feds steps (λ same. subst EndsUnrefused same kind) walk
 
-  pub went_on : (site : SiteId) (why : Reason) (op : Op) (next : Answer → Plan) (feds : List Fed) (steps : List Answered) → IsWalk Goto (Ask site why op next) feds steps (Return r) → WentOn r site op next steps
-  went_on site why op next [] steps walk = let same = walk.1 in cc
-  went_on site why op next (fed.Passed ∷ more) steps walk = absurd walk
-  went_on site why op next (fed.Answer a ∷ more) steps (first, walk) = record {
-    answer = a;
-    more = more;
-    rest = first.rest;
-    are = first.is;
-    walk = subst (λ p. IsWalk Goto p more first.rest (Return r)) (settled_goto (next a)) walk;
-  }
-
-  pub awaited : (wait : Wait) (next : Plan) (feds : List Fed) (steps : List Answered) → IsWalk Goto (Await wait next) feds steps (Return r) → Passed r next steps
-  awaited wait next [] steps walk = let same = walk.1 in cc
+  pub awaited : (wait : Wait) (next : Plan) (feds : List Fed) (steps : List Answered) → IsWalk Goto (Await wait next) feds steps last → Passed last next steps
+  awaited wait next [] steps walk = absurd (subst EndsUnrefused walk.1 kind)
   awaited wait next (fed.Answer a ∷ more) steps walk = absurd walk
-  awaited wait next (fed.Passed ∷ more) steps walk = record { more = more; walk = subst (λ p. IsWalk Goto p more steps (Return r)) (settled_goto next) walk }
+  awaited wait next (fed.Passed ∷ more) steps walk = record { more = more; walk = subst (λ p. IsWalk Goto p more steps last) (settled_goto next) walk }
 
-  pub noted : (site : SiteId) (image : ℕ) (event : Event) (next : Plan) (feds : List Fed) (steps : List Answered) → IsWalk Goto (Note site image event next) feds steps (Return r) → Passed r next steps
-  noted site image event next [] steps walk = let same = walk.1 in cc
+  pub noted : (site : SiteId) (image : ℕ) (event : Event) (next : Plan) (feds : List Fed) (steps : List Answered) → IsWalk Goto (Note site image event next) feds steps last → Passed last next steps
+  noted site image event next [] steps walk = absurd (subst EndsUnrefused walk.1 kind)
   noted site image event next (fed.Answer a ∷ more) steps walk = absurd walk
-  noted site image event next (fed.Passed ∷ more) steps walk = record { more = more; walk = subst (λ p. IsWalk Goto p more steps (Return r)) (settled_goto next) walk }
+  noted site image event next (fed.Passed ∷ more) steps walk = record { more = more; walk = subst (λ p. IsWalk Goto p more steps last) (settled_goto next) walk }
 
-  pub told_image : (next : ℕ → Plan) (a : Answer) (feds : List Fed) (steps : List Answered) → IsWalk Goto (on_id next a) feds steps (Return r) → ToldImage r next a feds steps
+  pub told_image : (next : ℕ → Plan) (a : Answer) (feds : List Fed) (steps : List Answered) → IsWalk Goto (on_id next a) feds steps last → ToldImage last next a feds steps
   told_image next (answer.Id image) feds steps walk = record { image = image; is = refl; walk = walk }
   told_image next a feds steps walk = absurd (nothing_ends_otherwise a feds steps walk)
 
-  pub told_header : (next : HeaderView → Plan) (a : Answer) (feds : List Fed) (steps : List Answered) → IsWalk Goto (on_header next a) feds steps (Return r) → ToldHeader r next a feds steps
+  pub told_header : (next : HeaderView → Plan) (a : Answer) (feds : List Fed) (steps : List Answered) → IsWalk Goto (on_header next a) feds steps last → ToldHeader last next a feds steps
   told_header next (answer.Header h) feds steps walk = record { header = h; is = refl; walk = walk }
   told_header next a feds steps walk = absurd (nothing_ends_otherwise a feds steps walk)
 
-  pub told_done : (next : Plan) (a : Answer) (feds : List Fed) (steps : List Answered) → IsWalk Goto (on_done next a) feds steps (Return r) → ToldDone r next a feds steps
+  pub told_done : (next : Plan) (a : Answer) (feds : List Fed) (steps : List Answered) → IsWalk Goto (on_done next a) feds steps last → ToldDone last next a feds steps
   told_done next answer.Done feds steps walk = record { is = refl; walk = walk }
   told_done next a feds steps walk = absurd (nothing_ends_otherwise a feds steps walk)
 
-  pub went_past : (refusal : Option Refusal) (next : Plan) (feds : List Fed) (steps : List Answered) → IsWalk Goto (unless refusal next) feds steps (Return r) → WentPast r refusal next feds steps
+  pub went_past : (refusal : Option Refusal) (next : Plan) (feds : List Fed) (steps : List Answered) → IsWalk Goto (unless refusal next) feds steps last → WentPast last refusal next feds steps
   went_past None next feds steps walk = record { may = refl; walk = walk }
   went_past (Some x) next feds steps walk = absurd (refusal_ends_otherwise x feds steps walk)
 
   pub changed : (site : SiteId) (name : List ℕ) (alone : Bool) (refuses : HeaderView → Option Refusal) (act : ℕ → HeaderView → Plan) (feds : List Fed) (steps : List Answered)
-      → IsWalk Goto (change site name alone refuses act) feds steps (Return r) → Changed r site name refuses act steps
+      → IsWalk Goto (change site name alone refuses act) feds steps last → Changed last site name refuses act steps
   changed site name alone refuses act feds steps walk =
       let w = went_on site reason.Own (op.Directory (directory.Find name)) (on_id (joining site alone refuses act)) feds steps walk in
       let i = told_image (joining site alone refuses act) w.answer w.more w.rest w.walk in

@@ -4,6 +4,7 @@ pub mod Plan
 pub mod Answers
 pub mod Ready
 pub mod Steps
+pub mod Objects
 pub mod Path
 pub mod Passes
 pub mod Turns
@@ -11,4 +12,5 @@ pub mod Approach
 pub mod Knowledge
 pub mod Permits
 pub mod Lawful
+pub mod About
 pub mod Refused

@@ -1,25 +1,35 @@
 -- Walks with jumps: one pass after another, each of them a walk without.
-use Rattle.std.specs.Prelude.{◌≡◌, ℕ, ◌+◌, List, [], ◌∷◌, ◌++◌, Option, Some, None}
+use Rattle.std.specs.List.{flat_map}
+use Rattle.std.specs.Prelude.{◌≡◌, ℕ, ◌+◌, List, [], ◌∷◌, ◌++◌}
 use Rattle.rbd_kinds.specs.declared.machine.Fed.{Fed}
 use Rattle.rbd_kinds.specs.declared.machine.Fed.TheVariants as fed
 use Rattle.rbd_machine.specs.Label.{Label}
 use Rattle.rbd_machine.specs.Path.{Answered, IsWalk}
 use Rattle.rbd_machine.specs.Plan.{Plan, Ask, Await, Note, Goto, settled}
 
--- where a pass begins: where the walk did, or at the label that was gone to
-abbrev pub begun_at : (Label → Plan) → Plan → Option Label → Plan
-begun_at labels plan None = plan
-begun_at labels plan (Some label) = labels label
+-- A pass from a plan to a label: its steps are these.
+pub record GoesTo (plan : Plan) (pass : List Answered) : Type 0 where
+  pub label : Label
+  pub feds : List Fed
+  pub walk : IsWalk Goto plan feds pass (Goto label)
 
--- The steps of a walk are those before its last jump, and then those of a walk without one.
+-- Passes, one after another, each to a label at which the next begins; the last goes to where a plan is left.
+abbrev pub ArePasses : (Label → Plan) → Plan → List (List Answered) → (left : Plan) → Type 0
+ArePasses labels plan [] left = left ≡ plan
+ArePasses labels plan (pass ∷ passes) left = (goes : GoesTo plan pass) × ArePasses labels (labels goes.label) passes left
+
+abbrev pub joined : List (List Answered) → List Answered
+joined = flat_map (λ pass. pass)
+
+-- The steps of a walk are those of passes, each to a label, and then those of a walk without a jump.
 pub record EndsInPass (labels : Label → Plan) (plan : Plan) (steps : List Answered) (last : Plan) : Type 0 where
-  pub begun : Option Label
-  pub before : List Answered
+  pub passes : List (List Answered)
+  pub left : Plan
   pub pass : List Answered
   pub feds : List Fed
-  pub are : steps ≡ before ++ pass
-  pub none_before : begun ≡ None → before ≡ []
-  pub walk : IsWalk Goto (begun_at labels plan begun) feds pass last
+  pub are : steps ≡ joined passes ++ pass
+  pub before : ArePasses labels plan passes left
+  pub walk : IsWalk Goto left feds pass last
 
 -- how often a walk goes to a label
 abbrev pub jumps_at : Plan → ℕ

@@ -7,12 +7,14 @@ use Rattle.rbd_kinds.specs.declared.data_op.DataOp.TheVariants as object
 use Rattle.rbd_kinds.specs.declared.directory_op.DirectoryOp.TheVariants as directory
 use Rattle.rbd_kinds.specs.declared.header.HeaderView.{HeaderView}
 use Rattle.rbd_kinds.specs.declared.header_op.HeaderOp.TheVariants as header
+use Rattle.rbd_kinds.specs.declared.id.SiteId.{SiteId}
 use Rattle.rbd_kinds.specs.declared.journal_op.JournalOp.TheVariants as journal
 use Rattle.rbd_kinds.specs.declared.map_op.MapOp.TheVariants as states
 use Rattle.rbd_kinds.specs.declared.operation.Op.{Op}
 use Rattle.rbd_kinds.specs.declared.operation.Op.TheVariants as op
 use Rattle.rbd_kinds.specs.declared.refusal.Refusal.{Refusal}
 use Rattle.rbd_kinds.specs.declared.refusal.Refusal.TheVariants as refusal
+use Rattle.rbd_machine.specs.About.{AreOwn}
 use Rattle.rbd_machine.specs.Answers.{CanGive}
 use Rattle.rbd_machine.specs.Path.{Answered}
 
@@ -26,6 +28,10 @@ refusal_by refuses (op.Directory (directory.Add name)) answer.Full = Some refusa
 refusal_by refuses (op.Header image o) answer.Absent = Some refusal.NoImage
 refusal_by refuses (op.Header image header.Get) (answer.Header h) = refuses h
 refusal_by refuses o a = None
+
+-- a request that refuses no header
+abbrev pub refuses_none : HeaderView → Option Refusal
+refuses_none h = None
 
 -- the operation changes nothing
 abbrev pub only_looks : Op → Bool
@@ -49,11 +55,30 @@ abbrev pub AreGiven : List Answered → Type 0
 AreGiven [] = Unit {0}
 AreGiven (step ∷ steps) = CanGive step.op step.answer × AreGiven steps
 
--- The answer to the last operation refuses it so, as the first refusal that holds there; and but for the fence, which may
--- come at any time, nothing was changed before.
-pub record IsRefusedBy (refuses : HeaderView → Option Refusal) (steps : List Answered) (x : Refusal) : Type 0 where
+-- no answer refuses
+abbrev pub AreAllowed : (HeaderView → Option Refusal) → List Answered → Type 0
+AreAllowed refuses [] = Unit {0}
+AreAllowed refuses (step ∷ steps) = (refusal_by refuses step.op step.answer ≡ None) × AreAllowed refuses steps
+
+-- Which refusals may come when a part was done: none, of a request that changes by its last operation alone, or the
+-- fence's, which may come at any time.
+abbrev pub never : Refusal → Type 0
+never x = ⊥
+
+abbrev pub by_fence : Refusal → Type 0
+by_fence x = x ≡ refusal.Fenced
+
+-- The answer to the last operation refuses it so, as the first refusal that holds there, and no answer before refused
+-- it; and unless it may come late, nothing was changed before.
+pub record IsRefusedBy (refuses : HeaderView → Option Refusal) (late : Refusal → Type 0) (steps : List Answered) (x : Refusal) : Type 0 where
   pub before : List Answered
   pub last : Answered
   pub are : steps ≡ before ++ last ∷ []
   pub refused : refusal_by refuses last.op last.answer ≡ Some x
-  pub unchanged : (x ≡ refusal.Fenced → ⊥) → AreLooks before
+  pub allowed : AreAllowed refuses before
+  pub unchanged : (late x → ⊥) → AreLooks before
+
+-- A request was refused so, by an answer to an operation of its own.
+pub record IsRefused (site : SiteId) (ask : Op) (refuses : HeaderView → Option Refusal) (late : Refusal → Type 0) (steps : List Answered) (x : Refusal) : Type 0 where
+  pub own : AreOwn site ask steps
+  pub by : IsRefusedBy refuses late steps x

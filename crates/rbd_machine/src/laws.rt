@@ -45,8 +45,8 @@ pub fn paths_keep_bounds()
     ensures { (n : ℕ) (plan : Plan) (path : List Answered) → IsBounded plan n → IsPass plan path → length path ≤ n }
 {}
 
-/// A walk that goes to labels ends in a pass: its steps are those before it went to the last, and then those of a walk
-/// that goes to none.
+/// A walk that goes to labels is passes one after another: each goes from where the one before went to its own label, and
+/// the last, which ends where the walk does, goes to none. Its steps are theirs.
 pub fn walks_end_in_a_pass()
     ensures { (labels : Label → Plan) (plan : Plan) (feds : List Fed) (steps : List Answered) (last : Plan)
         → IsWalk labels plan feds steps last → EndsInPass labels plan steps last }

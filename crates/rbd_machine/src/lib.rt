@@ -46,13 +46,15 @@
 //! | `specs/Ready.antt` | only an answer needs memory |
 //! | `specs/Steps.antt` | steps that many requests share, as plans |
 //! | `specs/Approach.antt` | what is left of an [`Approach`], and what comes of a step of it |
+//! | `specs/Objects.antt` | the operations on the object of a piece |
 //! | `specs/Path.antt` | the operations of a plan one after another, and how many they are at most |
-//! | `specs/Passes.antt` | the last pass of a request that began again, and how often it did |
+//! | `specs/Passes.antt` | the passes of a request that began again, and how often it did |
 //! | `specs/Turns.antt` | at which objects a request waits for its turn |
 //! | `specs/Knowledge.antt` | what a request knows, and what each answer (`learned`) and each wait (`passed`) teaches it |
 //! | `specs/Permits.antt` | what is permitted by that |
 //! | `specs/Lawful.antt` | a plan does only what it may by what is known there (`IsLawful`), and a request begins with nothing known (`IsLawfulRequest`) |
-//! | `specs/Refused.antt` | what an answer refuses (`refusal_by`), and what a refusal rests on (`IsRefusedBy`) |
+//! | `specs/About.antt` | which operations are a request's own: of the image that the first was told |
+//! | `specs/Refused.antt` | what an answer refuses (`refusal_by`), what a refusal rests on (`IsRefusedBy`), and that it is of the request's own (`IsRefused`) |
 //!
 //! [`laws`] says that a request which wants an operation or an event noted has it, that what a request asks for, with the
 //! answers that it is fed, is a path of its plan, that a path has at most as many operations as its plan, that a request
@@ -76,8 +78,8 @@
 //!    every plan that comes next, so the request puts in its own, and proves nothing of the part again. A step of a
 //!    part tells its [`Progress`].
 //! 7. Laws: its labels stand at operations (`IsClosed`), how many operations it has, that it is lawful (`IsLawfulRequest`; an
-//!    operation that no request did before gets its row in `Permits`, by what its effect on a site needs), and what each
-//!    reply means (`IsMeantBy` of its crate).
+//!    operation that no request did before gets its row in `Permits`, by what its effect on a site needs), and that each
+//!    reply is meant (`IsMeantBy` of `rbd_meaning`, which has the definitions by command).
 //!
 //! # Cost
 //!

@@ -11,11 +11,12 @@ use Rattle.rbd_layout.specs.declared.types.Piece.{Piece}
 use Rattle.rbd_machine.specs.Knowledge.{Knowledge}
 use Rattle.rbd_machine.specs.Label.{Label}
 use Rattle.rbd_machine.specs.Lawful.{IsLawful}
+use Rattle.rbd_machine.specs.Objects.{data_write}
 use Rattle.rbd_machine.specs.Permits.{Permits}
 use Rattle.rbd_machine.specs.Plan.{Plan}
 use Rattle.rbd_machine.proofs.Lawful.{lawful_not_there, lawful_on_done}
 use Rattle.rbd_piece.specs.Gather.{gather, on_bytes}
-use Rattle.rbd_piece.specs.Write.{write_piece, data_write}
+use Rattle.rbd_piece.specs.Write.{write_piece}
 
 module _ (at : Label → Knowledge) (k : Knowledge) where
   pub lawful_write : (site : SiteId) (image : ℕ) (h : HeaderView) (piece : Piece) (bytes : List ℕ) (next : Plan)

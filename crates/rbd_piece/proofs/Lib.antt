@@ -1,3 +1,4 @@
+pub mod About
 pub mod Bounded
 pub mod Closed
 pub mod Lawful

@@ -5,9 +5,9 @@ use Rattle.rbd_kinds.specs.declared.answer.Answer.TheVariants as answer
 use Rattle.rbd_kinds.specs.declared.header.SnapContext.{SnapContext}
 use Rattle.rbd_layout.specs.declared.types.Piece.{Piece}
 use Rattle.rbd_machine.specs.Answers.{CanGive}
+use Rattle.rbd_machine.specs.Objects.{data_read, data_write}
 use Rattle.rbd_machine.specs.Steps.{TellsDone}
-use Rattle.rbd_piece.specs.Gather.{TellsBytes, data_read}
-use Rattle.rbd_piece.specs.Write.{data_write}
+use Rattle.rbd_piece.specs.Gather.{TellsBytes}
 
 pub read_tells : (image : ℕ) (snap : Option ℕ) (piece : Piece) (a : Answer) → CanGive (data_read image snap piece) a → TellsBytes a
 read_tells image snap piece (answer.Bytes bytes) can = tt

@@ -2,13 +2,11 @@
 use Rattle.std.specs.Prelude.{◌≡◌, ◌+◌, ◌≤◌, length, vec_len, vec_capacity, ℕ, List, [], ◌∷◌, ◌++◌, replicate, Option}
 use Rattle.rbd_kinds.specs.declared.answer.Answer.{Answer}
 use Rattle.rbd_kinds.specs.declared.answer.Answer.TheVariants as answer
-use Rattle.rbd_kinds.specs.declared.data_op.DataOp.TheVariants as object
 use Rattle.rbd_kinds.specs.declared.id.SiteId.{SiteId}
 use Rattle.rbd_kinds.specs.declared.layout.Part.{Part}
-use Rattle.rbd_kinds.specs.declared.operation.Op.{Op}
-use Rattle.rbd_kinds.specs.declared.operation.Op.TheVariants as op
 use Rattle.rbd_layout.specs.declared.types.Piece.{Piece}
 use Rattle.rbd_kinds.specs.Parts.{parts_len}
+use Rattle.rbd_machine.specs.Objects.{data_read}
 use Rattle.rbd_machine.specs.Plan.{Plan}
 use Rattle.rbd_machine.specs.Steps.{EndsIt, IsGoing, own, not_there, refused}
 use Rattle.rbd_machine.specs.declared.progress.Progress.{Progress}
@@ -25,9 +23,6 @@ abbrev pub TellsBytes : Answer → Type 0
 TellsBytes (answer.Bytes bytes) = Unit {0}
 TellsBytes answer.Absent = Unit {0}
 TellsBytes a = EndsIt a
-
-abbrev pub data_read : (image : ℕ) → (snap : Option ℕ) → Piece → Op
-data_read image snap piece = op.Data image piece.object (object.Read snap piece.parts)
 
 -- The bytes of the pieces, one piece after another and in it one part after another, behind those that were read
 -- before.

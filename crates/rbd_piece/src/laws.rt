@@ -9,10 +9,11 @@ ghost use Rattle.rbd_machine.specs.Knowledge.{Knowledge};
 ghost use Rattle.rbd_machine.specs.Label.{Label};
 ghost use Rattle.rbd_machine.specs.Lawful.{IsLawful};
 ghost use Rattle.rbd_machine.specs.Permits.{Permits};
+ghost use Rattle.rbd_machine.specs.Objects.{data_write};
 ghost use Rattle.rbd_machine.specs.Path.{IsBounded};
 ghost use Rattle.rbd_machine.specs.Plan.{Plan, IsClosed};
 ghost use Rattle.rbd_piece.specs.Gather.{gather};
-ghost use Rattle.rbd_piece.specs.Write.{data_write, write_piece};
+ghost use Rattle.rbd_piece.specs.Write.{write_piece};
 
 /// A piece of a write has one operation.
 pub fn pieces_write_once()

@@ -18,10 +18,12 @@ use Rattle.rbd_machine.specs.Passes.{jumps}
 use Rattle.rbd_machine.proofs.Passed.{walk_bounded}
 use Rattle.rbd_machine.specs.Steps.{applied}
 use Rattle.rbd_machine.proofs.Bounds.{bounded_change, bounded_more, bounded_on_id, bounded_on_header, bounded_unless}
+use Rattle.rbd_meaning.specs.Range.{extent_at, out_of_range}
+use Rattle.rbd_meaning.specs.Writes.{write_refuses}
 use Rattle.rbd_piece.proofs.Bounded.{bounded_write, bounded_gather}
 use Rattle.rbd_request.specs.Read.{pass, read_labels, looking, reading, viewing, gathering, closing}
 use Rattle.rbd_request.specs.Seen.{Seen, seen_at, shown}
-use Rattle.rbd_request.specs.Write.{extent_at, out_of_range, put, write, write_pieces, write_refuses}
+use Rattle.rbd_request.specs.Write.{put, write, write_pieces}
 
 -- ---- writes
 

@@ -17,10 +17,12 @@ use Rattle.rbd_machine.specs.Label as label
 use Rattle.rbd_machine.specs.Plan.{Return, Goto, IsClosed}
 use Rattle.rbd_machine.specs.Steps.{applied}
 use Rattle.rbd_machine.proofs.Closed.{closed_not_there, closed_on_id, closed_on_header, closed_unless, closed_change}
+use Rattle.rbd_meaning.specs.Range.{extent_at, out_of_range}
+use Rattle.rbd_meaning.specs.Writes.{write_refuses}
 use Rattle.rbd_piece.proofs.Closed.{closed_write, closed_gather}
 use Rattle.rbd_request.specs.Read.{pass, read_labels, looking, reading, viewing, gathering, closing, on_closing}
 use Rattle.rbd_request.specs.Seen.{Seen, seen_at, shown}
-use Rattle.rbd_request.specs.Write.{extent_at, out_of_range, put, write, write_pieces, write_plan, write_refuses}
+use Rattle.rbd_request.specs.Write.{put, write, write_pieces, write_plan}
 
 -- ---- writes
 

@@ -33,10 +33,12 @@ use Rattle.rbd_machine.specs.Permits.{LiesBelow}
 use Rattle.rbd_machine.specs.Plan.{Return, Goto, Standing}
 use Rattle.rbd_machine.specs.Steps.{applied, non_primary}
 use Rattle.rbd_machine.proofs.Lawful.{owning_known, own_is_found, or_else_none, lawful_not_there, lawful_on_id, lawful_on_header, lawful_unless, lawful_change}
+use Rattle.rbd_meaning.specs.Range.{extent_at, out_of_range}
+use Rattle.rbd_meaning.specs.Writes.{write_refuses}
 use Rattle.rbd_piece.proofs.Lawful.{lawful_write, lawful_gather}
 use Rattle.rbd_request.specs.Read.{IsReadOf, pass, looking, reading, viewing, gathering, closing, on_closing}
 use Rattle.rbd_request.specs.Seen.{Seen, seen_at, shown}
-use Rattle.rbd_request.specs.Write.{extent_at, out_of_range, put, write, write_pieces, write_plan, write_refuses}
+use Rattle.rbd_request.specs.Write.{put, write, write_pieces, write_plan}
 use Rattle.rbd_request.proofs.Writes.{within_size}
 
 -- ---- the pieces of a write

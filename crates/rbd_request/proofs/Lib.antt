@@ -1,3 +1,4 @@
+pub mod About
 pub mod Arranged
 pub mod Bounded
 pub mod Closed
@@ -5,6 +6,8 @@ pub mod Lawful
 pub mod Meant
 pub mod Turns
 pub mod Looks
+pub mod Early
 pub mod Passes
+pub mod Stopped
 pub mod Whole
 pub mod Writes

@@ -17,7 +17,7 @@ use Rattle.rbd_kinds.specs.Extents.{fits}
 use Rattle.rbd_header.specs.Header.{view_of, view_of_snap}
 use Rattle.rbd_header.specs.declared.view.View.{View}
 use Rattle.rbd_layout.proofs.Bounds.{few_bytes}
-use Rattle.rbd_request.specs.Write.{out_of_range}
+use Rattle.rbd_meaning.specs.Range.{out_of_range}
 use Rattle.rbd_request.proofs.Writes.{within_size}
 
 -- an extent that fits has a byte

@@ -23,17 +23,24 @@ use Rattle.rbd_header.specs.declared.view.View.{View}
 use Rattle.rbd_machine.specs.Answers.{CanGive}
 use Rattle.rbd_machine.specs.Label as label
 use Rattle.rbd_machine.specs.Path.{Answered, IsWalk}
-use Rattle.rbd_machine.specs.Plan.{Plan, Return, Goto, Standing}
-use Rattle.rbd_machine.specs.Refused.{AreGiven, IsRefusedBy}
+use Rattle.rbd_machine.specs.Plan.{Plan, Return, Goto, Standing, IsLive}
+use Rattle.rbd_machine.specs.Passes.{joined}
+use Rattle.rbd_machine.specs.Refused.{never, by_fence, AreGiven, IsRefusedBy}
 use Rattle.rbd_machine.specs.Steps.{on_done, applied}
-use Rattle.rbd_machine.proofs.Refused.{EndsRefused, IsRefusing, EndsBy, ends_by, walk_ends_by, refusing_find, refusing_look, refusing_header, refusing_change}
-use Rattle.rbd_piece.specs.Gather.{gather, data_read, on_bytes}
-use Rattle.rbd_piece.specs.Write.{data_write}
-use Rattle.rbd_request.specs.Meant.{WriteMeans, ReadMeans, IsMeantBy, view_refuses, read_refuses}
+use Rattle.rbd_machine.proofs.Refused.{IsRefusing, Answers, EndsBy, ends_by, refusing_find, refusing_look, refusing_header, refusing_change}
+use Rattle.rbd_machine.specs.Objects.{data_read, data_write}
+use Rattle.rbd_meaning.specs.Meant.{IsMeantBy}
+use Rattle.rbd_meaning.specs.Range.{extent_at, out_of_range}
+use Rattle.rbd_meaning.specs.Reads.{ReadMeans, RefusedAtLast, view_refuses, read_refuses}
+use Rattle.rbd_meaning.specs.Writes.{WriteMeans, write_refuses}
+use Rattle.rbd_piece.specs.Gather.{gather, on_bytes}
 use Rattle.rbd_request.specs.Read.{IsReadOf, pass, read_labels, looking, reading, viewing, gathering, closing, on_closing}
 use Rattle.rbd_request.specs.Seen.{Seen, seen_at, shown}
-use Rattle.rbd_request.specs.Write.{is_write, extent_at, out_of_range, put, write, write_pieces, write_plan, write_refuses}
-use Rattle.rbd_request.proofs.Passes.{read_shows}
+use Rattle.rbd_request.specs.Write.{is_write, put, write, write_pieces, write_plan}
+use Rattle.rbd_request.proofs.About.{write_is_own, pass_is_own}
+use Rattle.rbd_request.proofs.Early.{pass_refused_early}
+use Rattle.rbd_request.proofs.Passes.{LastPass, last_pass, read_shows}
+use Rattle.rbd_request.proofs.Stopped.{refuses_write, write_stops}
 use Rattle.rbd_request.proofs.Whole.{write_is_whole}
 
 same_refusal : (x y : Refusal) → reply.Refused x ≡ reply.Refused y → y ≡ x
@@ -46,32 +53,35 @@ IsDone reply.Done = Unit {0}
 IsDone _ = ⊥
 
 module _ (refuses : HeaderView → Option Refusal) where
-  refusing_piece : (changed : Bool) (image : ℕ) (context : SnapContext) (p : Piece) (bytes : List ℕ) (next : Plan) → IsRefusing refuses IsDone true next
+  refusing_piece : (changed : Bool) (image : ℕ) (context : SnapContext) (p : Piece) (bytes : List ℕ) (next : Plan) → IsRefusing refuses by_fence IsDone true next
       → (a : Answer) → CanGive (data_write image context p bytes) a
-      → EndsRefused refuses changed (data_write image context p bytes) a (on_done next a) ⊎ IsRefusing refuses IsDone true (on_done next a)
-  refusing_piece changed image context p bytes next goes_on answer.Done can = inr goes_on
-  refusing_piece changed image context p bytes next goes_on answer.Fenced can = inl (record { why = refusal.Fenced; is = refl; ends = refl; fenced = λ was. refl })
+      → Answers refuses by_fence IsDone changed (data_write image context p bytes) a (on_done next a)
+  refusing_piece changed image context p bytes next goes_on answer.Done can = inr (λ live. refl, goes_on)
+  refusing_piece changed image context p bytes next goes_on answer.Fenced can = inl (record { why = refusal.Fenced; is = refl; ends = refl; comes = λ was. refl })
   refusing_piece changed image context p bytes next goes_on _ can = let no = can.word in cc
 
   refusing_pieces : (pieces : List Piece) (changed : Bool) (site : SiteId) (image : ℕ) (h : HeaderView) (at : ℕ) (bytes : List ℕ)
-      → IsRefusing refuses IsDone changed (write_pieces site image h at bytes pieces (applied site image))
+      → IsRefusing refuses by_fence IsDone changed (write_pieces site image h at bytes pieces (applied site image))
   refusing_pieces [] changed site image h at bytes = tt
   refusing_pieces (p ∷ pieces) changed site image h at bytes =
       refusing_piece changed image (context_of h) p (bytes_for p.parts at bytes) (write_pieces site image h at bytes pieces (applied site image)) (refusing_pieces pieces true site image h at bytes)
 
 write_means : (site : SiteId) (name : List ℕ) (at : ℕ) (bytes : List ℕ) (feds : List Fed) (steps : List Answered) (r : Reply) → AreGiven steps
     → IsWalk Goto (write site name at bytes) feds steps (Return r) → WriteMeans site name at bytes steps r
-write_means site name at bytes feds steps r given walk = go r (ends_by (write_refuses (extent_at at bytes)) IsDone feds false (write site name at bytes) steps r is given walk) walk
+write_means site name at bytes feds steps r given walk = go r (ends_by (write_refuses (extent_at at bytes)) by_fence IsDone feds false (write site name at bytes) steps r is given walk) walk
   where
-    is : IsRefusing (write_refuses (extent_at at bytes)) IsDone false (write site name at bytes)
+    is : IsRefusing (write_refuses (extent_at at bytes)) by_fence IsDone false (write site name at bytes)
     is =
-        refusing_change (write_refuses (extent_at at bytes)) IsDone site name false (put site at bytes) (λ image h may.
+        refusing_change (write_refuses (extent_at at bytes)) by_fence IsDone site name false (put site at bytes) (λ image h may.
         refusing_pieces (write_refuses (extent_at at bytes)) (pieces_of h.layout (extent_at at bytes)) false site image h at bytes)
 
-    go : (r : Reply) → EndsBy (write_refuses (extent_at at bytes)) IsDone false steps r → IsWalk Goto (write site name at bytes) feds steps (Return r) → WriteMeans site name at bytes steps r
+    go : (r : Reply) → EndsBy (write_refuses (extent_at at bytes)) by_fence IsDone false steps r → IsWalk Goto (write site name at bytes) feds steps (Return r) → WriteMeans site name at bytes steps r
     go reply.Done ends walk = write_is_whole site name at bytes feds steps walk
     go (reply.Refused x) (inl granted) walk = absurd granted
-    go (reply.Refused x) (inr (y, same, from)) walk = subst (IsRefusedBy (write_refuses (extent_at at bytes)) steps) (same_refusal x y same) from.by
+    go (reply.Refused x) (inr (y, same, from)) walk =
+        refuses_write site name at bytes steps x (write_is_own site name at bytes feds steps (Return (reply.Refused x)) walk)
+        (subst (IsRefusedBy (write_refuses (extent_at at bytes)) by_fence steps) (same_refusal x y same) from.by)
+        (write_stops x site name at bytes feds steps walk)
     go _ (inl granted) walk = absurd granted
     go _ (inr (y, same, from)) walk = cc
 
@@ -88,55 +98,86 @@ IsShowing (reply.Bytes bytes) = Unit {0}
 IsShowing _ = ⊥
 
 module _ (refuses : HeaderView → Option Refusal) where
-  refusing_read : (image : ℕ) (snap : Option ℕ) (p : Piece) (next : List ℕ → Plan) → ((bytes : List ℕ) → IsRefusing refuses IsShowing false (next bytes))
+  refusing_read : (image : ℕ) (snap : Option ℕ) (p : Piece) (next : List ℕ → Plan) → ((bytes : List ℕ) → IsRefusing refuses never IsShowing false (next bytes))
       → (a : Answer) → CanGive (data_read image snap p) a
-      → EndsRefused refuses false (data_read image snap p) a (on_bytes p.parts next a) ⊎ IsRefusing refuses IsShowing false (on_bytes p.parts next a)
-  refusing_read image snap p next goes_on (answer.Bytes bytes) can = inr (goes_on bytes)
-  refusing_read image snap p next goes_on answer.Absent can = inr (goes_on _)
-  refusing_read image snap p next goes_on answer.Fenced can = inl (record { why = refusal.Fenced; is = refl; ends = refl; fenced = λ was. refl })
+      → Answers refuses never IsShowing false (data_read image snap p) a (on_bytes p.parts next a)
+  refusing_read image snap p next goes_on (answer.Bytes bytes) can = inr (λ live. refl, goes_on bytes)
+  refusing_read image snap p next goes_on answer.Absent can = inr (λ live. refl, goes_on _)
+  refusing_read image snap p next goes_on answer.Fenced can = inl (record { why = refusal.Fenced; is = refl; ends = refl; comes = λ was. cc })
   refusing_read image snap p next goes_on _ can = let no = can.word in cc
 
   refusing_gather : (pieces : List Piece) (site : SiteId) (image : ℕ) (snap : Option ℕ) (read : List ℕ) (next : List ℕ → Plan)
-      → ((bytes : List ℕ) → IsRefusing refuses IsShowing false (next bytes)) → IsRefusing refuses IsShowing false (gather site image snap pieces read next)
+      → ((bytes : List ℕ) → IsRefusing refuses never IsShowing false (next bytes)) → IsRefusing refuses never IsShowing false (gather site image snap pieces read next)
   refusing_gather [] site image snap read next goes_on = goes_on read
   refusing_gather (p ∷ pieces) site image snap read next goes_on =
       refusing_read image snap p (λ bytes. gather site image snap pieces (read ++ bytes) next) (λ bytes. refusing_gather pieces site image snap (read ++ bytes) next goes_on)
 
+  -- it is asked for no refusal but the fence
   refusing_closing : (image : ℕ) (seen : Seen) (read : List ℕ) (a : Answer) → CanGive (op.Header image header.Get) a
-      → EndsRefused refuses false (op.Header image header.Get) a (on_closing seen read a) ⊎ IsRefusing refuses IsShowing false (on_closing seen read a)
+      → Answers refuses never IsShowing false (op.Header image header.Get) a (on_closing seen read a)
   refusing_closing image seen read (answer.Header h) can = inr (go (eqb h.generation seen.generation))
     where
-      go : (b : Bool) → IsRefusing refuses IsShowing false (cond b (Return (reply.Bytes (shown seen read))) (Goto label.Begin))
-      go true = tt
-      go false = refl
-  refusing_closing image seen read answer.Absent can = inr refl
-  refusing_closing image seen read answer.Fenced can = inl (record { why = refusal.Fenced; is = refl; ends = refl; fenced = λ was. refl })
+      go : (b : Bool) → (IsLive (cond b (Return (reply.Bytes (shown seen read))) (Goto label.Begin)) → refuses h ≡ None) × IsRefusing refuses never IsShowing false (cond b (Return (reply.Bytes (shown seen read))) (Goto label.Begin))
+      go true = (λ live. absurd live, tt)
+      go false = (λ live. absurd live, tt)
+  refusing_closing image seen read answer.Absent can = inr (λ live. absurd live, tt)
+  refusing_closing image seen read answer.Fenced can = inl (record { why = refusal.Fenced; is = refl; ends = refl; comes = λ was. cc })
   refusing_closing image seen read _ can = let no = can.word in cc
+
+given_behind : (before steps : List Answered) → AreGiven (before ++ steps) → AreGiven steps
+given_behind [] steps given = given
+given_behind (s ∷ before) steps given = given_behind before steps given.1
 
 module _ (site : SiteId) (name : List ℕ) (snap : Option (List ℕ)) (e : Extent) where
   refusing_viewing : (image : ℕ) (h : HeaderView) (view : Option View) → view_of h snap ≡ view
-      → EndsRefused (read_refuses snap e) false (op.Header image header.Get) (answer.Header h) (viewing site image h e view) ⊎ IsRefusing (read_refuses snap e) IsShowing false (viewing site image h e view)
-  refusing_viewing image h None is = inl (record { why = refusal.NoSnap; is = ap (view_refuses e) is; ends = refl; fenced = λ was. cc })
+      → Answers (read_refuses snap e) never IsShowing false (op.Header image header.Get) (answer.Header h) (viewing site image h e view)
+  refusing_viewing image h None is = inl (record { why = refusal.NoSnap; is = ap (view_refuses e) is; ends = refl; comes = λ was. cc })
   refusing_viewing image h (Some view) is =
-      refusing_header (read_refuses snap e) IsShowing image h (out_of_range e view.size) (gathering site image h e view) (ap (view_refuses e) is) (λ may.
+      refusing_header (read_refuses snap e) never IsShowing image h (out_of_range e view.size) (gathering site image h e view) (ap (view_refuses e) is) (λ may.
       refusing_gather (read_refuses snap e) (pieces_of h.layout e) site image view.snap [] (closing site image (seen_at h e)) (refusing_closing (read_refuses snap e) image (seen_at h e)))
 
-  refusing_pass : IsRefusing (read_refuses snap e) IsShowing false (pass site name snap e)
+  refusing_pass : IsRefusing (read_refuses snap e) never IsShowing false (pass site name snap e)
   refusing_pass =
-      refusing_find (read_refuses snap e) IsShowing name (looking site snap e) (λ image.
-      refusing_look (read_refuses snap e) IsShowing image (reading site snap e image) (λ h. refusing_viewing image h (view_of h snap) refl))
+      refusing_find (read_refuses snap e) never IsShowing name (looking site snap e) (λ image.
+      refusing_look (read_refuses snap e) never IsShowing image (reading site snap e image) (λ h. refusing_viewing image h (view_of h snap) refl))
+
+  -- what it is refused by, in its last pass
+  read_refused : (steps : List Answered) (x : Refusal) → AreGiven steps → LastPass site name snap e steps (Return (reply.Refused x)) → RefusedAtLast site name snap e steps x
+  read_refused steps x given l =
+      let given_there = given_behind (joined l.passes) l.final (subst AreGiven l.are given) in
+      record {
+        passes = l.passes;
+        pass = l.final;
+        are = l.are;
+        before = l.before;
+        by = record {
+          own = pass_is_own site name snap e l.feds l.final (Return (reply.Refused x)) l.walk;
+          by = go (ends_by (read_refuses snap e) never IsShowing l.feds false (pass site name snap e) l.final (reply.Refused x) refusing_pass given_there l.walk);
+        };
+        early = pass_refused_early site name snap e x l.feds l.final given_there l.walk;
+      }
+    where
+      go : EndsBy (read_refuses snap e) never IsShowing false l.final (reply.Refused x) → IsRefusedBy (read_refuses snap e) never l.final x
+      go (inl granted) = absurd granted
+      go (inr (y, same, from)) = subst (IsRefusedBy (read_refuses snap e) never l.final) (same_refusal x y same) from.by
+
+  -- no other reply ends a pass
+  other_reply : (steps : List Answered) (r : Reply) → AreGiven steps → LastPass site name snap e steps (Return r) → IsShowing r ⊎ ((x : Refusal) × (r ≡ reply.Refused x))
+  other_reply steps r given l = go (ends_by (read_refuses snap e) never IsShowing l.feds false (pass site name snap e) l.final r refusing_pass (given_behind (joined l.passes) l.final (subst AreGiven l.are given)) l.walk)
+    where
+      go : EndsBy (read_refuses snap e) never IsShowing false l.final r → IsShowing r ⊎ ((x : Refusal) × (r ≡ reply.Refused x))
+      go (inl granted) = inl granted
+      go (inr (y, same, from)) = inr (y, same)
 
   pub read_means : (feds : List Fed) (steps : List Answered) (r : Reply) → AreGiven steps
       → IsWalk (read_labels site name snap e) (pass site name snap e) feds steps (Return r) → ReadMeans site name snap e steps r
-  read_means feds steps r given walk =
-      go r (walk_ends_by (read_refuses snap e) IsShowing (read_labels site name snap e) (λ label. refusing_pass) feds false (pass site name snap e) steps r refusing_pass given walk) walk
+  read_means feds steps r given walk = go r walk (last_pass site name snap e feds steps (Return r) walk) (other_reply steps r given (last_pass site name snap e feds steps (Return r) walk))
     where
-      go : (r : Reply) → EndsBy (read_refuses snap e) IsShowing false steps r → IsWalk (read_labels site name snap e) (pass site name snap e) feds steps (Return r) → ReadMeans site name snap e steps r
-      go (reply.Bytes bytes) ends walk = read_shows site name snap e feds steps bytes walk
-      go (reply.Refused x) (inl granted) walk = absurd granted
-      go (reply.Refused x) (inr (y, same, from)) walk = subst (IsRefusedBy (read_refuses snap e) steps) (same_refusal x y same) from.by
-      go _ (inl granted) walk = absurd granted
-      go _ (inr (y, same, from)) walk = cc
+      go : (r : Reply) → IsWalk (read_labels site name snap e) (pass site name snap e) feds steps (Return r) → LastPass site name snap e steps (Return r) → IsShowing r ⊎ ((x : Refusal) × (r ≡ reply.Refused x)) → ReadMeans site name snap e steps r
+      go (reply.Bytes bytes) walk l ends = read_shows site name snap e feds steps bytes walk
+      go (reply.Refused x) walk l ends = read_refused steps x given l
+      go _ walk l (inl granted) = absurd granted
+      go _ walk l (inr (y, same)) = cc
 
 pub read_plan_means : (site : SiteId) (c : Command) (standing : Standing) (feds : List Fed) (steps : List Answered) (r : Reply) → IsReadOf site c standing → AreGiven steps
     → IsWalk standing.labels standing.plan feds steps (Return r) → IsMeantBy site c steps r

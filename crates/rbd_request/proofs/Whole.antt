@@ -4,7 +4,6 @@ use Rattle.rbd_kinds.specs.declared.header.HeaderView.{HeaderView}
 use Rattle.rbd_kinds.specs.declared.id.SiteId.{SiteId}
 use Rattle.rbd_kinds.specs.declared.journal.Event.TheVariants as event
 use Rattle.rbd_kinds.specs.declared.machine.Fed.{Fed}
-use Rattle.rbd_kinds.specs.declared.refusal.Refusal.{Refusal}
 use Rattle.rbd_kinds.specs.declared.reply.Reply.TheVariants as reply
 use Rattle.rbd_layout.specs.Pieces.{pieces_of}
 use Rattle.rbd_layout.specs.declared.types.Piece.{Piece}
@@ -15,27 +14,27 @@ use Rattle.rbd_machine.specs.Plan.{Return, Goto}
 use Rattle.rbd_machine.specs.Wait as wait
 use Rattle.rbd_machine.specs.declared.reason.Reason.TheVariants as reason
 use Rattle.rbd_machine.specs.Steps.{on_done, applied}
-use Rattle.rbd_piece.specs.Write.{write_piece, data_write}
-use Rattle.rbd_request.specs.Write.{extent_at, put, write, write_pieces, write_refuses}
-use Rattle.rbd_request.specs.Writes.{WritesWhole, piece_written, pieces_written}
+use Rattle.rbd_machine.specs.Objects.{data_write}
+use Rattle.rbd_piece.specs.Write.{write_piece}
+use Rattle.rbd_request.specs.Write.{put, write, write_pieces}
 use Rattle.rbd_machine.proofs.Walked.{ended, went_on, awaited, noted, told_done, changed}
-
-done_isnt_refused : (x : Refusal) → reply.Done ≡ reply.Refused x → ⊥
-done_isnt_refused x same = cc
+use Rattle.rbd_meaning.specs.Range.{extent_at}
+use Rattle.rbd_meaning.specs.Writes.{WritesWhole, piece_written, pieces_written}
+use Rattle.rbd_meaning.specs.Writes.{write_refuses}
 
 -- ---- the pieces
 
 written : (pieces : List Piece) (site : SiteId) (image : ℕ) (h : HeaderView) (at : ℕ) (bytes : List ℕ) (feds : List Fed) (steps : List Answered)
     → IsWalk Goto (write_pieces site image h at bytes pieces (applied site image)) feds steps (Return reply.Done) → steps ≡ pieces_written site image h at bytes pieces
 written [] site image h at bytes feds steps walk =
-    let a = awaited reply.Done done_isnt_refused (wait.Applied site image) (Return reply.Done) feds steps walk in
+    let a = awaited (Return reply.Done) tt (wait.Applied site image) (Return reply.Done) feds steps walk in
     (ended reply.Done a.more steps (Return reply.Done) a.walk).0
 written (p ∷ pieces) site image h at bytes feds steps walk =
     let next = write_pieces site image h at bytes pieces (applied site image) in
     let put = bytes_for p.parts at bytes in
-    let t = awaited reply.Done done_isnt_refused (wait.Turn p.object) (write_piece site image h p put next) feds steps walk in
-    let w = went_on reply.Done done_isnt_refused site reason.Own (data_write image (context_of h) p put) (on_done next) t.more steps t.walk in
-    let d = told_done reply.Done done_isnt_refused next w.answer w.more w.rest w.walk in
+    let t = awaited (Return reply.Done) tt (wait.Turn p.object) (write_piece site image h p put next) feds steps walk in
+    let w = went_on (Return reply.Done) tt site reason.Own (data_write image (context_of h) p put) (on_done next) t.more steps t.walk in
+    let d = told_done (Return reply.Done) tt next w.answer w.more w.rest w.walk in
     w.are ∙ ap (λ a. record { site = site; op = data_write image (context_of h) p put; answer = a } ∷ w.rest) d.is
     ∙ ap (λ s. piece_written site image h at bytes p ∷ s) (written pieces site image h at bytes w.more w.rest d.walk)
 
@@ -44,9 +43,9 @@ written (p ∷ pieces) site image h at bytes feds steps walk =
 pub write_is_whole : (site : SiteId) (name : List ℕ) (at : ℕ) (bytes : List ℕ) (feds : List Fed) (steps : List Answered)
     → IsWalk Goto (write site name at bytes) feds steps (Return reply.Done) → WritesWhole site name at bytes steps
 write_is_whole site name at bytes feds steps walk =
-    let c = changed reply.Done done_isnt_refused site name false (write_refuses (extent_at at bytes)) (put site at bytes) feds steps walk in
+    let c = changed (Return reply.Done) tt site name false (write_refuses (extent_at at bytes)) (put site at bytes) feds steps walk in
     let pieces = pieces_of c.own.layout (extent_at at bytes) in
-    let e = noted reply.Done done_isnt_refused site c.image (event.Write at bytes) (write_pieces site c.image c.own at bytes pieces (applied site c.image)) c.more c.rest c.walk in
+    let e = noted (Return reply.Done) tt site c.image (event.Write at bytes) (write_pieces site c.image c.own at bytes pieces (applied site c.image)) c.more c.rest c.walk in
     record {
       image = c.image;
       first = c.first;

@@ -22,7 +22,9 @@ use Rattle.rbd_machine.specs.Steps.{applied}
 use Rattle.rbd_piece.specs.Write.{write_piece, rest_of_write}
 use Rattle.rbd_piece.specs.declared.write_piece.WritePiece.{WritePiece}
 use Rattle.rbd_machine.proofs.Approached.{approach_asks_by_itself}
-use Rattle.rbd_request.specs.Write.{rest_of_pieces, write_pieces, rest_at, out_of_range, write_refuses, extent_at, put}
+use Rattle.rbd_meaning.specs.Range.{out_of_range, extent_at}
+use Rattle.rbd_meaning.specs.Writes.{write_refuses}
+use Rattle.rbd_request.specs.Write.{rest_of_pieces, write_pieces, rest_at, put}
 use Rattle.rbd_request.specs.declared.write.WriteRequest.{WriteRequest}
 use Rattle.rbd_request.specs.declared.write.Stage.{Stage}
 use Rattle.rbd_request.specs.declared.write.Stage.TheVariants as stage

@@ -19,10 +19,10 @@ use Rattle.rbd_machine.specs.Plan.{Plan, Return, Goto, Standing}
 use Rattle.rbd_machine.specs.Label.{Label}
 use Rattle.rbd_machine.specs.Label as label
 use Rattle.rbd_machine.specs.Steps.{own, refused, not_there, unless, find, look}
+use Rattle.rbd_meaning.specs.Range.{out_of_range}
 use Rattle.rbd_piece.specs.Gather.{gather, rest_of_gather, HasRoom}
 use Rattle.rbd_piece.specs.declared.gather.Gather.{Gather}
 use Rattle.rbd_request.specs.Seen.{Seen, seen_at, shown}
-use Rattle.rbd_request.specs.Write.{out_of_range}
 use Rattle.rbd_request.specs.declared.read.ReadRequest.{ReadRequest}
 use Rattle.rbd_request.specs.declared.read.Stage.{Stage}
 use Rattle.rbd_request.specs.declared.read.Stage.TheVariants as stage

@@ -1,10 +1,9 @@
 -- What a read keeps of the header that it looked at.
-use Rattle.std.specs.Prelude.{ℕ, List, replicate}
+use Rattle.std.specs.Prelude.{ℕ, List}
 use Rattle.rbd_kinds.specs.declared.header.HeaderView.{HeaderView}
 use Rattle.rbd_kinds.specs.declared.layout.Extent.{Extent}
 use Rattle.rbd_kinds.specs.declared.layout.Layout.{Layout}
-use Rattle.rbd_layout.specs.Pieces.{pieces_of}
-use Rattle.rbd_request.specs.Arrange.{arranged}
+use Rattle.rbd_meaning.specs.Arrange.{bytes_of_extent}
 
 pub record Seen : Type 0 where
   pub layout : Layout
@@ -16,4 +15,4 @@ seen_at h e = record { layout = h.layout; extent = e; generation = h.generation 
 
 -- the bytes of the extent, out of those that were read object by object
 abbrev pub shown : Seen → (read : List ℕ) → List ℕ
-shown seen read = arranged seen.extent.at (pieces_of seen.layout seen.extent) read (replicate seen.extent.len 0)
+shown seen read = bytes_of_extent seen.layout seen.extent read

@@ -1,5 +1,5 @@
 -- `write` and `fill`: a change that goes beside other writes, object by object.
-use Rattle.std.specs.Prelude.{◌≡◌, ℕ, List, [], ◌∷◌, length, map, replicate, Bool, true, false, if◌then◌else◌, Option, Some, None}
+use Rattle.std.specs.Prelude.{◌≡◌, ℕ, List, [], ◌∷◌, map, replicate, Bool, true, false, Option, Some, None}
 use Rattle.rbd_kinds.specs.declared.answer.Answer.{Answer}
 use Rattle.rbd_kinds.specs.declared.answer.Answer.TheVariants as answer
 use Rattle.rbd_kinds.specs.declared.command.Command.{Command}
@@ -7,18 +7,17 @@ use Rattle.rbd_kinds.specs.declared.command.Command.TheVariants as command
 use Rattle.rbd_kinds.specs.declared.header.HeaderView.{HeaderView}
 use Rattle.rbd_kinds.specs.declared.id.SiteId.{SiteId}
 use Rattle.rbd_kinds.specs.declared.journal.Event.TheVariants as event
-use Rattle.rbd_kinds.specs.declared.layout.Extent.{Extent}
-use Rattle.rbd_kinds.specs.declared.refusal.Refusal.{Refusal}
 use Rattle.rbd_kinds.specs.declared.refusal.Refusal.TheVariants as refusal
 use Rattle.rbd_layout.specs.Pieces.{pieces_of}
 use Rattle.rbd_layout.specs.declared.types.Piece.{Piece}
 use Rattle.rbd_object.specs.Parts.{bytes_for}
-use Rattle.rbd_kinds.specs.Extents.{fits}
 use Rattle.rbd_machine.specs.Approach.{rest_of, owning_at}
 use Rattle.rbd_machine.specs.declared.approach.Stage as of_way
 use Rattle.rbd_machine.specs.Plan.{Plan, Await, Note}
-use Rattle.rbd_machine.specs.Steps.{refused, change, or_else, non_primary, applied}
+use Rattle.rbd_machine.specs.Steps.{refused, change, applied}
 use Rattle.rbd_machine.specs.Wait as wait
+pub use Rattle.rbd_meaning.specs.Range.{extent_at}
+pub use Rattle.rbd_meaning.specs.Writes.{write_refuses}
 use Rattle.rbd_piece.specs.Write.{write_piece, rest_of_write}
 use Rattle.rbd_piece.specs.declared.write_piece.WritePiece.{WritePiece}
 use Rattle.rbd_request.specs.declared.write.WriteRequest.{WriteRequest}
@@ -30,17 +29,6 @@ abbrev pub is_write : Command → Bool
 is_write (command.Write image at bytes) = true
 is_write (command.Fill image at len byte) = true
 is_write _ = false
-
--- the bytes of an image that are written
-abbrev pub extent_at : (at : ℕ) → (bytes : List ℕ) → Extent
-extent_at at bytes = record { at = at; len = length bytes }
-
--- the extent doesn't fit into the size that the header tells
-abbrev pub out_of_range : Extent → (size : ℕ) → Option Refusal
-out_of_range e size = if fits e size then None else Some refusal.BadRange
-
-abbrev pub write_refuses : Extent → HeaderView → Option Refusal
-write_refuses e h = or_else (non_primary h.role) (out_of_range e h.size)
 
 -- each piece at its turn, by ascending object
 abbrev pub write_pieces : SiteId → (image : ℕ) → HeaderView → (at : ℕ) → (bytes : List ℕ) → List Piece → (next : Plan) → Plan

@@ -4,7 +4,7 @@ ghost use Rattle.rbd_kinds.specs.Striping.{IsLayout};
 ghost use Rattle.rbd_layout.specs.Pieces.{pieces_of};
 ghost use Rattle.rbd_object.specs.Parts.{AreBehind, EndBefore};
 ghost use Rattle.rbd_object.specs.Contents.{window, overwritten};
-ghost use Rattle.rbd_request.specs.Arrange as of_arrange;
+ghost use Rattle.rbd_meaning.specs.Arrange as of_arrange;
 
 use rbd_kinds::{Bytes, Extent, Layout, NoMemory, Part};
 use rbd_layout::pieces;
@@ -20,7 +20,7 @@ pub fn arrange(
 ) -> Result<Bytes, NoMemory>
     requires layout { IsLayout layout.now }
     requires end { extent.now.at + extent.now.len ≤ 2 ^ 45 }
-    ensures { IfOk result (λ bytes. bytes ≡ of_arrange.arranged extent.now.at (pieces_of layout.now extent.now) read.now (replicate extent.now.len 0)) }
+    ensures { IfOk result (λ bytes. bytes ≡ of_arrange.bytes_of_extent layout.now extent.now read.now) }
 {
     let listed = pieces(alloc, layout, extent)?;
     let mut into = vec![in alloc; 0u8; extent.len as usize]?;

@@ -16,11 +16,12 @@ ghost use Rattle.rbd_machine.specs.Lawful.{IsLawfulRequest};
 ghost use Rattle.rbd_machine.specs.Plan.{Plan, Goto, Return, Standing, IsClosed, without_labels};
 ghost use Rattle.rbd_machine.specs.Refused.{AreGiven};
 ghost use Rattle.rbd_machine.specs.Turns.{AreTurns};
-ghost use Rattle.rbd_request.specs.Meant.{IsMeantBy};
-ghost use Rattle.rbd_request.specs.Shows.{ShowsAtLast};
-ghost use Rattle.rbd_request.specs.Writes.{WritesWhole};
+ghost use Rattle.rbd_meaning.specs.Meant.{IsMeantBy};
+ghost use Rattle.rbd_meaning.specs.Range.{extent_at};
+ghost use Rattle.rbd_meaning.specs.Reads.{ShowsAtLast};
+ghost use Rattle.rbd_meaning.specs.Writes.{WritesWhole};
 ghost use Rattle.rbd_request.specs.Read.{IsReadOf, pass, read_labels};
-ghost use Rattle.rbd_request.specs.Write.{is_write, extent_at, objects_of, put, write, write_plan};
+ghost use Rattle.rbd_request.specs.Write.{is_write, objects_of, put, write, write_plan};
 
 /// A write has one operation for each piece behind its own look, and three before.
 pub fn writes_are_bounded()
@@ -58,7 +59,8 @@ pub fn labels_stand_at_operations()
 {}
 
 /// A read, however often it begins again, shows bytes only at the end of a pass between two looks at a header that
-/// didn't change, and they are what that pass read of each piece by the first look, in the order of the image.
+/// didn't change, and they are what that pass read of each piece by the first look, in the order of the image. Each pass
+/// before saw another header at its second look, or none.
 pub fn bytes_are_shown_between_looks()
     ensures { (site : SiteId) (name : List ℕ) (snap : Option (List ℕ)) (e : Extent) (feds : List Fed) (steps : List Answered) (bytes : List ℕ)
         → IsWalk (read_labels site name snap e) (pass site name snap e) feds steps (Return (Bytes bytes)) → ShowsAtLast site name snap e steps bytes }
@@ -82,9 +84,9 @@ pub fn reads_are_lawful()
     ensures { (home : SiteId) (command : Command) (standing : Standing) → IsReadOf home command standing → IsLawfulRequest standing }
 {}
 
-/// A reply means what its command and the operations that were done say (`IsMeantBy`), where each answer is one that its
-/// operation can give: what was written or is shown when a request isn't refused, and which answer refused it when it is, the
-/// last one, before which nothing was changed but where the fence did it. No other reply comes.
+/// A reply is meant by its command, behind the operations that were done (`IsMeantBy` of `rbd_meaning`), where each answer is
+/// one that its operation can give: it was written or is shown when a request isn't refused, and when it is, the last answer
+/// refused it, and none before. No other reply comes.
 pub fn replies_are_meant()
     ensures write { (home : SiteId) (command : Command) (feds : List Fed) (steps : List Answered) (reply : Reply) → is_write command ≡ true → AreGiven steps
         → IsWalk Goto (write_plan home command) feds steps (Return reply) → IsMeantBy home command steps reply }

@@ -37,15 +37,14 @@
 //!
 //! Both requests meet the contract of `Machine` in `rbd_machine`: it says of each step that it is the next of a *plan*,
 //! a tree of steps, and the definitions here are the plans. They are read in this order. `specs/Write.antt`: what a
-//! write refuses (`write_refuses`), what it does at its own look (`put`), the whole (`write`), and what is left of it at
-//! each stage (`rest_at`). `specs/Seen.antt`: what a read keeps of the header, and the bytes that it shows (`shown`).
-//! `specs/Arrange.antt`: how bytes that came object by object are put in the order of the image. `specs/Read.antt`: a
-//! pass over the objects between two looks (`pass`), its closing look (`on_closing`), and where it stands (`rest_at`).
-//! [`laws`] says what such plans come to: a write is done only when each of its pieces was written by its own look
-//! (`specs/Writes.antt`), its turns are those at the objects of its pieces, ascending, a read shows bytes only in a pass between
-//! two looks at a header that didn't change, however often it began again (`specs/Shows.antt`), what each reply means, refusals
-//! among them (`specs/Meant.antt`), that the plans are lawful from nothing known (`rbd_machine`), and how many operations they
-//! have.
+//! write does at its own look (`put`), the whole (`write`), and what is left of it at each stage (`rest_at`).
+//! `specs/Seen.antt`: what a read keeps of the header, and the bytes that it shows (`shown`). `specs/Read.antt`: a
+//! pass over the objects between two looks (`pass`), its closing look (`on_closing`), and where it stands (`rest_at`). What
+//! they refuse, and what their replies mean, stands in `rbd_meaning`.
+//! [`laws`] says what such plans come to: a write is done only when each of its pieces was written by its own look,
+//! its turns are those at the objects of its pieces, ascending, a read shows bytes only in a pass between
+//! two looks at a header that didn't change, however often it began again, each reply is meant, refusals
+//! among them, the plans are lawful from nothing known (`rbd_machine`), and how many operations they have.
 //!
 //! # Cost
 //!

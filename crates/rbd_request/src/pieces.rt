@@ -6,6 +6,7 @@ ghost use Rattle.rbd_kinds.specs.declared.header.HeaderView as of_header;
 ghost use Rattle.rbd_header.specs.Header.{context_of as told_context};
 ghost use Rattle.rbd_object.specs.Parts.{AreBehind, bytes_for as bytes_of_parts};
 ghost use Rattle.rbd_machine.specs.Plan.{Plan};
+ghost use Rattle.rbd_meaning.specs.Range.{extent_at, out_of_range};
 ghost use Rattle.rbd_piece.specs.Write.{write_piece as piece_of_write, rest_of_write};
 ghost use Rattle.rbd_request.specs.Write as of_write;
 
@@ -27,9 +28,9 @@ pub fn write_pieces(
     bytes: &Bytes,
 ) -> Result<VecDeque<WritePiece>, NoMemory>
     requires form { IsHeaderInForm header.now }
-    requires fits { of_write.out_of_range (of_write.extent_at at bytes.now) header.now.size ≡ None }
+    requires fits { out_of_range (extent_at at bytes.now) header.now.size ≡ None }
     ensures { IfOk result (λ made. (next : Plan) → of_write.rest_of_pieces made.items next
-        ≡ of_write.write_pieces site image header.now at bytes.now (pieces_of header.now.layout (of_write.extent_at at bytes.now)) next) }
+        ≡ of_write.write_pieces site image header.now at bytes.now (pieces_of header.now.layout (extent_at at bytes.now)) next) }
 {
     let extent = Extent {
         at,

@@ -9,9 +9,9 @@ ghost use Rattle.rbd_layout.specs.Pieces.{pieces_of};
 ghost use Rattle.rbd_piece.specs.Gather.{gather as gathered, rest_of_gather};
 ghost use Rattle.rbd_machine.specs.Plan.{Plan, GoesOn, plan_after};
 ghost use Rattle.rbd_machine.specs.Steps.{going, TellsHeader};
+ghost use Rattle.rbd_meaning.specs.Range.{out_of_range};
 ghost use Rattle.rbd_request.specs.Read as of_read;
 ghost use Rattle.rbd_request.specs.Seen as of_seen;
-ghost use Rattle.rbd_request.specs.Write.{out_of_range};
 ghost use Rattle.rbd_request.specs.declared.read.Stage.TheVariants as stage;
 
 use crate::extent::out_of_range as refused_range;

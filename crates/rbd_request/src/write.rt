@@ -5,6 +5,8 @@ ghost use Rattle.rbd_kinds.specs.declared.refusal.Refusal.{Refusal};
 ghost use Rattle.rbd_machine.specs.Answers.{CanBeFed};
 ghost use Rattle.rbd_machine.specs.Plan.{Goto, without_labels, Wants, GoesOn, plan_after};
 ghost use Rattle.rbd_machine.specs.Ready.{IsReadyFor};
+ghost use Rattle.rbd_meaning.specs.Range.{extent_at};
+ghost use Rattle.rbd_meaning.specs.Writes.{write_refuses};
 ghost use Rattle.rbd_kinds.specs.declared.machine.Fed.TheVariants as fed_with;
 ghost use Rattle.rbd_request.specs.declared.write.Stage.TheVariants as stage;
 ghost use Rattle.rbd_kinds.specs.declared.journal.Event.TheVariants as of_event;
@@ -65,7 +67,7 @@ struct Range {
 }
 
 impl Refuses for Range {
-    ghost refuses = { λ r. of_write.write_refuses r.extent };
+    ghost refuses = { λ r. write_refuses r.extent };
 
     fn refusal(&self, header: &HeaderView) -> Option<Refusal> {
         non_primary(header.role).or(out_of_range(&self.extent, header.size))
@@ -177,7 +179,7 @@ impl WriteRequest {
     }
 
     fn range(&self) -> Range
-        ensures { result.extent ≡ of_write.extent_at self.now.at self.now.bytes }
+        ensures { result.extent ≡ extent_at self.now.at self.now.bytes }
     {
         Range {
             extent: Extent {

@@ -1,5 +1,5 @@
 use Rattle.rbd_kinds.specs.declared.reply.Reply.TheVariants as reply
-use Rattle.rbd_admin.specs.Listing.{shown_snaps}
+use Rattle.rbd_meaning.specs.Listings.{shown_snaps}
 use Rattle.rbd_admin.proofs.Shown.{names_are_listed, header_is_shown}
 use Rattle.rbd_admin.proofs.laws.listings_show_what_was_told.Goals as goal
 
@@ -7,7 +7,7 @@ pub returns-clause-names : goal.returns-clause-names
 returns-clause-names c = λ site feds steps names walk. names_are_listed site names feds steps walk
 
 pub returns-clause-info : goal.returns-clause-info
-returns-clause-info c = λ site image feds steps header walk. header_is_shown site image reply.Info (reply.Info header) feds steps (λ x same. cc) walk
+returns-clause-info c = λ site image feds steps header walk. header_is_shown site image reply.Info (reply.Info header) feds steps tt walk
 
 pub returns-clause-snaps : goal.returns-clause-snaps
-returns-clause-snaps c = λ site image feds steps snaps walk. header_is_shown site image shown_snaps (reply.Snaps snaps) feds steps (λ x same. cc) walk
+returns-clause-snaps c = λ site image feds steps snaps walk. header_is_shown site image shown_snaps (reply.Snaps snaps) feds steps tt walk

@@ -4,7 +4,7 @@ use Rattle.rbd_layout.proofs.Listed.{pieces_of_alone}
 use Rattle.rbd_layout.specs.Pieces.{IsPieces}
 use Rattle.rbd_layout.specs.declared.types.Piece.{Piece}
 use Rattle.rbd_object.specs.Parts.{AreBehind, EndBefore}
-use Rattle.rbd_request.specs.Arrange.{arranged}
+use Rattle.rbd_meaning.specs.Arrange.{arranged}
 use Rattle.rbd_request.proofs.Arranged.{pieces_lie}
 use Rattle.rbd_request.proofs.arrange.arrange.Goals as goal
 

@@ -1,5 +1,5 @@
 use Rattle.std.proofs.Common.{◌≡◌, length, drop, replicate}
-use Rattle.rbd_request.specs.Arrange.{arranged}
+use Rattle.rbd_meaning.specs.Arrange.{arranged}
 use Rattle.rbd_request.proofs.arrange.arrange.Given as goal
 
 -- once the pieces that are left are put, all are

@@ -1,5 +1,5 @@
 use Rattle.std.proofs.Common.{◌≡◌, length, drop}
-use Rattle.rbd_request.specs.Arrange.{put_parts, behind_parts}
+use Rattle.rbd_meaning.specs.Arrange.{put_parts, behind_parts}
 use Rattle.rbd_request.proofs.arrange.put_parts.Given as goal
 
 -- once the parts that are left are put, all are

@@ -1,6 +1,6 @@
 use Rattle.rbd_layout.proofs.Listed.{pieces_listed}
 use Rattle.rbd_layout.specs.Pieces.{pieces_of}
-use Rattle.rbd_request.specs.Write.{extent_at}
+use Rattle.rbd_meaning.specs.Range.{extent_at}
 use Rattle.rbd_request.proofs.Turns.{turns_of_pieces}
 use Rattle.rbd_request.proofs.laws.turns_are_those_of_the_pieces.Goals as goal
 

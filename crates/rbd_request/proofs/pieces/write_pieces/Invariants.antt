@@ -3,7 +3,8 @@ use Rattle.rbd_layout.specs.Pieces.{pieces_of}
 use Rattle.rbd_layout.specs.declared.types.Piece.{Piece}
 use Rattle.rbd_object.specs.Parts.{AreBehind}
 use Rattle.rbd_machine.specs.Plan.{Plan}
-use Rattle.rbd_request.specs.Write.{rest_of_pieces, write_pieces, extent_at}
+use Rattle.rbd_meaning.specs.Range.{extent_at}
+use Rattle.rbd_request.specs.Write.{rest_of_pieces, write_pieces}
 use Rattle.rbd_request.proofs.pieces.write_pieces.Given as goal
 
 -- the pieces that are made, and those that are left to make

@@ -1,6 +1,9 @@
 -- Bytes that were read object by object, in the order of the image.
-use Rattle.std.specs.Prelude.{ℕ, ◌-◌, List, [], ◌∷◌, drop}
+use Rattle.std.specs.Prelude.{ℕ, ◌-◌, List, [], ◌∷◌, drop, replicate}
+use Rattle.rbd_kinds.specs.declared.layout.Extent.{Extent}
+use Rattle.rbd_kinds.specs.declared.layout.Layout.{Layout}
 use Rattle.rbd_kinds.specs.declared.layout.Part.{Part}
+use Rattle.rbd_layout.specs.Pieces.{pieces_of}
 use Rattle.rbd_layout.specs.declared.types.Piece.{Piece}
 use Rattle.rbd_object.specs.Contents.{window, overwritten}
 
@@ -18,3 +21,7 @@ behind_parts (p ∷ parts) read = behind_parts parts (drop p.len read)
 abbrev pub arranged : (from : ℕ) → List Piece → (read into : List ℕ) → List ℕ
 arranged from [] read into = into
 arranged from (p ∷ pieces) read into = arranged from pieces (behind_parts p.parts read) (put_parts from p.parts read into)
+
+-- the bytes of an extent, out of those of its pieces
+abbrev pub bytes_of_extent : Layout → Extent → (read : List ℕ) → List ℕ
+bytes_of_extent layout e read = arranged e.at (pieces_of layout e) read (replicate e.len 0)

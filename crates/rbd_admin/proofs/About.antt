@@ -1,0 +1,73 @@
+-- The operations of requests are their own.
+use Rattle.std.proofs.Common.{ℕ, List, true, Option, Some, None, refl}
+use Rattle.rbd_kinds.specs.declared.answer.Answer.{Answer}
+use Rattle.rbd_kinds.specs.declared.answer.Answer.TheVariants as answer
+use Rattle.rbd_kinds.specs.declared.command.Command.TheVariants as command
+use Rattle.rbd_kinds.specs.declared.directory_op.DirectoryOp.TheVariants as directory
+use Rattle.rbd_kinds.specs.declared.header.HeaderView.{HeaderView}
+use Rattle.rbd_kinds.specs.declared.header.SnapView.{SnapView}
+use Rattle.rbd_kinds.specs.declared.id.SiteId.{SiteId}
+use Rattle.rbd_kinds.specs.declared.machine.Fed.{Fed}
+use Rattle.rbd_kinds.specs.declared.operation.Op.TheVariants as op
+use Rattle.rbd_kinds.specs.declared.reply.Reply.{Reply}
+use Rattle.rbd_kinds.specs.declared.reply.Reply.TheVariants as reply
+use Rattle.rbd_kinds.specs.Header.{snap_named}
+use Rattle.rbd_machine.specs.About.{AreOwn, look_up}
+use Rattle.rbd_machine.specs.Path.{Answered, IsWalk}
+use Rattle.rbd_machine.specs.Plan.{Plan, Return, Goto}
+use Rattle.rbd_machine.specs.Steps.{on_id, joining, applied}
+use Rattle.rbd_machine.proofs.About.{IsOfImage, GoesByImage, of_not_there, of_on_header, of_on_done, of_joining, by_on_id, are_own}
+use Rattle.rbd_meaning.specs.Snaps.{create_refuses, remove_refuses}
+use Rattle.rbd_admin.specs.Create.{on_drawn, making, drawing}
+use Rattle.rbd_admin.specs.Listing.{on_names, list_names, showing, show_header}
+use Rattle.rbd_admin.specs.Snap.{on_snap, take, remove_listed, remove, snap_plan}
+
+module _ (site : SiteId) where
+  -- ---- create
+
+  by_drawn : (h : HeaderView) (a : Answer) → GoesByImage site a (on_drawn (making site h) a)
+  by_drawn h (answer.Id image) = (refl, refl, of_on_done site image (Return reply.Done) tt)
+  by_drawn h answer.Exists = tt
+  by_drawn h answer.Full = tt
+  by_drawn h answer.Fenced = tt
+  by_drawn h _ = tt
+
+  pub create_is_own : (name : List ℕ) (h : HeaderView) (feds : List Fed) (steps : List Answered) (last : Plan) → IsWalk Goto (drawing site name h) feds steps last → AreOwn site (op.Directory (directory.Add name)) steps
+  create_is_own name h feds steps last walk = are_own site (op.Directory (directory.Add name)) (on_drawn (making site h)) (by_drawn h) feds steps last walk
+
+  -- ---- ls, info, snap ls
+
+  by_names : (a : Answer) → GoesByImage site a (on_names (λ names. Return (reply.Names names)) a)
+  by_names (answer.Names names) = tt
+  by_names (answer.Id image) = tt
+  by_names answer.Fenced = tt
+  by_names _ = tt
+
+  pub list_is_own : (feds : List Fed) (steps : List Answered) (last : Plan) → IsWalk Goto (list_names site) feds steps last → AreOwn site (op.Directory directory.List) steps
+  list_is_own feds steps last walk = are_own site (op.Directory directory.List) (on_names (λ names. Return (reply.Names names))) by_names feds steps last walk
+
+  pub listing_is_own : (name : List ℕ) (shown : HeaderView → Reply) (feds : List Fed) (steps : List Answered) (last : Plan) → IsWalk Goto (show_header site name shown) feds steps last → AreOwn site (look_up name) steps
+  listing_is_own name shown feds steps last walk =
+      are_own site (look_up name) (on_id (showing site shown)) (by_on_id site (showing site shown) (λ image. (refl, refl, of_on_header site image (λ h. Return (shown h)) (λ h. tt)))) feds steps last walk
+
+  -- ---- snap create, snap rm
+
+  of_on_snap : (image : ℕ) (a : Answer) → IsOfImage site image (on_snap (applied site image) a)
+  of_on_snap image (answer.Snap snap) = tt
+  of_on_snap image a = of_not_there site image a
+
+  of_remove : (snap : List ℕ) (image : ℕ) (listed : Option SnapView) → IsOfImage site image (remove_listed site snap image listed)
+  of_remove snap image None = tt
+  of_remove snap image (Some listed) = (refl, refl, of_on_done site image (applied site image) tt)
+
+  pub taking_is_own : (name snap : List ℕ) (feds : List Fed) (steps : List Answered) (last : Plan) → IsWalk Goto (snap_plan site (command.SnapCreate name snap)) feds steps last → AreOwn site (look_up name) steps
+  taking_is_own name snap feds steps last walk =
+      let way = joining site true (create_refuses snap) (take site snap) in
+      are_own site (look_up name) (on_id way) (by_on_id site way (λ image. of_joining site image true (create_refuses snap) (take site snap) (λ h. (refl, refl, of_on_snap image)))) feds steps last walk
+
+  pub removing_is_own : (name snap : List ℕ) (feds : List Fed) (steps : List Answered) (last : Plan) → IsWalk Goto (snap_plan site (command.SnapRemove name snap)) feds steps last → AreOwn site (look_up name) steps
+  removing_is_own name snap feds steps last walk =
+      let way = joining site true (remove_refuses snap) (remove site snap) in
+      are_own site (look_up name) (on_id way)
+      (by_on_id site way (λ image. of_joining site image true (remove_refuses snap) (remove site snap) (λ h. of_remove snap image (snap_named h.snaps snap))))
+      feds steps last walk

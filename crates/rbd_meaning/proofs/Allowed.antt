@@ -1,0 +1,38 @@
+-- Refusals that don't hold.
+use Rattle.std.proofs.Common.{◌≡◌, List, ℕ, Bool, true, false, cond, Option, Some, None, refl, subst}
+use Rattle.std.specs.Prelude.{is_some}
+use Rattle.rbd_kinds.specs.declared.header.HeaderView.{HeaderView}
+use Rattle.rbd_kinds.specs.declared.header.SnapStatus.{SnapStatus}
+use Rattle.rbd_kinds.specs.declared.header.SnapStatus.TheVariants as status
+use Rattle.rbd_kinds.specs.declared.header.SnapView.{SnapView}
+use Rattle.rbd_kinds.specs.declared.refusal.Refusal.TheVariants as refusal
+use Rattle.rbd_kinds.specs.Header.{snap_named}
+use Rattle.rbd_header.specs.Header.{is_full}
+use Rattle.rbd_machine.specs.Permits.{MayTake}
+use Rattle.rbd_machine.specs.Steps.{non_primary}
+use Rattle.rbd_machine.proofs.Lawful.{or_else_none}
+use Rattle.rbd_meaning.specs.Snaps.{create_refuses, is_unprotected, remove_refuses, removal_refusal}
+
+unlisted : (o : Option SnapView) (full : Bool) → cond (is_some o) (Some refusal.SnapExists) (cond full (Some refusal.BadShape) None) ≡ None → (o ≡ None) × (full ≡ false)
+unlisted None false none = (refl, refl)
+unlisted None true none = cc
+unlisted (Some s) full none = cc
+
+-- a snapshot may be taken of a header that doesn't refuse it
+pub may_take : (snap : List ℕ) (h : HeaderView) → create_refuses snap h ≡ None → MayTake snap h
+may_take snap h none =
+    let are = unlisted (snap_named h.snaps snap) (is_full h) (or_else_none (non_primary h.role) _ none) in
+    record { unlisted = are.0; has_room = are.1 }
+
+pub unprotected : (s : SnapStatus) → cond (is_unprotected s) None (Some refusal.SnapProtected) ≡ None → s ≡ status.Unprotected
+unprotected status.Unprotected none = refl
+unprotected status.Unprotecting none = cc
+unprotected status.Protected none = cc
+
+-- the snapshot that a header lists isn't protected where its removal isn't refused
+pub listed_unprotected : (snap : List ℕ) (h : HeaderView) (s : SnapView) → remove_refuses snap h ≡ None → snap_named h.snaps snap ≡ Some s → s.status ≡ status.Unprotected
+listed_unprotected snap h s none is = unprotected s.status (go (snap_named h.snaps snap) is (or_else_none (non_primary h.role) _ none))
+  where
+    go : (listed : Option SnapView) → listed ≡ Some s → removal_refusal listed ≡ None → removal_refusal (Some s) ≡ None
+    go None is none = cc
+    go (Some t) is none = let same : t ≡ s = cc in subst (λ u. removal_refusal (Some u) ≡ None) same none

@@ -1,0 +1,5 @@
+pub mod Allowed
+pub mod Ends
+pub mod Meant
+pub mod One
+pub mod Undone

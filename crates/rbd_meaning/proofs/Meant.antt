@@ -1,0 +1,229 @@
+-- What holds of every reply that is meant, command by command.
+use Rattle.std.proofs.Common.{◌≡◌, inl, inr, ℕ, List, [], ◌∷◌, ◌++◌, replicate, true, Option, Some, refl, ap, sym, subst, ◌∙◌}
+use Rattle.rbd_kinds.specs.declared.answer.Answer.{Answer}
+use Rattle.rbd_kinds.specs.declared.answer.Answer.TheVariants as answer
+use Rattle.rbd_kinds.specs.declared.command.Command.{Command}
+use Rattle.rbd_kinds.specs.declared.command.Command.TheVariants as command
+use Rattle.rbd_kinds.specs.declared.command.Shape.{Shape}
+use Rattle.rbd_kinds.specs.declared.header.HeaderView.{HeaderView}
+use Rattle.rbd_kinds.specs.declared.header.Role.{Role}
+use Rattle.rbd_kinds.specs.declared.header.Role.TheVariants as role
+use Rattle.rbd_kinds.specs.declared.id.SiteId.{SiteId}
+use Rattle.rbd_kinds.specs.declared.layout.Extent.{Extent}
+use Rattle.rbd_kinds.specs.declared.refusal.Refusal.{Refusal}
+use Rattle.rbd_kinds.specs.declared.refusal.Refusal.TheVariants as refusal
+use Rattle.rbd_kinds.specs.declared.reply.Reply.{Reply}
+use Rattle.rbd_kinds.specs.declared.reply.Reply.TheVariants as reply
+use Rattle.rbd_machine.specs.About.{look_up}
+use Rattle.rbd_machine.specs.Passes.{joined}
+use Rattle.rbd_machine.specs.Path.{Answered, looked_at}
+use Rattle.rbd_machine.specs.Refused.{refusal_by, never, by_fence, IsRefusedBy, IsRefused}
+use Rattle.rbd_machine.specs.Steps.{or_else, non_primary}
+use Rattle.rbd_meaning.specs.Creates.{CreateMeans}
+use Rattle.rbd_meaning.specs.Listings.{ListMeans, InfoMeans, SnapListMeans}
+use Rattle.rbd_meaning.specs.Meant.{IsMeantBy}
+use Rattle.rbd_meaning.specs.Named.{looks_up}
+use Rattle.rbd_meaning.specs.Range.{extent_at}
+use Rattle.rbd_meaning.specs.Reads.{ReadMeans, SeeOthers}
+use Rattle.rbd_meaning.specs.Replies.{may_answer}
+use Rattle.rbd_meaning.specs.Snaps.{create_refuses, remove_refuses, SnapCreateMeans, SnapRemoveMeans}
+use Rattle.rbd_meaning.specs.Writes.{write_refuses, WriteMeans}
+use Rattle.rbd_meaning.proofs.Ends.{same_last}
+
+-- ---- kinds of replies
+
+create_kind : (site : SiteId) (name : List ℕ) (size : ℕ) (shape : Shape) (steps : List Answered) (r : Reply) → CreateMeans site name size shape steps r → may_answer (command.Create name size shape) r ≡ true
+create_kind site name size shape steps reply.Done meant = refl
+create_kind site name size shape steps (reply.Refused x) meant = refl
+create_kind site name size shape steps _ meant = absurd meant
+
+write_kind : (site : SiteId) (name : List ℕ) (at : ℕ) (bytes : List ℕ) (steps : List Answered) (r : Reply) → WriteMeans site name at bytes steps r → may_answer (command.Write name at bytes) r ≡ true
+write_kind site name at bytes steps reply.Done meant = refl
+write_kind site name at bytes steps (reply.Refused x) meant = refl
+write_kind site name at bytes steps _ meant = absurd meant
+
+fill_kind : (site : SiteId) (name : List ℕ) (at len byte : ℕ) (steps : List Answered) (r : Reply) → WriteMeans site name at (replicate len byte) steps r → may_answer (command.Fill name at len byte) r ≡ true
+fill_kind site name at len byte steps reply.Done meant = refl
+fill_kind site name at len byte steps (reply.Refused x) meant = refl
+fill_kind site name at len byte steps _ meant = absurd meant
+
+read_kind : (site : SiteId) (name : List ℕ) (snap : Option (List ℕ)) (at len : ℕ) (steps : List Answered) (r : Reply) → ReadMeans site name snap (record { at = at; len = len }) steps r → may_answer (command.Read name snap at len) r ≡ true
+read_kind site name snap at len steps (reply.Bytes bytes) meant = refl
+read_kind site name snap at len steps (reply.Refused x) meant = refl
+read_kind site name snap at len steps _ meant = absurd meant
+
+list_kind : (site : SiteId) (steps : List Answered) (r : Reply) → ListMeans site steps r → may_answer command.List r ≡ true
+list_kind site steps (reply.Names names) meant = refl
+list_kind site steps (reply.Refused x) meant = refl
+list_kind site steps _ meant = absurd meant
+
+info_kind : (site : SiteId) (name : List ℕ) (steps : List Answered) (r : Reply) → InfoMeans site name steps r → may_answer (command.Info name) r ≡ true
+info_kind site name steps (reply.Info h) meant = refl
+info_kind site name steps (reply.Refused x) meant = refl
+info_kind site name steps _ meant = absurd meant
+
+snap_list_kind : (site : SiteId) (name : List ℕ) (steps : List Answered) (r : Reply) → SnapListMeans site name steps r → may_answer (command.SnapList name) r ≡ true
+snap_list_kind site name steps (reply.Snaps snaps) meant = refl
+snap_list_kind site name steps (reply.Refused x) meant = refl
+snap_list_kind site name steps _ meant = absurd meant
+
+snap_create_kind : (site : SiteId) (name snap : List ℕ) (steps : List Answered) (r : Reply) → SnapCreateMeans site name snap steps r → may_answer (command.SnapCreate name snap) r ≡ true
+snap_create_kind site name snap steps reply.Done meant = refl
+snap_create_kind site name snap steps (reply.Refused x) meant = refl
+snap_create_kind site name snap steps _ meant = absurd meant
+
+snap_remove_kind : (site : SiteId) (name snap : List ℕ) (steps : List Answered) (r : Reply) → SnapRemoveMeans site name snap steps r → may_answer (command.SnapRemove name snap) r ≡ true
+snap_remove_kind site name snap steps reply.Done meant = refl
+snap_remove_kind site name snap steps (reply.Refused x) meant = refl
+snap_remove_kind site name snap steps _ meant = absurd meant
+
+pub meant_kind : (site : SiteId) (c : Command) (steps : List Answered) (r : Reply) → IsMeantBy site c steps r → may_answer c r ≡ true
+meant_kind site (command.Create name size shape) steps r meant = create_kind site name size shape steps r meant.1
+meant_kind site (command.Write name at bytes) steps r meant = write_kind site name at bytes steps r meant
+meant_kind site (command.Fill name at len byte) steps r meant = fill_kind site name at len byte steps r meant
+meant_kind site (command.Read name snap at len) steps r meant = read_kind site name snap at len steps r meant
+meant_kind site command.List steps r meant = list_kind site steps r meant
+meant_kind site (command.Info name) steps r meant = info_kind site name steps r meant
+meant_kind site (command.SnapList name) steps r meant = snap_list_kind site name steps r meant
+meant_kind site (command.SnapCreate name snap) steps r meant = snap_create_kind site name snap steps r meant
+meant_kind site (command.SnapRemove name snap) steps r meant = snap_remove_kind site name snap steps r meant
+meant_kind site _ steps r meant = absurd meant
+
+-- ---- behind no operation
+
+some_steps : (before : List Answered) (s : Answered) (more : List Answered) → [] ≡ before ++ s ∷ more → ⊥
+some_steps [] s more same = cc
+some_steps (first ∷ before) s more same = cc
+
+none_left : (before steps : List Answered) → [] ≡ before ++ steps → [] ≡ steps
+none_left [] steps same = same
+none_left (first ∷ before) steps same = cc
+
+-- a refusal has a last operation
+refused_by_one : (refuses : HeaderView → Option Refusal) (late : Refusal → Type 0) (steps : List Answered) (x : Refusal) → [] ≡ steps → IsRefusedBy refuses late steps x → ⊥
+refused_by_one refuses late steps x none by = some_steps by.before by.last [] (none ∙ by.are)
+
+create_for_nothing : (site : SiteId) (name : List ℕ) (size : ℕ) (shape : Shape) (r : Reply) → CreateMeans site name size shape [] r → r ≡ reply.Refused refusal.BadShape
+create_for_nothing site name size shape reply.Done meant = let are = meant.made.are in cc
+create_for_nothing site name size shape (reply.Refused x) (inl outside) = ap reply.Refused outside.is
+create_for_nothing site name size shape (reply.Refused x) (inr unmade) = absurd (refused_by_one _ _ [] x refl unmade.by.by)
+create_for_nothing site name size shape _ meant = absurd meant
+
+write_for_nothing : (site : SiteId) (name : List ℕ) (at : ℕ) (bytes : List ℕ) (r : Reply) → WriteMeans site name at bytes [] r → r ≡ reply.Refused refusal.BadShape
+write_for_nothing site name at bytes reply.Done meant = let are = meant.are in cc
+write_for_nothing site name at bytes (reply.Refused x) refuses = absurd (refused_by_one _ _ [] x refl refuses.refused.by)
+write_for_nothing site name at bytes _ meant = absurd meant
+
+read_for_nothing : (site : SiteId) (name : List ℕ) (snap : Option (List ℕ)) (e : Extent) (r : Reply) → ReadMeans site name snap e [] r → r ≡ reply.Refused refusal.BadShape
+read_for_nothing site name snap e (reply.Bytes bytes) meant = absurd (some_steps [] _ _ (none_left (joined meant.passes) meant.pass meant.are ∙ meant.shows.pass.are))
+read_for_nothing site name snap e (reply.Refused x) refused = absurd (refused_by_one _ _ refused.pass x (none_left (joined refused.passes) refused.pass refused.are) refused.by.by)
+read_for_nothing site name snap e _ meant = absurd meant
+
+list_for_nothing : (site : SiteId) (r : Reply) → ListMeans site [] r → r ≡ reply.Refused refusal.BadShape
+list_for_nothing site (reply.Names names) meant = cc
+list_for_nothing site (reply.Refused x) by = absurd (refused_by_one _ _ [] x refl by.by)
+list_for_nothing site _ meant = absurd meant
+
+info_for_nothing : (site : SiteId) (name : List ℕ) (r : Reply) → InfoMeans site name [] r → r ≡ reply.Refused refusal.BadShape
+info_for_nothing site name (reply.Info h) meant = let are = meant.are in cc
+info_for_nothing site name (reply.Refused x) by = absurd (refused_by_one _ _ [] x refl by.by)
+info_for_nothing site name _ meant = absurd meant
+
+snap_list_for_nothing : (site : SiteId) (name : List ℕ) (r : Reply) → SnapListMeans site name [] r → r ≡ reply.Refused refusal.BadShape
+snap_list_for_nothing site name (reply.Snaps snaps) meant = let are = meant.are in cc
+snap_list_for_nothing site name (reply.Refused x) by = absurd (refused_by_one _ _ [] x refl by.by)
+snap_list_for_nothing site name _ meant = absurd meant
+
+snap_create_for_nothing : (site : SiteId) (name snap : List ℕ) (r : Reply) → SnapCreateMeans site name snap [] r → r ≡ reply.Refused refusal.BadShape
+snap_create_for_nothing site name snap reply.Done meant = let are = meant.are in cc
+snap_create_for_nothing site name snap (reply.Refused x) by = absurd (refused_by_one _ _ [] x refl by.by)
+snap_create_for_nothing site name snap _ meant = absurd meant
+
+snap_remove_for_nothing : (site : SiteId) (name snap : List ℕ) (r : Reply) → SnapRemoveMeans site name snap [] r → r ≡ reply.Refused refusal.BadShape
+snap_remove_for_nothing site name snap reply.Done meant = let are = meant.are in cc
+snap_remove_for_nothing site name snap (reply.Refused x) by = absurd (refused_by_one _ _ [] x refl by.by)
+snap_remove_for_nothing site name snap _ meant = absurd meant
+
+pub meant_for_nothing : (site : SiteId) (c : Command) (r : Reply) → IsMeantBy site c [] r → r ≡ reply.Refused refusal.BadShape
+meant_for_nothing site (command.Create name size shape) r meant = create_for_nothing site name size shape r meant.1
+meant_for_nothing site (command.Write name at bytes) r meant = write_for_nothing site name at bytes r meant
+meant_for_nothing site (command.Fill name at len byte) r meant = write_for_nothing site name at (replicate len byte) r meant
+meant_for_nothing site (command.Read name snap at len) r meant = read_for_nothing site name snap _ r meant
+meant_for_nothing site command.List r meant = list_for_nothing site r meant
+meant_for_nothing site (command.Info name) r meant = info_for_nothing site name r meant
+meant_for_nothing site (command.SnapList name) r meant = snap_list_for_nothing site name r meant
+meant_for_nothing site (command.SnapCreate name snap) r meant = snap_create_for_nothing site name snap r meant
+meant_for_nothing site (command.SnapRemove name snap) r meant = snap_remove_for_nothing site name snap r meant
+meant_for_nothing site _ r meant = absurd meant
+
+-- ---- a name that isn't there
+
+-- at its one operation
+unknown_name : (site : SiteId) (name : List ℕ) (refuses : HeaderView → Option Refusal) (late : Refusal → Type 0) (step : Answered) → IsRefused site (look_up name) refuses late (step ∷ []) refusal.NoImage
+    → step ≡ record { site = site; op = look_up name; answer = answer.Absent }
+unknown_name site name refuses late step refused = go step refused.own refused.by.refused (same_last [] refused.by.before step refused.by.last refused.by.are)
+  where
+    absent : (a : Answer) → refusal_by refuses (look_up name) a ≡ Some refusal.NoImage → a ≡ answer.Absent
+    absent answer.Absent is = refl
+    absent answer.Fenced is = cc
+    absent _ is = cc
+
+    go : (step : Answered) → (step.site ≡ site) × (step.op ≡ look_up name) → refusal_by refuses refused.by.last.op refused.by.last.answer ≡ Some refusal.NoImage → step ≡ refused.by.last
+        → step ≡ record { site = site; op = look_up name; answer = answer.Absent }
+    go step (at, asks) is same =
+        let here : refusal_by refuses step.op step.answer ≡ Some refusal.NoImage = subst (λ (s : Answered). refusal_by refuses s.op s.answer ≡ Some refusal.NoImage) (sym same) is in
+        let none : step.answer ≡ answer.Absent = absent step.answer (subst (λ o. refusal_by refuses o step.answer ≡ Some refusal.NoImage) asks here) in
+        ap (λ s. record { site = s; op = step.op; answer = step.answer }) at
+        ∙ ap (λ o. record { site = site; op = o; answer = step.answer }) asks
+        ∙ ap (λ a. record { site = site; op = look_up name; answer = a }) none
+
+abbrev Unknown : SiteId → Answered → (name : List ℕ) → Type 0
+Unknown site step name = step ≡ record { site = site; op = look_up name; answer = answer.Absent }
+
+named : (image name : List ℕ) → Some image ≡ Some name → image ≡ name
+named image name is = cc
+
+-- a pass that saw another header has more than one operation
+one_pass : (site : SiteId) (name : List ℕ) (snap : Option (List ℕ)) (e : Extent) (passes : List (List Answered)) (pass : List Answered) (step : Answered)
+    → SeeOthers site name snap e passes → step ∷ [] ≡ joined passes ++ pass → step ∷ [] ≡ pass
+one_pass site name snap e [] pass step see are = are
+one_pass site name snap e (p ∷ passes) pass step (sees, see) are =
+    let longer = are ∙ ap (λ q. (q ++ joined passes) ++ pass) sees.pass.are in cc
+
+pub unknown_image : (site : SiteId) (c : Command) (name : List ℕ) (step : Answered) → looks_up c ≡ Some name → IsMeantBy site c (step ∷ []) (reply.Refused refusal.NoImage)
+    → step ≡ record { site = site; op = look_up name; answer = answer.Absent }
+unknown_image site (command.Write image at bytes) name step is refuses = subst (Unknown site step) (named image name is) (unknown_name site image _ _ step refuses.refused)
+unknown_image site (command.Fill image at len byte) name step is refuses = subst (Unknown site step) (named image name is) (unknown_name site image _ _ step refuses.refused)
+unknown_image site (command.Read image snap at len) name step is refused =
+    subst (Unknown site step) (named image name is)
+    (unknown_name site image _ _ step (subst (λ pass. IsRefused site (look_up image) _ _ pass refusal.NoImage) (sym (one_pass site image snap _ refused.passes refused.pass step refused.before refused.are)) refused.by))
+unknown_image site (command.Info image) name step is refused = subst (Unknown site step) (named image name is) (unknown_name site image _ _ step refused)
+unknown_image site (command.SnapList image) name step is refused = subst (Unknown site step) (named image name is) (unknown_name site image _ _ step refused)
+unknown_image site (command.SnapCreate image snap) name step is refused = subst (Unknown site step) (named image name is) (unknown_name site image _ _ step refused)
+unknown_image site (command.SnapRemove image snap) name step is refused = subst (Unknown site step) (named image name is) (unknown_name site image _ _ step refused)
+unknown_image site _ name step is refused = cc
+
+-- ---- which refusal a look is refused by
+
+module _ (refuses : HeaderView → Option Refusal) (late : Refusal → Type 0) (x : Refusal) (before : List Answered) (there : SiteId) (id : ℕ) (h : HeaderView) where
+  refused_at_look : IsRefusedBy refuses late (before ++ looked_at there id h ∷ []) x → refuses h ≡ Some x
+  refused_at_look by =
+      let last = same_last before by.before (looked_at there id h) by.last by.are in
+      subst (λ (s : Answered). refusal_by refuses s.op s.answer ≡ Some x) (sym last) by.refused
+
+secondary_first : (r : Role) (later : Option Refusal) (x : Refusal) → or_else (non_primary r) later ≡ Some x → r ≡ role.Secondary → x ≡ refusal.NonPrimary
+secondary_first role.Secondary later x refused is = cc
+secondary_first _ later x refused is = cc
+
+module _ (site there : SiteId) (image : List ℕ) where
+  pub write_secondary_first : (at : ℕ) (bytes : List ℕ) (before : List Answered) (id : ℕ) (h : HeaderView) (x : Refusal)
+      → WriteMeans site image at bytes (before ++ looked_at there id h ∷ []) (reply.Refused x) → h.role ≡ role.Secondary → x ≡ refusal.NonPrimary
+  write_secondary_first at bytes before id h x meant is = secondary_first h.role _ x (refused_at_look (write_refuses (extent_at at bytes)) by_fence x before there id h meant.refused.by) is
+
+  pub take_secondary_first : (snap : List ℕ) (before : List Answered) (id : ℕ) (h : HeaderView) (x : Refusal)
+      → SnapCreateMeans site image snap (before ++ looked_at there id h ∷ []) (reply.Refused x) → h.role ≡ role.Secondary → x ≡ refusal.NonPrimary
+  take_secondary_first snap before id h x meant is = secondary_first h.role _ x (refused_at_look (create_refuses snap) never x before there id h meant.by) is
+
+  pub remove_secondary_first : (snap : List ℕ) (before : List Answered) (id : ℕ) (h : HeaderView) (x : Refusal)
+      → SnapRemoveMeans site image snap (before ++ looked_at there id h ∷ []) (reply.Refused x) → h.role ≡ role.Secondary → x ≡ refusal.NonPrimary
+  remove_secondary_first snap before id h x meant is = secondary_first h.role _ x (refused_at_look (remove_refuses snap) never x before there id h meant.by) is

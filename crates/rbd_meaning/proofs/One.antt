@@ -1,0 +1,382 @@
+-- Behind the same operations one reply is meant.
+use Rattle.std.proofs.Common.{◌≡◌, ◌⊎◌, inl, inr, ℕ, ◌≤◌, List, [], ◌∷◌, ◌++◌, length, replicate, Bool, true, false, cond, Option, Some, None, refl, ap, sym, subst, ◌∙◌, append_assoc, arith}
+use Rattle.rbd_kinds.specs.declared.answer.Answer.{Answer}
+use Rattle.rbd_kinds.specs.declared.answer.Answer.TheVariants as answer
+use Rattle.rbd_kinds.specs.declared.command.Command.{Command}
+use Rattle.rbd_kinds.specs.declared.command.Command.TheVariants as command
+use Rattle.rbd_kinds.specs.declared.command.Shape.{Shape}
+use Rattle.rbd_kinds.specs.declared.directory_op.DirectoryOp.TheVariants as directory
+use Rattle.rbd_kinds.specs.declared.header.HeaderView.{HeaderView}
+use Rattle.rbd_kinds.specs.declared.header_op.HeaderOp.TheVariants as header
+use Rattle.rbd_kinds.specs.declared.id.SiteId.{SiteId}
+use Rattle.rbd_kinds.specs.declared.layout.Extent.{Extent}
+use Rattle.rbd_kinds.specs.declared.operation.Op.{Op}
+use Rattle.rbd_kinds.specs.declared.operation.Op.TheVariants as op
+use Rattle.rbd_kinds.specs.declared.refusal.Refusal.{Refusal}
+use Rattle.rbd_kinds.specs.declared.refusal.Refusal.TheVariants as refusal
+use Rattle.rbd_kinds.specs.declared.reply.Reply.{Reply}
+use Rattle.rbd_kinds.specs.declared.reply.Reply.TheVariants as reply
+use Rattle.rbd_kinds.specs.Extents.{fits}
+use Rattle.rbd_layout.specs.Pieces.{pieces_of}
+use Rattle.rbd_layout.specs.declared.types.Piece.{Piece}
+use Rattle.rbd_header.specs.Header.{view_of}
+use Rattle.rbd_header.specs.declared.view.View.{View}
+use Rattle.rbd_machine.specs.About.{look_up, AreOwn}
+use Rattle.rbd_machine.specs.Passes.{joined}
+use Rattle.rbd_machine.specs.Path.{Answered, found, looked_at}
+use Rattle.rbd_machine.specs.Refused.{refusal_by, refuses_none, never, by_fence, IsRefusedBy, IsRefused}
+use Rattle.rbd_meaning.specs.Arrange.{bytes_of_extent}
+use Rattle.rbd_meaning.specs.Creates.{CreateMeans, Makes, IsOutside, IsNotMade}
+use Rattle.rbd_meaning.specs.Listings.{listed, shown_snaps, ListMeans, InfoMeans, SnapListMeans, ShowsHeader}
+use Rattle.rbd_meaning.specs.Meant.{IsMeantBy}
+use Rattle.rbd_meaning.specs.Range.{extent_at}
+use Rattle.rbd_meaning.specs.Reads.{ReadMeans, ShowsAtLast, RefusedAtLast, IsPassTo, AreRead, bytes_read, view_refuses, read_refuses}
+use Rattle.rbd_meaning.specs.Snaps.{create_refuses, remove_refuses, TakesOne, RemovesOne, SnapCreateMeans, SnapRemoveMeans}
+use Rattle.rbd_meaning.specs.Writes.{write_refuses, piece_written, pieces_written, WritesWhole, RefusesWrite, WriteMeans}
+use Rattle.rbd_meaning.proofs.Ends.{same_last, same_front}
+
+-- ---- replies that are granted or refused, each by what holds behind the same operations
+
+-- it is granted, or refused
+abbrev Is : (grants : Reply → Type 0) → (refuses : Refusal → Type 0) → Reply → Type 0
+Is grants refuses r = grants r ⊎ ((x : Refusal) × (r ≡ reply.Refused x) × refuses x)
+
+module _ (grants : Reply → Type 0) (refuses : Refusal → Type 0) (same_grant : (r s : Reply) → grants r → grants s → r ≡ s)
+    (apart : (r : Reply) (x : Refusal) → grants r → refuses x → ⊥) (same_refusal : (x y : Refusal) → refuses x → refuses y → x ≡ y) where
+  one_of : (r s : Reply) → Is grants refuses r → Is grants refuses s → r ≡ s
+  one_of r s (inl one) (inl other) = same_grant r s one other
+  one_of r s (inl one) (inr (y, is, refused)) = absurd (apart r y one refused)
+  one_of r s (inr (x, is, refused)) (inl other) = absurd (apart s x other refused)
+  one_of r s (inr (x, is, refused)) (inr (y, are, later)) = is ∙ ap reply.Refused (same_refusal x y refused later) ∙ sym are
+
+-- ---- the last step
+
+module _ (refuses : HeaderView → Option Refusal) (late : Refusal → Type 0) (steps : List Answered) where
+  -- it is the last step that refuses
+  last_refuses : (front : List Answered) (s : Answered) (x : Refusal) → steps ≡ front ++ s ∷ [] → IsRefusedBy refuses late steps x → refusal_by refuses s.op s.answer ≡ Some x
+  last_refuses front s x are by =
+      let last = same_last front by.before s by.last (sym are ∙ by.are) in
+      subst (λ (t : Answered). refusal_by refuses t.op t.answer ≡ Some x) (sym last) by.refused
+
+  -- so it isn't refused where that refuses nothing
+  unrefused : (front : List Answered) (s : Answered) (x : Refusal) → steps ≡ front ++ s ∷ [] → refusal_by refuses s.op s.answer ≡ None → IsRefusedBy refuses late steps x → ⊥
+  unrefused front s x are none by = let some = last_refuses front s x are by in cc
+
+  refused_alike : (x y : Refusal) → IsRefusedBy refuses late steps x → IsRefusedBy refuses late steps y → x ≡ y
+  refused_alike x y one other =
+      let is = one.refused in
+      let too = last_refuses one.before one.last y one.are other in
+      cc
+
+-- ---- done, of every command that is done
+
+abbrev DoneBy : Type 0 → Reply → Type 0
+DoneBy T reply.Done = T
+DoneBy T _ = ⊥
+
+done_once : (T : Type 0) (r s : Reply) → DoneBy T r → DoneBy T s → r ≡ s
+done_once T reply.Done reply.Done one other = refl
+done_once T reply.Done _ one other = absurd other
+done_once T _ s one other = absurd one
+
+-- ---- create
+
+module _ (site : SiteId) (name : List ℕ) (size : ℕ) (shape : Shape) (steps : List Answered) where
+  abbrev CreateRefused : Refusal → Type 0
+  CreateRefused x = IsOutside size shape steps x ⊎ IsNotMade site name size shape steps x
+
+  create_is : (r : Reply) → CreateMeans site name size shape steps r → Is (DoneBy (Makes site name size shape steps)) CreateRefused r
+  create_is reply.Done meant = inl meant
+  create_is (reply.Refused x) refused = inr (x, refl, refused)
+  create_is _ meant = absurd meant
+
+  create_apart : (r : Reply) (x : Refusal) → DoneBy (Makes site name size shape steps) r → CreateRefused x → ⊥
+  create_apart reply.Done x makes (inl outside) = outside.outside makes.within
+  create_apart reply.Done x makes (inr unmade) = unrefused refuses_none by_fence steps (_ ∷ []) _ x makes.made.are refl unmade.by.by
+  create_apart _ x makes refused = absurd makes
+
+  create_alike : (x y : Refusal) → CreateRefused x → CreateRefused y → x ≡ y
+  create_alike x y (inl one) (inl other) = one.is ∙ sym other.is
+  create_alike x y (inl one) (inr other) = absurd (one.outside other.within)
+  create_alike x y (inr one) (inl other) = absurd (other.outside one.within)
+  create_alike x y (inr one) (inr other) = refused_alike refuses_none by_fence steps x y one.by.by other.by.by
+
+  one_create : (r s : Reply) → CreateMeans site name size shape steps r → CreateMeans site name size shape steps s → r ≡ s
+  one_create r s one other = one_of _ CreateRefused (done_once _) create_apart create_alike r s (create_is r one) (create_is s other)
+
+-- ---- write, fill
+
+record LastWritten (e : Extent) (steps : List Answered) : Type 0 where
+  pub front : List Answered
+  pub last : Answered
+  pub are : steps ≡ front ++ last ∷ []
+  pub none : refusal_by (write_refuses e) last.op last.answer ≡ None
+
+module _ (site : SiteId) (name : List ℕ) (at : ℕ) (bytes : List ℕ) where
+  last_written : (pieces : List Piece) (image : ℕ) (h : HeaderView) (s : Answered) → refusal_by (write_refuses (extent_at at bytes)) s.op s.answer ≡ None
+      → LastWritten (extent_at at bytes) (s ∷ pieces_written site image h at bytes pieces)
+  last_written [] image h s none = record { front = []; last = s; are = refl; none = none }
+  last_written (p ∷ pieces) image h s none =
+      let later = last_written pieces image h (piece_written site image h at bytes p) refl in
+      record { front = s ∷ later.front; last = later.last; are = ap (λ r. s ∷ r) later.are; none = later.none }
+
+  module _ (steps : List Answered) where
+    write_is : (r : Reply) → WriteMeans site name at bytes steps r → Is (DoneBy (WritesWhole site name at bytes steps)) (RefusesWrite site name at bytes steps) r
+    write_is reply.Done meant = inl meant
+    write_is (reply.Refused x) refused = inr (x, refl, refused)
+    write_is _ meant = absurd meant
+
+    write_apart : (r : Reply) (x : Refusal) → DoneBy (WritesWhole site name at bytes steps) r → RefusesWrite site name at bytes steps x → ⊥
+    write_apart reply.Done x whole refused =
+        let last = last_written (pieces_of whole.own.layout (extent_at at bytes)) whole.image whole.own (looked_at site whole.image whole.own) whole.may in
+        unrefused (write_refuses (extent_at at bytes)) by_fence steps (found site name whole.image ∷ looked_at site whole.image whole.first ∷ last.front) last.last x
+        (whole.are ∙ ap (λ s. found site name whole.image ∷ looked_at site whole.image whole.first ∷ s) last.are) last.none refused.refused.by
+    write_apart _ x whole refused = absurd whole
+
+    one_write : (r s : Reply) → WriteMeans site name at bytes steps r → WriteMeans site name at bytes steps s → r ≡ s
+    one_write r s one other =
+        one_of _ (RefusesWrite site name at bytes steps) (done_once _) write_apart
+        (λ x y a b. refused_alike (write_refuses (extent_at at bytes)) by_fence steps x y a.refused.by b.refused.by) r s (write_is r one) (write_is s other)
+
+-- ---- ls, info, snap ls
+
+module _ (site : SiteId) (steps : List Answered) where
+  abbrev NamesBy : Reply → Type 0
+  NamesBy (reply.Names names) = steps ≡ listed site names ∷ []
+  NamesBy _ = ⊥
+
+  abbrev ListRefused : Refusal → Type 0
+  ListRefused = IsRefused site (op.Directory directory.List) refuses_none never steps
+
+  list_is : (r : Reply) → ListMeans site steps r → Is NamesBy ListRefused r
+  list_is (reply.Names names) meant = inl meant
+  list_is (reply.Refused x) refused = inr (x, refl, refused)
+  list_is _ meant = absurd meant
+
+  names_once : (r s : Reply) → NamesBy r → NamesBy s → r ≡ s
+  names_once (reply.Names names) (reply.Names others) one other =
+      let same = sym one ∙ other in
+      let step : listed site names ≡ listed site others = cc in
+      let told = ap (λ (t : Answered). t.answer) step in
+      cc
+  names_once (reply.Names names) _ one other = absurd other
+  names_once _ s one other = absurd one
+
+  list_apart : (r : Reply) (x : Refusal) → NamesBy r → ListRefused x → ⊥
+  list_apart (reply.Names names) x are refused = unrefused refuses_none never steps [] _ x are refl refused.by
+  list_apart _ x are refused = absurd are
+
+  one_list : (r s : Reply) → ListMeans site steps r → ListMeans site steps s → r ≡ s
+  one_list r s one other = one_of NamesBy ListRefused names_once list_apart (λ x y a b. refused_alike refuses_none never steps x y a.by b.by) r s (list_is r one) (list_is s other)
+
+module _ (site : SiteId) (name : List ℕ) (shown : HeaderView → Reply) (steps : List Answered) where
+  abbrev ShownBy : Reply → Type 0
+  ShownBy r = ShowsHeader site name shown r steps
+
+  abbrev LookRefused : Refusal → Type 0
+  LookRefused = IsRefused site (look_up name) refuses_none never steps
+
+  shown_once : (r s : Reply) → ShownBy r → ShownBy s → r ≡ s
+  shown_once r s one other =
+      let same = sym one.are ∙ other.are in
+      let step : looked_at site one.image one.header ≡ looked_at site other.image other.header = cc in
+      let told = ap (λ (t : Answered). t.answer) step in
+      let header : one.header ≡ other.header = cc in
+      one.shows ∙ ap shown header ∙ sym other.shows
+
+  shown_apart : (r : Reply) (x : Refusal) → ShownBy r → LookRefused x → ⊥
+  shown_apart r x shows refused = unrefused refuses_none never steps (_ ∷ []) _ x shows.are refl refused.by
+
+  one_shown : (r s : Reply) → Is ShownBy LookRefused r → Is ShownBy LookRefused s → r ≡ s
+  one_shown r s one other = one_of ShownBy LookRefused shown_once shown_apart (λ x y a b. refused_alike refuses_none never steps x y a.by b.by) r s one other
+
+info_is : (site : SiteId) (name : List ℕ) (steps : List Answered) (r : Reply) → InfoMeans site name steps r → Is (ShownBy site name reply.Info steps) (LookRefused site name reply.Info steps) r
+info_is site name steps (reply.Info h) meant = inl meant
+info_is site name steps (reply.Refused x) refused = inr (x, refl, refused)
+info_is site name steps _ meant = absurd meant
+
+snap_list_is : (site : SiteId) (name : List ℕ) (steps : List Answered) (r : Reply) → SnapListMeans site name steps r → Is (ShownBy site name shown_snaps steps) (LookRefused site name shown_snaps steps) r
+snap_list_is site name steps (reply.Snaps snaps) meant = inl meant
+snap_list_is site name steps (reply.Refused x) refused = inr (x, refl, refused)
+snap_list_is site name steps _ meant = absurd meant
+
+-- ---- snap create, snap rm
+
+module _ (site : SiteId) (name snap : List ℕ) (steps : List Answered) where
+  take_is : (r : Reply) → SnapCreateMeans site name snap steps r → Is (DoneBy (TakesOne site name snap steps)) (IsRefused site (look_up name) (create_refuses snap) never steps) r
+  take_is reply.Done meant = inl meant
+  take_is (reply.Refused x) refused = inr (x, refl, refused)
+  take_is _ meant = absurd meant
+
+  take_apart : (r : Reply) (x : Refusal) → DoneBy (TakesOne site name snap steps) r → IsRefused site (look_up name) (create_refuses snap) never steps x → ⊥
+  take_apart reply.Done x takes refused = unrefused (create_refuses snap) never steps (_ ∷ _ ∷ _ ∷ []) _ x takes.are refl refused.by
+  take_apart _ x takes refused = absurd takes
+
+  one_take : (r s : Reply) → SnapCreateMeans site name snap steps r → SnapCreateMeans site name snap steps s → r ≡ s
+  one_take r s one other = one_of _ _ (done_once _) take_apart (λ x y a b. refused_alike (create_refuses snap) never steps x y a.by b.by) r s (take_is r one) (take_is s other)
+
+  remove_is : (r : Reply) → SnapRemoveMeans site name snap steps r → Is (DoneBy (RemovesOne site name snap steps)) (IsRefused site (look_up name) (remove_refuses snap) never steps) r
+  remove_is reply.Done meant = inl meant
+  remove_is (reply.Refused x) refused = inr (x, refl, refused)
+  remove_is _ meant = absurd meant
+
+  remove_apart : (r : Reply) (x : Refusal) → DoneBy (RemovesOne site name snap steps) r → IsRefused site (look_up name) (remove_refuses snap) never steps x → ⊥
+  remove_apart reply.Done x removes refused = unrefused (remove_refuses snap) never steps (_ ∷ _ ∷ _ ∷ []) _ x removes.are refl refused.by
+  remove_apart _ x removes refused = absurd removes
+
+  one_remove : (r s : Reply) → SnapRemoveMeans site name snap steps r → SnapRemoveMeans site name snap steps s → r ≡ s
+  one_remove r s one other = one_of _ _ (done_once _) remove_apart (λ x y a b. refused_alike (remove_refuses snap) never steps x y a.by b.by) r s (remove_is r one) (remove_is s other)
+
+-- ---- read: where its last pass begins
+
+abbrev is_find : Op → Bool
+is_find (op.Directory (directory.Find name)) = true
+is_find _ = false
+
+abbrev FindsNothing : List Answered → Type 0
+FindsNothing [] = Unit {0}
+FindsNothing (s ∷ steps) = (is_find s.op ≡ false) × FindsNothing steps
+
+finds_later : (front : List Answered) (g : Answered) (more rest : List Answered) → FindsNothing rest → is_find g.op ≡ true → rest ≡ front ++ g ∷ more → ⊥
+finds_later front g more rest none finds same = go front (subst FindsNothing same none)
+  where
+    go : (front : List Answered) → FindsNothing (front ++ g ∷ more) → ⊥
+    go [] nothing = let no = nothing.0 in cc
+    go (s ∷ front) nothing = go front nothing.1
+
+-- what stands behind the last find
+same_begin : (one two : List Answered) (f g : Answered) (rest more : List Answered) → is_find f.op ≡ true → is_find g.op ≡ true → FindsNothing rest → FindsNothing more
+    → one ++ f ∷ rest ≡ two ++ g ∷ more → rest ≡ more
+same_begin [] [] f g rest more finds too none nor same = cc
+same_begin [] (s ∷ two) f g rest more finds too none nor same = let later : rest ≡ two ++ g ∷ more = cc in absurd (finds_later two g more rest none too later)
+same_begin (s ∷ one) [] f g rest more finds too none nor same = let later : one ++ f ∷ rest ≡ more = cc in absurd (finds_later one f rest more nor finds (sym later))
+same_begin (s ∷ one) (t ∷ two) f g rest more finds too none nor same = let later : one ++ f ∷ rest ≡ two ++ g ∷ more = cc in same_begin one two f g rest more finds too none nor later
+
+find_nothing_more : (one two : List Answered) → FindsNothing one → FindsNothing two → FindsNothing (one ++ two)
+find_nothing_more [] two none nor = nor
+find_nothing_more (s ∷ one) two none nor = (none.0, find_nothing_more one two none.1 nor)
+
+reads_find_nothing : (pieces : List Piece) (steps : List Answered) (site : SiteId) (image : ℕ) (snap : Option ℕ) → AreRead site image snap pieces steps → FindsNothing steps
+reads_find_nothing [] [] site image snap read = tt
+reads_find_nothing [] (s ∷ steps) site image snap read = absurd read
+reads_find_nothing (p ∷ pieces) [] site image snap read = absurd read
+reads_find_nothing (p ∷ pieces) (s ∷ steps) site image snap (at, is, shown, read) = (ap is_find is, reads_find_nothing pieces steps site image snap read)
+
+-- ---- read
+
+some_length : (more : List Answered) (s : Answered) → 1 ≤ length (more ++ s ∷ [])
+some_length [] s = omega arith
+some_length (m ∷ more) s = let some = some_length more s in omega arith
+
+module _ (site : SiteId) (name : List ℕ) (snap : Option (List ℕ)) (e : Extent) where
+  -- a pass, behind its find
+  abbrev behind : (steps : List Answered) (closing : Answer) → IsPassTo site name snap e steps closing → List Answered
+  behind steps closing p = looked_at site p.image p.first ∷ p.reads
+
+  abbrev closes : (image : ℕ) → Answer → Answered
+  closes image a = record { site = site; op = op.Header image header.Get; answer = a }
+
+  behind_finds_nothing : (steps : List Answered) (closing : Answer) (p : IsPassTo site name snap e steps closing) → FindsNothing (behind steps closing p)
+  behind_finds_nothing steps closing p = (refl, reads_find_nothing (pieces_of p.first.layout e) p.reads site p.image p.view.snap p.read)
+
+  never_fenced : (h : HeaderView) → read_refuses snap e h ≡ Some refusal.Fenced → ⊥
+  never_fenced h = go (view_of h snap)
+    where
+      at_range : (b : Bool) → cond b None (Some refusal.BadRange) ≡ Some refusal.Fenced → ⊥
+      at_range true is = cc
+      at_range false is = cc
+
+      go : (view : Option View) → view_refuses e view ≡ Some refusal.Fenced → ⊥
+      go None is = cc
+      go (Some view) is = at_range (fits e view.size) is
+
+  module _ (steps : List Answered) where
+    abbrev BytesBy : Reply → Type 0
+    BytesBy (reply.Bytes bytes) = ShowsAtLast site name snap e steps bytes
+    BytesBy _ = ⊥
+
+    read_is : (r : Reply) → ReadMeans site name snap e steps r → Is BytesBy (RefusedAtLast site name snap e steps) r
+    read_is (reply.Bytes bytes) meant = inl meant
+    read_is (reply.Refused x) refused = inr (x, refl, refused)
+    read_is _ meant = absurd meant
+
+    -- its last pass is the same, so it read the same
+    same_bytes : (bytes others : List ℕ) → ShowsAtLast site name snap e steps bytes → ShowsAtLast site name snap e steps others → bytes ≡ others
+    same_bytes bytes others a b =
+        let p = a.shows.pass in
+        let q = b.shows.pass in
+        let c = closes p.image (answer.Header a.shows.closing) in
+        let d = closes q.image (answer.Header b.shows.closing) in
+        let same = sym (a.are ∙ ap (λ r. joined a.passes ++ r) p.are) ∙ (b.are ∙ ap (λ r. joined b.passes ++ r) q.are) in
+        let tails : looked_at site p.image p.first ∷ (p.reads ++ c ∷ []) ≡ looked_at site q.image q.first ∷ (q.reads ++ d ∷ []) =
+        same_begin (joined a.passes) (joined b.passes) (found site name p.image) (found site name q.image) _ _ refl refl
+        (find_nothing_more (behind a.pass _ p) (c ∷ []) (behind_finds_nothing a.pass _ p) (refl, tt))
+        (find_nothing_more (behind b.pass _ q) (d ∷ []) (behind_finds_nothing b.pass _ q) (refl, tt)) same in
+        let step : looked_at site p.image p.first ≡ looked_at site q.image q.first = cc in
+        let told = ap (λ (t : Answered). t.answer) step in
+        let first : p.first ≡ q.first = cc in
+        let rest : p.reads ++ c ∷ [] ≡ q.reads ++ d ∷ [] = cc in
+        a.shows.shows
+        ∙ ap (λ (h : HeaderView). bytes_of_extent h.layout e (bytes_read (pieces_of h.layout e) p.reads)) first
+        ∙ ap (λ r. bytes_of_extent q.first.layout e (bytes_read (pieces_of q.first.layout e) r)) (same_front p.reads q.reads c d rest)
+        ∙ sym b.shows.shows
+
+    bytes_once : (r s : Reply) → BytesBy r → BytesBy s → r ≡ s
+    bytes_once (reply.Bytes bytes) (reply.Bytes others) one other = ap reply.Bytes (same_bytes bytes others one other)
+    bytes_once (reply.Bytes bytes) _ one other = absurd other
+    bytes_once _ s one other = absurd one
+
+    -- all steps but the last, which refused it
+    refused_steps : (x : Refusal) (r : RefusedAtLast site name snap e steps x) → steps ≡ (joined r.passes ++ r.by.by.before) ++ r.by.by.last ∷ []
+    refused_steps x r = r.are ∙ ap (λ q. joined r.passes ++ q) r.by.by.are ∙ sym (append_assoc (joined r.passes) r.by.by.before (r.by.by.last ∷ []))
+
+    read_alike : (x y : Refusal) → RefusedAtLast site name snap e steps x → RefusedAtLast site name snap e steps y → x ≡ y
+    read_alike x y a b =
+        let last = same_last (joined a.passes ++ a.by.by.before) (joined b.passes ++ b.by.by.before) a.by.by.last b.by.by.last (sym (refused_steps x a) ∙ refused_steps y b) in
+        let is = subst (λ (t : Answered). refusal_by (read_refuses snap e) t.op t.answer ≡ Some x) last a.by.by.refused in
+        let too = b.by.by.refused in
+        cc
+
+    -- a pass that is refused early ends at its find or behind it, and one that shows bytes later
+    too_short : (passes : List (List Answered)) (f : List Answered) (image : ℕ) (closing : HeaderView) (p : IsPassTo site name snap e f (answer.Header closing)) (others : List (List Answered)) (before : List Answered) (last : Answered)
+        → closes p.image (answer.Header closing) ≡ last → AreOwn site (look_up name) (before ++ last ∷ []) → length (before ++ last ∷ []) ≤ 2
+        → joined passes ++ (found site name p.image ∷ behind f (answer.Header closing) p) ≡ joined others ++ before → ⊥
+    too_short passes f image closing p others [] last is own short same = let asks = own.1 in let o = ap (λ (t : Answered). t.op) is in cc
+    too_short passes f image closing p others (g ∷ []) last is own short same =
+        let finds : is_find g.op ≡ true = ap (λ (t : Answered). is_find t.op) own.told in
+        let none : behind f (answer.Header closing) p ≡ [] =
+        same_begin (joined passes) (joined others) (found site name p.image) g (behind f (answer.Header closing) p) [] refl finds (behind_finds_nothing f (answer.Header closing) p) tt same in
+        cc
+    too_short passes f image closing p others (g ∷ h ∷ before) last is own short same = let some = some_length before last in absurd (omega (arith, some, short))
+
+    read_apart : (r : Reply) (x : Refusal) → BytesBy r → RefusedAtLast site name snap e steps x → ⊥
+    read_apart (reply.Bytes bytes) x a r =
+        let p = a.shows.pass in
+        let c = closes p.image (answer.Header a.shows.closing) in
+        let front = found site name p.image ∷ behind a.pass (answer.Header a.shows.closing) p in
+        let shown : steps ≡ (joined a.passes ++ front) ++ c ∷ [] = a.are ∙ ap (λ q. joined a.passes ++ q) p.are ∙ sym (append_assoc (joined a.passes) front (c ∷ [])) in
+        let same = sym shown ∙ refused_steps x r in
+        let last : c ≡ r.by.by.last = same_last (joined a.passes ++ front) (joined r.passes ++ r.by.by.before) c r.by.by.last same in
+        let refuses : read_refuses snap e a.shows.closing ≡ Some x = subst (λ (t : Answered). refusal_by (read_refuses snap e) t.op t.answer ≡ Some x) (sym last) r.by.by.refused in
+        too_short a.passes a.pass p.image a.shows.closing p r.passes r.by.by.before r.by.by.last last
+        (subst (AreOwn site (look_up name)) r.by.by.are r.by.own)
+        (subst (λ q. length q ≤ 2) r.by.by.are (r.early (λ fenced. never_fenced a.shows.closing (subst (λ y. read_refuses snap e a.shows.closing ≡ Some y) fenced refuses))))
+        (same_front (joined a.passes ++ front) (joined r.passes ++ r.by.by.before) c r.by.by.last same)
+    read_apart _ x a r = absurd a
+
+    one_read : (r s : Reply) → ReadMeans site name snap e steps r → ReadMeans site name snap e steps s → r ≡ s
+    one_read r s one other = one_of BytesBy (RefusedAtLast site name snap e steps) bytes_once read_apart read_alike r s (read_is r one) (read_is s other)
+
+-- ---- all commands
+
+pub one_reply : (site : SiteId) (c : Command) (steps : List Answered) (r s : Reply) → IsMeantBy site c steps r → IsMeantBy site c steps s → r ≡ s
+one_reply site (command.Create name size shape) steps r s one other = one_create site name size shape steps r s one.1 other.1
+one_reply site (command.Write name at bytes) steps r s one other = one_write site name at bytes steps r s one other
+one_reply site (command.Fill name at len byte) steps r s one other = one_write site name at (replicate len byte) steps r s one other
+one_reply site (command.Read name snap at len) steps r s one other = one_read site name snap (record { at = at; len = len }) steps r s one other
+one_reply site command.List steps r s one other = one_list site steps r s one other
+one_reply site (command.Info name) steps r s one other = one_shown site name reply.Info steps r s (info_is site name steps r one) (info_is site name steps s other)
+one_reply site (command.SnapList name) steps r s one other = one_shown site name shown_snaps steps r s (snap_list_is site name steps r one) (snap_list_is site name steps s other)
+one_reply site (command.SnapCreate name snap) steps r s one other = one_take site name snap steps r s one other
+one_reply site (command.SnapRemove name snap) steps r s one other = one_remove site name snap steps r s one other
+one_reply site _ steps r s one other = absurd one

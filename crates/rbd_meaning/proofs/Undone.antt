@@ -1,0 +1,119 @@
+-- Refusals change nothing.
+use Rattle.std.proofs.Common.{◌≡◌, ◌⊎◌, inl, inr, ℕ, List, [], ◌∷◌, ◌++◌, true, Option, Some, refl, ap, sym, subst}
+use Rattle.rbd_kinds.specs.declared.answer.Answer.{Answer}
+use Rattle.rbd_kinds.specs.declared.answer.Answer.TheVariants as answer
+use Rattle.rbd_kinds.specs.declared.command.Command.{Command}
+use Rattle.rbd_kinds.specs.declared.command.Command.TheVariants as command
+use Rattle.rbd_kinds.specs.declared.directory_op.DirectoryOp.{DirectoryOp}
+use Rattle.rbd_kinds.specs.declared.directory_op.DirectoryOp.TheVariants as directory
+use Rattle.rbd_kinds.specs.declared.header.HeaderView.{HeaderView}
+use Rattle.rbd_kinds.specs.declared.header_op.HeaderOp.{HeaderOp}
+use Rattle.rbd_kinds.specs.declared.header_op.HeaderOp.TheVariants as header
+use Rattle.rbd_kinds.specs.declared.id.SiteId.{SiteId}
+use Rattle.rbd_kinds.specs.declared.layout.Extent.{Extent}
+use Rattle.rbd_kinds.specs.declared.operation.Op.{Op}
+use Rattle.rbd_kinds.specs.declared.operation.Op.TheVariants as op
+use Rattle.rbd_kinds.specs.declared.refusal.Refusal.{Refusal}
+use Rattle.rbd_kinds.specs.declared.refusal.Refusal.TheVariants as refusal
+use Rattle.rbd_kinds.specs.declared.reply.Reply.TheVariants as reply
+use Rattle.rbd_layout.specs.declared.types.Piece.{Piece}
+use Rattle.rbd_machine.specs.Passes.{joined}
+use Rattle.rbd_machine.specs.Path.{Answered}
+use Rattle.rbd_machine.specs.Refused.{refusal_by, only_looks, AreLooks, IsRefusedBy}
+use Rattle.rbd_meaning.specs.Meant.{IsMeantBy}
+use Rattle.rbd_meaning.specs.Reads.{AreRead, SeeOthers, RefusedAtLast}
+use Rattle.rbd_meaning.specs.Undone.{ComesLate, tells_undone, ChangeNothing}
+
+nothing_after : (one two : List Answered) → ChangeNothing one → ChangeNothing two → ChangeNothing (one ++ two)
+nothing_after [] two none more = more
+nothing_after (s ∷ one) two (first, none) more = (first, nothing_after one two none more)
+
+looks_change_nothing : (steps : List Answered) → AreLooks steps → ChangeNothing steps
+looks_change_nothing [] looks = tt
+looks_change_nothing (s ∷ steps) (first, looks) = (inl first, looks_change_nothing steps looks)
+
+-- ---- an answer that refuses
+
+module _ (refuses : HeaderView → Option Refusal) (x : Refusal) where
+  abbrev Refuses : Op → Answer → Type 0
+  Refuses o a = refusal_by refuses o a ≡ Some x
+
+  abbrev Undone : Op → Answer → Type 0
+  Undone o a = (only_looks o ≡ true) ⊎ (tells_undone a ≡ true)
+
+  directory_undone : (o : DirectoryOp) (a : Answer) → Refuses (op.Directory o) a → Undone (op.Directory o) a
+  directory_undone (directory.Find name) a is = inl refl
+  directory_undone directory.List a is = inl refl
+  directory_undone o answer.Absent is = inr refl
+  directory_undone o answer.Exists is = inr refl
+  directory_undone o answer.Full is = inr refl
+  directory_undone o answer.Fenced is = inr refl
+  directory_undone _ _ is = cc
+
+  header_undone : (image : ℕ) (o : HeaderOp) (a : Answer) → Refuses (op.Header image o) a → Undone (op.Header image o) a
+  header_undone image header.Get a is = inl refl
+  header_undone image o answer.Absent is = inr refl
+  header_undone image o answer.Exists is = inr refl
+  header_undone image o answer.Full is = inr refl
+  header_undone image o answer.Fenced is = inr refl
+  header_undone image _ _ is = cc
+
+  undone : (o : Op) (a : Answer) → Refuses o a → Undone o a
+  undone (op.Directory o) a is = directory_undone o a is
+  undone (op.Header image o) a is = header_undone image o a is
+  undone o answer.Absent is = inr refl
+  undone o answer.Exists is = inr refl
+  undone o answer.Full is = inr refl
+  undone o answer.Fenced is = inr refl
+  undone _ _ is = cc
+
+refused_changes_nothing : (refuses : HeaderView → Option Refusal) (late : Refusal → Type 0) (x : Refusal) (steps : List Answered) → IsRefusedBy refuses late steps x → (late x → ⊥) → ChangeNothing steps
+refused_changes_nothing refuses late x steps by not_late =
+    subst ChangeNothing (sym by.are)
+    (nothing_after by.before (by.last ∷ []) (looks_change_nothing by.before (by.unchanged not_late)) (undone refuses x by.last.op by.last.answer by.refused, tt))
+
+-- ---- the passes of a read
+
+reads_change_nothing : (pieces : List Piece) (steps : List Answered) (site : SiteId) (image : ℕ) (snap : Option ℕ) → AreRead site image snap pieces steps → ChangeNothing steps
+reads_change_nothing [] [] site image snap read = tt
+reads_change_nothing [] (s ∷ steps) site image snap read = absurd read
+reads_change_nothing (p ∷ pieces) [] site image snap read = absurd read
+reads_change_nothing (p ∷ pieces) (s ∷ steps) site image snap (at, is, shown, read) =
+    (inl (ap only_looks is), reads_change_nothing pieces steps site image snap read)
+
+passes_change_nothing : (site : SiteId) (name : List ℕ) (snap : Option (List ℕ)) (e : Extent) (passes : List (List Answered)) → SeeOthers site name snap e passes → ChangeNothing (joined passes)
+passes_change_nothing site name snap e [] see = tt
+passes_change_nothing site name snap e (pass ∷ passes) (sees, see) =
+    nothing_after pass (joined passes)
+    (subst ChangeNothing (sym sees.pass.are) (inl refl, (inl refl, nothing_after sees.pass.reads (_ ∷ []) (reads_change_nothing _ sees.pass.reads site sees.pass.image sees.pass.view.snap sees.pass.read) (inl refl, tt))))
+    (passes_change_nothing site name snap e passes see)
+
+read_changes_nothing : (site : SiteId) (name : List ℕ) (snap : Option (List ℕ)) (e : Extent) (steps : List Answered) (x : Refusal) → RefusedAtLast site name snap e steps x → ChangeNothing steps
+read_changes_nothing site name snap e steps x refused =
+    subst ChangeNothing (sym refused.are)
+    (nothing_after (joined refused.passes) refused.pass (passes_change_nothing site name snap e refused.passes refused.before) (refused_changes_nothing _ _ x refused.pass refused.by.by (λ late. late)))
+
+-- ---- all commands
+
+pub meant_changes_nothing : (site : SiteId) (c : Command) (steps : List Answered) (x : Refusal) → IsMeantBy site c steps (reply.Refused x) → (ComesLate c x → ⊥) → ChangeNothing steps
+meant_changes_nothing site (command.Create image size shape) steps x (plain, inl outside) not_late = subst ChangeNothing (sym outside.none) tt
+meant_changes_nothing site (command.Create image size shape) steps x (plain, inr unmade) not_late = refused_changes_nothing _ _ x steps unmade.by.by not_late
+meant_changes_nothing site (command.Write image at bytes) steps x refuses not_late = refused_changes_nothing _ _ x steps refuses.refused.by not_late
+meant_changes_nothing site (command.Fill image at len byte) steps x refuses not_late = refused_changes_nothing _ _ x steps refuses.refused.by not_late
+meant_changes_nothing site (command.Read image snap at len) steps x refused not_late = read_changes_nothing site image snap _ steps x refused
+meant_changes_nothing site command.List steps x by not_late = refused_changes_nothing _ _ x steps by.by not_late
+meant_changes_nothing site (command.Info image) steps x by not_late = refused_changes_nothing _ _ x steps by.by not_late
+meant_changes_nothing site (command.SnapList image) steps x by not_late = refused_changes_nothing _ _ x steps by.by not_late
+meant_changes_nothing site (command.SnapCreate image snap) steps x by not_late = refused_changes_nothing _ _ x steps by.by not_late
+meant_changes_nothing site (command.SnapRemove image snap) steps x by not_late = refused_changes_nothing _ _ x steps by.by not_late
+meant_changes_nothing site _ steps x meant not_late = absurd meant
+
+-- but for the fence, whatever the command is
+pub meant_unless_fenced : (site : SiteId) (c : Command) (steps : List Answered) (x : Refusal) → IsMeantBy site c steps (reply.Refused x) → (x ≡ refusal.Fenced → ⊥) → ChangeNothing steps
+meant_unless_fenced site c steps x meant not_fenced = meant_changes_nothing site c steps x meant (not_late c)
+  where
+    not_late : (c : Command) → ComesLate c x → ⊥
+    not_late (command.Create image size shape) late = not_fenced late
+    not_late (command.Write image at bytes) late = not_fenced late
+    not_late (command.Fill image at len byte) late = not_fenced late
+    not_late _ late = absurd late

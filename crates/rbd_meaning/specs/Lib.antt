@@ -1,0 +1,11 @@
+pub mod Range
+pub mod Arrange
+pub mod Writes
+pub mod Reads
+pub mod Creates
+pub mod Listings
+pub mod Snaps
+pub mod Meant
+pub mod Replies
+pub mod Named
+pub mod Undone

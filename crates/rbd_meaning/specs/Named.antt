@@ -1,0 +1,14 @@
+-- The name that a command looks up.
+use Rattle.std.specs.Prelude.{ℕ, List, Option, Some, None}
+use Rattle.rbd_kinds.specs.declared.command.Command.{Command}
+use Rattle.rbd_kinds.specs.declared.command.Command.TheVariants as command
+
+abbrev pub looks_up : Command → Option (List ℕ)
+looks_up (command.Write image at bytes) = Some image
+looks_up (command.Fill image at len byte) = Some image
+looks_up (command.Read image snap at len) = Some image
+looks_up (command.Info image) = Some image
+looks_up (command.SnapList image) = Some image
+looks_up (command.SnapCreate image snap) = Some image
+looks_up (command.SnapRemove image snap) = Some image
+looks_up _ = None
