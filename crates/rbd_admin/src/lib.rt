@@ -58,8 +58,6 @@ mod create;
 pub mod laws;
 mod listing;
 mod snap;
-#[cfg(test)]
-mod tests;
 
 pub use create::CreateRequest;
 pub use listing::ListRequest;

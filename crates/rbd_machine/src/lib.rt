@@ -99,8 +99,6 @@ mod looks;
 mod machine;
 mod progress;
 mod reason;
-#[cfg(test)]
-mod tests;
 mod told;
 
 pub use approach::{Approach, Refuses};

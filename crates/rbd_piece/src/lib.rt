@@ -64,8 +64,6 @@
 
 mod gather;
 pub mod laws;
-#[cfg(test)]
-mod tests;
 mod write_piece;
 
 pub use gather::Gather;

@@ -71,8 +71,6 @@ pub mod laws;
 mod looked;
 mod pieces;
 mod read;
-#[cfg(test)]
-mod tests;
 mod write;
 
 pub use read::ReadRequest;

@@ -1,0 +1,121 @@
+//! What feeds a request by hand, step by step, and what is asked of its reply.
+ghost use Rattle.std.specs.Prelude.{OnOk};
+ghost use Rattle.rbd_machine.specs.Answers.{CanBeFed};
+ghost use Rattle.rbd_machine.specs.Plan.{GoesOn, IsAsking, plan_after};
+
+use rbd_kinds::{
+    AskedName, Bytes, Fed, ImageId, NoMemory, OpKind, Refusal, Reply, SiteId, Turn, Want,
+};
+use rbd_machine::{Machine, Reason};
+use std::alloc::Global;
+use std::process::Abort;
+
+/// The image of these tests.
+pub const IMAGE: ImageId = ImageId(7);
+
+pub const HOLD: Want = Want::Hold {
+    site: SiteId::A,
+    image: IMAGE,
+};
+
+pub const NOTE: Want = Want::Note {
+    site: SiteId::A,
+    image: IMAGE,
+};
+
+pub const APPLIED: Want = Want::Applied {
+    site: SiteId::A,
+    image: IMAGE,
+};
+
+/// To join the line of the image's requests.
+pub fn join(alone: bool) -> Want {
+    Want::Join {
+        site: SiteId::A,
+        image: IMAGE,
+        alone,
+    }
+}
+
+/// An operation of a kind, at the site of these tests.
+pub fn op(kind: OpKind) -> Want {
+    let site = SiteId::A;
+    Want::Op { site, kind }
+}
+
+/// Its turn at an object.
+pub fn turn(object: u64) -> Want {
+    Want::Turn { object }
+}
+
+/// A name that a command asks for.
+pub fn name(rt: &impl Abort, alloc: Global, text: &[u8]) -> Result<AskedName, NoMemory> {
+    Ok(AskedName::parse(Bytes::from_slice(alloc, text)?).expect(rt, "a name"))
+}
+
+/// Whether what is asked holds, and there was memory to find it out. A test has a request for itself alone, and lets
+/// helpers feed it: each way out of a function that holds a request costs the proof seconds.
+pub fn holds(found_out: Result<bool, NoMemory>) -> bool {
+    found_out.unwrap_or(false)
+}
+
+/// Whether the operation that a request wants is of a kind, and its own.
+pub fn asks<M: Machine>(alloc: Global, request: &M, kind: OpKind) -> Result<bool, NoMemory>
+    requires { IsAsking (M.stands request.now).plan }
+{
+    let op = request.next(alloc)?;
+    Ok(op.kind() == kind && request.reason() == Reason::Own)
+}
+
+/// A request wants this, is fed, and wants more.
+#[tactic(auto, using(rbd_machine::proofs::Fed::fed_is_live))]
+pub fn go_on<M: Machine>(
+    rt: &impl Abort,
+    alloc: Global,
+    request: &mut M,
+    want: Want,
+    fed: Fed,
+) -> Result<(), NoMemory>
+    requires { CanBeFed (M.stands request.old).plan fed }
+    ensures { OnOk result (GoesOn (M.stands request.old).labels (plan_after (M.stands request.old).plan fed) Turn.More (M.stands request.new)) }
+{
+    assert!(rt; request.wants() == want);
+    request.ready(alloc, &fed)?;
+    match request.feed(&fed) {
+        Turn::More => Ok(()),
+        Turn::Done(_) => panic!(rt; "it has ended"),
+    }
+}
+
+/// A request wants this, is fed, and ends.
+#[tactic(auto, using(rbd_machine::proofs::Fed::fed_is_live))]
+pub fn end<M: Machine>(
+    rt: &impl Abort,
+    alloc: Global,
+    request: &mut M,
+    want: Want,
+    fed: Fed,
+) -> Result<Reply, NoMemory>
+    requires { CanBeFed (M.stands request.old).plan fed }
+{
+    assert!(rt; request.wants() == want);
+    request.ready(alloc, &fed)?;
+    match request.feed(&fed) {
+        Turn::More => panic!(rt; "it wants more"),
+        Turn::Done(reply) => Ok(reply),
+    }
+}
+
+pub fn is_done(reply: Reply) -> bool {
+    match reply {
+        Reply::Done => true,
+        _ => false,
+    }
+}
+
+pub fn is_refused(reply: Reply, why: Refusal) -> bool {
+    match reply {
+        Reply::Refused(refusal) => refusal == why,
+        _ => false,
+    }
+}
