@@ -1,5 +1,5 @@
 -- A copy-up, and the header of a clone.
-use Rattle.std.proofs.Common.{◌≡◌, ◌≢◌, ℕ, ◌<◌, ◌≤◌, Bool, true, false, cond, eqb, ltb, List, [], length, get_or, Option, Some, None, is_some, unwrap_or, option_map, refl, sym, ◌∙◌, ap, subst, arith, map, ◌&&◌}
+use Rattle.std.proofs.Common.{◌≡◌, ℕ, ◌<◌, ◌≤◌, Bool, true, false, cond, eqb, List, [], length, get_or, Option, Some, None, is_some, unwrap_or, refl, sym, ◌∙◌, ap, subst, arith, map, ◌&&◌}
 use Rattle.std.specs.FinMap as finmap
 use Rattle.std.specs.List.{slice_get}
 use Rattle.std.specs.Ordering.{nat_cmp}
@@ -14,8 +14,7 @@ use Rattle.rbd_kinds.specs.declared.header.SnapView.{SnapView}
 use Rattle.rbd_kinds.specs.declared.header_op.HeaderOp.TheVariants as header_op
 use Rattle.rbd_kinds.specs.declared.id.Instance.{Instance}
 use Rattle.rbd_kinds.specs.declared.operation.Op.TheVariants as op
-use Rattle.rbd_kinds.specs.Form.{IsNewHeader}
-use Rattle.rbd_kinds.specs.Striping.{byte_at, object_of, offset_of}
+use Rattle.rbd_kinds.specs.Striping.{object_of, offset_of}
 use Rattle.rbd_header.specs.Header.{snap_in}
 use Rattle.rbd_object.specs.Mapped.{Mapped, looked, mapped_blank, mapped_copy_up}
 use Rattle.rbd_object.specs.Versioned.{IsTidy, view}
@@ -27,12 +26,12 @@ use Rattle.rbd_flat.specs.Laws.{snap_at, snap_byte}
 use Rattle.rbd_flat.proofs.Images.{clone_of, image_law}
 use Rattle.rbd_flat.proofs.Steps.{snap_law, names_stay, links_stay}
 use Rattle.rbd_site.specs.HeaderStep.{header_after}
-use Rattle.rbd_site.specs.Records.{Records, object_at, or_blank, put, with_header, with_object}
+use Rattle.rbd_site.specs.Records.{Records, object_at, put, with_header, with_object}
 use Rattle.rbd_site.specs.Step.{answer_to, after}
 use Rattle.rbd_site.proofs.OneChange.{none_from_test}
 use Rattle.rbd_stands.specs.Condition.{IsCloneHeader, IsDrawn, IsGathered, MayCopyUp}
 use Rattle.rbd_stands.specs.Image.{ImageStands, IsInside, line_of_snap}
-use Rattle.rbd_stands.specs.Shown.{Snapshots, Links, HasParent, IsInOverlap, inherited, links_of, shown, snapshots_of}
+use Rattle.rbd_stands.specs.Shown.{Snapshots, Links, HasParent, inherited, links_of, shown, snapshots_of}
 use Rattle.rbd_stands.specs.Site.{StandsFor, IsAwaited, IsUntouched, Pending}
 use Rattle.rbd_stands.proofs.DataSteps.{done_after}
 use Rattle.rbd_stands.proofs.HeaderEdits.{past_inherited}

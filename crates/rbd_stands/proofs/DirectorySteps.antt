@@ -14,11 +14,11 @@ use Rattle.rbd_registry.specs.Directory.{Listing, id_of, is_full, added, freed, 
 use Rattle.rbd_flat.specs.declared.effect.Effect.TheVariants as effect
 use Rattle.rbd_flat.specs.Flat.{Flat, FlatImage, image_at}
 use Rattle.rbd_flat.specs.Flat as flat
-use Rattle.rbd_site.specs.Records.{Records, object_at, with_directory}
+use Rattle.rbd_site.specs.Records.{Records, with_directory}
 use Rattle.rbd_site.specs.Found.{done_where}
 use Rattle.rbd_site.specs.DirectoryStep.{name_added, name_changed, where_added, where_done}
 use Rattle.rbd_site.specs.Step.{answer_to, after}
-use Rattle.rbd_stands.specs.Site.{StandsAt, StandsFor, Pending}
+use Rattle.rbd_stands.specs.Site.{StandsFor, Pending}
 
 -- ---- a name is added
 

@@ -1,3 +1,4 @@
+pub mod NoEffect
 pub mod CloneSteps
 pub mod ChildSteps
 pub mod Lookups
@@ -15,6 +16,7 @@ pub mod DirectorySteps
 pub mod ImageSteps
 pub mod Telling
 pub mod DataSteps
+pub mod EffectLemmas
 pub mod HeaderEdits
 pub mod EditSteps
 pub mod WritePieces

@@ -1,7 +1,8 @@
 //! What each operation does to the relation `StandsFor`: laws, each the contract of a function that does
 //! nothing. A law speaks of any records, and of any flat site that they stand for.
-ghost use Rattle.std.specs.Prelude.{◌≡◌, ℕ, ◌≤◌, ◌↔◌, List, [], All, Option, Some, None, Bool, true, false, IsTrue, IsSome, ◌∷◌, slice_get};
+ghost use Rattle.std.specs.Prelude.{◌≡◌, ℕ, ◌≤◌, ◌↔◌, List, [], All, Option, Some, None, Bool, true, false, IsTrue, IsFalse, IsSome, ◌∷◌, slice_get};
 ghost use Rattle.std.specs.FinMap as finmap;
+ghost use Rattle.rbd_kinds.specs.declared.answer.Answer.{Answer};
 ghost use Rattle.rbd_kinds.specs.declared.answer.Answer.TheVariants as answer;
 ghost use Rattle.rbd_kinds.specs.declared.children_op.ChildrenOp.TheVariants as children_op;
 ghost use Rattle.rbd_kinds.specs.declared.data_op.DataOp.{DataOp};
@@ -23,6 +24,7 @@ ghost use Rattle.rbd_kinds.specs.declared.layout.Part.{Part};
 ghost use Rattle.rbd_kinds.specs.declared.operation.Op.{Op};
 ghost use Rattle.rbd_kinds.specs.declared.operation.Op.TheVariants as op;
 ghost use Rattle.rbd_kinds.specs.Form.{IsNewHeader};
+ghost use Rattle.rbd_kinds.specs.Striping.{IsLayout};
 ghost use Rattle.rbd_layout.specs.Pieces.{IsPart};
 ghost use Rattle.rbd_header.specs.Header.{context_of, snap_in};
 ghost use Rattle.rbd_object.specs.Kept.{is_listed};
@@ -36,10 +38,13 @@ ghost use Rattle.rbd_layout.specs.Pieces.{IsPieces};
 ghost use Rattle.rbd_layout.specs.declared.types.Piece.{Piece};
 ghost use Rattle.rbd_site.specs.DataStep.{MayWrite};
 ghost use Rattle.rbd_site.specs.DirectoryStep.{image_found};
+ghost use Rattle.rbd_site.specs.Laws.{is_change, is_look};
+ghost use Rattle.rbd_site.specs.declared.done.DoneOp.TheVariants as done;
 ghost use Rattle.rbd_site.specs.Log.{live_in, trimmed};
 ghost use Rattle.rbd_site.specs.Records.{Records, no_records, object_at, with_object};
 ghost use Rattle.rbd_site.specs.Step.{answer_to, after};
 ghost use Rattle.rbd_stands.specs.Condition.{IsContextOf, ArePartsBelow, AreWhole, IsCopiedUp, IsChanged, IsZeroPast, IsZeroedFrom, IsUnnamed, IsDrawn, IsFree, IsCloneHeader, MayCopyUp, extents_of};
+ghost use Rattle.rbd_stands.specs.Effect.{effect_of, effect_of_data};
 ghost use Rattle.rbd_stands.specs.Image.{IsInside};
 ghost use Rattle.rbd_stands.specs.Reading.{Tells, AreFlatBytes, AreInherited, AreLinkedTo};
 ghost use Rattle.rbd_stands.specs.Unseen.{is_about, is_unseen};
@@ -340,4 +345,38 @@ pub fn copying_up_an_object()
 pub fn writing_piece_by_piece()
     ensures { (l : Layout) (e : Extent) (pieces : List Piece) (f : Flat) (image : ℕ) (bytes : List ℕ) → IsPieces l e pieces
         → flat.after_all f (piece_effects image e.at bytes pieces) ≡ flat.after f (effect.Piece image (e ∷ []) bytes) }
+{}
+
+// ---- effects
+
+/// The effect of a change of an object whose parts lie as parts of the image below its size is at just these parts, with just
+/// these bytes, and that of a change of a whole object at all of its parts: so it is the one that the change's law names.
+pub fn effects_of_objects()
+    ensures write { (h : HeaderView) (image number : ℕ) (context : SnapContext) (must : Bool) (parts : List Part) (bytes : List ℕ)
+        → IsLayout h.layout → ArePartsBelow h h.size number parts → MayWrite parts bytes
+        → effect_of_data image number h (data_op.Write context must parts bytes) ≡ Some (effect.Piece image (extents_of parts) bytes) }
+    ensures zero { (h : HeaderView) (image number : ℕ) (context : SnapContext) (must : Bool) (parts : List Part)
+        → IsLayout h.layout → ArePartsBelow h h.size number parts
+        → effect_of_data image number h (data_op.Zero context must parts) ≡ Some (effect.Zero image (extents_of parts)) }
+    ensures replace { (h : HeaderView) (image number : ℕ) (context : SnapContext) (bytes : List ℕ) (parts : List Part)
+        → IsLayout h.layout → AreWhole h number parts
+        → effect_of_data image number h (data_op.WriteFull context bytes) ≡ Some (effect.Piece image (extents_of parts) bytes) }
+    ensures empty { (h : HeaderView) (image number : ℕ) (context : SnapContext) (parts : List Part)
+        → IsLayout h.layout → AreWhole h number parts
+        → effect_of_data image number h (data_op.Empty context) ≡ Some (effect.Zero image (extents_of parts)) }
+    ensures remove { (h : HeaderView) (image number : ℕ) (context : SnapContext) (parts : List Part)
+        → IsLayout h.layout → AreWhole h number parts
+        → effect_of_data image number h (data_op.Remove context) ≡ Some (effect.Zero image (extents_of parts)) }
+{}
+
+/// What has no effect: a look, what isn't answered done, with an id or with a snapshot, what is done to objects of an image
+/// without a header, a copy-up, and each step of the store.
+pub fn what_has_no_effect()
+    ensures look { (r : Records) (o : Op) (a : Answer) → IsTrue (is_look o) → effect_of r (done.Op o) a ≡ None }
+    ensures refused { (r : Records) (o : Op) (a : Answer) → IsFalse (is_change a) → effect_of r (done.Op o) a ≡ None }
+    ensures missing { (r : Records) (image number : ℕ) (o : DataOp) (a : Answer) → r.headers image ≡ None
+        → effect_of r (done.Op (op.Data image number o)) a ≡ None }
+    ensures copied { (r : Records) (image number : ℕ) (bytes : List ℕ) (a : Answer)
+        → effect_of r (done.Op (op.Data image number (data_op.CopyUp bytes))) a ≡ None }
+    ensures trimmed { (r : Records) (image object : ℕ) (a : Answer) → effect_of r (done.Trim image object) a ≡ None }
 {}
