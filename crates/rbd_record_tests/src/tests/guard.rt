@@ -1,4 +1,4 @@
-//! Turns at objects, worked out by hand. A test owns its guard alone, and helpers do the rest: so few ways out let it go.
+//! Turns at objects, worked out by hand.
 use rbd_guard::{Guard, Ticket};
 use std::process::Abort;
 use std::test::Fail;
