@@ -1,4 +1,7 @@
 //! Texts worked out by hand, from the rules in words.
+//!
+//! What is shown is passed by value to one helper of each file, which lets it go: each way out of a function that owns
+//! such a value costs the proof seconds.
 mod entries;
 mod operations;
 mod replies;
@@ -23,6 +26,11 @@ const AGAIN: Instance = Instance {
     life: 1,
 };
 
+/// Whether what is asked holds, and there was memory to find it out.
+fn holds(found_out: Result<bool, NoMemory>) -> bool {
+    found_out.unwrap_or(false)
+}
+
 fn name(rt: &impl Abort, alloc: Global, text: &[u8]) -> Result<Name, NoMemory> {
     Ok(Name::parse(Bytes::from_slice(alloc, text)?).expect(rt, "a name"))
 }
@@ -35,11 +43,16 @@ fn declared(rt: &impl Abort, alloc: Global, line: u32, text: &[u8]) -> Result<De
     })
 }
 
+fn declare(rt: &impl Abort, alloc: Global, sessions: &mut Vec<Declared>) -> Result<(), NoMemory> {
+    sessions.push(declared(rt, alloc, 1, b"c1")?)?;
+    sessions.push(declared(rt, alloc, 2, b"c2")?)?;
+    Ok(())
+}
+
 /// The sessions `c1` and `c2`, declared on the first two lines.
 fn sessions(rt: &impl Abort, alloc: Global) -> Result<Vec<Declared>, NoMemory> {
     let mut sessions = Vec::new(alloc);
-    sessions.push(declared(rt, alloc, 1, b"c1")?)?;
-    sessions.push(declared(rt, alloc, 2, b"c2")?)?;
+    declare(rt, alloc, &mut sessions)?;
     Ok(sessions)
 }
 

@@ -1,6 +1,7 @@
 //! Watchers in order, and their mail, worked out by hand.
-use rbd_kinds::{ImageId, Instance, NoticeKind, SessionNo, SiteId};
+use rbd_kinds::{ImageId, Instance, NoMemory, NoticeKind, SessionNo, SiteId};
 use rbd_watch::{Mail, Watchers};
+use std::process::Abort;
 use std::test::Fail;
 
 const fn instance(session: u8, life: u32) -> Instance {
@@ -10,19 +11,26 @@ const fn instance(session: u8, life: u32) -> Instance {
     }
 }
 
-#[test]
-fn watchers_keep_their_order(rt: HostRuntime) -> Result<(), Fail> {
-    let mut watchers = Watchers::new(rt.alloc());
-    for (session, life) in [(3, 0), (1, 0), (3, 1), (1, 0)] {
-        watchers.watch(instance(session, life))?;
-    }
+/// Whether these are the watchers, in this order.
+fn lists(watchers: &Watchers, wanted: &[Instance]) -> Result<bool, NoMemory> {
+    let list = watchers.list()?;
+    Ok(list.as_slice() == wanted)
+}
+
+/// One watches twice, and one comes back in its second life.
+fn watch_all(watchers: &mut Watchers) -> Result<(), Fail> {
+    watchers.watch(instance(3, 0))?;
+    watchers.watch(instance(1, 0))?;
+    watchers.watch(instance(3, 1))?;
+    watchers.watch(instance(1, 0))?;
+    Ok(())
+}
+
+fn keep_order(rt: &impl Abort, watchers: &mut Watchers) -> Result<(), Fail> {
+    watch_all(watchers)?;
     assert!(rt; watchers.unwatch(instance(3, 0)));
     assert!(rt; !watchers.unwatch(instance(3, 0)));
-    let list = watchers.list()?;
-    assert_eq!(rt;
-        list.as_slice(),
-        [instance(1, 0), instance(3, 1)].as_slice()
-    );
+    assert!(rt; lists(watchers, &[instance(1, 0), instance(3, 1)])?);
     assert!(rt; watchers.others(SessionNo(3)));
     assert!(rt; watchers.unwatch(instance(1, 0)));
     assert!(rt; !watchers.others(SessionNo(3)));
@@ -30,22 +38,41 @@ fn watchers_keep_their_order(rt: HostRuntime) -> Result<(), Fail> {
 }
 
 #[test]
+fn watchers_keep_their_order(rt: HostRuntime) -> Result<(), Fail> {
+    let mut watchers = Watchers::new(rt.alloc());
+    keep_order(&rt, &mut watchers)
+}
+
+/// Posts a notice to two instances.
+fn post(mail: &mut Mail, kind: NoticeKind) -> Result<(), Fail> {
+    let to = [instance(2, 0), instance(1, 4)];
+    mail.post(SiteId::A, ImageId(7), instance(0, 0), &to, &kind)?;
+    Ok(())
+}
+
+/// Whether a notice has this number, and goes to this instance.
+fn is_to(mail: &Mail, number: u64, to: Instance) -> bool {
+    match mail.get(number) {
+        Some(notice) => notice.number == number && notice.to == to,
+        None => false,
+    }
+}
+
+fn are_numbered(rt: &impl Abort, mail: &mut Mail) -> Result<(), Fail> {
+    post(mail, NoticeKind::RequestLock)?;
+    post(mail, NoticeKind::ReleasedLock)?;
+    assert!(rt; mail.count() == 4);
+    assert!(rt; mail.get(0).is_none());
+    assert!(rt; mail.get(5).is_none());
+    assert!(rt; is_to(mail, 1, instance(2, 0)));
+    assert!(rt; is_to(mail, 2, instance(1, 4)));
+    assert!(rt; is_to(mail, 3, instance(2, 0)));
+    assert!(rt; is_to(mail, 4, instance(1, 4)));
+    Ok(())
+}
+
+#[test]
 fn notices_are_numbered_on(rt: HostRuntime) -> Result<(), Fail> {
     let mut mail = Mail::new(rt.alloc());
-    let to = [instance(2, 0), instance(1, 4)];
-    for kind in [NoticeKind::RequestLock, NoticeKind::ReleasedLock] {
-        mail.post(SiteId::A, ImageId(7), instance(0, 0), &to, &kind)?;
-    }
-    assert_eq!(rt; mail.count(), 4);
-    assert!(rt; mail.get(0).is_none() && mail.get(5).is_none());
-    for (number, to) in [
-        (1, instance(2, 0)),
-        (2, instance(1, 4)),
-        (3, instance(2, 0)),
-        (4, instance(1, 4)),
-    ] {
-        let notice = mail.get(number).expect(&rt, "a notice");
-        assert_eq!(rt; (notice.number, notice.to), (number, to));
-    }
-    Ok(())
+    are_numbered(&rt, &mut mail)
 }

@@ -214,38 +214,37 @@ fn is_run(bytes: &[u8], from: usize, to: usize, byte: u8) -> bool {
     }
 }
 
-/// What a read shows whose two objects tell these halves.
+/// What a read shows whose first object tells halves of 1 and 2, and whose second halves of 3 and 4.
 fn shown(
     rt: &impl Abort,
     alloc: Global,
     request: &mut ReadRequest,
     layout: Layout,
-    half: usize,
-    values: [(u8, u8); 2],
+    first: usize,
+    second: usize,
 ) -> Result<Reply, NoMemory>
-    requires half { half ≤ 1024 }
+    requires first { first ≤ 1024 }
+    requires second { second ≤ 1024 }
     requires live { IsLive (standing_of request.old).plan }
 {
     tell(rt, alloc, request, OpKind::DirFind, Answer::Id(IMAGE))?;
     tell_header(rt, alloc, request, layout)?;
-    tell_halves(rt, alloc, request, half, values[0])?;
-    tell_halves(rt, alloc, request, half, values[1])?;
+    tell_halves(rt, alloc, request, first, (1, 2))?;
+    tell_halves(rt, alloc, request, second, (3, 4))?;
     close(rt, alloc, request, layout)
 }
 
-/// Whether a reply has runs of these values, each as long as the others.
-fn has_runs(reply: Reply, len: usize, values: [u8; 4]) -> bool
-    requires { len ≤ 1024 }
-{
+/// Whether a reply has four runs of these values, which end at these places.
+fn has_runs(reply: Reply, ends: [usize; 4], values: [u8; 4]) -> bool {
     let Reply::Bytes(bytes) = reply else {
         return false;
     };
     let bytes = bytes.as_slice();
-    bytes.len() == 4 * len
-        && is_run(bytes, 0, len, values[0])
-        && is_run(bytes, len, 2 * len, values[1])
-        && is_run(bytes, 2 * len, 3 * len, values[2])
-        && is_run(bytes, 3 * len, 4 * len, values[3])
+    bytes.len() == ends[3]
+        && is_run(bytes, 0, ends[0], values[0])
+        && is_run(bytes, ends[0], ends[1], values[1])
+        && is_run(bytes, ends[1], ends[2], values[2])
+        && is_run(bytes, ends[2], ends[3], values[3])
 }
 
 /// Stripe units of 512 bytes, two objects a set: the object 0 has the bytes 0 to 511 and 1,024 to 1,535 of the image,
@@ -262,8 +261,8 @@ fn units_are_in_order(
         unit: 512,
         count: 2,
     };
-    let reply = shown(rt, alloc, request, layout, 512, [(1, 2), (3, 4)])?;
-    Ok(has_runs(reply, 512, [1, 3, 2, 4]))
+    let reply = shown(rt, alloc, request, layout, 512, 512)?;
+    Ok(has_runs(reply, [512, 1024, 1536, 2048], [1, 3, 2, 4]))
 }
 
 #[test]
@@ -274,7 +273,7 @@ fn units_are_put_in_the_order_of_the_image(rt: HostRuntime) -> Result<(), Fail> 
     Ok(())
 }
 
-/// Stripe units of 4,096 bytes, two objects a set: the bytes 3,996 to 4,095 are the last of a unit in the object 0, and
+/// Stripe units of 4,096 bytes, two objects a set: the bytes 4,000 to 4,095 are the last of a unit in the object 0, and
 /// 4,096 to 4,195 the first of one in the object 1.
 fn objects_are_in_order(
     rt: &impl Abort,
@@ -288,14 +287,14 @@ fn objects_are_in_order(
         unit: 4096,
         count: 2,
     };
-    let reply = shown(rt, alloc, request, layout, 50, [(1, 2), (3, 4)])?;
-    Ok(has_runs(reply, 50, [1, 2, 3, 4]))
+    let reply = shown(rt, alloc, request, layout, 48, 50)?;
+    Ok(has_runs(reply, [48, 96, 146, 196], [1, 2, 3, 4]))
 }
 
 #[test]
 fn two_objects_are_put_behind_one_another(rt: HostRuntime) -> Result<(), Fail> {
     let alloc = rt.alloc();
-    let mut request = read(&rt, alloc, 3996, 200)?;
+    let mut request = read(&rt, alloc, 4000, 196)?;
     assert!(rt; holds(objects_are_in_order(&rt, alloc, &mut request)));
     Ok(())
 }

@@ -1,5 +1,5 @@
 //! Each form of a history's line.
-use super::{AGAIN, FIRST, name, sessions};
+use super::{AGAIN, FIRST, holds, name, sessions};
 use rbd_flat::{Cause, Effect, Entry};
 use rbd_kinds::{ImageId, NoMemory, Reply, SessionNo, SiteId};
 use rbd_text::push_line;
@@ -7,18 +7,21 @@ use std::alloc::Global;
 use std::process::Abort;
 use std::test::Fail;
 
-fn shows(
+fn is_line(
     rt: &impl Abort,
     alloc: Global,
     place: usize,
     entry: &Entry,
     want: &str,
-) -> Result<(), NoMemory> {
+) -> Result<bool, NoMemory> {
     let sessions = sessions(rt, alloc)?;
     let mut text = Vec::new(alloc);
     push_line(&mut text, sessions.as_slice(), place, entry)?;
-    assert_eq!(rt; text.as_slice(), want.as_bytes());
-    Ok(())
+    Ok(text.as_slice() == want.as_bytes())
+}
+
+fn shows(rt: &impl Abort, alloc: Global, place: usize, entry: Entry, want: &str) -> bool {
+    holds(is_line(rt, alloc, place, &entry, want))
 }
 
 #[test]
@@ -27,7 +30,7 @@ fn a_start_names_line_and_instance(rt: HostRuntime) -> Result<(), Fail> {
         line: 2,
         instance: AGAIN,
     };
-    shows(&rt, rt.alloc(), 1, &start, "h 1 start 2 c2.1\n")?;
+    assert!(rt; shows(&rt, rt.alloc(), 1, start, "h 1 start 2 c2.1\n"));
     Ok(())
 }
 
@@ -42,41 +45,45 @@ fn an_effect_names_cause_operation_and_word(rt: HostRuntime) -> Result<(), Fail>
             image: ImageId(1),
         },
     };
-    shows(&rt, rt.alloc(), 12, &entry, "h 12 effect 2 a3 name\n")?;
+    assert!(rt; shows(&rt, rt.alloc(), 12, entry, "h 12 effect 2 a3 name\n"));
     Ok(())
 }
 
-fn look_shows(rt: &impl Abort, alloc: Global, cause: Cause, want: &str) -> Result<(), NoMemory> {
+fn look_shows(rt: &impl Abort, alloc: Global, cause: Cause, want: &str) -> bool {
     let look = Entry::Look {
         cause,
         site: SiteId::B,
         number: 10,
     };
-    shows(rt, alloc, 7, &look, want)
+    shows(rt, alloc, 7, look, want)
 }
 
 #[test]
 fn a_look_names_its_cause(rt: HostRuntime) -> Result<(), Fail> {
-    look_shows(&rt, rt.alloc(), Cause::Line(4), "h 7 look 4 b10\n")?;
-    look_shows(
-        &rt,
-        rt.alloc(),
-        Cause::Late(FIRST),
-        "h 7 look late:c1.0 b10\n",
-    )?;
-    look_shows(
-        &rt,
-        rt.alloc(),
-        Cause::House(AGAIN),
-        "h 7 look house:c2.1 b10\n",
-    )?;
+    assert!(rt; look_shows(&rt, rt.alloc(), Cause::Line(4), "h 7 look 4 b10\n"));
+    assert!(rt;
+        look_shows(
+            &rt,
+            rt.alloc(),
+            Cause::Late(FIRST),
+            "h 7 look late:c1.0 b10\n"
+        )
+    );
+    assert!(rt;
+        look_shows(
+            &rt,
+            rt.alloc(),
+            Cause::House(AGAIN),
+            "h 7 look house:c2.1 b10\n"
+        )
+    );
     Ok(())
 }
 
 #[test]
 fn a_replay_names_line_and_event(rt: HostRuntime) -> Result<(), Fail> {
     let cause = Cause::Replay { line: 13, seq: 2 };
-    look_shows(&rt, rt.alloc(), cause, "h 7 look replay:13:2 b10\n")?;
+    assert!(rt; look_shows(&rt, rt.alloc(), cause, "h 7 look replay:13:2 b10\n"));
     Ok(())
 }
 
@@ -88,7 +95,7 @@ fn a_fence_names_whom_it_lists(rt: HostRuntime) -> Result<(), Fail> {
         number: 4,
         instance: FIRST,
     };
-    shows(&rt, rt.alloc(), 5, &fence, "h 5 fence 6 a4 c1.0\n")?;
+    assert!(rt; shows(&rt, rt.alloc(), 5, fence, "h 5 fence 6 a4 c1.0\n"));
     Ok(())
 }
 
@@ -98,7 +105,7 @@ fn a_reply_names_its_line(rt: HostRuntime) -> Result<(), Fail> {
         line: 9,
         reply: Reply::Done,
     };
-    shows(&rt, rt.alloc(), 3, &reply, "h 3 reply 9\n")?;
+    assert!(rt; shows(&rt, rt.alloc(), 3, reply, "h 3 reply 9\n"));
     Ok(())
 }
 
@@ -107,7 +114,7 @@ fn a_stop_names_the_session(rt: HostRuntime) -> Result<(), Fail> {
     let stop = Entry::Stop {
         session: SessionNo(1),
     };
-    shows(&rt, rt.alloc(), 4, &stop, "h 4 stop c2\n")?;
-    shows(&rt, rt.alloc(), 5, &Entry::Lost { line: 8 }, "h 5 lost 8\n")?;
+    assert!(rt; shows(&rt, rt.alloc(), 4, stop, "h 4 stop c2\n"));
+    assert!(rt; shows(&rt, rt.alloc(), 5, Entry::Lost { line: 8 }, "h 5 lost 8\n"));
     Ok(())
 }

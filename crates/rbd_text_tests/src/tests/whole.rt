@@ -3,7 +3,7 @@ ghost use Rattle.std.specs.Prelude.{◌≡◌, false, IsTrue};
 ghost use Rattle.rbd_text.specs.Replies.{IsShowable};
 ghost use Rattle.rbd_text.specs.Text.{AreShown, IsShown};
 
-use super::{AGAIN, FIRST, header, name, sessions};
+use super::{AGAIN, FIRST, header, holds, name, sessions};
 use rbd_flat::{Cause, Effect, Entry};
 use rbd_kinds::{
     Answer, Command, DirectoryOp, HeaderOp, ImageId, Instance, NoMemory, Op, Reply, Role,
@@ -27,16 +27,19 @@ fn command(number: u32, session: u8) -> Line {
     }
 }
 
-/// Commands of the sessions, by their lines.
-fn script(rt: &impl Abort, alloc: Global, commands: &[(u32, u8)]) -> Result<Script, NoMemory> {
-    let mut lines = Lines::new(alloc);
+fn push_commands(lines: &mut Lines, commands: &[(u32, u8)]) -> Result<(), NoMemory> {
     for &(number, session) in commands {
         lines.push(command(number, session))?;
     }
-    Ok(Script {
-        sessions: Sessions::from_vec(sessions(rt, alloc)?),
-        lines,
-    })
+    Ok(())
+}
+
+/// Commands of the sessions, by their lines.
+fn script(rt: &impl Abort, alloc: Global, commands: &[(u32, u8)]) -> Result<Script, NoMemory> {
+    let sessions = Sessions::from_vec(sessions(rt, alloc)?);
+    let mut lines = Lines::new(alloc);
+    push_commands(&mut lines, commands)?;
+    Ok(Script { sessions, lines })
 }
 
 #[test]
@@ -84,11 +87,10 @@ fn replies_show(
     a: &[Done],
     b: &[Done],
     want: &str,
-) -> Result<(), NoMemory> {
+) -> Result<bool, NoMemory> {
     assert!(rt; are_shown(history));
     let text = replies(alloc, script, history, a, b)?;
-    assert_eq!(rt; text.as_slice(), want.as_bytes());
-    Ok(())
+    Ok(text.as_slice() == want.as_bytes())
 }
 
 fn trace_shows(
@@ -96,26 +98,21 @@ fn trace_shows(
     alloc: Global,
     script: &Script,
     history: &[Entry],
-    log: &[Done],
+    a: &[Done],
+    b: &[Done],
     want: &str,
-) -> Result<(), NoMemory> {
+) -> Result<bool, NoMemory> {
     assert!(rt; are_shown(history));
-    let text = trace(alloc, script, history, log, &[])?;
-    assert_eq!(rt; text.as_slice(), want.as_bytes());
-    Ok(())
+    let text = trace(alloc, script, history, a, b)?;
+    Ok(text.as_slice() == want.as_bytes())
 }
 
 #[test]
 fn an_empty_script_prints_nothing(rt: HostRuntime) -> Result<(), Fail> {
     let script = script(&rt, rt.alloc(), &[])?;
-    replies_show(&rt, rt.alloc(), &script, &[], &[], &[], "")?;
-    trace_shows(&rt, rt.alloc(), &script, &[], &[], "")?;
+    assert!(rt; holds(replies_show(&rt, rt.alloc(), &script, &[], &[], &[], "")));
+    assert!(rt; holds(trace_shows(&rt, rt.alloc(), &script, &[], &[], &[], "")));
     Ok(())
-}
-
-/// The script `client c1 a`, `c1 create disk 0`.
-fn created_script(rt: &impl Abort, alloc: Global) -> Result<Script, NoMemory> {
-    script(rt, alloc, &[(2, 0)])
 }
 
 fn effect(number: u64, effect: Effect) -> Entry {
@@ -134,20 +131,21 @@ fn named(rt: &impl Abort, alloc: Global) -> Result<Effect, NoMemory> {
     })
 }
 
-/// What `create` adds to the history.
-fn created_history(rt: &impl Abort, alloc: Global) -> Result<Vec<Entry>, NoMemory> {
-    let create = Effect::Create {
+fn created() -> Effect {
+    Effect::Create {
         image: ImageId(1),
         size: 0,
         role: Role::Plain,
-    };
-    let (line, instance, reply) = (2, FIRST, Reply::Done);
-    let mut history = Vec::new(alloc);
-    history.push(Entry::Start { line, instance })?;
+    }
+}
+
+/// What `create` adds to the history.
+fn push_created(rt: &impl Abort, alloc: Global, history: &mut Vec<Entry>) -> Result<(), NoMemory> {
+    history.push(start(2, FIRST))?;
     history.push(effect(1, named(rt, alloc)?))?;
-    history.push(effect(2, create))?;
-    history.push(Entry::Reply { line, reply })?;
-    Ok(history)
+    history.push(effect(2, created()))?;
+    history.push(replied(2, Reply::Done))?;
+    Ok(())
 }
 
 fn done(number: u64, instance: Instance, op: Op, answer: Answer) -> Done {
@@ -160,49 +158,62 @@ fn done(number: u64, instance: Instance, op: Op, answer: Answer) -> Done {
 }
 
 /// And to the log.
-fn created_log(rt: &impl Abort, alloc: Global) -> Result<Vec<Done>, NoMemory> {
-    let add = DirectoryOp::Add {
-        name: name(rt, alloc, b"disk")?,
-    };
+fn push_created_log(rt: &impl Abort, alloc: Global, log: &mut Vec<Done>) -> Result<(), NoMemory> {
+    let name = name(rt, alloc, b"disk")?;
+    let add = Op::Directory(DirectoryOp::Add { name });
+    log.push(done(1, FIRST, add, Answer::Id(ImageId(1))))?;
     let view = header(Snaps::new(alloc));
     let create = Op::Header {
         image: ImageId(1),
         op: HeaderOp::Create { view },
     };
-    let mut log = Vec::new(alloc);
-    log.push(done(1, FIRST, Op::Directory(add), Answer::Id(ImageId(1))))?;
     log.push(done(2, FIRST, create, Answer::Done))?;
-    Ok(log)
+    Ok(())
 }
 
 const CREATED: &str =
     "h 1 start 2 c1.0\nh 2 effect 2 a1 name\nh 3 effect 2 a2 create\nh 4 reply 2\no a1 c1.0 dir-add rbd_directory id\no a2 c1.0 header-create rbd_header.1 done\n2 c1 ok\n";
 
-#[test]
-fn a_trace_tells_history_log_and_replies(rt: HostRuntime) -> Result<(), Fail> {
-    let script = created_script(&rt, rt.alloc())?;
-    let history = created_history(&rt, rt.alloc())?;
-    let log = created_log(&rt, rt.alloc())?;
-    trace_shows(
-        &rt,
-        rt.alloc(),
-        &script,
-        history.as_slice(),
-        log.as_slice(),
-        CREATED,
-    )?;
-    Ok(())
+/// The script `client c1 a`, `c1 create disk 0`.
+fn created_is_traced(
+    rt: &impl Abort,
+    alloc: Global,
+    history: &[Entry],
+    log: &[Done],
+) -> Result<bool, NoMemory> {
+    let script = script(rt, alloc, &[(2, 0)])?;
+    trace_shows(rt, alloc, &script, history, log, &[], CREATED)
 }
 
 #[test]
-fn site_a_stands_before_site_b(rt: HostRuntime) -> Result<(), Fail> {
-    let script = script(&rt, rt.alloc(), &[])?;
+fn a_trace_tells_history_log_and_replies(rt: HostRuntime) -> Result<(), Fail> {
+    let alloc = rt.alloc();
+    let mut history = Vec::new(alloc);
+    push_created(&rt, alloc, &mut history)?;
+    let mut log = Vec::new(alloc);
+    push_created_log(&rt, alloc, &mut log)?;
+    assert!(rt; holds(created_is_traced(&rt, alloc, history.as_slice(), log.as_slice())));
+    Ok(())
+}
+
+const TWO_SITES: &str =
+    "o a1 c1.0 lock-take rbd_header.1 done\no b1 c2.1 lock-take rbd_header.1 held\n";
+
+fn logs_are_traced(
+    rt: &impl Abort,
+    alloc: Global,
+    a: &[Done],
+    b: &[Done],
+) -> Result<bool, NoMemory> {
+    let script = script(rt, alloc, &[])?;
+    trace_shows(rt, alloc, &script, &[], a, b, TWO_SITES)
+}
+
+#[test]
+fn site_a_stands_before_site_b(rt: HostRuntime) {
     let a = [lock_take(1, FIRST, Answer::Done)];
     let b = [lock_take(1, AGAIN, Answer::Held(FIRST))];
-    let text = trace(rt.alloc(), &script, &[], &a, &b)?;
-    let want = "o a1 c1.0 lock-take rbd_header.1 done\no b1 c2.1 lock-take rbd_header.1 held\n";
-    assert_eq!(rt; text.as_slice(), want.as_bytes());
-    Ok(())
+    assert!(rt; holds(logs_are_traced(&rt, rt.alloc(), &a, &b)));
 }
 
 fn lock_take(number: u64, instance: Instance, answer: Answer) -> Done {
@@ -227,119 +238,110 @@ fn look(cause: Cause, site: SiteId) -> Entry {
 }
 
 /// Line 3 has its reply, line 4 found the lock held, line 5 was lost, line 6 isn't in it.
-fn stopped_history(alloc: Global) -> Result<Vec<Entry>, NoMemory> {
-    let mut history = Vec::new(alloc);
+fn push_stopped(history: &mut Vec<Entry>) -> Result<(), NoMemory> {
     history.push(start(3, FIRST))?;
-    history.push(Entry::Reply {
-        line: 3,
-        reply: Reply::Done,
-    })?;
+    history.push(replied(3, Reply::Done))?;
     history.push(start(4, AGAIN))?;
     history.push(look(Cause::Line(4), SiteId::A))?;
     history.push(start(5, FIRST))?;
     history.push(Entry::Lost { line: 5 })?;
-    Ok(history)
+    Ok(())
 }
 
+fn replied(line: u32, reply: Reply) -> Entry {
+    Entry::Reply { line, reply }
+}
+
+/// Whether the commands of lines 3 to 6, by two sessions in turn, have these replies.
 fn commands_show(
+    rt: &impl Abort,
+    alloc: Global,
+    history: &[Entry],
+    a: &[Done],
+    b: &[Done],
+    want: &str,
+) -> Result<bool, NoMemory> {
+    let script = script(rt, alloc, &[(3, 0), (4, 1), (5, 0), (6, 1)])?;
+    replies_show(rt, alloc, &script, history, a, b, want)
+}
+
+/// The same where an attempt at the lock was answered so at each site.
+fn answered_show(
     rt: &impl Abort,
     alloc: Global,
     history: &[Entry],
     a: Answer,
     b: Answer,
     want: &str,
-) -> Result<(), NoMemory> {
-    let script = script(rt, alloc, &[(3, 0), (4, 1), (5, 0), (6, 1)])?;
+) -> bool {
     let a = [lock_take(1, AGAIN, a)];
     let b = [lock_take(1, AGAIN, b)];
-    replies_show(rt, alloc, &script, history, &a, &b, want)
+    holds(commands_show(rt, alloc, history, &a, &b, want))
+}
+
+fn held_at_a(rt: &impl Abort, alloc: Global, history: &[Entry], want: &str) -> bool {
+    answered_show(rt, alloc, history, Answer::Held(FIRST), Answer::Done, want)
+}
+
+fn held_at_b(rt: &impl Abort, alloc: Global, history: &[Entry], want: &str) -> bool {
+    answered_show(rt, alloc, history, Answer::Done, Answer::Held(FIRST), want)
 }
 
 #[test]
 fn commands_without_a_reply_stand_last(rt: HostRuntime) -> Result<(), Fail> {
     let alloc = rt.alloc();
-    let history = stopped_history(alloc)?;
-    let want = "3 c1 ok\n4 c2 unfinished waiting c1.0\n5 c1 lost\n6 c2 unsent\n";
-    commands_show(
-        &rt,
-        alloc,
-        history.as_slice(),
-        Answer::Held(FIRST),
-        Answer::Done,
-        want,
-    )?;
-    let want = "3 c1 ok\n4 c2 unfinished\n5 c1 lost\n6 c2 unsent\n";
-    commands_show(
-        &rt,
-        alloc,
-        history.as_slice(),
-        Answer::Done,
-        Answer::Held(FIRST),
-        want,
-    )?;
+    let mut history = Vec::new(alloc);
+    push_stopped(&mut history)?;
+    let waiting = "3 c1 ok\n4 c2 unfinished waiting c1.0\n5 c1 lost\n6 c2 unsent\n";
+    assert!(rt; held_at_a(&rt, alloc, history.as_slice(), waiting));
+    let unfinished = "3 c1 ok\n4 c2 unfinished\n5 c1 lost\n6 c2 unsent\n";
+    assert!(rt; held_at_b(&rt, alloc, history.as_slice(), unfinished));
     Ok(())
 }
 
 /// Line 4 takes the lock at site a, and then, replaying an event, at site b.
-fn replayed_history(alloc: Global) -> Result<Vec<Entry>, NoMemory> {
-    let mut history = Vec::new(alloc);
+fn push_replayed(history: &mut Vec<Entry>) -> Result<(), NoMemory> {
     history.push(start(4, AGAIN))?;
     history.push(look(Cause::Line(4), SiteId::A))?;
     history.push(look(Cause::Replay { line: 4, seq: 1 }, SiteId::B))?;
     history.push(look(Cause::Late(AGAIN), SiteId::A))?;
-    Ok(history)
+    Ok(())
 }
 
 #[test]
 fn the_last_attempt_at_a_lock_decides(rt: HostRuntime) -> Result<(), Fail> {
     let alloc = rt.alloc();
-    let history = replayed_history(alloc)?;
-    let want = "3 c1 unsent\n4 c2 unfinished waiting c1.0\n5 c1 unsent\n6 c2 unsent\n";
-    commands_show(
-        &rt,
-        alloc,
-        history.as_slice(),
-        Answer::Done,
-        Answer::Held(FIRST),
-        want,
-    )?;
-    let want = "3 c1 unsent\n4 c2 unfinished\n5 c1 unsent\n6 c2 unsent\n";
-    commands_show(
-        &rt,
-        alloc,
-        history.as_slice(),
-        Answer::Held(FIRST),
-        Answer::Done,
-        want,
-    )?;
+    let mut history = Vec::new(alloc);
+    push_replayed(&mut history)?;
+    let waiting = "3 c1 unsent\n4 c2 unfinished waiting c1.0\n5 c1 unsent\n6 c2 unsent\n";
+    assert!(rt; held_at_b(&rt, alloc, history.as_slice(), waiting));
+    let unfinished = "3 c1 unsent\n4 c2 unfinished\n5 c1 unsent\n6 c2 unsent\n";
+    assert!(rt; held_at_a(&rt, alloc, history.as_slice(), unfinished));
     Ok(())
 }
 
 /// The later line has its reply first.
-fn crossed_history(alloc: Global) -> Result<Vec<Entry>, NoMemory> {
-    let mut history = Vec::new(alloc);
-    history.push(Entry::Reply {
-        line: 6,
-        reply: Reply::Done,
-    })?;
-    history.push(Entry::Reply {
-        line: 3,
-        reply: Reply::At(2),
-    })?;
-    Ok(history)
+fn push_crossed(history: &mut Vec<Entry>) -> Result<(), NoMemory> {
+    history.push(replied(6, Reply::Done))?;
+    history.push(replied(3, Reply::At(2)))?;
+    Ok(())
 }
 
 #[test]
 fn replies_stand_in_the_order_of_the_history(rt: HostRuntime) -> Result<(), Fail> {
-    let history = crossed_history(rt.alloc())?;
+    let alloc = rt.alloc();
+    let mut history = Vec::new(alloc);
+    push_crossed(&mut history)?;
     let want = "6 c2 ok\n3 c1 ok at 2\n4 c2 unsent\n5 c1 unsent\n";
-    commands_show(
-        &rt,
-        rt.alloc(),
-        history.as_slice(),
-        Answer::Done,
-        Answer::Done,
-        want,
-    )?;
+    assert!(rt;
+        answered_show(
+            &rt,
+            alloc,
+            history.as_slice(),
+            Answer::Done,
+            Answer::Done,
+            want
+        )
+    );
     Ok(())
 }
