@@ -68,15 +68,19 @@
 #![tactic(auto)]
 
 mod arena;
+mod bytes;
 mod change;
 mod content;
 mod heads;
 pub mod laws;
+mod lists;
 mod object;
 mod page;
 mod paged;
 mod pages;
 mod parts;
+mod sheaf;
+mod sheaves;
 mod stretch;
 mod version;
 mod versions;

@@ -6,6 +6,7 @@ use Rattle.rbd_object.proofs.paged.PagedObject.pages.Goals as goal
 pub returns-clause-longest : goal.returns-clause-longest
 returns-clause-longest c = λ snap bytes some.
     let least =
-    pages_least c.self.inside.arena c.self.inside.head c.self.inside.seq c.self.inside.versions.items c.args.self.now.shown snap bytes
-    (ap (λ (x : Paged). x.shown) c.self.view_is) c.self.invariant some in
+    pages_least c.self.inside.sheaves c.self.inside.head c.self.inside.seq c.self.inside.versions.items c.args.self.now.shown snap bytes
+    (ap (λ (x : Paged). x.shown) c.self.view_is) c.used.ensures.stocked c.self.invariant some in
+    let used = c.used.ensures.used in
     omega arith
