@@ -203,7 +203,7 @@ empty_content a = record {
   small = omega arith;
 }
 
-empty_list : (xs : List ℕ) → length xs ≡ 0 → xs ≡ []
+pub empty_list : (xs : List ℕ) → length xs ≡ 0 → xs ≡ []
 empty_list [] none = refl
 empty_list (x ∷ xs) none = absurd (let f : ⊥ = omega arith in f)
 

@@ -1,10 +1,10 @@
 -- The object on its pages.
-use Rattle.std.proofs.Common.{◌≡◌, ℕ, ◌+◌, ◌<◌, ◌≤◌, Bool, true, false, cond, not, eqb, ltb, ◌||◌, List, [], ◌∷◌, ◌++◌, Option, Some, None, map, filter, length, find, max, min, option_to_list, refl, sym, ap, ◌∙◌, subst, arith}
+use Rattle.std.proofs.Common.{◌≡◌, ℕ, ◌+◌, ◌<◌, ◌≤◌, Bool, true, false, cond, not, eqb, ltb, ◌||◌, ◌&&◌, List, [], ◌∷◌, ◌++◌, Option, Some, None, map, filter, length, find, max, min, option_to_list, refl, sym, ap, ◌∙◌, subst, arith}
 use Rattle.std.specs.Prelude.{zero, suc, option_map, unwrap_or}
 use Rattle.std.specs.FinMap.{get, retain_keys}
 use Rattle.rbd_kinds.specs.declared.header.SnapContext.{SnapContext}
-use Rattle.rbd_object.specs.Sheaves.{AreStocked, IsSame, Stock}
-use Rattle.rbd_object.specs.Sheets.{Sheet, count_at, in_use}
+use Rattle.rbd_object.specs.Sheaves.{AreStocked, IsSame, Stock, named_in}
+use Rattle.rbd_object.specs.Sheets.{Sheet, bytes_at, count_at, in_use}
 use Rattle.rbd_object.specs.Paging.{occurs, pages_for, AreCounted}
 use Rattle.rbd_object.specs.Shared.{Listed, Stored, AreContents, AreNamed, AreShared, IsContent, IsHead, IsKept, bytes_in, bytes_of, dead_named, dead_sheaves, is_live, kept_in, len_of, live_versions, named, pages_on, sheaves_of, view_in}
 use Rattle.rbd_object.specs.Paged.{IsPaged, Paged, paged_of}
@@ -12,12 +12,12 @@ use Rattle.rbd_object.specs.Changes.{takes}
 use Rattle.rbd_object.specs.declared.change.Change.{Change}
 use Rattle.rbd_object.proofs.EachLemmas.{len_is}
 use Rattle.rbd_object.proofs.VersionLemmas.{live_next}
-use Rattle.rbd_object.proofs.KeptLemmas.{get_kept_by, kept_by-live}
+use Rattle.rbd_object.proofs.KeptLemmas.{AreEmpty, get-live_versions, get_kept_by, is_listed-filter, kept_by-live, kept_empty}
 use Rattle.std.specs.List.{list_any}
-use Rattle.rbd_object.specs.Kept.{AreUsed, Kept, is_listed, is_used, keep_each, kept_by, live_part, new_version}
+use Rattle.rbd_object.specs.Kept.{AreNewest, AreUsed, Kept, is_listed, is_used, keep_each, kept_by, live_part, new_version}
 use Rattle.rbd_object.specs.Versioned.{view}
 use Rattle.rbd_object.specs.Mapped.{IsSound, Mapped, due_snaps, looked, mapped_change, mapped_copy_up, mapped_trim, value_of}
-use Rattle.rbd_object.proofs.HeadLemmas.{framed, framed_head}
+use Rattle.rbd_object.proofs.HeadLemmas.{empty_list, framed, framed_head}
 use Rattle.rbd_object.proofs.SharedLemmas.{length-bytes_in}
 use Rattle.rbd_object.proofs.SheavesLemmas.{counted_pages, occurs-append}
 use Rattle.rbd_object.proofs.SoundLemmas.{changed_value, sound_blank, sound_step, sound_trimmed}
@@ -239,6 +239,32 @@ used_live a live (v ∷ versions) = go (is_live live v) refl (used_live a live v
       (let first = left_snaps (is_listed live) v.snaps (bytes_in a v.content) e in rw first rest)
   go false e rest = subst (λ xs. AreUsed (map (kept_in a) xs)) (sym (live_next live v versions false e)) rest
 
+abbrev no_bytes : Option (List ℕ)
+no_bytes = None
+
+same_none : (b : Bool) → cond b no_bytes no_bytes ≡ no_bytes
+same_none true = refl
+same_none false = refl
+
+newest_live : (a : Stock) (live : List ℕ) (versions : List Stored) → AreNewest (map (kept_in a) versions)
+    → AreNewest (map (kept_in a) (live_versions live versions))
+newest_live a live [] newest = tt
+newest_live a live (v ∷ versions) newest = go (is_live live v) refl (newest_live a live versions newest.1) where
+  go : (test : Bool) → is_live live v ≡ test → AreNewest (map (kept_in a) (live_versions live versions))
+      → AreNewest (map (kept_in a) (live_versions live (v ∷ versions)))
+  go true e rest =
+      subst (λ xs. AreNewest (map (kept_in a) xs)) (sym (live_next live v versions true e)) (
+        λ snap listed.
+            let both : (is_listed live snap && is_listed v.snaps snap) ≡ true = sym (is_listed-filter (is_listed live) v.snaps snap) ∙ listed in
+            let mine : is_listed v.snaps snap ≡ true = grind arith in
+            ap (λ k. get k snap) (kept_live a live versions)
+            ∙ get-live_versions live (map (kept_in a) versions) snap
+            ∙ ap (λ k. cond (is_listed live snap) k None) (newest.0 snap mine)
+            ∙ same_none (is_listed live snap),
+        rest,
+      )
+  go false e rest = subst (λ xs. AreNewest (map (kept_in a) xs)) (sym (live_next live v versions false e)) rest
+
 pub trimmed_paged : (live : List ℕ) (a b : Stock) (head : Option Listed) (seq : ℕ) (versions items : List Stored) (o : Mapped)
     → IsPaged a head seq versions → ((s : ℕ) → count_at b.sheaves s + dead_named live s versions ≡ count_at a.sheaves s)
     → ((s : ℕ) → 0 < count_at b.sheaves s → IsSame a b s) → items ≡ live_versions live versions
@@ -257,7 +283,8 @@ trimmed_paged live a b head seq versions items o paged counts kept is value =
         shared = subst (AreShared b head) (sym is) (record { counts = count; head_is = head_now.0; contents = frame.0 });
         sound =
             subst (IsSound seq) (sym maps)
-            (sound_trimmed live seq (map (kept_in a) versions) (map (kept_in a) (live_versions live versions)) trimmed (used_live a live versions) paged.sound);
+            (sound_trimmed live seq (map (kept_in a) versions) (map (kept_in a) (live_versions live versions)) trimmed (used_live a live versions)
+            (newest_live a live versions paged.sound.newest) paged.sound);
       },
       ap (λ held. value_of held seq (map (kept_in b) items)) head_now.1
           ∙ ap (value_of (bytes_of a head) seq) maps
@@ -373,6 +400,58 @@ pages_least a head seq versions o snap bytes value stocked paged some =
           let counted = counted_pages a c.sheaves stocked sound.1.apart in
           let most = at_most a.sheets (pages_on a c) (λ page. let x = counted.each page in let y = sound.1.apart.each page in omega arith) in
           subst (λ n. pages_for n ≤ in_use a.sheets) (sym long) (omega arith)
+
+-- ---- no page where there is no byte
+
+no_sheaves_in : (a : Stock) (c : Listed) → IsContent a c → bytes_in a c ≡ [] → c.sheaves ≡ []
+no_sheaves_in a c content none =
+    let long : c.len ≡ 0 = sym (length-bytes_in a c) ∙ ap length none in
+    let held = content.held in
+    empty_list c.sheaves (omega arith)
+
+unnamed : (a : Stock) (versions : List Stored) (s : ℕ) → AreContents a versions → AreEmpty (map (kept_in a) versions) → named s versions ≡ 0
+unnamed a [] s are empty = refl
+unnamed a (v ∷ versions) s are empty =
+    let none = ap (occurs s) (no_sheaves_in a v.content are.0 empty.0) in
+    let rest = unnamed a versions s are.1 empty.1 in
+    omega arith
+
+head_unnamed : (a : Stock) (head : Option Listed) (s : ℕ) → IsHead a head → ((bytes : List ℕ) → bytes_of a head ≡ Some bytes → bytes ≡ [])
+    → occurs s (sheaves_of head) ≡ 0
+head_unnamed a None s is empty = refl
+head_unnamed a (Some c) s is empty = ap (occurs s) (no_sheaves_in a c is (empty (bytes_in a c) refl))
+
+named_nowhere : (sheaves : List Sheet) (x : ℕ) → ((s : ℕ) → bytes_at sheaves s ≡ []) → named_in x sheaves ≡ 0
+named_nowhere [] x none = refl
+named_nowhere (t ∷ sheaves) x none =
+    let first = ap (occurs x) (none 0) in let rest = named_nowhere sheaves x (λ s. none (suc s)) in omega arith
+
+unused : (sheets : List Sheet) → ((x : ℕ) → count_at sheets x ≡ 0) → in_use sheets ≡ 0
+unused [] none = refl
+unused (t ∷ sheets) none = let first = none 0 in let rest = unused sheets (λ x. none (suc x)) in omega arith
+
+pub pages_none : (a : Stock) (head : Option Listed) (seq : ℕ) (versions : List Stored) (o : Mapped)
+    → value_of (bytes_of a head) seq (map (kept_in a) versions) ≡ o → AreStocked a → IsPaged a head seq versions
+    → ((snap : Option ℕ) (bytes : List ℕ) → view (looked o) snap ≡ Some bytes → bytes ≡ []) → in_use a.sheets ≡ 0
+pages_none a head seq versions o value stocked paged empty =
+    let first : (bytes : List ℕ) → bytes_of a head ≡ Some bytes → bytes ≡ [] =
+    λ bytes is. empty None bytes (ap (λ (x : Mapped). x.head) (sym value) ∙ is) in
+    let kept : (snap : ℕ) (bytes : List ℕ) → get (kept_by (map (kept_in a) versions)) snap ≡ Some bytes → bytes ≡ [] =
+    λ snap bytes is. empty (Some snap) bytes (ap (λ (x : Mapped). view (looked x) (Some snap)) (sym value) ∙ seen snap bytes is (ltb seq snap) refl) in
+    let all = kept_empty (map (kept_in a) versions) paged.sound.used paged.sound.newest kept in
+    unused a.sheets (λ x.
+      stocked.counts x
+      ∙ named_nowhere a.sheaves x (λ s.
+        stocked.free s
+        (let count = paged.shared.counts s in
+        let here = head_unnamed a head s paged.shared.head_is first in
+        let rest = unnamed a versions s paged.shared.contents all in
+        omega arith)))
+    where
+      seen : (snap : ℕ) (bytes : List ℕ) → get (kept_by (map (kept_in a) versions)) snap ≡ Some bytes → (test : Bool) → ltb seq snap ≡ test
+          → view (looked (value_of (bytes_of a head) seq (map (kept_in a) versions))) (Some snap) ≡ Some bytes
+      seen snap bytes is true e = let clash : None ≡ Some bytes = sym (paged.sound.tidy.above snap (grind arith)) ∙ is in cc
+      seen snap bytes is false e = rw e is
 
 pub paged_blank : (stock : Stock) (versions : List Stored) → stock ≡ record { sheaves = []; sheets = [] } → versions ≡ []
     → IsPaged stock None 0 versions

@@ -62,6 +62,7 @@ impl PagedObject {
     pub fn pages(&self) -> u64
         ensures count { result ≡ self.now.pages }
         ensures longest { (snap : Option ℕ) (bytes : List ℕ) → view (looked self.now.shown) snap ≡ Some bytes → pages_for (length bytes) ≤ result }
+        ensures none { ((snap : Option ℕ) (bytes : List ℕ) → view (looked self.now.shown) snap ≡ Some bytes → bytes ≡ []) → result ≡ 0 }
     {
         u64::from(self.sheaves.used())
     }
