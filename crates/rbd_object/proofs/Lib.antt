@@ -14,3 +14,4 @@ pub mod SoundLemmas
 pub mod StepLemmas
 pub mod StretchLemmas
 pub mod VersionLemmas
+pub mod WritingLemmas

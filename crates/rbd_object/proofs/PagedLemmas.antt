@@ -440,18 +440,18 @@ pages_none a head seq versions o value stocked paged empty =
     λ snap bytes is. empty (Some snap) bytes (ap (λ (x : Mapped). view (looked x) (Some snap)) (sym value) ∙ seen snap bytes is (ltb seq snap) refl) in
     let all = kept_empty (map (kept_in a) versions) paged.sound.used paged.sound.newest kept in
     unused a.sheets (λ x.
-      stocked.counts x
-      ∙ named_nowhere a.sheaves x (λ s.
-        stocked.free s
-        (let count = paged.shared.counts s in
-        let here = head_unnamed a head s paged.shared.head_is first in
-        let rest = unnamed a versions s paged.shared.contents all in
-        omega arith)))
-    where
-      seen : (snap : ℕ) (bytes : List ℕ) → get (kept_by (map (kept_in a) versions)) snap ≡ Some bytes → (test : Bool) → ltb seq snap ≡ test
-          → view (looked (value_of (bytes_of a head) seq (map (kept_in a) versions))) (Some snap) ≡ Some bytes
-      seen snap bytes is true e = let clash : None ≡ Some bytes = sym (paged.sound.tidy.above snap (grind arith)) ∙ is in cc
-      seen snap bytes is false e = rw e is
+    stocked.counts x
+    ∙ named_nowhere a.sheaves x (λ s.
+    stocked.free s
+    (let count = paged.shared.counts s in
+    let here = head_unnamed a head s paged.shared.head_is first in
+    let rest = unnamed a versions s paged.shared.contents all in
+    omega arith)))
+  where
+    seen : (snap : ℕ) (bytes : List ℕ) → get (kept_by (map (kept_in a) versions)) snap ≡ Some bytes → (test : Bool) → ltb seq snap ≡ test
+        → view (looked (value_of (bytes_of a head) seq (map (kept_in a) versions))) (Some snap) ≡ Some bytes
+    seen snap bytes is true e = let clash : None ≡ Some bytes = sym (paged.sound.tidy.above snap (grind arith)) ∙ is in cc
+    seen snap bytes is false e = rw e is
 
 pub paged_blank : (stock : Stock) (versions : List Stored) → stock ≡ record { sheaves = []; sheets = [] } → versions ≡ []
     → IsPaged stock None 0 versions

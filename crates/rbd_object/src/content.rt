@@ -51,6 +51,8 @@ impl Content {
     }
 
     /// The same bytes once more, on the same sheaves.
+    // Not inline: it would push this rare work into every write.
+    #[inline(never)]
     pub fn share(&self, sheaves: &mut Sheaves) -> Result<Self, NoMemory>
         requires counted { AreCounted sheaves.old.sheaves self.now.sheaves }
         ensures exchanged { IfOk result (λ copy. Exchanged sheaves.old [] sheaves.new copy.sheaves) }

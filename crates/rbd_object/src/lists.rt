@@ -220,15 +220,27 @@ pub fn share(alloc: Global, list: &[u32], sheaves: &mut Sheaves) -> Result<Vec<u
     ensures err { OnErr result (Exchanged sheaves.old [] sheaves.new []) }
     ensures used { in_use sheaves.new.sheets ≤ in_use sheaves.old.sheets }
 {
-    let mut copy = Vec::with_capacity(alloc, list.len())?;
-    for sheaf in list {
-        match sheaves.hold(*sheaf) {
-            Ok(()) => copy.push_reserved(*sheaf),
+    let copy = Vec::from_slice(alloc, list)?;
+    hold(list, sheaves)?;
+    Ok(copy)
+}
+
+/// One place more names each of the sheaves. Where that is refused for one, none is named more.
+fn hold(list: &[u32], sheaves: &mut Sheaves) -> Result<(), NoMemory>
+    requires counted { AreCounted sheaves.old.sheaves list.now }
+    ensures exchanged { OnOk result (Exchanged sheaves.old [] sheaves.new list.now) }
+    ensures err { OnErr result (Exchanged sheaves.old [] sheaves.new []) }
+    ensures used { in_use sheaves.new.sheets ≤ in_use sheaves.old.sheets }
+{
+    for k in 0..list.len() {
+        match sheaves.hold(list[k]) {
+            Ok(()) => {}
             Err(refused) => {
-                cut(&mut copy, sheaves, 0);
+                let (held, _) = list.split_at(k);
+                let_go(held, sheaves);
                 return Err(refused);
             }
         }
     }
-    Ok(copy)
+    Ok(())
 }

@@ -128,15 +128,27 @@ pub fn share(alloc: Global, pages: &[u32], arena: &mut Arena) -> Result<Vec<u32>
     ensures err { OnErr result (Moved arena.old [] arena.new []) }
     ensures used { in_use arena.new ≤ in_use arena.old }
 {
-    let mut copy = Vec::with_capacity(alloc, pages.len())?;
-    for page in pages {
-        match arena.hold(*page) {
-            Ok(()) => copy.push_reserved(*page),
+    let copy = Vec::from_slice(alloc, pages)?;
+    hold(pages, arena)?;
+    Ok(copy)
+}
+
+/// One place more names each of the pages. Where that is refused for one, none is named more.
+fn hold(pages: &[u32], arena: &mut Arena) -> Result<(), NoMemory>
+    requires counted { AreCounted arena.old pages.now }
+    ensures moved { OnOk result (Moved arena.old [] arena.new pages.now) }
+    ensures err { OnErr result (Moved arena.old [] arena.new []) }
+    ensures used { in_use arena.new ≤ in_use arena.old }
+{
+    for k in 0..pages.len() {
+        match arena.hold(pages[k]) {
+            Ok(()) => {}
             Err(refused) => {
-                cut(&mut copy, arena, 0);
+                let (held, _) = pages.split_at(k);
+                let_go(held, arena);
                 return Err(refused);
             }
         }
     }
-    Ok(copy)
+    Ok(())
 }

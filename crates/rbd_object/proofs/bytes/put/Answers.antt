@@ -1,6 +1,6 @@
 use Rattle.rbd_object.specs.Sheaves.{pages_in}
 use Rattle.std.proofs.Common.{◌<◌, length, rules, arith}
-use Rattle.rbd_object.proofs.PagingLemmas.{writing_begun, writing_done, writing_more_at, begins, stored_there}
+use Rattle.rbd_object.proofs.WritingLemmas.{writing_begun, writing_done, writing_more_at, begins, stored_there}
 use Rattle.rbd_object.proofs.bytes.put.Goals as goal
 
 pub loop-rest-init : goal.loop-rest-init

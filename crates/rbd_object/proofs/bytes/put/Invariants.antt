@@ -1,6 +1,6 @@
 use Rattle.rbd_object.specs.Sheaves.{pages_in}
 use Rattle.std.proofs.Common.{length}
-use Rattle.rbd_object.proofs.PagingLemmas.{IsWriting}
+use Rattle.rbd_object.proofs.WritingLemmas.{IsWriting}
 use Rattle.rbd_object.proofs.bytes.put.Given as goal
 
 -- once the rest is written, all is

@@ -1,6 +1,6 @@
 use Rattle.rbd_object.specs.Sheaves.{pages_in}
 use Rattle.std.proofs.Common.{arith}
-use Rattle.rbd_object.proofs.PagingLemmas.{zeroing_begun, zeroing_done, zeroing_more_at, begins}
+use Rattle.rbd_object.proofs.WritingLemmas.{zeroing_begun, zeroing_done, zeroing_more_at, begins}
 use Rattle.rbd_object.proofs.bytes.zero.Goals as goal
 
 pub loop-left-init : goal.loop-left-init

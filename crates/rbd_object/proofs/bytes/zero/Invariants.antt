@@ -1,5 +1,5 @@
 use Rattle.rbd_object.specs.Sheaves.{pages_in}
-use Rattle.rbd_object.proofs.PagingLemmas.{IsZeroing}
+use Rattle.rbd_object.proofs.WritingLemmas.{IsZeroing}
 use Rattle.rbd_object.proofs.bytes.zero.Given as goal
 
 -- once the rest is zero, all is

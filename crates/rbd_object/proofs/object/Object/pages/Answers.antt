@@ -1,4 +1,4 @@
-use Rattle.std.proofs.Common.{◌≡◌, Some, ap, sym, subst, ◌∙◌}
+use Rattle.std.proofs.Common.{◌≡◌, Some, sym, subst}
 use Rattle.rbd_object.specs.Versioned.{view}
 use Rattle.rbd_object.specs.Mapped.{looked}
 use Rattle.rbd_object.proofs.object.Object.pages.Goals as goal
