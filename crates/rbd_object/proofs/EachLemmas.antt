@@ -7,12 +7,12 @@ use Rattle.rbd_object.specs.Contents.{overwritten, zeroed}
 use Rattle.rbd_kinds.specs.Parts.{parts_len}
 use Rattle.rbd_object.specs.Parts.{parts_written, parts_zeroed, AreWithin}
 use Rattle.rbd_object.specs.declared.content.TheConstants.{LARGEST_OBJECT}
-use Rattle.rbd_object.specs.Sheets.{Sheet, in_use}
-use Rattle.rbd_object.specs.Paging.{Moved}
-use Rattle.rbd_object.specs.Shared.{Listed, IsHead, begun, bytes_of, len_of, pages_of, touched, written_touch, zeroed_touch}
+use Rattle.rbd_object.specs.Sheaves.{Exchanged, Stock}
+use Rattle.rbd_object.specs.Sheets.{in_use}
+use Rattle.rbd_object.specs.Shared.{Listed, IsHead, begun, bytes_of, len_of, sheaves_of, touched, written_touch, zeroed_touch}
 use Rattle.rbd_object.proofs.ContentsLemmas.{length_overwritten}
 use Rattle.rbd_object.proofs.HeadLemmas.{empty_content}
-use Rattle.rbd_object.proofs.PagingLemmas.{moved_refl, moved_trans}
+use Rattle.rbd_object.proofs.ListsLemmas.{exchanged_refl, exchanged_trans}
 use Rattle.rbd_object.proofs.SharedLemmas.{length-bytes_in}
 
 abbrev pub no_part : Part
@@ -21,7 +21,7 @@ no_part = record { offset = 0; at = 0; len = 0 }
 pub next_part : (parts : List Part) (i : ℕ) → i < length parts → drop i parts ≡ get_or parts i no_part ∷ drop (i + 1) parts
 next_part parts i below = drop-cons parts i no_part below ∙ ap (λ n. get_or parts i no_part ∷ drop n parts) (sym (add-one i))
 
-pub len_is : (a : List Sheet) (head : Option Listed) → len_of head ≡ length (unwrap_or (bytes_of a head) [])
+pub len_is : (a : Stock) (head : Option Listed) → len_of head ≡ length (unwrap_or (bytes_of a head) [])
 len_is a None = refl
 len_is a (Some c) = sym (length-bytes_in a c)
 
@@ -33,22 +33,22 @@ sole_within (p ∷ []) d bytes some few within long = let end = within 0 p refl 
 sole_within (p ∷ q ∷ parts) d bytes some few within long = absurd (omega arith)
 
 -- what is left of a write of parts
-pub record IsWritingParts (parts : List Part) (bytes : List ℕ) (old : List Sheet) (before : Option Listed) (i : ℕ) (rest : List ℕ) (new : List Sheet) (head : Option Listed) : Type 0 where
-  pub moved : Moved old (pages_of before) new (pages_of head)
+pub record IsWritingParts (parts : List Part) (bytes : List ℕ) (old : Stock) (before : Option Listed) (i : ℕ) (rest : List ℕ) (new : Stock) (head : Option Listed) : Type 0 where
+  pub exchanged : Exchanged old (sheaves_of before) new (sheaves_of head)
   pub is : IsHead new head
   pub there : bytes_of new head ≡ Some (unwrap_or (bytes_of new head) [])
   pub left : parts_written (drop i parts) rest (unwrap_or (bytes_of new head) []) ≡ parts_written parts bytes (unwrap_or (bytes_of old before) [])
   pub long : length rest ≡ parts_len (drop i parts)
-  pub used : in_use new + written_touch (len_of head) (drop i parts) ≤ in_use old + written_touch (len_of before) parts
+  pub used : in_use new.sheets + written_touch (len_of head) (drop i parts) ≤ in_use old.sheets + written_touch (len_of before) parts
 
-pub parts_begun : (parts : List Part) (bytes : List ℕ) (a : List Sheet) (before head : Option Listed) → head ≡ begun before → IsHead a before
+pub parts_begun : (parts : List Part) (bytes : List ℕ) (a : Stock) (before head : Option Listed) → head ≡ begun before → IsHead a before
     → length bytes ≡ parts_len parts → IsWritingParts parts bytes a before 0 bytes a head
 parts_begun parts bytes a before head e is long = subst (IsWritingParts parts bytes a before 0 bytes a) (sym e) (go before is) where
   go : (before : Option Listed) → IsHead a before → IsWritingParts parts bytes a before 0 bytes a (begun before)
-  go None is = record { moved = moved_refl a []; is = empty_content a; there = refl; left = refl; long = long; used = omega arith }
-  go (Some c) is = record { moved = moved_refl a c.pages; is = is; there = refl; left = refl; long = long; used = omega arith }
+  go None is = record { exchanged = exchanged_refl a []; is = empty_content a; there = refl; left = refl; long = long; used = omega arith }
+  go (Some c) is = record { exchanged = exchanged_refl a c.sheaves; is = is; there = refl; left = refl; long = long; used = omega arith }
 
-pub parts_fit : (parts : List Part) (bytes : List ℕ) (old : List Sheet) (before : Option Listed) (i : ℕ) (rest : List ℕ) (a : List Sheet) (head : Option Listed)
+pub parts_fit : (parts : List Part) (bytes : List ℕ) (old : Stock) (before : Option Listed) (i : ℕ) (rest : List ℕ) (a : Stock) (head : Option Listed)
     → IsWritingParts parts bytes old before i rest a head → i < length parts → (get_or parts i no_part).len ≤ length rest
 parts_fit parts bytes old before i rest a head w below =
     let long = w.long in let sum = ap parts_len (next_part parts i below) in omega arith
@@ -58,14 +58,14 @@ touch_next : (parts : List Part) (i len : ℕ) → i < length parts → written_
     + written_touch (max len ((get_or parts i no_part).offset + (get_or parts i no_part).len)) (drop (i + 1) parts)
 touch_next parts i len below = ap (written_touch len) (next_part parts i below)
 
-pub parts_more : (parts : List Part) (bytes : List ℕ) (old : List Sheet) (before : Option Listed) (i : ℕ) (rest : List ℕ) (a b : List Sheet) (head after : Option Listed) (first back : List ℕ)
+pub parts_more : (parts : List Part) (bytes : List ℕ) (old : Stock) (before : Option Listed) (i : ℕ) (rest : List ℕ) (a b : Stock) (head after : Option Listed) (first back : List ℕ)
     → IsWritingParts parts bytes old before i rest a head → i < length parts
     → first ≡ take (get_or parts i no_part).len rest → back ≡ drop (get_or parts i no_part).len rest
-    → Moved a (pages_of head) b (pages_of after) → IsHead b after
+    → Exchanged a (sheaves_of head) b (sheaves_of after) → IsHead b after
     → bytes_of b after ≡ Some (overwritten (unwrap_or (bytes_of a head) []) (get_or parts i no_part).offset first)
-    → in_use b ≤ in_use a + touched (min (len_of head) (get_or parts i no_part).offset) ((get_or parts i no_part).offset + length first)
+    → in_use b.sheets ≤ in_use a.sheets + touched (min (len_of head) (get_or parts i no_part).offset) ((get_or parts i no_part).offset + length first)
     → IsWritingParts parts bytes old before (i + 1) back b after
-parts_more parts bytes old before i rest a b head after first back w below f r moved is written used =
+parts_more parts bytes old before i rest a b head after first back w below f r exchanged is written used =
     let p = get_or parts i no_part in
     let fits = parts_fit parts bytes old before i rest a head w below in
     let short : length first ≡ p.len = ap length f ∙ length-take p.len rest ∙ omega arith in
@@ -74,7 +74,7 @@ parts_more parts bytes old before i rest a b head after first back w below f r m
     len_is b after ∙ ap length held ∙ length_overwritten (unwrap_or (bytes_of a head) []) p.offset first
     ∙ ap (λ n. max (length (unwrap_or (bytes_of a head) [])) (p.offset + n)) short ∙ ap (λ n. max n (p.offset + p.len)) (sym (len_is a head)) in
     record {
-      moved = moved_trans old a b (pages_of before) (pages_of head) (pages_of after) w.moved moved;
+      exchanged = exchanged_trans old a b (sheaves_of before) (sheaves_of head) (sheaves_of after) w.exchanged exchanged;
       is = is;
       there = written ∙ ap (λ xs. Some xs) (sym held);
       left =
@@ -85,61 +85,61 @@ parts_more parts bytes old before i rest a b head after first back w below f r m
       long = let sum = ap parts_len (next_part parts i below) in let long = w.long in ap length r ∙ length-drop p.len rest ∙ omega arith;
       used =
           let all = w.used in let split = touch_next parts i (len_of head) below in
-          let step : in_use b ≤ in_use a + touched (min (len_of head) p.offset) (p.offset + p.len) =
-          subst (λ n. in_use b ≤ in_use a + touched (min (len_of head) p.offset) (p.offset + n)) short used in
-          subst (λ n. in_use b + written_touch n (drop (i + 1) parts) ≤ in_use old + written_touch (len_of before) parts) (sym len) (omega arith);
+          let step : in_use b.sheets ≤ in_use a.sheets + touched (min (len_of head) p.offset) (p.offset + p.len) =
+          subst (λ n. in_use b.sheets ≤ in_use a.sheets + touched (min (len_of head) p.offset) (p.offset + n)) short used in
+          subst (λ n. in_use b.sheets + written_touch n (drop (i + 1) parts) ≤ in_use old.sheets + written_touch (len_of before) parts) (sym len) (omega arith);
     }
 
 -- a part that was refused
-pub parts_refused : (parts : List Part) (bytes : List ℕ) (old : List Sheet) (before : Option Listed) (i : ℕ) (rest : List ℕ) (a b : List Sheet) (head : Option Listed) (first : List ℕ)
+pub parts_refused : (parts : List Part) (bytes : List ℕ) (old : Stock) (before : Option Listed) (i : ℕ) (rest : List ℕ) (a b : Stock) (head : Option Listed) (first : List ℕ)
     → IsWritingParts parts bytes old before i rest a head → i < length parts → first ≡ take (get_or parts i no_part).len rest
-    → in_use b ≤ in_use a + touched (min (len_of head) (get_or parts i no_part).offset) ((get_or parts i no_part).offset + length first)
-    → in_use b ≤ in_use old + written_touch (len_of before) parts
+    → in_use b.sheets ≤ in_use a.sheets + touched (min (len_of head) (get_or parts i no_part).offset) ((get_or parts i no_part).offset + length first)
+    → in_use b.sheets ≤ in_use old.sheets + written_touch (len_of before) parts
 parts_refused parts bytes old before i rest a b head first w below f used =
     let p = get_or parts i no_part in
     let fits = parts_fit parts bytes old before i rest a head w below in
     let short : length first ≡ p.len = ap length f ∙ length-take p.len rest ∙ omega arith in
-    let step : in_use b ≤ in_use a + touched (min (len_of head) p.offset) (p.offset + p.len) =
-    subst (λ n. in_use b ≤ in_use a + touched (min (len_of head) p.offset) (p.offset + n)) short used in
+    let step : in_use b.sheets ≤ in_use a.sheets + touched (min (len_of head) p.offset) (p.offset + p.len) =
+    subst (λ n. in_use b.sheets ≤ in_use a.sheets + touched (min (len_of head) p.offset) (p.offset + n)) short used in
     let all = w.used in let split = touch_next parts i (len_of head) below in omega arith
 
-pub parts_done : (parts : List Part) (bytes : List ℕ) (old : List Sheet) (before : Option Listed) (i : ℕ) (rest : List ℕ) (a : List Sheet) (head : Option Listed)
+pub parts_done : (parts : List Part) (bytes : List ℕ) (old : Stock) (before : Option Listed) (i : ℕ) (rest : List ℕ) (a : Stock) (head : Option Listed)
     → IsWritingParts parts bytes old before i rest a head → length parts ≤ i
     → bytes_of a head ≡ Some (parts_written parts bytes (unwrap_or (bytes_of old before) []))
 parts_done parts bytes old before i rest a head w past =
     w.there
     ∙ ap (λ xs. Some xs) (ap (λ ps. parts_written ps rest (unwrap_or (bytes_of a head) [])) (sym (drop_all i parts past)) ∙ w.left)
 
-pub parts_used : (parts : List Part) (bytes : List ℕ) (old : List Sheet) (before : Option Listed) (i : ℕ) (rest : List ℕ) (a : List Sheet) (head : Option Listed)
-    → IsWritingParts parts bytes old before i rest a head → in_use a ≤ in_use old + written_touch (len_of before) parts
+pub parts_used : (parts : List Part) (bytes : List ℕ) (old : Stock) (before : Option Listed) (i : ℕ) (rest : List ℕ) (a : Stock) (head : Option Listed)
+    → IsWritingParts parts bytes old before i rest a head → in_use a.sheets ≤ in_use old.sheets + written_touch (len_of before) parts
 parts_used parts bytes old before i rest a head w = let all = w.used in omega arith
 
 -- ---- parts that are made zero
 
-pub record IsZeroingParts (parts : List Part) (old : List Sheet) (before : Option Listed) (i : ℕ) (new : List Sheet) (head : Option Listed) : Type 0 where
-  pub moved : Moved old (pages_of before) new (pages_of head)
+pub record IsZeroingParts (parts : List Part) (old : Stock) (before : Option Listed) (i : ℕ) (new : Stock) (head : Option Listed) : Type 0 where
+  pub exchanged : Exchanged old (sheaves_of before) new (sheaves_of head)
   pub is : IsHead new head
   pub left : option_map (parts_zeroed (drop i parts)) (bytes_of new head) ≡ option_map (parts_zeroed parts) (bytes_of old before)
-  pub used : in_use new + zeroed_touch (drop i parts) ≤ in_use old + zeroed_touch parts
+  pub used : in_use new.sheets + zeroed_touch (drop i parts) ≤ in_use old.sheets + zeroed_touch parts
 
-pub zeros_begun : (parts : List Part) (a : List Sheet) (head : Option Listed) → IsHead a head → IsZeroingParts parts a head 0 a head
-zeros_begun parts a head is = record { moved = moved_refl a (pages_of head); is = is; left = refl; used = omega arith }
+pub zeros_begun : (parts : List Part) (a : Stock) (head : Option Listed) → IsHead a head → IsZeroingParts parts a head 0 a head
+zeros_begun parts a head is = record { exchanged = exchanged_refl a (sheaves_of head); is = is; left = refl; used = omega arith }
 
 zeroed_then : (parts : List Part) (p : Part) (held : Option (List ℕ))
     → option_map (parts_zeroed parts) (option_map (λ xs. zeroed xs p.offset p.len) held) ≡ option_map (parts_zeroed (p ∷ parts)) held
 zeroed_then parts p None = refl
 zeroed_then parts p (Some xs) = refl
 
-pub zeros_more : (parts : List Part) (old : List Sheet) (before : Option Listed) (i : ℕ) (a b : List Sheet) (head after : Option Listed)
+pub zeros_more : (parts : List Part) (old : Stock) (before : Option Listed) (i : ℕ) (a b : Stock) (head after : Option Listed)
     → IsZeroingParts parts old before i a head → i < length parts
-    → Moved a (pages_of head) b (pages_of after) → IsHead b after
+    → Exchanged a (sheaves_of head) b (sheaves_of after) → IsHead b after
     → bytes_of b after ≡ option_map (λ xs. zeroed xs (get_or parts i no_part).offset (get_or parts i no_part).len) (bytes_of a head)
-    → in_use b ≤ in_use a + touched (get_or parts i no_part).offset ((get_or parts i no_part).offset + (get_or parts i no_part).len)
+    → in_use b.sheets ≤ in_use a.sheets + touched (get_or parts i no_part).offset ((get_or parts i no_part).offset + (get_or parts i no_part).len)
     → IsZeroingParts parts old before (i + 1) b after
-zeros_more parts old before i a b head after z below moved is written used =
+zeros_more parts old before i a b head after z below exchanged is written used =
     let next = next_part parts i below in
     record {
-      moved = moved_trans old a b (pages_of before) (pages_of head) (pages_of after) z.moved moved;
+      exchanged = exchanged_trans old a b (sheaves_of before) (sheaves_of head) (sheaves_of after) z.exchanged exchanged;
       is = is;
       left =
           ap (option_map (parts_zeroed (drop (i + 1) parts))) written
@@ -149,10 +149,10 @@ zeros_more parts old before i a b head after z below moved is written used =
       used = let all = z.used in let split = ap zeroed_touch next in omega arith;
     }
 
-pub zeros_refused : (parts : List Part) (old : List Sheet) (before : Option Listed) (i : ℕ) (a b : List Sheet) (head : Option Listed)
+pub zeros_refused : (parts : List Part) (old : Stock) (before : Option Listed) (i : ℕ) (a b : Stock) (head : Option Listed)
     → IsZeroingParts parts old before i a head → i < length parts
-    → in_use b ≤ in_use a + touched (get_or parts i no_part).offset ((get_or parts i no_part).offset + (get_or parts i no_part).len)
-    → in_use b ≤ in_use old + zeroed_touch parts
+    → in_use b.sheets ≤ in_use a.sheets + touched (get_or parts i no_part).offset ((get_or parts i no_part).offset + (get_or parts i no_part).len)
+    → in_use b.sheets ≤ in_use old.sheets + zeroed_touch parts
 zeros_refused parts old before i a b head z below used =
     let all = z.used in let split = ap zeroed_touch (next_part parts i below) in omega arith
 
@@ -160,7 +160,7 @@ zeroed_nothing : (held : Option (List ℕ)) → option_map (parts_zeroed []) hel
 zeroed_nothing None = refl
 zeroed_nothing (Some xs) = refl
 
-pub zeros_done : (parts : List Part) (old : List Sheet) (before : Option Listed) (i : ℕ) (a : List Sheet) (head : Option Listed)
+pub zeros_done : (parts : List Part) (old : Stock) (before : Option Listed) (i : ℕ) (a : Stock) (head : Option Listed)
     → IsZeroingParts parts old before i a head → length parts ≤ i → bytes_of a head ≡ option_map (parts_zeroed parts) (bytes_of old before)
 zeros_done parts old before i a head z past =
     sym (ap (λ ps. option_map (parts_zeroed ps) (bytes_of a head)) (drop_all i parts past) ∙ zeroed_nothing (bytes_of a head)) ∙ z.left

@@ -1,11 +1,12 @@
 -- What a list of versions keeps, look-up by look-up.
 use Rattle.std.proofs.Common.{◌≡◌, ℕ, Bool, true, false, cond, ◌&&◌, ◌||◌, ◌==◌, List, [], ◌∷◌, filter, find, map, Option, Some, None, option_map, refl, sym, ap, ◌∙◌, subst, IsTrue, arith}
 use Rattle.std.proofs.lemmas.Cmp.{nat_cmp_total}
+use Rattle.std.specs.List.{list_all}
 use Rattle.std.specs.List.Retain.{RetainsInTurn}
 use Rattle.std.specs.Cmp.{unsigned_tied}
 use Rattle.std.specs.Ordering.{nat_cmp}
 use Rattle.std.specs.FinMap.{FinMap, get, get-insert, get-empty, get-retain_keys, retain_keys, same_map, nat_cmp-IsAntisymmetric}
-use Rattle.rbd_object.specs.Kept.{Kept, AreUsed, is_used, is_listed, keep_each, kept_by, live_part}
+use Rattle.rbd_object.specs.Kept.{Kept, AreNewest, AreUsed, is_used, is_listed, keep_each, kept_by, live_part}
 
 same_test : (x y : ℕ) → (x == y) ≡ (y == x)
 same_test x y = grind arith
@@ -49,7 +50,7 @@ live_choice : {A : Type 0} (live listed : Bool) (x : A) (y : Option A)
 live_choice true listed x y = refl
 live_choice false listed x y = refl
 
-get-live_versions : (live : List ℕ) (versions : List Kept) (snap : ℕ)
+pub get-live_versions : (live : List ℕ) (versions : List Kept) (snap : ℕ)
     → get (kept_by (map (live_part live) versions)) snap ≡ cond (is_listed live snap) (get (kept_by versions) snap) None
 get-live_versions live [] snap = elim (is_listed live snap) as (λ b. get (kept_by []) snap ≡ cond b (get (kept_by []) snap) None) [
   | true ↦ refl
@@ -100,3 +101,37 @@ AreUsed-retained R f says (v ∷ old) new r =
       go : (stays : Bool) → (stays ≡ true → IsTrue (is_used r.2)) → AreUsed r.4 → AreUsed (cond stays (r.2 ∷ r.4) r.4)
       go true used rest = rw (used refl) rest
       go false used rest = rest
+
+-- ---- what is kept by versions that are the newest for their snapshots
+
+abbrev pub AreEmpty : List Kept → Type 0
+AreEmpty [] = Unit {0}
+AreEmpty (v ∷ versions) = (v.bytes ≡ []) × AreEmpty versions
+
+used_both : (v : Kept) (versions : List Kept) → AreUsed (v ∷ versions) → IsTrue (is_used v) × AreUsed versions
+used_both v versions used = go (is_used v) refl where
+  go : (test : Bool) → is_used v ≡ test → IsTrue (is_used v) × AreUsed versions
+  go true e = (e, sym (ap (λ t. t && list_all is_used versions) e) ∙ used)
+  go false e = let clash : false ≡ true = sym (ap (λ t. t && list_all is_used versions) e) ∙ used in cc
+
+first_kept : (bytes snaps : List ℕ) (rest : FinMap nat_cmp (List ℕ)) → IsTrue (is_used (record { snaps = snaps; bytes = bytes }))
+    → ((snap : ℕ) (found : List ℕ) → get (keep_each bytes snaps rest) snap ≡ Some found → found ≡ []) → bytes ≡ []
+first_kept bytes [] rest used empty = cc
+first_kept bytes (s ∷ snaps) rest used empty =
+    empty s bytes
+    (get-keep_each bytes (s ∷ snaps) rest s
+    ∙ ap (λ b. cond b (Some bytes) (get rest s)) (let here : is_listed (s ∷ snaps) s ≡ true = grind arith in here))
+
+pub kept_empty : (versions : List Kept) → AreUsed versions → AreNewest versions
+    → ((snap : ℕ) (bytes : List ℕ) → get (kept_by versions) snap ≡ Some bytes → bytes ≡ []) → AreEmpty versions
+kept_empty [] used newest empty = tt
+kept_empty (v ∷ versions) used newest empty =
+    let both = used_both v versions used in (
+      first_kept v.bytes v.snaps (kept_by versions) both.0 empty,
+      kept_empty versions both.1 newest.1 (λ snap bytes found. later snap bytes found (is_listed v.snaps snap) refl),
+    ) where
+      later : (snap : ℕ) (bytes : List ℕ) → get (kept_by versions) snap ≡ Some bytes → (test : Bool) → is_listed v.snaps snap ≡ test → bytes ≡ []
+      later snap bytes found true e = let clash : None ≡ Some bytes = sym (newest.0 snap e) ∙ found in cc
+      later snap bytes found false e =
+          empty snap bytes
+          (get-keep_each v.bytes v.snaps (kept_by versions) snap ∙ ap (λ b. cond b (Some v.bytes) (get (kept_by versions) snap)) e ∙ found)

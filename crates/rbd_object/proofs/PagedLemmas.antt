@@ -1,60 +1,62 @@
 -- The object on its pages.
-use Rattle.std.proofs.Common.{◌≡◌, ℕ, ◌+◌, ◌<◌, ◌≤◌, Bool, true, false, cond, not, eqb, ltb, ◌||◌, List, [], ◌∷◌, ◌++◌, Option, Some, None, map, filter, length, find, max, min, option_to_list, refl, sym, ap, ◌∙◌, subst, arith}
+use Rattle.std.proofs.Common.{◌≡◌, ℕ, ◌+◌, ◌<◌, ◌≤◌, Bool, true, false, cond, not, eqb, ltb, ◌||◌, ◌&&◌, List, [], ◌∷◌, ◌++◌, Option, Some, None, map, filter, length, find, max, min, option_to_list, refl, sym, ap, ◌∙◌, subst, arith}
 use Rattle.std.specs.Prelude.{zero, suc, option_map, unwrap_or}
 use Rattle.std.specs.FinMap.{get, retain_keys}
 use Rattle.rbd_kinds.specs.declared.header.SnapContext.{SnapContext}
-use Rattle.rbd_object.specs.Sheets.{Sheet, count_at, bytes_at, in_use}
+use Rattle.rbd_object.specs.Sheaves.{AreStocked, IsSame, Stock, named_in}
+use Rattle.rbd_object.specs.Sheets.{Sheet, bytes_at, count_at, in_use}
 use Rattle.rbd_object.specs.Paging.{occurs, pages_for, AreCounted}
-use Rattle.rbd_object.specs.Shared.{Listed, Stored, AreContents, AreNamed, AreShared, IsContent, IsHead, IsKept, bytes_in, bytes_of, dead_named, dead_pages, is_live, kept_in, len_of, live_versions, named, pages_of, view_in}
+use Rattle.rbd_object.specs.Shared.{Listed, Stored, AreContents, AreNamed, AreShared, IsContent, IsHead, IsKept, bytes_in, bytes_of, dead_named, dead_sheaves, is_live, kept_in, len_of, live_versions, named, pages_on, sheaves_of, view_in}
 use Rattle.rbd_object.specs.Paged.{IsPaged, Paged, paged_of}
 use Rattle.rbd_object.specs.Changes.{takes}
 use Rattle.rbd_object.specs.declared.change.Change.{Change}
 use Rattle.rbd_object.proofs.EachLemmas.{len_is}
 use Rattle.rbd_object.proofs.VersionLemmas.{live_next}
-use Rattle.rbd_object.proofs.KeptLemmas.{get_kept_by, kept_by-live}
+use Rattle.rbd_object.proofs.KeptLemmas.{AreEmpty, get-live_versions, get_kept_by, is_listed-filter, kept_by-live, kept_empty}
 use Rattle.std.specs.List.{list_any}
-use Rattle.rbd_object.specs.Kept.{AreUsed, Kept, is_listed, is_used, keep_each, kept_by, live_part, new_version}
+use Rattle.rbd_object.specs.Kept.{AreNewest, AreUsed, Kept, is_listed, is_used, keep_each, kept_by, live_part, new_version}
 use Rattle.rbd_object.specs.Versioned.{view}
 use Rattle.rbd_object.specs.Mapped.{IsSound, Mapped, due_snaps, looked, mapped_change, mapped_copy_up, mapped_trim, value_of}
-use Rattle.rbd_object.proofs.HeadLemmas.{framed, framed_head, occurs-append}
+use Rattle.rbd_object.proofs.HeadLemmas.{empty_list, framed, framed_head}
 use Rattle.rbd_object.proofs.SharedLemmas.{length-bytes_in}
+use Rattle.rbd_object.proofs.SheavesLemmas.{counted_pages, occurs-append}
 use Rattle.rbd_object.proofs.SoundLemmas.{changed_value, sound_blank, sound_step, sound_trimmed}
 
 -- ---- versions whose pages keep their bytes
 
-framed_versions : (a b : List Sheet) (versions : List Stored) → ((page : ℕ) → 0 < named page versions → bytes_at b page ≡ bytes_at a page)
+framed_versions : (a b : Stock) (versions : List Stored) → ((s : ℕ) → 0 < named s versions → IsSame a b s)
     → AreContents a versions → AreContents b versions × (map (kept_in b) versions ≡ map (kept_in a) versions)
 framed_versions a b [] same are = (tt, refl)
 framed_versions a b (v ∷ versions) same are =
-    let first = framed a b v.content (λ page there. same page (omega arith)) are.0 in
-    let rest = framed_versions a b versions (λ page there. same page (omega arith)) are.1 in (
+    let first = framed a b v.content (λ s there. same s (omega arith)) are.0 in
+    let rest = framed_versions a b versions (λ s there. same s (omega arith)) are.1 in (
       (first.0, rest.0),
       ap (λ bytes. record { snaps = v.snaps; bytes = bytes } ∷ map (kept_in b) versions) first.1
           ∙ ap (λ (xs : List Kept). kept_in a v ∷ xs) rest.1,
     )
 
-pub head_counted : (a : List Sheet) (head : Option Listed) (versions : List Stored) → AreShared a head versions → AreCounted a (pages_of head)
-head_counted a head versions shared = record { each = λ page. let x = shared.counts page in omega arith }
+pub head_counted : (a : Stock) (head : Option Listed) (versions : List Stored) → AreShared a head versions → AreCounted a.sheaves (sheaves_of head)
+head_counted a head versions shared = record { each = λ s. let x = shared.counts s in omega arith }
 
-pub versions_counted : (a : List Sheet) (head : Option Listed) (versions : List Stored) → AreShared a head versions → AreNamed a versions
-versions_counted a head versions shared = record { each = λ page. let x = shared.counts page in omega arith }
+pub versions_counted : (a : Stock) (head : Option Listed) (versions : List Stored) → AreShared a head versions → AreNamed a versions
+versions_counted a head versions shared = record { each = λ s. let x = shared.counts s in omega arith }
 
 -- ---- a change, with the version that keeps the head
 
 abbrev pub stored_of : (snaps : List ℕ) → Option Listed → Option Stored
 stored_of snaps kept = option_map (λ (c : Listed). record { snaps = snaps; content = c }) kept
 
-named_added : (snaps : List ℕ) (kept : Option Listed) (versions : List Stored) (page : ℕ)
-    → named page (option_to_list (stored_of snaps kept) ++ versions) ≡ occurs page (pages_of kept) + named page versions
-named_added snaps None versions page = omega arith
-named_added snaps (Some c) versions page = refl
+named_added : (snaps : List ℕ) (kept : Option Listed) (versions : List Stored) (s : ℕ)
+    → named s (option_to_list (stored_of snaps kept) ++ versions) ≡ occurs s (sheaves_of kept) + named s versions
+named_added snaps None versions s = omega arith
+named_added snaps (Some c) versions s = refl
 
-contents_added : (a : List Sheet) (snaps : List ℕ) (kept : Option Listed) (versions : List Stored) → IsHead a kept → AreContents a versions
+contents_added : (a : Stock) (snaps : List ℕ) (kept : Option Listed) (versions : List Stored) → IsHead a kept → AreContents a versions
     → AreContents a (option_to_list (stored_of snaps kept) ++ versions)
 contents_added a snaps None versions is are = are
 contents_added a snaps (Some c) versions is are = (is, are)
 
-kept_added : (a : List Sheet) (snaps : List ℕ) (kept : Option Listed) (versions : List Stored)
+kept_added : (a : Stock) (snaps : List ℕ) (kept : Option Listed) (versions : List Stored)
     → map (kept_in a) (option_to_list (stored_of snaps kept) ++ versions)
     ≡ option_to_list (option_map (λ bytes. record { snaps = snaps; bytes = bytes }) (bytes_of a kept)) ++ map (kept_in a) versions
 kept_added a snaps None versions = refl
@@ -74,30 +76,30 @@ made_version (s ∷ snaps) wanted None kept w k = ap (option_map (λ (bytes : Li
 made_version (s ∷ snaps) wanted (Some x) kept w k = ap (option_map (λ (bytes : List ℕ). record { snaps = s ∷ snaps; bytes = bytes })) (k ∙ ap (λ t. cond t (Some x) None) w)
 
 -- what a change leaves of the rest: nothing but the head's pages moved
-step_shared : (wanted : Bool) (a b : List Sheet) (head after kept : Option Listed) (snaps : List ℕ) (versions : List Stored)
+step_shared : (wanted : Bool) (a b : Stock) (head after kept : Option Listed) (snaps : List ℕ) (versions : List Stored)
     → AreShared a head versions → IsKept wanted a head b after kept
     → AreShared b after (option_to_list (stored_of snaps kept) ++ versions) × (map (kept_in b) versions ≡ map (kept_in a) versions)
 step_shared wanted a b head after kept snaps versions shared is =
-    let frame = framed_versions a b versions (λ page there. is.moved.others page (let x = shared.counts page in omega arith)) shared.contents in (
+    let frame = framed_versions a b versions (λ s there. is.exchanged.others s (let x = shared.counts s in omega arith)) shared.contents in (
       record {
-        counts = λ page.
-            let x = shared.counts page in
-            let y = is.moved.counts page in
-            let sum = occurs-append (pages_of after) (pages_of kept) page in
-            named_sum page x y sum;
+        counts = λ s.
+            let x = shared.counts s in
+            let y = is.exchanged.counts s in
+            let sum = occurs-append (sheaves_of after) (sheaves_of kept) s in
+            named_sum s x y sum;
         head_is = is.head_is;
         contents = contents_added b snaps kept versions is.kept_is frame.0;
       },
       frame.1,
     ) where
-      named_sum : (page : ℕ) → count_at a page ≡ occurs page (pages_of head) + named page versions
-          → count_at b page + occurs page (pages_of head) ≡ count_at a page + occurs page (pages_of after ++ pages_of kept)
-          → occurs page (pages_of after ++ pages_of kept) ≡ occurs page (pages_of after) + occurs page (pages_of kept)
-          → count_at b page ≡ occurs page (pages_of after) + named page (option_to_list (stored_of snaps kept) ++ versions)
-      named_sum page x y sum = let added = named_added snaps kept versions page in omega arith
+      named_sum : (s : ℕ) → count_at a.sheaves s ≡ occurs s (sheaves_of head) + named s versions
+          → count_at b.sheaves s + occurs s (sheaves_of head) ≡ count_at a.sheaves s + occurs s (sheaves_of after ++ sheaves_of kept)
+          → occurs s (sheaves_of after ++ sheaves_of kept) ≡ occurs s (sheaves_of after) + occurs s (sheaves_of kept)
+          → count_at b.sheaves s ≡ occurs s (sheaves_of after) + named s (option_to_list (stored_of snaps kept) ++ versions)
+      named_sum s x y sum = let added = named_added snaps kept versions s in omega arith
 
 -- A change in the steps of the code.
-pub step_paged : (wanted : Bool) (c : SnapContext) (o : Mapped) (a b : List Sheet) (head after kept : Option Listed) (seq next : ℕ) (snaps : List ℕ)
+pub step_paged : (wanted : Bool) (c : SnapContext) (o : Mapped) (a b : Stock) (head after kept : Option Listed) (seq next : ℕ) (snaps : List ℕ)
     (version : Option Stored) (versions room items : List Stored)
     → value_of (bytes_of a head) seq (map (kept_in a) versions) ≡ o
     → new_version o.head snaps ≡ new_version o.head (due_snaps c o.seq) → wanted ≡ has_any snaps
@@ -128,7 +130,7 @@ step_paged wanted c o a b head after kept seq next snaps version versions room i
     )
 
 -- a refused change
-pub refused_paged : (a b : List Sheet) (head after : Option Listed) (seq : ℕ) (versions room : List Stored)
+pub refused_paged : (a b : Stock) (head after : Option Listed) (seq : ℕ) (versions room : List Stored)
     → IsKept false a head b after None → bytes_of b after ≡ bytes_of a head → room ≡ versions → IsPaged a head seq versions
     → IsPaged b after seq room
     × (value_of (bytes_of b after) seq (map (kept_in b) room) ≡ value_of (bytes_of a head) seq (map (kept_in a) versions))
@@ -142,14 +144,14 @@ refused_paged a b head after seq versions room k bytes same paged =
       ap (λ held. value_of held seq (map (kept_in b) room)) bytes ∙ ap (value_of (bytes_of a head) seq) kept_room,
     )
 
-pub quiet_paged : (a b : List Sheet) (head after : Option Listed) (seq : ℕ) (versions : List Stored)
+pub quiet_paged : (a b : Stock) (head after : Option Listed) (seq : ℕ) (versions : List Stored)
     → IsKept false a head b after None → IsPaged a head seq versions
     → IsPaged b after seq versions × (map (kept_in b) versions ≡ map (kept_in a) versions)
 quiet_paged a b head after seq versions k paged =
     let step = step_shared false a b head after None [] versions paged.shared k in
     (record { shared = step.0; sound = subst (IsSound seq) (sym step.1) paged.sound }, step.1)
 
-pub filled_paged : (a b : List Sheet) (head after : Option Listed) (seq : ℕ) (versions : List Stored) (bytes : List ℕ) (o : Mapped)
+pub filled_paged : (a b : Stock) (head after : Option Listed) (seq : ℕ) (versions : List Stored) (bytes : List ℕ) (o : Mapped)
     → IsKept false a None b after None → head ≡ None → bytes_of b after ≡ Some bytes
     → value_of (bytes_of a head) seq (map (kept_in a) versions) ≡ o → IsPaged a head seq versions
     → IsPaged b after seq versions × (value_of (bytes_of b after) seq (map (kept_in b) versions) ≡ mapped_copy_up bytes o)
@@ -161,12 +163,12 @@ filled_paged a b head after seq versions bytes o k none filled is paged =
           ∙ ap (mapped_copy_up bytes) (ap (λ h. value_of (bytes_of a h) seq (map (kept_in a) versions)) (sym none) ∙ is),
     )
 
-pub pages_step : (a b : List Sheet) (head : Option Listed) (seq : ℕ) (versions : List Stored) (o : Paged) (change : Change)
-    → paged_of a head seq versions ≡ o → in_use b ≤ in_use a + takes change (len_of head)
-    → in_use b ≤ o.pages + takes change (length (unwrap_or o.shown.head []))
+pub pages_step : (a b : Stock) (head : Option Listed) (seq : ℕ) (versions : List Stored) (o : Paged) (change : Change)
+    → paged_of a head seq versions ≡ o → in_use b.sheets ≤ in_use a.sheets + takes change (len_of head)
+    → in_use b.sheets ≤ o.pages + takes change (length (unwrap_or o.shown.head []))
 pages_step a b head seq versions o change is few =
-    subst (λ (x : Paged). in_use b ≤ x.pages + takes change (length (unwrap_or x.shown.head []))) is
-    (subst (λ n. in_use b ≤ in_use a + takes change n) (len_is a head) few)
+    subst (λ (x : Paged). in_use b.sheets ≤ x.pages + takes change (length (unwrap_or x.shown.head []))) is
+    (subst (λ n. in_use b.sheets ≤ in_use a.sheets + takes change n) (len_is a head) few)
 
 pub wanted_is : (n : ℕ) (snaps : List ℕ) (empty : Bool) → empty ≡ eqb n 0 → n ≡ length snaps → not empty ≡ has_any snaps
 wanted_is n [] empty e long = grind arith
@@ -174,23 +176,23 @@ wanted_is n (s ∷ snaps) empty e long = grind arith
 
 -- ---- a trim
 
-named_live : (live : List ℕ) (page : ℕ) (versions : List Stored)
-    → named page versions ≡ dead_named live page versions + named page (live_versions live versions)
-named_live live page [] = refl
-named_live live page (v ∷ versions) = go (is_live live v) refl (named_live live page versions) where
+named_live : (live : List ℕ) (s : ℕ) (versions : List Stored)
+    → named s versions ≡ dead_named live s versions + named s (live_versions live versions)
+named_live live s [] = refl
+named_live live s (v ∷ versions) = go (is_live live v) refl (named_live live s versions) where
   go : (test : Bool) → is_live live v ≡ test
-      → named page versions ≡ dead_named live page versions + named page (live_versions live versions)
-      → named page (v ∷ versions) ≡ dead_named live page (v ∷ versions) + named page (live_versions live (v ∷ versions))
+      → named s versions ≡ dead_named live s versions + named s (live_versions live versions)
+      → named s (v ∷ versions) ≡ dead_named live s (v ∷ versions) + named s (live_versions live (v ∷ versions))
   go true e rest =
-      let next = ap (named page) (live_next live v versions true e) in
-      let none : dead_pages live page v ≡ 0 = ap (λ t. cond t 0 (occurs page v.content.pages)) e in
+      let next = ap (named s) (live_next live v versions true e) in
+      let none : dead_sheaves live s v ≡ 0 = ap (λ t. cond t 0 (occurs s v.content.sheaves)) e in
       omega arith
   go false e rest =
-      let next = ap (named page) (live_next live v versions false e) in
-      let all : dead_pages live page v ≡ occurs page v.content.pages = ap (λ t. cond t 0 (occurs page v.content.pages)) e in
+      let next = ap (named s) (live_next live v versions false e) in
+      let all : dead_sheaves live s v ≡ occurs s v.content.sheaves = ap (λ t. cond t 0 (occurs s v.content.sheaves)) e in
       omega arith
 
-contents_live : (a : List Sheet) (live : List ℕ) (versions : List Stored) → AreContents a versions → AreContents a (live_versions live versions)
+contents_live : (a : Stock) (live : List ℕ) (versions : List Stored) → AreContents a versions → AreContents a (live_versions live versions)
 contents_live a live [] are = tt
 contents_live a live (v ∷ versions) are = go (is_live live v) refl (contents_live a live versions are.1) where
   go : (test : Bool) → is_live live v ≡ test → AreContents a (live_versions live versions) → AreContents a (live_versions live (v ∷ versions))
@@ -212,7 +214,7 @@ left_snaps p (s ∷ snaps) bytes some = go (p s) refl (left_snaps p snaps bytes)
   go true e rest = rw e refl
   go false e rest = let here = rest (sym (ap (λ t. t || list_any p snaps) e) ∙ some) in rw e here
 
-kept_live : (a : List Sheet) (live : List ℕ) (versions : List Stored)
+kept_live : (a : Stock) (live : List ℕ) (versions : List Stored)
     → kept_by (map (kept_in a) (live_versions live versions)) ≡ kept_by (map (live_part live) (map (kept_in a) versions))
 kept_live a live [] = refl
 kept_live a live (v ∷ versions) = go (is_live live v) refl (kept_live a live versions) where
@@ -227,7 +229,7 @@ kept_live a live (v ∷ versions) = go (is_live live v) refl (kept_live a live v
       ∙ rest
       ∙ sym (ap (λ snaps. keep_each (bytes_in a v.content) snaps (kept_by (map (live_part live) (map (kept_in a) versions)))) (dropped_snaps (is_listed live) v.snaps e))
 
-used_live : (a : List Sheet) (live : List ℕ) (versions : List Stored) → AreUsed (map (kept_in a) (live_versions live versions))
+used_live : (a : Stock) (live : List ℕ) (versions : List Stored) → AreUsed (map (kept_in a) (live_versions live versions))
 used_live a live [] = refl
 used_live a live (v ∷ versions) = go (is_live live v) refl (used_live a live versions) where
   go : (test : Bool) → is_live live v ≡ test → AreUsed (map (kept_in a) (live_versions live versions))
@@ -237,16 +239,42 @@ used_live a live (v ∷ versions) = go (is_live live v) refl (used_live a live v
       (let first = left_snaps (is_listed live) v.snaps (bytes_in a v.content) e in rw first rest)
   go false e rest = subst (λ xs. AreUsed (map (kept_in a) xs)) (sym (live_next live v versions false e)) rest
 
-pub trimmed_paged : (live : List ℕ) (a b : List Sheet) (head : Option Listed) (seq : ℕ) (versions items : List Stored) (o : Mapped)
-    → IsPaged a head seq versions → ((page : ℕ) → count_at b page + dead_named live page versions ≡ count_at a page)
-    → ((page : ℕ) → 0 < count_at b page → bytes_at b page ≡ bytes_at a page) → items ≡ live_versions live versions
+abbrev no_bytes : Option (List ℕ)
+no_bytes = None
+
+same_none : (b : Bool) → cond b no_bytes no_bytes ≡ no_bytes
+same_none true = refl
+same_none false = refl
+
+newest_live : (a : Stock) (live : List ℕ) (versions : List Stored) → AreNewest (map (kept_in a) versions)
+    → AreNewest (map (kept_in a) (live_versions live versions))
+newest_live a live [] newest = tt
+newest_live a live (v ∷ versions) newest = go (is_live live v) refl (newest_live a live versions newest.1) where
+  go : (test : Bool) → is_live live v ≡ test → AreNewest (map (kept_in a) (live_versions live versions))
+      → AreNewest (map (kept_in a) (live_versions live (v ∷ versions)))
+  go true e rest =
+      subst (λ xs. AreNewest (map (kept_in a) xs)) (sym (live_next live v versions true e)) (
+        λ snap listed.
+            let both : (is_listed live snap && is_listed v.snaps snap) ≡ true = sym (is_listed-filter (is_listed live) v.snaps snap) ∙ listed in
+            let mine : is_listed v.snaps snap ≡ true = grind arith in
+            ap (λ k. get k snap) (kept_live a live versions)
+            ∙ get-live_versions live (map (kept_in a) versions) snap
+            ∙ ap (λ k. cond (is_listed live snap) k None) (newest.0 snap mine)
+            ∙ same_none (is_listed live snap),
+        rest,
+      )
+  go false e rest = subst (λ xs. AreNewest (map (kept_in a) xs)) (sym (live_next live v versions false e)) rest
+
+pub trimmed_paged : (live : List ℕ) (a b : Stock) (head : Option Listed) (seq : ℕ) (versions items : List Stored) (o : Mapped)
+    → IsPaged a head seq versions → ((s : ℕ) → count_at b.sheaves s + dead_named live s versions ≡ count_at a.sheaves s)
+    → ((s : ℕ) → 0 < count_at b.sheaves s → IsSame a b s) → items ≡ live_versions live versions
     → value_of (bytes_of a head) seq (map (kept_in a) versions) ≡ o
     → IsPaged b head seq items × (value_of (bytes_of b head) seq (map (kept_in b) items) ≡ mapped_trim live o)
 trimmed_paged live a b head seq versions items o paged counts kept is value =
-    let count : (page : ℕ) → count_at b page ≡ occurs page (pages_of head) + named page (live_versions live versions) =
-    λ page. let x = paged.shared.counts page in let y = counts page in let z = named_live live page versions in omega arith in
-    let head_now = framed_head a b head (λ page there. kept page (let x = count page in omega arith)) paged.shared.head_is in
-    let frame = framed_versions a b (live_versions live versions) (λ page there. kept page (let x = count page in omega arith))
+    let count : (s : ℕ) → count_at b.sheaves s ≡ occurs s (sheaves_of head) + named s (live_versions live versions) =
+    λ s. let x = paged.shared.counts s in let y = counts s in let z = named_live live s versions in omega arith in
+    let head_now = framed_head a b head (λ s there. kept s (let x = count s in omega arith)) paged.shared.head_is in
+    let frame = framed_versions a b (live_versions live versions) (λ s there. kept s (let x = count s in omega arith))
     (contents_live a live versions paged.shared.contents) in
     let maps : map (kept_in b) items ≡ map (kept_in a) (live_versions live versions) = ap (map (kept_in b)) is ∙ frame.1 in
     let trimmed : kept_by (map (kept_in a) (live_versions live versions)) ≡ retain_keys (kept_by (map (kept_in a) versions)) (is_listed live) =
@@ -255,7 +283,8 @@ trimmed_paged live a b head seq versions items o paged counts kept is value =
         shared = subst (AreShared b head) (sym is) (record { counts = count; head_is = head_now.0; contents = frame.0 });
         sound =
             subst (IsSound seq) (sym maps)
-            (sound_trimmed live seq (map (kept_in a) versions) (map (kept_in a) (live_versions live versions)) trimmed (used_live a live versions) paged.sound);
+            (sound_trimmed live seq (map (kept_in a) versions) (map (kept_in a) (live_versions live versions)) trimmed (used_live a live versions)
+            (newest_live a live versions paged.sound.newest) paged.sound);
       },
       ap (λ held. value_of held seq (map (kept_in b) items)) head_now.1
           ∙ ap (value_of (bytes_of a head) seq) maps
@@ -265,7 +294,7 @@ trimmed_paged live a b head seq versions items o paged counts kept is value =
 
 -- ---- what is shown
 
-found_same : (a : List Sheet) (snap : ℕ) (versions : List Stored)
+found_same : (a : Stock) (snap : ℕ) (versions : List Stored)
     → option_map (bytes_in a) (option_map (λ (v : Stored). v.content) (find (λ (v : Stored). is_listed v.snaps snap) versions))
     ≡ option_map (λ (k : Kept). k.bytes) (find (λ (k : Kept). is_listed k.snaps snap) (map (kept_in a) versions))
 found_same a snap [] = refl
@@ -278,12 +307,12 @@ found_same a snap (v ∷ versions) = one (is_listed v.snaps snap) (found_same a 
   one true rest = refl
   one false rest = rest
 
-found_bytes : (a : List Sheet) (snap : ℕ) (versions : List Stored)
+found_bytes : (a : Stock) (snap : ℕ) (versions : List Stored)
     → option_map (bytes_in a) (option_map (λ (v : Stored). v.content) (find (λ (v : Stored). is_listed v.snaps snap) versions))
     ≡ get (kept_by (map (kept_in a) versions)) snap
 found_bytes a snap versions = found_same a snap versions ∙ sym (get_kept_by (map (kept_in a) versions) snap)
 
-pub shown_is : (a : List Sheet) (head : Option Listed) (seq : ℕ) (versions : List Stored) (snap : Option ℕ) (o : Mapped) (found : Option Listed)
+pub shown_is : (a : Stock) (head : Option Listed) (seq : ℕ) (versions : List Stored) (snap : Option ℕ) (o : Mapped) (found : Option Listed)
     → value_of (bytes_of a head) seq (map (kept_in a) versions) ≡ o → found ≡ view_in head seq versions snap
     → view (looked o) snap ≡ bytes_of a found
 shown_is a head seq versions None o found value is = ap (λ (x : Mapped). view (looked x) None) (sym value) ∙ sym (ap (bytes_of a) is)
@@ -293,31 +322,31 @@ shown_is a head seq versions (Some snap) o found value is =
       go true e = rw e refl
       go false e = rw e (sym (found_bytes a snap versions))
 
-found_sound : (a : List Sheet) (snap : ℕ) (versions : List Stored) (c : Listed)
+found_sound : (a : Stock) (snap : ℕ) (versions : List Stored) (c : Listed)
     → option_map (λ (v : Stored). v.content) (find (λ (v : Stored). is_listed v.snaps snap) versions) ≡ Some c
-    → AreNamed a versions → AreContents a versions → AreCounted a c.pages × IsContent a c
+    → AreNamed a versions → AreContents a versions → AreCounted a.sheaves c.sheaves × IsContent a c
 found_sound a snap [] c is names are = cc
 found_sound a snap (v ∷ versions) c is names are =
     go (is_listed v.snaps snap) is
-    (λ later. found_sound a snap versions c later (record { each = λ page. let most = names.each page in omega arith }) are.1) where
+    (λ later. found_sound a snap versions c later (record { each = λ s. let most = names.each s in omega arith }) are.1) where
       go : (test : Bool)
           → option_map (λ (v : Stored). v.content) (cond test (Some v) (find (λ (v : Stored). is_listed v.snaps snap) versions)) ≡ Some c
-          → (option_map (λ (v : Stored). v.content) (find (λ (v : Stored). is_listed v.snaps snap) versions) ≡ Some c → AreCounted a c.pages × IsContent a c)
-          → AreCounted a c.pages × IsContent a c
+          → (option_map (λ (v : Stored). v.content) (find (λ (v : Stored). is_listed v.snaps snap) versions) ≡ Some c → AreCounted a.sheaves c.sheaves × IsContent a c)
+          → AreCounted a.sheaves c.sheaves × IsContent a c
       go true is rest =
           let same : v.content ≡ c = cc in
-          (subst (λ (x : Listed). AreCounted a x.pages) same (record { each = λ page. let most = names.each page in omega arith }), subst (IsContent a) same are.0)
+          (subst (λ (x : Listed). AreCounted a.sheaves x.sheaves) same (record { each = λ s. let most = names.each s in omega arith }), subst (IsContent a) same are.0)
       go false is rest = rest is
 
-pub shown_sound : (a : List Sheet) (head : Option Listed) (seq : ℕ) (versions : List Stored) (snap : Option ℕ) (c : Listed)
-    → Some c ≡ view_in head seq versions snap → IsPaged a head seq versions → AreCounted a c.pages × IsContent a c
+pub shown_sound : (a : Stock) (head : Option Listed) (seq : ℕ) (versions : List Stored) (snap : Option ℕ) (c : Listed)
+    → Some c ≡ view_in head seq versions snap → IsPaged a head seq versions → AreCounted a.sheaves c.sheaves × IsContent a c
 shown_sound a head seq versions None c is paged =
-    (subst (λ h. AreCounted a (pages_of h)) (sym is) (head_counted a head versions paged.shared), subst (IsHead a) (sym is) paged.shared.head_is)
+    (subst (λ h. AreCounted a.sheaves (sheaves_of h)) (sym is) (head_counted a head versions paged.shared), subst (IsHead a) (sym is) paged.shared.head_is)
 shown_sound a head seq versions (Some snap) c is paged = go (ltb seq snap) refl is where
-  go : (test : Bool) → ltb seq snap ≡ test → Some c ≡ view_in head seq versions (Some snap) → AreCounted a c.pages × IsContent a c
+  go : (test : Bool) → ltb seq snap ≡ test → Some c ≡ view_in head seq versions (Some snap) → AreCounted a.sheaves c.sheaves × IsContent a c
   go true e is =
       let here : Some c ≡ head = is ∙ ap (λ t. cond t head (option_map (λ (v : Stored). v.content) (find (λ (v : Stored). is_listed v.snaps snap) versions))) e in
-      (subst (λ h. AreCounted a (pages_of h)) (sym here) (head_counted a head versions paged.shared), subst (IsHead a) (sym here) paged.shared.head_is)
+      (subst (λ h. AreCounted a.sheaves (sheaves_of h)) (sym here) (head_counted a head versions paged.shared), subst (IsHead a) (sym here) paged.shared.head_is)
   go false e is =
       found_sound a snap versions c
       (sym (is ∙ ap (λ t. cond t head (option_map (λ (v : Stored). v.content) (find (λ (v : Stored). is_listed v.snaps snap) versions))) e))
@@ -356,25 +385,79 @@ at_most (s ∷ sheets) pages few =
     omega arith
 
 -- the pages of what is shown
-pub pages_least : (a : List Sheet) (head : Option Listed) (seq : ℕ) (versions : List Stored) (o : Mapped) (snap : Option ℕ) (bytes : List ℕ)
-    → value_of (bytes_of a head) seq (map (kept_in a) versions) ≡ o → IsPaged a head seq versions → view (looked o) snap ≡ Some bytes
-    → pages_for (length bytes) ≤ in_use a
-pages_least a head seq versions o snap bytes value paged some =
+pub pages_least : (a : Stock) (head : Option Listed) (seq : ℕ) (versions : List Stored) (o : Mapped) (snap : Option ℕ) (bytes : List ℕ)
+    → value_of (bytes_of a head) seq (map (kept_in a) versions) ≡ o → AreStocked a → IsPaged a head seq versions → view (looked o) snap ≡ Some bytes
+    → pages_for (length bytes) ≤ in_use a.sheets
+pages_least a head seq versions o snap bytes value stocked paged some =
     go (view_in head seq versions snap) refl where
-      go : (found : Option Listed) → found ≡ view_in head seq versions snap → pages_for (length bytes) ≤ in_use a
+      go : (found : Option Listed) → found ≡ view_in head seq versions snap → pages_for (length bytes) ≤ in_use a.sheets
       go None is = let clash : Some bytes ≡ None = sym some ∙ shown_is a head seq versions snap o None value is in cc
       go (Some c) is =
           let same : bytes ≡ bytes_in a c = let e : Some bytes ≡ Some (bytes_in a c) = sym some ∙ shown_is a head seq versions snap o (Some c) value is in cc in
           let sound = shown_sound a head seq versions snap c is paged in
           let long : length bytes ≡ c.len = ap length same ∙ length-bytes_in a c in
-          let fits : length c.pages ≡ pages_for c.len = sound.1.fits in
-          let most = at_most a c.pages (λ page. let x = sound.0.each page in let y = sound.1.apart.each page in omega arith) in
-          subst (λ n. pages_for n ≤ in_use a) (sym long) (subst (λ n. n ≤ in_use a) fits most)
+          let fits : pages_for c.len ≤ length (pages_on a c) = sound.1.fits in
+          let counted = counted_pages a c.sheaves stocked sound.1.apart in
+          let most = at_most a.sheets (pages_on a c) (λ page. let x = counted.each page in let y = sound.1.apart.each page in omega arith) in
+          subst (λ n. pages_for n ≤ in_use a.sheets) (sym long) (omega arith)
 
-pub paged_blank : (sheets : List Sheet) (versions : List Stored) → sheets ≡ [] → versions ≡ [] → IsPaged sheets None 0 versions
-paged_blank sheets versions e f =
-    subst (λ xs. IsPaged xs None 0 versions) (sym e)
-    (subst (IsPaged [] None 0) (sym f) (record {
-      shared = record { counts = λ page. omega arith; head_is = tt; contents = tt };
+-- ---- no page where there is no byte
+
+no_sheaves_in : (a : Stock) (c : Listed) → IsContent a c → bytes_in a c ≡ [] → c.sheaves ≡ []
+no_sheaves_in a c content none =
+    let long : c.len ≡ 0 = sym (length-bytes_in a c) ∙ ap length none in
+    let held = content.held in
+    empty_list c.sheaves (omega arith)
+
+unnamed : (a : Stock) (versions : List Stored) (s : ℕ) → AreContents a versions → AreEmpty (map (kept_in a) versions) → named s versions ≡ 0
+unnamed a [] s are empty = refl
+unnamed a (v ∷ versions) s are empty =
+    let none = ap (occurs s) (no_sheaves_in a v.content are.0 empty.0) in
+    let rest = unnamed a versions s are.1 empty.1 in
+    omega arith
+
+head_unnamed : (a : Stock) (head : Option Listed) (s : ℕ) → IsHead a head → ((bytes : List ℕ) → bytes_of a head ≡ Some bytes → bytes ≡ [])
+    → occurs s (sheaves_of head) ≡ 0
+head_unnamed a None s is empty = refl
+head_unnamed a (Some c) s is empty = ap (occurs s) (no_sheaves_in a c is (empty (bytes_in a c) refl))
+
+named_nowhere : (sheaves : List Sheet) (x : ℕ) → ((s : ℕ) → bytes_at sheaves s ≡ []) → named_in x sheaves ≡ 0
+named_nowhere [] x none = refl
+named_nowhere (t ∷ sheaves) x none =
+    let first = ap (occurs x) (none 0) in let rest = named_nowhere sheaves x (λ s. none (suc s)) in omega arith
+
+unused : (sheets : List Sheet) → ((x : ℕ) → count_at sheets x ≡ 0) → in_use sheets ≡ 0
+unused [] none = refl
+unused (t ∷ sheets) none = let first = none 0 in let rest = unused sheets (λ x. none (suc x)) in omega arith
+
+pub pages_none : (a : Stock) (head : Option Listed) (seq : ℕ) (versions : List Stored) (o : Mapped)
+    → value_of (bytes_of a head) seq (map (kept_in a) versions) ≡ o → AreStocked a → IsPaged a head seq versions
+    → ((snap : Option ℕ) (bytes : List ℕ) → view (looked o) snap ≡ Some bytes → bytes ≡ []) → in_use a.sheets ≡ 0
+pages_none a head seq versions o value stocked paged empty =
+    let first : (bytes : List ℕ) → bytes_of a head ≡ Some bytes → bytes ≡ [] =
+    λ bytes is. empty None bytes (ap (λ (x : Mapped). x.head) (sym value) ∙ is) in
+    let kept : (snap : ℕ) (bytes : List ℕ) → get (kept_by (map (kept_in a) versions)) snap ≡ Some bytes → bytes ≡ [] =
+    λ snap bytes is. empty (Some snap) bytes (ap (λ (x : Mapped). view (looked x) (Some snap)) (sym value) ∙ seen snap bytes is (ltb seq snap) refl) in
+    let all = kept_empty (map (kept_in a) versions) paged.sound.used paged.sound.newest kept in
+    unused a.sheets (λ x.
+    stocked.counts x
+    ∙ named_nowhere a.sheaves x (λ s.
+    stocked.free s
+    (let count = paged.shared.counts s in
+    let here = head_unnamed a head s paged.shared.head_is first in
+    let rest = unnamed a versions s paged.shared.contents all in
+    omega arith)))
+  where
+    seen : (snap : ℕ) (bytes : List ℕ) → get (kept_by (map (kept_in a) versions)) snap ≡ Some bytes → (test : Bool) → ltb seq snap ≡ test
+        → view (looked (value_of (bytes_of a head) seq (map (kept_in a) versions))) (Some snap) ≡ Some bytes
+    seen snap bytes is true e = let clash : None ≡ Some bytes = sym (paged.sound.tidy.above snap (grind arith)) ∙ is in cc
+    seen snap bytes is false e = rw e is
+
+pub paged_blank : (stock : Stock) (versions : List Stored) → stock ≡ record { sheaves = []; sheets = [] } → versions ≡ []
+    → IsPaged stock None 0 versions
+paged_blank stock versions e f =
+    subst (λ x. IsPaged x None 0 versions) (sym e)
+    (subst (IsPaged (record { sheaves = []; sheets = [] }) None 0) (sym f) (record {
+      shared = record { counts = λ s. omega arith; head_is = tt; contents = tt };
       sound = sound_blank [] refl;
     }))

@@ -2,24 +2,24 @@
 use Rattle.std.proofs.Common.{◌≡◌, ◌≢◌, ℕ, ◌+◌, ◌-◌, ◌/◌, ◌%◌, ◌<◌, ◌≤◌, Bool, true, false, cond, eqb, ltb, List, [], ◌∷◌, ◌++◌, length, get_or, set, take, drop, replicate, min, ◌*◌, length-drop, length-take, refl, sym, ap, ◌∙◌, subst, inl, inr, arith}
 use Rattle.std.specs.Prelude.{zero, suc}
 use Rattle.std.proofs.lemmas.Bool.{cases_lt, cases_eq}
-use Rattle.std.proofs.lemmas.List.{get_or_past, get_or_append_left, get_or-set_same, get_or-set_other, get_or_push, drop_more, get_or_read, get_or-drop, get_or-take, get_or-replicate, length_push, length-replicate, length-set, places}
+use Rattle.std.proofs.lemmas.List.{get_or_past, get_or_append_left, get_or-set_same, get_or-set_other, get_or_push, drop_more, get_or_read, get_or-drop, get_or-replicate, length_push, length-replicate, length-set, places}
 use Rattle.std.proofs.lemmas.List.FromFn.{fill_by_all, length-map-range_with_len, get_or-map-range_with_len}
 use Rattle.std.proofs.lemmas.List.Folds.{list_any_at}
 use Rattle.std.specs.List.{list_any}
 use borrow.Rule.Slice.PartMut.{put_mid}
 use Rattle.rbd_object.specs.Sheets.{Sheet, Changed, sheet_at, count_at, bytes_at, in_use, released}
 use Rattle.rbd_object.specs.Contents.{is_within, window}
-use Rattle.rbd_object.specs.Paging.{occurs, bytes_on, byte_at, AreCounted, IsReady, IsChanged, IsWritten, IsZeroed, Moved, Prepared}
+use Rattle.rbd_object.specs.Paging.{occurs, bytes_on, byte_at, AreCounted, IsReady, IsChanged, Moved, Prepared}
 
 -- ---- how often a list names a page
 
-occurs-set : (pages : List ℕ) (k q page : ℕ) → k < length pages
+pub occurs-set : (pages : List ℕ) (k q page : ℕ) → k < length pages
     → occurs page (set pages k q) + cond (eqb (get_or pages k 0) page) 1 0 ≡ occurs page pages + cond (eqb q page) 1 0
 occurs-set [] k q page below = omega arith
 occurs-set (p ∷ pages) zero q page below = omega arith
 occurs-set (p ∷ pages) (suc k) q page below = let rest = occurs-set pages k q page (omega arith) in omega arith
 
-occurs-push : (pages : List ℕ) (q page : ℕ) → occurs page (pages ++ q ∷ []) ≡ occurs page pages + cond (eqb q page) 1 0
+pub occurs-push : (pages : List ℕ) (q page : ℕ) → occurs page (pages ++ q ∷ []) ≡ occurs page pages + cond (eqb q page) 1 0
 occurs-push [] q page = omega arith
 occurs-push (p ∷ pages) q page = let rest = occurs-push pages q page in omega arith
 
@@ -55,6 +55,22 @@ other_place sheets pages k m counted below there apart alone same = elim (cases_
       let most = counted.each (get_or pages k 0) in omega arith
 ]
 
+-- whether k is a place of the list or not
+pub bytes_on_within : (sheets : List Sheet) (pages : List ℕ) (k : ℕ) → k < length pages → bytes_on sheets pages k ≡ bytes_at sheets (get_or pages k 0)
+bytes_on_within sheets pages k below = grind arith
+
+pub bytes_on_past : (sheets : List Sheet) (pages : List ℕ) (k : ℕ) → length pages ≤ k → bytes_on sheets pages k ≡ []
+bytes_on_past sheets pages k past = grind arith
+
+-- a page that keeps its bytes, or one that isn't there
+pub framed_byte : (a b : List Sheet) (pages : List ℕ) (k : ℕ) → ((page : ℕ) → 0 < occurs page pages → bytes_at b page ≡ bytes_at a page)
+    → bytes_on b pages k ≡ bytes_on a pages k
+framed_byte a b pages k same = elim (cases_lt k (length pages)) [
+  | inl there ↦
+      bytes_on_within b pages k there ∙ same (get_or pages k 0) (occurs-at pages k there) ∙ sym (bytes_on_within a pages k there)
+  | inr past ↦ bytes_on_past b pages k past ∙ sym (bytes_on_past a pages k past)
+]
+
 -- ---- the relations are kept by doing nothing, and by one step after another
 
 pub moved_refl : (sheets : List Sheet) (pages : List ℕ) → Moved sheets pages sheets pages
@@ -70,7 +86,7 @@ pub prepared_refl : (sheets : List Sheet) (pages : List ℕ) → Prepared sheets
 prepared_refl sheets pages = record {
   moved = moved_refl sheets pages;
   bytes = λ k j. refl;
-  apart = λ apart. apart;
+  apart = λ page others counted once. once;
   longer = omega arith;
   ready = λ k byte ready. ready;
 }
@@ -79,7 +95,9 @@ pub prepared_trans : (a b c : List Sheet) (p q r : List ℕ) → Prepared a p b 
 prepared_trans a b c p q r first second = record {
   moved = moved_trans a b c p q r first.moved second.moved;
   bytes = λ k j. second.bytes k j ∙ first.bytes k j;
-  apart = λ apart. second.apart (first.apart apart);
+  apart = λ page others counted once.
+      let x = first.moved.counts page in
+      second.apart page others (omega arith) (first.apart page others counted once);
   longer = let x = first.longer in let y = second.longer in omega arith;
   ready = λ k byte ready. second.ready k byte (first.ready k byte ready);
 }
@@ -116,24 +134,18 @@ copied a b c p q more free first new second less =
       others = λ j x y. second.others j x ∙ first.others j y;
     }
 
--- whether k is a place of the list or not
-pub bytes_on_within : (sheets : List Sheet) (pages : List ℕ) (k : ℕ) → k < length pages → bytes_on sheets pages k ≡ bytes_at sheets (get_or pages k 0)
-bytes_on_within sheets pages k below = grind arith
-
-pub bytes_on_past : (sheets : List Sheet) (pages : List ℕ) (k : ℕ) → length pages ≤ k → bytes_on sheets pages k ≡ []
-bytes_on_past sheets pages k past = grind arith
-
 -- what the list doesn't name stands at no place of it
 not_named : (sheets : List Sheet) (pages : List ℕ) (q k : ℕ) → AreCounted sheets pages → count_at sheets q ≡ 0 → k < length pages
     → get_or pages k 0 ≢ q
 not_named sheets pages q k counted free below same =
     let named = counted_at sheets pages k counted below in let none = ap (count_at sheets) same in omega arith
 
-apart_set : (pages : List ℕ) (k q x : ℕ) → k < length pages → occurs x pages ≤ 1 → occurs q pages ≤ 0 → occurs x (set pages k q) ≤ 1
-apart_set pages k q x below most none =
+apart_set : (a : List Sheet) (pages : List ℕ) (k q x others : ℕ) → k < length pages → count_at a q ≡ 0
+    → occurs x pages + others ≤ count_at a x → occurs x pages + others ≤ 1 → occurs x (set pages k q) + others ≤ 1
+apart_set a pages k q x others below free counted once =
     let names = occurs-set pages k q x below in
     elim (cases_eq x q) [
-      | inl same ↦ let here : occurs x pages ≤ 0 = rw same none in grind arith
+      | inl same ↦ let none : count_at a x ≡ 0 = ap (count_at a) same ∙ free in grind arith
       | inr other ↦ grind (arith, other)
     ]
 
@@ -176,6 +188,19 @@ copied_bytes a c pages k q m counted below copied =
           ∙ sym (bytes_on_within a pages m there)
     ]
 
+-- each place of the list has the same bytes
+pub copied_at : (a b c : List Sheet) (pages : List ℕ) (k q m : ℕ) → AreCounted a pages → k < length pages
+    → 1 < count_at a (get_or pages k 0) → count_at a q ≡ 0 → Changed q a b
+    → sheet_at b q ≡ record { count = 1; bytes = bytes_at a (get_or pages k 0) }
+    → Changed (get_or pages k 0) b c → sheet_at c (get_or pages k 0) ≡ released (sheet_at b (get_or pages k 0)) → m < length pages
+    → bytes_at c (get_or (set pages k q) m 0) ≡ bytes_at a (get_or pages m 0)
+copied_at a b c pages k q m counted below more free first new second less there =
+    copied_place a c pages k q m counted below there (copied a b c (get_or pages k 0) q more free first new second less)
+
+pub copied_one : (a b c : List Sheet) (p q : ℕ) → 1 < count_at a p → count_at a q ≡ 0 → Changed q a b
+    → sheet_at b q ≡ record { count = 1; bytes = bytes_at a p } → Changed p b c → sheet_at c p ≡ released (sheet_at b p) → count_at c q ≡ 1
+copied_one a b c p q more free first new second less = (copied a b c p q more free first new second less).one
+
 -- a ready page is ready where its page is the same
 same_ready : (a c : List Sheet) (p q : List ℕ) (m byte x : ℕ) → m < length q → get_or q m 0 ≡ x → get_or p m 0 ≡ x
     → sheet_at c x ≡ sheet_at a x → IsReady a p m byte → IsReady c q m byte
@@ -213,7 +238,7 @@ prepared_copy a b c pages k q counted below more free first new second less =
         others = λ x held. copied_same a c (get_or pages k 0) q x copied (λ e. let none = ap (count_at a) e in omega arith);
       };
       bytes = λ m j. ap (λ bytes. get_or bytes j 0) (copied_bytes a c pages k q m counted below copied);
-      apart = λ apart. record { each = λ x. apart_set pages k q x below (apart.each x) (let most = counted.each q in omega arith) };
+      apart = λ x others counted once. apart_set a pages k q x others below free counted once;
       longer = let l = length-set pages k q in omega arith;
       ready = λ m byte ready. copied_ready a c pages k q m byte counted below more copied ready;
     }
@@ -268,13 +293,12 @@ prepared_add a b pages q counted free change new = record {
     others = λ x held. ap (λ (s : Sheet). s.bytes) (change.others x (λ e. let none = ap (count_at a) e in omega arith));
   };
   bytes = λ k j. ap (λ bytes. get_or bytes j 0) (added_bytes a b pages q k counted free change new);
-  apart = λ apart. record {
-    each = λ x. let names = occurs-push pages q x in let most = apart.each x in let none = counted.each q in
-        elim (cases_eq x q) [
-          | inl same ↦ let here : occurs x pages ≤ 0 = rw same (omega arith) in grind arith
-          | inr other ↦ grind (arith, other)
-        ];
-  };
+  apart = λ x others counted once.
+      let names = occurs-push pages q x in
+      elim (cases_eq x q) [
+        | inl same ↦ let none : count_at a x ≡ 0 = ap (count_at a) same ∙ free in grind arith
+        | inr other ↦ grind (arith, other)
+      ];
   longer = let l = length_push pages q in omega arith;
   ready = λ m byte ready.
       let l = length_push pages q in let there = ready.there in
@@ -284,7 +308,7 @@ prepared_add a b pages q counted free change new = record {
 
 -- ---- a page is changed in its place
 
-count_kept : (a b : List Sheet) (p x : ℕ) → Changed p a b → count_at b p ≡ count_at a p → count_at b x ≡ count_at a x
+pub count_kept : (a b : List Sheet) (p x : ℕ) → Changed p a b → count_at b p ≡ count_at a p → count_at b x ≡ count_at a x
 count_kept a b p x change same = elim (cases_eq x p) [
   | inl here ↦ rw here same
   | inr apart ↦ ap (λ (s : Sheet). s.count) (change.others x apart)
@@ -363,7 +387,7 @@ pub prepared_changed : (a b : List Sheet) (pages : List ℕ) → IsChanged pages
 prepared_changed a b pages changed same = record {
   moved = moved_changed a b pages changed;
   bytes = same;
-  apart = λ apart. apart;
+  apart = λ page others counted once. once;
   longer = omega arith;
   ready = changed.ready;
 }
@@ -426,136 +450,6 @@ value_in_part bytes at k j start end s e below here some =
 
 pub zeros_window : (at count : ℕ) → replicate count 0 ≡ window [] at count
 zeros_window at count = fill_by_all (λ i. get_or [] (at + i) 0) _ count 0 (length-replicate count 0) (λ k h. get_or-replicate count k 0 0 h)
-
--- ---- the loops that write and zero
-
--- what is left of a write: `rest` from byte `next` on
-pub record IsWriting (pages : List ℕ) (at : ℕ) (bytes : List ℕ) (old : List Sheet) (next : ℕ) (rest : List ℕ) (new : List Sheet) : Type 0 where
-  pub changed : IsChanged pages old new
-  pub ready : (j : ℕ) → j < length rest → IsReady new pages ((next + j) / 4096) (get_or rest j 0)
-  pub left : (i : ℕ) → cond (is_within next (length rest) i) (get_or rest (i - next) 0) (byte_at new pages i)
-      ≡ cond (is_within at (length bytes) i) (get_or bytes (i - at) 0) (byte_at old pages i)
-  pub within : next + length rest ≤ 33554432
-
-pub record IsZeroing (pages : List ℕ) (at len : ℕ) (old : List Sheet) (next left : ℕ) (new : List Sheet) : Type 0 where
-  pub changed : IsChanged pages old new
-  pub ready : (j : ℕ) → j < left → IsReady new pages ((next + j) / 4096) 0
-  pub bytes : (i : ℕ) → cond (is_within next left i) 0 (byte_at new pages i) ≡ cond (is_within at len i) 0 (byte_at old pages i)
-  pub within : next + left ≤ 33554432
-
--- some of what is left, and the rest of it
-split_write : (next count i v : ℕ) (rest : List ℕ) → count ≤ length rest
-    → cond (is_within (next + count) (length (drop count rest)) i) (get_or (drop count rest) (i - (next + count)) 0)
-    (cond (is_within next count i) (get_or (take count rest) (i - next) 0) v)
-    ≡ cond (is_within next (length rest) i) (get_or rest (i - next) 0) v
-split_write next count i v rest few = elim (cases_lt i next) [
-  | inl before ↦ grind (arith, places)
-  | inr from ↦ elim (cases_lt i (next + count)) [
-    | inl first ↦ let is : get_or (take count rest) (i - next) 0 ≡ get_or rest (i - next) 0 = grind (arith, places) in grind (arith, is, length-drop count rest)
-    | inr later ↦ let is : get_or (drop count rest) (i - (next + count)) 0 ≡ get_or rest (i - next) 0 = grind (arith, places) in grind (arith, is, length-drop count rest)
-  ]
-]
-
-split_zero : (next count left i v : ℕ) → count ≤ left
-    → cond (is_within (next + count) (left - count) i) 0 (cond (is_within next count i) 0 v) ≡ cond (is_within next left i) 0 v
-split_zero next count left i v few = grind arith
-
-pub writing_begun : (pages : List ℕ) (at : ℕ) (bytes : List ℕ) (a : List Sheet)
-    → ((j : ℕ) → j < length bytes → IsReady a pages ((at + j) / 4096) (get_or bytes j 0)) → at + length bytes ≤ 33554432
-    → IsWriting pages at bytes a at bytes a
-writing_begun pages at bytes a ready within = record { changed = changed_refl a pages; ready = ready; left = λ i. refl; within = within }
-
-pub writing_done : (pages : List ℕ) (at : ℕ) (bytes : List ℕ) (old : List Sheet) (next : ℕ) (rest : List ℕ) (new : List Sheet)
-    → IsWriting pages at bytes old next rest new → length rest ≡ 0 → IsWritten pages at bytes old new
-writing_done pages at bytes old next rest new w none = record {
-  changed = w.changed;
-  bytes_are = λ i.
-      sym (ap (λ t. cond t (get_or rest (i - next) 0) (byte_at new pages i)) (let off : is_within next (length rest) i ≡ false = grind (arith, none) in off)) ∙ w.left i;
-}
-
--- the page where the rest begins
-pub begins : (pages : List ℕ) (a : List Sheet) (next byte : ℕ) → IsReady a pages ((next + 0) / 4096) byte → IsReady a pages (next / 4096) byte
-begins pages a next byte ready = subst (λ n. IsReady a pages (n / 4096) byte) (let same : next + 0 ≡ next = omega arith in same) ready
-
-pub stored_there : (pages : List ℕ) (at : ℕ) (bytes : List ℕ) (old : List Sheet) (next : ℕ) (rest : List ℕ) (new : List Sheet) (count k : ℕ)
-    → IsWriting pages at bytes old next rest new → count ≡ min (length rest) (4096 - next % 4096)
-    → get_or (take count rest) k 0 ≢ 0 → length (bytes_at new (get_or pages (next / 4096) 0)) ≡ 4096
-stored_there pages at bytes old next rest new count k w c some = elim (cases_lt k count) [
-  | inr past ↦ absurd (some (get_or_past (take count rest) k 0 (let l = length-take count rest in omega arith)))
-  | inl below ↦
-      let is : get_or (take count rest) k 0 ≡ get_or rest k 0 = get_or-take count rest k 0 below in
-      let same : (next + k) / 4096 ≡ next / 4096 = omega arith in
-      let ready = subst (λ m. IsReady new pages m (get_or rest k 0)) same (w.ready k (omega arith)) in
-      ready.stored (λ zero. some (is ∙ zero))
-]
-
-pub writing_more : (pages : List ℕ) (at : ℕ) (bytes : List ℕ) (old : List Sheet) (next : ℕ) (rest : List ℕ) (a b : List Sheet) (count : ℕ) (front back : List ℕ)
-    → IsWriting pages at bytes old next rest a → AreCounted old pages → 0 < length rest → count ≡ min (length rest) (4096 - next % 4096)
-    → front ≡ take count rest → back ≡ drop count rest
-    → Changed (get_or pages (next / 4096) 0) a b → count_at b (get_or pages (next / 4096) 0) ≡ count_at a (get_or pages (next / 4096) 0)
-    → length (bytes_at b (get_or pages (next / 4096) 0)) ≡ length (bytes_at a (get_or pages (next / 4096) 0))
-    → ((j : ℕ) → get_or (bytes_at b (get_or pages (next / 4096) 0)) j 0
-    ≡ cond (is_within (next % 4096) (length front) j) (get_or front (j - next % 4096) 0) (get_or (bytes_at a (get_or pages (next / 4096) 0)) j 0))
-    → IsWriting pages at bytes old (next + count) back b
-writing_more pages at bytes old next rest a b count front back w counted some c f r change counts lengths is =
-    let first = begins pages a next (get_or rest 0 0) (w.ready 0 some) in
-    let counted_a = counted_changed old a pages w.changed counted in
-    let long : length front ≡ count = ap length f ∙ length-take count rest ∙ omega arith in
-    let step = in_place a b pages (next / 4096) (get_or rest 0 0) first change counts (λ full. lengths ∙ full) in
-    let left_long : length (drop count rest) ≡ length rest - count = length-drop count rest in
-    record {
-      changed = changed_trans old a b pages w.changed step;
-      ready = λ j below.
-          let down : j < length rest - count = subst (λ n. j < n) (ap length r ∙ left_long) below in
-          let place : next + (count + j) ≡ next + count + j = omega arith in
-          let byte : get_or rest (count + j) 0 ≡ get_or back j 0 = sym (ap (λ xs. get_or xs j 0) r ∙ get_or-drop count rest j 0) in
-          subst (λ x. IsReady b pages ((next + count + j) / 4096) x) byte
-          (subst (λ n. IsReady b pages (n / 4096) (get_or rest (count + j) 0)) place (step.ready ((next + (count + j)) / 4096) (get_or rest (count + j) 0) (w.ready (count + j) (omega arith))));
-      left = λ i.
-          let one = changed_byte a b pages next count i (λ n. get_or (take count rest) n 0) counted_a first.there (omega arith) first.alone change
-          (λ j. is j ∙ ap (λ xs. cond (is_within (next % 4096) (length front) j) (get_or xs (j - next % 4096) 0) (get_or (bytes_at a (get_or pages (next / 4096) 0)) j 0)) f
-          ∙ ap (λ n. cond (is_within (next % 4096) n j) (get_or (take count rest) (j - next % 4096) 0) (get_or (bytes_at a (get_or pages (next / 4096) 0)) j 0)) long) in
-          ap (λ xs. cond (is_within (next + count) (length xs) i) (get_or xs (i - (next + count)) 0) (byte_at b pages i)) r
-          ∙ ap (cond (is_within (next + count) (length (drop count rest)) i) (get_or (drop count rest) (i - (next + count)) 0)) one
-          ∙ split_write next count i (byte_at a pages i) rest (omega arith)
-          ∙ w.left i;
-      within = let l = ap length r ∙ left_long in let before = w.within in omega arith;
-    }
-
-pub zeroing_begun : (pages : List ℕ) (at len : ℕ) (a : List Sheet)
-    → ((j : ℕ) → j < len → IsReady a pages ((at + j) / 4096) 0) → at + len ≤ 33554432 → IsZeroing pages at len a at len a
-zeroing_begun pages at len a ready within = record { changed = changed_refl a pages; ready = ready; bytes = λ i. refl; within = within }
-
-pub zeroing_done : (pages : List ℕ) (at len : ℕ) (old : List Sheet) (next left : ℕ) (new : List Sheet)
-    → IsZeroing pages at len old next left new → left ≡ 0 → IsZeroed pages at len old new
-zeroing_done pages at len old next left new z none = record {
-  changed = z.changed;
-  bytes_are = λ i. sym (ap (λ t. cond t 0 (byte_at new pages i)) (let off : is_within next left i ≡ false = grind (arith, none) in off)) ∙ z.bytes i;
-}
-
-pub zeroing_more : (pages : List ℕ) (at len : ℕ) (old : List Sheet) (next left : ℕ) (a b : List Sheet) (count : ℕ)
-    → IsZeroing pages at len old next left a → AreCounted old pages → 0 < left → count ≡ min left (4096 - next % 4096)
-    → Changed (get_or pages (next / 4096) 0) a b → count_at b (get_or pages (next / 4096) 0) ≡ count_at a (get_or pages (next / 4096) 0)
-    → length (bytes_at b (get_or pages (next / 4096) 0)) ≡ length (bytes_at a (get_or pages (next / 4096) 0))
-    → ((j : ℕ) → get_or (bytes_at b (get_or pages (next / 4096) 0)) j 0
-    ≡ cond (is_within (next % 4096) count j) 0 (get_or (bytes_at a (get_or pages (next / 4096) 0)) j 0))
-    → IsZeroing pages at len old (next + count) (left - count) b
-zeroing_more pages at len old next left a b count z counted some c change counts lengths is =
-    let first = begins pages a next 0 (z.ready 0 some) in
-    let counted_a = counted_changed old a pages z.changed counted in
-    let step = in_place a b pages (next / 4096) 0 first change counts (λ full. lengths ∙ full) in
-    record {
-      changed = changed_trans old a b pages z.changed step;
-      ready = λ j below.
-          let place : next + (count + j) ≡ next + count + j = omega arith in
-          subst (λ n. IsReady b pages (n / 4096) 0) place (step.ready ((next + (count + j)) / 4096) 0 (z.ready (count + j) (omega arith)));
-      bytes = λ i.
-          ap (cond (is_within (next + count) (left - count) i) 0)
-          (changed_byte a b pages next count i (λ n. 0) counted_a first.there (omega arith) first.alone change is)
-          ∙ split_zero next count left i (byte_at a pages i) (omega arith)
-          ∙ z.bytes i;
-      within = let before = z.within in omega arith;
-    }
 
 -- ---- the last page is dropped
 

@@ -1,11 +1,12 @@
 -- Changes of the list of versions, and what holds of it after them.
-use Rattle.std.proofs.Common.{◌≡◌, ℕ, ◌≤◌, List, [], ◌∷◌, ◌++◌, filter, Option, Some, None, option_to_list, max, refl, sym, ap, ◌∙◌, subst, arith}
+use Rattle.std.proofs.Common.{◌≡◌, ℕ, ◌≤◌, true, ◌&&◌, List, [], ◌∷◌, ◌++◌, filter, Option, Some, None, option_to_list, max, refl, sym, ap, ◌∙◌, subst, arith}
 use Rattle.std.specs.Ordering.{nat_cmp}
 use Rattle.std.specs.FinMap.{get-empty, retain_keys}
 use Rattle.rbd_kinds.specs.declared.header.SnapContext.{SnapContext}
-use Rattle.rbd_object.specs.Kept.{AreUsed, Kept, is_listed, kept_by, new_version}
+use Rattle.rbd_object.specs.Kept.{AreNewest, AreUsed, Kept, is_listed, kept_by, new_version}
 use Rattle.rbd_object.specs.Versioned.{Versioned, IsTidy, is_due, change, trim}
 use Rattle.rbd_object.specs.Mapped.{IsSound, Mapped, value_of, looked, keep_head, due_snaps, mapped_change}
+use Rattle.rbd_object.proofs.KeptLemmas.{is_listed-filter}
 use Rattle.rbd_object.proofs.MappedLemmas.{looked-mapped_change, looked-mapped_trim}
 
 pub due_snaps_past : (c : SnapContext) (seq : ℕ) → c.seq ≤ seq → due_snaps c seq ≡ []
@@ -27,7 +28,7 @@ tidy_trim : (live : List ℕ) (o : Versioned) → IsTidy o → IsTidy (trim live
 tidy_trim live o tidy = record { above = λ snap h. grind (arith, tidy.above snap) }
 
 pub sound_blank : (versions : List Kept) → versions ≡ [] → IsSound 0 versions
-sound_blank versions e = rw e (record { tidy = record { above = λ snap h. get-empty nat_cmp snap }; used = refl })
+sound_blank versions e = rw e (record { tidy = record { above = λ snap h. get-empty nat_cmp snap }; used = refl; newest = tt })
 
 -- what a change makes of the fields
 pub changed_value : (c : SnapContext) (head new : Option (List ℕ)) (seq next : ℕ) (versions : List Kept) (version : Option Kept)
@@ -50,14 +51,30 @@ used_changed None snaps versions used = used
 used_changed (Some bytes) [] versions used = used
 used_changed (Some bytes) (s ∷ snaps) versions used = used
 
+-- the snapshots for which a change is the first have nothing kept
+newest_changed : (c : SnapContext) (head : Option (List ℕ)) (seq : ℕ) (versions : List Kept) → IsTidy (looked (value_of None seq versions))
+    → AreNewest versions → AreNewest (option_to_list (new_version head (due_snaps c seq)) ++ versions)
+newest_changed c None seq versions tidy newest = newest
+newest_changed c (Some bytes) seq versions tidy newest = go (due_snaps c seq) refl where
+  go : (snaps : List ℕ) → snaps ≡ due_snaps c seq → AreNewest (option_to_list (new_version (Some bytes) snaps) ++ versions)
+  go [] e = newest
+  go (s ∷ snaps) e = (
+    λ snap listed.
+        let due : (is_due seq c.seq snap && is_listed c.snaps snap) ≡ true =
+        sym (is_listed-filter (is_due seq c.seq) c.snaps snap) ∙ ap (λ xs. is_listed xs snap) (sym e) ∙ listed in
+        tidy.above snap (grind arith),
+    newest,
+  )
+
 pub sound_trimmed : (live : List ℕ) (seq : ℕ) (old new : List Kept)
-    → kept_by new ≡ retain_keys (kept_by old) (is_listed live) → AreUsed new → IsSound seq old → IsSound seq new
-sound_trimmed live seq old new kept used sound = record {
+    → kept_by new ≡ retain_keys (kept_by old) (is_listed live) → AreUsed new → AreNewest new → IsSound seq old → IsSound seq new
+sound_trimmed live seq old new kept used newest sound = record {
   tidy =
       subst IsTidy
       (sym (ap (λ k. looked (record { head = None; seq = seq; kept = k })) kept ∙ looked-mapped_trim live (value_of None seq old)))
       (tidy_trim live (looked (value_of None seq old)) sound.tidy);
   used = used;
+  newest = newest;
 }
 
 -- A change in the steps of the code: o is the value before, `snaps` were picked, `version` was made of the
@@ -73,4 +90,5 @@ sound_step c o head seq next snaps version versions room items is picked made sa
     rw (added, same) (record {
       tidy = tidy_changed c head seq next versions version (made ∙ due) n sound.tidy;
       used = rw made (used_changed head snaps versions sound.used);
+      newest = rw (made ∙ due) (newest_changed c head seq versions sound.tidy sound.newest);
     })

@@ -1,8 +1,9 @@
 -- Versions that are left by a trim, and the pages that go.
 use Rattle.std.proofs.Common.{◌≡◌, ℕ, ◌+◌, ◌<◌, ◌≤◌, Bool, true, false, cond, List, [], ◌∷◌, length, drop, get_or, sym, ap, ◌∙◌, subst, drop-cons, add-one, arith}
 use Rattle.std.specs.List.Retain.{RetainsInTurn}
-use Rattle.rbd_object.specs.Sheets.{Sheet, count_at}
-use Rattle.rbd_object.specs.Shared.{Stored, AreNamed, dead_named, dead_pages, is_live, live_stored, live_versions, named}
+use Rattle.rbd_object.specs.Sheaves.{Stock}
+use Rattle.rbd_object.specs.Sheets.{count_at}
+use Rattle.rbd_object.specs.Shared.{Stored, AreNamed, dead_named, dead_sheaves, is_live, live_stored, live_versions, named}
 use Rattle.rbd_object.specs.Paging.{occurs, AreCounted}
 
 pub live_next : (live : List ℕ) (v : Stored) (old : List Stored) (test : Bool) → is_live live v ≡ test
@@ -23,31 +24,31 @@ retained_live R live f says (v ∷ old) new r =
     ∙ sym (live_next live v old r.0 (sym said.2))
 
 abbrev pub no_version : Stored
-no_version = record { snaps = []; content = record { pages = []; len = 0 } }
+no_version = record { snaps = []; content = record { sheaves = []; len = 0 } }
 
 next_version : (versions : List Stored) (i : ℕ) → i < length versions → drop i versions ≡ get_or versions i no_version ∷ drop (i + 1) versions
 next_version versions i below = drop-cons versions i no_version below ∙ ap (λ n. get_or versions i no_version ∷ drop n versions) (sym (add-one i))
 
-pub counted_version : (a : List Sheet) (versions : List Stored) (i : ℕ) → i < length versions → AreNamed a (drop i versions)
-    → AreCounted a (get_or versions i no_version).content.pages
+pub counted_version : (a : Stock) (versions : List Stored) (i : ℕ) → i < length versions → AreNamed a (drop i versions)
+    → AreCounted a.sheaves (get_or versions i no_version).content.sheaves
 counted_version a versions i below names = record {
-  each = λ page. let sum = ap (named page) (next_version versions i below) in let most = names.each page in omega arith;
+  each = λ s. let sum = ap (named s) (next_version versions i below) in let most = names.each s in omega arith;
 }
 
-dead_few : (live : List ℕ) (page : ℕ) (v : Stored) → dead_pages live page v ≤ occurs page v.content.pages
-dead_few live page v = grind arith
+dead_few : (live : List ℕ) (s : ℕ) (v : Stored) → dead_sheaves live s v ≤ occurs s v.content.sheaves
+dead_few live s v = grind arith
 
-pub named_more : (a b : List Sheet) (live : List ℕ) (versions : List Stored) (i : ℕ) → i < length versions → AreNamed a (drop i versions)
-    → ((page : ℕ) → count_at b page + dead_pages live page (get_or versions i no_version) ≡ count_at a page) → AreNamed b (drop (i + 1) versions)
+pub named_more : (a b : Stock) (live : List ℕ) (versions : List Stored) (i : ℕ) → i < length versions → AreNamed a (drop i versions)
+    → ((s : ℕ) → count_at b.sheaves s + dead_sheaves live s (get_or versions i no_version) ≡ count_at a.sheaves s) → AreNamed b (drop (i + 1) versions)
 named_more a b live versions i below names counts = record {
-  each = λ page.
-      let sum = ap (named page) (next_version versions i below) in
-      let most = names.each page in
-      let few = dead_few live page (get_or versions i no_version) in
-      let count = counts page in
+  each = λ s.
+      let sum = ap (named s) (next_version versions i below) in
+      let most = names.each s in
+      let few = dead_few live s (get_or versions i no_version) in
+      let count = counts s in
       omega arith;
 }
 
-pub dead_next : (live : List ℕ) (versions : List Stored) (i page : ℕ) → i < length versions
-    → dead_named live page (drop i versions) ≡ dead_pages live page (get_or versions i no_version) + dead_named live page (drop (i + 1) versions)
-dead_next live versions i page below = ap (dead_named live page) (next_version versions i below)
+pub dead_next : (live : List ℕ) (versions : List Stored) (i s : ℕ) → i < length versions
+    → dead_named live s (drop i versions) ≡ dead_sheaves live s (get_or versions i no_version) + dead_named live s (drop (i + 1) versions)
+dead_next live versions i s below = ap (dead_named live s) (next_version versions i below)

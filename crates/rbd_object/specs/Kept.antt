@@ -1,5 +1,5 @@
 -- What an object keeps, as its list of versions has it.
-use Rattle.std.specs.Prelude.{ℕ, List, [], ◌∷◌, Bool, true, false, filter, ◌==◌, IsTrue, Option, Some, None}
+use Rattle.std.specs.Prelude.{◌≡◌, ℕ, List, [], ◌∷◌, Bool, true, false, filter, ◌==◌, IsTrue, Option, Some, None}
 use Rattle.std.specs.List.{list_any, list_all}
 use Rattle.std.specs.Ordering.{nat_cmp}
 use Rattle.std.specs.FinMap as map
@@ -42,3 +42,8 @@ is_used v = has_some v.snaps where
 
 abbrev pub AreUsed : List Kept → Type 0
 AreUsed versions = IsTrue (list_all is_used versions)
+
+-- what a version is kept for, no older one is
+abbrev pub AreNewest : List Kept → Type 0
+AreNewest [] = Unit {0}
+AreNewest (v ∷ versions) = ((snap : ℕ) → IsTrue (is_listed v.snaps snap) → map.get (kept_by versions) snap ≡ None) × AreNewest versions

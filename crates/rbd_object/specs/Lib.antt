@@ -6,5 +6,6 @@ pub mod Paged
 pub mod Paging
 pub mod Parts
 pub mod Shared
+pub mod Sheaves
 pub mod Sheets
 pub mod Versioned

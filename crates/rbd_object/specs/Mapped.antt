@@ -4,7 +4,7 @@ use Rattle.std.specs.Coded.{Coded, code_by, coded×, coded_ℕ, coded_list, code
 use Rattle.std.specs.Ordering.{nat_cmp}
 use Rattle.std.specs.FinMap as map
 use Rattle.rbd_kinds.specs.declared.header.SnapContext.{SnapContext}
-use Rattle.rbd_object.specs.Kept.{Kept, AreUsed, is_listed, keep_each, kept_by}
+use Rattle.rbd_object.specs.Kept.{Kept, AreNewest, AreUsed, is_listed, keep_each, kept_by}
 use Rattle.rbd_object.specs.Versioned.{Versioned, IsTidy, is_due}
 
 pub record Mapped : Type 0 where
@@ -53,8 +53,9 @@ mapped_copy_up bytes o = record o { head = Some (unwrap_or o.head bytes) }
 abbrev pub mapped_trim : (live : List ℕ) → Mapped → Mapped
 mapped_trim live o = record o { kept = map.retain_keys o.kept (is_listed live) }
 
--- What holds of an object's versions at every moment: nothing is kept above `seq`, and no version is left
--- that no snapshot needs.
+-- What holds of an object's versions at every moment: nothing is kept above `seq`, no version is left that no snapshot
+-- needs, and each is the newest for its snapshots.
 pub record IsSound (seq : ℕ) (versions : List Kept) : Type 0 where
   pub tidy : IsTidy (looked (value_of None seq versions))
   pub used : AreUsed versions
+  pub newest : AreNewest versions

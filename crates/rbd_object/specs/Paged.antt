@@ -2,7 +2,8 @@
 use Rattle.std.specs.Prelude.{ℕ, List, map, Option, refl}
 use Rattle.std.specs.Coded.{Coded, code_by, coded×, coded_ℕ}
 use Rattle.rbd_object.specs.Mapped.{Mapped, mapped_code, value_of, IsSound}
-use Rattle.rbd_object.specs.Sheets.{Sheet, in_use}
+use Rattle.rbd_object.specs.Sheaves.{Stock}
+use Rattle.rbd_object.specs.Sheets.{in_use}
 use Rattle.rbd_object.specs.Shared.{Listed, Stored, AreShared, bytes_of, kept_in}
 
 pub record Paged : Type 0 where
@@ -16,14 +17,14 @@ paged_code =
     (λ p. record { shown = p.0; pages = p.1 })
     (λ _. refl)
 
--- the value of an object whose contents lie on these pages, newest version first
-abbrev pub paged_of : List Sheet → (head : Option Listed) → (seq : ℕ) → List Stored → Paged
-paged_of sheets head seq versions = record {
-  shown = value_of (bytes_of sheets head) seq (map (kept_in sheets) versions);
-  pages = in_use sheets;
+-- the value of an object whose contents lie on these sheaves and pages, newest version first
+abbrev pub paged_of : Stock → (head : Option Listed) → (seq : ℕ) → List Stored → Paged
+paged_of stock head seq versions = record {
+  shown = value_of (bytes_of stock head) seq (map (kept_in stock) versions);
+  pages = in_use stock.sheets;
 }
 
 -- what holds at every moment
-pub record IsPaged (sheets : List Sheet) (head : Option Listed) (seq : ℕ) (versions : List Stored) : Type 0 where
-  pub shared : AreShared sheets head versions
-  pub sound : IsSound seq (map (kept_in sheets) versions)
+pub record IsPaged (stock : Stock) (head : Option Listed) (seq : ℕ) (versions : List Stored) : Type 0 where
+  pub shared : AreShared stock head versions
+  pub sound : IsSound seq (map (kept_in stock) versions)

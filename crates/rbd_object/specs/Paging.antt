@@ -1,7 +1,7 @@
 -- A content as a list of pages of an arena.
 use Rattle.std.specs.Prelude.{◌≡◌, ◌≢◌, ℕ, ◌+◌, ◌-◌, ◌/◌, ◌%◌, ◌<◌, ◌≤◌, ◌==◌, nat_lt, if◌then◌else◌, List, [], ◌∷◌, length, slice_index}
 use Rattle.rbd_object.specs.Contents.{is_within}
-use Rattle.rbd_object.specs.Sheets.{Sheet, count_at, bytes_at, in_use}
+use Rattle.rbd_object.specs.Sheets.{Sheet, sheet_at, count_at, bytes_at, in_use}
 use Rattle.rbd_object.specs.declared.page.TheConstants.{PAGE}
 
 -- how often a list of pages names a page
@@ -40,11 +40,13 @@ pub record Moved (old : List Sheet) (pages : List ℕ) (new : List Sheet) (after
   pub counts : (page : ℕ) → count_at new page + occurs page pages ≡ count_at old page + occurs page after
   pub others : (page : ℕ) → occurs page pages < count_at old page → bytes_at new page ≡ bytes_at old page
 
--- Pages were copied or added, and each byte is the same.
+-- Pages were copied or added, and each byte is the same. A page that is named once in all, here and by some others,
+-- is so afterwards.
 pub record Prepared (old : List Sheet) (pages : List ℕ) (new : List Sheet) (after : List ℕ) : Type 0 where
   pub moved : Moved old pages new after
   pub bytes : (k j : ℕ) → slice_index (bytes_on new after k) j ≡ slice_index (bytes_on old pages k) j
-  pub apart : AreApart pages → AreApart after
+  pub apart : (page others : ℕ) → occurs page pages + others ≤ count_at old page → occurs page pages + others ≤ 1
+      → occurs page after + others ≤ 1
   pub longer : length pages ≤ length after
   pub ready : (k byte : ℕ) → IsReady old pages k byte → IsReady new after k byte
 
@@ -60,8 +62,10 @@ pub record IsWritten (pages : List ℕ) (at : ℕ) (bytes : List ℕ) (old new :
   pub changed : IsChanged pages old new
   pub bytes_are : (i : ℕ) → byte_at new pages i
       ≡ (if is_within at (length bytes) i then slice_index bytes (i - at) else byte_at old pages i)
+  pub rest : (page : ℕ) → ((j : ℕ) → j < length bytes → slice_index pages ((at + j) / PAGE) ≢ page) → sheet_at new page ≡ sheet_at old page
 
 -- `len` bytes from byte `at` on were made zero
 pub record IsZeroed (pages : List ℕ) (at len : ℕ) (old new : List Sheet) : Type 0 where
   pub changed : IsChanged pages old new
   pub bytes_are : (i : ℕ) → byte_at new pages i ≡ (if is_within at len i then 0 else byte_at old pages i)
+  pub rest : (page : ℕ) → ((j : ℕ) → j < len → slice_index pages ((at + j) / PAGE) ≢ page) → sheet_at new page ≡ sheet_at old page

@@ -1,16 +1,17 @@
--- Contents that share the pages of one arena.
+-- Contents that share the sheaves and pages of one object.
 use Rattle.std.specs.Prelude.{◌≡◌, ℕ, ◌+◌, ◌-◌, ◌/◌, ◌≤◌, nat_lt, if◌then◌else◌, List, [], ◌∷◌, ◌++◌, map, filter, length, min, max, Bool, Option, Some, None, option_map, find}
 use Rattle.std.specs.List.{range_with_len, list_any}
-use Rattle.rbd_object.specs.Sheets.{Sheet, count_at}
-use Rattle.rbd_object.specs.Paging.{occurs, byte_at, pages_for, AreApart, Moved}
+use Rattle.rbd_object.specs.Sheets.{count_at}
+use Rattle.rbd_object.specs.Paging.{occurs, byte_at, pages_for, AreApart}
+use Rattle.rbd_object.specs.Sheaves.{AreFull, Exchanged, Stock, pages_in, sheaves_for}
 use Rattle.rbd_kinds.specs.declared.layout.Part.{Part}
 use Rattle.rbd_object.specs.Kept.{Kept, is_listed}
 use Rattle.rbd_object.specs.declared.page.TheConstants.{PAGE}
 use Rattle.rbd_object.specs.declared.content.TheConstants.{LARGEST_OBJECT}
 
--- the pages of a content, in order, and how many bytes it has
+-- the sheaves of a content, in order, and how many bytes it has
 pub record Listed : Type 0 where
-  pub pages : List ℕ
+  pub sheaves : List ℕ
   pub len : ℕ
 
 -- a version: a content, and the snapshots that it is kept for
@@ -18,41 +19,48 @@ pub record Stored : Type 0 where
   pub snaps : List ℕ
   pub content : Listed
 
-abbrev pub bytes_in : List Sheet → Listed → List ℕ
-bytes_in sheets c = map (byte_at sheets c.pages) (range_with_len 0 c.len)
+-- the pages of a content, in order
+abbrev pub pages_on : Stock → Listed → List ℕ
+pages_on stock c = pages_in stock.sheaves c.sheaves
 
--- the list has the pages that the bytes take, none of them twice, and no byte past the length but zeros
-pub record IsContent (sheets : List Sheet) (c : Listed) : Type 0 where
-  pub fits : length c.pages ≡ pages_for c.len
-  pub zeros : (i : ℕ) → c.len ≤ i → byte_at sheets c.pages i ≡ 0
-  pub apart : AreApart c.pages
+abbrev pub bytes_in : Stock → Listed → List ℕ
+bytes_in stock c = map (byte_at stock.sheets (pages_on stock c)) (range_with_len 0 c.len)
+
+-- The list has the sheaves and the pages that the bytes take, no page twice, and no byte past the length but zeros. Behind
+-- the last byte there may be pages that a refused change added, up to the end of the last sheaf.
+pub record IsContent (stock : Stock) (c : Listed) : Type 0 where
+  pub held : length c.sheaves ≡ sheaves_for (pages_for c.len)
+  pub full : AreFull stock.sheaves c.sheaves
+  pub fits : pages_for c.len ≤ length (pages_on stock c)
+  pub zeros : (i : ℕ) → c.len ≤ i → byte_at stock.sheets (pages_on stock c) i ≡ 0
+  pub apart : AreApart (pages_on stock c)
   pub small : c.len ≤ LARGEST_OBJECT
 
-abbrev pub pages_of : Option Listed → List ℕ
-pages_of None = []
-pages_of (Some c) = c.pages
+abbrev pub sheaves_of : Option Listed → List ℕ
+sheaves_of None = []
+sheaves_of (Some c) = c.sheaves
 
-abbrev pub IsHead : List Sheet → Option Listed → Type 0
-IsHead sheets None = Unit {0}
-IsHead sheets (Some c) = IsContent sheets c
+abbrev pub IsHead : Stock → Option Listed → Type 0
+IsHead stock None = Unit {0}
+IsHead stock (Some c) = IsContent stock c
 
-abbrev pub kept_in : List Sheet → Stored → Kept
-kept_in sheets v = record { snaps = v.snaps; bytes = bytes_in sheets v.content }
+abbrev pub kept_in : Stock → Stored → Kept
+kept_in stock v = record { snaps = v.snaps; bytes = bytes_in stock v.content }
 
--- in how many places versions name a page
-abbrev pub named : (page : ℕ) → List Stored → ℕ
-named page [] = 0
-named page (v ∷ versions) = occurs page v.content.pages + named page versions
+-- in how many places versions name a sheaf
+abbrev pub named : (sheaf : ℕ) → List Stored → ℕ
+named sheaf [] = 0
+named sheaf (v ∷ versions) = occurs sheaf v.content.sheaves + named sheaf versions
 
-abbrev pub AreContents : List Sheet → List Stored → Type 0
-AreContents sheets [] = Unit {0}
-AreContents sheets (v ∷ versions) = IsContent sheets v.content × AreContents sheets versions
+abbrev pub AreContents : Stock → List Stored → Type 0
+AreContents stock [] = Unit {0}
+AreContents stock (v ∷ versions) = IsContent stock v.content × AreContents stock versions
 
--- Each page's count is the number of places that name it, in the head and in the versions.
-pub record AreShared (sheets : List Sheet) (head : Option Listed) (versions : List Stored) : Type 0 where
-  pub counts : (page : ℕ) → count_at sheets page ≡ occurs page (pages_of head) + named page versions
-  pub head_is : IsHead sheets head
-  pub contents : AreContents sheets versions
+-- Each sheaf's count is the number of places that name it, in the head and in the versions.
+pub record AreShared (stock : Stock) (head : Option Listed) (versions : List Stored) : Type 0 where
+  pub counts : (sheaf : ℕ) → count_at stock.sheaves sheaf ≡ occurs sheaf (sheaves_of head) + named sheaf versions
+  pub head_is : IsHead stock head
+  pub contents : AreContents stock versions
 
 -- how many pages the bytes from `first` up to `end` touch
 abbrev pub touched : (first end : ℕ) → ℕ
@@ -70,18 +78,18 @@ live_stored live v = record { snaps = filter (is_listed live) v.snaps; content =
 abbrev pub live_versions : (live : List ℕ) → List Stored → List Stored
 live_versions live versions = map (live_stored live) (filter (is_live live) versions)
 
--- how often a version names a page, unless it is kept for a live snapshot
-abbrev pub dead_pages : (live : List ℕ) → (page : ℕ) → Stored → ℕ
-dead_pages live page v = if is_live live v then 0 else occurs page v.content.pages
+-- how often a version names a sheaf, unless it is kept for a live snapshot
+abbrev pub dead_sheaves : (live : List ℕ) → (sheaf : ℕ) → Stored → ℕ
+dead_sheaves live sheaf v = if is_live live v then 0 else occurs sheaf v.content.sheaves
 
--- in how many places versions name a page that are kept for no live snapshot
-abbrev pub dead_named : (live : List ℕ) → (page : ℕ) → List Stored → ℕ
-dead_named live page [] = 0
-dead_named live page (v ∷ versions) = dead_pages live page v + dead_named live page versions
+-- in how many places versions name a sheaf that are kept for no live snapshot
+abbrev pub dead_named : (live : List ℕ) → (sheaf : ℕ) → List Stored → ℕ
+dead_named live sheaf [] = 0
+dead_named live sheaf (v ∷ versions) = dead_sheaves live sheaf v + dead_named live sheaf versions
 
 -- each place is counted
-pub record AreNamed (sheets : List Sheet) (versions : List Stored) : Type 0 where
-  pub each : (page : ℕ) → named page versions ≤ count_at sheets page
+pub record AreNamed (stock : Stock) (versions : List Stored) : Type 0 where
+  pub each : (sheaf : ℕ) → named sheaf versions ≤ count_at stock.sheaves sheaf
 
 -- ---- a change of a head that may be kept
 
@@ -90,12 +98,12 @@ abbrev pub len_of : Option Listed → ℕ
 len_of None = 0
 len_of (Some c) = c.len
 
-abbrev pub bytes_of : List Sheet → Option Listed → Option (List ℕ)
-bytes_of sheets head = option_map (bytes_in sheets) head
+abbrev pub bytes_of : Stock → Option Listed → Option (List ℕ)
+bytes_of stock head = option_map (bytes_in stock) head
 
 -- A head was changed, and the old one kept where that was wanted.
-pub record IsKept (wanted : Bool) (old : List Sheet) (head : Option Listed) (new : List Sheet) (after kept : Option Listed) : Type 0 where
-  pub moved : Moved old (pages_of head) new (pages_of after ++ pages_of kept)
+pub record IsKept (wanted : Bool) (old : Stock) (head : Option Listed) (new : Stock) (after kept : Option Listed) : Type 0 where
+  pub exchanged : Exchanged old (sheaves_of head) new (sheaves_of after ++ sheaves_of kept)
   pub head_is : IsHead new after
   pub kept_is : IsHead new kept
   pub bytes : bytes_of new kept ≡ (if wanted then bytes_of old head else None)
@@ -118,5 +126,5 @@ view_in head seq versions (Some snap) =
 
 -- a head that is there
 abbrev pub begun : Option Listed → Option Listed
-begun None = Some (record { pages = []; len = 0 })
+begun None = Some (record { sheaves = []; len = 0 })
 begun (Some c) = Some c

@@ -40,43 +40,57 @@
 //!
 //! # Cost
 //!
-//! Contents lie on pages of 4,096 bytes. A write costs the bytes that it writes, and an index and
-//! an entry for each page that is new; the memory for these is taken in one step. A page of zeros
-//! has no bytes: they are taken at the first one that isn't zero. The first change after a snapshot
-//! adds an index and a count for each page of the object where the head stays in place (`write`,
-//! `zero`), and a copy of each page that it touches; where it is replaced (`write_full`, `empty`,
-//! `remove`) the old head moves into the version. A change of several parts costs as much each
-//! time, since the head is held beside it until the last part is done; that of one part doesn't. A
-//! context whose number isn't above `seq` costs nothing. A read copies into the caller's buffer
-//! alone; that of a snapshot looks through the versions first, newest first. A trim looks at each
-//! snapshot that something is kept for, and at the pages of what it drops.
+//! Contents lie on pages of 4,096 bytes, and their pages in *sheaves* of 128. A write costs the
+//! bytes that it writes, and an index and an entry for each page that is new; the memory for the
+//! entries is taken in one step. A page of zeros has no bytes: they are taken at the first one that
+//! isn't zero. The first change after a snapshot adds an index and a count for each sheaf of the
+//! object where the head stays in place (`write`, `zero`). The first change in a sheaf then adds an
+//! index and a count for each of its pages, and the first one on a page copies it. Where the head
+//! is replaced (`write_full`, `empty`, `remove`) the old one moves into the version. A change of
+//! several parts costs as much each time, since the head is held beside it until the last part is
+//! done; that of one part doesn't. A context whose number isn't above `seq` costs nothing. A read
+//! copies into the caller's buffer alone; that of a snapshot looks through the versions first,
+//! newest first. A trim looks at each snapshot that something is kept for, and at the sheaves of
+//! what it drops, and at the pages of those that no other content names.
 //!
-//! [`Object::pages`] is the number of pages that some content names, each counted once. What each call may add
-//! to it stands in the contracts of [`PagedObject`], which has the same calls and whose contracts see that
-//! number beside the object's value. [`Object`] is its front: its contracts know no pages.
+//! [`Object::pages`] is the number of pages that some content names, each counted once. What each
+//! call may add to it stands in the contracts of [`PagedObject`], which has the same calls and
+//! whose contracts see that number beside the object's value. [`Object`] is its front: its
+//! contracts know no pages.
 //!
 //! # How it works
 //!
-//! The arena has the pages, each with a count: the number of places that name it. Free pages are linked by
-//! index. The head and the versions are lists of indices, and a change writes a page in place only where its
-//! count is 1; else it takes a new page. Beside the head stands a queue of versions, newest first: contents that
-//! the head once had, and the snapshots that they are kept for. No version is left that no snapshot needs.
+//! The arena has the pages, each with a count: the number of sheaves that name it. A sheaf is a
+//! list of up to 128 indices of pages, and has a count too: the number of contents that name it.
+//! The head and the versions are lists of indices of sheaves, all full but the last, so that a page
+//! is found by two divisions. Free pages are linked by index, and so are free sheaves. A change
+//! writes a page in place only where its count and that of its sheaf are 1. Else it takes a new
+//! sheaf with the same pages, which are counted once more, and a new page with the same bytes. A
+//! sheaf whose count falls to 0 lets its pages go. Beside the head stands a queue of versions,
+//! newest first: contents that the head once had, and the snapshots that they are kept for. No
+//! version is left that no snapshot needs.
 //!
-//! A change of one part first makes its pages ready, which may be refused memory and shows nothing, and then
-//! changes them, which can't be. Each step is stated for one list of pages alone: each count follows the list,
-//! and pages that others name too keep their bytes.
+//! A change of one part first makes its pages ready, which may be refused memory and shows nothing,
+//! and then changes them, which can't be. Refused, it drops the sheaves that it added; pages of
+//! zeros that it added to the last sheaf may stay there, behind the last byte, for the next change
+//! to take. Each step is stated for one list alone, of the pages of a sheaf or of the sheaves of a
+//! content: each count follows the list, and what others name too stays as it is.
 #![tactic(auto)]
 
 mod arena;
+mod bytes;
 mod change;
 mod content;
 mod heads;
 pub mod laws;
+mod lists;
 mod object;
 mod page;
 mod paged;
 mod pages;
 mod parts;
+mod sheaf;
+mod sheaves;
 mod stretch;
 mod version;
 mod versions;

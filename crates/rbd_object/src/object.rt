@@ -44,6 +44,7 @@ impl Object {
     /// where no content has a byte. It takes no memory.
     pub fn pages(&self) -> u64
         ensures longest { (snap : Option ℕ) (bytes : List ℕ) → view (looked self.now) snap ≡ Some bytes → pages_for (length bytes) ≤ result }
+        ensures none { ((snap : Option ℕ) (bytes : List ℕ) → view (looked self.now) snap ≡ Some bytes → bytes ≡ []) → result ≡ 0 }
     {
         self.paged.pages()
     }

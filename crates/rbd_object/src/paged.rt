@@ -10,9 +10,9 @@ ghost use Rattle.rbd_kinds.specs.Parts.{parts_len};
 ghost use Rattle.rbd_object.specs.Parts.{parts_of, parts_written, parts_zeroed, AreWithin};
 ghost use Rattle.rbd_object.specs.Shared.{touched, written_touch, zeroed_touch, view_in};
 
-use crate::arena::Arena;
 use crate::change::Change;
 use crate::content::{Content, LARGEST_OBJECT};
+use crate::sheaves::Sheaves;
 use crate::version::Version;
 use crate::{heads, versions};
 use rbd_kinds::{Bytes, NoMemory, Part, SnapContext, SnapId};
@@ -24,7 +24,7 @@ use std::marker::Model;
 /// and `pages` how many pages have a count above 0.
 #[derive(Debug, Drop)]
 pub struct PagedObject {
-    arena: Arena,
+    sheaves: Sheaves,
     head: Option<Content>,
     seq: SnapId,
     /// Newest first.
@@ -38,9 +38,9 @@ impl Model for PagedObject {
 
     ghost coded = { paged_code };
 
-    ghost view = { λ o. paged_of o.arena o.head o.seq o.versions.items };
+    ghost view = { λ o. paged_of o.sheaves o.head o.seq o.versions.items };
 
-    ghost invariant = { λ o. IsPaged o.arena o.head o.seq o.versions.items };
+    ghost invariant = { λ o. IsPaged o.sheaves o.head o.seq o.versions.items };
 }
 
 impl PagedObject {
@@ -50,7 +50,7 @@ impl PagedObject {
         ensures pages { result.pages ≡ 0 }
     {
         PagedObject {
-            arena: Arena::new(alloc),
+            sheaves: Sheaves::new(alloc),
             head: None,
             seq: SnapId(0),
             versions: VecDeque::new(alloc),
@@ -62,8 +62,9 @@ impl PagedObject {
     pub fn pages(&self) -> u64
         ensures count { result ≡ self.now.pages }
         ensures longest { (snap : Option ℕ) (bytes : List ℕ) → view (looked self.now.shown) snap ≡ Some bytes → pages_for (length bytes) ≤ result }
+        ensures none { ((snap : Option ℕ) (bytes : List ℕ) → view (looked self.now.shown) snap ≡ Some bytes → bytes ≡ []) → result ≡ 0 }
     {
-        u64::from(self.arena.used())
+        u64::from(self.sheaves.used())
     }
 
     /// Whether the object is there: in the head (None), or in a snapshot. It takes no memory.
@@ -87,7 +88,7 @@ impl PagedObject {
     {
         match shown(&self.head, self.seq, &self.versions, snap) {
             Some(content) => {
-                content.read(&self.arena, at, into);
+                content.read(&self.sheaves, at, into);
                 true
             }
             None => false,
@@ -104,7 +105,7 @@ impl PagedObject {
         ensures { IfOk result (λ read. read ≡ option_map (parts_of parts.now) (view (looked self.now.shown) snap)) }
     {
         match shown(&self.head, self.seq, &self.versions, snap) {
-            Some(content) => Ok(Some(Bytes::from_vec(content.read_parts(&self.arena, parts)?))),
+            Some(content) => Ok(Some(Bytes::from_vec(content.read_parts(&self.sheaves, parts)?))),
             None => Ok(None),
         }
     }
@@ -201,7 +202,7 @@ impl PagedObject {
             return Err(NoMemory);
         }
         let alloc = self.alloc();
-        heads::fill(alloc, &mut self.arena, &mut self.head, bytes)?;
+        heads::fill(alloc, &mut self.sheaves, &mut self.head, bytes)?;
         Ok(true)
     }
 
@@ -210,7 +211,7 @@ impl PagedObject {
         ensures shown { self.new.shown ≡ mapped_trim live.now self.old.shown }
         ensures pages { self.new.pages ≤ self.old.pages }
     {
-        versions::let_go(&self.versions, &mut self.arena, live);
+        versions::let_go(&self.versions, &mut self.sheaves, live);
         versions::keep_live(&mut self.versions, live);
     }
 
@@ -225,7 +226,7 @@ impl PagedObject {
         let snaps = self.snaps_to_keep(context)?;
         let wanted = !snaps.is_empty();
         versions::make_room(&mut self.versions, wanted)?;
-        let kept = heads::change(alloc, &mut self.arena, &mut self.head, wanted, change)?;
+        let kept = heads::change(alloc, &mut self.sheaves, &mut self.head, wanted, change)?;
         versions::add(&mut self.versions, versions::version_of(kept, snaps));
         self.seq = later(self.seq, context.seq);
         Ok(())

@@ -3,11 +3,12 @@ ghost use Rattle.std.specs.Prelude.{◌≡◌, ℕ, ◌+◌, ◌<◌, ◌≤◌,
 ghost use Rattle.std.specs.VecDeque.{deque_len, deque_capacity};
 ghost use Rattle.rbd_object.specs.Kept.{is_listed};
 ghost use Rattle.rbd_object.specs.Paging.{AreCounted};
-ghost use Rattle.rbd_object.specs.Shared.{AreNamed, dead_named, dead_pages, live_versions};
-ghost use Rattle.rbd_object.specs.Sheets.{bytes_at, count_at, in_use};
+ghost use Rattle.rbd_object.specs.Shared.{AreNamed, dead_named, dead_sheaves, live_versions};
+ghost use Rattle.rbd_object.specs.Sheaves.{IsSame};
+ghost use Rattle.rbd_object.specs.Sheets.{count_at, in_use};
 
-use crate::arena::Arena;
 use crate::content::Content;
+use crate::sheaves::Sheaves;
 use crate::version::Version;
 use rbd_kinds::{NoMemory, SnapId};
 use std::collections::VecDeque;
@@ -71,25 +72,25 @@ pub fn keep_live(versions: &mut VecDeque<Version>, live: &[SnapId])
     });
 }
 
-/// Lets the pages of versions go that are kept for no live snapshot.
-pub fn let_go(versions: &VecDeque<Version>, arena: &mut Arena, live: &[SnapId])
-    requires { AreNamed arena.old versions.now.items }
-    ensures counts { (page : ℕ) → count_at arena.new page + dead_named live.now page versions.now.items ≡ count_at arena.old page }
-    ensures kept { (page : ℕ) → 0 < count_at arena.new page → bytes_at arena.new page ≡ bytes_at arena.old page }
-    ensures used { in_use arena.new ≤ in_use arena.old }
+/// Lets the sheaves of versions go that are kept for no live snapshot.
+pub fn let_go(versions: &VecDeque<Version>, sheaves: &mut Sheaves, live: &[SnapId])
+    requires { AreNamed sheaves.old versions.now.items }
+    ensures counts { (s : ℕ) → count_at sheaves.new.sheaves s + dead_named live.now s versions.now.items ≡ count_at sheaves.old.sheaves s }
+    ensures kept { (s : ℕ) → 0 < count_at sheaves.new.sheaves s → IsSame sheaves.old sheaves.new s }
+    ensures used { in_use sheaves.new.sheets ≤ in_use sheaves.old.sheets }
 {
     for i in 0..versions.len() {
-        let_go_of(&versions[i], arena, live);
+        let_go_of(&versions[i], sheaves, live);
     }
 }
 
-fn let_go_of(version: &Version, arena: &mut Arena, live: &[SnapId])
-    requires { AreCounted arena.old version.now.content.pages }
-    ensures counts { (page : ℕ) → count_at arena.new page + dead_pages live.now page version.now ≡ count_at arena.old page }
-    ensures kept { (page : ℕ) → 0 < count_at arena.new page → bytes_at arena.new page ≡ bytes_at arena.old page }
-    ensures used { in_use arena.new ≤ in_use arena.old }
+fn let_go_of(version: &Version, sheaves: &mut Sheaves, live: &[SnapId])
+    requires { AreCounted sheaves.old.sheaves version.now.content.sheaves }
+    ensures counts { (s : ℕ) → count_at sheaves.new.sheaves s + dead_sheaves live.now s version.now ≡ count_at sheaves.old.sheaves s }
+    ensures kept { (s : ℕ) → 0 < count_at sheaves.new.sheaves s → IsSame sheaves.old sheaves.new s }
+    ensures used { in_use sheaves.new.sheets ≤ in_use sheaves.old.sheets }
 {
     if !version.is_live(live) {
-        version.content().let_go(arena);
+        version.content().let_go(sheaves);
     }
 }

@@ -1,11 +1,11 @@
 use Rattle.std.proofs.Common.{◌∙◌}
-use Rattle.rbd_object.proofs.HeadLemmas.{filled_bytes, moved_refused, on_err}
+use Rattle.rbd_object.proofs.HeadLemmas.{filled_bytes, exchanged_refused, on_err}
 use Rattle.rbd_object.proofs.heads.filled.Goals as goal
 
 pub returns-in_err-write-clause-err : goal.returns-in_err-write-clause-err
 returns-in_err-write-clause-err c =
-    on_err _ (moved_refused c.args.arena.now c.write.new.arena c.new-content.result c.write.new.self c.new-content.ensures
-    c.in_err-write.ensures.moved c.in_err-write.ensures.content c.in_err-write.ensures.err)
+    on_err _ (exchanged_refused c.args.sheaves.now c.write.new.sheaves c.new-content.result c.write.new.self c.new-content.ensures
+    c.in_err-write.ensures.exchanged c.in_err-write.ensures.content c.in_err-write.ensures.err)
 
 pub returns-clause-bytes : goal.returns-clause-bytes
-returns-clause-bytes c = c.in_ok-write.ensures.ok ∙ filled_bytes c.args.arena.now c.new-content.result c.args.bytes.now c.new-content.ensures
+returns-clause-bytes c = c.in_ok-write.ensures.ok ∙ filled_bytes c.args.sheaves.now c.new-content.result c.args.bytes.now c.new-content.ensures

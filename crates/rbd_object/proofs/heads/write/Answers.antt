@@ -1,37 +1,37 @@
 use Rattle.std.proofs.Common.{[], Some, ◌∙◌, ap}
 use Rattle.std.specs.Prelude.{unwrap_or}
 use Rattle.rbd_object.specs.Contents.{overwritten}
-use Rattle.rbd_object.specs.Shared.{pages_of}
+use Rattle.rbd_object.specs.Shared.{sheaves_of}
 use Rattle.rbd_object.proofs.HeadLemmas.{head_after, kept_change, on_err, undone, untouched}
 use Rattle.rbd_object.proofs.heads.write.Goals as goal
 
 pub returns-in_err-kept-clause-err : goal.returns-in_err-kept-clause-err
 returns-in_err-kept-clause-err c =
-    on_err _ (untouched c.args.arena.now c.share.new.arena c.args.head.now c.requires.counted c.requires.content c.in_err-kept.ensures.err).0
+    on_err _ (untouched c.args.sheaves.now c.share.new.sheaves c.args.head.now c.requires.counted c.requires.content c.in_err-kept.ensures.err).0
 
 pub returns-in_err-kept-clause-same : goal.returns-in_err-kept-clause-same
 returns-in_err-kept-clause-same c =
-    on_err _ (untouched c.args.arena.now c.share.new.arena c.args.head.now c.requires.counted c.requires.content c.in_err-kept.ensures.err).1
+    on_err _ (untouched c.args.sheaves.now c.share.new.sheaves c.args.head.now c.requires.counted c.requires.content c.in_err-kept.ensures.err).1
 
 pub write_head-requires-clause-content : goal.write_head-requires-clause-content
-write_head-requires-clause-content c = (head_after c.args.arena.now c.share.new.arena c.args.head.now (pages_of c.in_ok-kept.kept) c.requires.counted c.requires.content c.in_ok-kept.ensures.moved).0
+write_head-requires-clause-content c = (head_after c.args.sheaves.now c.share.new.sheaves c.args.head.now (sheaves_of c.in_ok-kept.kept) c.requires.counted c.requires.content c.in_ok-kept.ensures.exchanged).0
 
 pub returns-in-Ok-clause-ok : goal.returns-in-Ok-clause-ok
-returns-in-Ok-clause-ok c = (kept_change c.args.wanted c.args.arena.now c.share.new.arena c.write_head.new.arena c.args.head.now c.write_head.new.head c.in_ok-kept.kept c.requires.counted c.requires.content
-    c.in_ok-kept.ensures.moved c.in_ok-kept.ensures.same c.write_head.ensures.moved c.write_head.ensures.content)
+returns-in-Ok-clause-ok c = (kept_change c.args.wanted c.args.sheaves.now c.share.new.sheaves c.write_head.new.sheaves c.args.head.now c.write_head.new.head c.in_ok-kept.kept c.requires.counted c.requires.content
+    c.in_ok-kept.ensures.exchanged c.in_ok-kept.ensures.same c.write_head.ensures.exchanged c.write_head.ensures.content)
 
 pub returns-in-Ok-clause-bytes : goal.returns-in-Ok-clause-bytes
-returns-in-Ok-clause-bytes c = c.in-Ok.ensures.ok ∙ ap (λ held. Some (overwritten (unwrap_or held []) c.args.at c.args.bytes.now)) (head_after c.args.arena.now c.share.new.arena c.args.head.now (pages_of c.in_ok-kept.kept) c.requires.counted c.requires.content c.in_ok-kept.ensures.moved).1
+returns-in-Ok-clause-bytes c = c.in-Ok.ensures.ok ∙ ap (λ held. Some (overwritten (unwrap_or held []) c.args.at c.args.bytes.now)) (head_after c.args.sheaves.now c.share.new.sheaves c.args.head.now (sheaves_of c.in_ok-kept.kept) c.requires.counted c.requires.content c.in_ok-kept.ensures.exchanged).1
 
 pub returns-in-Err-clause-err : goal.returns-in-Err-clause-err
 returns-in-Err-clause-err c =
-    (undone c.args.wanted c.args.arena.now c.write_head.new.arena c.let_go.new.arena c.args.head.now c.write_head.new.head c.in_ok-kept.kept c.requires.counted
-    (kept_change c.args.wanted c.args.arena.now c.share.new.arena c.write_head.new.arena c.args.head.now c.write_head.new.head c.in_ok-kept.kept c.requires.counted c.requires.content
-    c.in_ok-kept.ensures.moved c.in_ok-kept.ensures.same c.write_head.ensures.moved c.write_head.ensures.content) c.let_go.ensures.moved).0
+    (undone c.args.wanted c.args.sheaves.now c.write_head.new.sheaves c.let_go.new.sheaves c.args.head.now c.write_head.new.head c.in_ok-kept.kept c.requires.counted
+    (kept_change c.args.wanted c.args.sheaves.now c.share.new.sheaves c.write_head.new.sheaves c.args.head.now c.write_head.new.head c.in_ok-kept.kept c.requires.counted c.requires.content
+    c.in_ok-kept.ensures.exchanged c.in_ok-kept.ensures.same c.write_head.ensures.exchanged c.write_head.ensures.content) c.let_go.ensures.exchanged).0
 
 pub returns-in-Err-clause-same : goal.returns-in-Err-clause-same
 returns-in-Err-clause-same c =
-    (undone c.args.wanted c.args.arena.now c.write_head.new.arena c.let_go.new.arena c.args.head.now c.write_head.new.head c.in_ok-kept.kept c.requires.counted
-    (kept_change c.args.wanted c.args.arena.now c.share.new.arena c.write_head.new.arena c.args.head.now c.write_head.new.head c.in_ok-kept.kept c.requires.counted c.requires.content
-    c.in_ok-kept.ensures.moved c.in_ok-kept.ensures.same c.write_head.ensures.moved c.write_head.ensures.content) c.let_go.ensures.moved).1
-    ∙ c.in-Err.ensures.err ∙ (head_after c.args.arena.now c.share.new.arena c.args.head.now (pages_of c.in_ok-kept.kept) c.requires.counted c.requires.content c.in_ok-kept.ensures.moved).1
+    (undone c.args.wanted c.args.sheaves.now c.write_head.new.sheaves c.let_go.new.sheaves c.args.head.now c.write_head.new.head c.in_ok-kept.kept c.requires.counted
+    (kept_change c.args.wanted c.args.sheaves.now c.share.new.sheaves c.write_head.new.sheaves c.args.head.now c.write_head.new.head c.in_ok-kept.kept c.requires.counted c.requires.content
+    c.in_ok-kept.ensures.exchanged c.in_ok-kept.ensures.same c.write_head.ensures.exchanged c.write_head.ensures.content) c.let_go.ensures.exchanged).1
+    ∙ c.in-Err.ensures.err ∙ (head_after c.args.sheaves.now c.share.new.sheaves c.args.head.now (sheaves_of c.in_ok-kept.kept) c.requires.counted c.requires.content c.in_ok-kept.ensures.exchanged).1

@@ -5,22 +5,22 @@ use Rattle.rbd_object.proofs.heads.write_full.Goals as goal
 
 pub returns-in_err-content-clause-err : goal.returns-in_err-content-clause-err
 returns-in_err-content-clause-err c =
-    on_err _ (untouched c.args.arena.now c.filled.new.arena c.args.head.now c.requires.counted c.requires.content c.in_err-content.ensures.err).0
+    on_err _ (untouched c.args.sheaves.now c.filled.new.sheaves c.args.head.now c.requires.counted c.requires.content c.in_err-content.ensures.err).0
 
 pub returns-in_err-content-clause-same : goal.returns-in_err-content-clause-same
 returns-in_err-content-clause-same c =
-    on_err _ (untouched c.args.arena.now c.filled.new.arena c.args.head.now c.requires.counted c.requires.content c.in_err-content.ensures.err).1
+    on_err _ (untouched c.args.sheaves.now c.filled.new.sheaves c.args.head.now c.requires.counted c.requires.content c.in_err-content.ensures.err).1
 
 pub replace-requires-clause-counted : goal.replace-requires-clause-counted
-replace-requires-clause-counted c = counted_both c.args.arena.now c.filled.new.arena _ c.in_ok-content.content.pages c.in_ok-content.ensures.moved c.requires.counted
+replace-requires-clause-counted c = counted_both c.args.sheaves.now c.filled.new.sheaves _ c.in_ok-content.content.sheaves c.in_ok-content.ensures.exchanged c.requires.counted
 
 pub replace-requires-clause-content : goal.replace-requires-clause-content
 replace-requires-clause-content c =
-    (head_after c.args.arena.now c.filled.new.arena c.args.head.now c.in_ok-content.content.pages c.requires.counted c.requires.content c.in_ok-content.ensures.moved).0
+    (head_after c.args.sheaves.now c.filled.new.sheaves c.args.head.now c.in_ok-content.content.sheaves c.requires.counted c.requires.content c.in_ok-content.ensures.exchanged).0
 
 pub returns-clause-ok : goal.returns-clause-ok
 returns-clause-ok c =
-    subst (λ h. IsKept c.args.wanted c.args.arena.now c.args.head.now c.replace.new.arena h c.replace.result) (sym c.replace.ensures.head)
-    (replaced c.args.wanted c.args.arena.now c.filled.new.arena c.replace.new.arena c.args.head.now (Some c.in_ok-content.content) c.replace.result
-    c.requires.counted c.requires.content c.in_ok-content.ensures.moved c.replace.ensures.moved c.replace.ensures.head_is
+    subst (λ h. IsKept c.args.wanted c.args.sheaves.now c.args.head.now c.replace.new.sheaves h c.replace.result) (sym c.replace.ensures.head)
+    (replaced c.args.wanted c.args.sheaves.now c.filled.new.sheaves c.replace.new.sheaves c.args.head.now (Some c.in_ok-content.content) c.replace.result
+    c.requires.counted c.requires.content c.in_ok-content.ensures.exchanged c.replace.ensures.exchanged c.replace.ensures.head_is
     c.replace.ensures.kept_is c.replace.ensures.bytes)

@@ -1,45 +1,45 @@
 use Rattle.std.proofs.Common.{[], Some, None, true, cond, ◌∙◌, ap}
 use Rattle.std.specs.Prelude.{unwrap_or}
 use Rattle.rbd_object.specs.Parts.{parts_written}
-use Rattle.rbd_object.specs.Shared.{pages_of}
+use Rattle.rbd_object.specs.Shared.{sheaves_of}
 use Rattle.rbd_object.proofs.HeadLemmas.{head_after, kept_change, kept_if, on_err, restored, untouched}
 use Rattle.rbd_object.proofs.heads.write_several.Goals as goal
 
 pub returns-in_err-before-clause-err : goal.returns-in_err-before-clause-err
 returns-in_err-before-clause-err c =
-    on_err _ (untouched c.args.arena.now c.share.new.arena c.args.head.now c.requires.counted c.requires.content c.in_err-before.ensures.err).0
+    on_err _ (untouched c.args.sheaves.now c.share.new.sheaves c.args.head.now c.requires.counted c.requires.content c.in_err-before.ensures.err).0
 
 pub returns-in_err-before-clause-same : goal.returns-in_err-before-clause-same
 returns-in_err-before-clause-same c =
-    on_err _ (untouched c.args.arena.now c.share.new.arena c.args.head.now c.requires.counted c.requires.content c.in_err-before.ensures.err).1
+    on_err _ (untouched c.args.sheaves.now c.share.new.sheaves c.args.head.now c.requires.counted c.requires.content c.in_err-before.ensures.err).1
 
 pub write_each-requires-clause-content : goal.write_each-requires-clause-content
-write_each-requires-clause-content c = (head_after c.args.arena.now c.share.new.arena c.args.head.now (pages_of c.in_ok-before.before) c.requires.counted c.requires.content c.in_ok-before.ensures.moved).0
+write_each-requires-clause-content c = (head_after c.args.sheaves.now c.share.new.sheaves c.args.head.now (sheaves_of c.in_ok-before.before) c.requires.counted c.requires.content c.in_ok-before.ensures.exchanged).0
 
 pub keep_if-requires-clause-content : goal.keep_if-requires-clause-content
-keep_if-requires-clause-content c = (kept_change true c.args.arena.now c.share.new.arena c.write_each.new.arena c.args.head.now c.write_each.new.head c.in_ok-before.before c.requires.counted c.requires.content
-    c.in_ok-before.ensures.moved c.in_ok-before.ensures.same c.write_each.ensures.moved c.write_each.ensures.content).kept_is
+keep_if-requires-clause-content c = (kept_change true c.args.sheaves.now c.share.new.sheaves c.write_each.new.sheaves c.args.head.now c.write_each.new.head c.in_ok-before.before c.requires.counted c.requires.content
+    c.in_ok-before.ensures.exchanged c.in_ok-before.ensures.same c.write_each.ensures.exchanged c.write_each.ensures.content).kept_is
 
 pub returns-in-Ok-clause-ok : goal.returns-in-Ok-clause-ok
-returns-in-Ok-clause-ok c = (kept_if true c.args.wanted c.args.arena.now c.write_each.new.arena c.keep_if.new.arena c.args.head.now c.write_each.new.head c.in_ok-before.before c.keep_if.result c.requires.counted
-    (kept_change true c.args.arena.now c.share.new.arena c.write_each.new.arena c.args.head.now c.write_each.new.head c.in_ok-before.before c.requires.counted c.requires.content
-    c.in_ok-before.ensures.moved c.in_ok-before.ensures.same c.write_each.ensures.moved c.write_each.ensures.content) c.keep_if.ensures.moved c.keep_if.ensures.content
-    (c.keep_if.ensures.bytes ∙ ap (λ x. cond c.args.wanted x None) (kept_change true c.args.arena.now c.share.new.arena c.write_each.new.arena c.args.head.now c.write_each.new.head c.in_ok-before.before c.requires.counted c.requires.content
-    c.in_ok-before.ensures.moved c.in_ok-before.ensures.same c.write_each.ensures.moved c.write_each.ensures.content).bytes)).0
+returns-in-Ok-clause-ok c = (kept_if true c.args.wanted c.args.sheaves.now c.write_each.new.sheaves c.keep_if.new.sheaves c.args.head.now c.write_each.new.head c.in_ok-before.before c.keep_if.result c.requires.counted
+    (kept_change true c.args.sheaves.now c.share.new.sheaves c.write_each.new.sheaves c.args.head.now c.write_each.new.head c.in_ok-before.before c.requires.counted c.requires.content
+    c.in_ok-before.ensures.exchanged c.in_ok-before.ensures.same c.write_each.ensures.exchanged c.write_each.ensures.content) c.keep_if.ensures.exchanged c.keep_if.ensures.content
+    (c.keep_if.ensures.bytes ∙ ap (λ x. cond c.args.wanted x None) (kept_change true c.args.sheaves.now c.share.new.sheaves c.write_each.new.sheaves c.args.head.now c.write_each.new.head c.in_ok-before.before c.requires.counted c.requires.content
+    c.in_ok-before.ensures.exchanged c.in_ok-before.ensures.same c.write_each.ensures.exchanged c.write_each.ensures.content).bytes)).0
 
 pub returns-in-Ok-clause-bytes : goal.returns-in-Ok-clause-bytes
-returns-in-Ok-clause-bytes c = (kept_if true c.args.wanted c.args.arena.now c.write_each.new.arena c.keep_if.new.arena c.args.head.now c.write_each.new.head c.in_ok-before.before c.keep_if.result c.requires.counted
-    (kept_change true c.args.arena.now c.share.new.arena c.write_each.new.arena c.args.head.now c.write_each.new.head c.in_ok-before.before c.requires.counted c.requires.content
-    c.in_ok-before.ensures.moved c.in_ok-before.ensures.same c.write_each.ensures.moved c.write_each.ensures.content) c.keep_if.ensures.moved c.keep_if.ensures.content
-    (c.keep_if.ensures.bytes ∙ ap (λ x. cond c.args.wanted x None) (kept_change true c.args.arena.now c.share.new.arena c.write_each.new.arena c.args.head.now c.write_each.new.head c.in_ok-before.before c.requires.counted c.requires.content
-    c.in_ok-before.ensures.moved c.in_ok-before.ensures.same c.write_each.ensures.moved c.write_each.ensures.content).bytes)).1 ∙ c.in-Ok.ensures.ok ∙ ap (λ held. Some (parts_written c.args.parts.now c.args.bytes.now (unwrap_or held []))) (head_after c.args.arena.now c.share.new.arena c.args.head.now (pages_of c.in_ok-before.before) c.requires.counted c.requires.content c.in_ok-before.ensures.moved).1
+returns-in-Ok-clause-bytes c = (kept_if true c.args.wanted c.args.sheaves.now c.write_each.new.sheaves c.keep_if.new.sheaves c.args.head.now c.write_each.new.head c.in_ok-before.before c.keep_if.result c.requires.counted
+    (kept_change true c.args.sheaves.now c.share.new.sheaves c.write_each.new.sheaves c.args.head.now c.write_each.new.head c.in_ok-before.before c.requires.counted c.requires.content
+    c.in_ok-before.ensures.exchanged c.in_ok-before.ensures.same c.write_each.ensures.exchanged c.write_each.ensures.content) c.keep_if.ensures.exchanged c.keep_if.ensures.content
+    (c.keep_if.ensures.bytes ∙ ap (λ x. cond c.args.wanted x None) (kept_change true c.args.sheaves.now c.share.new.sheaves c.write_each.new.sheaves c.args.head.now c.write_each.new.head c.in_ok-before.before c.requires.counted c.requires.content
+    c.in_ok-before.ensures.exchanged c.in_ok-before.ensures.same c.write_each.ensures.exchanged c.write_each.ensures.content).bytes)).1 ∙ c.in-Ok.ensures.ok ∙ ap (λ held. Some (parts_written c.args.parts.now c.args.bytes.now (unwrap_or held []))) (head_after c.args.sheaves.now c.share.new.sheaves c.args.head.now (sheaves_of c.in_ok-before.before) c.requires.counted c.requires.content c.in_ok-before.ensures.exchanged).1
 
 pub returns-in-Err-clause-err : goal.returns-in-Err-clause-err
-returns-in-Err-clause-err c = (restored c.args.arena.now c.write_each.new.arena c.let_go.new.arena c.args.head.now c.write_each.new.head c.in_ok-before.before c.requires.counted
-    (kept_change true c.args.arena.now c.share.new.arena c.write_each.new.arena c.args.head.now c.write_each.new.head c.in_ok-before.before c.requires.counted c.requires.content
-    c.in_ok-before.ensures.moved c.in_ok-before.ensures.same c.write_each.ensures.moved c.write_each.ensures.content) c.let_go.ensures.moved).0
+returns-in-Err-clause-err c = (restored c.args.sheaves.now c.write_each.new.sheaves c.let_go.new.sheaves c.args.head.now c.write_each.new.head c.in_ok-before.before c.requires.counted
+    (kept_change true c.args.sheaves.now c.share.new.sheaves c.write_each.new.sheaves c.args.head.now c.write_each.new.head c.in_ok-before.before c.requires.counted c.requires.content
+    c.in_ok-before.ensures.exchanged c.in_ok-before.ensures.same c.write_each.ensures.exchanged c.write_each.ensures.content) c.let_go.ensures.exchanged).0
 
 pub returns-in-Err-clause-same : goal.returns-in-Err-clause-same
-returns-in-Err-clause-same c = (restored c.args.arena.now c.write_each.new.arena c.let_go.new.arena c.args.head.now c.write_each.new.head c.in_ok-before.before c.requires.counted
-    (kept_change true c.args.arena.now c.share.new.arena c.write_each.new.arena c.args.head.now c.write_each.new.head c.in_ok-before.before c.requires.counted c.requires.content
-    c.in_ok-before.ensures.moved c.in_ok-before.ensures.same c.write_each.ensures.moved c.write_each.ensures.content) c.let_go.ensures.moved).1
+returns-in-Err-clause-same c = (restored c.args.sheaves.now c.write_each.new.sheaves c.let_go.new.sheaves c.args.head.now c.write_each.new.head c.in_ok-before.before c.requires.counted
+    (kept_change true c.args.sheaves.now c.share.new.sheaves c.write_each.new.sheaves c.args.head.now c.write_each.new.head c.in_ok-before.before c.requires.counted c.requires.content
+    c.in_ok-before.ensures.exchanged c.in_ok-before.ensures.same c.write_each.ensures.exchanged c.write_each.ensures.content) c.let_go.ensures.exchanged).1

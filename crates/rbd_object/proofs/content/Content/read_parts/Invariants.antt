@@ -5,4 +5,4 @@ use Rattle.rbd_object.proofs.content.Content.read_parts.Given as goal
 
 -- what was read, and what is left to read
 abbrev pub invariant-loop-part : goal.invariant-loop-part
-invariant-loop-part l = l.read.items ++ parts_of (drop l.part-index l.parts) (bytes_in l.arena l.self) ≡ parts_of l.parts (bytes_in l.arena l.self)
+invariant-loop-part l = l.read.items ++ parts_of (drop l.part-index l.parts) (bytes_in l.sheaves l.self) ≡ parts_of l.parts (bytes_in l.sheaves l.self)

@@ -9,27 +9,27 @@ use Rattle.rbd_object.proofs.paged.PagedObject.copy_up.Goals as goal
 pub invariant_of-self : goal.invariant_of-self
 invariant_of-self c =
     let none : c.self.inside.head ≡ None = search rules in
-    (refused_paged c.self.inside.arena c.fill.new.arena c.self.inside.head c.fill.new.head c.self.inside.seq c.self.inside.versions.items c.self.inside.versions.items
-    (subst (λ h. IsKept false c.self.inside.arena h c.fill.new.arena c.fill.new.head None) (sym none) c.fill.ensures.ok)
-    (ap (bytes_of c.fill.new.arena) c.in_err-fill.ensures.err ∙ sym (ap (bytes_of c.self.inside.arena) none)) refl c.self.invariant).0
+    (refused_paged c.self.inside.sheaves c.fill.new.sheaves c.self.inside.head c.fill.new.head c.self.inside.seq c.self.inside.versions.items c.self.inside.versions.items
+    (subst (λ h. IsKept false c.self.inside.sheaves h c.fill.new.sheaves c.fill.new.head None) (sym none) c.fill.ensures.ok)
+    (ap (bytes_of c.fill.new.sheaves) c.in_err-fill.ensures.err ∙ sym (ap (bytes_of c.self.inside.sheaves) none)) refl c.self.invariant).0
 
 pub returns-in_err-fill-clause-err : goal.returns-in_err-fill-clause-err
 returns-in_err-fill-clause-err c =
     let none : c.self.inside.head ≡ None = search rules in
     on_err _
-    ((refused_paged c.self.inside.arena c.fill.new.arena c.self.inside.head c.fill.new.head c.self.inside.seq c.self.inside.versions.items c.self.inside.versions.items
-    (subst (λ h. IsKept false c.self.inside.arena h c.fill.new.arena c.fill.new.head None) (sym none) c.fill.ensures.ok)
-    (ap (bytes_of c.fill.new.arena) c.in_err-fill.ensures.err ∙ sym (ap (bytes_of c.self.inside.arena) none)) refl c.self.invariant).1
+    ((refused_paged c.self.inside.sheaves c.fill.new.sheaves c.self.inside.head c.fill.new.head c.self.inside.seq c.self.inside.versions.items c.self.inside.versions.items
+    (subst (λ h. IsKept false c.self.inside.sheaves h c.fill.new.sheaves c.fill.new.head None) (sym none) c.fill.ensures.ok)
+    (ap (bytes_of c.fill.new.sheaves) c.in_err-fill.ensures.err ∙ sym (ap (bytes_of c.self.inside.sheaves) none)) refl c.self.invariant).1
     ∙ ap (λ (x : Paged). x.shown) c.self.view_is)
 
 pub invariant_of-self-2 : goal.invariant_of-self-2
 invariant_of-self-2 c =
     let none : c.self.inside.head ≡ None = search rules in
-    (filled_paged c.self.inside.arena c.fill.new.arena c.self.inside.head c.fill.new.head c.self.inside.seq c.self.inside.versions.items c.args.bytes.now c.args.self.now.shown c.in_ok-fill.ensures.ok none c.in_ok-fill.ensures.bytes
+    (filled_paged c.self.inside.sheaves c.fill.new.sheaves c.self.inside.head c.fill.new.head c.self.inside.seq c.self.inside.versions.items c.args.bytes.now c.args.self.now.shown c.in_ok-fill.ensures.ok none c.in_ok-fill.ensures.bytes
     (ap (λ (x : Paged). x.shown) c.self.view_is) c.self.invariant).0
 
 pub returns-clause-ok : goal.returns-clause-ok
 returns-clause-ok c =
     let none : c.self.inside.head ≡ None = search rules in
-    (filled_paged c.self.inside.arena c.fill.new.arena c.self.inside.head c.fill.new.head c.self.inside.seq c.self.inside.versions.items c.args.bytes.now c.args.self.now.shown c.in_ok-fill.ensures.ok none c.in_ok-fill.ensures.bytes
+    (filled_paged c.self.inside.sheaves c.fill.new.sheaves c.self.inside.head c.fill.new.head c.self.inside.seq c.self.inside.versions.items c.args.bytes.now c.args.self.now.shown c.in_ok-fill.ensures.ok none c.in_ok-fill.ensures.bytes
     (ap (λ (x : Paged). x.shown) c.self.view_is) c.self.invariant).1

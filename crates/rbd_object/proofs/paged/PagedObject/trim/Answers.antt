@@ -4,11 +4,11 @@ use Rattle.rbd_object.proofs.PagedLemmas.{trimmed_paged}
 use Rattle.rbd_object.proofs.paged.PagedObject.trim.Goals as goal
 
 pub invariant_of-self : goal.invariant_of-self
-invariant_of-self c = (trimmed_paged c.args.live.now c.self.inside.arena c.let_go.new.arena c.self.inside.head c.self.inside.seq c.self.inside.versions.items
+invariant_of-self c = (trimmed_paged c.args.live.now c.self.inside.sheaves c.let_go.new.sheaves c.self.inside.head c.self.inside.seq c.self.inside.versions.items
     c.keep_live.new.versions.items c.args.self.now.shown c.self.invariant c.let_go.ensures.counts c.let_go.ensures.kept c.keep_live.ensures
     (ap (λ (x : Paged). x.shown) c.self.view_is)).0
 
 pub returns-clause-shown : goal.returns-clause-shown
-returns-clause-shown c = (trimmed_paged c.args.live.now c.self.inside.arena c.let_go.new.arena c.self.inside.head c.self.inside.seq c.self.inside.versions.items
+returns-clause-shown c = (trimmed_paged c.args.live.now c.self.inside.sheaves c.let_go.new.sheaves c.self.inside.head c.self.inside.seq c.self.inside.versions.items
     c.keep_live.new.versions.items c.args.self.now.shown c.self.invariant c.let_go.ensures.counts c.let_go.ensures.kept c.keep_live.ensures
     (ap (λ (x : Paged). x.shown) c.self.view_is)).1

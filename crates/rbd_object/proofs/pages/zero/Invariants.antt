@@ -1,9 +1,0 @@
-use Rattle.rbd_object.proofs.PagingLemmas.{IsZeroing}
-use Rattle.rbd_object.proofs.pages.zero.Given as goal
-
--- once the rest is zero, all is
-abbrev pub invariant-loop-left : goal.invariant-loop-left
-invariant-loop-left l = IsZeroing l.pages l.at l.len l.initial.arena l.next l.left l.arena
-
-abbrev pub decreases-loop-left : goal.decreases-loop-left
-decreases-loop-left l = l.left

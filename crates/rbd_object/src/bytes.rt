@@ -1,0 +1,123 @@
+//! The bytes of a list of sheaves, on the pages that these name.
+ghost use Rattle.std.specs.Prelude.{◌≡◌, ℕ, ◌+◌, ◌/◌, ◌<◌, ◌≤◌, length, slice_index, IfSome, None};
+ghost use Rattle.rbd_object.specs.Contents.{window};
+ghost use Rattle.rbd_object.specs.Paging.{AreCounted, IsReady, IsWritten, IsZeroed, byte_at, bytes_on};
+ghost use Rattle.rbd_object.specs.Sheaves.{AreFull, pages_in};
+ghost use Rattle.rbd_object.specs.declared.page.TheConstants.{PAGE};
+ghost use Rattle.rbd_object.specs.declared.content.TheConstants.{LARGEST_OBJECT};
+
+use crate::arena::Arena;
+use crate::page::PAGE;
+use crate::sheaf::{SHEAF, Sheaf};
+
+/// The page at place `k` of the list's pages.
+fn page_at(list: &[u32], sheaves: &[Sheaf], k: usize) -> u32
+    requires counted { AreCounted sheaves.now list.now }
+    requires full { AreFull sheaves.now list.now }
+    requires there { k < length (pages_in sheaves.now list.now) }
+    ensures { result ≡ slice_index (pages_in sheaves.now list.now) k }
+{
+    sheaves[list[k / SHEAF] as usize].page(k % SHEAF)
+}
+
+/// Writes bytes from byte `at` on.
+pub fn put(list: &[u32], sheaves: &[Sheaf], arena: &mut Arena, at: usize, bytes: &[u8])
+    requires sheaves { AreCounted sheaves.now list.now }
+    requires full { AreFull sheaves.now list.now }
+    requires counted { AreCounted arena.old (pages_in sheaves.now list.now) }
+    requires within { at + length bytes.now ≤ LARGEST_OBJECT }
+    requires ready { (j : ℕ) → j < length bytes.now → IsReady arena.old (pages_in sheaves.now list.now) ((at + j) / PAGE) (slice_index bytes.now j) }
+    ensures { IsWritten (pages_in sheaves.now list.now) at bytes.now arena.old arena.new }
+{
+    let mut next = at;
+    let mut rest = bytes;
+    while !rest.is_empty() {
+        let count = rest.len().min(PAGE - next % PAGE);
+        let (front, back) = rest.split_at(count);
+        arena.put(page_at(list, sheaves, next / PAGE), next % PAGE, front);
+        next += count;
+        rest = back;
+    }
+}
+
+/// Makes `len` bytes from byte `at` on zero.
+pub fn zero(list: &[u32], sheaves: &[Sheaf], arena: &mut Arena, at: usize, len: usize)
+    requires sheaves { AreCounted sheaves.now list.now }
+    requires full { AreFull sheaves.now list.now }
+    requires counted { AreCounted arena.old (pages_in sheaves.now list.now) }
+    requires within { at + len ≤ LARGEST_OBJECT }
+    requires ready { (j : ℕ) → j < len → IsReady arena.old (pages_in sheaves.now list.now) ((at + j) / PAGE) 0 }
+    ensures { IsZeroed (pages_in sheaves.now list.now) at len arena.old arena.new }
+{
+    let mut next = at;
+    let mut left = len;
+    while left > 0 {
+        let count = left.min(PAGE - next % PAGE);
+        arena.clear(page_at(list, sheaves, next / PAGE), next % PAGE, count);
+        next += count;
+        left -= count;
+    }
+}
+
+/// Fills a buffer with the bytes from byte `at` on, and with zeros where there is no page.
+pub fn read(list: &[u32], sheaves: &[Sheaf], arena: &Arena, at: usize, into: &mut [u8])
+    requires sheaves { AreCounted sheaves.now list.now }
+    requires full { AreFull sheaves.now list.now }
+    requires counted { AreCounted arena.now (pages_in sheaves.now list.now) }
+    requires within { at ≤ LARGEST_OBJECT }
+    ensures len { length into.new ≡ length into.old }
+    ensures bytes { (j : ℕ) → j < length into.old → slice_index into.new j ≡ byte_at arena.now (pages_in sheaves.now list.now) (at + j) }
+{
+    let mut done = 0;
+    while done < into.len() {
+        let (page, offset) = ((at + done) / PAGE, (at + done) % PAGE);
+        let count = (into.len() - done).min(PAGE - offset);
+        read_page(
+            list,
+            sheaves,
+            arena,
+            page,
+            offset,
+            &mut into[done..done + count],
+        );
+        done += count;
+    }
+}
+
+/// The same on one page.
+fn read_page(
+    list: &[u32],
+    sheaves: &[Sheaf],
+    arena: &Arena,
+    k: usize,
+    offset: usize,
+    into: &mut [u8],
+)
+    requires sheaves { AreCounted sheaves.now list.now }
+    requires full { AreFull sheaves.now list.now }
+    requires counted { AreCounted arena.now (pages_in sheaves.now list.now) }
+    ensures { into.new ≡ window (bytes_on arena.now (pages_in sheaves.now list.now) k) offset (length into.old) }
+{
+    match find_page(list, sheaves, k) {
+        Some(page) => arena.read(page, offset, into),
+        None => into.fill(0),
+    }
+}
+
+/// The page at place `k` of the list's pages, if there is one.
+fn find_page(list: &[u32], sheaves: &[Sheaf], k: usize) -> Option<u32>
+    requires counted { AreCounted sheaves.now list.now }
+    requires full { AreFull sheaves.now list.now }
+    ensures there { IfSome result (λ page. k < length (pages_in sheaves.now list.now)) }
+    ensures page { IfSome result (λ page. page ≡ slice_index (pages_in sheaves.now list.now) k) }
+    ensures past { result ≡ None → length (pages_in sheaves.now list.now) ≤ k }
+{
+    if k / SHEAF >= list.len() {
+        return None;
+    }
+    let sheaf = &sheaves[list[k / SHEAF] as usize];
+    if k % SHEAF >= sheaf.len() {
+        return None;
+    }
+    Some(sheaf.page(k % SHEAF))
+}
