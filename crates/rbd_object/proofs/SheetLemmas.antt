@@ -1,9 +1,10 @@
 -- Changes of one page of an arena.
-use Rattle.std.proofs.Common.{◌≡◌, ℕ, ◌+◌, ◌-◌, ◌<◌, ◌≤◌, cond, List, [], ◌∷◌, ◌++◌, length, get_or, set, take, drop, min, refl, sym, ap, ◌∙◌, subst, inl, inr, arith}
+use Rattle.std.proofs.Common.{◌≡◌, ℕ, ◌+◌, ◌-◌, ◌<◌, ◌≤◌, cond, List, [], ◌∷◌, ◌++◌, length, get_or, set, take, drop, replicate, min, refl, sym, ap, ◌∙◌, subst, inl, inr, arith}
 use Rattle.std.specs.Prelude.{zero, suc}
 use Rattle.std.proofs.lemmas.Bool.{cases_lt}
-use Rattle.std.proofs.lemmas.List.{get_or_past, get_or_append_left, get_or-set_same, get_or-set_other, get_or_push, length_push, length-set, get_or_read, take_at}
-use Rattle.rbd_object.specs.Contents.{overwritten, zeroed, is_within}
+use Rattle.std.proofs.lemmas.List.{get_or_past, get_or_append_left, get_or-set_same, get_or-set_other, get_or_push, length_push, length-set, get_or_read, take_at, get_or-replicate, length-replicate, places}
+use Rattle.std.proofs.lemmas.List.FromFn.{fill_by_all}
+use Rattle.rbd_object.specs.Contents.{overwritten, zeroed, is_within, window}
 use Rattle.rbd_object.proofs.ContentsLemmas.{length_overwritten, get_or-overwritten_any, length-zeroed, get_or-zeroed}
 use Rattle.rbd_object.specs.Sheets.{Sheet, Changed, free_sheet, count_at, in_use}
 
@@ -119,3 +120,14 @@ pub clear_byte : (old new : List ℕ) (at count len k : ℕ) → new ≡ zeroed 
 clear_byte old new at count len k cleared l =
     let long : length new ≡ len = ap length cleared ∙ length-zeroed old at count ∙ sym l in
     ap (λ xs. get_or xs k 0) (take_at new (drop (length new) old) len long ∙ cleared) ∙ get_or-zeroed old at count k
+
+-- ---- a read of one page
+
+pub read_none : (bytes : List ℕ) (at count : ℕ) → length bytes ≡ 0 → replicate count 0 ≡ window bytes at count
+read_none [] at count none =
+    fill_by_all (λ i. get_or [] (at + i) 0) (replicate count 0) count 0 (length-replicate count 0) (λ k h. get_or-replicate count k 0 0 h)
+read_none (b ∷ bytes) at count none = absurd (let f : ⊥ = omega arith in f)
+
+pub read_whole : (bytes : List ℕ) (at count n : ℕ) → at + count ≤ length bytes → n ≡ count → take n (drop at bytes) ≡ window bytes at count
+read_whole bytes at count n within e =
+    fill_by_all (λ i. get_or bytes (at + i) 0) (take n (drop at bytes)) count 0 (grind (arith, places)) (λ k h. grind (arith, places))

@@ -196,7 +196,8 @@ impl Arena {
 
     /// Fills a buffer with the bytes of a page from offset `at` on.
     pub fn read(&self, index: u32, at: usize, into: &mut [u8])
-        requires { 0 < count_at self.now index }
+        requires used { 0 < count_at self.now index }
+        requires within { at + length into.old ≤ PAGE }
         ensures { into.new ≡ window (bytes_at self.now index) at (length into.old) }
     {
         self.pages[index as usize].read(at, into);

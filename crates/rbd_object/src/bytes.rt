@@ -96,6 +96,7 @@ fn read_page(
     requires sheaves { AreCounted sheaves.now list.now }
     requires full { AreFull sheaves.now list.now }
     requires counted { AreCounted arena.now (pages_in sheaves.now list.now) }
+    requires within { offset + length into.old ≤ PAGE }
     ensures { into.new ≡ window (bytes_on arena.now (pages_in sheaves.now list.now) k) offset (length into.old) }
 {
     match find_page(list, sheaves, k) {

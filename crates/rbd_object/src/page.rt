@@ -3,7 +3,7 @@ ghost use Rattle.std.specs.Prelude.{◌≡◌, ◌≢◌, ℕ, ◌+◌, ◌-◌,
 ghost use Rattle.rbd_object.specs.Contents.{is_within, window};
 ghost use Rattle.rbd_object.specs.Sheets.{Sheet};
 
-use crate::parts::{clear, copy_over, copy_window};
+use crate::parts::{clear, copy_over};
 use rbd_kinds::NoMemory;
 use std::alloc::Global;
 use std::marker::Model;
@@ -95,11 +95,16 @@ impl Page {
         })
     }
 
-    /// Fills a buffer with the bytes from offset `at` on, and with zeros past the last.
+    /// Fills a buffer with the bytes from offset `at` on, all of which lie on the page.
     pub fn read(&self, at: usize, into: &mut [u8])
+        requires { at + length into.old ≤ PAGE }
         ensures { into.new ≡ window self.now.bytes at (length into.old) }
     {
-        copy_window(self.bytes.as_slice(), at, into);
+        if self.bytes.is_empty() {
+            into.fill(0);
+            return;
+        }
+        into.copy_from_slice(&self.bytes[at..at + into.len()]);
     }
 
     /// Writes bytes from offset `at` on. Where one isn't zero, the memory for them has to be there.

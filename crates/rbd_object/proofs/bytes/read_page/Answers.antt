@@ -5,8 +5,8 @@ use Rattle.rbd_object.specs.Sheets.{bytes_at}
 use Rattle.rbd_object.proofs.PagingLemmas.{counted_at, page_read, zeros_read}
 use Rattle.rbd_object.proofs.bytes.read_page.Goals as goal
 
-pub read-requires : goal.read-requires
-read-requires c =
+pub read-requires-clause-used : goal.read-requires-clause-used
+read-requires-clause-used c =
     rw c.in-Some.ensures.page
     (counted_at c.args.arena.now (pages_in c.args.sheaves.now c.args.list.now) c.args.k c.requires.counted c.in-Some.ensures.there)
 
