@@ -80,18 +80,18 @@ complaint_told (Some bytes) left' held held' taken text took rest is gained =
     ((text, complaint_of_taken bytes text (subst (λ b. IsComplaint b text) took is), gained), rest)
 
 text_of_taken : (words : List (List ℕ)) (bytes text : List ℕ) (status : Status) → AreRun words → Answers words (take (limit + 1) bytes) status text → IsText words bytes text
-text_of_taken words bytes text Done are is = inr (are, inl (output_of_taken words bytes text is))
-text_of_taken words bytes text BadLine are is = inr (are, inr (complaint_of_taken bytes text is))
+text_of_taken words bytes text Done are is = inl (output_of_taken words bytes text is)
+text_of_taken words bytes text BadLine are is = inr (complaint_of_taken bytes text is)
 text_of_taken words bytes text Usage are is = absurd is
 text_of_taken words bytes text ReadFault are is = absurd is
 text_of_taken words bytes text WriteFault are is = absurd is
 text_of_taken words bytes text NoMemory are is = absurd is
 
 pub front_told : (words : List (List ℕ)) (left held held' : Option (List ℕ)) (taken text : List ℕ) (status : Status) → AreRun words → Took taken left → Answers words taken status text → GainsFront text held held'
-    → IfSome left (λ bytes. PrintsFront (IsText words bytes) held held')
-front_told words None held held' taken text status are took is front = tt
+    → AreRun words × IfSome left (λ bytes. PrintsFront (IsText words bytes) held held')
+front_told words None held held' taken text status are took is front = (are, tt)
 front_told words (Some bytes) held held' taken text status are took is front =
-    (text, text_of_taken words bytes text status are (subst (λ b. Answers words b status text) took is), front)
+    (are, (text, text_of_taken words bytes text status are (subst (λ b. Answers words b status text) took is), front))
 
 -- an answer is never a write fault
 pub no_write_fault : (words : List (List ℕ)) (bytes text : List ℕ) (status : Status) → Answers words bytes status text → status ≡ WriteFault → ⊥

@@ -49,9 +49,9 @@ Answers words bytes ReadFault text = ⊥
 Answers words bytes WriteFault text = ⊥
 Answers words bytes NoMemory text = ⊥
 
--- what is to be printed for these words and bytes
+-- what is to be printed for these bytes
 abbrev pub IsText : (words : List (List ℕ)) → (bytes text : List ℕ) → Type 0
-IsText words bytes text = (¬ (AreRun words) × (text ≡ usage_text)) ⊎ (AreRun words × (IsOutput words bytes text ⊎ IsComplaint bytes text))
+IsText words bytes text = IsOutput words bytes text ⊎ IsComplaint bytes text
 
 -- a text of which this holds was printed, whole or a first part of it
 abbrev pub Prints : (List ℕ → Type 0) → Option (List ℕ) → Option (List ℕ) → Type 0
@@ -79,9 +79,12 @@ IsUsage words held held' = ¬ (AreRun words) × (held' ≡ held_with usage_text 
 abbrev pub IsForOthers : {S : Type 0} → (words : List (List ℕ)) → Status → (old new : S) → Type 0
 IsForOthers words status old new = ¬ (AreRun words) → ((status ≡ Usage) ⊎ (status ≡ WriteFault)) × (new ≡ old)
 
--- The sink has some first part of what was to be printed, and not all of it.
+-- The sink has some first part of what was to be printed, and not all of it: of the usage line for other words, whatever the
+-- source is; else of the text for the bytes that the source had.
 abbrev pub IsCut : (words : List (List ℕ)) → (left held held' : Option (List ℕ)) → Type 0
-IsCut words left held held' = IfSome left (λ bytes. PrintsFront (IsText words bytes) held held')
+IsCut words left held held' =
+    (¬ (AreRun words) × PrintsFront (λ text. text ≡ usage_text) held held')
+    ⊎ (AreRun words × IfSome left (λ bytes. PrintsFront (IsText words bytes) held held'))
 
 -- The script was asked for, and nothing was printed.
 abbrev pub IsSilent : (words : List (List ℕ)) → (held held' : Option (List ℕ)) → Type 0

@@ -1,7 +1,9 @@
 //! The top call.
 ghost use Rattle.std.specs.Prelude.{◌≡◌, ◌≢◌, [], drop, Some, ◌+◌, ◌-◌, ◌^◌, ◌<◌, ◌≤◌, ◌⊎◌, ◌↔◌, List, ℕ, codes, length, map, take, IsTrue, IfOk, IfSome};
 ghost use Rattle.std.specs.String.{string_bytes};
+ghost use Rattle.rbd_edge.specs.Source.{IsFurther};
 ghost use Rattle.rbd_edge.specs.Sink.{held_with, GainsFront};
+ghost use Rattle.rbd_script.specs.Reading.{limit};
 ghost use Rattle.rbd_lab.specs.Run.{Answers, AreRun, IsBadLine, IsCut, IsDone, IsForOthers, IsSilent, IsUsage, Tells, code_of, words_of};
 
 use crate::mode::Mode;
@@ -70,6 +72,9 @@ pub fn run<R: Threads + Wait + Sync, S: Source, K: Sink>(
     ensures read_fault { Tells Status.ReadFault result (S.faults source.old) (S.faults source.new) }
     ensures write_fault { Tells Status.WriteFault result (K.faults sink.old) (K.faults sink.new) }
 
+    // Never is more than one byte past the limit taken, however it ends.
+    ensures taken { IsFurther (limit + 1) (S.left source.old) (S.left source.new) }
+
     // What these and the want of memory leave.
     ensures unread { result ≡ Status.ReadFault → IsSilent (map (λ w. string_bytes w) words.now) (K.held sink.old) (K.held sink.new) }
     ensures cut { result ≡ Status.WriteFault → IsCut (map (λ w. string_bytes w) words.now) (S.left source.old) (K.held sink.old) (K.held sink.new) }
@@ -101,6 +106,9 @@ pub fn run_alone<S: Source, K: Sink>(
     // The faults come exactly where a device counted one.
     ensures read_fault { Tells Status.ReadFault result (S.faults source.old) (S.faults source.new) }
     ensures write_fault { Tells Status.WriteFault result (K.faults sink.old) (K.faults sink.new) }
+
+    // Never is more than one byte past the limit taken, however it ends.
+    ensures taken { IsFurther (limit + 1) (S.left source.old) (S.left source.new) }
 
     // What these and the want of memory leave.
     ensures unread { result ≡ Status.ReadFault → IsSilent (map (λ w. string_bytes w) words.now) (K.held sink.old) (K.held sink.new) }

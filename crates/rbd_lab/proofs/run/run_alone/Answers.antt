@@ -1,4 +1,4 @@
-use Rattle.std.proofs.Common.{◌≡◌, sym, ap, ◌∙◌, subst}
+use Rattle.std.proofs.Common.{◌≡◌, sym, ap, ◌∙◌, subst, inr}
 use Rattle.rbd_edge.specs.Sink.{held_with, GainsFront}
 use Rattle.rbd_lab.specs.Run.{Answers, IsOutput, words_of}
 use Rattle.rbd_lab.specs.declared.run.Status.TheVariants.{Done, BadLine, WriteFault}
@@ -32,8 +32,8 @@ returns-in-Ok-answer-clause-bad_line g c = λ bad.
 pub returns-in-Ok-answer-clause-cut : goal.returns-in-Ok-answer-clause-cut
 returns-in-Ok-answer-clause-cut g c = λ failed.
     let front = c.print-in-Ok-answer.ensures.failed (no_write_fault (words_of c.in-Some.mode) c.as_slice.result.now c.in-Ok-answer.text.items c.in-Ok-answer.status c.in-Ok-answer.ensures) failed in
-    front_told _ (g.S.Source.left c.args.source.now) (g.K.Sink.held c.args.sink.now) _ c.as_slice.result.now c.in-Ok-answer.text.items c.in-Ok-answer.status
+    inr (front_told _ (g.S.Source.left c.args.source.now) (g.K.Sink.held c.args.sink.now) _ c.as_slice.result.now c.in-Ok-answer.text.items c.in-Ok-answer.status
     (mode_is_run _ c.in-Some.mode c.in-Some.ensures)
     (subst (λ v. Took v (g.S.Source.left c.args.source.now)) (sym c.as_slice.ensures.value) c.in-Ok.ensures.bytes)
     (subst (λ words. Answers words c.as_slice.result.now c.in-Ok-answer.status c.in-Ok-answer.text.items) (sym c.in-Some.ensures) c.in-Ok-answer.ensures)
-    (subst (λ t. GainsFront t (g.K.Sink.held c.args.sink.now) (g.K.Sink.held c.print-in-Ok-answer.new.sink)) c.as_slice-in-Ok-answer.ensures.value front.0)
+    (subst (λ t. GainsFront t (g.K.Sink.held c.args.sink.now) (g.K.Sink.held c.print-in-Ok-answer.new.sink)) c.as_slice-in-Ok-answer.ensures.value front.0))
