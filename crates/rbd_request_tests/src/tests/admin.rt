@@ -9,7 +9,8 @@ ghost use Rattle.rbd_machine.specs.Plan.{Note};
 ghost use Rattle.rbd_machine.specs.Steps.{change};
 ghost use Rattle.rbd_admin.specs.Create.{drawing, rest_of_create};
 ghost use Rattle.rbd_admin.specs.Listing.{list_names, show_header, rest_of_list};
-ghost use Rattle.rbd_admin.specs.Snap.{create_refuses, remove_refuses, take, taking, remove, rest_of_snap};
+ghost use Rattle.rbd_admin.specs.Snap.{take, taking, remove, rest_of_snap};
+ghost use Rattle.rbd_meaning.specs.Snaps.{create_refuses, remove_refuses};
 
 use super::drive::{
     APPLIED, HOLD, IMAGE, NOTE, asks, end, go_on, holds, is_done, is_refused, join, name, op,
