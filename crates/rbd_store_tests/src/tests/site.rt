@@ -255,16 +255,34 @@ fn an_object_is_there_once_it_was_changed(rt: HostRuntime) -> Result<(), Fail> {
     Ok(())
 }
 
+/// Whether a check ran to its end and found what it looked for.
+fn holds(found_out: Result<bool, NoMemory>) -> bool {
+    found_out.unwrap_or(false)
+}
+
+/// Whether a write is done.
+fn is_written(site: &mut Site, alloc: Global, object: u64, byte: u8) -> bool {
+    match write_to(site, alloc, object, 0, byte) {
+        Ok(answer) => is_done(&answer),
+        Err(_) => false,
+    }
+}
+
+/// Whether an object's first two bytes are these, in the head or in a snapshot.
+fn reads(site: &mut Site, alloc: Global, object: u64, snap: Option<SnapId>, wanted: &[u8]) -> bool {
+    match read(site, alloc, object, snap, 2) {
+        Ok(answer) => are_bytes(&answer, wanted),
+        Err(_) => false,
+    }
+}
+
 #[test]
 fn a_write_to_object_7_is_read_there_alone(rt: HostRuntime) -> Result<(), Fail> {
     let alloc = rt.alloc();
     let mut site = with_image(&rt, alloc)?;
-    let written = write_to(&mut site, alloc, 7, 0, 51)?;
-    assert!(rt; is_done(&written));
-    let seventh = read(&mut site, alloc, 7, None, 2)?;
-    assert!(rt; are_bytes(&seventh, &[51, 0]));
-    let first = read(&mut site, alloc, 0, None, 2)?;
-    assert!(rt; are_bytes(&first, &[17, 0]));
+    assert!(rt; is_written(&mut site, alloc, 7, 51));
+    assert!(rt; reads(&mut site, alloc, 7, None, &[51, 0]));
+    assert!(rt; reads(&mut site, alloc, 0, None, &[17, 0]));
     Ok(())
 }
 
@@ -272,58 +290,92 @@ fn a_write_to_object_7_is_read_there_alone(rt: HostRuntime) -> Result<(), Fail> 
 fn a_listed_snapshot_reads_the_same_after_a_trim(rt: HostRuntime) -> Result<(), Fail> {
     let alloc = rt.alloc();
     let mut site = with_snapshot(&rt, alloc)?;
-    let found = site.trim(IMAGE, 0)?;
-    assert!(rt; found);
-    let old = read(&mut site, alloc, 0, Some(SnapId(1)), 2)?;
-    assert!(rt; are_bytes(&old, &[17, 0]));
+    assert!(rt; holds(site.trim(IMAGE, 0)));
+    assert!(rt; reads(&mut site, alloc, 0, Some(SnapId(1)), &[17, 0]));
     Ok(())
+}
+
+/// Whether the name of the image is taken away: done the first time, and missing after it.
+fn is_freed_once(site: &mut Site) -> bool {
+    let first = is_freed(site);
+    let second = is_freed(site);
+    first && !second
+}
+
+fn is_freed(site: &mut Site) -> bool {
+    match site.apply(C1, Op::Directory(DirectoryOp::Remove { image: IMAGE })) {
+        Ok(answer) => is_done(&answer),
+        Err(_) => false,
+    }
+}
+
+/// Whether the name gets this id.
+fn draws(site: &mut Site, name: Name, id: u32) -> bool {
+    match site.apply(C1, Op::Directory(DirectoryOp::Add { name })) {
+        Ok(answer) => is_id(&answer, id),
+        Err(_) => false,
+    }
+}
+
+fn is_id(answer: &Answer, id: u32) -> bool {
+    match answer {
+        Answer::Id(image) => image.0 == id,
+        _ => false,
+    }
 }
 
 #[test]
 fn a_freed_name_is_absent_and_its_id_is_not_drawn_again(rt: HostRuntime) -> Result<(), Fail> {
     let alloc = rt.alloc();
     let mut site = with_image(&rt, alloc)?;
-    let freed = free(&mut site)?;
-    assert!(rt; is_done(&freed));
-    let again = free(&mut site)?;
-    assert!(rt; is_absent(&again));
-    let name = name(&rt, alloc, b"d")?;
-    let added = site.apply(C1, Op::Directory(DirectoryOp::Add { name }))?;
-    assert!(rt; matches!(added, Answer::Id(ImageId(2))));
+    assert!(rt; is_freed_once(&mut site));
+    assert!(rt; draws(&mut site, name(&rt, alloc, b"d")?, 2));
     Ok(())
 }
 
-fn free(site: &mut Site) -> Result<Answer, NoMemory> {
-    site.apply(C1, Op::Directory(DirectoryOp::Remove { image: IMAGE }))
-}
-
-fn add_child(site: &mut Site, snap: u32, child: u32) -> Result<Answer, NoMemory> {
+/// Whether a child is added.
+fn adds_child(site: &mut Site, snap: u32, child: u32) -> bool {
     let add = ChildrenOp::Add {
         parent: IMAGE,
         snap: SnapId(snap),
         child: ImageId(child),
     };
-    site.apply(C1, Op::Children(add))
+    on_children(site, add)
 }
 
-fn remove_child(site: &mut Site, snap: u32, child: u32) -> Result<Answer, NoMemory> {
+/// Whether a child is removed, which it is where it was there.
+fn removes_child(site: &mut Site, snap: u32, child: u32) -> bool {
     let remove = ChildrenOp::Remove {
         parent: IMAGE,
         snap: SnapId(snap),
         child: ImageId(child),
     };
-    site.apply(C1, Op::Children(remove))
+    on_children(site, remove)
+}
+
+fn on_children(site: &mut Site, op: ChildrenOp) -> bool {
+    match site.apply(C1, Op::Children(op)) {
+        Ok(answer) => is_done(&answer),
+        Err(_) => false,
+    }
 }
 
 /// Whether these are the children of a snapshot.
-fn are_children(site: &mut Site, snap: u32, wanted: &[u32]) -> Result<bool, NoMemory> {
+fn are_children(site: &mut Site, snap: u32, wanted: &[u32]) -> bool {
     let list = ChildrenOp::List {
         parent: IMAGE,
         snap: SnapId(snap),
     };
-    match site.apply(C1, Op::Children(list))? {
-        Answer::Ids(ids) => Ok(are_ids(ids.as_slice(), wanted)),
-        _ => Ok(false),
+    match site.apply(C1, Op::Children(list)) {
+        Ok(answer) => are_told_ids(&answer, wanted),
+        Err(_) => false,
+    }
+}
+
+fn are_told_ids(answer: &Answer, wanted: &[u32]) -> bool {
+    match answer {
+        Answer::Ids(ids) => are_ids(ids.as_slice(), wanted),
+        _ => false,
     }
 }
 
@@ -336,20 +388,28 @@ fn are_ids(ids: &[ImageId], wanted: &[u32]) -> bool {
         .all(|(id, number)| id.0 == *number)
 }
 
+/// Whether children of two snapshots are listed by snapshot, ascending.
+fn lists_children(site: &mut Site) -> bool {
+    let one = adds_child(site, 1, 3);
+    let two = adds_child(site, 1, 2);
+    let other = adds_child(site, 2, 4);
+    let listed = are_children(site, 1, &[2, 3]);
+    one && two && other && listed
+}
+
+/// Whether a child that is removed isn't listed any more, and the others are.
+fn lists_what_is_left(site: &mut Site) -> bool {
+    let removed = removes_child(site, 1, 2);
+    let again = removes_child(site, 1, 2);
+    let left = are_children(site, 1, &[3]);
+    let other = are_children(site, 2, &[4]);
+    removed && !again && left && other
+}
+
 #[test]
 fn children_are_listed_by_snapshot(rt: HostRuntime) -> Result<(), Fail> {
     let mut site = Site::new(rt.alloc(), SiteId::A)?;
-    let _third = add_child(&mut site, 1, 3)?;
-    let _second = add_child(&mut site, 1, 2)?;
-    let _other = add_child(&mut site, 2, 4)?;
-    let both = are_children(&mut site, 1, &[2, 3])?;
-    assert!(rt; both);
-    let removed = remove_child(&mut site, 1, 2)?;
-    assert!(rt; is_done(&removed));
-    let again = remove_child(&mut site, 1, 2)?;
-    assert!(rt; is_absent(&again));
-    let one = are_children(&mut site, 1, &[3])?;
-    let other = are_children(&mut site, 2, &[4])?;
-    assert!(rt; one && other);
+    assert!(rt; lists_children(&mut site));
+    assert!(rt; lists_what_is_left(&mut site));
     Ok(())
 }
