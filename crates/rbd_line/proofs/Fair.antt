@@ -153,7 +153,7 @@ joined_fair slot alone ms fair from to out =
     record {
       apart = subst AreApart (sym (slots_push ms (joined slot alone))) (apart_push (slots ms) slot fair.apart (slots_in slot ms ∙ out));
       each = each_push IsFairMember ms (joined slot alone) fair.each
-        (record { slot_from = from; slot_to = to; holds_by_right = λ object here. absurd (true≢false (sym here)); once = tt });
+          (record { slot_from = from; slot_to = to; holds_by_right = λ object here. absurd (true≢false (sym here)); once = tt });
       passing = pair_push LetsPass ms (joined slot alone) fair.passing (each_true (λ m. LetsPass m (joined slot alone)) ms (λ m past. absurd (true≢false (sym past))));
     }
 
@@ -262,9 +262,10 @@ passed_pairs slot alone (x ∷ ms) apart lets same pairs =
         → (list_all (lets_pass alone) (ahead slot ms) ≡ true → EachPair LetsPass (changed slot passed ms))
         → EachPair LetsPass (cond b (passed x) x ∷ changed slot passed ms)
     by true e lets rest = first e
-    by false e lets rest =
-        (others_pass (and_left (lets_pass alone x) (list_all (lets_pass alone) (ahead slot ms)) lets),
-        rest (and_right (lets_pass alone x) (list_all (lets_pass alone) (ahead slot ms)) lets))
+    by false e lets rest = (
+      others_pass (and_left (lets_pass alone x) (list_all (lets_pass alone) (ahead slot ms)) lets),
+      rest (and_right (lets_pass alone x) (list_all (lets_pass alone) (ahead slot ms)) lets),
+    )
 
 same_some : (a b : Member) → Some a ≡ Some b → a ≡ b
 same_some a b e = ap (λ o. option_or_member o) e

@@ -17,16 +17,16 @@ few (suc n) xs apart within = by (is_in (suc n) xs) refl (λ ys ys_apart ys_with
         → ((ys : List ℕ) → AreApart ys → ((x : ℕ) → is_in x ys ≡ true → (1 ≤ x) × (x ≤ n)) → length ys ≤ n) → length xs ≤ suc n
     by true e rest =
         let less = rest (without (suc n) xs) (apart_without xs (suc n) apart)
-          (λ x here.
-            let other : x ≡ suc n → ⊥ = λ same. true≢false (sym here ∙ (ap (λ k. is_in k (without (suc n) xs)) same ∙ out xs (suc n))) in
-            let w = within x (sym (others xs (suc n) x other) ∙ here) in
-            (w.0, below n x w.1 other)) in
+        (λ x here.
+        let other : x ≡ suc n → ⊥ = λ same. true≢false (sym here ∙ (ap (λ k. is_in k (without (suc n) xs)) same ∙ out xs (suc n))) in
+        let w = within x (sym (others xs (suc n) x other) ∙ here) in
+        (w.0, below n x w.1 other)) in
         let one = one_leaves xs (suc n) apart e in
         omega (arith, less, one)
     by false e rest =
         let less = rest xs apart
-          (λ x here.
-            let other : x ≡ suc n → ⊥ = λ same. true≢false (sym here ∙ (ap (λ k. is_in k xs) same ∙ e)) in
-            let w = within x here in
-            (w.0, below n x w.1 other)) in
+        (λ x here.
+        let other : x ≡ suc n → ⊥ = λ same. true≢false (sym here ∙ (ap (λ k. is_in k xs) same ∙ e)) in
+        let w = within x here in
+        (w.0, below n x w.1 other)) in
         omega (arith, less)

@@ -87,8 +87,8 @@ stage_kept held_of holders slot f ms same_slot same_objects fair kept =
     record {
       fair = fair;
       turns = λ o. kept.turns o ∙ sym (holding (holds o) (put slot f) ms
-        (each_true (λ m. (holds o (put slot f m) ≡ holds o m) × ((put slot f m).slot ≡ m.slot)) ms
-        (λ m. (put_is (holds o) slot f m (ap (is_in o) (same_objects m)), put_is (λ n. n.slot) slot f m (same_slot m)))));
+          (each_true (λ m. (holds o (put slot f m) ≡ holds o m) × ((put slot f m).slot ≡ m.slot)) ms
+          (λ m. (put_is (holds o) slot f m (ap (is_in o) (same_objects m)), put_is (λ n. n.slot) slot f m (same_slot m)))));
       outside = λ n gone. kept.outside n (sym (members_map (put slot f) ms n (λ m. put_is (λ k. k.slot) slot f m (same_slot m))) ∙ gone);
     }
 
@@ -146,7 +146,7 @@ left_kept old_held old_holders held_of holders slot ms holders_are held_are kept
 
 -- ---- one takes a ticket
 
-none_holds : (object : ℕ) (ms : List Member) → list_all (λ (m : Member). not (is_past m.stage)) ms ≡ true → Each IsFairMember ms → filter (holds object) ms ≡ []
+pub none_holds : (object : ℕ) (ms : List Member) → list_all (λ (m : Member). not (is_past m.stage)) ms ≡ true → Each IsFairMember ms → filter (holds object) ms ≡ []
 none_holds object [] none all = refl
 none_holds object (m ∷ ms) none all =
     by (holds object m) refl (is_past m.stage) refl none (λ rest. none_holds object ms rest all.1)
@@ -222,9 +222,10 @@ entered_kept old_held old_holders held_of holders slot object ms holders_are hel
         (none_holds object (behind slot ms) last (each_behind IsFairMember slot ms kept.fair.each)))
 
     other : (o : ℕ) → eqb object o ≡ false → (m : Member) → (holds o (put slot (entered object) m) ≡ holds o m) × ((put slot (entered object) m).slot ≡ m.slot)
-    other o e m =
-        (put_is (holds o) slot (entered object) m (in_push o object m.objects ∙ (ap (λ b. is_in o m.objects || b) e ∙ or_nothing (is_in o m.objects))),
-        put_is (λ k. k.slot) slot (entered object) m refl)
+    other o e m = (
+      put_is (holds o) slot (entered object) m (in_push o object m.objects ∙ (ap (λ b. is_in o m.objects || b) e ∙ or_nothing (is_in o m.objects))),
+      put_is (λ k. k.slot) slot (entered object) m refl,
+    )
 
     at_object : (o : ℕ) (b : Bool) → eqb object o ≡ b → cond b (old_holders o ++ slot ∷ []) (old_holders o) ≡ slots (filter (holds o) (changed slot (entered object) ms))
     at_object o true e = subst (λ n. old_holders n ++ slot ∷ [] ≡ slots (filter (holds n) (changed slot (entered object) ms))) (eqb-true object o e) its_own

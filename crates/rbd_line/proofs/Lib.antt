@@ -4,5 +4,6 @@ pub mod Keeping
 pub mod Lists
 pub mod Owned
 pub mod Passing
+pub mod Staying
 pub mod Views
 pub mod Walked

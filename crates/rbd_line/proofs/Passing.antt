@@ -90,8 +90,8 @@ some_turn object (x ∷ ms) some = by (holds object x) refl some (λ more. some_
     by true e some rest =
         ap (λ b. list_any (λ (m : Member). holds object m && begins_with m.slot (slots (cond b (x ∷ filter (holds object) ms) (filter (holds object) ms)))) (x ∷ ms)) e
         ∙ or_left (holds object x && eqb x.slot x.slot)
-          (list_any (λ (m : Member). holds object m && begins_with m.slot (x.slot ∷ slots (filter (holds object) ms))) ms)
-          (and_both (holds object x) (eqb x.slot x.slot) e (eq-eqb x.slot x.slot refl))
+        (list_any (λ (m : Member). holds object m && begins_with m.slot (x.slot ∷ slots (filter (holds object) ms))) ms)
+        (and_both (holds object x) (eqb x.slot x.slot) e (eq-eqb x.slot x.slot refl))
     by false e some rest =
         ap (λ b. list_any (λ (m : Member). holds object m && begins_with m.slot (slots (cond b (x ∷ filter (holds object) ms) (filter (holds object) ms)))) (x ∷ ms)) e
         ∙ or_right (holds object x && has_turn x.slot object ms) (list_any (λ (m : Member). holds object m && has_turn m.slot object ms) ms) (rest some)

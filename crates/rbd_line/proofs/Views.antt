@@ -104,7 +104,7 @@ seen_turns old_held held_of slot g [] is = refl
 seen_turns old_held held_of slot g (s ∷ items) is =
     ap (λ m. m ∷ members_of held_of items) (one_change slot g s (old_held s.slot) (held_of s.slot) (is s.slot) (eqb s.slot slot) refl)
     ∙ ap (λ l. cond (eqb s.slot slot) (record { slot = s.slot; alone = s.alone; stage = s.stage; objects = g (old_held s.slot) }) (member old_held s) ∷ l)
-      (seen_turns old_held held_of slot g items is)
+    (seen_turns old_held held_of slot g items is)
 
 pub after_enter : (old_held old_holders held_of holders : ℕ → List ℕ) (items : List Standing) (slot object : ℕ)
     → ((o : ℕ) → holders o ≡ cond (eqb object o) (old_holders o ++ slot ∷ []) (old_holders o))

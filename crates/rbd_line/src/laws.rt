@@ -28,6 +28,28 @@ pub fn first_has_its_turn()
         → IsTrue (has_turn slot object members) → IsTrue (has_turn other object members) → slot ≡ other }
 {}
 
+/// Who has its turn keeps it, whatever the others do, until its piece is done or it leaves.
+pub fn turns_stay()
+    ensures joined { (members : List Member) (slot object other : ℕ) (alone : Bool)
+        → has_turn slot object (members ++ joined other alone ∷ []) ≡ has_turn slot object members }
+
+    ensures hold { (members : List Member) (slot object other : ℕ)
+        → has_turn slot object (changed other held members) ≡ has_turn slot object members }
+
+    ensures pass { (members : List Member) (slot object other : ℕ)
+        → has_turn slot object (changed other passed members) ≡ has_turn slot object members }
+
+    ensures enter { (members : List Member) (slot object other taken : ℕ) → IsFairLine members
+        → IsTrue (none_past_behind other members) → other ≢ slot
+        → IsTrue (has_turn slot object members) → IsTrue (has_turn slot object (changed other (entered taken) members)) }
+
+    ensures end_piece { (members : List Member) (slot object other : ℕ) → other ≢ slot
+        → IsTrue (has_turn slot object members) → IsTrue (has_turn slot object (changed other next_piece members)) }
+
+    ensures leave { (members : List Member) (slot object other : ℕ) → other ≢ slot
+        → IsTrue (has_turn slot object members) → IsTrue (has_turn slot object (without other members)) }
+{}
+
 /// The first member of a line may always pass. Who may pass may still do so after another one left, joined
 /// or changed (`IsSteady`: it waited, passed, took a ticket or did a piece).
 pub fn passing_goes_on()

@@ -3,14 +3,17 @@ ghost use Rattle.std.specs.Option.{option_map};
 ghost use Rattle.rbd_guard.specs.Order.{is_in};
 ghost use Rattle.rbd_line.specs.Line.{member_of, is_member, may_pass, has_turn, comes_next, objects_of, may_enter, none_past_behind, joined, held, passed, entered, next_piece, changed, without, IsFairLine};
 
-use crate::standing::{Standing, alone_of, are_letting_pass, hold_at, join_at, leave_at, pass_at, stage_of};
+use crate::standing::{
+    Standing, alone_of, are_letting_pass, hold_at, join_at, leave_at, pass_at, stage_of,
+};
 use crate::turns::Turns;
 use rbd_course::Stage;
 use rbd_kinds::{NoMemory, Slot};
 use std::alloc::Global;
 use std::marker::Model;
 
-/// The line of one image in one session.
+/// The line of one image in one session. Contracts see its `members` in line order, each with its slot,
+/// whether it is alone, its stage and its objects, and for how many more tickets there is room.
 #[derive(Debug, Drop)]
 pub struct Line {
     /// The members in the order in which they joined.
@@ -34,7 +37,7 @@ impl Model for Line {
     } };
 
     ghost invariant = { λ l. (64 ≤ vec_capacity l.standings)
-      × IsKept (λ slot. held_by slot l.turns) (λ object. holders object l.turns) (map (member (λ slot. held_by slot l.turns)) l.standings.items) };
+        × IsKept (λ slot. held_by slot l.turns) (λ object. holders object l.turns) (map (member (λ slot. held_by slot l.turns)) l.standings.items) };
 }
 
 impl Line {
@@ -49,7 +52,8 @@ impl Line {
         })
     }
 
-    /// A request joins behind the others, alone on the image or shared. It takes no memory.
+    /// A request that isn't in the line joins behind the others, alone on the image or shared. Slots are 1 to
+    /// 64. It takes no memory.
     pub fn join(&mut self, slot: Slot, alone: bool)
         requires from { 1 ≤ slot }
         requires to { slot ≤ 64 }
@@ -62,7 +66,7 @@ impl Line {
     }
 
     /// The request in a slot waits for its own look: one that is past it stays so. A slot that isn't in the
-    /// line changes nothing.
+    /// line changes nothing. It takes no memory.
     pub fn hold(&mut self, slot: Slot)
         ensures members { self.new.members ≡ changed slot held self.old.members }
         ensures reserved { self.new.reserved ≡ self.old.reserved }
@@ -71,7 +75,8 @@ impl Line {
         hold_at(&mut self.standings, slot);
     }
 
-    /// Whether the request in a slot may go past its own look.
+    /// Whether the request in a slot may go past its own look: each one ahead of it is shared and past its
+    /// own, or nobody is ahead of one that is alone. A slot that isn't in the line may not. It takes no memory.
     pub fn may_pass(&self, slot: Slot) -> bool
         ensures may { result ≡ may_pass slot self.now.members }
         ensures sound { IsFairLine self.now.members }
@@ -83,7 +88,7 @@ impl Line {
         }
     }
 
-    /// The request in a slot goes past its own look.
+    /// The request in a slot goes past its own look, when its own look was answered. It takes no memory.
     pub fn pass(&mut self, slot: Slot)
         requires { IsTrue (may_pass slot self.old.members) }
         ensures members { self.new.members ≡ changed slot passed self.old.members }
@@ -121,7 +126,9 @@ impl Line {
         self.turns.reserve(more)
     }
 
-    /// The request in a slot takes a ticket for an object, behind those that it has. It takes no memory.
+    /// The request in a slot takes a ticket for an object, behind those that it has. It is shared and past
+    /// its own look, and nobody behind it is past its own yet: so tickets are taken in the step in which it
+    /// passes. It takes no memory.
     pub fn enter(&mut self, slot: Slot, object: u64)
         requires member { IsTrue (may_enter slot self.old.members) }
         requires last { IsTrue (none_past_behind slot self.old.members) }
@@ -134,7 +141,8 @@ impl Line {
         self.turns.enter(slot, object);
     }
 
-    /// Whether an object is the next one of the request in a slot, and the request has its turn there.
+    /// Whether the request in a slot may do its piece at an object: the object is the first of those that it
+    /// holds, and the request is the first in line order of those that hold it. It takes no memory.
     pub fn has_turn(&self, slot: Slot, object: u64) -> bool
         ensures turn { result ≡ (comes_next slot object self.now.members && has_turn slot object self.now.members) }
         ensures sound { IsFairLine self.now.members }
@@ -142,7 +150,8 @@ impl Line {
         self.turns.has_turn(slot, object)
     }
 
-    /// The request in a slot has done a piece: its first ticket goes. Without a ticket nothing changes.
+    /// The request in a slot has done a piece: its first ticket goes. Without a ticket nothing changes. It
+    /// takes no memory.
     pub fn end_piece(&mut self, slot: Slot)
         ensures members { self.new.members ≡ changed slot next_piece self.old.members }
         ensures reserved { self.old.reserved ≤ self.new.reserved }
@@ -151,7 +160,8 @@ impl Line {
         self.turns.end_piece(slot);
     }
 
-    /// The request in a slot leaves the line, and all its tickets go.
+    /// The request in a slot leaves the line, and all its tickets go. A slot that isn't in the line changes
+    /// nothing. It takes no memory.
     pub fn leave(&mut self, slot: Slot)
         ensures members { self.new.members ≡ without slot self.old.members }
         ensures reserved { self.old.reserved ≤ self.new.reserved }

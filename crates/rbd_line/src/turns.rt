@@ -80,10 +80,10 @@ impl Turns {
         ensures held { (s : ℕ) → held_by s self.new ≡ cond (slot == s) (drop 1 (held_by s self.old)) (held_by s self.old) }
         ensures reserved { self.old.reserved ≤ self.new.reserved }
     {
-        let Some(next) = self.guard.next_of(slot.0 as u32) else {
+        let Some(ticket) = self.guard.next_of(slot.0 as u32) else {
             return;
         };
-        self.guard.leave(next);
+        self.guard.leave(ticket);
     }
 
     /// The slot holds no object any more. It takes no memory.

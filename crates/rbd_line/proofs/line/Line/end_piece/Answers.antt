@@ -10,7 +10,7 @@ end_piece-requires c =
 
 after : (c : goal.After-end_piece)
     → Holds (λ slot. held_by slot c.end_piece.new.self) (λ object. holders object c.end_piece.new.self) c.self.inside.standings.items
-      (changed c.args.slot next_piece (members_of (λ slot. held_by slot c.self.inside.turns) c.self.inside.standings.items))
+    (changed c.args.slot next_piece (members_of (λ slot. held_by slot c.self.inside.turns) c.self.inside.standings.items))
 after c =
     after_piece (λ slot. held_by slot c.self.inside.turns) (λ object. holders object c.self.inside.turns) (λ slot. held_by slot c.end_piece.new.self) (λ object. holders object c.end_piece.new.self)
     c.self.inside.standings.items c.args.slot c.end_piece.ensures.holders c.end_piece.ensures.held c.self.invariant.1

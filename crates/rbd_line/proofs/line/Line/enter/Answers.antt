@@ -7,7 +7,7 @@ use Rattle.rbd_line.proofs.line.Line.enter.Goals as goal
 
 after : (c : goal.After-enter)
     → Holds (λ slot. held_by slot c.enter.new.self) (λ object. holders object c.enter.new.self) c.self.inside.standings.items
-      (changed c.args.slot (entered c.args.object) (members_of (λ slot. held_by slot c.self.inside.turns) c.self.inside.standings.items))
+    (changed c.args.slot (entered c.args.object) (members_of (λ slot. held_by slot c.self.inside.turns) c.self.inside.standings.items))
 after c =
     after_enter (λ slot. held_by slot c.self.inside.turns) (λ object. holders object c.self.inside.turns) (λ slot. held_by slot c.enter.new.self) (λ object. holders object c.enter.new.self)
     c.self.inside.standings.items c.args.slot c.args.object c.enter.ensures.holders c.enter.ensures.held

@@ -7,11 +7,11 @@ use Rattle.rbd_line.proofs.line.Line.hold.Goals as goal
 
 after : (c : goal.After-hold_at)
     → Holds (λ slot. held_by slot c.self.inside.turns) (λ object. holders object c.self.inside.turns) c.hold_at.new.members.items
-      (changed c.args.slot held (members_of (λ slot. held_by slot c.self.inside.turns) c.self.inside.standings.items))
+    (changed c.args.slot held (members_of (λ slot. held_by slot c.self.inside.turns) c.self.inside.standings.items))
 after c =
     subst
     (λ items. Holds (λ slot. held_by slot c.self.inside.turns) (λ object. holders object c.self.inside.turns) items
-      (changed c.args.slot held (members_of (λ slot. held_by slot c.self.inside.turns) c.self.inside.standings.items)))
+    (changed c.args.slot held (members_of (λ slot. held_by slot c.self.inside.turns) c.self.inside.standings.items)))
     (sym c.hold_at.ensures.members)
     (after_hold (λ slot. held_by slot c.self.inside.turns) (λ object. holders object c.self.inside.turns) c.self.inside.standings.items c.args.slot c.self.invariant.1)
 

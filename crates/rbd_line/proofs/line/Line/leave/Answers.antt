@@ -6,11 +6,11 @@ use Rattle.rbd_line.proofs.line.Line.leave.Goals as goal
 
 after : (c : goal.After-leave_at)
     → Holds (λ slot. held_by slot c.leave.new.self) (λ object. holders object c.leave.new.self) c.leave_at.new.members.items
-      (without c.args.slot (members_of (λ slot. held_by slot c.self.inside.turns) c.self.inside.standings.items))
+    (without c.args.slot (members_of (λ slot. held_by slot c.self.inside.turns) c.self.inside.standings.items))
 after c =
     subst
     (λ items. Holds (λ slot. held_by slot c.leave.new.self) (λ object. holders object c.leave.new.self) items
-      (without c.args.slot (members_of (λ slot. held_by slot c.self.inside.turns) c.self.inside.standings.items)))
+    (without c.args.slot (members_of (λ slot. held_by slot c.self.inside.turns) c.self.inside.standings.items)))
     (sym c.leave_at.ensures.members)
     (after_leave (λ slot. held_by slot c.self.inside.turns) (λ object. holders object c.self.inside.turns) (λ slot. held_by slot c.leave.new.self) (λ object. holders object c.leave.new.self)
     c.self.inside.standings.items c.args.slot c.leave.ensures.holders c.leave.ensures.held c.self.invariant.1)

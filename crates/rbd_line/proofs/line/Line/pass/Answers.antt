@@ -7,11 +7,11 @@ use Rattle.rbd_line.proofs.line.Line.pass.Goals as goal
 
 after : (c : goal.After-pass_at)
     → Holds (λ slot. held_by slot c.self.inside.turns) (λ object. holders object c.self.inside.turns) c.pass_at.new.members.items
-      (changed c.args.slot passed (members_of (λ slot. held_by slot c.self.inside.turns) c.self.inside.standings.items))
+    (changed c.args.slot passed (members_of (λ slot. held_by slot c.self.inside.turns) c.self.inside.standings.items))
 after c =
     subst
     (λ items. Holds (λ slot. held_by slot c.self.inside.turns) (λ object. holders object c.self.inside.turns) items
-      (changed c.args.slot passed (members_of (λ slot. held_by slot c.self.inside.turns) c.self.inside.standings.items)))
+    (changed c.args.slot passed (members_of (λ slot. held_by slot c.self.inside.turns) c.self.inside.standings.items)))
     (sym c.pass_at.ensures.members)
     (after_pass (λ slot. held_by slot c.self.inside.turns) (λ object. holders object c.self.inside.turns) c.self.inside.standings.items c.args.slot (ap (λ (l : LineView). may_pass c.args.slot l.members) c.self.view_is ∙ c.requires) c.self.invariant.1)
 

@@ -20,18 +20,18 @@ returns-in_default-clause-held c = λ r. nothing_drops c.args.self.now c.args.sl
 
 pub returns-clause-holders : goal.returns-clause-holders
 returns-clause-holders c =
-    let found = its_rest c.self.inside.guard c.slot.inside.0 c.in-Some.next (sym c.in-Some.is ∙ c.next_of.ensures.first) in
+    let found = its_rest c.self.inside.guard c.slot.inside.0 c.in-Some.ticket (sym c.in-Some.is ∙ c.next_of.ensures.first) in
     let apart = subst (λ n. AreApart (held_by n c.self.inside.guard)) (sym c.slot.view_is) (subst (λ (g : Tickets). AreApart (held_by c.args.slot g)) (sym c.self.view_is) c.requires) in
-    λ o. ended_holders c.self.inside.guard c.leave.new.self c.slot.inside.0 c.in-Some.next found.rest c.self.invariant found.is apart
+    λ o. ended_holders c.self.inside.guard c.leave.new.self c.slot.inside.0 c.in-Some.ticket found.rest c.self.invariant found.is apart
     c.leave.ensures.queue c.leave.ensures.list c.leave.ensures.object c.leave.ensures.request o
     ∙ (ap (λ n. cond (begins_with o (held_by n c.self.inside.guard)) (without n (holders o c.self.inside.guard)) (holders o c.self.inside.guard)) c.slot.view_is
     ∙ ap (λ (g : Tickets). cond (begins_with o (held_by c.args.slot g)) (without c.args.slot (holders o g)) (holders o g)) c.self.view_is)
 
 pub returns-clause-held : goal.returns-clause-held
 returns-clause-held c =
-    let found = its_rest c.self.inside.guard c.slot.inside.0 c.in-Some.next (sym c.in-Some.is ∙ c.next_of.ensures.first) in
+    let found = its_rest c.self.inside.guard c.slot.inside.0 c.in-Some.ticket (sym c.in-Some.is ∙ c.next_of.ensures.first) in
     let apart = subst (λ n. AreApart (held_by n c.self.inside.guard)) (sym c.slot.view_is) (subst (λ (g : Tickets). AreApart (held_by c.args.slot g)) (sym c.self.view_is) c.requires) in
-    λ r. ended_held c.self.inside.guard c.leave.new.self c.slot.inside.0 c.in-Some.next found.rest c.self.invariant found.is apart
+    λ r. ended_held c.self.inside.guard c.leave.new.self c.slot.inside.0 c.in-Some.ticket found.rest c.self.invariant found.is apart
     c.leave.ensures.queue c.leave.ensures.list c.leave.ensures.object c.leave.ensures.request r
     ∙ (ap (λ n. cond (eqb n r) (drop 1 (held_by r c.self.inside.guard)) (held_by r c.self.inside.guard)) c.slot.view_is
     ∙ ap (λ (g : Tickets). cond (eqb c.args.slot r) (drop 1 (held_by r g)) (held_by r g)) c.self.view_is)

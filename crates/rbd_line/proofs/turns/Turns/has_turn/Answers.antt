@@ -24,6 +24,6 @@ returns c =
     let apart = subst (λ n. AreApart (held_by n c.self.inside.guard)) (sym c.slot.view_is) (subst (λ (g : Tickets). AreApart (held_by c.args.slot g)) (sym c.self.view_is) c.requires) in
     c.eq.ensures
     ∙ (turn_is c.self.inside.guard c.slot.inside.0 c.args.object c.in-Some-first.first c.in-Some.next c.self.invariant apart
-      (sym c.in-Some.is ∙ c.next_of.ensures.first) (sym c.in-Some-first.is ∙ c.first.ensures.first)
+    (sym c.in-Some.is ∙ c.next_of.ensures.first) (sym c.in-Some-first.is ∙ c.first.ensures.first)
     ∙ (ap (λ n. begins_with c.args.object (held_by n c.self.inside.guard) && begins_with n (holders c.args.object c.self.inside.guard)) c.slot.view_is
     ∙ ap (λ (g : Tickets). begins_with c.args.object (held_by c.args.slot g) && begins_with c.args.slot (holders c.args.object g)) c.self.view_is))
