@@ -2,14 +2,14 @@
 use Rattle.std.proofs.Common.{◌≡◌, ℕ, ◌≤◌, ◌<◌, Bool, true, false, cond, not, ◌&&◌, ◌||◌, eqb, List, [], ◌∷◌, ◌++◌, length, map, drop, Option, Some, None, refl, sym, ap, subst, ◌∙◌, inl, inr, true≢false, arith}
 use Rattle.std.specs.Prelude.{◌⊎◌}
 use Rattle.std.specs.List.{filter, list_all}
-use Rattle.std.proofs.lemmas.Bool.{eq-eqb, ne_eqb, eqb-true, eqb-false, cond-true, cond-false, or_left, or_right, or_parts, or_cases, or_from}
+use Rattle.std.proofs.lemmas.Bool.{eqb-true, cond-true, cond-false, or_right, or_parts, or_cases}
 use Rattle.std.proofs.lemmas.List.{map-append, length-map}
 use Rattle.rbd_course.specs.declared.stage.Stage.{Stage}
 use Rattle.rbd_course.specs.declared.stage.Stage.TheVariants as stage
 use Rattle.rbd_course.specs.Course.{held_stage}
 use Rattle.rbd_guard.specs.Order.{is_in, AreApart}
-use Rattle.rbd_guard.proofs.Apart.{apart_push, apart_without, others, in_left}
-use Rattle.rbd_line.specs.Line.{Member, member_of, is_member, ahead, behind, is_past, is_shared_past, lets_pass, is_let_pass, may_pass, objects_in, objects_of, holds, slots, is_shared_past_in, may_enter, none_past_behind, joined, held, passed, entered, next_piece, changed, without, Each, EachPair, LetsPass, IsFairMember, IsFairLine}
+use Rattle.rbd_guard.proofs.Apart.{apart_push, apart_without}
+use Rattle.rbd_line.specs.Line.{Member, member_of, is_member, ahead, is_past, is_shared_past, lets_pass, is_let_pass, may_pass, objects_in, objects_of, slots, is_shared_past_in, may_enter, joined, held, passed, entered, next_piece, changed, without, Each, EachPair, LetsPass, IsFairMember, IsFairLine}
 use Rattle.rbd_line.proofs.Few.{few}
 
 -- ---- each member

@@ -1,6 +1,5 @@
 -- How many numbers from 1 on to some other stand in a list, once each.
-use Rattle.std.proofs.Common.{◌≡◌, ℕ, zero, suc, ◌+◌, ◌<◌, ◌≤◌, Bool, true, false, ◌||◌, eqb, List, [], ◌∷◌, length, refl, sym, ap, ◌∙◌, true≢false, arith}
-use Rattle.std.proofs.lemmas.Bool.{eqb-true}
+use Rattle.std.proofs.Common.{◌≡◌, ℕ, zero, suc, ◌≤◌, Bool, true, false, List, [], ◌∷◌, length, refl, sym, ap, ◌∙◌, true≢false, arith}
 use Rattle.rbd_guard.specs.Order.{is_in, without, AreApart}
 use Rattle.rbd_guard.proofs.Apart.{head_in, out, others, apart_without}
 use Rattle.rbd_guard.proofs.Leaving.{one_leaves}

@@ -2,15 +2,13 @@
 use Rattle.std.proofs.Common.{◌≡◌, ℕ, ◌≤◌, Bool, true, false, cond, not, ◌&&◌, ◌||◌, eqb, List, [], ◌∷◌, ◌++◌, map, drop, Option, Some, None, refl, sym, ap, subst, ◌∙◌, true≢false}
 use Rattle.std.specs.List.{filter, list_all}
 use Rattle.std.specs.Option.{is_some}
-use Rattle.std.proofs.lemmas.Bool.{eq-eqb, ne_eqb, eqb-true, eqb-false, cond-true, cond-false, or_left, or_right}
-use Rattle.std.proofs.lemmas.List.{append-nil}
+use Rattle.std.proofs.lemmas.Bool.{eqb-true, eqb-false, cond-true, cond-false}
 use Rattle.rbd_guard.specs.Order.{is_in, AreApart}
 use Rattle.rbd_guard.proofs.Apart.{head_in, in_right, others}
 use Rattle.rbd_line.specs.Kept.{IsKept}
 use Rattle.rbd_line.specs.Line.{Member, member_of, is_member, behind, is_past, is_shared_past, may_pass, objects_in, objects_of, holds, slots, is_shared_past_in, may_enter, none_past_behind, has_turn, comes_next, joined, held, passed, entered, next_piece, changed, without, Each, IsFairMember, IsFairLine}
 use Rattle.rbd_line.specs.Turns.{begins_with}
-use Rattle.rbd_line.proofs.Fair.{put, put_is, each_true, each_both, each_weaker, slots_in, slots_map, slots_without, members_map, absent_change, rest_out, may_take, in_push, joined_fair, held_fair, passed_fair, left_fair, entered_fair, next_fair}
-use Rattle.rbd_line.proofs.Lists.{eqb_flip}
+use Rattle.rbd_line.proofs.Fair.{put, put_is, each_true, each_both, each_weaker, slots_in, slots_without, members_map, absent_change, rest_out, may_take, in_push, joined_fair, held_fair, passed_fair, left_fair, entered_fair, next_fair}
 
 -- ---- members that are found
 

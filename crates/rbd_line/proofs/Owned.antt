@@ -1,17 +1,17 @@
 -- What becomes of the turns where tickets enter and leave.
-use Rattle.std.proofs.Common.{◌≡◌, ℕ, Bool, true, false, cond, not, ◌&&◌, ◌||◌, eqb, List, [], ◌∷◌, ◌++◌, map, drop, Option, Some, None, Result, Ok, Err, refl, sym, ap, subst, ◌∙◌, true≢false}
-use Rattle.std.specs.List.{filter, slice_get}
+use Rattle.std.proofs.Common.{◌≡◌, ℕ, Bool, true, false, cond, not, ◌&&◌, eqb, List, [], ◌∷◌, ◌++◌, map, drop, Option, Some, None, Result, Ok, Err, refl, sym, ap, subst, ◌∙◌, true≢false}
+use Rattle.std.specs.List.{slice_get}
 use Rattle.std.specs.Option.{is_some}
 use Rattle.std.specs.Prelude.{IsOk, IfOk}
 use Rattle.std.proofs.lemmas.Bool.{eq-eqb, ne_eqb, eqb-true, eqb-false, cond-true, cond-false}
 use Rattle.std.proofs.lemmas.List.{map-append}
-use Rattle.rbd_guard.specs.Order.{is_in, without, AreApart, key_of}
+use Rattle.rbd_guard.specs.Order.{is_in, without, AreApart}
 use Rattle.rbd_guard.specs.Tickets.{Tickets, queue, list, object_of, request_of, without_all, AreSame, IsSoundGuard}
-use Rattle.rbd_guard.proofs.Apart.{head_in, tail_in, absent}
+use Rattle.rbd_guard.proofs.Apart.{head_in, absent}
 use Rattle.rbd_guard.proofs.Leaving.{Begins, begins, is_empty, next_is}
 use Rattle.rbd_guard.proofs.Linking.{some_is, none_isnt}
 use Rattle.rbd_line.specs.Turns.{or_zero, slot_of, object_at, holders, held_by, begins_with}
-use Rattle.rbd_line.proofs.Lists.{eqb_flip, map_same, map_filter, mapped_in, first_alone}
+use Rattle.rbd_line.proofs.Lists.{eqb_flip, map_same, map_filter, first_alone}
 
 pub empty_holders : (g : Tickets) (object : ℕ) → queue object g ≡ [] → holders object g ≡ []
 unfolding holders

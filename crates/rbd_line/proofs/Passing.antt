@@ -1,14 +1,14 @@
 -- Who may pass, and whose turn it is, after others changed.
-use Rattle.std.proofs.Common.{◌≡◌, ℕ, ◌≤◌, ◌<◌, Bool, true, false, cond, not, ◌&&◌, ◌||◌, eqb, List, [], ◌∷◌, ◌++◌, length, map, Option, Some, None, refl, sym, ap, subst, ◌∙◌, inl, inr, true≢false, arith}
+use Rattle.std.proofs.Common.{◌≡◌, ℕ, ◌≤◌, Bool, true, false, cond, not, ◌&&◌, ◌||◌, eqb, List, [], ◌∷◌, ◌++◌, length, map, Option, Some, None, refl, sym, ap, subst, ◌∙◌, inl, inr, true≢false, arith}
 use Rattle.std.specs.Prelude.{◌⊎◌}
 use Rattle.std.specs.List.{filter, list_all, list_any}
 use Rattle.std.specs.Option.{option_map}
-use Rattle.std.proofs.lemmas.Bool.{eq-eqb, ne_eqb, eqb-true, eqb-false, cond-true, cond-false, or_left, or_right}
+use Rattle.std.proofs.lemmas.Bool.{eq-eqb, ne_eqb, eqb-true, cond-true, cond-false, or_left, or_right}
 use Rattle.std.proofs.lemmas.List.{length-map}
 use Rattle.rbd_course.specs.declared.stage.Stage.{Stage}
 use Rattle.rbd_course.specs.declared.stage.Stage.TheVariants as stage
 use Rattle.rbd_course.specs.Course.{held_stage}
-use Rattle.rbd_line.specs.Line.{Member, member_of, is_member, ahead, behind, is_past, is_shared_past, lets_pass, is_let_pass, may_pass, holds, slots, none_past_behind, has_turn, joined, held, passed, entered, next_piece, changed, without, Each, EachPair, LetsPass, IsFairLine}
+use Rattle.rbd_line.specs.Line.{Member, member_of, is_member, ahead, behind, is_past, lets_pass, is_let_pass, may_pass, holds, slots, none_past_behind, has_turn, joined, held, passed, entered, next_piece, changed, without, Each, EachPair, LetsPass, IsFairLine}
 use Rattle.rbd_line.specs.Steady.{IsSteady}
 use Rattle.rbd_line.specs.Turns.{begins_with}
 use Rattle.rbd_line.proofs.Fair.{put, put_is, put_keeps, absent_change, rest_out, in_slots}

@@ -1,5 +1,5 @@
 -- How standings and turns hold a line.
-use Rattle.std.specs.Prelude.{◌≡◌, ℕ, ◌==◌, cond, List, [], map, IsFalse}
+use Rattle.std.specs.Prelude.{◌≡◌, ℕ, ◌==◌, cond, List, [], IsFalse}
 use Rattle.rbd_course.specs.declared.stage.Stage.TheVariants as stage
 use Rattle.rbd_course.specs.Course.{held_stage}
 use Rattle.std.specs.List.{filter}

@@ -1,5 +1,5 @@
 -- The line of an image in a session: its members in the order in which they joined.
-use Rattle.std.specs.Prelude.{◌≡◌, ℕ, ◌==◌, ◌≤◌, ◌&&◌, cond, not, Bool, true, false, List, [], ◌∷◌, ◌++◌, map, drop, Option, Some, None, IsTrue}
+use Rattle.std.specs.Prelude.{ℕ, ◌==◌, ◌≤◌, ◌&&◌, cond, not, Bool, true, false, List, [], ◌∷◌, ◌++◌, map, drop, Option, Some, None, IsTrue}
 use Rattle.std.specs.List.{filter, find, list_any, list_all}
 use Rattle.rbd_course.specs.declared.stage.Stage.{Stage}
 use Rattle.rbd_course.specs.declared.stage.Stage.TheVariants as stage

@@ -50,8 +50,8 @@ pub fn turns_stay()
         → IsTrue (has_turn slot object members) → IsTrue (has_turn slot object (without other members)) }
 {}
 
-/// The first member of a line may always pass. Who may pass may still do so after another one left, joined
-/// or changed (`IsSteady`: it waited, passed, took a ticket or did a piece).
+/// The first member of a line may always pass. Who may pass may still do so after another one left,
+/// joined or changed (`IsSteady`: it waited, passed, took a ticket or did a piece).
 pub fn passing_goes_on()
     ensures first { (m : Member) (members : List Member) → IsTrue (may_pass m.slot (m ∷ members)) }
 

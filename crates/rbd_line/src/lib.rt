@@ -1,5 +1,6 @@
-//! The line of one image in one session: the session's requests on that image, in the order in which they
-//! joined (Ceph: exclusive lock, which one client holds for all its requests; the line itself is own).
+//! The line of one image in one session: the session's requests on that image, in the order in
+//! which they joined (Ceph: exclusive lock, which one client holds for all its requests; the line
+//! itself is own).
 //!
 //! ```text
 //! let mut line = Line::new(alloc)?;
@@ -25,16 +26,16 @@
 //!
 //! # Rules
 //!
-//! A *member* of the line is a request, named by its slot in the session. It joins behind the others, alone
-//! on the image or shared, and goes through three stages ([`rbd_course::Stage`]).
+//! A *member* of the line is a request, named by its slot in the session. It joins behind the
+//! others, alone on the image or shared, and goes through three stages ([`rbd_course::Stage`]).
 //!
 //! | A member that is | goes past its own look |
 //! |---|---|
 //! | shared | once each member ahead of it is shared, and past its own look |
 //! | alone | once nobody is ahead of it |
 //!
-//! So nobody is past its own look beside one that is alone and past it, and while one that is alone is in
-//! the line nobody behind it passes. Members that end leave the line, wherever they stand.
+//! So nobody is past its own look beside one that is alone and past it, and while one that is alone
+//! is in the line nobody behind it passes. Members that end leave the line, wherever they stand.
 //!
 //! | Step | A member's tickets |
 //! |---|---|
@@ -42,16 +43,18 @@
 //! | `end_piece` | the first goes |
 //! | `leave` | all go |
 //!
-//! A member has its turn at an object when it is the first in line order of those that have a ticket there.
-//! Only a shared member that is past its own look takes tickets, one for each object at most.
+//! A member has its turn at an object when it is the first in line order of those that have a
+//! ticket there. Only a shared member that is past its own look takes tickets, one for each object
+//! at most.
 //!
 //! # Contracts
 //!
-//! Contracts see a line as a `LineView`: its members in line order, each with the objects whose tickets it
-//! has, and for how many more tickets there is room (`reserved`). They see no tickets. Each call says what
-//! the members are afterwards, by one equation, and that they are fair (`IsFairLine`): no slot stands twice,
-//! each is 1 to 64, who is past its own look was let pass by each one ahead of it, and who holds an object
-//! is shared and past its own look, and holds it once.
+//! Contracts see a line as a `LineView`: its members in line order, each with the objects whose
+//! tickets it has, and for how many more tickets there is room (`reserved`). They see no tickets.
+//! Each call says what the members are afterwards, by one equation, and that they are fair
+//! (`IsFairLine`): no slot stands twice, each is 1 to 64, who is past its own look was let pass by
+//! each one ahead of it, and who holds an object is shared and past its own look, and holds it
+//! once.
 //!
 //! | Call | Members afterwards |
 //! |---|---|
@@ -61,25 +64,27 @@
 //! | `leave` | `without` one slot |
 //! | `reserve`, and the calls that only look | the same |
 //!
-//! What follows for every line is said in [`laws`]: one that is alone is alone, of those that hold an object
-//! one has its turn, who has it keeps it, and who may pass may still do so whatever others do.
+//! What follows for every line is said in [`laws`]: one that is alone is alone, of those that hold
+//! an object one has its turn, who has it keeps it, and who may pass may still do so whatever
+//! others do.
 //!
 //! # Cost
 //!
-//! A line has at most 64 members. `join`, `enter`, `has_turn`, `end_piece` and `is_empty` cost the same
-//! however many they are and however many tickets they have (`enter`, `has_turn` and `end_piece` on average,
-//! since they look into hash tables). `hold`, `may_pass`, `pass`, `stage` and `alone` go along the line once or
-//! twice. `leave` does so too, and costs as much as the member's tickets do one by one. Only `new` and
-//! `reserve` take memory.
+//! A line has at most 64 members. `join`, `enter`, `has_turn`, `end_piece` and `is_empty` cost the
+//! same however many they are and however many tickets they have (`enter`, `has_turn` and
+//! `end_piece` on average, since they look into hash tables). `hold`, `may_pass`, `pass`, `stage`
+//! and `alone` go along the line once or twice. `leave` does so too, and costs as much as the
+//! member's tickets do one by one. Only `new` and `reserve` take memory.
 //!
 //! # How it works
 //!
-//! The members stand in a vector (`standing`), whose room for 64 is taken at the beginning. Their tickets
-//! are those of a guard (`rbd_guard`), whose requests are the slots. A member takes its tickets while nobody
-//! behind it is past its own look, so the guard's order of entry is line order, and has no need of a second
-//! one: it is a turn where the first ticket of an object is the first ticket of a slot. `turns` says of the
-//! guard which slots hold an object and which objects a slot holds, and the line keeps that both are those
-//! of its members.
+//! The members stand in a vector (`standing`), whose room for 64 is taken at the beginning. Their
+//! tickets are those of a guard (`rbd_guard`), whose requests are the slots. A member takes its
+//! tickets while nobody behind it is past its own look, so the order of entry at each object is
+//! line order. A piece may be done where the first ticket of its object is the first ticket of its
+//! slot, which takes two look-ups however long the line is. `turns` says of the guard, without its
+//! tickets, which slots hold an object and which objects a slot holds, and the line keeps that
+//! both are as its members say.
 #![tactic(auto)]
 
 pub mod laws;

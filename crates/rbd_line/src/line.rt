@@ -12,8 +12,9 @@ use rbd_kinds::{NoMemory, Slot};
 use std::alloc::Global;
 use std::marker::Model;
 
-/// The line of one image in one session. Contracts see its `members` in line order, each with its slot,
-/// whether it is alone, its stage and its objects, and for how many more tickets there is room.
+/// The line of one image in one session. Contracts see its `members` in line order, each with its
+/// slot, whether it is alone, its stage and its objects, and for how many more tickets there is
+/// room.
 #[derive(Debug, Drop)]
 pub struct Line {
     /// The members in the order in which they joined.
@@ -52,8 +53,8 @@ impl Line {
         })
     }
 
-    /// A request that isn't in the line joins behind the others, alone on the image or shared. Slots are 1 to
-    /// 64. It takes no memory.
+    /// A request that isn't in the line joins behind the others, alone on the image or shared.
+    /// Slots are 1 to 64. It takes no memory.
     pub fn join(&mut self, slot: Slot, alone: bool)
         requires from { 1 ≤ slot }
         requires to { slot ≤ 64 }
@@ -65,8 +66,8 @@ impl Line {
         join_at(&mut self.standings, slot, alone);
     }
 
-    /// The request in a slot waits for its own look: one that is past it stays so. A slot that isn't in the
-    /// line changes nothing. It takes no memory.
+    /// The request in a slot waits for its own look: one that is past it stays so. A slot that
+    /// isn't in the line changes nothing. It takes no memory.
     pub fn hold(&mut self, slot: Slot)
         ensures members { self.new.members ≡ changed slot held self.old.members }
         ensures reserved { self.new.reserved ≡ self.old.reserved }
@@ -75,8 +76,9 @@ impl Line {
         hold_at(&mut self.standings, slot);
     }
 
-    /// Whether the request in a slot may go past its own look: each one ahead of it is shared and past its
-    /// own, or nobody is ahead of one that is alone. A slot that isn't in the line may not. It takes no memory.
+    /// Whether the request in a slot may go past its own look: each one ahead of it is shared and
+    /// past its own, or nobody is ahead of one that is alone. A slot that isn't in the line may
+    /// not. It takes no memory.
     pub fn may_pass(&self, slot: Slot) -> bool
         ensures may { result ≡ may_pass slot self.now.members }
         ensures sound { IsFairLine self.now.members }
@@ -88,7 +90,8 @@ impl Line {
         }
     }
 
-    /// The request in a slot goes past its own look, when its own look was answered. It takes no memory.
+    /// The request in a slot goes past its own look, when its own look was answered. It takes no
+    /// memory.
     pub fn pass(&mut self, slot: Slot)
         requires { IsTrue (may_pass slot self.old.members) }
         ensures members { self.new.members ≡ changed slot passed self.old.members }
@@ -106,7 +109,8 @@ impl Line {
         stage_of(self.standings.as_slice(), slot)
     }
 
-    /// Whether the request in a slot is alone on the image: `None` exactly where the slot isn't in the line.
+    /// Whether the request in a slot is alone on the image: `None` exactly where the slot isn't in
+    /// the line.
     pub fn alone(&self, slot: Slot) -> Option<bool>
         ensures alone { result ≡ option_map (λ m. m.alone) (member_of slot self.now.members) }
         ensures sound { IsFairLine self.now.members }
@@ -114,8 +118,8 @@ impl Line {
         alone_of(self.standings.as_slice(), slot)
     }
 
-    /// Makes room for `more` tickets: the next `more` calls of `enter` are allowed, whoever leaves between
-    /// them. No member changes, also where memory is refused.
+    /// Makes room for `more` tickets: the next `more` calls of `enter` are allowed, whoever leaves
+    /// between them. No member changes, also where memory is refused.
     pub fn reserve(&mut self, more: u32) -> Result<(), NoMemory>
         ensures members { self.new.members ≡ self.old.members }
         ensures ok { OnOk result (more ≤ self.new.reserved) }
@@ -126,9 +130,9 @@ impl Line {
         self.turns.reserve(more)
     }
 
-    /// The request in a slot takes a ticket for an object, behind those that it has. It is shared and past
-    /// its own look, and nobody behind it is past its own yet: so tickets are taken in the step in which it
-    /// passes. It takes no memory.
+    /// The request in a slot takes a ticket for an object, behind those that it has. It is shared
+    /// and past its own look, and nobody behind it is past its own yet: so tickets are taken in the
+    /// step in which it passes. It takes no memory.
     pub fn enter(&mut self, slot: Slot, object: u64)
         requires member { IsTrue (may_enter slot self.old.members) }
         requires last { IsTrue (none_past_behind slot self.old.members) }
@@ -141,8 +145,9 @@ impl Line {
         self.turns.enter(slot, object);
     }
 
-    /// Whether the request in a slot may do its piece at an object: the object is the first of those that it
-    /// holds, and the request is the first in line order of those that hold it. It takes no memory.
+    /// Whether the request in a slot may do its piece at an object: the object is the first of
+    /// those that it holds, and the request is the first in line order of those that hold it. It
+    /// takes no memory.
     pub fn has_turn(&self, slot: Slot, object: u64) -> bool
         ensures turn { result ≡ (comes_next slot object self.now.members && has_turn slot object self.now.members) }
         ensures sound { IsFairLine self.now.members }
@@ -150,8 +155,8 @@ impl Line {
         self.turns.has_turn(slot, object)
     }
 
-    /// The request in a slot has done a piece: its first ticket goes. Without a ticket nothing changes. It
-    /// takes no memory.
+    /// The request in a slot has done a piece: its first ticket goes. Without a ticket nothing
+    /// changes. It takes no memory.
     pub fn end_piece(&mut self, slot: Slot)
         ensures members { self.new.members ≡ changed slot next_piece self.old.members }
         ensures reserved { self.old.reserved ≤ self.new.reserved }
@@ -160,8 +165,8 @@ impl Line {
         self.turns.end_piece(slot);
     }
 
-    /// The request in a slot leaves the line, and all its tickets go. A slot that isn't in the line changes
-    /// nothing. It takes no memory.
+    /// The request in a slot leaves the line, and all its tickets go. A slot that isn't in the line
+    /// changes nothing. It takes no memory.
     pub fn leave(&mut self, slot: Slot)
         ensures members { self.new.members ≡ without slot self.old.members }
         ensures reserved { self.old.reserved ≤ self.new.reserved }

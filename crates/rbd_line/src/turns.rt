@@ -8,8 +8,8 @@ use rbd_kinds::{NoMemory, Slot};
 use std::alloc::Global;
 use std::marker::Model;
 
-/// The turns of slots at objects. Contracts see by `holders` which slots hold an object, and by `held_by`
-/// which objects a slot holds, each in the order in which they were taken.
+/// The turns of slots at objects. Contracts see by `holders` which slots hold an object, and by
+/// `held_by` which objects a slot holds, each in the order in which they were taken.
 #[derive(Debug, Drop)]
 pub struct Turns {
     guard: Guard,
@@ -47,8 +47,8 @@ impl Turns {
         self.guard.reserve(more)
     }
 
-    /// The slot holds one more object, behind its others and behind the others that hold it. It takes no
-    /// memory.
+    /// The slot holds one more object, behind its others and behind the others that hold it. It
+    /// takes no memory.
     pub fn enter(&mut self, slot: Slot, object: u64)
         requires { 0 < self.old.reserved }
         ensures holders { (o : ℕ) → holders o self.new ≡ cond (object == o) (holders o self.old ++ slot ∷ []) (holders o self.old) }

@@ -1,4 +1,4 @@
-use Rattle.std.proofs.Common.{◌≡◌, ◌∙◌, true, false, ap, sym, subst}
+use Rattle.std.proofs.Common.{◌∙◌, ap}
 use Rattle.rbd_guard.specs.Order.{is_in}
 use Rattle.rbd_line.specs.Line.{LineView, may_enter, none_past_behind, objects_of, entered, changed}
 use Rattle.rbd_line.specs.Turns.{holders, held_by}

@@ -1,4 +1,4 @@
-use Rattle.std.proofs.Common.{◌≡◌, ◌<◌, ◌≤◌, ◌∙◌, ◌++◌, ◌∷◌, [], length, ap, sym, subst, arith}
+use Rattle.std.proofs.Common.{◌∙◌, ◌++◌, ◌∷◌, [], ap, sym, subst, arith}
 use Rattle.rbd_line.specs.Line.{LineView, is_member, joined}
 use Rattle.rbd_line.specs.Turns.{holders, held_by}
 use Rattle.rbd_line.proofs.Views.{Holds, members_of, room, after_join}

@@ -1,5 +1,4 @@
 use Rattle.std.proofs.Common.{◌∙◌, ◌≤◌, ap, sym, subst}
-use Rattle.rbd_line.specs.Kept.{passed_at}
 use Rattle.rbd_line.specs.Line.{LineView, may_pass, passed, changed}
 use Rattle.rbd_line.specs.Turns.{holders, held_by}
 use Rattle.rbd_line.proofs.Views.{Holds, members_of, after_pass}

@@ -1,4 +1,4 @@
-use Rattle.std.proofs.Common.{ℕ, ◌≡◌, ◌∙◌, Some, None, cond, eqb, drop, ap, subst, sym}
+use Rattle.std.proofs.Common.{◌≡◌, ◌∙◌, None, cond, eqb, drop, ap, subst, sym}
 use Rattle.std.specs.List.{slice_get}
 use Rattle.rbd_guard.specs.Order.{without, AreApart}
 use Rattle.rbd_guard.specs.Tickets.{Tickets, list}

@@ -1,7 +1,7 @@
-use Rattle.std.proofs.Common.{ℕ, ◌≡◌, ◌<◌, ◌∙◌, ◌++◌, ◌∷◌, [], cond, eqb, ap, subst, sym}
+use Rattle.std.proofs.Common.{◌<◌, ◌∙◌, ◌++◌, ◌∷◌, [], cond, eqb, ap, subst, sym}
 use Rattle.rbd_guard.specs.Tickets.{Tickets}
 use Rattle.rbd_line.specs.Turns.{holders, held_by}
-use Rattle.rbd_line.proofs.Owned.{IsIn, some_ticket, in_holders, in_held}
+use Rattle.rbd_line.proofs.Owned.{some_ticket, in_holders, in_held}
 use Rattle.rbd_line.proofs.turns.Turns.enter.Goals as goal
 
 pub returns-clause-holders : goal.returns-clause-holders

@@ -1,4 +1,4 @@
-use Rattle.std.proofs.Common.{ℕ, ◌∙◌, [], cond, eqb, ap}
+use Rattle.std.proofs.Common.{◌∙◌, [], cond, eqb, ap}
 use Rattle.rbd_guard.specs.Order.{without}
 use Rattle.rbd_guard.specs.Tickets.{Tickets}
 use Rattle.rbd_line.specs.Turns.{holders, held_by}
