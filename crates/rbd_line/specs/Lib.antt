@@ -1,0 +1,4 @@
+pub mod Kept
+pub mod Line
+pub mod Steady
+pub mod Turns

@@ -1,0 +1,9 @@
+-- Changes of a member after which those behind it may still pass.
+use Rattle.std.specs.Prelude.{◌≡◌, IsTrue}
+use Rattle.rbd_line.specs.Line.{Member, is_past}
+
+-- it stays at its slot, alone or shared, and past its own look
+pub record IsSteady (f : Member → Member) : Type 0 where
+  pub slot : (m : Member) → (f m).slot ≡ m.slot
+  pub alone : (m : Member) → (f m).alone ≡ m.alone
+  pub past : (m : Member) → IsTrue (is_past m.stage) → IsTrue (is_past (f m).stage)

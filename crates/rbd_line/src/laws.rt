@@ -1,0 +1,111 @@
+//! What follows for every line: each law is the contract of a function that does nothing.
+ghost use Rattle.std.specs.Prelude.{◌≡◌, ◌≢◌, ℕ, ◌≤◌, ◌&&◌, Bool, List, [], ◌∷◌, ◌++◌, Some, None, IsTrue, IsFalse, length};
+ghost use Rattle.std.specs.List.{list_any};
+ghost use Rattle.std.specs.Option.{option_map};
+ghost use Rattle.rbd_line.specs.Line.{Member, member_of, is_member, ahead, is_past, may_pass, holds, has_turn, none_past_behind, joined, held, passed, entered, next_piece, changed, without, IsFairLine};
+ghost use Rattle.rbd_line.specs.Steady.{IsSteady};
+
+/// While a member that is alone is past its own look, no other member is.
+pub fn alone_is_alone()
+    ensures { (members : List Member) (one other : Member) → IsFairLine members
+        → member_of one.slot members ≡ Some one → member_of other.slot members ≡ Some other → one.slot ≢ other.slot
+        → IsTrue one.alone → IsTrue (is_past one.stage) → IsFalse (is_past other.stage) }
+{}
+
+/// Who holds an object has its turn there before each one that is behind it in the line.
+pub fn turns_go_in_line()
+    ensures { (members : List Member) (object other : ℕ) (one : Member)
+        → member_of one.slot members ≡ Some one → IsTrue (is_member one.slot (ahead other members))
+        → IsTrue (holds object one) → IsFalse (has_turn other object members) }
+{}
+
+/// Of the members that hold an object one has its turn, and one alone.
+pub fn first_has_its_turn()
+    ensures some { (members : List Member) (object : ℕ) → IsTrue (list_any (holds object) members)
+        → IsTrue (list_any (λ m. holds object m && has_turn m.slot object members) members) }
+
+    ensures one { (members : List Member) (object slot other : ℕ)
+        → IsTrue (has_turn slot object members) → IsTrue (has_turn other object members) → slot ≡ other }
+{}
+
+/// Who has its turn keeps it, whatever the others do, until its piece is done or it leaves.
+pub fn turns_stay()
+    ensures joined { (members : List Member) (slot object other : ℕ) (alone : Bool)
+        → has_turn slot object (members ++ joined other alone ∷ []) ≡ has_turn slot object members }
+
+    ensures hold { (members : List Member) (slot object other : ℕ)
+        → has_turn slot object (changed other held members) ≡ has_turn slot object members }
+
+    ensures pass { (members : List Member) (slot object other : ℕ)
+        → has_turn slot object (changed other passed members) ≡ has_turn slot object members }
+
+    ensures enter { (members : List Member) (slot object other taken : ℕ) → IsFairLine members
+        → IsTrue (none_past_behind other members) → other ≢ slot
+        → IsTrue (has_turn slot object members) → IsTrue (has_turn slot object (changed other (entered taken) members)) }
+
+    ensures end_piece { (members : List Member) (slot object other : ℕ) → other ≢ slot
+        → IsTrue (has_turn slot object members) → IsTrue (has_turn slot object (changed other next_piece members)) }
+
+    ensures leave { (members : List Member) (slot object other : ℕ) → other ≢ slot
+        → IsTrue (has_turn slot object members) → IsTrue (has_turn slot object (without other members)) }
+{}
+
+/// The first member of a line may always pass. Who may pass may still do so after another one left,
+/// joined or changed (`IsSteady`: it waited, passed, took a ticket or did a piece).
+pub fn passing_goes_on()
+    ensures first { (m : Member) (members : List Member) → IsTrue (may_pass m.slot (m ∷ members)) }
+
+    ensures left { (members : List Member) (slot other : ℕ) → other ≢ slot
+        → IsTrue (may_pass slot members) → IsTrue (may_pass slot (without other members)) }
+
+    ensures joined { (members : List Member) (slot other : ℕ) (alone : Bool)
+        → IsTrue (may_pass slot members) → IsTrue (may_pass slot (members ++ joined other alone ∷ [])) }
+
+    ensures changed { (members : List Member) (slot other : ℕ) (f : Member → Member) → IsSteady f
+        → IsTrue (may_pass slot members) → IsTrue (may_pass slot (changed other f members)) }
+{}
+
+/// The members go past in line order, as far as one that isn't past yet.
+pub fn passing_is_in_order()
+    ensures { (members : List Member) (m : Member) → IsFairLine members → member_of m.slot members ≡ Some m
+        → IsFalse (is_past m.stage) → IsTrue (none_past_behind m.slot members) }
+{}
+
+/// A change is seen of its member alone, and of none behind it.
+pub fn changing()
+    ensures own { (members : List Member) (slot : ℕ) (f : Member → Member) → IsSteady f
+        → member_of slot (changed slot f members) ≡ option_map f (member_of slot members) }
+
+    ensures others { (members : List Member) (slot other : ℕ) (f : Member → Member) → IsSteady f → other ≢ slot
+        → member_of other (changed slot f members) ≡ member_of other members }
+
+    ensures behind { (members : List Member) (slot : ℕ) (f : Member → Member) → IsSteady f → IsFairLine members
+        → none_past_behind slot (changed slot f members) ≡ none_past_behind slot members }
+{}
+
+/// Who joins is a member, who leaves is none, and the others stay who they are.
+pub fn joining_and_leaving()
+    ensures joined { (members : List Member) (slot : ℕ) (alone : Bool) → IsFalse (is_member slot members)
+        → member_of slot (members ++ joined slot alone ∷ []) ≡ Some (joined slot alone) }
+
+    ensures joined_others { (members : List Member) (slot other : ℕ) (alone : Bool) → other ≢ slot
+        → member_of other (members ++ joined slot alone ∷ []) ≡ member_of other members }
+
+    ensures left { (members : List Member) (slot : ℕ) → member_of slot (without slot members) ≡ None }
+
+    ensures left_others { (members : List Member) (slot other : ℕ) → other ≢ slot
+        → member_of other (without slot members) ≡ member_of other members }
+{}
+
+/// The changes that a line makes are steady.
+pub fn changes_are_steady()
+    ensures hold { IsSteady held }
+    ensures pass { IsSteady passed }
+    ensures enter { (object : ℕ) → IsSteady (entered object) }
+    ensures end_piece { IsSteady next_piece }
+{}
+
+/// A line has at most 64 members.
+pub fn members_are_few()
+    ensures { (members : List Member) → IsFairLine members → length members ≤ 64 }
+{}
