@@ -42,7 +42,7 @@ pub stays_answered : (e : Option Extent) (fresh : Bool) (c : Course) (labels : L
     → CanGive op answer → IsOrderlyFrom e fresh c (record { labels = labels; plan = Ask site why op next })
     → IsOrderlyFrom e true (answered e c site op answer) (record { labels = labels; plan = settled labels (next answer) })
 stays_answered e fresh c labels site why op next answer can from =
-    settle e from.at labels from.labels true (answered e c site op answer) (next answer) (from.orderly answer can) (from.closed answer)
+    settle e from.at labels from.labels true (answered e c site op answer) (next answer) (from.orderly.1 answer can) (from.closed answer)
 
 pub stays_waited : (e : Option Extent) (fresh : Bool) (c : Course) (labels : Label → Plan) (wait : Wait) (next : Plan)
     → IsOrderlyFrom e fresh c (record { labels = labels; plan = Await wait next })
