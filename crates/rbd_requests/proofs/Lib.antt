@@ -1,0 +1,4 @@
+pub mod Closed
+pub mod Bounded
+pub mod Turns
+pub mod Begun
