@@ -2,3 +2,4 @@ pub mod Closed
 pub mod Bounded
 pub mod Turns
 pub mod Begun
+pub mod Given

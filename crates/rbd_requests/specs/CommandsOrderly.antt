@@ -94,7 +94,7 @@ orderly_put : (site : SiteId) (from : ℕ) (bytes : List ℕ) (image : ℕ) (h :
 orderly_put site from bytes image h may = (
   at_itself site image,
   orderly_pieces (Some (extent_at from bytes)) (pieces_of h.layout (extent_at from bytes)) site image h from bytes true (place_at false site image stage.Past) None
-  (objects_within h (extent_at from bytes)) (at_itself site image) (objects_are (extent_at from bytes) h may),
+      (objects_within h (extent_at from bytes)) (at_itself site image) (objects_are (extent_at from bytes) h may),
 )
 
 orderly_write : (site : SiteId) (name : List ℕ) (from : ℕ) (bytes : List ℕ) → IsOrderly (Some (extent_at from bytes)) starts true beginning (write site name from bytes)

@@ -1,13 +1,16 @@
 -- Which bytes of an image a command is about, and what follows for its turns and for how many operations it has.
-use Rattle.std.specs.Prelude.{◌≡◌, ℕ, ◌+◌, ◌≤◌, List, length, Bool, Option, Some, None}
+use Rattle.std.specs.Prelude.{◌≡◌, ℕ, zero, suc, ◌+◌, ◌≤◌, List, length, Bool, Option, Some, None}
+use Rattle.rbd_kinds.specs.declared.answer.Answer.{Answer}
 use Rattle.rbd_kinds.specs.declared.command.Command.{Command}
 use Rattle.rbd_kinds.specs.declared.command.Command.TheVariants as command
 use Rattle.rbd_kinds.specs.declared.header.HeaderView.{HeaderView}
 use Rattle.rbd_kinds.specs.declared.id.SiteId.{SiteId}
 use Rattle.rbd_kinds.specs.declared.layout.Extent.{Extent}
 use Rattle.rbd_kinds.specs.declared.refusal.Refusal.{Refusal}
+use Rattle.rbd_kinds.specs.Form.{IsHeaderInForm}
 use Rattle.rbd_layout.specs.Pieces.{pieces_of}
-use Rattle.rbd_machine.specs.Plan.{Plan}
+use Rattle.rbd_machine.specs.Answers.{CanGive}
+use Rattle.rbd_machine.specs.Plan.{Plan, Ask, Await, Note, Return, Goto}
 use Rattle.rbd_machine.specs.Steps.{change}
 use Rattle.rbd_machine.specs.Turns.{AreTurns}
 use Rattle.rbd_course.specs.Course.{objects_within}
@@ -24,10 +27,19 @@ abbrev pub touched_by : Command → Option Extent
 touched_by (command.Read image snap at len) = Some (record { at = at; len = len })
 touched_by c = extent_of c
 
--- so many pieces at most, by whatever header
+-- so many pieces at most, by whatever header an image can have
 abbrev pub HasAtMost : (most : ℕ) → Option Extent → Type 0
 HasAtMost most None = Unit {0}
-HasAtMost most (Some e) = (h : HeaderView) → length (pieces_of h.layout e) ≤ most
+HasAtMost most (Some e) = (h : HeaderView) → IsHeaderInForm h → length (pieces_of h.layout e) ≤ most
+
+-- The plan has at most n operations up to its end or to a label, whatever they are answered of what they can give.
+abbrev pub AsksAtMost : Plan → (n : ℕ) → Type 0
+AsksAtMost (Ask site why op next) zero = ⊥
+AsksAtMost (Ask site why op next) (suc n) = (answer : Answer) → CanGive op answer → AsksAtMost (next answer) n
+AsksAtMost (Await wait next) n = AsksAtMost next n
+AsksAtMost (Note site image event next) n = AsksAtMost next n
+AsksAtMost (Return reply) n = Unit {0}
+AsksAtMost (Goto label) n = Unit {0}
 
 -- How many operations a command has, where its extent has so many pieces at most. A read that begins again has them again.
 abbrev pub bound_of : Command → (most : ℕ) → ℕ

@@ -7,10 +7,15 @@ use rbd_kinds::Command;
 /// The request that serves a command.
 #[derive(Clone, Copy, Debug, PartialEq, Eq)]
 pub enum Kind {
+    /// `write`, `fill`
     Write,
+    /// `read`
     Read,
+    /// `create` of an image without a journal
     Create,
+    /// `ls`, `info`, `snap ls`
     List,
+    /// `snap create`, `snap rm`
     Snap,
     /// None serves it.
     Unserved,

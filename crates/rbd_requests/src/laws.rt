@@ -7,14 +7,14 @@ ghost use Rattle.rbd_kinds.specs.declared.machine.Fed.{Fed};
 ghost use Rattle.rbd_kinds.specs.declared.reply.Reply.{Reply};
 ghost use Rattle.rbd_machine.specs.Lawful.{IsLawfulRequest};
 ghost use Rattle.rbd_machine.specs.Passes.{jumps};
-ghost use Rattle.rbd_machine.specs.Path.{Answered, IsBounded, IsWalk};
+ghost use Rattle.rbd_machine.specs.Path.{Answered, IsWalk};
 ghost use Rattle.rbd_machine.specs.Plan.{Plan, Return, Standing, IsClosed};
 ghost use Rattle.rbd_machine.specs.Refused.{AreGiven};
 ghost use Rattle.rbd_course.specs.Course.{beginning};
 ghost use Rattle.rbd_course.specs.Orderly.{IsOrderlyFrom};
 ghost use Rattle.rbd_meaning.specs.Meant.{IsMeantBy};
 ghost use Rattle.rbd_requests.specs.Served.{IsPlanFor};
-ghost use Rattle.rbd_requests.specs.Touched.{bound_of, extent_of, touched_by, HasAtMost, TakesTurns};
+ghost use Rattle.rbd_requests.specs.Touched.{bound_of, extent_of, touched_by, AsksAtMost, HasAtMost, TakesTurns};
 
 /// Each label that the request of a command goes to stands at an operation.
 pub fn commands_are_closed()
@@ -45,12 +45,13 @@ pub fn turns_are_those_of_the_extent()
     ensures { (home : SiteId) (command : Command) (s : Standing) (e : Extent) → IsPlanFor home command s → extent_of command ≡ Some e → TakesTurns e s.plan }
 {}
 
-/// The request of a command has so many operations at most, by the number of pieces that its extent has at most. Each time
-/// that it begins again, as a read does, it has as many once more.
+/// The request of a command has so many operations at most, by the number of pieces that its extent has
+/// at most by the header of any image. Each time that it begins again, as a read does, it has as many
+/// once more.
 pub fn commands_are_bounded()
     ensures pass { (home : SiteId) (command : Command) (s : Standing) (most : ℕ)
-        → IsPlanFor home command s → HasAtMost most (touched_by command) → IsBounded s.plan (bound_of command most) }
+        → IsPlanFor home command s → HasAtMost most (touched_by command) → AsksAtMost s.plan (bound_of command most) }
     ensures all { (home : SiteId) (command : Command) (s : Standing) (most : ℕ) (feds : List Fed) (steps : List Answered) (last : Plan)
-        → IsPlanFor home command s → HasAtMost most (touched_by command) → IsWalk s.labels s.plan feds steps last
+        → IsPlanFor home command s → HasAtMost most (touched_by command) → AreGiven steps → IsWalk s.labels s.plan feds steps last
         → length steps ≤ (1 + jumps s.labels s.plan feds) * bound_of command most }
 {}

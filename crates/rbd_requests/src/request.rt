@@ -17,11 +17,17 @@ use std::alloc::Global;
 /// ```
 #[derive(Debug, Drop)]
 pub enum SessionRequest<E> {
+    /// `read`
     Read(ReadRequest),
+    /// `write` or `fill`
     Write(WriteRequest),
+    /// `create`
     Create(CreateRequest),
+    /// `snap create` or `snap rm`
     Snap(SnapRequest),
+    /// `ls`, `info` or `snap ls`
     List(ListRequest),
+    /// A machine that a layer above brings.
     Extra(E),
 }
 
