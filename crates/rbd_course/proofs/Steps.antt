@@ -82,14 +82,22 @@ module _ (e : Option Extent) (at : Label → Course) where
   orderly_change s name alone refuses act acts = (
     refl,
     λ found can.
-        orderly_on_id beginning (steps.joining s alone refuses act) (λ image.
-        ((refl, refl), (refl,
-        orderly_on_header image (answered e (course_at alone s image stage.Joined) s (op.Header image header.Get)) (steps.looked s refuses act image) (λ h form.
-        subst (λ c. IsOrderly e at true c (steps.looked s refuses act image h)) (sym (first_told e alone s image h))
-        (orderly_unless (course_at alone s image stage.Joined) (refuses h) (steps.holding s refuses act image) (λ may_wait.
-        (at_itself s image, (refl,
-        orderly_on_header image (answered e (course_at alone s image stage.Waiting) s (op.Header image header.Get)) (steps.owned refuses act image) (λ own form.
-        subst (λ c. IsOrderly e at true c (steps.owned refuses act image own)) (sym (own_told e alone s image own))
-        (orderly_unless (own_course e alone s image own) (refuses own) (act image own) (acts image own form)))))))))))
+        orderly_on_id beginning (steps.joining s alone refuses act) (λ image. (
+          (refl, refl),
+          (
+            refl,
+            orderly_on_header image (answered e (course_at alone s image stage.Joined) s (op.Header image header.Get)) (steps.looked s refuses act image) (λ h form.
+                subst (λ c. IsOrderly e at true c (steps.looked s refuses act image h)) (sym (first_told e alone s image h))
+                (orderly_unless (course_at alone s image stage.Joined) (refuses h) (steps.holding s refuses act image) (λ may_wait. (
+                  at_itself s image,
+                  (
+                    refl,
+                    orderly_on_header image (answered e (course_at alone s image stage.Waiting) s (op.Header image header.Get)) (steps.owned refuses act image) (λ own form.
+                        subst (λ c. IsOrderly e at true c (steps.owned refuses act image own)) (sym (own_told e alone s image own))
+                        (orderly_unless (own_course e alone s image own) (refuses own) (act image own) (acts image own form))),
+                  ),
+                )))),
+          ),
+        ))
         found,
   )

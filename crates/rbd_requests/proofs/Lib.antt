@@ -3,3 +3,4 @@ pub mod Bounded
 pub mod Turns
 pub mod Begun
 pub mod Given
+pub mod OnePlan

@@ -1,4 +1,5 @@
--- The requests of commands do only what they may by what they know: lemmas that the laws of an `impl` cite. They define nothing.
+-- The requests of commands do only what they may by what they know: lemmas that the laws of an
+-- `impl` cite. They define nothing.
 use Rattle.std.proofs.Common.{◌≡◌, refl, sym, subst}
 use Rattle.rbd_kinds.specs.declared.command.Command.{Command}
 use Rattle.rbd_kinds.specs.declared.id.SiteId.{SiteId}

@@ -1,4 +1,5 @@
--- The requests of commands keep to their line: lemmas that the laws of an `impl` cite. They define nothing.
+-- The requests of commands keep to their line: lemmas that the laws of an `impl` cite. They define
+-- nothing.
 use Rattle.std.proofs.Common.{◌≡◌, ◌⊎◌, inl, inr, ℕ, List, [], ◌∷◌, ◌++◌, replicate, Bool, true, false, cond, eqb, Option, Some, None, refl, ap, sym, subst}
 use Rattle.std.proofs.lemmas.List.{length-replicate}
 use Rattle.rbd_kinds.specs.declared.answer.Answer.{Answer}
@@ -66,7 +67,8 @@ starts label = beginning
 
 -- ---- write, fill
 
--- the objects that its own look tells are those of its pieces, since that look refuses an extent that doesn't fit
+-- the objects that its own look tells are those of its pieces, since that look refuses an extent
+-- that doesn't fit
 pub objects_are : (e : Extent) (h : HeaderView) → write_refuses e h ≡ None → objects_within h e ≡ objects_of (pieces_of h.layout e)
 objects_are e h may = go (fits e h.size) (or_else_none (non_primary h.role) (out_of_range e h.size) may)
   where

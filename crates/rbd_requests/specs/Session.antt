@@ -42,8 +42,8 @@ is_ready_of extra (request.Extra e) a = extra e a
 
 -- ---- what it is made of: a command, or a machine that a layer above brings
 
--- A machine that is brought stands at an operation. It keeps to its line, and changes no extent beside other requests;
--- and it does only what it may by what it knows.
+-- A machine that is brought stands at an operation. It keeps to its line, and changes no extent
+-- beside other requests; and it does only what it may by what it knows.
 pub record MayBeBrought (s : Standing) : Type 0 where
   pub asks : IsAsking s.plan
   pub orderly : IsOrderlyFrom None true beginning s

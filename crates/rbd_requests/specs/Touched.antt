@@ -1,4 +1,5 @@
--- Which bytes of an image a command is about, and what follows for its turns and for how many operations it has.
+-- Which bytes of an image a command is about, and what follows for its turns and for how many
+-- operations it has.
 use Rattle.std.specs.Prelude.{◌≡◌, ℕ, zero, suc, ◌+◌, ◌≤◌, List, length, Bool, Option, Some, None}
 use Rattle.rbd_kinds.specs.declared.answer.Answer.{Answer}
 use Rattle.rbd_kinds.specs.declared.command.Command.{Command}
@@ -32,7 +33,8 @@ abbrev pub HasAtMost : (most : ℕ) → Option Extent → Type 0
 HasAtMost most None = Unit {0}
 HasAtMost most (Some e) = (h : HeaderView) → IsHeaderInForm h → length (pieces_of h.layout e) ≤ most
 
--- The plan has at most n operations up to its end or to a label, whatever they are answered of what they can give.
+-- The plan has at most n operations up to its end or to a label, whatever they are answered of what
+-- they can give.
 abbrev pub AsksAtMost : Plan → (n : ℕ) → Type 0
 AsksAtMost (Ask site why op next) zero = ⊥
 AsksAtMost (Ask site why op next) (suc n) = (answer : Answer) → CanGive op answer → AsksAtMost (next answer) n
@@ -41,7 +43,8 @@ AsksAtMost (Note site image event next) n = AsksAtMost next n
 AsksAtMost (Return reply) n = Unit {0}
 AsksAtMost (Goto label) n = Unit {0}
 
--- How many operations a command has, where its extent has so many pieces at most. A read that begins again has them again.
+-- How many operations a command has, where its extent has so many pieces at most. A read that
+-- begins again has them again.
 abbrev pub bound_of : Command → (most : ℕ) → ℕ
 bound_of (command.Create image size shape) most = 2
 bound_of command.List most = 1
@@ -54,8 +57,8 @@ bound_of (command.Fill image at len byte) most = most + 3
 bound_of (command.Read image snap at len) most = most + 3
 bound_of _ most = 0
 
--- A change of an extent: behind its own look it has its turn at each object that the extent has by that look, one after
--- another, and at no others.
+-- A change of an extent: behind its own look it has its turn at each object that the extent has by
+-- that look, one after another, and at no others.
 pub record TakesTurns (e : Extent) (plan : Plan) : Type 0 where
   pub site : SiteId
   pub name : List ℕ

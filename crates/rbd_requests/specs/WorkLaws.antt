@@ -1,4 +1,5 @@
--- The laws of a request, whatever it was made of: lemmas that the laws of an `impl` cite. They define nothing.
+-- The laws of a request, whatever it was made of: lemmas that the laws of an `impl` cite. They
+-- define nothing.
 use Rattle.std.proofs.Common.{true, List, None, sym, subst}
 use Rattle.rbd_kinds.specs.declared.id.SiteId.{SiteId}
 use Rattle.rbd_kinds.specs.declared.machine.Fed.{Fed}

@@ -43,8 +43,8 @@ pub fn kind_of(command: &Command) -> Kind
     }
 }
 
-/// Whether a command is served. An image with a journal isn't made, nor is a clone. A session asks this before it makes a
-/// request of a command.
+/// Whether a command is served. An image with a journal isn't made, nor is a clone. A session asks
+/// this before it makes a request of a command.
 pub fn is_built(command: &Command) -> bool
     ensures { result ≡ is_one_built command.now }
 {

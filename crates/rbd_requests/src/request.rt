@@ -7,8 +7,8 @@ use rbd_machine::{Machine, Reason};
 use rbd_request::{ReadRequest, WriteRequest};
 use std::alloc::Global;
 
-/// A request of a session: of a command, or a machine that a layer above brings, as a mirror's. It does what the request
-/// in it does.
+/// A request of a session: of a command, or a machine that a layer above brings, as a mirror's. It
+/// does what the request in it does.
 ///
 /// ```text
 /// let request = WriteRequest::new(alloc, SiteId::A, command)?;

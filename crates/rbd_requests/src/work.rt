@@ -21,7 +21,8 @@ use std::alloc::Global;
 pub enum Work<E> {
     /// A command that is served (`is_built`).
     Plain(Command),
-    /// A machine that a layer above brings, which stands at an operation. It changes no extent beside other requests.
+    /// A machine that a layer above brings, which stands at an operation. It changes no extent
+    /// beside other requests.
     Extra(E),
 }
 
