@@ -22,7 +22,6 @@ write_takes_turns : (site : SiteId) (name : List ℕ) (from : ℕ) (bytes : List
 write_takes_turns site name from bytes = record {
   site = site;
   name = name;
-  alone = _;
   refuses = write_refuses (extent_at from bytes);
   act = put site from bytes;
   is = refl;

@@ -1,6 +1,6 @@
 -- Which bytes of an image a command is about, and what follows for its turns and for how many
 -- operations it has.
-use Rattle.std.specs.Prelude.{◌≡◌, ℕ, zero, suc, ◌+◌, ◌≤◌, List, length, Bool, Option, Some, None}
+use Rattle.std.specs.Prelude.{◌≡◌, ℕ, zero, suc, ◌+◌, ◌≤◌, List, length, false, Option, Some, None}
 use Rattle.rbd_kinds.specs.declared.answer.Answer.{Answer}
 use Rattle.rbd_kinds.specs.declared.command.Command.{Command}
 use Rattle.rbd_kinds.specs.declared.command.Command.TheVariants as command
@@ -57,13 +57,12 @@ bound_of (command.Fill image at len byte) most = most + 3
 bound_of (command.Read image snap at len) most = most + 3
 bound_of _ most = 0
 
--- A change of an extent: behind its own look it has its turn at each object that the extent has by
--- that look, one after another, and at no others.
+-- A change of an extent goes beside other requests: behind its own look it has its turn at each
+-- object that the extent has by that look, one after another, and at no others.
 pub record TakesTurns (e : Extent) (plan : Plan) : Type 0 where
   pub site : SiteId
   pub name : List ℕ
-  pub alone : Bool
   pub refuses : HeaderView → Option Refusal
   pub act : ℕ → HeaderView → Plan
-  pub is : plan ≡ change site name alone refuses act
+  pub is : plan ≡ change site name false refuses act
   pub turns : (image : ℕ) (h : HeaderView) → refuses h ≡ None → AreTurns (act image h) (objects_within h e)
