@@ -1,5 +1,5 @@
 -- An orderly request stays so.
-use Rattle.std.proofs.Common.{◌≡◌, ℕ, Bool, true, false, Option, refl, sym, subst}
+use Rattle.std.proofs.Common.{ℕ, Bool, true, false, Option, sym, subst}
 use Rattle.rbd_course.specs.Course.{Course, answered, waited, noted}
 use Rattle.rbd_course.specs.Orderly.{IsInLine, IsOrderly, IsOrderlyFrom, MayWait}
 use Rattle.rbd_kinds.specs.declared.answer.Answer.{Answer}

@@ -1,0 +1,131 @@
+-- How many operations commands have.
+use Rattle.std.proofs.Common.{◌≡◌, ℕ, ◌+◌, ◌*◌, ◌≤◌, suc, List, [], length, replicate, Bool, true, false, cond, eqb, Option, Some, None, sym, subst, add-mul, arith}
+use Rattle.std.proofs.lemmas.List.{length-replicate}
+use Rattle.rbd_kinds.specs.declared.answer.Answer.TheVariants as answer
+use Rattle.rbd_kinds.specs.declared.command.Command.{Command}
+use Rattle.rbd_kinds.specs.declared.command.Command.TheVariants as command
+use Rattle.rbd_kinds.specs.declared.header.HeaderView.{HeaderView}
+use Rattle.rbd_kinds.specs.declared.id.SiteId.{SiteId}
+use Rattle.rbd_kinds.specs.declared.layout.Extent.{Extent}
+use Rattle.rbd_kinds.specs.declared.machine.Fed.{Fed}
+use Rattle.rbd_kinds.specs.declared.reply.Reply.TheVariants as reply
+use Rattle.rbd_layout.specs.Pieces.{pieces_of}
+use Rattle.rbd_header.specs.Header.{view_of}
+use Rattle.rbd_header.specs.declared.view.View.{View}
+use Rattle.rbd_machine.specs.Label.{Label}
+use Rattle.rbd_machine.specs.Label as label
+use Rattle.rbd_machine.specs.Passes.{jumps}
+use Rattle.rbd_machine.specs.Path.{Answered, IsBounded, IsWalk}
+use Rattle.rbd_machine.specs.Plan.{Plan, Return, Goto, Standing, without_labels}
+use Rattle.rbd_machine.specs.Refused.{AreGiven}
+use Rattle.rbd_meaning.specs.Range.{extent_at, out_of_range}
+use Rattle.rbd_meaning.specs.Writes.{write_refuses}
+use Rattle.rbd_piece.proofs.Bounded.{bounded_gather}
+use Rattle.rbd_request.proofs.Bounded.{bounded_put}
+use Rattle.rbd_request.specs.Read.{IsReadOf, pass, looking, reading, viewing, gathering, closing}
+use Rattle.rbd_request.specs.Seen.{Seen, seen_at, shown}
+use Rattle.rbd_request.specs.Write.{is_write, put, write, write_plan}
+use Rattle.rbd_admin.proofs.Bounds.{bounded_create, bounded_listing, bounded_names, bounded_snap}
+use Rattle.rbd_admin.specs.Create.{IsCreatePlan}
+use Rattle.rbd_admin.specs.Listing.{is_listing, listing_plan}
+use Rattle.rbd_admin.specs.Snap.{is_snap, snap_plan}
+use Rattle.rbd_requests.proofs.Given.{asks_on_id, asks_on_header, asks_unless, asks_change, asks_within, walk_asks}
+use Rattle.rbd_requests.specs.Served.{IsPlanFor, Writes, Reads, Creates, Lists, Snaps}
+use Rattle.rbd_requests.specs.Touched.{bound_of, touched_by, AsksAtMost, HasAtMost}
+
+-- ---- write, fill
+
+write_asks_few : (site : SiteId) (name : List ℕ) (from : ℕ) (bytes : List ℕ) (most : ℕ) → HasAtMost most (Some (extent_at from bytes)) → AsksAtMost (write site name from bytes) (most + 3)
+write_asks_few site name from bytes most few =
+    let three_more : suc (suc (suc most)) ≡ most + 3 = omega arith in
+    subst (AsksAtMost (write site name from bytes)) three_more
+    (asks_change site (write_refuses (extent_at from bytes)) (put site from bytes) most
+    (λ image h form. asks_within (put site from bytes image h) (length (pieces_of h.layout (extent_at from bytes))) most (few h form) (bounded_put site from bytes image h)) name false)
+
+write_plan_asks_few : (site : SiteId) (c : Command) (most : ℕ) → is_write c ≡ true → HasAtMost most (touched_by c) → AsksAtMost (write_plan site c) (bound_of c most)
+write_plan_asks_few site (command.Write image from bytes) most is few = write_asks_few site image from bytes most few
+write_plan_asks_few site (command.Fill image from len byte) most is few =
+    write_asks_few site image from (replicate len byte) most
+    (subst (λ n. HasAtMost most (Some (record { at = from; len = n }))) (sym (length-replicate len byte)) few)
+write_plan_asks_few site _ most is few = cc
+
+-- ---- read
+
+closing_bounded : (site : SiteId) (image : ℕ) (seen : Seen) (read : List ℕ) → IsBounded (closing site image seen read) 1
+closing_bounded site image seen read (answer.Header h) = go (eqb h.generation seen.generation)
+  where
+    go : (b : Bool) → IsBounded (cond b (Return (reply.Bytes (shown seen read))) (Goto label.Begin)) 0
+    go true = tt
+    go false = tt
+closing_bounded site image seen read answer.Absent = tt
+closing_bounded site image seen read answer.Fenced = tt
+closing_bounded site image seen read _ = tt
+
+viewing_asks_few : (site : SiteId) (image : ℕ) (h : HeaderView) (e : Extent) (view : Option View) (most : ℕ) → length (pieces_of h.layout e) ≤ most → AsksAtMost (viewing site image h e view) (suc most)
+viewing_asks_few site image h e None most few = tt
+viewing_asks_few site image h e (Some view) most few =
+    asks_unless (out_of_range e view.size) (gathering site image h e view) (suc most)
+    (asks_within (gathering site image h e view) (1 + length (pieces_of h.layout e)) (suc most) (omega arith)
+    (bounded_gather (pieces_of h.layout e) site image view.snap [] (closing site image (seen_at h e)) 1 (closing_bounded site image (seen_at h e))))
+
+pass_asks_few : (site : SiteId) (name : List ℕ) (snap : Option (List ℕ)) (e : Extent) (most : ℕ) → HasAtMost most (Some e) → AsksAtMost (pass site name snap e) (most + 3)
+pass_asks_few site name snap e most few =
+    let three_more : suc (suc (suc most)) ≡ most + 3 = omega arith in
+    subst (AsksAtMost (pass site name snap e)) three_more
+    (λ found can. asks_on_id (looking site snap e) (suc (suc most))
+    (λ image. asks_on_header image (reading site snap e image) (suc most) (λ h form. viewing_asks_few site image h e (view_of h snap) most (few h form))) found)
+
+-- ---- all of them
+
+-- as its plan, so the plan at each of its labels
+abbrev AskFew : Standing → (n : ℕ) → Type 0
+AskFew s n = AsksAtMost s.plan n × ((label : Label) → AsksAtMost (s.labels label) n)
+
+from_plan : (plan : Plan) (s : Standing) (n : ℕ) → s ≡ without_labels plan → AsksAtMost plan n → AskFew s n
+from_plan plan s n is few = subst (λ at. AskFew at n) (sym is) (few, λ label. tt)
+
+read_asks_few : (site : SiteId) (c : Command) (s : Standing) (most : ℕ) → IsReadOf site c s → HasAtMost most (touched_by c) → AskFew s (bound_of c most)
+read_asks_few site (command.Read image snap from len) s most is few =
+    let one = pass_asks_few site image snap (record { at = from; len = len }) most few in
+    subst (λ at. AskFew at (most + 3)) (sym is) (one, λ label. one)
+read_asks_few site _ s most is few = absurd is
+
+create_asks_few : (site : SiteId) (c : Command) (plan : Plan) (most : ℕ) → IsCreatePlan site c plan → IsBounded plan (bound_of c most)
+create_asks_few site (command.Create image size shape) plan most is = bounded_create site (command.Create image size shape) plan is
+create_asks_few site _ plan most is = absurd is
+
+listing_asks_few : (site : SiteId) (c : Command) (most : ℕ) → is_listing c ≡ true → IsBounded (listing_plan site c) (bound_of c most)
+listing_asks_few site command.List most is = bounded_names site 0
+listing_asks_few site (command.Info image) most is = bounded_listing site (command.Info image)
+listing_asks_few site (command.SnapList image) most is = bounded_listing site (command.SnapList image)
+listing_asks_few site _ most is = cc
+
+snap_asks_few : (site : SiteId) (c : Command) (most : ℕ) → is_snap c ≡ true → IsBounded (snap_plan site c) (bound_of c most)
+snap_asks_few site (command.SnapCreate image snap) most is = bounded_snap site (command.SnapCreate image snap)
+snap_asks_few site (command.SnapRemove image snap) most is = bounded_snap site (command.SnapRemove image snap)
+snap_asks_few site _ most is = cc
+
+-- a bound for all answers
+from_bound : (plan : Plan) (s : Standing) (n : ℕ) → s ≡ without_labels plan → IsBounded plan n → AskFew s n
+from_bound plan s n is bounded = from_plan plan s n is (asks_within plan n n (omega arith) bounded)
+
+ask_few : (home : SiteId) (c : Command) (s : Standing) (most : ℕ) → IsPlanFor home c s → HasAtMost most (touched_by c) → AskFew s (bound_of c most)
+ask_few home c s most (Writes is at_plan) few = from_plan (write_plan home c) s (bound_of c most) at_plan (write_plan_asks_few home c most is few)
+ask_few home c s most (Reads is) few = read_asks_few home c s most is few
+ask_few home c s most (Creates is at_plan) few = from_bound s.plan s (bound_of c most) at_plan (create_asks_few home c s.plan most is)
+ask_few home c s most (Lists is at_plan) few = from_bound (listing_plan home c) s (bound_of c most) at_plan (listing_asks_few home c most is)
+ask_few home c s most (Snaps is at_plan) few = from_bound (snap_plan home c) s (bound_of c most) at_plan (snap_asks_few home c most is)
+
+pub command_is_bounded : (home : SiteId) (c : Command) (s : Standing) (most : ℕ) → IsPlanFor home c s → HasAtMost most (touched_by c) → AsksAtMost s.plan (bound_of c most)
+command_is_bounded home c s most is few = (ask_few home c s most is few).0
+
+pub walk_of_command_is_bounded : (home : SiteId) (c : Command) (s : Standing) (most : ℕ) (feds : List Fed) (steps : List Answered) (last : Plan)
+    → IsPlanFor home c s → HasAtMost most (touched_by c) → AreGiven steps → IsWalk s.labels s.plan feds steps last
+    → length steps ≤ (1 + jumps s.labels s.plan feds) * bound_of c most
+walk_of_command_is_bounded home c s most feds steps last is few given walk =
+    let n = bound_of c most in
+    let are = ask_few home c s most is few in
+    let again = jumps s.labels s.plan feds in
+    let short : length steps ≤ n + again * n = walk_asks s.labels n are.1 feds s.plan n steps last are.0 given walk in
+    let each : (1 + again) * n ≡ 1 * n + again * n = add-mul 1 again n in
+    omega arith

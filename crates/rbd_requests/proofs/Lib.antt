@@ -1,0 +1,6 @@
+pub mod Closed
+pub mod Bounded
+pub mod Turns
+pub mod Begun
+pub mod Given
+pub mod OnePlan

@@ -1,0 +1,65 @@
+//! What the requests of all commands keep to: laws, each the contract of a function that does
+//! nothing.
+ghost use Rattle.std.specs.Prelude.{◌≡◌, ℕ, ◌+◌, ◌*◌, ◌≤◌, List, length, Some, true};
+ghost use Rattle.rbd_kinds.specs.declared.command.Command.{Command};
+ghost use Rattle.rbd_kinds.specs.declared.id.SiteId.{SiteId};
+ghost use Rattle.rbd_kinds.specs.declared.layout.Extent.{Extent};
+ghost use Rattle.rbd_kinds.specs.declared.machine.Fed.{Fed};
+ghost use Rattle.rbd_kinds.specs.declared.reply.Reply.{Reply};
+ghost use Rattle.rbd_machine.specs.Lawful.{IsLawfulRequest};
+ghost use Rattle.rbd_machine.specs.Passes.{jumps};
+ghost use Rattle.rbd_machine.specs.Path.{Answered, IsWalk};
+ghost use Rattle.rbd_machine.specs.Plan.{Plan, Return, Standing, IsClosed};
+ghost use Rattle.rbd_machine.specs.Refused.{AreGiven};
+ghost use Rattle.rbd_course.specs.Course.{beginning};
+ghost use Rattle.rbd_course.specs.Orderly.{IsOrderlyFrom};
+ghost use Rattle.rbd_meaning.specs.Meant.{IsMeantBy};
+ghost use Rattle.rbd_requests.specs.Served.{is_built, HasOnePlan, IsPlanFor};
+ghost use Rattle.rbd_requests.specs.Touched.{bound_of, extent_of, touched_by, AsksAtMost, HasAtMost, TakesTurns};
+
+/// A command that is served has one plan, and no other command has any.
+pub fn commands_have_one_plan()
+    ensures one { (home : SiteId) (command : Command) → is_built command ≡ true → HasOnePlan home command }
+    ensures served { (home : SiteId) (command : Command) (s : Standing) → IsPlanFor home command s → is_built command ≡ true }
+{}
+
+/// Each label that the request of a command goes to stands at an operation.
+pub fn commands_are_closed()
+    ensures { (home : SiteId) (command : Command) (s : Standing) → IsPlanFor home command s → IsClosed s.labels s.plan }
+{}
+
+/// The request of a command does only what it may by what it knows, and begins with nothing known
+/// (`rbd_machine`).
+pub fn commands_are_lawful()
+    ensures { (home : SiteId) (command : Command) (s : Standing) → IsPlanFor home command s → IsLawfulRequest s }
+{}
+
+/// A reply is meant by its command, behind the operations that were done (`IsMeantBy` of
+/// `rbd_meaning`), where each answer is one that its operation can give. No other reply comes.
+pub fn commands_are_meant()
+    ensures { (home : SiteId) (command : Command) (s : Standing) (feds : List Fed) (steps : List Answered) (reply : Reply)
+        → IsPlanFor home command s → AreGiven steps → IsWalk s.labels s.plan feds steps (Return reply) → IsMeantBy home command steps reply }
+{}
+
+/// The request of a command keeps to its line (`rbd_course`). A write and a fill take their turns
+/// at the objects that their own look tells of their extent, and no other command takes any.
+pub fn commands_are_orderly()
+    ensures { (home : SiteId) (command : Command) (s : Standing) → IsPlanFor home command s → IsOrderlyFrom (extent_of command) true beginning s }
+{}
+
+/// The request of a command that changes an extent takes all the turns that its own look tells,
+/// each once, before it is done.
+pub fn turns_are_those_of_the_extent()
+    ensures { (home : SiteId) (command : Command) (s : Standing) (e : Extent) → IsPlanFor home command s → extent_of command ≡ Some e → TakesTurns e s.plan }
+{}
+
+/// The request of a command has so many operations at most, by the number of pieces that its extent
+/// has at most by the header of any image. Each time that it begins again, as a read does, it has
+/// as many once more.
+pub fn commands_are_bounded()
+    ensures pass { (home : SiteId) (command : Command) (s : Standing) (most : ℕ)
+        → IsPlanFor home command s → HasAtMost most (touched_by command) → AsksAtMost s.plan (bound_of command most) }
+    ensures all { (home : SiteId) (command : Command) (s : Standing) (most : ℕ) (feds : List Fed) (steps : List Answered) (last : Plan)
+        → IsPlanFor home command s → HasAtMost most (touched_by command) → AreGiven steps → IsWalk s.labels s.plan feds steps last
+        → length steps ≤ (1 + jumps s.labels s.plan feds) * bound_of command most }
+{}

@@ -1,0 +1,76 @@
+//! The requests of a session as one type: of each command that is served, and of a machine that a
+//! layer above brings. No crate above names a command's request.
+//!
+//! ```text
+//! is_built(&command)                                    // true: `write disk 4094 hello` is served
+//! let work: Work<Follower> = Work::Plain(command);
+//! SessionRequest::extent(&work)                         // bytes 4094 to 4098, which it changes piece by piece
+//! match SessionRequest::begin(alloc, SiteId::A, work)? {
+//!     Begun::Refused(refusal) => refusal,               // only a `create`, whose shape is outside the limits
+//!     Begun::Asks(mut request) => {
+//!         request.wants()                               // an operation at site A, of the kind dir-find
+//!         request.next(alloc)?                          // dir-find disk
+//!         request.ready(alloc, &id)?                    // memory for the answer `id 7`
+//!         request.feed(&id)                             // More; then to join the line of image 7
+//!     }
+//! }
+//! ```
+//!
+//! # Rules
+//!
+//! | command | request | operations at most | its extent |
+//! |---|---|---|---|
+//! | `write`, `fill` | [`WriteRequest`](rbd_request::WriteRequest) | 3, and one for each piece | the bytes that it puts |
+//! | `read` | [`ReadRequest`](rbd_request::ReadRequest) | 3, and one for each piece; as many again each time that it begins again | none |
+//! | `create` without a journal | [`CreateRequest`](rbd_admin::CreateRequest) | 2 | none |
+//! | `ls` | [`ListRequest`](rbd_admin::ListRequest) | 1 | none |
+//! | `info`, `snap ls` | [`ListRequest`](rbd_admin::ListRequest) | 2 | none |
+//! | `snap create`, `snap rm` | [`SnapRequest`](rbd_admin::SnapRequest) | 4 | none |
+//! | others | none: [`is_built`] is false | | |
+//!
+//! - A [`SessionRequest`] does what the request in it does, call by call.
+//! - A `create` outside the limits is refused with BadShape, before any operation. All else begins
+//!   at an operation.
+//! - The extent of a work is what it changes piece by piece beside other requests of its image: it
+//!   takes its turn at each object of it. A read changes nothing, and a snapshot is taken or
+//!   removed alone on the image.
+//! - A machine that a layer above brings ([`Work::Extra`]) stands at an operation, keeps to its
+//!   line without a turn, and does only what it may by what it knows (`rbd_machine`). Whoever
+//!   brings it says what its reply means.
+//!
+//! # Contracts
+//!
+//! `specs/Served.antt`: which commands are served (`is_built`), and where the request of one stands
+//! at first (`IsPlanFor`). `specs/Touched.antt`: the extent that a command changes (`extent_of`) or
+//! is about (`touched_by`), what its turns are (`TakesTurns`), and how many operations it has
+//! (`bound_of`). `specs/Session.antt`: where a [`SessionRequest`] stands (`stands_of`), and what a
+//! session asks of a work (`Serves`). [`SessionRequest`] meets [`Machine`](rbd_machine::Machine)
+//! and [`Request`](rbd_course::Request), the laws of the latter among it.
+//!
+//! [`laws`] joins the laws of the commands' requests, one over all commands for each: their labels
+//! stand at operations, they are lawful from nothing known, they keep to their line, they take the
+//! turns of their extent and no others, each reply is meant, and how many operations they have.
+//!
+//! The other files of `specs/` are lemmas that the laws of [`Request`](rbd_course::Request) cite.
+//! They define nothing.
+//!
+//! # Cost
+//!
+//! A call is that of the request in it, and one choice. `begin` takes memory only for a write,
+//! which shares its bytes, and for a fill, whose bytes it makes. [`is_built`] and [`extent_of`]
+//! take none.
+//!
+//! # How it works
+//!
+//! Each call of [`SessionRequest`] is a `match` with one call an arm. `begin` asks once which
+//! request serves the command, and hands the command over to it whole.
+#![tactic(auto)]
+
+mod kind;
+pub mod laws;
+mod request;
+mod work;
+
+pub use kind::is_built;
+pub use request::SessionRequest;
+pub use work::{Work, extent_of};

@@ -1,0 +1,104 @@
+//! The request of a session, whatever its command is.
+ghost use Rattle.rbd_requests.specs.Session.{stands_of, is_ready_of};
+
+use rbd_admin::{CreateRequest, ListRequest, SnapRequest};
+use rbd_kinds::{Event, Fed, NoMemory, Op, Turn, Want};
+use rbd_machine::{Machine, Reason};
+use rbd_request::{ReadRequest, WriteRequest};
+use std::alloc::Global;
+
+/// A request of a session: of a command, or a machine that a layer above brings, as a mirror's. It
+/// does what the request in it does.
+///
+/// ```text
+/// let request = WriteRequest::new(alloc, SiteId::A, command)?;
+/// let mut request: SessionRequest<Follower> = SessionRequest::Write(request);
+/// request.wants()       // what the write wants: an operation at site A, of the kind dir-find
+/// ```
+#[derive(Debug, Drop)]
+pub enum SessionRequest<E> {
+    /// `read`
+    Read(ReadRequest),
+    /// `write` or `fill`
+    Write(WriteRequest),
+    /// `create`
+    Create(CreateRequest),
+    /// `snap create` or `snap rm`
+    Snap(SnapRequest),
+    /// `ls`, `info` or `snap ls`
+    List(ListRequest),
+    /// A machine that a layer above brings.
+    Extra(E),
+}
+
+impl<E: Machine + Drop> Machine for SessionRequest<E> {
+    ghost stands = { stands_of E.stands };
+
+    ghost is_ready = { is_ready_of E.is_ready };
+
+    fn wants(&self) -> Want {
+        match self {
+            SessionRequest::Read(request) => request.wants(),
+            SessionRequest::Write(request) => request.wants(),
+            SessionRequest::Create(request) => request.wants(),
+            SessionRequest::Snap(request) => request.wants(),
+            SessionRequest::List(request) => request.wants(),
+            SessionRequest::Extra(request) => request.wants(),
+        }
+    }
+
+    fn next(&self, alloc: Global) -> Result<Op, NoMemory> {
+        match self {
+            SessionRequest::Read(request) => request.next(alloc),
+            SessionRequest::Write(request) => request.next(alloc),
+            SessionRequest::Create(request) => request.next(alloc),
+            SessionRequest::Snap(request) => request.next(alloc),
+            SessionRequest::List(request) => request.next(alloc),
+            SessionRequest::Extra(request) => request.next(alloc),
+        }
+    }
+
+    fn reason(&self) -> Reason {
+        match self {
+            SessionRequest::Read(request) => request.reason(),
+            SessionRequest::Write(request) => request.reason(),
+            SessionRequest::Create(request) => request.reason(),
+            SessionRequest::Snap(request) => request.reason(),
+            SessionRequest::List(request) => request.reason(),
+            SessionRequest::Extra(request) => request.reason(),
+        }
+    }
+
+    fn event(&self, alloc: Global) -> Result<Option<Event>, NoMemory> {
+        match self {
+            SessionRequest::Read(request) => request.event(alloc),
+            SessionRequest::Write(request) => request.event(alloc),
+            SessionRequest::Create(request) => request.event(alloc),
+            SessionRequest::Snap(request) => request.event(alloc),
+            SessionRequest::List(request) => request.event(alloc),
+            SessionRequest::Extra(request) => request.event(alloc),
+        }
+    }
+
+    fn ready(&mut self, alloc: Global, fed: &Fed) -> Result<(), NoMemory> {
+        match self {
+            SessionRequest::Read(request) => request.ready(alloc, fed),
+            SessionRequest::Write(request) => request.ready(alloc, fed),
+            SessionRequest::Create(request) => request.ready(alloc, fed),
+            SessionRequest::Snap(request) => request.ready(alloc, fed),
+            SessionRequest::List(request) => request.ready(alloc, fed),
+            SessionRequest::Extra(request) => request.ready(alloc, fed),
+        }
+    }
+
+    fn feed(&mut self, fed: &Fed) -> Turn {
+        match self {
+            SessionRequest::Read(request) => request.feed(fed),
+            SessionRequest::Write(request) => request.feed(fed),
+            SessionRequest::Create(request) => request.feed(fed),
+            SessionRequest::Snap(request) => request.feed(fed),
+            SessionRequest::List(request) => request.feed(fed),
+            SessionRequest::Extra(request) => request.feed(fed),
+        }
+    }
+}
