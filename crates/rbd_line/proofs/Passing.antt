@@ -1,19 +1,21 @@
 -- Who may pass, and whose turn it is, after others changed.
-use Rattle.std.proofs.Common.{◌≡◌, ℕ, ◌≤◌, Bool, true, false, cond, not, ◌&&◌, ◌||◌, eqb, List, [], ◌∷◌, ◌++◌, length, map, Option, Some, None, refl, sym, ap, subst, ◌∙◌, inl, inr, true≢false, arith}
+use Rattle.std.proofs.Common.{◌≡◌, ℕ, ◌≤◌, Bool, true, false, cond, not, ◌&&◌, ◌||◌, eqb, List, [], ◌∷◌, ◌++◌, length, map, Option, Some, None, refl, sym, ap, subst, ◌∙◌, inl, inr, true≢false, arith, drop}
 use Rattle.std.specs.Prelude.{◌⊎◌}
 use Rattle.std.specs.List.{filter, list_all, list_any}
-use Rattle.std.specs.Option.{option_map}
+use Rattle.std.specs.Option.{is_some, option_map}
 use Rattle.std.proofs.lemmas.Bool.{eq-eqb, ne_eqb, eqb-true, cond-true, cond-false, or_left, or_right}
 use Rattle.std.proofs.lemmas.List.{length-map}
 use Rattle.rbd_course.specs.declared.stage.Stage.{Stage}
 use Rattle.rbd_course.specs.declared.stage.Stage.TheVariants as stage
 use Rattle.rbd_course.specs.Course.{held_stage}
-use Rattle.rbd_line.specs.Line.{Member, member_of, is_member, ahead, behind, is_past, lets_pass, is_let_pass, may_pass, holds, slots, none_past_behind, has_turn, joined, held, passed, entered, next_piece, changed, without, Each, EachPair, LetsPass, IsFairLine}
+use Rattle.rbd_guard.specs.Order.{is_in}
+use Rattle.rbd_guard.proofs.Apart.{head_in}
+use Rattle.rbd_line.specs.Line.{Member, member_of, is_member, ahead, behind, is_past, lets_pass, is_let_pass, may_pass, holds, slots, none_past_behind, has_turn, joined, held, passed, entered, next_piece, changed, without, Each, EachPair, LetsPass, IsFairLine, is_shared_past, is_shared_past_in, may_enter, objects_in, objects_of, IsFairMember}
 use Rattle.rbd_line.specs.Steady.{IsSteady}
 use Rattle.rbd_line.specs.Turns.{begins_with}
-use Rattle.rbd_line.proofs.Fair.{put, put_is, put_keeps, absent_change, rest_out, in_slots}
+use Rattle.rbd_line.proofs.Fair.{put, put_is, put_keeps, absent_change, rest_out, in_slots, each_true}
 use Rattle.rbd_line.proofs.Few.{few}
-use Rattle.rbd_line.proofs.Keeping.{same_some, some_none, found_has}
+use Rattle.rbd_line.proofs.Keeping.{same_some, some_none, found_has, is_found}
 
 and_left : (a b : Bool) → (a && b) ≡ true → a ≡ true
 and_left true b h = refl
@@ -324,3 +326,84 @@ few_members ms fair =
     let enough = few 64 (slots ms) fair.apart (λ x here. in_slots ms fair.each x here) in
     let same = length-map ms (λ (m : Member). m.slot) in
     omega (arith, enough, same)
+
+-- ---- nobody passes one that is alone
+
+lets_none : (p a b : Bool) → a ≡ true → ((p && not a) && not b) ≡ false
+lets_none true true b e = refl
+lets_none false a b e = refl
+lets_none true false b e = absurd (true≢false (sym e))
+
+and_false : (b : Bool) → (b && false) ≡ false
+and_false true = refl
+and_false false = refl
+
+held_back : (ms : List Member) (one : Member) (other : ℕ) (alone : Bool) → member_of one.slot ms ≡ Some one → one.alone ≡ true → is_member one.slot (ahead other ms) ≡ true
+    → list_all (lets_pass alone) (ahead other ms) ≡ false
+held_back [] one other alone here is before = absurd (some_none one here)
+held_back (x ∷ ms) one other alone here is before =
+    by (eqb x.slot other) refl (eqb x.slot one.slot) refl here before (λ h b. held_back ms one other alone h is b)
+  where
+    by : (a : Bool) → eqb x.slot other ≡ a → (c : Bool) → eqb x.slot one.slot ≡ c → cond c (Some x) (member_of one.slot ms) ≡ Some one
+        → is_member one.slot (cond a [] (x ∷ ahead other ms)) ≡ true
+        → (member_of one.slot ms ≡ Some one → is_member one.slot (ahead other ms) ≡ true → list_all (lets_pass alone) (ahead other ms) ≡ false)
+        → list_all (lets_pass alone) (cond a [] (x ∷ ahead other ms)) ≡ false
+    by true e c g h before rest = absurd (true≢false (sym before))
+    by false e true g h before rest =
+        ap (λ b. b && list_all (lets_pass alone) (ahead other ms)) (lets_none (is_past x.stage) x.alone alone (ap (λ m. m.alone) (same_some x one h) ∙ is))
+    by false e false g h before rest =
+        ap (λ b. lets_pass alone x && b) (rest h (sym (ap (λ c. c || is_member one.slot (ahead other ms)) g) ∙ before)) ∙ and_false (lets_pass alone x)
+
+pub none_passes : (ms : List Member) (one : Member) (other : ℕ) → member_of one.slot ms ≡ Some one → one.alone ≡ true → is_member one.slot (ahead other ms) ≡ true
+    → may_pass other ms ≡ false
+none_passes ms one other here is before = by (member_of other ms)
+  where
+    by : (o : Option Member) → is_let_pass o (ahead other ms) ≡ false
+    by None = refl
+    by (Some m) = held_back ms one other m.alone here is before
+
+-- ---- tickets
+
+pub found_at : (ms : List Member) (slot : ℕ) (m : Member) → member_of slot ms ≡ Some m → m.slot ≡ slot
+found_at ms slot m is = (found_has (λ _. Unit {0}) slot ms (each_true (λ _. Unit {0}) ms (λ _. tt)) m is).1
+
+nothing : (xs : List ℕ) (b : Bool) → b ≡ false → ((n : ℕ) → is_in n xs ≡ true → b ≡ true) → xs ≡ []
+nothing [] b out right = refl
+nothing (x ∷ xs) b out right = absurd (true≢false (sym (right x (head_in x xs)) ∙ out))
+
+pub none_yet : (ms : List Member) (m : Member) → IsFairLine ms → member_of m.slot ms ≡ Some m → is_past m.stage ≡ false → m.objects ≡ []
+none_yet ms m fair is waits =
+    nothing m.objects (is_shared_past m) (ap (λ p. p && not m.alone) waits) (found_has IsFairMember m.slot ms fair.each m is).0.holds_by_right
+
+pub may_after_pass : (ms : List Member) (m : Member) → member_of m.slot ms ≡ Some m → m.alone ≡ false → may_enter m.slot (changed m.slot passed ms) ≡ true
+may_after_pass ms m is shared =
+    ap is_shared_past_in (own_changed ms m.slot passed passed_is_steady) ∙ (ap (λ o. is_shared_past_in (option_map passed o)) is ∙ ap not shared)
+
+pub may_after_enter : (ms : List Member) (slot object : ℕ) → may_enter slot ms ≡ true → may_enter slot (changed slot (entered object) ms) ≡ true
+may_after_enter ms slot object may = ap is_shared_past_in (own_changed ms slot (entered object) (entered_is_steady object)) ∙ by (member_of slot ms) may
+  where
+    by : (o : Option Member) → is_shared_past_in o ≡ true → is_shared_past_in (option_map (entered object) o) ≡ true
+    by None h = h
+    by (Some m) h = h
+
+pub objects_stay : (ms : List Member) (slot : ℕ) → objects_of slot (changed slot passed ms) ≡ objects_of slot ms
+objects_stay ms slot = ap objects_in (own_changed ms slot passed passed_is_steady) ∙ by (member_of slot ms)
+  where
+    by : (o : Option Member) → objects_in (option_map passed o) ≡ objects_in o
+    by None = refl
+    by (Some m) = refl
+
+pub one_more : (ms : List Member) (slot object : ℕ) → is_member slot ms ≡ true → objects_of slot (changed slot (entered object) ms) ≡ objects_of slot ms ++ object ∷ []
+one_more ms slot object here =
+    ap objects_in (own_changed ms slot (entered object) (entered_is_steady object)) ∙ by (member_of slot ms) (is_found slot ms ∙ here)
+  where
+    by : (o : Option Member) → is_some o ≡ true → objects_in (option_map (entered object) o) ≡ objects_in o ++ object ∷ []
+    by None h = absurd (true≢false (sym h))
+    by (Some m) h = refl
+
+pub one_less : (ms : List Member) (slot : ℕ) → objects_of slot (changed slot next_piece ms) ≡ drop 1 (objects_of slot ms)
+one_less ms slot = ap objects_in (own_changed ms slot next_piece next_is_steady) ∙ by (member_of slot ms)
+  where
+    by : (o : Option Member) → objects_in (option_map next_piece o) ≡ drop 1 (objects_in o)
+    by None = refl
+    by (Some m) = refl

@@ -1,15 +1,19 @@
 //! What follows for every line: each law is the contract of a function that does nothing.
-ghost use Rattle.std.specs.Prelude.{◌≡◌, ◌≢◌, ℕ, ◌≤◌, ◌&&◌, Bool, List, [], ◌∷◌, ◌++◌, Some, None, IsTrue, IsFalse, length};
+ghost use Rattle.std.specs.Prelude.{◌≡◌, ◌≢◌, ℕ, ◌≤◌, ◌&&◌, Bool, List, [], ◌∷◌, ◌++◌, Some, None, IsTrue, IsFalse, drop, is_some, length};
 ghost use Rattle.std.specs.List.{list_any};
 ghost use Rattle.std.specs.Option.{option_map};
-ghost use Rattle.rbd_line.specs.Line.{Member, member_of, is_member, ahead, is_past, may_pass, holds, has_turn, none_past_behind, joined, held, passed, entered, next_piece, changed, without, IsFairLine};
+ghost use Rattle.rbd_line.specs.Line.{Member, member_of, is_member, ahead, is_past, may_pass, may_enter, holds, objects_of, has_turn, none_past_behind, joined, held, passed, entered, next_piece, changed, without, IsFairLine};
 ghost use Rattle.rbd_line.specs.Steady.{IsSteady};
 
-/// While a member that is alone is past its own look, no other member is.
+/// While a member that is alone is past its own look, no other member is. Nobody behind one that is
+/// alone may pass.
 pub fn alone_is_alone()
-    ensures { (members : List Member) (one other : Member) → IsFairLine members
+    ensures past { (members : List Member) (one other : Member) → IsFairLine members
         → member_of one.slot members ≡ Some one → member_of other.slot members ≡ Some other → one.slot ≢ other.slot
         → IsTrue one.alone → IsTrue (is_past one.stage) → IsFalse (is_past other.stage) }
+
+    ensures behind { (members : List Member) (one : Member) (other : ℕ) → member_of one.slot members ≡ Some one
+        → IsTrue one.alone → IsTrue (is_member one.slot (ahead other members)) → IsFalse (may_pass other members) }
 {}
 
 /// Who holds an object has its turn there before each one that is behind it in the line.
@@ -81,6 +85,33 @@ pub fn changing()
 
     ensures behind { (members : List Member) (slot : ℕ) (f : Member → Member) → IsSteady f → IsFairLine members
         → none_past_behind slot (changed slot f members) ≡ none_past_behind slot members }
+{}
+
+/// A slot is a member exactly where a member is found, and who is found is at that slot.
+pub fn finding()
+    ensures is_some { (members : List Member) (slot : ℕ) → is_some (member_of slot members) ≡ is_member slot members }
+    ensures slot { (members : List Member) (slot : ℕ) (m : Member) → member_of slot members ≡ Some m → m.slot ≡ slot }
+{}
+
+/// Who goes past its own look holds no object yet, and may take tickets if it is shared, one after
+/// another. Each goes behind those that it has, and the first goes with its piece.
+pub fn taking_tickets()
+    ensures none_yet { (members : List Member) (m : Member) → IsFairLine members → member_of m.slot members ≡ Some m
+        → IsFalse (is_past m.stage) → m.objects ≡ [] }
+
+    ensures passed { (members : List Member) (m : Member) → member_of m.slot members ≡ Some m → IsFalse m.alone
+        → IsTrue (may_enter m.slot (changed m.slot passed members)) }
+
+    ensures entered { (members : List Member) (slot object : ℕ) → IsTrue (may_enter slot members)
+        → IsTrue (may_enter slot (changed slot (entered object) members)) }
+
+    ensures same { (members : List Member) (slot : ℕ) → objects_of slot (changed slot passed members) ≡ objects_of slot members }
+
+    ensures one_more { (members : List Member) (slot object : ℕ) → IsTrue (is_member slot members)
+        → objects_of slot (changed slot (entered object) members) ≡ objects_of slot members ++ object ∷ [] }
+
+    ensures one_less { (members : List Member) (slot : ℕ)
+        → objects_of slot (changed slot next_piece members) ≡ drop 1 (objects_of slot members) }
 {}
 
 /// Who joins is a member, who leaves is none, and the others stay who they are.

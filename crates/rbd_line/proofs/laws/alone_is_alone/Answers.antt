@@ -1,5 +1,8 @@
-use Rattle.rbd_line.proofs.Passing.{alone_past}
+use Rattle.rbd_line.proofs.Passing.{alone_past, none_passes}
 use Rattle.rbd_line.proofs.laws.alone_is_alone.Goals as goal
 
-pub returns : goal.returns
-returns c = alone_past
+pub returns-clause-past : goal.returns-clause-past
+returns-clause-past c = alone_past
+
+pub returns-clause-behind : goal.returns-clause-behind
+returns-clause-behind c = none_passes
