@@ -1,0 +1,14 @@
+pub mod Advancing
+pub mod Alike
+pub mod Apart
+pub mod Behind
+pub mod Entering
+pub mod Fairness
+pub mod Going
+pub mod Members
+pub mod Others
+pub mod Readied
+pub mod Sound
+pub mod Tables
+pub mod Track
+pub mod Way

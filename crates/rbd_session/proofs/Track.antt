@@ -1,0 +1,133 @@
+-- The course of a request goes as its track does, and the courses of others stay.
+use Rattle.std.proofs.Common.{◌≡◌, ℕ, inl, inr, cond, Bool, true, false, List, [], ◌∷◌, ◌++◌, drop, Option, Some, None, refl, sym, ap, ◌∙◌, subst}
+use Rattle.std.proofs.lemmas.Bool.{eq-eqb}
+use Rattle.std.specs.Option.{option_map}
+use Rattle.rbd_course.specs.Course.{Course, waited, noted, answered, looked, behind, is_own_at, due_of, objects_asked}
+use Rattle.rbd_kinds.specs.declared.answer.Answer.{Answer}
+use Rattle.rbd_kinds.specs.declared.answer.Answer.TheVariants as answer
+use Rattle.rbd_kinds.specs.declared.header.HeaderView.{HeaderView}
+use Rattle.rbd_kinds.specs.declared.header_op.HeaderOp.TheVariants as header
+use Rattle.rbd_kinds.specs.declared.operation.Op.{Op}
+use Rattle.rbd_kinds.specs.declared.operation.Op.TheVariants as op
+use Rattle.rbd_kinds.specs.declared.id.SiteId.{SiteId}
+use Rattle.rbd_kinds.specs.declared.id.SiteId.TheVariants as site
+use Rattle.rbd_kinds.specs.declared.layout.Extent.{Extent}
+use Rattle.rbd_line.specs.Line.{Member, member_of, changed, joined, held, passed}
+use Rattle.rbd_machine.specs.Knowledge.{is_at, same_site}
+use Rattle.rbd_machine.specs.Wait.{Wait}
+use Rattle.rbd_machine.specs.Wait as wait
+use Rattle.rbd_session.specs.declared.image_at.ImageAt.{ImageAt}
+use Rattle.rbd_session.specs.Track.{Track, Lines, changed_at, image_at, line_in, course_in, course_of, given, done_with, waited_by, noted_by, looked_by, answered_by}
+use Rattle.rbd_session.specs.OnTrack.{IsThere, IsSomewhere}
+use Rattle.rbd_session.proofs.Members.{KeepsSlot, member_of_changed, member_of_last}
+
+-- ---- where
+
+same_itself : (s : SiteId) → same_site s s ≡ true
+same_itself site.A = refl
+same_itself site.B = refl
+
+pub at_itself : (s : SiteId) (image : ℕ) → is_at s image s image ≡ true
+at_itself s image = rw (same_itself s) (eq-eqb image image refl)
+
+pub same_site_is : (s t : SiteId) → same_site t s ≡ true → t ≡ s
+same_site_is site.A site.A is = refl
+same_site_is site.B site.B is = refl
+same_site_is site.A site.B is = cc
+same_site_is site.B site.A is = cc
+
+-- the line of the image that changes is changed
+pub changed_here : (p : ImageAt) (change : List Member → List Member) (lines : Lines) → line_in (Some p) (changed_at (Some p) change lines) ≡ change (lines p.site p.image)
+changed_here p change lines = ap (λ b. cond b (change (lines p.site p.image)) (lines p.site p.image)) (at_itself p.site p.image)
+
+-- ---- its own course
+
+pub course_there : (slot : ℕ) (p : ImageAt) (m : Member) (t : Track) → IsThere slot p m t → course_of slot t ≡ course_in t.turn t.due (Some p) (Some m)
+course_there slot p m t there =
+    subst (λ q. course_in t.turn t.due q (member_of slot (line_in q t.lines)) ≡ course_in t.turn t.due (Some p) (Some m)) (sym there.place)
+    (ap (course_in t.turn t.due (Some p)) there.member)
+
+-- so it is after a change of its own
+pub stays_there : (slot : ℕ) (p : ImageAt) (m : Member) (t : Track) (f : Member → Member) → KeepsSlot f → IsThere slot p m t → (turn : Option ℕ) (due : List ℕ)
+    → IsThere slot p (f m) (record { place = t.place; turn = turn; due = due; lines = changed_at t.place (changed slot f) t.lines })
+stays_there slot p m t f keeps there turn due = record {
+  place = there.place;
+  member =
+      subst (λ q. member_of slot (changed_at q (changed slot f) t.lines p.site p.image) ≡ Some (f m)) (sym there.place)
+      (ap (member_of slot) (changed_here p (changed slot f) t.lines) ∙ member_of_changed f keeps slot (t.lines p.site p.image) ∙ ap (option_map f) there.member);
+}
+
+pub held_keeps : KeepsSlot held
+held_keeps m = refl
+
+pub done_keeps : (turn : Option ℕ) → KeepsSlot (done_with turn)
+done_keeps None m = refl
+done_keeps (Some object) m = refl
+
+pub given_keeps : (objects : List ℕ) → KeepsSlot (given objects)
+given_keeps objects m = refl
+
+pub passed_keeps : KeepsSlot passed
+passed_keeps m = refl
+
+pub first_goes : (object : ℕ) (objects : List ℕ) → drop 1 objects ≡ behind (Some object) objects
+first_goes object [] = refl
+first_goes object (first ∷ objects) = refl
+
+done_course : (before turn : Option ℕ) (due : List ℕ) (p : ImageAt) (m : Member)
+    → course_in turn due (Some p) (Some (done_with before m)) ≡ record (course_in turn due (Some p) (Some m)) { objects = behind before m.objects }
+done_course None turn due p m = refl
+done_course (Some object) turn due p m =
+    ap (λ objects. record (course_in turn due (Some p) (Some m)) { objects = objects }) (first_goes object m.objects)
+
+module _ (slot : ℕ) (p : ImageAt) (m : Member) (t : Track) (there : IsThere slot p m t) where
+  same_by : (change : Course → Course) → change (course_in t.turn t.due (Some p) (Some m)) ≡ change (course_of slot t)
+  same_by change = ap change (sym (course_there slot p m t there))
+
+  pub course_held : (site : SiteId) (image : ℕ) → course_of slot (waited_by slot t (wait.Hold site image)) ≡ waited (course_of slot t) (wait.Hold site image)
+  course_held site image =
+      course_there slot p (held m) (waited_by slot t (wait.Hold site image)) (stays_there slot p m t held held_keeps there t.turn t.due)
+      ∙ same_by (λ c. waited c (wait.Hold site image))
+
+  pub course_turned : (object : ℕ) → course_of slot (waited_by slot t (wait.Turn object)) ≡ waited (course_of slot t) (wait.Turn object)
+  course_turned object =
+      course_there slot p (done_with t.turn m) (waited_by slot t (wait.Turn object)) (stays_there slot p m t (done_with t.turn) (done_keeps t.turn) there (Some object) t.due)
+      ∙ done_course t.turn (Some object) t.due p m ∙ same_by (λ c. waited c (wait.Turn object))
+
+  pub course_applied : (site : SiteId) (image : ℕ) → course_of slot (waited_by slot t (wait.Applied site image)) ≡ waited (course_of slot t) (wait.Applied site image)
+  course_applied site image =
+      course_there slot p (done_with t.turn m) (waited_by slot t (wait.Applied site image)) (stays_there slot p m t (done_with t.turn) (done_keeps t.turn) there None t.due)
+      ∙ done_course t.turn None t.due p m ∙ same_by (λ c. waited c (wait.Applied site image))
+
+  pub course_noted : course_of slot (noted_by slot t) ≡ noted (course_of slot t)
+  course_noted =
+      course_there slot p (given t.due m) (noted_by slot t) (stays_there slot p m t (given t.due) (given_keeps t.due) there t.turn [])
+      ∙ same_by noted
+
+  pub course_looked : (e : Option Extent) (h : HeaderView) → course_of slot (looked_by slot e h t) ≡ looked e h (course_of slot t)
+  course_looked e h =
+      course_there slot p (passed m) (looked_by slot e h t) (stays_there slot p m t passed passed_keeps there t.turn (looked_by slot e h t).due)
+      ∙ ap (λ c. course_in t.turn (due_of c.place (objects_asked h e)) (Some p) (Some (passed m))) (course_there slot p m t there)
+      ∙ same_by (looked e h)
+
+pub course_joined : (slot : ℕ) (t : Track) (site : SiteId) (image : ℕ) (alone : Bool) → t.place ≡ None → member_of slot (t.lines site image) ≡ None
+    → course_of slot (waited_by slot t (wait.Join site image alone)) ≡ waited (course_of slot t) (wait.Join site image alone)
+course_joined slot t site image alone nowhere none =
+    ap (course_in t.turn t.due (Some (image_at site image)))
+    (ap (member_of slot) (changed_here (image_at site image) (λ members. members ++ joined slot alone ∷ []) t.lines) ∙ member_of_last slot alone (t.lines site image) none)
+    ∙ subst (λ q. course_in t.turn t.due (Some (image_at site image)) (Some (joined slot alone)) ≡ waited (course_in t.turn t.due q (member_of slot (line_in q t.lines))) (wait.Join site image alone)) (sym nowhere) refl
+
+pub course_left : (slot : ℕ) (t : Track) (site : SiteId) (image : ℕ) → course_of slot (waited_by slot t (wait.Leave site image)) ≡ waited (course_of slot t) (wait.Leave site image)
+course_left slot t site image = refl
+
+pub course_answered : (slot : ℕ) (e : Option Extent) (t : Track) (s : SiteId) (o : Op) (a : Answer) → IsSomewhere slot t
+    → course_of slot (answered_by slot e t s o a) ≡ answered e (course_of slot t) s o a
+course_answered slot e t s (op.Header image header.Get) (answer.Header h) somewhere =
+    go (is_own_at s image (course_of slot t).place) refl somewhere
+  where
+    go : (b : Bool) → is_own_at s image (course_of slot t).place ≡ b → IsSomewhere slot t → course_of slot (cond b (looked_by slot e h t) t) ≡ cond b (looked e h (course_of slot t)) (course_of slot t)
+    go false is somewhere = refl
+    go true is (inr (p, m, there)) = course_looked slot p m t there e h
+    go true is (inl nowhere) =
+        let no : false ≡ true = sym (ap (λ q. is_own_at s image (course_in t.turn t.due q (member_of slot (line_in q t.lines))).place) nowhere) ∙ is in cc
+course_answered slot e t s o a somewhere = refl

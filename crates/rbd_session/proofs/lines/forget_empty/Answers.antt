@@ -1,0 +1,7 @@
+use Rattle.std.proofs.Common.{◌∙◌, sym}
+use Rattle.rbd_session.proofs.Tables.{forgotten}
+use Rattle.rbd_session.proofs.lines.forget_empty.Goals as goal
+
+pub returns-then-is_empty_in-clause-members : goal.returns-then-is_empty_in-clause-members
+returns-then-is_empty_in-clause-members c =
+    forgotten c.args.lines.now c.forget.new.lines c.args.key c.forget.ensures.lines (sym c.is_empty_in.ensures ∙ c.if-is_empty_in.true)

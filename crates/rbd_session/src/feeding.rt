@@ -1,0 +1,60 @@
+//! The request in a slot is made ready for an answer, and fed it.
+ghost use Rattle.std.specs.Prelude.{◌≡◌, ℕ, None, Some, IsSome, OnOk};
+ghost use Rattle.rbd_machine.specs.Answers.{CanBeFed};
+ghost use Rattle.rbd_machine.specs.Plan.{IsAsking};
+ghost use Rattle.rbd_session.specs.Advance.{track_of, IsFedWell, IsSameStand};
+ghost use Rattle.rbd_session.specs.Lines.{lines_of, members_at};
+ghost use Rattle.rbd_session.specs.OnTrack.{IsSomewhere, AreFair, LeavesOthers};
+ghost use Rattle.rbd_session.specs.Session.{ComesToIn, OfRunning, IsPrepared};
+
+use crate::advance::advance;
+use crate::lines::Lines;
+use crate::prepare::prepare;
+use crate::running::Occupant;
+use rbd_course::Request;
+use rbd_kinds::{Fed, NoMemory, Reply, Slot};
+use std::alloc::Global;
+
+/// Takes all memory that the feeding of the request in a slot needs, and changes nothing else.
+pub fn prepare_in<R: Request>(
+    alloc: Global,
+    occupant: &mut Option<Occupant<R>>,
+    lines: &mut Lines,
+    slot: Slot,
+    fed: &Fed,
+) -> Result<(), NoMemory>
+    requires { OfRunning (λ r. IsAsking (R.stands r.request).plan × CanBeFed (R.stands r.request).plan fed.now × IsSomewhere slot (track_of r lines.old)) occupant.old }
+    ensures lines { (key : ℕ) → members_at key lines.new ≡ members_at key lines.old }
+    ensures ready { OfRunning (λ r. OfRunning (λ q. IsSameStand R.stands r q × OnOk result (IsPrepared R.stands R.is_ready slot r lines.old fed.now q lines.new)) occupant.new) occupant.old }
+{
+    let Some(Occupant::Running(mut running)) = occupant.take() else {
+        unreachable!()
+    };
+    let readied = prepare(alloc, &mut running, lines, slot, fed);
+    *occupant = Some(Occupant::Running(running));
+    readied
+}
+
+/// Feeds the request in a slot, which is free from then on where the request ends.
+pub fn feed_in<R: Request>(
+    occupant: &mut Option<Occupant<R>>,
+    lines: &mut Lines,
+    slot: Slot,
+    fed: &Fed,
+) -> Option<Reply>
+    requires { OfRunning (λ r. IsFedWell R.stands R.is_ready slot r lines.old fed.now) occupant.old }
+    ensures comes { OfRunning (λ r. ComesToIn R.stands slot lines.old fed.now result r occupant.new lines.new) occupant.old }
+    ensures others { LeavesOthers slot (lines_of lines.old) (lines_of lines.new) }
+    ensures fair { AreFair (lines_of lines.new) }
+{
+    let Some(Occupant::Running(mut running)) = occupant.take() else {
+        unreachable!()
+    };
+    match advance(&mut running, lines, slot, fed) {
+        Some(reply) => Some(reply),
+        None => {
+            *occupant = Some(Occupant::Running(running));
+            None
+        }
+    }
+}

@@ -1,0 +1,59 @@
+//! What the request in a slot wants, where it may go on.
+ghost use Rattle.std.specs.Prelude.{◌≡◌, ℕ, Some, IfOk, IfSome};
+ghost use Rattle.std.specs.Option.{option_map};
+ghost use Rattle.rbd_machine.specs.Plan.{IsAsking};
+ghost use Rattle.rbd_session.specs.Advance.{track_of};
+ghost use Rattle.rbd_session.specs.OnTrack.{HasNext};
+ghost use Rattle.rbd_session.specs.Session.{held_in, running_in, going_in, kind_asked, op_asked};
+
+use crate::lines::Lines;
+use crate::running::{Occupant, Running};
+use crate::slots::held_at;
+use crate::waits::is_waiting;
+use rbd_course::Request;
+use rbd_kinds::{NoMemory, Op, OpKind, SiteId, Slot, Want};
+use std::alloc::Global;
+
+/// The request that runs in a slot, where it doesn't wait.
+pub fn going<'a, R: Request>(
+    slots: &'a [Option<Occupant<R>>],
+    lines: &Lines,
+    slot: Slot,
+) -> Option<&'a Running<R>>
+    requires next { (r : _) → running_in (held_in slot slots.now) ≡ Some r → HasNext slot (track_of r lines.now) }
+    requires asks { (r : _) → running_in (held_in slot slots.now) ≡ Some r → IsAsking (R.stands r.request).plan }
+    ensures going { option_map (λ r. r.now) result ≡ going_in slot (held_in slot slots.now) lines.now }
+    ensures asks { IfSome result (λ r. IsAsking (R.stands r.now.request).plan) }
+{
+    match held_at(slots, slot) {
+        Some(Occupant::Running(running)) => {
+            if is_waiting(running, lines, slot) {
+                return None;
+            }
+            Some(running)
+        }
+        _ => None,
+    }
+}
+
+/// The site and the kind of the operation that a request wants.
+pub fn wanted_kind<R: Request>(request: &R) -> Option<(SiteId, OpKind)>
+    requires { IsAsking (R.stands request.now).plan }
+    ensures { result ≡ kind_asked (R.stands request.now).plan }
+{
+    match request.wants() {
+        Want::Op { site, kind } => Some((site, kind)),
+        _ => None,
+    }
+}
+
+/// The operation that a request wants, and its site.
+pub fn wanted_op<R: Request>(alloc: Global, request: &R) -> Result<Option<(SiteId, Op)>, NoMemory>
+    requires { IsAsking (R.stands request.now).plan }
+    ensures { IfOk result (λ told. told ≡ op_asked (R.stands request.now).plan) }
+{
+    let Want::Op { site, .. } = request.wants() else {
+        return Ok(None);
+    };
+    Ok(Some((site, request.next(alloc)?)))
+}
