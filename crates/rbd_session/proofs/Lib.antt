@@ -2,6 +2,7 @@ pub mod Advancing
 pub mod Alike
 pub mod Apart
 pub mod Behind
+pub mod Consequences
 pub mod Entering
 pub mod Fairness
 pub mod Going

@@ -49,7 +49,7 @@
 //! | `specs/Advance.antt` | what is ready before a feeding (`IsFedWell`), and what comes of it (`ComesTo`) |
 //! | `specs/Session.antt` | the record, what holds of each session (`IsSoundSession`), and the clauses of its calls |
 //!
-//! [`laws`] says who is past own beside whom, and whose turn comes first.
+//! [`laws`] says who is past own beside whom and whose piece waits, and that the first of a line never does.
 //!
 //! # Cost
 //!

@@ -1,0 +1,111 @@
+-- What follows for every session.
+use Rattle.std.proofs.Common.{◌≡◌, ◌≢◌, ℕ, ◌==◌, ◌&&◌, ◌||◌, not, cond, Bool, true, false, List, [], ◌∷◌, ◌⊎◌, inl, inr, Option, Some, None, refl, sym, ap, ◌∙◌, subst}
+use Rattle.std.proofs.lemmas.Bool.{true≢false, eq-eqb, eqb-true, and_parts}
+use Rattle.rbd_kinds.specs.declared.id.SiteId.{SiteId}
+use Rattle.rbd_course.specs.Course.{is_waiting}
+use Rattle.rbd_line.specs.Line.{Member, member_of, is_member, is_past, ahead, holds, has_turn, may_pass, comes_next, objects_of, objects_in, IsFairLine}
+use Rattle.rbd_line.specs.Turns.{begins_with}
+use Rattle.rbd_line.proofs.Passing.{alone_past, ahead_first, first_may}
+use Rattle.rbd_guard.specs.Order.{is_in}
+use Rattle.rbd_machine.specs.Knowledge.{is_at, same_site}
+use Rattle.rbd_machine.specs.Plan.{Standing}
+use Rattle.rbd_session.specs.declared.image_at.ImageAt.{ImageAt}
+use Rattle.rbd_session.specs.declared.running.Occupant.{Occupant}
+use Rattle.rbd_session.specs.declared.running.Occupant.TheVariants as occupant
+use Rattle.rbd_session.specs.declared.running.Running.{Running}
+use Rattle.rbd_session.specs.Advance.{track_of}
+use Rattle.rbd_session.specs.Lines.{LinesView, lines_of}
+use Rattle.rbd_session.specs.OnTrack.{IsThere, IsSomewhere, is_here}
+use Rattle.rbd_session.specs.Session.{SessionView, IsSoundSession, running_in, running_at, held_in, going_in, kind_asked, kind_at, of_going}
+use Rattle.rbd_session.specs.Track.{line_in, course_of, image_at}
+use Rattle.rbd_session.specs.Waits.{waits, awaits_line, awaits_turn, lacks_turn, is_at_own}
+use Rattle.rbd_session.proofs.Sound.{no_some, some_same}
+use Rattle.rbd_session.proofs.Track.{same_site_is}
+
+-- ---- who is alone
+
+pub alone_beside : {R : Type 0} (stands : R → Standing) (s : SessionView R) (site : SiteId) (image : ℕ) (one other : Member) → IsSoundSession stands s
+    → member_of one.slot (lines_of s.lines site image) ≡ Some one → member_of other.slot (lines_of s.lines site image) ≡ Some other
+    → one.slot ≢ other.slot → one.alone ≡ true → is_past one.stage ≡ true → is_past other.stage ≡ false
+alone_beside stands s site image one other sound here there differ = alone_past (lines_of s.lines site image) one other (sound.fair site image) here there differ
+
+-- ---- pieces
+
+or_true : (a : Bool) → (a || true) ≡ true
+or_true true = refl
+or_true false = refl
+
+module _ {R : Type 0} (stands : R → Standing) where
+  held_up : (slot : ℕ) (o : Option (Occupant R)) (lines : LinesView) (r : Running R) → running_in o ≡ Some r → waits slot (track_of r lines) ≡ true
+      → of_going stands kind_asked (going_in slot o lines) ≡ None
+  held_up slot None lines r runs waiting = absurd (no_some r runs)
+  held_up slot (Some (occupant.Refused line refusal)) lines r runs waiting = absurd (no_some r runs)
+  held_up slot (Some (occupant.Running q)) lines r runs waiting =
+      ap (λ b. of_going stands kind_asked (cond b None (Some q))) (ap (λ r. waits slot (track_of r lines)) (some_same q r runs) ∙ waiting)
+
+  pub piece_waits : (s : SessionView R) (slot object : ℕ) (r : Running R) (p : ImageAt) (one : Member) → running_at slot s ≡ Some r → r.place ≡ Some p → r.turn ≡ Some object
+      → member_of one.slot (lines_of s.lines p.site p.image) ≡ Some one → is_member one.slot (ahead slot (lines_of s.lines p.site p.image)) ≡ true → holds object one ≡ true
+      → kind_at stands slot s ≡ None
+  piece_waits s slot object r p one runs place turn there before held_it =
+      let others : has_turn slot object (lines_of s.lines p.site p.image) ≡ false = ahead_first (lines_of s.lines p.site p.image) object slot one there before held_it in
+      let lacks : awaits_turn slot (track_of r s.lines) ≡ true =
+      ap (λ q. lacks_turn slot r.turn (line_in q (lines_of s.lines))) place ∙ ap (λ t. lacks_turn slot t (lines_of s.lines p.site p.image)) turn ∙ ap not others in
+      held_up slot (held_in slot s.slots) s.lines r runs
+      (ap (λ b. awaits_line slot (track_of r s.lines) || b) lacks ∙ or_true (awaits_line slot (track_of r s.lines)))
+
+-- ---- who is in a line
+
+here_is : (place : Option ImageAt) (site : SiteId) (image : ℕ) → is_here place site image ≡ true → place ≡ Some (record { site = site; image = image })
+here_is None site image is = absurd (true≢false (sym is))
+here_is (Some p) site image is =
+    let parts = and_parts (same_site site p.site) (image == p.image) is in
+    sym (ap (λ (i : ℕ). Some (image_at site i)) (eqb-true image p.image parts.1) ∙ ap (λ s. Some (image_at s p.image)) (same_site_is p.site site parts.0))
+
+module _ {R : Type 0} (stands : R → Standing) where
+  place_is : (s : SessionView R) (slot : ℕ) (site : SiteId) (image : ℕ) (m : Member) → IsSoundSession stands s → member_of slot (lines_of s.lines site image) ≡ Some m
+      → (r : Running R) → running_at slot s ≡ Some r → r.place ≡ Some (record { site = site; image = image })
+  place_is s slot site image m sound is r runs = go (is_here r.place site image) refl
+    where
+      go : (b : Bool) → is_here r.place site image ≡ b → r.place ≡ Some (record { site = site; image = image })
+      go true here = here_is r.place site image here
+      go false other = absurd (no_some m (sym ((sound.runs slot r runs).elsewhere site image other) ∙ is))
+
+  pub members_run_there : (s : SessionView R) (slot : ℕ) (site : SiteId) (image : ℕ) (m : Member) → IsSoundSession stands s → member_of slot (lines_of s.lines site image) ≡ Some m
+      → (r : Running R) × (running_at slot s ≡ Some r) × (r.place ≡ Some (record { site = site; image = image }))
+  members_run_there s slot site image m sound is = go (running_at slot s) refl
+    where
+      go : (o : Option (Running R)) → running_at slot s ≡ o → (r : Running R) × (running_at slot s ≡ Some r) × (r.place ≡ Some (record { site = site; image = image }))
+      go None rests = absurd (no_some m (sym (sound.others slot rests site image) ∙ is))
+      go (Some r) runs = (r, runs, place_is s slot site image m sound is r runs)
+
+  -- ---- the first of a line
+
+  first_has : (m : Member) (members : List Member) (object : ℕ) → comes_next m.slot object (m ∷ members) ≡ true → has_turn m.slot object (m ∷ members) ≡ true
+  first_has m members object next = rw (begun m.objects (sym (ap (λ b. begins_with object (objects_in (cond b (Some m) (member_of m.slot members)))) (eq-eqb m.slot m.slot refl)) ∙ next)) (eq-eqb m.slot m.slot refl)
+    where
+      begun : (objects : List ℕ) → begins_with object objects ≡ true → is_in object objects ≡ true
+      begun [] is = is
+      begun (o ∷ objects) is = rw is refl
+
+  pub first_goes : (s : SessionView R) (site : SiteId) (image : ℕ) (m : Member) (members : List Member) (r : Running R) → IsSoundSession stands s
+      → lines_of s.lines site image ≡ m ∷ members → running_at m.slot s ≡ Some r → waits m.slot (track_of r s.lines) ≡ false
+  first_goes s site image m members r sound line runs =
+      let found : member_of m.slot (lines_of s.lines site image) ≡ Some m =
+      ap (member_of m.slot) line ∙ ap (λ b. cond b (Some m) (member_of m.slot members)) (eq-eqb m.slot m.slot refl) in
+      let place : r.place ≡ Some (record { site = site; image = image }) = place_is s m.slot site image m sound found r runs in
+      let here : line_in r.place (lines_of s.lines) ≡ m ∷ members = ap (λ p. line_in p (lines_of s.lines)) place ∙ line in
+      both (is_at_own (course_of m.slot (track_of r s.lines)).place) (may_pass m.slot (line_in r.place (lines_of s.lines))) (awaits_turn m.slot (track_of r s.lines))
+      (ap (may_pass m.slot) here ∙ first_may m members)
+      (turns r.turn refl here)
+    where
+      both : (own may lacks : Bool) → may ≡ true → lacks ≡ false → ((own && not may) || lacks) ≡ false
+      both true true lacks h k = k
+      both false true lacks h k = k
+      both own false lacks h k = absurd (true≢false (sym h))
+
+      turns : (turn : Option ℕ) → r.turn ≡ turn → line_in r.place (lines_of s.lines) ≡ m ∷ members → lacks_turn m.slot r.turn (line_in r.place (lines_of s.lines)) ≡ false
+      turns None is here = ap (λ t. lacks_turn m.slot t (line_in r.place (lines_of s.lines))) is
+      turns (Some object) is here =
+          let next : comes_next m.slot object (m ∷ members) ≡ true =
+          sym (ap (comes_next m.slot object) here) ∙ (sound.runs m.slot r runs).turns object is in
+          ap (λ t. lacks_turn m.slot t (line_in r.place (lines_of s.lines))) is ∙ ap (λ ms. not (has_turn m.slot object ms)) here ∙ ap not (first_has m members object next)
