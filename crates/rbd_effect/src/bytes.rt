@@ -8,8 +8,8 @@ use crate::held::{held_below, kept_len};
 use rbd_kinds::{Bytes, HeaderView, NoMemory, Part, TryClone};
 use std::alloc::Global;
 
-/// Those of the bytes that go to places below the size. Where all do, as they mostly will, nothing is copied of bytes
-/// that are shared.
+/// Those of the bytes that go to places below the size. Where all do, as they mostly will, nothing
+/// is copied of bytes that are shared.
 pub fn bytes_below(
     alloc: Global,
     header: &HeaderView,

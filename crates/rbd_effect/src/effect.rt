@@ -13,9 +13,9 @@ use rbd_flat::Effect;
 use rbd_kinds::{Answer, HeaderView, ImageId, NoMemory, Op, SnapId};
 use std::alloc::Global;
 
-/// The effect of an operation that was answered so, told with the header that its image had at that moment: `None`
-/// where it has none. What isn't answered done, with an id or with a snapshot has none, and nor has a change of an
-/// object whose image has no header.
+/// The effect of an operation that was answered so, told with the header that its image had at that
+/// moment: `None` where it has none. What isn't answered done, with an id or with a snapshot has
+/// none, and nor has a change of an object whose image has no header.
 ///
 /// Only operations on a header or on a data object need the header of their image.
 pub fn effect_of(

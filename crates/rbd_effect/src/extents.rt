@@ -62,7 +62,8 @@ fn push_part(
 
 /// Adds the image bytes of the offsets from one to another.
 ///
-/// Where a stripe has no other object, the bytes of an object lie together in the image too, else those of a unit.
+/// Where a stripe has no other object, the bytes of an object lie together in the image too, else
+/// those of a unit.
 fn push_between(
     found: &mut Vec<Extent>,
     layout: &Layout,

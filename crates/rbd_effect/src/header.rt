@@ -88,7 +88,8 @@ fn of_making(image: ImageId, view: &HeaderView) -> Effect
     }
 }
 
-/// The effect of a mirror enable: an image that gets its global name becomes the primary, and one that had it stays.
+/// The effect of a mirror enable: an image that gets its global name becomes the primary, and one
+/// that had it stays.
 fn of_mirror(image: ImageId, header: Option<&HeaderView>) -> Option<Effect>
     ensures { result ≡ effect_of_op (option_copied header.entry) (of_op.Header image of_header_op.Mirror) of_answer.Done }
 {

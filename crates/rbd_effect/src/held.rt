@@ -6,11 +6,12 @@ ghost use Rattle.rbd_effect.specs.Kept.{IsHeldBelow};
 
 use rbd_kinds::{Layout, Part};
 
-/// How many offsets of an object have their image byte below a size. They are the object's first ones, and those past
-/// its end count too.
+/// How many offsets of an object have their image byte below a size. They are the object's first
+/// ones, and those past its end count too.
 ///
-/// Stripes before the size's own hold a whole unit of the object. Of the size's own stripe it holds a whole unit, none
-/// or the front of one, as its place in the stripe comes before the size's, behind it, or is the same.
+/// Stripes before the size's own hold a whole unit of the object. Of the size's own stripe it holds
+/// a whole unit, none or the front of one, as its place in the stripe comes before the size's,
+/// behind it, or is the same.
 pub fn held_below(layout: &Layout, object: u64, size: u64) -> u64
     requires layout { IsLayout layout.now }
     requires size { size < 2 ^ 63 }
@@ -28,7 +29,8 @@ pub fn held_below(layout: &Layout, object: u64, size: u64) -> u64
     stripes * layout.unit + held_in_stripe(layout, object % count, block % count, size)
 }
 
-/// How many bytes of the unit at a position of the size's own stripe lie below the size, whose byte is at another.
+/// How many bytes of the unit at a position of the size's own stripe lie below the size, whose byte
+/// is at another.
 fn held_in_stripe(layout: &Layout, position: u64, last: u64, size: u64) -> u64
     requires layout { IsLayout layout.now }
     ensures { result ≡ of_kept.held_in_stripe layout.now.unit position last size }
