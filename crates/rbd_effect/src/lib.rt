@@ -33,6 +33,7 @@
 //!
 //! Each other pair of an operation and an answer has none, and nor has an operation on a data
 //! object whose image has no header. A copy-up has none, since the image showed these bytes before.
+//! The store's own steps are no operations, and have none.
 //!
 //! # Contracts
 //!
