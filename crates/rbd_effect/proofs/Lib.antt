@@ -1,0 +1,3 @@
+pub mod HeldLemmas
+pub mod ExtentLemmas
+pub mod ByteLemmas
