@@ -5,7 +5,8 @@ use Rattle.rbd_course.specs.declared.request.Begun.TheVariants as begun
 use Rattle.rbd_machine.specs.Plan.{Standing, IsAsking}
 use Rattle.rbd_machine.specs.Steps.{refused}
 
--- It is refused where each such request has ended so, or stands where it is to stand, at an operation.
+-- It is refused where each such request has ended so, or stands where it is to stand, at an
+-- operation.
 abbrev pub IsBegun : {R : Type 0} → (stands_for : Standing → Type 0) → (stands : R → Standing) → Begun R → Type 0
 IsBegun stands_for stands (begun.Refused refusal) = (s : Standing) → stands_for s → s.plan ≡ refused refusal
 IsBegun stands_for stands (begun.Asks request) = stands_for (stands request) × IsAsking (stands request).plan

@@ -1,4 +1,5 @@
--- The course of a request: the line that it is in and how far it has come there, and the objects at which it takes its turns.
+-- The course of a request: the line that it is in and how far it has come there, and the objects at
+-- which it takes its turns.
 use Rattle.std.specs.Prelude.{ℕ, ◌&&◌, Bool, true, false, if◌then◌else◌, List, [], ◌∷◌, ◌++◌, map, Option, Some, None}
 use Rattle.rbd_course.specs.declared.stage.Stage.{Stage}
 use Rattle.rbd_course.specs.declared.stage.Stage.TheVariants as stage
@@ -40,7 +41,8 @@ beginning = record { place = None; turn = None; due = []; objects = [] }
 
 -- ---- its own look
 
--- the objects of an extent by a header. An extent that isn't within the size has none, since its request is refused.
+-- the objects of an extent by a header. An extent that isn't within the size has none, since its
+-- request is refused.
 abbrev pub objects_of : List Piece → List ℕ
 objects_of pieces = map (λ (p : Piece). p.object) pieces
 

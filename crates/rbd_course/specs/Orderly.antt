@@ -21,8 +21,9 @@ abbrev pub BeginsWith : (object : ℕ) → List ℕ → Type 0
 BeginsWith object [] = ⊥
 BeginsWith object (first ∷ objects) = object ≡ first
 
--- It joins one line at a time, as the first thing behind an answer; it waits for a lock and leaves where it is in the line; and it
--- takes its turns at the objects that it has tickets for, in their order.
+-- It joins one line at a time, as the first thing behind an answer; it waits for a lock and leaves
+-- where it is in the line; and it takes its turns at the objects that it has tickets for, in their
+-- order.
 abbrev pub MayWait : (answered : Bool) → Course → Wait → Type 0
 MayWait fresh c (wait.Join site image alone) = (fresh ≡ true) × (c.place ≡ None)
 MayWait fresh c (wait.Hold site image) = IsInLine site image c.place
@@ -30,8 +31,9 @@ MayWait fresh c (wait.Turn object) = BeginsWith object (behind c.turn c.objects)
 MayWait fresh c (wait.Applied site image) = IsInLine site image c.place
 MayWait fresh c (wait.Leave site image) = IsInLine site image c.place
 
--- It keeps to its line, whatever its operations are answered of what they can give: its note, at whose end it takes its
--- tickets, stands directly behind its own look. A label is gone to on the course that belongs there.
+-- It keeps to its line, whatever its operations are answered of what they can give: its note, at
+-- whose end it takes its tickets, stands directly behind its own look. A label is gone to on the
+-- course that belongs there.
 abbrev pub IsOrderly : Option Extent → (at : Label → Course) → (fresh : Bool) → Course → Plan → Type 0
 IsOrderly e at fresh c (Ask site why op next) = (c.due ≡ []) × ((answer : Answer) → CanGive op answer → IsOrderly e at true (answered e c site op answer) (next answer))
 IsOrderly e at fresh c (Await wait next) = MayWait fresh c wait × IsOrderly e at false (waited c wait) next
@@ -39,7 +41,8 @@ IsOrderly e at fresh c (Note site image event next) = IsInLine site image c.plac
 IsOrderly e at fresh c (Return reply) = Unit {0}
 IsOrderly e at fresh c (Goto label) = c ≡ at label
 
--- Each label that a request goes to stands at an operation, and the request is orderly from there too.
+-- Each label that a request goes to stands at an operation, and the request is orderly from there
+-- too.
 pub record IsOrderlyFrom (e : Option Extent) (fresh : Bool) (c : Course) (s : Standing) : Type 0 where
   pub at : Label → Course
   pub orderly : IsOrderly e at fresh c s.plan

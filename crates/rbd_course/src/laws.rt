@@ -13,7 +13,8 @@ ghost use Rattle.rbd_machine.specs.Plan.{Plan, Ask, Await, Note, settled};
 ghost use Rattle.rbd_machine.specs.Wait.{Wait};
 ghost use Rattle.rbd_machine.specs.declared.reason.Reason.{Reason};
 
-/// An orderly request stays so, whatever it is fed: it goes on where it was to go on, on the course that it has there.
+/// An orderly request stays so, whatever it is fed: it goes on where it was to go on, on the course
+/// that it has there.
 pub fn orderly_requests_stay_orderly()
     ensures answered { (e : Option Extent) (fresh : Bool) (c : Course) (labels : Label → Plan) (site : SiteId) (why : Reason) (op : Op) (next : Answer → Plan) (answer : Answer)
         → CanGive op answer → IsOrderlyFrom e fresh c (record { labels = labels; plan = Ask site why op next })

@@ -25,8 +25,8 @@ pub enum Begun<R> {
     Asks(R),
 }
 
-/// A request as a session holds it: a machine that is made of some work, a command or another, and whose laws are
-/// those of each work.
+/// A request as a session holds it: a machine that is made of some work, a command or another, and
+/// whose laws are those of each work.
 pub trait Request: Machine + Drop {
     /// What it is made of.
     type Work: Drop;
@@ -37,7 +37,8 @@ pub trait Request: Machine + Drop {
     /// Where a request of a session at a site stands at first, made of a work.
     ghost stands_for: { SiteId → Self.Work → Standing → Type 0 };
 
-    /// The extent that a work changes piece by piece, beside others: it takes its turn at each of its objects.
+    /// The extent that a work changes piece by piece, beside others: it takes its turn at each of
+    /// its objects.
     ghost extent_for: { Self.Work → Option Extent };
 
     /// What its reply means, behind the operations that were done for it.

@@ -1,13 +1,12 @@
 -- What follows for every session.
-use Rattle.std.proofs.Common.{◌≡◌, ◌≢◌, ℕ, ◌==◌, ◌&&◌, ◌||◌, not, cond, Bool, true, false, List, [], ◌∷◌, ◌⊎◌, inl, inr, Option, Some, None, refl, sym, ap, ◌∙◌, subst}
+use Rattle.std.proofs.Common.{◌≡◌, ◌≢◌, ℕ, ◌==◌, ◌&&◌, ◌||◌, not, cond, Bool, true, false, List, [], ◌∷◌, Option, Some, None, refl, sym, ap, ◌∙◌}
 use Rattle.std.proofs.lemmas.Bool.{true≢false, eq-eqb, eqb-true, and_parts}
 use Rattle.rbd_kinds.specs.declared.id.SiteId.{SiteId}
-use Rattle.rbd_course.specs.Course.{is_waiting}
-use Rattle.rbd_line.specs.Line.{Member, member_of, is_member, is_past, ahead, holds, has_turn, may_pass, comes_next, objects_of, objects_in, IsFairLine}
+use Rattle.rbd_line.specs.Line.{Member, member_of, is_member, is_past, ahead, holds, has_turn, may_pass, comes_next, objects_in}
 use Rattle.rbd_line.specs.Turns.{begins_with}
 use Rattle.rbd_line.proofs.Passing.{alone_past, ahead_first, first_may}
 use Rattle.rbd_guard.specs.Order.{is_in}
-use Rattle.rbd_machine.specs.Knowledge.{is_at, same_site}
+use Rattle.rbd_machine.specs.Knowledge.{same_site}
 use Rattle.rbd_machine.specs.Plan.{Standing}
 use Rattle.rbd_session.specs.declared.image_at.ImageAt.{ImageAt}
 use Rattle.rbd_session.specs.declared.running.Occupant.{Occupant}
@@ -15,7 +14,7 @@ use Rattle.rbd_session.specs.declared.running.Occupant.TheVariants as occupant
 use Rattle.rbd_session.specs.declared.running.Running.{Running}
 use Rattle.rbd_session.specs.Advance.{track_of}
 use Rattle.rbd_session.specs.Lines.{LinesView, lines_of}
-use Rattle.rbd_session.specs.OnTrack.{IsThere, IsSomewhere, is_here}
+use Rattle.rbd_session.specs.OnTrack.{is_here}
 use Rattle.rbd_session.specs.Session.{SessionView, IsSoundSession, running_in, running_at, held_in, going_in, kind_asked, kind_at, of_going}
 use Rattle.rbd_session.specs.Track.{line_in, course_of, image_at}
 use Rattle.rbd_session.specs.Waits.{waits, awaits_line, awaits_turn, lacks_turn, is_at_own}

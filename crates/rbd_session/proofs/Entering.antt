@@ -6,19 +6,20 @@ use Rattle.std.proofs.lemmas.Bool.{eqb-false, ne_eqb, true≢false}
 use Rattle.std.specs.Option.{option_map}
 use Rattle.rbd_guard.specs.Order.{is_in, AreApart}
 use Rattle.rbd_line.specs.Line.{Member, LineView, member_of, may_enter, none_past_behind, objects_of, objects_in, is_shared_past_in, changed, entered}
+use Rattle.rbd_line.specs.Steady.{IsSteady}
+use Rattle.rbd_line.proofs.Passing.{own_changed, entered_is_steady}
 use Rattle.rbd_session.specs.Lines.{MayEnter}
 use Rattle.rbd_session.specs.Track.{given}
 use Rattle.rbd_session.proofs.Behind.{KeepsPast, none_past_changed}
-use Rattle.rbd_session.proofs.Members.{KeepsSlot, member_of_changed}
 
 -- two changes of one slot, one after the other
-pub changed_twice : (slot : ℕ) (f g : Member → Member) → KeepsSlot f → (members : List Member) → changed slot g (changed slot f members) ≡ changed slot (λ m. g (f m)) members
+pub changed_twice : (slot : ℕ) (f g : Member → Member) → IsSteady f → (members : List Member) → changed slot g (changed slot f members) ≡ changed slot (λ m. g (f m)) members
 changed_twice slot f g keeps [] = refl
 changed_twice slot f g keeps (m ∷ members) = go (m.slot == slot) refl (changed_twice slot f g keeps members)
   where
     go : (b : Bool) → (m.slot == slot) ≡ b → changed slot g (changed slot f members) ≡ changed slot (λ m. g (f m)) members
         → changed slot g (changed slot f (m ∷ members)) ≡ changed slot (λ m. g (f m)) (m ∷ members)
-    go true is rest = rw is (rw (ap (λ s. s == slot) (keeps m) ∙ is) (ap (λ ms. g (f m) ∷ ms) rest))
+    go true is rest = rw is (rw (ap (λ s. s == slot) (keeps.slot m) ∙ is) (ap (λ ms. g (f m) ∷ ms) rest))
     go false is rest = rw is (rw is (ap (λ ms. m ∷ ms) rest))
 
 pub changed_same : (slot : ℕ) (f g : Member → Member) → ((m : Member) → f m ≡ g m) → (members : List Member) → changed slot f members ≡ changed slot g members
@@ -42,9 +43,6 @@ given_none m = ap (λ objects. record m { objects = objects }) (append-nil m.obj
 
 given_more : (object : ℕ) (rest : List ℕ) (m : Member) → given rest (entered object m) ≡ given (object ∷ rest) m
 given_more object rest m = ap (λ objects. record m { objects = objects }) (append_assoc m.objects (object ∷ []) rest)
-
-entered_keeps : (object : ℕ) → KeepsSlot (entered object)
-entered_keeps object m = refl
 
 -- none of these is among the others
 abbrev pub AreNew : List ℕ → (held : List ℕ) → Type 0
@@ -134,14 +132,14 @@ pub goes_on : (slot : ℕ) (final : List Member) (object : ℕ) (rest : List ℕ
 goes_on slot final object rest now new e is room =
     let may = takes_next slot final object rest now e in
     let found : member_of slot new.members ≡ option_map (entered object) (member_of slot now.members) =
-    ap (member_of slot) is ∙ member_of_changed (entered object) (entered_keeps object) slot now.members in
+    ap (member_of slot) is ∙ own_changed now.members slot (entered object) (entered_is_steady object) in
     record {
       reaches =
-          ap (changed slot (given rest)) is ∙ changed_twice slot (entered object) (given rest) (entered_keeps object) now.members
+          ap (changed slot (given rest)) is ∙ changed_twice slot (entered object) (given rest) (entered_is_steady object) now.members
           ∙ changed_same slot (λ m. given rest (entered object m)) (given (object ∷ rest)) (given_more object rest) now.members ∙ e.reaches;
       may = inr (
         ap is_shared_past_in found ∙ found_past slot object (member_of slot now.members) ∙ may.member,
-        ap (none_past_behind slot) is ∙ none_past_changed (entered object) (entered_keeps object) (entered_past object) slot now.members ∙ may.last,
+        ap (none_past_behind slot) is ∙ none_past_changed (entered object) (entered_is_steady object) (entered_past object) slot now.members ∙ may.last,
       );
       new = subst (AreNew rest) (sym (ap objects_in found ∙ objects_more object (member_of slot now.members) may.member)) (still_new object rest (objects_of slot now.members) e.apart.0 e.new.1);
       apart = e.apart.1;

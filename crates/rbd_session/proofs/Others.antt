@@ -18,8 +18,9 @@ use Rattle.rbd_machine.specs.Wait as wait
 use Rattle.rbd_session.specs.declared.image_at.ImageAt.{ImageAt}
 use Rattle.rbd_session.specs.Track.{Track, Lines, changed_at, image_at, course_of, given, done_with, waited_by, noted_by, looked_by, answered_by, passed_by, run, ended_by}
 use Rattle.rbd_session.specs.OnTrack.{IsNowhereElse, LeavesOthers, is_here}
-use Rattle.rbd_session.proofs.Members.{KeepsSlot, member_of_others, member_of_without, others_without, others_last}
-use Rattle.rbd_session.proofs.Track.{held_keeps, done_keeps, given_keeps, passed_keeps}
+use Rattle.rbd_line.specs.Steady.{IsSteady}
+use Rattle.rbd_line.proofs.Passing.{others_changed, others_left, others_joined, gone, held_is_steady, passed_is_steady}
+use Rattle.rbd_session.proofs.Track.{done_steady, given_steady}
 
 -- ---- the others
 
@@ -33,19 +34,19 @@ changed_leaves slot (Some p) change lines leaves other differ site image = go (i
     go true = leaves other differ (lines site image)
     go false = refl
 
-own_leaves : (slot : ℕ) (place : Option ImageAt) (f : Member → Member) → KeepsSlot f → (lines : Lines) → LeavesOthers slot lines (changed_at place (changed slot f) lines)
-own_leaves slot place f keeps lines = changed_leaves slot place (changed slot f) lines (λ other differ members. member_of_others f keeps slot other differ members)
+own_leaves : (slot : ℕ) (place : Option ImageAt) (f : Member → Member) → IsSteady f → (lines : Lines) → LeavesOthers slot lines (changed_at place (changed slot f) lines)
+own_leaves slot place f keeps lines = changed_leaves slot place (changed slot f) lines (λ other differ members. others_changed members slot other f keeps differ)
 
 pub waited_leaves : (slot : ℕ) (t : Track) (w : Wait) → LeavesOthers slot t.lines (waited_by slot t w).lines
 waited_leaves slot t (wait.Join site image alone) =
-    changed_leaves slot (Some (image_at site image)) (λ members. members ++ joined slot alone ∷ []) t.lines (λ other differ members. others_last slot alone other differ members)
-waited_leaves slot t (wait.Hold site image) = own_leaves slot t.place held held_keeps t.lines
-waited_leaves slot t (wait.Turn object) = own_leaves slot t.place (done_with t.turn) (done_keeps t.turn) t.lines
-waited_leaves slot t (wait.Applied site image) = own_leaves slot t.place (done_with t.turn) (done_keeps t.turn) t.lines
-waited_leaves slot t (wait.Leave site image) = changed_leaves slot t.place (without slot) t.lines (λ other differ members. others_without slot other differ members)
+    changed_leaves slot (Some (image_at site image)) (λ members. members ++ joined slot alone ∷ []) t.lines (λ other differ members. others_joined members slot other alone differ)
+waited_leaves slot t (wait.Hold site image) = own_leaves slot t.place held held_is_steady t.lines
+waited_leaves slot t (wait.Turn object) = own_leaves slot t.place (done_with t.turn) (done_steady t.turn) t.lines
+waited_leaves slot t (wait.Applied site image) = own_leaves slot t.place (done_with t.turn) (done_steady t.turn) t.lines
+waited_leaves slot t (wait.Leave site image) = changed_leaves slot t.place (without slot) t.lines (λ other differ members. others_left members slot other differ)
 
 pub noted_leaves : (slot : ℕ) (t : Track) → LeavesOthers slot t.lines (noted_by slot t).lines
-noted_leaves slot t = own_leaves slot t.place (given t.due) (given_keeps t.due) t.lines
+noted_leaves slot t = own_leaves slot t.place (given t.due) (given_steady t.due) t.lines
 
 pub passed_leaves : (slot : ℕ) (t : Track) (w : Want) → LeavesOthers slot t.lines (passed_by slot t w).lines
 passed_leaves slot t (want.Op site kind) other differ s i = refl
@@ -60,7 +61,7 @@ pub answered_leaves : (slot : ℕ) (e : Option Extent) (t : Track) (s : SiteId) 
 answered_leaves slot e t s (op.Header image header.Get) (answer.Header h) other differ site i = go (is_own_at s image (course_of slot t).place)
   where
     go : (b : Bool) → member_of other ((cond b (looked_by slot e h t) t).lines site i) ≡ member_of other (t.lines site i)
-    go true = own_leaves slot t.place passed passed_keeps t.lines other differ site i
+    go true = own_leaves slot t.place passed passed_is_steady t.lines other differ site i
     go false = refl
 answered_leaves slot e t s o a other differ site image = refl
 
@@ -72,7 +73,7 @@ run_leaves slot (Return reply) t other differ s i = refl
 run_leaves slot (Goto label) t other differ s i = refl
 
 pub ended_leaves : (slot : ℕ) (t : Track) → LeavesOthers slot t.lines (ended_by slot t).lines
-ended_leaves slot t = changed_leaves slot t.place (without slot) t.lines (λ other differ members. others_without slot other differ members)
+ended_leaves slot t = changed_leaves slot t.place (without slot) t.lines (λ other differ members. others_left members slot other differ)
 
 -- ---- no other line
 
@@ -98,5 +99,5 @@ left_elsewhere slot None lines nowhere site image not_here = nowhere site image 
 left_elsewhere slot (Some p) lines nowhere site image not_here = go (is_at p.site p.image site image) refl
   where
     go : (b : Bool) → is_at p.site p.image site image ≡ b → member_of slot (cond b (without slot (lines site image)) (lines site image)) ≡ None
-    go true is = member_of_without slot (lines site image)
+    go true is = gone (lines site image) slot
     go false is = nowhere site image is

@@ -19,7 +19,9 @@ use Rattle.rbd_machine.specs.Wait as wait
 use Rattle.rbd_session.specs.declared.image_at.ImageAt.{ImageAt}
 use Rattle.rbd_session.specs.Track.{Track, Lines, changed_at, image_at, line_in, course_in, course_of, given, done_with, waited_by, noted_by, looked_by, answered_by}
 use Rattle.rbd_session.specs.OnTrack.{IsThere, IsSomewhere}
-use Rattle.rbd_session.proofs.Members.{KeepsSlot, member_of_changed, member_of_last}
+use Rattle.rbd_line.specs.Steady.{IsSteady}
+use Rattle.rbd_line.proofs.Passing.{own_changed, joined_found, held_is_steady, passed_is_steady}
+use Rattle.rbd_session.proofs.Members.{not_found}
 
 -- ---- where
 
@@ -48,27 +50,21 @@ course_there slot p m t there =
     (ap (course_in t.turn t.due (Some p)) there.member)
 
 -- so it is after a change of its own
-pub stays_there : (slot : ℕ) (p : ImageAt) (m : Member) (t : Track) (f : Member → Member) → KeepsSlot f → IsThere slot p m t → (turn : Option ℕ) (due : List ℕ)
+pub stays_there : (slot : ℕ) (p : ImageAt) (m : Member) (t : Track) (f : Member → Member) → IsSteady f → IsThere slot p m t → (turn : Option ℕ) (due : List ℕ)
     → IsThere slot p (f m) (record { place = t.place; turn = turn; due = due; lines = changed_at t.place (changed slot f) t.lines })
 stays_there slot p m t f keeps there turn due = record {
   place = there.place;
   member =
       subst (λ q. member_of slot (changed_at q (changed slot f) t.lines p.site p.image) ≡ Some (f m)) (sym there.place)
-      (ap (member_of slot) (changed_here p (changed slot f) t.lines) ∙ member_of_changed f keeps slot (t.lines p.site p.image) ∙ ap (option_map f) there.member);
+      (ap (member_of slot) (changed_here p (changed slot f) t.lines) ∙ own_changed (t.lines p.site p.image) slot f keeps ∙ ap (option_map f) there.member);
 }
 
-pub held_keeps : KeepsSlot held
-held_keeps m = refl
+pub done_steady : (turn : Option ℕ) → IsSteady (done_with turn)
+done_steady None = record { slot = λ m. refl; alone = λ m. refl; past = λ m past. past }
+done_steady (Some object) = record { slot = λ m. refl; alone = λ m. refl; past = λ m past. past }
 
-pub done_keeps : (turn : Option ℕ) → KeepsSlot (done_with turn)
-done_keeps None m = refl
-done_keeps (Some object) m = refl
-
-pub given_keeps : (objects : List ℕ) → KeepsSlot (given objects)
-given_keeps objects m = refl
-
-pub passed_keeps : KeepsSlot passed
-passed_keeps m = refl
+pub given_steady : (objects : List ℕ) → IsSteady (given objects)
+given_steady objects = record { slot = λ m. refl; alone = λ m. refl; past = λ m past. past }
 
 pub first_goes : (object : ℕ) (objects : List ℕ) → drop 1 objects ≡ behind (Some object) objects
 first_goes object [] = refl
@@ -86,27 +82,27 @@ module _ (slot : ℕ) (p : ImageAt) (m : Member) (t : Track) (there : IsThere sl
 
   pub course_held : (site : SiteId) (image : ℕ) → course_of slot (waited_by slot t (wait.Hold site image)) ≡ waited (course_of slot t) (wait.Hold site image)
   course_held site image =
-      course_there slot p (held m) (waited_by slot t (wait.Hold site image)) (stays_there slot p m t held held_keeps there t.turn t.due)
+      course_there slot p (held m) (waited_by slot t (wait.Hold site image)) (stays_there slot p m t held held_is_steady there t.turn t.due)
       ∙ same_by (λ c. waited c (wait.Hold site image))
 
   pub course_turned : (object : ℕ) → course_of slot (waited_by slot t (wait.Turn object)) ≡ waited (course_of slot t) (wait.Turn object)
   course_turned object =
-      course_there slot p (done_with t.turn m) (waited_by slot t (wait.Turn object)) (stays_there slot p m t (done_with t.turn) (done_keeps t.turn) there (Some object) t.due)
+      course_there slot p (done_with t.turn m) (waited_by slot t (wait.Turn object)) (stays_there slot p m t (done_with t.turn) (done_steady t.turn) there (Some object) t.due)
       ∙ done_course t.turn (Some object) t.due p m ∙ same_by (λ c. waited c (wait.Turn object))
 
   pub course_applied : (site : SiteId) (image : ℕ) → course_of slot (waited_by slot t (wait.Applied site image)) ≡ waited (course_of slot t) (wait.Applied site image)
   course_applied site image =
-      course_there slot p (done_with t.turn m) (waited_by slot t (wait.Applied site image)) (stays_there slot p m t (done_with t.turn) (done_keeps t.turn) there None t.due)
+      course_there slot p (done_with t.turn m) (waited_by slot t (wait.Applied site image)) (stays_there slot p m t (done_with t.turn) (done_steady t.turn) there None t.due)
       ∙ done_course t.turn None t.due p m ∙ same_by (λ c. waited c (wait.Applied site image))
 
   pub course_noted : course_of slot (noted_by slot t) ≡ noted (course_of slot t)
   course_noted =
-      course_there slot p (given t.due m) (noted_by slot t) (stays_there slot p m t (given t.due) (given_keeps t.due) there t.turn [])
+      course_there slot p (given t.due m) (noted_by slot t) (stays_there slot p m t (given t.due) (given_steady t.due) there t.turn [])
       ∙ same_by noted
 
   pub course_looked : (e : Option Extent) (h : HeaderView) → course_of slot (looked_by slot e h t) ≡ looked e h (course_of slot t)
   course_looked e h =
-      course_there slot p (passed m) (looked_by slot e h t) (stays_there slot p m t passed passed_keeps there t.turn (looked_by slot e h t).due)
+      course_there slot p (passed m) (looked_by slot e h t) (stays_there slot p m t passed passed_is_steady there t.turn (looked_by slot e h t).due)
       ∙ ap (λ c. course_in t.turn (due_of c.place (objects_asked h e)) (Some p) (Some (passed m))) (course_there slot p m t there)
       ∙ same_by (looked e h)
 
@@ -114,7 +110,7 @@ pub course_joined : (slot : ℕ) (t : Track) (site : SiteId) (image : ℕ) (alon
     → course_of slot (waited_by slot t (wait.Join site image alone)) ≡ waited (course_of slot t) (wait.Join site image alone)
 course_joined slot t site image alone nowhere none =
     ap (course_in t.turn t.due (Some (image_at site image)))
-    (ap (member_of slot) (changed_here (image_at site image) (λ members. members ++ joined slot alone ∷ []) t.lines) ∙ member_of_last slot alone (t.lines site image) none)
+    (ap (member_of slot) (changed_here (image_at site image) (λ members. members ++ joined slot alone ∷ []) t.lines) ∙ joined_found (t.lines site image) slot alone (not_found slot (t.lines site image) none))
     ∙ subst (λ q. course_in t.turn t.due (Some (image_at site image)) (Some (joined slot alone)) ≡ waited (course_in t.turn t.due q (member_of slot (line_in q t.lines))) (wait.Join site image alone)) (sym nowhere) refl
 
 pub course_left : (slot : ℕ) (t : Track) (site : SiteId) (image : ℕ) → course_of slot (waited_by slot t (wait.Leave site image)) ≡ waited (course_of slot t) (wait.Leave site image)

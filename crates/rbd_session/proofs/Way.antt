@@ -31,9 +31,11 @@ use Rattle.rbd_session.specs.OnTrack.{IsThere, IsSomewhere, IsNowhereElse, MayTa
 use Rattle.rbd_session.specs.Track.{Track, changed_at, image_at, line_in, course_in, course_of, given, done_with, waited_by, noted_by, looked_by, answered_by}
 use Rattle.rbd_session.proofs.Apart.{asked_apart}
 use Rattle.rbd_session.proofs.Behind.{KeepsPast, none_past_changed, holds_none, none_past_after}
-use Rattle.rbd_session.proofs.Members.{KeepsSlot, member_of_last}
+use Rattle.rbd_line.specs.Steady.{IsSteady}
+use Rattle.rbd_line.proofs.Passing.{joined_found, held_is_steady, passed_is_steady}
+use Rattle.rbd_session.proofs.Members.{not_found}
 use Rattle.rbd_session.proofs.Others.{kept_elsewhere, joined_elsewhere, left_elsewhere}
-use Rattle.rbd_session.proofs.Track.{changed_here, course_there, stays_there, held_keeps, done_keeps, given_keeps, passed_keeps, course_held, course_turned, course_applied, course_noted, course_looked, course_joined, first_goes}
+use Rattle.rbd_session.proofs.Track.{changed_here, course_there, stays_there, done_steady, given_steady, course_held, course_turned, course_applied, course_noted, course_looked, course_joined, first_goes}
 
 -- ---- where it is
 
@@ -75,7 +77,7 @@ done_none : (turn : Option ℕ) (m : Member) → m.objects ≡ [] → (done_with
 done_none None m none = none
 done_none (Some object) m none = ap (drop 1) none
 
-takes_changed : (slot : ℕ) (t : Track) (f : Member → Member) → KeepsSlot f → KeepsPast f → ((m : Member) → (f m).alone ≡ m.alone) → ((m : Member) → m.objects ≡ [] → (f m).objects ≡ [])
+takes_changed : (slot : ℕ) (t : Track) (f : Member → Member) → IsSteady f → KeepsPast f → ((m : Member) → (f m).alone ≡ m.alone) → ((m : Member) → m.objects ≡ [] → (f m).objects ≡ [])
     → (turn : Option ℕ) → (t.due ≡ []) ⊎ MayTake slot t
     → (t.due ≡ []) ⊎ MayTake slot (record { place = t.place; turn = turn; due = t.due; lines = changed_at t.place (changed slot f) t.lines })
 takes_changed slot t f keeps past alone none turn (inl none_due) = inl none_due
@@ -94,7 +96,7 @@ takes_changed slot t f keeps past alone none turn (inr may) = inr (record {
 -- ---- what it waits for
 
 -- after a change of its own that keeps it in its line
-changed_on_track : (slot : ℕ) (e : Option Extent) (fresh : Bool) (s : Standing) (t : Track) (f : Member → Member) → KeepsSlot f → (p : ImageAt) (m : Member) → IsThere slot p m t
+changed_on_track : (slot : ℕ) (e : Option Extent) (fresh : Bool) (s : Standing) (t : Track) (f : Member → Member) → IsSteady f → (p : ImageAt) (m : Member) → IsThere slot p m t
     → IsNowhereElse slot t.place t.lines → (turn : Option ℕ) (due : List ℕ)
     → IsOrderlyFrom e fresh (course_of slot (record { place = t.place; turn = turn; due = due; lines = changed_at t.place (changed slot f) t.lines })) s
     → (due ≡ []) ⊎ MayTake slot (record { place = t.place; turn = turn; due = due; lines = changed_at t.place (changed slot f) t.lines })
@@ -168,7 +170,7 @@ module _ (slot : ℕ) (e : Option Extent) (labels : Label → Plan) where
                 place = refl;
                 member =
                     ap (member_of slot) (changed_here (image_at site image) (λ members. members ++ joined slot alone ∷ []) t.lines)
-                    ∙ member_of_last slot alone (t.lines site image) none;
+                    ∙ joined_found (t.lines site image) slot alone (not_found slot (t.lines site image) none);
               },
             );
             elsewhere = joined_elsewhere slot (image_at site image) (λ members. members ++ joined slot alone ∷ []) t.lines nowhere_else;
@@ -191,17 +193,17 @@ module _ (slot : ℕ) (e : Option Extent) (labels : Label → Plan) where
       go (wait.Hold site image) (may, orderly) =
           let (p, m, there) = in_line_there slot t site image on.somewhere may in (
             may,
-            changed_on_track slot e false (at (settled labels next)) t held held_keeps p m there on.elsewhere t.turn t.due
+            changed_on_track slot e false (at (settled labels next)) t held held_is_steady p m there on.elsewhere t.turn t.due
                 (subst (λ c. IsOrderlyFrom e false c (at (settled labels next))) (sym (course_held slot p m t there site image)) orderly)
-                (takes_changed slot t held held_keeps held_past (λ n. refl) (λ n none. none) t.turn on.takes)
+                (takes_changed slot t held held_is_steady held_past (λ n. refl) (λ n none. none) t.turn on.takes)
                 (turns_there slot p m t there on.turns),
           )
       go (wait.Applied site image) (may, orderly) =
           let (p, m, there) = in_line_there slot t site image on.somewhere may in (
             may,
-            changed_on_track slot e false (at (settled labels next)) t (done_with t.turn) (done_keeps t.turn) p m there on.elsewhere None t.due
+            changed_on_track slot e false (at (settled labels next)) t (done_with t.turn) (done_steady t.turn) p m there on.elsewhere None t.due
                 (subst (λ c. IsOrderlyFrom e false c (at (settled labels next))) (sym (course_applied slot p m t there site image)) orderly)
-                (takes_changed slot t (done_with t.turn) (done_keeps t.turn) (done_past t.turn) (done_alone t.turn) (done_none t.turn) None on.takes)
+                (takes_changed slot t (done_with t.turn) (done_steady t.turn) (done_past t.turn) (done_alone t.turn) (done_none t.turn) None on.takes)
                 (λ object is. cc),
           )
       go (wait.Turn object) (may, orderly) = turned on.somewhere may orderly
@@ -214,9 +216,9 @@ module _ (slot : ℕ) (e : Option Extent) (labels : Label → Plan) where
               let first : BeginsWith object (done_with t.turn m).objects =
               subst (BeginsWith object) (ap (λ c. behind t.turn c.objects) (course_there slot p m t there) ∙ sym (done_objects t.turn m)) may in (
                 may,
-                changed_on_track slot e false (at (settled labels next)) t (done_with t.turn) (done_keeps t.turn) p m there on.elsewhere (Some object) t.due
+                changed_on_track slot e false (at (settled labels next)) t (done_with t.turn) (done_steady t.turn) p m there on.elsewhere (Some object) t.due
                     (subst (λ c. IsOrderlyFrom e false c (at (settled labels next))) (sym (course_turned slot p m t there object)) orderly)
-                    (takes_changed slot t (done_with t.turn) (done_keeps t.turn) (done_past t.turn) (done_alone t.turn) (done_none t.turn) (Some object) on.takes)
+                    (takes_changed slot t (done_with t.turn) (done_steady t.turn) (done_past t.turn) (done_alone t.turn) (done_none t.turn) (Some object) on.takes)
                     (λ other is. begins other (done_with t.turn m).objects (subst (λ o. BeginsWith o (done_with t.turn m).objects) (some_is object other is) first)),
               )
       go (wait.Leave site image) (may, orderly) = (
@@ -239,7 +241,7 @@ module _ (slot : ℕ) (e : Option Extent) (labels : Label → Plan) where
       go (in_line, orderly) =
           let (p, m, there) = in_line_there slot t site image on.somewhere in_line in (
             in_line,
-            changed_on_track slot e fresh (at (settled labels next)) t (given t.due) (given_keeps t.due) p m there on.elsewhere t.turn []
+            changed_on_track slot e fresh (at (settled labels next)) t (given t.due) (given_steady t.due) p m there on.elsewhere t.turn []
                 (subst (λ c. IsOrderlyFrom e fresh c (at (settled labels next))) (sym (course_noted slot p m t there)) orderly)
                 (inl refl)
                 (λ object is. begins_more object m.objects t.due (turns_there slot p m t there on.turns object is)),
@@ -255,7 +257,7 @@ module _ (slot : ℕ) (e : Option Extent) (labels : Label → Plan) where
       go : IsSomewhere slot t → IsOnTrack slot e true (at (settled labels next)) (looked_by slot e h t)
       go (inl nowhere) = let no : false ≡ true = sym (ap (is_own_at s image) (nowhere_course slot t nowhere)) ∙ own in cc
       go (inr (p, m, there)) =
-          let new = stays_there slot p m t passed passed_keeps there t.turn (looked_by slot e h t).due in
+          let new = stays_there slot p m t passed passed_is_steady there t.turn (looked_by slot e h t).due in
           let line = t.lines p.site p.image in
           let waiting : is_waiting m.stage ≡ true = (and_parts (is_at s image p.site p.image) (is_waiting m.stage) (sym (ap (is_own_at s image) (place_there slot p m t there)) ∙ own)).1 in
           let not_past : is_past m.stage ≡ false = waiting_not_past m.stage waiting in
@@ -271,7 +273,7 @@ module _ (slot : ℕ) (e : Option Extent) (labels : Label → Plan) where
                 ∙ none_past_after slot line m (fair p.site p.image) there.member not_past);
             apart = due_apart (course_of slot t).place (objects_asked h e) (asked_apart h e form);
           } in
-          changed_on_track slot e true (at (settled labels next)) t passed passed_keeps p m there elsewhere t.turn (looked_by slot e h t).due
+          changed_on_track slot e true (at (settled labels next)) t passed passed_is_steady p m there elsewhere t.turn (looked_by slot e h t).due
           (subst (λ c. IsOrderlyFrom e true c (at (settled labels next))) (sym (course_looked slot p m t there e h)) orderly)
           (takes m.alone refl (ap (λ q. due_of q (objects_asked h e)) (place_there slot p m t there)) may)
           (turns_there slot p m t there turns)

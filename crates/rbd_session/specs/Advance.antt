@@ -125,7 +125,8 @@ MayPass slot t w = Unit {0}
 
 -- ---- what it is fed
 
--- It stands at an operation, doesn't wait, and is fed an answer to it, for which everything is ready.
+-- It stands at an operation, doesn't wait, and is fed an answer to it, for which everything is
+-- ready.
 pub record IsFedWell {R : Type 0} (stands : R → Standing) (is_ready : R → Answer → Type 0) (slot : ℕ) (r : Running R) (lines : LinesView) (f : Fed) : Type 0 where
   pub from : 1 ≤ slot
   pub to : slot ≤ 64

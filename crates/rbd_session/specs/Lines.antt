@@ -13,7 +13,8 @@ abbrev pub key_of : SiteId → (image : ℕ) → ℕ
 key_of site.A image = image * 2
 key_of site.B image = image * 2 + 1
 
--- what contracts see of all lines: those that are held, one for the next image, and for how many more there is room
+-- what contracts see of all lines: those that are held, one for the next image, and for how many
+-- more there is room
 pub record LinesView : Type 0 where
   pub entries : List (ℕ × LineView)
   pub unused : Option LineView
@@ -72,8 +73,8 @@ members_of (Some p) l = members_at (key_of p.site p.image) l
 abbrev pub CanOpen : LinesView → Type 0
 CanOpen l = IsEmptyLine l.unused × (0 < l.room)
 
--- A slot may take tickets for these objects: there is room, and it takes none, or goes beside others and is past own, has
--- none yet, and nobody behind it is past own.
+-- A slot may take tickets for these objects: there is room, and it takes none, or goes beside
+-- others and is past own, has none yet, and nobody behind it is past own.
 pub record MayEnter (slot : ℕ) (objects : List ℕ) (members : List Member) : Type 0 where
   pub member : may_enter slot members ≡ true
   pub last : none_past_behind slot members ≡ true

@@ -26,7 +26,8 @@ use Rattle.rbd_session.specs.OnTrack.{IsOnTrack, AreFair}
 use Rattle.rbd_session.specs.Track.{run}
 use Rattle.rbd_session.specs.Waits.{waits}
 
--- Slot n holds what stands at n, and nothing is ever held at 0. The lowest free slot is 65 where 64 are held.
+-- Slot n holds what stands at n, and nothing is ever held at 0. The lowest free slot is 65 where 64
+-- are held.
 pub record SessionView (R : Type 0) : Type 0 where
   pub instance : Instance
   pub home : SiteId
@@ -61,7 +62,8 @@ module _ {R : Type 0} where
   abbrev pub running_at : (slot : ℕ) → SessionView R → Option (Running R)
   running_at slot s = running_in (held_in slot s.slots)
 
-  -- a request that runs keeps to its line and stands at an operation, and who doesn't run is in no line
+  -- a request that runs keeps to its line and stands at an operation, and who doesn't run is in no
+  -- line
   pub record IsSoundSession (stands : R → Standing) (s : SessionView R) : Type 0 where
     pub slots : length s.slots ≡ 65
     pub zero : held_in 0 s.slots ≡ None
@@ -105,7 +107,8 @@ abbrev pub of_going : {R T : Type 0} → (stands : R → Standing) → (asked : 
 of_going stands asked None = None
 of_going stands asked (Some r) = asked (stands r.request).plan
 
--- None where the slot is free, waits, or holds a request that is refused before any operation, and nowhere else
+-- None where the slot is free, waits, or holds a request that is refused before any operation, and
+-- nowhere else
 abbrev pub kind_at : {R : Type 0} → (stands : R → Standing) → (slot : ℕ) → SessionView R → Option (SiteId × OpKind)
 kind_at stands slot s = of_going stands kind_asked (going_in slot (held_in slot s.slots) s.lines)
 
@@ -150,8 +153,8 @@ pub record IsAlike {R : Type 0} (stands : R → Standing) (old new : SessionView
 abbrev pub IsReadied : {R : Type 0} → (stands : R → Standing) → (is_ready : R → Answer → Type 0) → (slot : ℕ) → Fed → SessionView R → Type 0
 IsReadied stands is_ready slot f s = OfRunning (λ r. IsFedWell stands is_ready slot r s.lines f) (held_in slot s.slots)
 
--- What comes of it, for the request and its slot: it stands at its next operation, passed over what it waited for, or it has ended
--- with its reply and the slot is free.
+-- What comes of it, for the request and its slot: it stands at its next operation, passed over what
+-- it waited for, or it has ended with its reply and the slot is free.
 abbrev pub ComesToIn : {R : Type 0} → (stands : R → Standing) → (slot : ℕ) → LinesView → Fed → Option Reply → (r : Running R) → (new : Option (Occupant R)) → LinesView → Type 0
 ComesToIn stands slot lines f result r (Some (occupant.Running q)) after =
     (result ≡ None) × ComesTo stands slot (stands r.request).labels (at_operation (stands r.request).labels (plan_after (stands r.request).plan f))

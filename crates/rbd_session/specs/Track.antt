@@ -1,4 +1,5 @@
--- Where a request stands in its session: the line that it is in, its turn, and what becomes of them on its way.
+-- Where a request stands in its session: the line that it is in, its turn, and what becomes of them
+-- on its way.
 use Rattle.std.specs.Prelude.{ℕ, if◌then◌else◌, List, [], ◌∷◌, ◌++◌, Option, Some, None}
 use Rattle.rbd_course.specs.Course.{Course, Place, objects_asked, due_of, is_own_at}
 use Rattle.rbd_kinds.specs.declared.answer.Answer.{Answer}

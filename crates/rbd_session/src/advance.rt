@@ -16,8 +16,8 @@ use crate::running::Running;
 use rbd_course::Request;
 use rbd_kinds::{Fed, Reply, Sequence, Slot, Turn, Want};
 
-/// Feeds a request, and passes over what it then wants beside an operation. `None` where it wants its next operation, and
-/// else its reply. It takes no memory.
+/// Feeds a request, and passes over what it then wants beside an operation. `None` where it wants
+/// its next operation, and else its reply. It takes no memory.
 pub fn advance<R: Request>(
     running: &mut Running<R>,
     lines: &mut Lines,
@@ -67,7 +67,8 @@ fn beside_operation(want: Want) -> Option<Want>
     }
 }
 
-/// The request goes past its own look, where that was answered: the objects that it is due to take tickets for.
+/// The request goes past its own look, where that was answered: the objects that it is due to take
+/// tickets for.
 fn look<R>(running: &mut Running<R>, lines: &mut Lines, slot: Slot) -> Option<Sequence<u64>>
     requires { IsSome running.old.looked → IsTrue (may_pass slot (members_of running.old.place lines.old)) }
     ensures track { track_with result running.new lines.new ≡ looked_at slot running.old.looked (track_of running.old lines.old) }

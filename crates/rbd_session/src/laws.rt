@@ -11,8 +11,8 @@ ghost use Rattle.rbd_session.specs.declared.running.Running.{Running};
 
 use rbd_course::Request;
 
-/// While a request that is alone is past its own look, no other request of the image is: nothing else of this
-/// client changes the image beside it.
+/// While a request that is alone is past its own look, no other request of the image is: nothing
+/// else of this client changes the image beside it.
 pub fn alone_is_alone<R: Request>()
     ensures { (s : SessionView R) (site : Site) (image : ℕ) (one other : Member)
         → IsSoundSession R.stands s
@@ -20,8 +20,9 @@ pub fn alone_is_alone<R: Request>()
         → one.slot ≢ other.slot → IsTrue one.alone → IsTrue (is_past one.stage) → IsFalse (is_past other.stage) }
 {}
 
-/// A request whose next piece changes an object that one ahead of it in its line has a ticket for waits: nobody asks
-/// for its operation. So writes change each object in the order in which they joined.
+/// A request whose next piece changes an object that one ahead of it in its line has a ticket for
+/// waits: nobody asks for its operation. So writes change each object in the order in which they
+/// joined.
 pub fn pieces_go_in_line<R: Request>()
     ensures { (s : SessionView R) (slot object : ℕ) (r : Running R) (p : ImageAt) (one : Member)
         → running_at slot s ≡ Some r → r.place ≡ Some p → r.turn ≡ Some object

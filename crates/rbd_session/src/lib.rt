@@ -2,21 +2,23 @@
 //!
 //! ```text
 //! let mut session: Session<SessionRequest<Follower>> = Session::new(alloc, c1, SiteId::A)?;
-//! let one = session.submit(alloc, 3, work_of("write disk 4094 hello"))?;       // slot 1
-//! let two = session.submit(alloc, 4, work_of("snap create disk@first"))?;      // slot 2
-//! session.kind(one)                        // site A, dir-find
+//! let one = session.submit(alloc, 3, write)?;    // slot 1
+//! let two = session.submit(alloc, 4, snap)?;     // slot 2: a `snap create` of the same image
+//! session.kind(one)                              // site A, dir-find
 //! let fed = Fed::Answer(Answer::Id(7));
-//! session.ready(alloc, one, &fed)?;        // all memory that the answer needs
-//! session.feed(one, &fed)                  // None: it joined the line of image 7, and wants header-get
-//! ..                                       // slot 2 is fed the same, and stands behind slot 1 in the line
-//! session.kind(two)                        // None once it waits for its own look: it is alone, and slot 1 is ahead
+//! session.ready(alloc, one, &fed)?;              // all memory that this answer needs
+//! session.feed(one, &fed)                        // None: it is in the line of image 7
+//! session.kind(one)                              // site A, header-get
+//! ..                                             // slot 2 joins behind it, and looks too
+//! session.kind(two)                              // None: it is alone, and slot 1 is ahead
 //! ```
 //!
 //! # Rules
 //!
-//! A request that changes an image *joins* the image's line at the answer by which it found it, alone or
-//! beside others. It looks at the header, and then *waits for its own look*: the look under the lock.
-//! Until that look is answered it is asked anew, at each look at the slot, whether it may go on.
+//! A request that changes an image *joins* the image's line at the answer by which it found it,
+//! alone or beside others. It looks at the header, and then *waits for its own look*: the look
+//! under the lock. Until that look is answered it is asked anew, at each look at the slot, whether
+//! it may go on.
 //!
 //! | a request | may go past its own look when |
 //! |---|---|
@@ -24,21 +26,23 @@
 //! | alone (`snap create`, `snap rm`) | nobody is ahead of it |
 //!
 //! - So nobody is past own beside one that is alone and past own. Who has ended is in no line.
-//! - With its own look answered a request beside others takes a ticket for each object that it changes,
-//!   ascending: those of its extent by the layout that this look told. It does the piece of an object
-//!   only while nobody ahead of it in the line has a ticket there. The ticket goes at the end of the
-//!   piece, which is where the request next wants a turn, or that its event counts as applied; with the
-//!   end of the request all its tickets go. So writes change each object in the order in which they joined.
+//! - With its own look answered a request beside others takes a ticket for each object that it
+//!   changes, ascending: those of its extent by the layout that this look told. It does the piece
+//!   of an object only while nobody ahead of it in the line has a ticket there. The ticket goes at
+//!   the end of the piece, which is where the request next wants a turn, or that its event counts
+//!   as applied; with the end of the request all its tickets go. So writes change each object in
+//!   the order in which they joined.
 //! - A look, a listing and a `create` join no line and never wait.
-//! - What a request wants beside operations it has at once: no image has a journal yet, so an event's
-//!   note and its being applied take no step, and a session counts as having every lock.
+//! - What a request wants beside operations it has at once: no image has a journal yet, so an
+//!   event's note and its being applied take no step, and a session counts as having every lock.
 //!
 //! # Contracts
 //!
-//! Contracts see a session as a record (`SessionView`): its instance and home, what each slot holds, and
-//! the line of each image, as its members in order (`rbd_line`). A request is seen as itself; where it
-//! stands is told by the `stands` of its type, which clauses take as an argument, as the session names no
-//! request ([`Request`](rbd_course::Request)). The definitions are read in this order.
+//! Contracts see a session as a record (`SessionView`): its instance and home, what each slot
+//! holds, and the line of each image, as its members in order (`rbd_line`). A request is seen as
+//! itself; where it stands is told by the `stands` of its type, which clauses take as an argument,
+//! as the session names no request ([`Request`](rbd_course::Request)). The definitions are read in
+//! this order.
 //!
 //! | file | what it says |
 //! |---|---|
@@ -49,20 +53,22 @@
 //! | `specs/Advance.antt` | what is ready before a feeding (`IsFedWell`), and what comes of it (`ComesTo`) |
 //! | `specs/Session.antt` | the record, what holds of each session (`IsSoundSession`), and the clauses of its calls |
 //!
-//! [`laws`] says who is past own beside whom and whose piece waits, and that the first of a line never does.
+//! [`laws`] says who is past own beside whom and whose piece waits, and that the first of a line
+//! never does.
 //!
 //! # Cost
 //!
-//! `kind`, `next` and `ready` look up a slot and a line, and go through those ahead in this one line, at most
-//! 63; a turn is one look-up. `feed` goes to the next operation, and costs what it passes. `free` looks
-//! at one number, and `submit` goes from there to the next free slot. Memory is taken by `new`, `submit`,
-//! `next` and `ready` alone: `ready` takes a line for the next image, and room for the tickets.
+//! `kind`, `next` and `ready` look up a slot and a line, and go through those ahead in this one
+//! line, at most 63; a turn is one look-up. `feed` goes to the next operation, and costs what it
+//! passes. `free` looks at one number, and `submit` goes from there to the next free slot. Memory
+//! is taken by `new`, `submit`, `next` and `ready` alone: `ready` takes a line for the next image,
+//! and room for the tickets.
 //!
 //! # How it works
 //!
-//! Slots are a list of 65, of which the first is never held. Lines are a hash table by image, each a
-//! `Line` of `rbd_line`, which goes with its last member; one that is empty is kept ready. A feeding takes
-//! the request out of its slot, and puts it back where it hasn't ended.
+//! Slots are a list of 65, of which the first is never held. Lines are a hash table by image, each
+//! a `Line` of `rbd_line`, which goes with its last member; one that is empty is kept ready. A
+//! feeding takes the request out of its slot, and puts it back where it hasn't ended.
 #![tactic(auto)]
 
 mod advance;

@@ -200,7 +200,8 @@ impl Lines {
         }
     }
 
-    /// Makes room for one more line, and for tickets in the line that a request is in. No line changes.
+    /// Makes room for one more line, and for tickets in the line that a request is in. No line
+    /// changes.
     pub fn reserve(
         &mut self,
         alloc: Global,

@@ -35,7 +35,8 @@ fn objects_within(
     objects_of(alloc, listed.as_slice())
 }
 
-/// The objects that a request changes beside others, by a header: none where its extent doesn't end within the size.
+/// The objects that a request changes beside others, by a header: none where its extent doesn't end
+/// within the size.
 pub fn objects_asked(
     alloc: Global,
     header: &HeaderView,

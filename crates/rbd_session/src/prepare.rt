@@ -1,4 +1,5 @@
-//! What a request needs before it is fed: all memory, and the objects that it is due where it is at its own look.
+//! What a request needs before it is fed: all memory, and the objects that it is due where it is at
+//! its own look.
 ghost use Rattle.std.specs.Prelude.{◌≡◌, ℕ, ◌≤◌, length, None, Some, IfOk, OnOk, Option};
 ghost use Rattle.rbd_course.specs.Course.{is_own_at, is_waiting, due_of, objects_asked as asked};
 ghost use Rattle.rbd_kinds.specs.Form.{IsHeaderInForm};
@@ -59,7 +60,8 @@ fn header_looked_at<R: Request>(
     }
 }
 
-/// The objects that a request is due to take tickets for, by the header that its own look told: none where it is alone.
+/// The objects that a request is due to take tickets for, by the header that its own look told:
+/// none where it is alone.
 fn due<R>(
     alloc: Global,
     header: &HeaderView,

@@ -65,8 +65,8 @@ impl<R: Request> Session<R> {
         Some(Slot(self.lowest))
     }
 
-    /// A request takes the lowest free slot: that of the command in a line of the script, or another's. Refused
-    /// memory, nothing changes.
+    /// A request takes the lowest free slot: that of the command in a line of the script, or
+    /// another's. Refused memory, nothing changes.
     pub fn submit(&mut self, alloc: Global, line: u32, work: R::Work) -> Result<Slot, NoMemory>
         requires free { self.old.lowest ≤ 64 }
         requires serves { R.serves work }
@@ -85,8 +85,9 @@ impl<R: Request> Session<R> {
         Ok(Slot(slot))
     }
 
-    /// The site and the kind of the operation that the request in a slot wants: `None` exactly where the slot is free,
-    /// waits, or holds a request that is refused before any operation. It takes no memory.
+    /// The site and the kind of the operation that the request in a slot wants: `None` exactly
+    /// where the slot is free, waits, or holds a request that is refused before any operation. It
+    /// takes no memory.
     pub fn kind(&self, slot: Slot) -> Option<(SiteId, OpKind)>
         ensures kind { result ≡ kind_at R.stands slot self.now }
         ensures sound { IsSoundSession R.stands self.now }
@@ -95,7 +96,8 @@ impl<R: Request> Session<R> {
         wanted_kind(&running.request)
     }
 
-    /// The operation that the request in a slot wants, and its site: `None` as by [`Session::kind`].
+    /// The operation that the request in a slot wants, and its site: `None` as by
+    /// [`Session::kind`].
     pub fn next(&self, alloc: Global, slot: Slot) -> Result<Option<(SiteId, Op)>, NoMemory>
         ensures op { IfOk result (λ told. told ≡ op_at R.stands slot self.now) }
         ensures sound { IsSoundSession R.stands self.now }
@@ -106,8 +108,9 @@ impl<R: Request> Session<R> {
         }
     }
 
-    /// Serves a request that is refused before any operation: its reply, and the slot is free. `None` exactly where the
-    /// slot holds no such request; then nothing changes. It takes no memory.
+    /// Serves a request that is refused before any operation: its reply, and the slot is free.
+    /// `None` exactly where the slot holds no such request; then nothing changes. It takes no
+    /// memory.
     pub fn refuse(&mut self, slot: Slot) -> Option<Reply>
         ensures reply { result ≡ reply_of (refusal_in (held_in slot self.old.slots)) }
         ensures none { IsNone result → self.new ≡ self.old }
@@ -122,8 +125,8 @@ impl<R: Request> Session<R> {
         Some(Reply::Refused(refusal))
     }
 
-    /// Makes everything ready for an answer to the request in a slot, which may go on: all memory that [`Session::feed`]
-    /// needs. Nothing else changes, also where memory is refused.
+    /// Makes everything ready for an answer to the request in a slot, which may go on: all memory
+    /// that [`Session::feed`] needs. Nothing else changes, also where memory is refused.
     pub fn ready(&mut self, alloc: Global, slot: Slot, fed: &Fed) -> Result<(), NoMemory>
         requires { OfRunning (IsAnswered R.stands slot self.old.lines fed.now) (held_in slot self.old.slots) }
         ensures alike { IsAlike R.stands self.old self.new }
@@ -139,8 +142,9 @@ impl<R: Request> Session<R> {
         )
     }
 
-    /// Feeds the request in a slot the answer that it was readied for. The request goes on to its next operation, past what it
-    /// wants beside; or it ends, and its slot is free. `None` exactly where it hasn't ended. It takes no memory.
+    /// Feeds the request in a slot the answer that it was readied for. The request goes on to its
+    /// next operation, past what it wants beside; or it ends, and its slot is free. `None` exactly
+    /// where it hasn't ended. It takes no memory.
     pub fn feed(&mut self, slot: Slot, fed: &Fed) -> Option<Reply>
         requires { IsReadied R.stands R.is_ready slot fed.now self.old }
         ensures fed { IsFed R.stands slot fed.now result self.old self.new }
