@@ -1,0 +1,248 @@
+-- What is permitted may be done, is answered as it can be, and has its effect.
+use Rattle.std.proofs.Common.{◌≡◌, ℕ, ◌+◌, ◌≤◌, ◌||◌, not, Bool, true, false, List, [], ◌∷◌, length, length-append, Option, Some, None, is_some, refl, sym, ap, ◌∙◌, subst, arith}
+use Rattle.std.proofs.lemmas.List.Elements.{All-weaker}
+use Rattle.std.proofs.lemmas.Option.{slice_get_within, get_or_from_slice_get}
+use Rattle.std.specs.Prelude.{All}
+use Rattle.rbd_layout.proofs.Limits.{shape_of}
+use Rattle.rbd_object.proofs.ContentsLemmas.{length-window}
+use Rattle.rbd_object.specs.Contents.{window}
+use Rattle.rbd_kinds.specs.declared.answer.Answer.{Answer}
+use Rattle.rbd_kinds.specs.declared.answer.Answer.TheVariants as answer
+use Rattle.rbd_kinds.specs.declared.data_op.DataOp.{DataOp}
+use Rattle.rbd_kinds.specs.declared.data_op.DataOp.TheVariants as object
+use Rattle.rbd_kinds.specs.declared.directory_op.DirectoryOp.{DirectoryOp}
+use Rattle.rbd_kinds.specs.declared.directory_op.DirectoryOp.TheVariants as directory
+use Rattle.rbd_kinds.specs.declared.header.HeaderView.{HeaderView}
+use Rattle.rbd_kinds.specs.declared.header.SnapContext.{SnapContext}
+use Rattle.rbd_kinds.specs.declared.header_op.HeaderOp.{HeaderOp}
+use Rattle.rbd_kinds.specs.declared.header_op.HeaderOp.TheVariants as header
+use Rattle.rbd_kinds.specs.declared.id.Instance.{Instance}
+use Rattle.rbd_kinds.specs.declared.id.SiteId.{SiteId}
+use Rattle.rbd_kinds.specs.declared.layout.Layout.{Layout}
+use Rattle.rbd_kinds.specs.declared.layout.Part.{Part}
+use Rattle.rbd_kinds.specs.declared.operation.Op.{Op}
+use Rattle.rbd_kinds.specs.declared.operation.Op.TheVariants as op
+use Rattle.rbd_kinds.specs.Parts.{parts_len}
+use Rattle.rbd_kinds.specs.Striping.{IsLayout, byte_at}
+use Rattle.rbd_header.specs.Header.{context_of, snap_in}
+use Rattle.rbd_object.specs.Mapped.{looked}
+use Rattle.rbd_object.specs.Parts.{AreWithin, parts_of}
+use Rattle.rbd_object.specs.Versioned.{view}
+use Rattle.rbd_object.specs.declared.content.TheConstants.{LARGEST_OBJECT}
+use Rattle.rbd_registry.specs.Directory.{id_of}
+use Rattle.rbd_registry.specs.Directory as listing
+use Rattle.rbd_flat.specs.Flat.{Flat, FlatImage, image_at}
+use Rattle.rbd_flat.specs.declared.effect.Effect.{Effect}
+use Rattle.rbd_flat.specs.declared.effect.Effect.TheVariants as effect
+use Rattle.rbd_machine.specs.Answers.{CanGive, gives}
+use Rattle.rbd_machine.specs.Knowledge.{Knowledge}
+use Rattle.rbd_machine.specs.Permits.{Permits, PermitsOnHeader, PermitsOnDirectory, PermitsOnObject, OwnsBy, MayWrite, LiesBelow}
+use Rattle.rbd_site.specs.DataStep.{finds, parts_read}
+use Rattle.rbd_site.specs.DataStep as step
+use Rattle.rbd_site.specs.DirectoryStep.{name_added, image_found}
+use Rattle.rbd_site.specs.Found.{done_where}
+use Rattle.rbd_site.specs.HeaderStep.{header_answer}
+use Rattle.rbd_site.specs.InForm.{AreInForm}
+use Rattle.rbd_site.specs.Laws.{is_look, is_change}
+use Rattle.rbd_site.specs.Records.{Records, object_at}
+use Rattle.rbd_site.specs.Step.{MayDo, after, answer_to}
+use Rattle.rbd_site.specs.declared.done.DoneOp.TheVariants as done
+use Rattle.rbd_site.proofs.GenerationLemmas.{looked_at}
+use Rattle.rbd_site.proofs.StepLemmas.{refused}
+use Rattle.rbd_stands.specs.Condition.{IsContextOf, ArePartsBelow, IsPartBelow, extents_of}
+use Rattle.rbd_stands.specs.Effect.{effect_of, effect_of_op, effect_of_making}
+use Rattle.rbd_stands.specs.Shown.{IsInOverlap, snapshots_of, links_of}
+use Rattle.rbd_stands.specs.Site.{StandsFor, StandsAt}
+use Rattle.rbd_stands.proofs.Contexts.{reversed_context}
+use Rattle.rbd_stands.proofs.DataSteps.{write_stands}
+use Rattle.rbd_stands.proofs.DirectorySteps.{name_stands}
+use Rattle.rbd_stands.proofs.EditSteps.{unnamed}
+use Rattle.rbd_stands.proofs.EffectLemmas.{write_effect}
+use Rattle.rbd_stands.proofs.ImageSteps.{create_stands, snap_stands, unsnap_stands}
+use Rattle.rbd_stands.proofs.NoEffect.{look_none, refused_none}
+use Rattle.rbd_rely.specs.Truth.{IsTrueAt, IsParentless, changed_by}
+use Rattle.rbd_rely.proofs.Kept.{owned_there}
+use Rattle.rbd_rely.proofs.Learned.{takes, removes}
+
+-- ---- the site's condition
+
+small : (l : Layout) → IsLayout l → l.object ≤ LARGEST_OBJECT
+small l is = (shape_of l is).object_most
+
+within : (h : HeaderView) (number : ℕ) (parts : List Part) → IsLayout h.layout → All (LiesBelow h number) parts → AreWithin parts
+within h number parts laid lie k p there =
+    let part : LiesBelow h number p = subst (LiesBelow h number) (get_or_from_slice_get parts k p p there) (lie k p (slice_get_within parts k p there)) in
+    let ends = part.part.within in
+    let most = small h.layout laid in
+    omega (arith, ends, most)
+
+same_layout : (h v : HeaderView) → v ≡ record h { owner = v.owner } → IsLayout v.layout → IsLayout h.layout
+same_layout h v same laid = subst IsLayout (ap (λ (w : HeaderView). w.layout) same) laid
+
+len_of_parts : (parts : List Part) (bytes : List ℕ) → length (parts_of parts bytes) ≡ parts_len parts
+len_of_parts [] bytes = refl
+len_of_parts (p ∷ parts) bytes =
+    length-append (window bytes p.offset p.len) (parts_of parts bytes)
+    ∙ ap (λ n. n + length (parts_of parts bytes)) (length-window bytes p.offset p.len)
+    ∙ ap (λ n. p.len + n) (len_of_parts parts bytes)
+
+module _ (site : SiteId) (r : Records) (k : Knowledge) (most : ℕ) (form : AreInForm r most) (t : IsTrueAt site r k) where
+  may_write : (image number : ℕ) (context : SnapContext) (parts : List Part) (bytes : List ℕ) → OwnsBy k site image (MayWrite k.turn number context parts bytes) → step.MayWrite parts bytes
+  may_write image number context parts bytes owns =
+      let there = owned_there site r k image _ t owns in
+      let laid : IsLayout owns.header.layout = same_layout owns.header there.view there.same (form.form image there.view there.is).layout in
+      record { within = within owns.header number parts laid owns.meets.within; long = owns.meets.long }
+
+  pub may_do : (o : Op) → Permits k site o → MayDo r o
+  may_do (op.Directory o) permits = tt
+  may_do (op.Header image header.Get) permits = tt
+  may_do (op.Header image (header.Create view)) permits = permits.new
+  may_do (op.Header image (header.SnapAdd name)) permits = tt
+  may_do (op.Header image (header.SnapRemove snap)) permits = tt
+  may_do (op.Header image _) permits = elim permits [ ]
+  may_do (op.Data image number (object.Read snap parts)) permits = tt
+  may_do (op.Data image number (object.Write context must parts bytes)) permits = may_write image number context parts bytes permits
+  may_do (op.Data image number _) permits = elim permits [ ]
+  may_do _ permits = elim permits [ ]
+
+  -- ---- its answer
+
+  directory_gives_it : (me : Instance) (o : DirectoryOp) → PermitsOnDirectory o → CanGive (op.Directory o) (answer_to r me (op.Directory o))
+  directory_gives_it me (directory.Find name) permits = record { word = by (id_of r.directory name); form = tt }
+    where
+      by : (held : Option ℕ) → gives (op.Directory (directory.Find name)) (image_found held) ≡ true
+      by None = refl
+      by (Some image) = refl
+  directory_gives_it me directory.List permits = record { word = refl; form = tt }
+  directory_gives_it me (directory.Add name) permits = record { word = by (id_of r.directory name) (listing.is_full r.directory); form = tt }
+    where
+      by : (held : Option ℕ) (full : Bool) → gives (op.Directory (directory.Add name)) (name_added held full (r.directory.drawn + 1)) ≡ true
+      by (Some image) full = refl
+      by None true = refl
+      by None false = refl
+  directory_gives_it me _ permits = elim permits [ ]
+
+  header_gives_it : (me : Instance) (image : ℕ) (o : HeaderOp) → PermitsOnHeader k site image o → CanGive (op.Header image o) (answer_to r me (op.Header image o))
+  header_gives_it me image header.Get permits = by (r.headers image) refl
+    where
+      by : (there : Option HeaderView) → r.headers image ≡ there → CanGive (op.Header image header.Get) (header_answer me there header.Get)
+      by None is = record { word = refl; form = tt }
+      by (Some h) is = record { word = refl; form = form.form image h is }
+  header_gives_it me image (header.Create view) permits =
+      subst (λ there. CanGive (op.Header image (header.Create view)) (header_answer me there (header.Create view))) (sym (t.drawn image permits.drawn).header) (record { word = refl; form = tt })
+  header_gives_it me image (header.SnapAdd name) permits =
+      subst (CanGive (op.Header image (header.SnapAdd name))) (sym (takes site r k me t image name permits).answered) (record { word = refl; form = tt })
+  header_gives_it me image (header.SnapRemove snap) permits =
+      subst (CanGive (op.Header image (header.SnapRemove snap))) (sym (removes site r k me t image snap permits).answered) (record { word = refl; form = tt })
+  header_gives_it me image _ permits = elim permits [ ]
+
+  object_gives_it : (me : Instance) (image number : ℕ) (o : DataOp) → PermitsOnObject k site image number o → CanGive (op.Data image number o) (answer_to r me (op.Data image number o))
+  object_gives_it me image number (object.Read snap parts) permits = by (view (looked (object_at r image number)) snap)
+    where
+      by : (content : Option (List ℕ)) → CanGive (op.Data image number (object.Read snap parts)) (parts_read parts content)
+      by None = record { word = refl; form = tt }
+      by (Some bytes) = record { word = refl; form = len_of_parts parts bytes }
+  object_gives_it me image number (object.Write context must parts bytes) permits = by must (is_some (object_at r image number).head)
+    where
+      by : (must there : Bool) → CanGive (op.Data image number (object.Write context must parts bytes)) (done_where (not must || there))
+      by true true = record { word = refl; form = tt }
+      by true false = record { word = refl; form = tt }
+      by false there = record { word = refl; form = tt }
+  object_gives_it me image number _ permits = elim permits [ ]
+
+  pub gives_it : (me : Instance) (o : Op) → Permits k site o → CanGive o (answer_to r me o)
+  gives_it me (op.Directory o) permits = directory_gives_it me o permits
+  gives_it me (op.Header image o) permits = header_gives_it me image o permits
+  gives_it me (op.Data image number o) permits = object_gives_it me image number o permits
+  gives_it me _ permits = elim permits [ ]
+
+-- ---- its effect
+
+module _ (site : SiteId) (r : Records) (f : Flat) (k : Knowledge) (me : Instance) (most : ℕ) (stands : StandsFor [] r f) (form : AreInForm r most) (parentless : IsParentless r) (t : IsTrueAt site r k) where
+  abbrev HasItsEffect : Op → Type 0
+  HasItsEffect o = StandsFor [] (after r me o) (changed_by f (effect_of r (done.Op o) (answer_to r me o)))
+
+  -- with the effect of the answer that it has
+  effects : (o : Op) (a : Answer) (e : Option Effect) → answer_to r me o ≡ a → effect_of r (done.Op o) a ≡ e → StandsFor [] (after r me o) (changed_by f e) → HasItsEffect o
+  effects o a e answered is after_it = subst (λ a. StandsFor [] (after r me o) (changed_by f (effect_of r (done.Op o) a))) (sym answered) (subst (λ e. StandsFor [] (after r me o) (changed_by f e)) (sym is) after_it)
+
+  look_effect : (o : Op) → is_look o ≡ true → HasItsEffect o
+  look_effect o look = effects o (answer_to r me o) None refl (look_none r o (answer_to r me o) look) (subst (λ s. StandsFor [] s f) (sym (looked_at r me o look)) stands)
+
+  refused_effect : (o : Op) (a : Answer) → answer_to r me o ≡ a → is_change a ≡ false → HasItsEffect o
+  refused_effect o a answered unchanged =
+      effects o a None answered (refused_none r o a unchanged)
+      (subst (λ s. StandsFor [] s f) (sym (refused r me o (ap is_change answered ∙ unchanged))) stands)
+
+  add_effect : (name : List ℕ) (held : Option ℕ) (full : Bool) → answer_to r me (op.Directory (directory.Add name)) ≡ name_added held full (r.directory.drawn + 1) → HasItsEffect (op.Directory (directory.Add name))
+  add_effect name (Some image) full answered = refused_effect (op.Directory (directory.Add name)) answer.Exists answered refl
+  add_effect name None true answered = refused_effect (op.Directory (directory.Add name)) answer.Full answered refl
+  add_effect name None false answered =
+      effects (op.Directory (directory.Add name)) (answer.Id (r.directory.drawn + 1)) (Some (effect.Name name (r.directory.drawn + 1))) answered refl
+      (name_stands [] r f me name (r.directory.drawn + 1) stands answered)
+
+  directory_effect : (o : DirectoryOp) → PermitsOnDirectory o → HasItsEffect (op.Directory o)
+  directory_effect (directory.Find name) permits = look_effect (op.Directory (directory.Find name)) refl
+  directory_effect directory.List permits = look_effect (op.Directory directory.List) refl
+  directory_effect (directory.Add name) permits = add_effect name (id_of r.directory name) (listing.is_full r.directory) refl
+  directory_effect _ permits = elim permits [ ]
+
+  -- an image without a header isn't there
+  no_image : (image : ℕ) → r.headers image ≡ None → image_at f image ≡ None
+  no_image image none =
+      by (image_at f image) (subst (λ h. StandsAt (snapshots_of f) (links_of f image) h (object_at r image) (image_at f image)) none (stands.images image))
+    where
+      by : (there : Option FlatImage) → StandsAt (snapshots_of f) (links_of f image) None (object_at r image) there → there ≡ None
+      by None at = refl
+      by (Some i) at = elim at [ ]
+
+  header_effect : (image : ℕ) (o : HeaderOp) → PermitsOnHeader k site image o → HasItsEffect (op.Header image o)
+  header_effect image header.Get permits = look_effect (op.Header image header.Get) refl
+  header_effect image (header.Create view) permits =
+      let waiting = t.drawn image permits.drawn in
+      let answered : answer_to r me (op.Header image (header.Create view)) ≡ answer.Done = ap (λ h. header_answer me h (header.Create view)) waiting.header in
+      effects (op.Header image (header.Create view)) answer.Done (Some (effect.Create image view.size view.role)) answered
+      (ap (λ parent. Some (effect_of_making image view.size view.role parent)) permits.no_parent)
+      (create_stands [] r f me image view stands waiting.drawn (record { header = waiting.header; flat = no_image image waiting.header; blank = waiting.blank }) permits.new permits.no_parent answered)
+  header_effect image (header.SnapAdd name) permits =
+      let edits = takes site r k me t image name permits in
+      let snap = (owned_there site r k image _ t permits).view.snap_seq + 1 in
+      effects (op.Header image (header.SnapAdd name)) (answer.Snap snap) (Some (effect.Snap image snap name)) edits.answered refl
+      (snap_stands [] r f me image snap name stands edits.answered)
+  header_effect image (header.SnapRemove snap) permits =
+      let there = owned_there site r k image _ t permits in
+      let edits = removes site r k me t image snap permits in
+      let may = permits.meets.1 in
+      effects (op.Header image (header.SnapRemove snap)) answer.Done (Some (effect.Unsnap image snap)) edits.answered refl
+      (unsnap_stands [] r f me image snap stands
+      (unnamed [] r f image snap there.view may.view stands there.is (ap (λ (h : HeaderView). snap_in h.snaps snap) there.same ∙ may.listed) may.unprotected)
+      edits.answered)
+  header_effect image _ permits = elim permits [ ]
+
+  write_effects : (image number : ℕ) (context : SnapContext) (must : Bool) (parts : List Part) (bytes : List ℕ) → OwnsBy k site image (MayWrite k.turn number context parts bytes)
+      → (found : Bool) → finds must (object_at r image number) ≡ found → HasItsEffect (op.Data image number (object.Write context must parts bytes))
+  write_effects image number context must parts bytes owns false lacks =
+      refused_effect (op.Data image number (object.Write context must parts bytes)) answer.Absent (ap done_where lacks) refl
+  write_effects image number context must parts bytes owns true has =
+      let there = owned_there site r k image _ t owns in
+      let v = there.view in
+      let may = may_write site r k most form t image number context parts bytes owns in
+      let answered : answer_to r me (op.Data image number (object.Write context must parts bytes)) ≡ answer.Done = ap done_where has in
+      let parts_lie : ArePartsBelow v v.size number parts =
+      subst (λ w. ArePartsBelow w w.size number parts) (sym there.same)
+      (All-weaker (LiesBelow owns.header number) (IsPartBelow (record owns.header { owner = v.owner }) owns.header.size number) (λ p lies. record { part = lies.part; below = lies.below }) parts owns.meets.within) in
+      let under : IsContextOf v context = subst (IsContextOf v) (ap context_of there.same ∙ sym owns.meets.under) (reversed_context v) in
+      effects (op.Data image number (object.Write context must parts bytes)) answer.Done (Some (effect.Piece image (extents_of parts) bytes)) answered
+      (ap (λ h. effect_of_op h (op.Data image number (object.Write context must parts bytes)) answer.Done) there.is
+      ∙ write_effect v image number context must parts bytes (form.form image v there.is).layout parts_lie may)
+      (write_stands [] r f me image number v context must parts bytes stands there.is under may parts_lie
+      (λ inside. elim (subst (λ parent. IsInOverlap parent (byte_at v.layout number 0)) (parentless image v there.is) inside) [ ])
+      answered)
+
+  pub has_its_effect : (o : Op) → Permits k site o → HasItsEffect o
+  has_its_effect (op.Directory o) permits = directory_effect o permits
+  has_its_effect (op.Header image o) permits = header_effect image o permits
+  has_its_effect (op.Data image number (object.Read snap parts)) permits = look_effect (op.Data image number (object.Read snap parts)) refl
+  has_its_effect (op.Data image number (object.Write context must parts bytes)) permits = write_effects image number context must parts bytes permits (finds must (object_at r image number)) refl
+  has_its_effect (op.Data image number _) permits = elim permits [ ]
+  has_its_effect _ permits = elim permits [ ]

@@ -1,0 +1,197 @@
+-- What is known stays true under what is permitted to others, and under the store's own steps.
+use Rattle.std.proofs.Common.{◌≡◌, ℕ, ◌==◌, cond, Bool, true, false, List, Option, Some, None, option_map, refl, sym, ap, ◌∙◌, subst}
+use Rattle.std.proofs.lemmas.Bool.{true≢false, eqb-true, ne_eqb}
+use Rattle.std.specs.FinMap as finmap
+use Rattle.std.specs.Ordering.{nat_cmp}
+use Rattle.std.specs.Cmp.{nat_cmp_total}
+use Rattle.rbd_object.specs.Kept.{is_listed}
+use Rattle.rbd_object.proofs.KeptLemmas.{get-live}
+use Rattle.std.specs.Prelude.{IsSome, is_some}
+use Rattle.rbd_kinds.specs.declared.data_op.DataOp.{DataOp}
+use Rattle.rbd_kinds.specs.declared.data_op.DataOp.TheVariants as object
+use Rattle.rbd_kinds.specs.declared.header.HeaderView.{HeaderView}
+use Rattle.rbd_kinds.specs.declared.header_op.HeaderOp.{HeaderOp}
+use Rattle.rbd_kinds.specs.declared.header_op.HeaderOp.TheVariants as header
+use Rattle.rbd_kinds.specs.declared.id.Instance.{Instance}
+use Rattle.rbd_kinds.specs.declared.id.SiteId.{SiteId}
+use Rattle.rbd_kinds.specs.declared.operation.Op.{Op}
+use Rattle.rbd_kinds.specs.declared.operation.Op.TheVariants as op
+use Rattle.rbd_object.specs.Mapped.{Mapped, mapped_blank, mapped_trim}
+use Rattle.rbd_machine.specs.Knowledge.{Knowledge, is_drawn}
+use Rattle.rbd_machine.specs.Permits.{Permits, PermitsOnHeader, PermitsOnObject, OwnsBy}
+use Rattle.rbd_site.specs.HeaderStep.{header_after}
+use Rattle.rbd_site.specs.Laws.{is_look}
+use Rattle.rbd_site.specs.Log.{live_in, trimmed}
+use Rattle.rbd_site.specs.Records.{Records, put, or_blank, object_at}
+use Rattle.rbd_site.specs.Step.{after}
+use Rattle.rbd_site.proofs.GenerationLemmas.{looked_at}
+use Rattle.rbd_stands.specs.Site.{IsUntouched}
+use Rattle.rbd_stands.specs.Unseen.{is_about}
+use Rattle.rbd_stands.proofs.EditSteps.{untouched_stays, drawn_stays}
+use Rattle.rbd_flat.specs.Flat.{no_images}
+use Rattle.rbd_rely.specs.Beside.{AreBeside, is_own_alone}
+use Rattle.rbd_rely.specs.Truth.{IsTrueAt, IsStill, IsWaiting, header_of_own, known_header}
+
+-- ---- a header that is known
+
+no_some : {T : Type 0} (x : T) → None ≡ Some x → ⊥
+no_some x is = true≢false (ap is_some (sym is))
+
+-- the header that is there, where one is known
+pub record IsThere (known : HeaderView) (there : Option HeaderView) : Type 0 where
+  pub view : HeaderView
+  pub is : there ≡ Some view
+  pub same : view ≡ record known { owner = view.owner }
+
+pub find_there : (known there : Option HeaderView) (h : HeaderView) → known ≡ Some h → IsStill known there → IsThere h there
+find_there known None h is still = elim (subst (λ o. IsStill o None) is still) [ ]
+find_there known (Some t) h is still = record { view = t; is = refl; same = subst (λ o. IsStill o (Some t)) is still }
+
+pub own_known : (k : Knowledge) (site : SiteId) (image : ℕ) (condition : (alone : Bool) → HeaderView → Type 0) (owns : OwnsBy k site image condition)
+    → known_header k site image ≡ Some owns.header
+own_known k site image condition owns = ap header_of_own owns.is
+
+-- the header of an image that it owns
+pub owned_there : (site : SiteId) (r : Records) (k : Knowledge) (image : ℕ) (condition : (alone : Bool) → HeaderView → Type 0) → IsTrueAt site r k → (owns : OwnsBy k site image condition)
+    → IsThere owns.header (r.headers image)
+owned_there site r k image condition t owns =
+    find_there (known_header k site image) (r.headers image) owns.header (own_known k site image condition owns) (t.owned image)
+
+-- an image that somebody owns isn't one that waits for its header
+pub not_waiting : (site : SiteId) (r : Records) (k : Knowledge) (image : ℕ) (condition : (alone : Bool) → HeaderView → Type 0) → IsTrueAt site r k → OwnsBy k site image condition
+    → r.headers image ≡ None → ⊥
+not_waiting site r k image condition t owns none =
+    let there = owned_there site r k image condition t owns in
+    no_some there.view (sym none ∙ there.is)
+
+pub unknown_of_none : (known there : Option HeaderView) → IsStill known None → IsStill known there
+unknown_of_none None there still = tt
+unknown_of_none (Some h) there still = elim still [ ]
+
+-- who is alone on an image isn't beside one that knows its header
+pub alone_beside : (site : SiteId) (k j : Knowledge) (image : ℕ) (condition : HeaderView → Type 0) → AreBeside site k j
+    → OwnsBy j site image (λ alone h. (alone ≡ true) × condition h) → (there : Option HeaderView) → IsStill (known_header k site image) there
+alone_beside site k j image condition beside owns there = go (known_header k site image) refl
+  where
+    go : (known : Option HeaderView) → known_header k site image ≡ known → IsStill known there
+    go None is = tt
+    go (Some h) is =
+        let mine : IsSome (known_header k site image) = ap is_some is in
+        let others : IsSome (known_header j site image) = ap is_some (own_known j site image (λ alone h. (alone ≡ true) × condition h) owns) in
+        absurd (true≢false (sym owns.meets.0 ∙ sym (ap is_own_alone owns.is) ∙ (beside.shared image mine others).other))
+
+-- ---- others
+
+get_same : (you : Instance) (h : Option HeaderView) → header_after you h header.Get ≡ h
+get_same you None = refl
+get_same you (Some h) = refl
+
+module _ (site : SiteId) (r : Records) (k j : Knowledge) (you : Instance) (t : IsTrueAt site r k) (u : IsTrueAt site r j) (beside : AreBeside site k j) where
+  header_kept : (image : ℕ) (o : HeaderOp) → PermitsOnHeader j site image o → IsStill (known_header k site image) (header_after you (r.headers image) o)
+  header_kept image header.Get permits = subst (IsStill (known_header k site image)) (sym (get_same you (r.headers image))) (t.owned image)
+  header_kept image (header.Create view) permits =
+      unknown_of_none (known_header k site image) (header_after you (r.headers image) (header.Create view))
+      (subst (IsStill (known_header k site image)) (u.drawn image permits.drawn).header (t.owned image))
+  header_kept image (header.SnapAdd name) permits = alone_beside site k j image _ beside permits (header_after you (r.headers image) (header.SnapAdd name))
+  header_kept image (header.SnapRemove snap) permits = alone_beside site k j image _ beside permits (header_after you (r.headers image) (header.SnapRemove snap))
+  header_kept image _ permits = elim permits [ ]
+
+  owned_kept : (o : Op) → Permits j site o → (image : ℕ) → IsStill (known_header k site image) ((after r you o).headers image)
+  owned_kept (op.Directory o) permits image = t.owned image
+  owned_kept (op.Data other number o) permits image = t.owned image
+  owned_kept (op.Header other o) permits image = go (image == other) refl
+    where
+      go : (b : Bool) → (image == other) ≡ b → IsStill (known_header k site image) (cond b (header_after you (r.headers other) o) (r.headers image))
+      go true same = subst (λ i. IsStill (known_header k site i) (header_after you (r.headers other) o)) (sym (eqb-true image other same)) (header_kept other o permits)
+      go false differ = t.owned image
+  owned_kept _ permits image = elim permits [ ]
+
+-- an id that waits still does, where the operation isn't about it
+pub waits_on : (r : Records) (you : Instance) (o : Op) (image : ℕ) → is_about image o ≡ false → IsWaiting r image → IsWaiting (after r you o) image
+waits_on r you o image other w =
+    let untouched : IsUntouched r no_images image = record { header = w.header; flat = finmap.get-empty nat_cmp image; blank = w.blank } in
+    let stays = untouched_stays r no_images no_images you o image untouched other refl in
+    record { drawn = drawn_stays r you o image w.drawn; header = stays.header; blank = stays.blank }
+
+waits_behind_look : (r : Records) (you : Instance) (o : Op) (image : ℕ) → is_look o ≡ true → IsWaiting r image → IsWaiting (after r you o) image
+waits_behind_look r you o image look w = subst (λ s. IsWaiting s image) (sym (looked_at r you o look)) w
+
+-- two numbers that can't be one
+pub other_than : (other image : ℕ) → ((other ≡ image) → ⊥) → (other == image) ≡ false
+other_than other image differ = ne_eqb other image differ
+
+-- an object of an image that somebody owns is none of an id that waits for its header
+pub owned_is_other : (site : SiteId) (r : Records) (k : Knowledge) (other image : ℕ) (condition : (alone : Bool) → HeaderView → Type 0) → IsTrueAt site r k
+    → OwnsBy k site other condition → IsWaiting r image → (other == image) ≡ false
+owned_is_other site r k other image condition t owns w =
+    other_than other image (λ same. not_waiting site r k other condition t owns (ap r.headers same ∙ w.header))
+
+module _ (site : SiteId) (r : Records) (j : Knowledge) (you : Instance) (u : IsTrueAt site r j) (image : ℕ) (w : IsWaiting r image) where
+  -- while nobody else makes its header
+  waits_header : (other : ℕ) (o : HeaderOp) → PermitsOnHeader j site other o → (is_drawn j.drawn site image ≡ false) → IsWaiting (after r you (op.Header other o)) image
+  waits_header other header.Get permits apart = waits_behind_look r you (op.Header other header.Get) image refl w
+  waits_header other (header.Create view) permits apart =
+      waits_on r you (op.Header other (header.Create view)) image
+      (other_than other image (λ same. true≢false (sym permits.drawn ∙ ap (λ i. is_drawn j.drawn site i) same ∙ apart))) w
+  waits_header other (header.SnapAdd name) permits apart = waits_on r you (op.Header other (header.SnapAdd name)) image (owned_is_other site r j other image _ u permits w) w
+  waits_header other (header.SnapRemove snap) permits apart = waits_on r you (op.Header other (header.SnapRemove snap)) image (owned_is_other site r j other image _ u permits w) w
+  waits_header other _ permits apart = elim permits [ ]
+
+  pub waits_object : (other number : ℕ) (o : DataOp) → PermitsOnObject j site other number o → IsWaiting (after r you (op.Data other number o)) image
+  waits_object other number (object.Read snap parts) permits = waits_behind_look r you (op.Data other number (object.Read snap parts)) image refl w
+  waits_object other number (object.Write context must parts bytes) permits =
+      waits_on r you (op.Data other number (object.Write context must parts bytes)) image (owned_is_other site r j other image _ u permits w) w
+  waits_object other number _ permits = elim permits [ ]
+
+  pub waits_still : (o : Op) → Permits j site o → is_drawn j.drawn site image ≡ false → IsWaiting (after r you o) image
+  waits_still (op.Directory o) permits apart = waits_on r you (op.Directory o) image refl w
+  waits_still (op.Header other o) permits apart = waits_header other o permits apart
+  waits_still (op.Data other number o) permits apart = waits_object other number o permits
+  waits_still _ permits apart = elim permits [ ]
+
+pub others_keep : (site : SiteId) (r : Records) (k j : Knowledge) (you : Instance) (o : Op) → IsTrueAt site r k → IsTrueAt site r j → AreBeside site k j → Permits j site o
+    → IsTrueAt site (after r you o) k
+others_keep site r k j you o t u beside permits = record {
+  owned = owned_kept site r k j you t u beside o permits;
+  drawn = λ image drawn. waits_still site r j you u image (t.drawn image drawn) o permits (beside.apart image drawn);
+}
+
+-- ---- the store
+
+blank_trimmed : (live : List ℕ) → mapped_trim live mapped_blank ≡ mapped_blank
+blank_trimmed live = ap (λ (kept : finmap.FinMap nat_cmp (List ℕ)). record mapped_blank { kept = kept })
+    (finmap.same_map nat_cmp_total finmap.nat_cmp-IsAntisymmetric _ _ (λ snap.
+    get-live live finmap.empty snap ∙ ap (λ (o : Option (List ℕ)). cond (is_listed live snap) o None) (finmap.get-empty nat_cmp snap) ∙ both (is_listed live snap)
+    ∙ sym (finmap.get-empty nat_cmp snap)))
+  where
+    both : (b : Bool) → ◌≡◌ {A = Option (List ℕ)} (cond b None None) None
+    both true = refl
+    both false = refl
+
+blank_in : (live : List ℕ) (object : Option Mapped) → or_blank object ≡ mapped_blank → or_blank (option_map (mapped_trim live) object) ≡ mapped_blank
+blank_in live None blank = refl
+blank_in live (Some o) blank = ap (mapped_trim live) blank ∙ blank_trimmed live
+
+trim_waits : (r : Records) (other number image : ℕ) → IsWaiting r image → IsWaiting (trimmed other number r) image
+trim_waits r other number image w = record {
+  drawn = w.drawn;
+  header = w.header;
+  blank = λ n. by n (image == other) refl (n == number) refl;
+}
+  where
+    live : List ℕ
+    live = live_in (r.headers other)
+
+    now : Option Mapped
+    now = option_map (mapped_trim live) (r.objects other number)
+
+    was : (n : ℕ) → (image == other) ≡ true → object_at r other n ≡ mapped_blank
+    was n same = ap (λ i. object_at r i n) (sym (eqb-true image other same)) ∙ w.blank n
+
+    by : (n : ℕ) (a : Bool) → (image == other) ≡ a → (b : Bool) → (n == number) ≡ b → or_blank (cond a (put (r.objects other) number now) (r.objects image) n) ≡ mapped_blank
+    by n false differ b e = w.blank n
+    by n true same true there = ap (λ b. or_blank (cond b now (r.objects other n))) there ∙ blank_in live (r.objects other number) (was number same)
+    by n true same false elsewhere = ap (λ b. or_blank (cond b now (r.objects other n))) elsewhere ∙ was n same
+
+pub trims_keep : (site : SiteId) (r : Records) (k : Knowledge) (image number : ℕ) → IsTrueAt site r k → IsTrueAt site (trimmed image number r) k
+trims_keep site r k image number t = record { owned = t.owned; drawn = λ i drawn. trim_waits r image number i (t.drawn i drawn) }

@@ -1,0 +1,324 @@
+-- What a request learns by its own operations, and behind its waits, is true.
+use Rattle.std.proofs.Common.{◌≡◌, ◌≢◌, ℕ, ◌==◌, ◌+◌, ◌&&◌, cond, not, Bool, true, false, List, [], ◌∷◌, map, Option, Some, None, option_map, refl, sym, ap, ◌∙◌, subst, arith}
+use Rattle.std.specs.List.{filter}
+use Rattle.std.specs.Prelude.{is_some}
+use Rattle.std.proofs.lemmas.Bool.{true≢false, eqb-true, ne_eqb, and_parts, eq-eqb}
+use Rattle.rbd_kinds.specs.declared.answer.Answer.{Answer}
+use Rattle.rbd_kinds.specs.declared.answer.Answer.TheVariants as answer
+use Rattle.rbd_kinds.specs.declared.directory_op.DirectoryOp.{DirectoryOp}
+use Rattle.rbd_kinds.specs.declared.directory_op.DirectoryOp.TheVariants as directory
+use Rattle.rbd_kinds.specs.declared.header.HeaderView.{HeaderView}
+use Rattle.rbd_kinds.specs.declared.header_op.HeaderOp.{HeaderOp}
+use Rattle.rbd_kinds.specs.declared.header_op.HeaderOp.TheVariants as header
+use Rattle.rbd_kinds.specs.declared.id.Instance.{Instance}
+use Rattle.rbd_kinds.specs.declared.id.SiteId.{SiteId}
+use Rattle.rbd_kinds.specs.declared.id.SiteId.TheVariants as sites
+use Rattle.rbd_kinds.specs.declared.operation.Op.{Op}
+use Rattle.rbd_kinds.specs.declared.operation.Op.TheVariants as op
+use Rattle.rbd_machine.specs.Knowledge.{Knowledge, Own, Place, own_of, is_drawn, is_at, same_site, told_of, header_told, first_told, learned, learned_of_header, learned_of_directory, with_drawn, without_drawn, passed, held, left}
+use Rattle.rbd_machine.specs.Wait.{Wait}
+use Rattle.rbd_machine.specs.Wait as wait
+use Rattle.rbd_machine.specs.Permits.{Permits, PermitsOnHeader, PermitsOnDirectory, OwnsBy, OwnsAlone, MayMake, MayTake, MayRemove}
+use Rattle.rbd_kinds.specs.Header.{snap_named}
+use Rattle.rbd_header.specs.Header.{with_snap, without_snap, snap_in, is_full}
+use Rattle.rbd_registry.specs.Directory.{Listing, added, id_of}
+use Rattle.rbd_registry.specs.Directory as listing
+use Rattle.rbd_flat.specs.Flat.{Flat}
+use Rattle.rbd_site.specs.DirectoryStep.{name_added, where_added}
+use Rattle.rbd_site.specs.HeaderStep.{header_after, header_answer, snap_added, where_made}
+use Rattle.rbd_site.specs.Found.{done_where}
+use Rattle.rbd_site.specs.Records.{Records, with_directory}
+use Rattle.rbd_site.specs.Step.{after, answer_to}
+use Rattle.rbd_site.proofs.GenerationLemmas.{looked_at}
+use Rattle.rbd_stands.specs.Site.{StandsFor}
+use Rattle.rbd_stands.proofs.ObjectSteps.{put_there, put_elsewhere}
+use Rattle.rbd_rely.specs.Truth.{IsTrueAt, IsStill, IsWaiting, header_of_own, known_header}
+use Rattle.rbd_rely.proofs.Kept.{owned_there, unknown_of_none, owned_is_other, waits_on, waits_object, other_than}
+
+-- ---- where
+
+site_is : (a b : SiteId) → same_site a b ≡ true → a ≡ b
+site_is sites.A sites.A is = refl
+site_is sites.B sites.B is = refl
+site_is sites.A sites.B is = cc
+site_is sites.B sites.A is = cc
+
+site_same : (a : SiteId) → same_site a a ≡ true
+site_same sites.A = refl
+site_same sites.B = refl
+
+at_itself : (site : SiteId) (image : ℕ) → is_at site image site image ≡ true
+at_itself site image = ap (λ b. b && (image == image)) (site_same site) ∙ eq-eqb image image refl
+
+-- a place is that of at most one image
+at_one : (site : SiteId) (image other : ℕ) (there : SiteId) (place : ℕ) → image ≢ other → is_at site image there place ≡ true → is_at site other there place ≡ false
+at_one site image other there place differ is =
+    let parts = and_parts (same_site there site) (place == image) is in
+    ap (λ b. b && (place == other)) parts.0 ∙ ne_eqb place other (λ e. differ (sym (eqb-true place image parts.1) ∙ e))
+
+-- ---- the header of an own
+
+abbrev pub header_changed : (Option HeaderView → Option HeaderView) → Option Own → Option HeaderView
+header_changed change None = None
+header_changed change (Some o) = change o.header
+
+pub told_here : (site : SiteId) (image : ℕ) (change : Option HeaderView → Option HeaderView) (owns : List Own)
+    → header_of_own (own_of (map (told_of site image change) owns) site image) ≡ header_changed change (own_of owns site image)
+told_here site image change [] = refl
+told_here site image change (o ∷ owns) = by (is_at site image o.site o.image) refl (told_here site image change owns)
+  where
+    by : (b : Bool) → is_at site image o.site o.image ≡ b
+        → header_of_own (own_of (map (told_of site image change) owns) site image) ≡ header_changed change (own_of owns site image)
+        → header_of_own (own_of (map (told_of site image change) (o ∷ owns)) site image) ≡ header_changed change (own_of (o ∷ owns) site image)
+    by true is rest = rw is (rw is refl)
+    by false is rest = rw is (rw is rest)
+
+pub told_there : (site : SiteId) (image other : ℕ) (change : Option HeaderView → Option HeaderView) → image ≢ other → (owns : List Own)
+    → own_of (map (told_of site image change) owns) site other ≡ own_of owns site other
+told_there site image other change differ [] = refl
+told_there site image other change differ (o ∷ owns) = by (is_at site image o.site o.image) refl (told_there site image other change differ owns)
+  where
+    by : (b : Bool) → is_at site image o.site o.image ≡ b → own_of (map (told_of site image change) owns) site other ≡ own_of owns site other
+        → own_of (map (told_of site image change) (o ∷ owns)) site other ≡ own_of (o ∷ owns) site other
+    by true is rest = rw is (rw (at_one site image other o.site o.image differ is) rest)
+    by false is rest = rw is (ap (λ found. cond (is_at site other o.site o.image) (Some o) found) rest)
+
+module _ (site : SiteId) (r new : Records) (k : Knowledge) (t : IsTrueAt site r k) where
+  -- what it was told of one image
+  pub told_true : (image : ℕ) (change : Option HeaderView → Option HeaderView) → ((i : ℕ) → i ≢ image → new.headers i ≡ r.headers i)
+      → IsStill (header_changed change (own_of k.owns site image)) (new.headers image) → ((i : ℕ) → is_drawn k.drawn site i ≡ true → IsWaiting new i)
+      → IsTrueAt site new (header_told site image change k)
+  told_true image change others here waits = record { owned = λ i. by i (i == image) refl; drawn = waits }
+    where
+      by : (i : ℕ) (b : Bool) → (i == image) ≡ b → IsStill (known_header (header_told site image change k) site i) (new.headers i)
+      by i true same =
+          subst (λ i. IsStill (known_header (header_told site image change k) site i) (new.headers i)) (sym (eqb-true i image same))
+          (subst (λ o. IsStill o (new.headers image)) (sym (told_here site image change k.owns)) here)
+      by i false other =
+          let differ : i ≢ image = λ e. true≢false (sym (eq-eqb i image e) ∙ other) in
+          subst (λ o. IsStill o (new.headers i)) (sym (ap header_of_own (told_there site image i change (λ e. differ (sym e)) k.owns)))
+          (subst (IsStill (known_header k site i)) (sym (others i differ)) (t.owned i))
+
+-- ---- the directory
+
+-- a fresh id waits for its header
+module _ (site : SiteId) (r : Records) (f : Flat) (k : Knowledge) (stands : StandsFor [] r f) (t : IsTrueAt site r k) where
+  fresh_waits : (name : List ℕ) (image : ℕ) → image ≡ r.directory.drawn + 1 → IsWaiting (with_directory (added name r.directory) r) image
+  fresh_waits name image new =
+      let untouched = stands.fresh image (omega (arith, new)) in
+      record { drawn = omega (arith, new); header = untouched.header; blank = untouched.blank }
+
+  drawn_true : (name : List ℕ) → IsTrueAt site (with_directory (added name r.directory) r) (with_drawn site (r.directory.drawn + 1) k)
+  drawn_true name = record { owned = t.owned; drawn = λ i drawn. by i (is_at site i site (r.directory.drawn + 1)) refl drawn }
+    where
+      by : (i : ℕ) (b : Bool) → is_at site i site (r.directory.drawn + 1) ≡ b → cond b true (is_drawn k.drawn site i) ≡ true → IsWaiting (with_directory (added name r.directory) r) i
+      by i true here drawn = fresh_waits name i (sym (eqb-true (r.directory.drawn + 1) i (and_parts (same_site site site) ((r.directory.drawn + 1) == i) here).1))
+      by i false there drawn = let w = t.drawn i drawn in let before = w.drawn in record { drawn = omega (arith, before); header = w.header; blank = w.blank }
+
+  added_true : (name : List ℕ) (held : Option ℕ) (full : Bool)
+      → IsTrueAt site (with_directory (where_added (name_added held full (r.directory.drawn + 1)) (added name r.directory) r.directory) r)
+      (learned_of_directory k site (directory.Add name) (name_added held full (r.directory.drawn + 1)))
+  added_true name (Some image) full = t
+  added_true name None true = t
+  added_true name None false = drawn_true name
+
+  directory_learned : (me : Instance) (o : DirectoryOp) → PermitsOnDirectory o
+      → IsTrueAt site (after r me (op.Directory o)) (learned_of_directory k site o (answer_to r me (op.Directory o)))
+  directory_learned me (directory.Find name) permits = t
+  directory_learned me directory.List permits = t
+  directory_learned me (directory.Add name) permits = added_true name (id_of r.directory name) (listing.is_full r.directory)
+  directory_learned me _ permits = elim permits [ ]
+
+-- ---- headers
+
+-- an id that is left behind is another than the one that got its header
+pub drawn_left : (site : SiteId) (image i : ℕ) (drawn : List Place) → is_drawn (filter (λ d. not (is_at site image d.site d.image)) drawn) site i ≡ true
+    → (is_drawn drawn site i ≡ true) × (i ≢ image)
+drawn_left site image i [] is = absurd (true≢false (sym is))
+drawn_left site image i (d ∷ drawn) is = by (is_at site image d.site d.image) refl (is_at site i d.site d.image) refl is (drawn_left site image i drawn)
+  where
+    rest : List Place
+    rest = filter (λ d. not (is_at site image d.site d.image)) drawn
+
+    by : (a : Bool) → is_at site image d.site d.image ≡ a → (b : Bool) → is_at site i d.site d.image ≡ b
+        → is_drawn (cond (not a) (d ∷ rest) rest) site i ≡ true
+        → (is_drawn rest site i ≡ true → (is_drawn drawn site i ≡ true) × (i ≢ image))
+        → (cond b true (is_drawn drawn site i) ≡ true) × (i ≢ image)
+    by true here true there is more = (refl, (more is).1)
+    by true here false there is more = more is
+    by false here true there is more = (refl, λ same. true≢false (sym there ∙ ap (λ n. is_at site n d.site d.image) same ∙ here))
+    by false here false there is more = more (sym (ap (λ b. cond b true (is_drawn rest site i)) there) ∙ is)
+
+module _ (site : SiteId) (r : Records) (k : Knowledge) (me : Instance) (t : IsTrueAt site r k) where
+  abbrev pub doing : (image : ℕ) → HeaderOp → Records
+  doing image o = after r me (op.Header image o)
+
+  elsewhere : (image : ℕ) (o : HeaderOp) (i : ℕ) → i ≢ image → (doing image o).headers i ≡ r.headers i
+  elsewhere image o i differ = put_elsewhere r.headers image (header_after me (r.headers image) o) i differ
+
+  got : (image : ℕ) (there : Option HeaderView) → r.headers image ≡ there → IsTrueAt site r (learned_of_header k site image header.Get (header_answer me there header.Get))
+  got image None is = t
+  got image (Some h) is = told_true site r r k t image (first_told h) (λ i differ. refl) (by (own_of k.owns site image) refl) t.drawn
+    where
+      still : (o : Own) (known : Option HeaderView) → o.header ≡ known → IsStill known (Some h) → IsStill (first_told h o.header) (Some h)
+      still o None is was = subst (λ q. IsStill (first_told h q) (Some h)) (sym is) refl
+      still o (Some own) is was = subst (λ q. IsStill (first_told h q) (Some h)) (sym is) was
+
+      by : (o : Option Own) → own_of k.owns site image ≡ o → IsStill (header_changed (first_told h) o) (r.headers image)
+      by None at = tt
+      by (Some o) at =
+          subst (IsStill (first_told h o.header)) (sym is)
+          (still o o.header refl (subst (IsStill o.header) is (subst (λ q. IsStill (header_of_own q) (r.headers image)) at (t.owned image))))
+
+  made : (image : ℕ) (view : HeaderView) → MayMake k site image view → IsTrueAt site (doing image (header.Create view)) (without_drawn site image k)
+  made image view may = record { owned = λ i. by i (i == image) refl; drawn = λ i drawn. waits i (drawn_left site image i k.drawn drawn) }
+    where
+      by : (i : ℕ) (b : Bool) → (i == image) ≡ b → IsStill (known_header k site i) ((doing image (header.Create view)).headers i)
+      by i true same =
+          unknown_of_none (known_header k site i) ((doing image (header.Create view)).headers i)
+          (subst (λ n. IsStill (known_header k site n) None) (sym (eqb-true i image same)) (subst (IsStill (known_header k site image)) (t.drawn image may.drawn).header (t.owned image)))
+      by i false other =
+          subst (IsStill (known_header k site i)) (sym (elsewhere image (header.Create view) i (λ e. true≢false (sym (eq-eqb i image e) ∙ other)))) (t.owned i)
+
+      waits : (i : ℕ) → (is_drawn k.drawn site i ≡ true) × (i ≢ image) → IsWaiting (doing image (header.Create view)) i
+      waits i left = waits_on r me (op.Header image (header.Create view)) i (other_than image i (λ e. left.1 (sym e))) (t.drawn i left.0)
+
+  -- a change of the header by the one who owns it
+  edited : (image : ℕ) (o : HeaderOp) (condition : (alone : Bool) → HeaderView → Type 0) (owns : OwnsBy k site image condition) (edit : HeaderView → HeaderView)
+      → ((h : HeaderView) (owner : Option Instance) → edit (record h { owner = owner }) ≡ record (edit h) { owner = owner })
+      → (v : HeaderView) → v ≡ record owns.header { owner = v.owner } → (edit v).owner ≡ v.owner
+      → header_after me (r.headers image) o ≡ Some (edit v) → IsTrueAt site (doing image o) (header_told site image (option_map edit) k)
+  edited image o condition owns edit keeps v same owner is =
+      told_true site r (doing image o) k t image (option_map edit) (elsewhere image o)
+      (subst (λ q. IsStill (header_changed (option_map edit) q) ((doing image o).headers image)) (sym owns.is)
+      (subst (IsStill (Some (edit owns.header))) (sym (put_there r.headers image (header_after me (r.headers image) o) ∙ is))
+      (ap edit same ∙ keeps owns.header v.owner ∙ ap (λ w. record (edit owns.header) { owner = w }) (sym owner))))
+      (λ i drawn. waits_on r me (op.Header image o) i (owned_is_other site r k image i condition t owns (t.drawn i drawn)) (t.drawn i drawn))
+
+  -- ---- snapshots
+
+  -- what becomes of a header and what is answered, where it is changed
+  pub record Edits (image : ℕ) (o : HeaderOp) (edit : HeaderView → HeaderView) (v : HeaderView) (a : Answer) : Type 0 where
+    pub answered : header_answer me (r.headers image) o ≡ a
+    pub is : header_after me (r.headers image) o ≡ Some (edit v)
+
+  pub takes : (image : ℕ) (name : List ℕ) (owns : OwnsAlone k site image (MayTake name))
+      → Edits image (header.SnapAdd name) (with_snap name) (owned_there site r k image _ t owns).view (answer.Snap ((owned_there site r k image _ t owns).view.snap_seq + 1))
+  takes image name owns =
+      let there = owned_there site r k image _ t owns in
+      let unlisted : is_some (snap_named there.view.snaps name) ≡ false =
+      ap (λ (h : HeaderView). is_some (snap_named h.snaps name)) there.same ∙ ap is_some owns.meets.1.unlisted in
+      let room : is_full there.view ≡ false = ap is_full there.same ∙ owns.meets.1.has_room in
+      record {
+        answered = ap (λ h. header_answer me h (header.SnapAdd name)) there.is
+            ∙ ap (λ listed. snap_added listed (is_full there.view) (there.view.snap_seq + 1)) unlisted
+            ∙ ap (λ full. snap_added false full (there.view.snap_seq + 1)) room;
+        is = ap (λ h. header_after me h (header.SnapAdd name)) there.is
+            ∙ ap (λ listed. Some (where_made listed (is_full there.view) (with_snap name there.view) there.view)) unlisted
+            ∙ ap (λ full. Some (where_made false full (with_snap name there.view) there.view)) room;
+      }
+
+  pub removes : (image snap : ℕ) (owns : OwnsAlone k site image (MayRemove snap))
+      → Edits image (header.SnapRemove snap) (without_snap snap) (owned_there site r k image _ t owns).view answer.Done
+  removes image snap owns =
+      let there = owned_there site r k image _ t owns in
+      let listed : is_some (snap_in there.view.snaps snap) ≡ true =
+      ap (λ (h : HeaderView). is_some (snap_in h.snaps snap)) there.same ∙ ap is_some owns.meets.1.listed in
+      record {
+        answered = ap (λ h. header_answer me h (header.SnapRemove snap)) there.is ∙ ap done_where listed;
+        is = ap (λ h. header_after me h (header.SnapRemove snap)) there.is ∙ ap (λ b. Some (cond b (without_snap snap there.view) there.view)) listed;
+      }
+
+  taken : (image : ℕ) (name : List ℕ) → OwnsAlone k site image (MayTake name)
+      → IsTrueAt site (doing image (header.SnapAdd name)) (learned_of_header k site image (header.SnapAdd name) (header_answer me (r.headers image) (header.SnapAdd name)))
+  taken image name owns =
+      let there = owned_there site r k image _ t owns in
+      let edits = takes image name owns in
+      subst (λ a. IsTrueAt site (doing image (header.SnapAdd name)) (learned_of_header k site image (header.SnapAdd name) a)) (sym edits.answered)
+      (edited image (header.SnapAdd name) _ owns (with_snap name) (λ h owner. refl) there.view there.same refl edits.is)
+
+  removed : (image snap : ℕ) → OwnsAlone k site image (MayRemove snap)
+      → IsTrueAt site (doing image (header.SnapRemove snap)) (learned_of_header k site image (header.SnapRemove snap) (header_answer me (r.headers image) (header.SnapRemove snap)))
+  removed image snap owns =
+      let there = owned_there site r k image _ t owns in
+      let edits = removes image snap owns in
+      subst (λ a. IsTrueAt site (doing image (header.SnapRemove snap)) (learned_of_header k site image (header.SnapRemove snap) a)) (sym edits.answered)
+      (edited image (header.SnapRemove snap) _ owns (without_snap snap) (λ h owner. refl) there.view there.same refl edits.is)
+
+  header_learned : (image : ℕ) (o : HeaderOp) → PermitsOnHeader k site image o
+      → IsTrueAt site (doing image o) (learned_of_header k site image o (header_answer me (r.headers image) o))
+  header_learned image header.Get permits =
+      subst (λ s. IsTrueAt site s (learned_of_header k site image header.Get (header_answer me (r.headers image) header.Get))) (sym (looked_at r me (op.Header image header.Get) refl))
+      (got image (r.headers image) refl)
+  header_learned image (header.Create view) permits =
+      subst (λ h. IsTrueAt site (doing image (header.Create view)) (learned_of_header k site image (header.Create view) (header_answer me h (header.Create view)))) (sym (t.drawn image permits.drawn).header)
+      (made image view permits)
+  header_learned image (header.SnapAdd name) permits = taken image name permits
+  header_learned image (header.SnapRemove snap) permits = removed image snap permits
+  header_learned image _ permits = elim permits [ ]
+
+-- ---- all operations
+
+pub own_learned : (site : SiteId) (r : Records) (f : Flat) (k : Knowledge) (me : Instance) (o : Op) → StandsFor [] r f → IsTrueAt site r k → Permits k site o
+    → IsTrueAt site (after r me o) (learned k site o (answer_to r me o))
+own_learned site r f k me (op.Directory o) stands t permits = directory_learned site r f k stands t me o permits
+own_learned site r f k me (op.Header image o) stands t permits = header_learned site r k me t image o permits
+own_learned site r f k me (op.Data image number o) stands t permits = record {
+  owned = t.owned;
+  drawn = λ i drawn. waits_object site r k me t i (t.drawn i drawn) image number o permits;
+}
+own_learned site r f k me _ stands t permits = elim permits [ ]
+
+-- ---- waits
+
+pub place_of : (site there : SiteId) (image place : ℕ) → is_at site image there place ≡ true → (site ≡ there) × (image ≡ place)
+place_of site there image place is =
+    let parts = and_parts (same_site there site) (place == image) is in
+    (sym (site_is there site parts.0), sym (eqb-true place image parts.1))
+
+-- the own that is left at another place is the one that was there, and at its place there is none
+pub left_here : (site : SiteId) (image : ℕ) (owns : List Own) → own_of (left site image owns) site image ≡ None
+left_here site image [] = refl
+left_here site image (o ∷ owns) = by (is_at site image o.site o.image) refl (left_here site image owns)
+  where
+    by : (b : Bool) → is_at site image o.site o.image ≡ b → own_of (left site image owns) site image ≡ None
+        → own_of (cond (not b) (o ∷ left site image owns) (left site image owns)) site image ≡ None
+    by true is rest = rest
+    by false is rest = ap (λ b. cond b (Some o) (own_of (left site image owns) site image)) is ∙ rest
+
+pub left_there : (site there : SiteId) (image place : ℕ) → is_at there place site image ≡ false → (owns : List Own) → own_of (left site image owns) there place ≡ own_of owns there place
+left_there site there image place differ [] = refl
+left_there site there image place differ (o ∷ owns) = by (is_at site image o.site o.image) refl (left_there site there image place differ owns)
+  where
+    by : (b : Bool) → is_at site image o.site o.image ≡ b → own_of (left site image owns) there place ≡ own_of owns there place
+        → own_of (cond (not b) (o ∷ left site image owns) (left site image owns)) there place ≡ cond (is_at there place o.site o.image) (Some o) (own_of owns there place)
+    by true is rest =
+        let same = place_of site o.site image o.image is in
+        rest ∙ sym (ap (λ b. cond b (Some o) (own_of owns there place)) (sym (ap (λ s. is_at there place s image) same.0 ∙ ap (λ i. is_at there place o.site i) same.1) ∙ differ))
+    by false is rest = ap (λ found. cond (is_at there place o.site o.image) (Some o) found) rest
+
+module _ (site : SiteId) (r : Records) (k : Knowledge) (t : IsTrueAt site r k) (there : SiteId) (place : ℕ) where
+  left_still : (image : ℕ) → IsStill (header_of_own (own_of (left there place k.owns) site image)) (r.headers image)
+  left_still image = by (is_at site image there place) refl
+    where
+      by : (b : Bool) → is_at site image there place ≡ b → IsStill (header_of_own (own_of (left there place k.owns) site image)) (r.headers image)
+      by true is =
+          let same = place_of site there image place is in
+          let none : own_of (left there place k.owns) site image ≡ None =
+          ap (λ s. own_of (left there place k.owns) s image) same.0 ∙ ap (λ i. own_of (left there place k.owns) there i) same.1 ∙ left_here there place k.owns in
+          subst (λ o. IsStill (header_of_own o) (r.headers image)) (sym none) tt
+      by false other = subst (λ o. IsStill (header_of_own o) (r.headers image)) (sym (left_there there site place image other k.owns)) (t.owned image)
+
+  held_still : (image : ℕ) → IsStill (header_of_own (own_of (held k there place) site image)) (r.headers image)
+  held_still image = by (is_at site image there place)
+    where
+      by : (b : Bool) → IsStill (header_of_own (cond b (Some (record { site = there; image = place; alone = k.alone; header = None })) (own_of (left there place k.owns) site image))) (r.headers image)
+      by true = tt
+      by false = left_still image
+
+pub waits_learned : (site : SiteId) (r : Records) (k : Knowledge) (w : Wait) → IsTrueAt site r k → IsTrueAt site r (passed k w)
+waits_learned site r k (wait.Join there image alone) t = record { owned = t.owned; drawn = t.drawn }
+waits_learned site r k (wait.Hold there image) t = record { owned = held_still site r k t there image; drawn = t.drawn }
+waits_learned site r k (wait.Turn object) t = record { owned = t.owned; drawn = t.drawn }
+waits_learned site r k (wait.Applied there image) t = record { owned = t.owned; drawn = t.drawn }
+waits_learned site r k (wait.Leave there image) t = record { owned = left_still site r k t there image; drawn = t.drawn }

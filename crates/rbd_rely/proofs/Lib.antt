@@ -1,0 +1,4 @@
+pub mod Done
+pub mod Kept
+pub mod Learned
+pub mod Together

@@ -1,0 +1,202 @@
+-- Two requests stay beside each other.
+use Rattle.std.proofs.Common.{◌≡◌, ℕ, ◌==◌, ◌+◌, cond, Bool, true, false, List, [], ◌∷◌, map, Option, Some, None, option_map, refl, sym, ap, ◌∙◌, subst, arith}
+use Rattle.std.specs.Prelude.{IsSome, is_some}
+use Rattle.std.proofs.lemmas.Bool.{true≢false, eqb-true, eq-eqb, and_parts}
+use Rattle.rbd_kinds.specs.declared.answer.Answer.{Answer}
+use Rattle.rbd_kinds.specs.declared.answer.Answer.TheVariants as answer
+use Rattle.rbd_kinds.specs.declared.directory_op.DirectoryOp.{DirectoryOp}
+use Rattle.rbd_kinds.specs.declared.directory_op.DirectoryOp.TheVariants as directory
+use Rattle.rbd_kinds.specs.declared.header.HeaderView.{HeaderView}
+use Rattle.rbd_kinds.specs.declared.header_op.HeaderOp.{HeaderOp}
+use Rattle.rbd_kinds.specs.declared.header_op.HeaderOp.TheVariants as header
+use Rattle.rbd_kinds.specs.declared.id.Instance.{Instance}
+use Rattle.rbd_kinds.specs.declared.id.SiteId.{SiteId}
+use Rattle.rbd_kinds.specs.declared.operation.Op.{Op}
+use Rattle.rbd_kinds.specs.declared.operation.Op.TheVariants as op
+use Rattle.rbd_header.specs.Header.{with_snap, without_snap}
+use Rattle.rbd_machine.specs.Knowledge.{Knowledge, Own, own_of, is_drawn, is_at, same_site, told_of, header_told, first_told, learned, learned_of_directory, learned_of_header, with_drawn, without_drawn, passed, held, left}
+use Rattle.rbd_machine.specs.Permits.{Permits, PermitsOnDirectory, PermitsOnHeader}
+use Rattle.rbd_machine.specs.Wait.{Wait}
+use Rattle.rbd_machine.specs.Wait as wait
+use Rattle.rbd_registry.specs.Directory.{id_of}
+use Rattle.rbd_registry.specs.Directory as listing
+use Rattle.rbd_site.specs.DirectoryStep.{name_added}
+use Rattle.rbd_site.specs.Records.{Records}
+use Rattle.rbd_site.specs.Step.{answer_to}
+use Rattle.rbd_rely.specs.Beside.{AreBeside, AreShared, MayLook, is_own_alone, is_alone_on}
+use Rattle.rbd_rely.specs.Truth.{IsTrueAt, header_of_own, known_header}
+use Rattle.rbd_rely.proofs.Learned.{header_changed, told_here, told_there, drawn_left, left_here, left_there, place_of}
+
+-- ---- an own that is told of
+
+told_alone : (site there : SiteId) (image place : ℕ) (change : Option HeaderView → Option HeaderView) (owns : List Own)
+    → is_own_alone (own_of (map (told_of site image change) owns) there place) ≡ is_own_alone (own_of owns there place)
+told_alone site there image place change [] = refl
+told_alone site there image place change (o ∷ owns) = by (is_at site image o.site o.image) (told_alone site there image place change owns)
+  where
+    rest : List Own
+    rest = map (told_of site image change) owns
+
+    same : (t : Bool) → is_own_alone (own_of rest there place) ≡ is_own_alone (own_of owns there place)
+        → is_own_alone (cond t (Some (record o { header = change o.header })) (own_of rest there place)) ≡ is_own_alone (cond t (Some o) (own_of owns there place))
+    same true e = refl
+    same false e = e
+
+    kept : (t : Bool) → is_own_alone (own_of rest there place) ≡ is_own_alone (own_of owns there place)
+        → is_own_alone (cond t (Some o) (own_of rest there place)) ≡ is_own_alone (cond t (Some o) (own_of owns there place))
+    kept true e = refl
+    kept false e = e
+
+    by : (b : Bool) → is_own_alone (own_of rest there place) ≡ is_own_alone (own_of owns there place)
+        → is_own_alone (own_of (cond b (record o { header = change o.header }) o ∷ rest) there place) ≡ is_own_alone (own_of (o ∷ owns) there place)
+    by true e = same (is_at there place o.site o.image) e
+    by false e = kept (is_at there place o.site o.image) e
+
+module _ (site : SiteId) (k j : Knowledge) (beside : AreBeside site k j) where
+  told_beside : (image : ℕ) (change : Option HeaderView → Option HeaderView)
+      → (IsSome (header_changed change (own_of k.owns site image)) → IsSome (known_header j site image) → AreShared site image k j)
+      → AreBeside site (header_told site image change k) j
+  told_beside image change here = record { shared = λ i mine others. by i (i == image) refl mine others; apart = beside.apart }
+    where
+      told : Knowledge
+      told = header_told site image change k
+
+      alike : (i : ℕ) → AreShared site i k j → AreShared site i told j
+      alike i both = record { one = told_alone site site image i change k.owns ∙ both.one; other = both.other }
+
+      by : (i : ℕ) (b : Bool) → (i == image) ≡ b → IsSome (known_header told site i) → IsSome (known_header j site i) → AreShared site i told j
+      by i true same mine others =
+          let at = eqb-true i image same in
+          alike i (subst (λ n. AreShared site n k j) (sym at)
+          (here (sym (ap is_some (told_here site image change k.owns)) ∙ ap (λ n. is_some (known_header told site n)) (sym at) ∙ mine)
+          (ap (λ n. is_some (known_header j site n)) (sym at) ∙ others)))
+      by i false other mine others =
+          let elsewhere = told_there site image i change (λ e. true≢false (sym (eq-eqb i image (sym e)) ∙ other)) k.owns in
+          alike i (beside.shared i (sym (ap (λ o. is_some (header_of_own o)) elsewhere) ∙ mine) others)
+
+  -- who knew the header before knew it with its change
+  edited_beside : (image : ℕ) (edit : HeaderView → HeaderView) → AreBeside site (header_told site image (option_map edit) k) j
+  edited_beside image edit = told_beside image (option_map edit) (λ mine others. beside.shared image (by (own_of k.owns site image) mine) others)
+    where
+      of : (h : Option HeaderView) → IsSome (option_map edit h) → IsSome h
+      of None some = some
+      of (Some h) some = refl
+
+      by : (o : Option Own) → IsSome (header_changed (option_map edit) o) → IsSome (header_of_own o)
+      by None some = some
+      by (Some o) some = of o.header some
+
+  looked_beside : (image : ℕ) (h : HeaderView) → (IsSome (own_of k.owns site image) → IsSome (known_header j site image) → AreShared site image k j)
+      → AreBeside site (header_told site image (first_told h) k) j
+  looked_beside image h may = told_beside image (first_told h) (λ mine others. may (by (own_of k.owns site image) mine) others)
+    where
+      by : (o : Option Own) → IsSome (header_changed (first_told h) o) → IsSome o
+      by None some = some
+      by (Some o) some = refl
+
+  made_beside : (image : ℕ) → AreBeside site (without_drawn site image k) j
+  made_beside image = record {
+    shared = λ i mine others. let both = beside.shared i mine others in record { one = both.one; other = both.other };
+    apart = λ i drawn. beside.apart i (drawn_left site image i k.drawn drawn).0;
+  }
+
+  drawn_beside : (r : Records) → IsTrueAt site r j → AreBeside site (with_drawn site (r.directory.drawn + 1) k) j
+  drawn_beside r u = record {
+    shared = λ i mine others. let both = beside.shared i mine others in record { one = both.one; other = both.other };
+    apart = λ i drawn. by i (is_at site i site (r.directory.drawn + 1)) refl (is_drawn j.drawn site i) refl drawn;
+  }
+    where
+      by : (i : ℕ) (b : Bool) → is_at site i site (r.directory.drawn + 1) ≡ b → (c : Bool) → is_drawn j.drawn site i ≡ c → cond b true (is_drawn k.drawn site i) ≡ true → c ≡ false
+      by i b is false others drawn = refl
+      by i true is true others drawn =
+          let new = eqb-true (r.directory.drawn + 1) i (and_parts (same_site site site) ((r.directory.drawn + 1) == i) is).1 in
+          let before = (u.drawn i others).drawn in
+          absurd (omega (arith, new, before))
+      by i false is true others drawn = absurd (true≢false (sym others ∙ beside.apart i drawn))
+
+  directory_beside : (r : Records) (me : Instance) (o : DirectoryOp) → IsTrueAt site r j → PermitsOnDirectory o → AreBeside site (learned_of_directory k site o (answer_to r me (op.Directory o))) j
+  directory_beside r me (directory.Find name) u permits = beside
+  directory_beside r me directory.List u permits = beside
+  directory_beside r me (directory.Add name) u permits = by (id_of r.directory name) (listing.is_full r.directory)
+    where
+      by : (held : Option ℕ) (full : Bool) → AreBeside site (learned_of_directory k site (directory.Add name) (name_added held full (r.directory.drawn + 1))) j
+      by (Some image) full = beside
+      by None true = beside
+      by None false = drawn_beside r u
+  directory_beside r me _ u permits = elim permits [ ]
+
+  header_beside : (image : ℕ) (o : HeaderOp) (a : Answer) → PermitsOnHeader k site image o → MayLook site k j (op.Header image o) → AreBeside site (learned_of_header k site image o a) j
+  header_beside image header.Get (answer.Header h) permits may = looked_beside image h may
+  header_beside image (header.Create view) answer.Done permits may = made_beside image
+  header_beside image (header.SnapAdd name) (answer.Snap snap) permits may = edited_beside image (with_snap name)
+  header_beside image (header.SnapRemove snap) answer.Done permits may = edited_beside image (without_snap snap)
+  header_beside image header.Get _ permits may = beside
+  header_beside image (header.Create view) _ permits may = beside
+  header_beside image (header.SnapAdd name) _ permits may = beside
+  header_beside image (header.SnapRemove snap) _ permits may = beside
+  header_beside image _ a permits may = elim permits [ ]
+
+  pub learned_beside : (r : Records) (me : Instance) (o : Op) → IsTrueAt site r j → Permits k site o → MayLook site k j o → AreBeside site (learned k site o (answer_to r me o)) j
+  learned_beside r me (op.Directory o) u permits may = directory_beside r me o u permits
+  learned_beside r me (op.Header image o) u permits may = header_beside image o (answer_to r me (op.Header image o)) permits may
+  learned_beside r me (op.Data image number o) u permits may = beside
+  learned_beside r me _ u permits may = elim permits [ ]
+
+  -- ---- waits
+
+  -- an own that is left at another place was there before
+  left_before : (there : SiteId) (place image : ℕ) (o : Own) → own_of (left there place k.owns) site image ≡ Some o → own_of k.owns site image ≡ Some o
+  left_before there place image o is = by (is_at site image there place) refl
+    where
+      by : (b : Bool) → is_at site image there place ≡ b → own_of k.owns site image ≡ Some o
+      by true at =
+          let same = place_of site there image place at in
+          let none : own_of (left there place k.owns) site image ≡ None =
+          ap (λ s. own_of (left there place k.owns) s image) same.0 ∙ ap (λ i. own_of (left there place k.owns) there i) same.1 ∙ left_here there place k.owns in
+          absurd (true≢false (ap is_some (sym is ∙ none)))
+      by false other = sym (left_there there site place image other k.owns) ∙ is
+
+  left_shared : (there : SiteId) (place image : ℕ) → IsSome (header_of_own (own_of (left there place k.owns) site image)) → IsSome (known_header j site image)
+      → (is_own_alone (own_of (left there place k.owns) site image) ≡ false) × (is_alone_on j site image ≡ false)
+  left_shared there place image mine others = by (own_of (left there place k.owns) site image) refl mine
+    where
+      by : (o : Option Own) → own_of (left there place k.owns) site image ≡ o → IsSome (header_of_own o) → (is_own_alone o ≡ false) × (is_alone_on j site image ≡ false)
+      by None is some = absurd (true≢false (sym some))
+      by (Some o) is some =
+          let before = left_before there place image o is in
+          let both = beside.shared image (ap (λ q. is_some (header_of_own q)) before ∙ some) others in
+          (sym (ap is_own_alone before) ∙ both.one, both.other)
+
+  held_shared : (there : SiteId) (place image : ℕ) → IsSome (header_of_own (own_of (held k there place) site image)) → IsSome (known_header j site image)
+      → (is_own_alone (own_of (held k there place) site image) ≡ false) × (is_alone_on j site image ≡ false)
+  held_shared there place image mine others = by (is_at site image there place) mine
+    where
+      waiting : Own
+      waiting = record { site = there; image = place; alone = k.alone; header = None }
+
+      by : (b : Bool) → IsSome (header_of_own (cond b (Some waiting) (own_of (left there place k.owns) site image)))
+          → (is_own_alone (cond b (Some waiting) (own_of (left there place k.owns) site image)) ≡ false) × (is_alone_on j site image ≡ false)
+      by true some = absurd (true≢false (sym some))
+      by false some = left_shared there place image some others
+
+  pub waited_beside : (w : Wait) → AreBeside site (passed k w) j
+  waited_beside (wait.Join there image alone) = record {
+    shared = λ i mine others. let both = beside.shared i mine others in record { one = both.one; other = both.other };
+    apart = beside.apart;
+  }
+  waited_beside (wait.Hold there image) = record {
+    shared = λ i mine others. let both = held_shared there image i mine others in record { one = both.0; other = both.1 };
+    apart = beside.apart;
+  }
+  waited_beside (wait.Turn object) = record {
+    shared = λ i mine others. let both = beside.shared i mine others in record { one = both.one; other = both.other };
+    apart = beside.apart;
+  }
+  waited_beside (wait.Applied there image) = record {
+    shared = λ i mine others. let both = beside.shared i mine others in record { one = both.one; other = both.other };
+    apart = beside.apart;
+  }
+  waited_beside (wait.Leave there image) = record {
+    shared = λ i mine others. let both = left_shared there image i mine others in record { one = both.0; other = both.1 };
+    apart = beside.apart;
+  }

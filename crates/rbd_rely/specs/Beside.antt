@@ -1,0 +1,33 @@
+-- What two requests may know at the same time.
+use Rattle.std.specs.Prelude.{◌≡◌, ℕ, Bool, true, false, Option, Some, None, IsSome}
+use Rattle.rbd_kinds.specs.declared.id.SiteId.{SiteId}
+use Rattle.rbd_kinds.specs.declared.header_op.HeaderOp.TheVariants as header
+use Rattle.rbd_kinds.specs.declared.operation.Op.{Op}
+use Rattle.rbd_kinds.specs.declared.operation.Op.TheVariants as op
+use Rattle.rbd_machine.specs.Knowledge.{Knowledge, Own, own_of, is_drawn}
+use Rattle.rbd_rely.specs.Truth.{known_header}
+
+-- whether it is alone on an image
+abbrev pub is_own_alone : Option Own → Bool
+is_own_alone None = false
+is_own_alone (Some o) = o.alone
+
+abbrev pub is_alone_on : Knowledge → SiteId → (image : ℕ) → Bool
+is_alone_on k site image = is_own_alone (own_of k.owns site image)
+
+pub record AreShared (site : SiteId) (image : ℕ) (k j : Knowledge) : Type 0 where
+  pub one : is_alone_on k site image ≡ false
+  pub other : is_alone_on j site image ≡ false
+
+-- Where both know the header of an image, behind their own looks, neither is alone on it. No id was
+-- drawn by both.
+pub record AreBeside (site : SiteId) (k j : Knowledge) : Type 0 where
+  pub shared : (image : ℕ) → IsSome (known_header k site image) → IsSome (known_header j site image) → AreShared site image k j
+  pub apart : (image : ℕ) → is_drawn k.drawn site image ≡ true → is_drawn j.drawn site image ≡ false
+
+-- A request may look at the header of an image whose lock it waited for only where it is alone with
+-- its own look, or neither is alone that knows the header. The line of a session and the lock see
+-- to that.
+abbrev pub MayLook : SiteId → (k j : Knowledge) → Op → Type 0
+MayLook site k j (op.Header image header.Get) = IsSome (own_of k.owns site image) → IsSome (known_header j site image) → AreShared site image k j
+MayLook site k j o = Unit {0}

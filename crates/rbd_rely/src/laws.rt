@@ -1,0 +1,86 @@
+//! What requests may rely on, whatever the others do: each law is the contract of a function that
+//! does nothing. A law speaks of any records of a site, and of what is known there.
+ghost use Rattle.std.specs.Prelude.{◌≡◌, ℕ, [], IsSome, None, true};
+ghost use Rattle.rbd_kinds.specs.declared.id.Instance.{Instance};
+ghost use Rattle.rbd_kinds.specs.declared.id.SiteId.{SiteId as Site};
+ghost use Rattle.rbd_kinds.specs.declared.operation.Op.{Op};
+ghost use Rattle.rbd_flat.specs.Flat.{Flat};
+ghost use Rattle.rbd_machine.specs.Answers.{CanGive};
+ghost use Rattle.rbd_machine.specs.Knowledge.{Knowledge, nothing_known, learned, passed};
+ghost use Rattle.rbd_machine.specs.Permits.{Permits};
+ghost use Rattle.rbd_machine.specs.Wait.{Wait};
+ghost use Rattle.rbd_site.specs.InForm.{AreInForm};
+ghost use Rattle.rbd_site.specs.Log.{trimmed};
+ghost use Rattle.rbd_site.specs.Records.{Records, no_records};
+ghost use Rattle.rbd_site.specs.Step.{MayDo, answer_to, after};
+ghost use Rattle.rbd_site.specs.declared.done.DoneOp.TheVariants as done;
+ghost use Rattle.rbd_stands.specs.Effect.{effect_of};
+ghost use Rattle.rbd_stands.specs.Site.{StandsFor};
+ghost use Rattle.rbd_rely.specs.Beside.{AreBeside, MayLook};
+ghost use Rattle.rbd_rely.specs.Truth.{IsTrueAt, IsParentless, changed_by};
+
+/// Who knows nothing knows nothing false.
+pub fn nothing_is_false_at_first()
+    ensures { (site : Site) (r : Records) → IsTrueAt site r nothing_known }
+{}
+
+/// What a request knows stays true while another one does what is permitted to it, by what that one
+/// knows truly. `you` is whoever does it.
+pub fn others_keep_what_is_known()
+    ensures { (site : Site) (r : Records) (k j : Knowledge) (you : Instance) (op : Op)
+        → IsTrueAt site r k → IsTrueAt site r j → AreBeside site k j → Permits j site op
+        → IsTrueAt site (after r you op) k }
+{}
+
+/// The store's own step keeps what is known.
+pub fn trims_keep_what_is_known()
+    ensures { (site : Site) (r : Records) (k : Knowledge) (image number : ℕ) → IsTrueAt site r k → IsTrueAt site (trimmed image number r) k }
+{}
+
+/// What a request learns by an operation that is permitted to it is true behind this operation.
+pub fn answers_teach_what_is_true()
+    ensures { (site : Site) (r : Records) (f : Flat) (k : Knowledge) (me : Instance) (op : Op)
+        → StandsFor [] r f → IsTrueAt site r k → Permits k site op
+        → IsTrueAt site (after r me op) (learned k site op (answer_to r me op)) }
+{}
+
+/// What it may count on behind a wait is true.
+pub fn waits_teach_what_is_true()
+    ensures { (site : Site) (r : Records) (k : Knowledge) (wait : Wait) → IsTrueAt site r k → IsTrueAt site r (passed k wait) }
+{}
+
+/// Two requests stay beside each other: whatever one of them learns by an operation that is
+/// permitted to it, if it may look at what it looks at; whatever it waited for; and it doesn't
+/// matter which is named first.
+pub fn requests_stay_beside()
+    ensures answered { (site : Site) (r : Records) (k j : Knowledge) (me : Instance) (op : Op)
+        → IsTrueAt site r j → AreBeside site k j → Permits k site op → MayLook site k j op
+        → AreBeside site (learned k site op (answer_to r me op)) j }
+    ensures waited { (site : Site) (k j : Knowledge) (wait : Wait) → AreBeside site k j → AreBeside site (passed k wait) j }
+    ensures first { (site : Site) (j : Knowledge) → AreBeside site nothing_known j }
+    ensures mutual { (site : Site) (k j : Knowledge) → AreBeside site k j → AreBeside site j k }
+{}
+
+/// What is permitted by true knowledge meets the site's condition, and its answer is one that the
+/// operation can give.
+pub fn what_is_permitted_may_be_done()
+    ensures may { (site : Site) (r : Records) (k : Knowledge) (op : Op) (most : ℕ)
+        → AreInForm r most → IsTrueAt site r k → Permits k site op → MayDo r op }
+    ensures gives { (site : Site) (r : Records) (k : Knowledge) (me : Instance) (op : Op) (most : ℕ)
+        → AreInForm r most → IsTrueAt site r k → Permits k site op → CanGive op (answer_to r me op) }
+{}
+
+/// Where the records stand for a flat site, what is permitted by true knowledge has its effect
+/// there and no other. So each step of a request is a step of the flat-copy machine, or none.
+pub fn what_is_permitted_has_its_effect()
+    ensures { (site : Site) (r : Records) (f : Flat) (k : Knowledge) (me : Instance) (op : Op) (most : ℕ)
+        → StandsFor [] r f → AreInForm r most → IsParentless r → IsTrueAt site r k → Permits k site op
+        → StandsFor [] (after r me op) (changed_by f (effect_of r (done.Op op) (answer_to r me op))) }
+{}
+
+/// No image gets a parent by what is permitted.
+pub fn images_stay_parentless()
+    ensures first { IsParentless no_records }
+    ensures operation { (site : Site) (r : Records) (k : Knowledge) (you : Instance) (op : Op) → IsParentless r → Permits k site op → IsParentless (after r you op) }
+    ensures trim { (r : Records) (image number : ℕ) → IsParentless r → IsParentless (trimmed image number r) }
+{}

@@ -1,0 +1,62 @@
+//! What requests may rely on while others' operations come in between: definitions, laws on them,
+//! and no code that a program calls.
+//!
+//! A request knows what its operations were answered and what it waited for (`Knowledge` of
+//! `rbd_machine`), and a table says what it may do by that (`Permits`). Neither names a site. This
+//! crate says when such knowledge is *true* at a site, by the site's records, and shows that it
+//! stays so, whoever does what is permitted to him. The form is rely and guarantee: what each
+//! request guarantees is what all others rely on.
+//!
+//! ```text
+//! slot 1, a `write`              slot 2, a `create`         the records, and what is known
+//! dir-find disk      id 7
+//! header-get 7       header h                               the header of 7 is h
+//! hold                           dir-add more      id 8     slot 2: id 8 waits for its header
+//! header-get 7       header h                               slot 1: the header of 7 is h
+//!                                header-create 8   done     8 has a header, 7 still has h
+//! data-write 7.0     done                                   permitted by h, and so done
+//! ```
+//!
+//! # Rules
+//!
+//! | what is known | when it is true |
+//! |---|---|
+//! | a header, behind an own look | the image has it still, with the request's own changes; its owner may change |
+//! | an id that was drawn | it waits for its header: no object of it was changed |
+//!
+//! - Two requests are *beside* each other where neither is alone on an image whose header both
+//!   know, and no id was drawn by both. The line of a session sees to the first (`rbd_line`), and
+//!   the lock between sessions, which isn't built.
+//! - A request that has its image's lock may look at its header, the first time, only where it is
+//!   so (`MayLook`). All else keeps two requests beside each other.
+//!
+//! # Contracts
+//!
+//! | file | what it says |
+//! |---|---|
+//! | `specs/Truth.antt` | when knowledge is true at a site (`IsTrueAt`), and the flat site behind an effect |
+//! | `specs/Beside.antt` | which two requests are beside each other, and when one may look |
+//!
+//! [`laws`] says, of any records:
+//!
+//! - what is known stays true under each operation that is permitted to another, who knows truly,
+//!   and under the store's trims;
+//! - what an answer and a wait teach is true;
+//! - what is permitted by true knowledge meets the site's condition, and gets an answer that its
+//!   operation can give;
+//! - where the records stand for a flat site, it has the effect there that `effect_of` tells, and
+//!   no other; so the records stand for a flat site behind it too;
+//! - two requests that are beside each other stay so.
+//!
+//! With these a world of several clients goes on step by step: whatever request comes next, what
+//! all know is true, what it wants may be done, and the step is one of the flat-copy machine, or
+//! none.
+//!
+//! # A new operation
+//!
+//! Its row in `Permits` wants its case in each law, and what it teaches, its field in `IsTrueAt`. A
+//! parent brings one more field: that an object inside the overlap was copied up. Until then no
+//! image has one, which is a condition of the law on effects, and is kept.
+#![tactic(auto)]
+
+pub mod laws;
