@@ -1,0 +1,6 @@
+mod drive;
+mod lines;
+mod rows;
+mod slots;
+mod told;
+mod work;
