@@ -26,7 +26,8 @@ abbrev pub is_create : Command → Bool
 is_create (command.Create image size shape) = not shape.journal
 is_create _ = false
 
--- the id that was drawn for a name, or why none was: the name is held, or no more names or ids are left
+-- the id that was drawn for a name, or why none was: the name is held, or no more names or ids are
+-- left
 abbrev pub on_drawn : (ℕ → Plan) → Answer → Plan
 on_drawn next (answer.Id image) = next image
 on_drawn next answer.Exists = refused refusal.ImageExists
@@ -45,7 +46,8 @@ making site h image = own site (op.Header image (header.Create h)) (on_done (Ret
 abbrev pub drawing : SiteId → (name : List ℕ) → HeaderView → Plan
 drawing site name h = own site (op.Directory (directory.Add name)) (on_drawn (making site h))
 
--- An image without a journal is asked for. A shape outside the limits is refused before any operation.
+-- An image without a journal is asked for. A shape outside the limits is refused before any
+-- operation.
 pub record IsCreate (site : SiteId) (name : List ℕ) (size : ℕ) (shape : Shape) (plan : Plan) : Type 0 where
   pub plain : shape.journal ≡ false
   pub outside : (KeepsLimits (layout_of shape) size → ⊥) → plan ≡ refused refusal.BadShape

@@ -82,8 +82,9 @@ impl CreateRequest {
         }
     }
 
-    /// Why it ends before any operation: BadShape where the shape is outside the limits. It is `None` where there
-    /// is something to do. It is asked first: of a request that is refused, nothing is said of what it wants.
+    /// Why it ends before any operation: BadShape where the shape is outside the limits. It is
+    /// `None` where there is something to do. It is asked first: of a request that is refused,
+    /// nothing is said of what it wants.
     pub fn refusal(&self) -> Option<Refusal>
         ensures refusal { result ≡ refusal_at (rest_of_create self.now) }
         ensures asking { result ≡ None → IsAsking (rest_of_create self.now) }
@@ -96,8 +97,8 @@ impl CreateRequest {
     }
 }
 
-/// The id that was drawn for a name, or why the request ends: the name is held, no more names or ids are left, or
-/// it is fenced.
+/// The id that was drawn for a name, or why the request ends: the name is held, no more names or
+/// ids are left, or it is fenced.
 fn drawn(answer: &Answer) -> Result<ImageId, Refusal>
     requires { TellsDrawn answer.now }
     ensures { (next : ℕ → Plan) → on_drawn next answer.now ≡ going next result }

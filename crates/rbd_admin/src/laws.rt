@@ -36,12 +36,14 @@ pub fn names_are_listed_at_once()
     ensures { (home : SiteId) → IsBounded (listing_plan home ListAll) 1 }
 {}
 
-/// An `ls`, an `info` and a `snap ls` have two operations at most: an image is found, and its header is looked at.
+/// An `ls`, an `info` and a `snap ls` have two operations at most: an image is found, and its
+/// header is looked at.
 pub fn listings_look_once()
     ensures { (home : SiteId) (command : Command) → IsBounded (listing_plan home command) 2 }
 {}
 
-/// A `snap create` and a `snap rm` have four operations at most: three up to their own look, and one that does it.
+/// A `snap create` and a `snap rm` have four operations at most: three up to their own look, and
+/// one that does it.
 pub fn snapshots_change_once()
     ensures { (home : SiteId) (command : Command) → IsBounded (snap_plan home command) 4 }
 {}
@@ -53,7 +55,8 @@ pub fn plans_go_to_no_label()
     ensures snap { (home : SiteId) (command : Command) → IsClosed Goto (snap_plan home command) }
 {}
 
-/// A `create` is lawful from nothing known: the header that it makes is a new one, under an id that it drew itself.
+/// A `create` is lawful from nothing known: the header that it makes is a new one, under an id that
+/// it drew itself.
 pub fn creates_are_lawful()
     ensures { (home : SiteId) (command : Command) (plan : Plan) → IsCreatePlan home command plan → IsLawfulRequest (without_labels plan) }
 {}
@@ -63,8 +66,9 @@ pub fn listings_are_lawful()
     ensures { (home : SiteId) (command : Command) → IsLawfulRequest (without_labels (listing_plan home command)) }
 {}
 
-/// A `snap create` and a `snap rm` are lawful from nothing known: alone on the image, and by what its own look told, a name
-/// is taken that isn't listed, and a snapshot is removed that is listed and isn't protected.
+/// A `snap create` and a `snap rm` are lawful from nothing known: alone on the image, and by what
+/// its own look told, a name is taken that isn't listed, and a snapshot is removed that is listed
+/// and isn't protected.
 pub fn snapshots_are_lawful()
     ensures { (home : SiteId) (command : Command) → IsLawfulRequest (without_labels (snap_plan home command)) }
 {}
@@ -74,8 +78,8 @@ pub fn new_headers_are_in_form()
     ensures { (layout : Layout) (size : ℕ) → KeepsLimits layout size → IsNewHeader (new_header layout size) }
 {}
 
-/// A `create` is done only where its shape is within the limits, and then by two operations: an id was drawn for the
-/// name, and the header of a new image was made under it.
+/// A `create` is done only where its shape is within the limits, and then by two operations: an id
+/// was drawn for the name, and the header of a new image was made under it.
 pub fn creates_make_one()
     ensures made { (site : SiteId) (name : List ℕ) (size : ℕ) (shape : Shape) (plan : Plan) (feds : List Fed) (steps : List Answered)
         → IsCreate site name size shape plan → KeepsLimits (layout_of shape) size
@@ -85,8 +89,8 @@ pub fn creates_make_one()
         → IsWalk Goto plan feds steps (Return Done) → ⊥ }
 {}
 
-/// An `ls` shows the names that the site told, an `info` the header that the image of its name has, and a `snap ls` that
-/// header's snapshots. None of them has done anything else.
+/// An `ls` shows the names that the site told, an `info` the header that the image of its name has,
+/// and a `snap ls` that header's snapshots. None of them has done anything else.
 pub fn listings_show_what_was_told()
     ensures names { (site : SiteId) (feds : List Fed) (steps : List Answered) (names : List (List ℕ))
         → IsWalk Goto (listing_plan site ListAll) feds steps (Return (Names names)) → steps ≡ listed site names ∷ [] }
@@ -96,8 +100,9 @@ pub fn listings_show_what_was_told()
         → IsWalk Goto (listing_plan site (SnapList image)) feds steps (Return (Snaps snaps)) → ShowsHeader site image shown_snaps (Snaps snaps) steps }
 {}
 
-/// A `snap create` is done only by one snapshot that was taken behind two looks, and a `snap rm` by the removal of the one
-/// snapshot that its own look listed under the name; neither look refused it.
+/// A `snap create` is done only by one snapshot that was taken behind two looks, and a `snap rm` by
+/// the removal of the one snapshot that its own look listed under the name; neither look refused
+/// it.
 pub fn snapshots_change_behind_two_looks()
     ensures taken { (site : SiteId) (image snap : List ℕ) (feds : List Fed) (steps : List Answered)
         → IsWalk Goto (snap_plan site (SnapCreate image snap)) feds steps (Return Done) → TakesOne site image snap steps }
@@ -105,9 +110,10 @@ pub fn snapshots_change_behind_two_looks()
         → IsWalk Goto (snap_plan site (SnapRemove image snap)) feds steps (Return Done) → RemovesOne site image snap steps }
 {}
 
-/// A reply is meant by its command, behind the operations that were done (`IsMeantBy` of `rbd_meaning`), where each answer is
-/// one that its operation can give: it was done or told when a request isn't refused, and when it is, the last answer refused
-/// it, and none before. No other reply comes.
+/// A reply is meant by its command, behind the operations that were done (`IsMeantBy` of
+/// `rbd_meaning`), where each answer is one that its operation can give: it was done or told when a
+/// request isn't refused, and when it is, the last answer refused it, and none before. No other
+/// reply comes.
 pub fn replies_are_meant()
     ensures create { (site : SiteId) (command : Command) (plan : Plan) (feds : List Fed) (steps : List Answered) (reply : Reply) → IsCreatePlan site command plan → AreGiven steps
         → IsWalk Goto plan feds steps (Return reply) → IsMeantBy site command steps reply }

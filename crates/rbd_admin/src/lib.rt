@@ -24,34 +24,38 @@
 //! | `snap create` | to its own look, its event, `header-snap-add`, applied | NoImage, NonPrimary, SnapExists, BadShape |
 //! | `snap rm` | to its own look, its event, `header-snap-remove`, applied | NoImage, NonPrimary, NoSnap, SnapProtected |
 //!
-//! The way to its own look is `dir-find`, the image's line, alone in it, `header-get`, the lock, and `header-get` again
-//! ([`Approach`](rbd_machine::Approach)). What the own look shows can't change as long as the session has the lock;
-//! the look before spares a request that is refused the wait for it. The refusals of `snap create` and `snap rm` are tested
-//! at both looks, in the order of the table.
+//! The way to its own look is `dir-find`, the image's line, alone in it, `header-get`, the lock,
+//! and `header-get` again ([`Approach`](rbd_machine::Approach)). What the own look shows can't
+//! change as long as the session has the lock; the look before spares a request that is refused the
+//! wait for it. The refusals of `snap create` and `snap rm` are tested at both looks, in the order
+//! of the table.
 //!
-//! A shape is outside the limits by its layout, or by more than 2^20 objects (own). `dir-add` is answered `full` where no
-//! more names or ids are left, which is BadShape too (own). Any operation may be answered `fenced`, which ends the
-//! request with Fenced.
+//! A shape is outside the limits by its layout, or by more than 2^20 objects (own). `dir-add` is
+//! answered `full` where no more names or ids are left, which is BadShape too (own). Any operation
+//! may be answered `fenced`, which ends the request with Fenced.
 //!
 //! # Contracts
 //!
-//! `specs/Create.antt`, `specs/Listing.antt` and `specs/Snap.antt` have the plan of each command: what a request wants,
-//! and how it goes on after each answer. A request that is made has this plan left, and each of its calls keeps to it
-//! ([`Machine`](rbd_machine::Machine)). [`laws`] says how many operations each plan has at most, that none begins a part
-//! again, that the header of a new image is in form, that each plan is lawful from nothing known (`rbd_machine`), and that each
-//! reply is meant (`rbd_meaning`): what has been done when a request is done, what is shown of what it was told, and which
-//! answer refused it.
+//! `specs/Create.antt`, `specs/Listing.antt` and `specs/Snap.antt` have the plan of each command:
+//! what a request wants, and how it goes on after each answer. A request that is made has this plan
+//! left, and each of its calls keeps to it ([`Machine`](rbd_machine::Machine)). [`laws`] says how
+//! many operations each plan has at most, that none begins a part again, that the header of a new
+//! image is in form, that each plan is lawful from nothing known (`rbd_machine`), and that each
+//! reply is meant (`rbd_meaning`): what has been done when a request is done, what is shown of what
+//! it was told, and which answer refused it.
 //!
 //! # Cost
 //!
-//! A request holds the names of its command, without a copy. Each operation or event that names something copies that
-//! name once; the header of a new image is made when its operation is asked for. A reply of names, a header or
-//! snapshots is copied once, by `ready`, and handed out by `feed`. Nothing else takes memory.
+//! A request holds the names of its command, without a copy. Each operation or event that names
+//! something copies that name once; the header of a new image is made when its operation is asked
+//! for. A reply of names, a header or snapshots is copied once, by `ready`, and handed out by
+//! `feed`. Nothing else takes memory.
 //!
 //! # How it works
 //!
-//! Each request has the step at which it stands, and each of its calls is a `match` on the step. `snap create` and
-//! `snap rm` are one machine, since they differ only in what they refuse, in their event and in their operation.
+//! Each request has the step at which it stands, and each of its calls is a `match` on the step.
+//! `snap create` and `snap rm` are one machine, since they differ only in what they refuse, in
+//! their event and in their operation.
 #![tactic(auto)]
 
 mod create;

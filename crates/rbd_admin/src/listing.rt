@@ -12,7 +12,8 @@ use rbd_kinds::{
 use rbd_machine::{Machine, Reason, dir_find, header_get, refusal_of, told_image};
 use std::alloc::Global;
 
-/// Shows the names of a site's images (`ls`), or what an image's header tells (`info`), or its snapshots (`snap ls`).
+/// Shows the names of a site's images (`ls`), or what an image's header tells (`info`), or its
+/// snapshots (`snap ls`).
 ///
 /// ```text
 /// Listing   dir-list

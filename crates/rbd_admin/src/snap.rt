@@ -150,7 +150,8 @@ impl SnapRequest {
 }
 
 impl SnapChange {
-    /// What is to be done by a header, or why nothing is: it doesn't list the snapshot that is to be removed.
+    /// What is to be done by a header, or why nothing is: it doesn't list the snapshot that is to
+    /// be removed.
     fn act(&self, header: &HeaderView) -> Result<Act, Refusal>
         ensures { (site : SiteId) (image : ℕ) → does site self.now image header.now ≡ going (noting site self.now.snap image) result }
     {
@@ -167,7 +168,8 @@ impl SnapChange {
 impl Refuses for SnapChange {
     ghost refuses = { refuses_of };
 
-    /// NonPrimary at a secondary, which clients don't change, and then what the kind of change refuses.
+    /// NonPrimary at a secondary, which clients don't change, and then what the kind of change
+    /// refuses.
     fn refusal(&self, header: &HeaderView) -> Option<Refusal> {
         match non_primary(header.role) {
             Some(refusal) => Some(refusal),
@@ -179,8 +181,8 @@ impl Refuses for SnapChange {
     }
 }
 
-/// Why no snapshot of a name may be taken of an image that clients change: SnapExists where the name is listed,
-/// BadShape where no more snapshots can be.
+/// Why no snapshot of a name may be taken of an image that clients change: SnapExists where the
+/// name is listed, BadShape where no more snapshots can be.
 fn create_refusal(snap: &Name, header: &HeaderView) -> Option<Refusal>
     ensures { result ≡ (if is_some (snap_named header.now.snaps snap.now) then Some Refusal.SnapExists else if lists_all header.now then Some Refusal.BadShape else None) }
 {
@@ -193,8 +195,8 @@ fn create_refusal(snap: &Name, header: &HeaderView) -> Option<Refusal>
     None
 }
 
-/// Why the snapshot of a name may not be removed of an image that clients change: NoSnap where the name isn't
-/// listed, SnapProtected where the snapshot may have clones.
+/// Why the snapshot of a name may not be removed of an image that clients change: NoSnap where the
+/// name isn't listed, SnapProtected where the snapshot may have clones.
 fn remove_refusal(snap: &Name, header: &HeaderView) -> Option<Refusal>
     ensures { result ≡ removal_refusal (snap_named header.now.snaps snap.now) }
 {

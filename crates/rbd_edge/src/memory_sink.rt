@@ -8,10 +8,10 @@ use rbd_kinds::NoMemory;
 use std::alloc::Global;
 use std::marker::Model;
 
-/// A sink in memory, for tests: it tells its bytes, has room for `room` of them, takes at most `most` a
-/// call, and fails exactly at the calls whose numbers are in `fail` and where it is full. Calls are
-/// numbered from 1, failed ones too, and the number stays at `u64::MAX` (own). Contracts see a
-/// `SinkInMemory`.
+/// A sink in memory, for tests: it tells its bytes, has room for `room` of them, takes at most
+/// `most` a call, and fails exactly at the calls whose numbers are in `fail` and where it is full.
+/// Calls are numbered from 1, failed ones too, and the number stays at `u64::MAX` (own). Contracts
+/// see a `SinkInMemory`.
 #[derive(Debug, Drop)]
 pub struct MemSink {
     bytes: Vec<u8>,
@@ -41,7 +41,8 @@ impl Model for MemSink {
 }
 
 impl MemSink {
-    /// An empty sink, before its first call. It takes the memory for `room` bytes, so that `give` takes none.
+    /// An empty sink, before its first call. It takes the memory for `room` bytes, so that `give`
+    /// takes none.
     pub fn new(alloc: Global, room: usize, most: usize, fail: Vec<u64>) -> Result<Self, NoMemory>
         requires { 1 ≤ most }
         ensures { IfOk result (λ sink. sink ≡ record {

@@ -50,11 +50,11 @@ impl From<AllocError> for ReadFault {
     }
 }
 
-/// Reads a source to its end, or until `limit` bytes were taken, and never takes more. So fewer than
-/// `limit` bytes are all that the source had left.
+/// Reads a source to its end, or until `limit` bytes were taken, and never takes more. So fewer
+/// than `limit` bytes are all that the source had left.
 ///
-/// At an `Err` what was read is lost, and the source has what it had left but for some bytes at the front,
-/// `limit` at most.
+/// At an `Err` what was read is lost, and the source has what it had left but for some bytes at the
+/// front, `limit` at most.
 #[tactic(auto, using(crate::proofs::Told::reading))]
 pub fn read_to<S: Source>(alloc: Global, source: &mut S, limit: usize) -> Result<Vec<u8>, ReadFault>
     requires some { 1 ≤ limit }

@@ -12,7 +12,8 @@ pub trait Sink {
     /// it by one.
     ghost faults: { Self → ℕ };
 
-    /// Gives some bytes, one at least, and answers how many of them, from the first on, were appended.
+    /// Gives some bytes, one at least, and answers how many of them, from the first on, were
+    /// appended.
     fn give(&mut self, bytes: &[u8]) -> Result<usize, Failed>
         requires some { 0 < length bytes.now }
         requires countable { faults self.old < 2 ^ 64 - 1 }

@@ -12,9 +12,9 @@ pub trait Source {
     /// it by one.
     ghost faults: { Self → ℕ };
 
-    /// Takes the next bytes into the front of a buffer, which has room for one at least, and answers how
-    /// many they are. `Ok(0)` is the end, and fewer than the buffer holds is not.
-    /// At `Failed` nothing is said of the buffer.
+    /// Takes the next bytes into the front of a buffer, which has room for one at least, and
+    /// answers how many they are. `Ok(0)` is the end, and fewer than the buffer holds is not. At
+    /// `Failed` nothing is said of the buffer.
     fn take(&mut self, into: &mut [u8]) -> Result<usize, Failed>
         requires room { 0 < length into.old }
         requires countable { faults self.old < 2 ^ 64 - 1 }

@@ -7,8 +7,9 @@ use crate::sink::Sink;
 use crate::source::Source;
 use std::io::{ErrorKind, Read, Write};
 
-/// How often in a row a call is tried where it is interrupted. An interrupted call has moved no byte, so
-/// that trying again is what a user wants; a call that is always interrupted counts as a fault.
+/// How often in a row a call is tried where it is interrupted. An interrupted call has moved no
+/// byte, so that trying again is what a user wants; a call that is always interrupted counts as a
+/// fault.
 const TRIES: u32 = 64;
 
 /// A reader of std as a source. As a source it tells nothing of its bytes, and it fails where the
@@ -45,7 +46,8 @@ impl<I: Read> Source for StdSource<I> {
         ensures quiet { OnOk result (read_faults self.new ≡ read_faults self.old) }
         ensures failed { OnErr result (read_faults self.new ≡ read_faults self.old + 1) }
 
-        // Where the reader's own contract tells its bytes: they are handed on in order, and none is lost.
+        // Where the reader's own contract tells its bytes: they are handed on in order, and none is
+        // lost.
         ensures handed_on { ReadConsumes (I.remaining (reader_of self.old)) (I.remaining (reader_of self.new)) result into.new }
     {
         for _ in 0..TRIES {
@@ -60,12 +62,12 @@ impl<I: Read> Source for StdSource<I> {
     }
 }
 
-/// A writer of std as a sink. As a sink it tells nothing of its bytes, and it fails where the writer
-/// does or takes none of them.
+/// A writer of std as a sink. As a sink it tells nothing of its bytes, and it fails where the
+/// writer does or takes none of them.
 ///
-/// It is for a writer that keeps nothing back, as std's standard output: each `give` is one write, so
-/// that a program gives a whole text and flushes nothing. What a buffer still keeps would be counted
-/// as given, and a later failure of its flush seen by nobody.
+/// It is for a writer that keeps nothing back, as std's standard output: each `give` is one write,
+/// so that a program gives a whole text and flushes nothing. What a buffer still keeps would be
+/// counted as given, and a later failure of its flush seen by nobody.
 #[derive(Drop)]
 pub struct StdSink<O> {
     writer: O,

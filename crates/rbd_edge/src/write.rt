@@ -4,8 +4,9 @@ ghost use Rattle.rbd_edge.specs.Sink.{held_with, GainsFront};
 use crate::failed::Failed;
 use crate::sink::Sink;
 
-/// Gives a whole text to a sink, in as many calls as that takes, and none for an empty text. It takes no
-/// memory. It ends at the first fault, and the sink then holds some first bytes of the text, never all.
+/// Gives a whole text to a sink, in as many calls as that takes, and none for an empty text. It
+/// takes no memory. It ends at the first fault, and the sink then holds some first bytes of the
+/// text, never all.
 pub fn write_all<K: Sink>(sink: &mut K, text: &[u8]) -> Result<(), Failed>
     requires { K.faults sink.old < 2 ^ 64 - 1 }
 

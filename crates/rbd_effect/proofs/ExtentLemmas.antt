@@ -3,7 +3,7 @@ use Rattle.std.proofs.Common.{Bool, true, false, ◌≡◌, ◌≢◌, ℕ, ◌+
 use Rattle.std.specs.List.{range_with_len}
 use Rattle.std.proofs.lemmas.Bool.{eq-eqb, ne_eqb}
 use Rattle.std.proofs.lemmas.List.{map-append}
-use Rattle.std.proofs.lemmas.Nat.{div-mul-add, mod-mul-add, div-add-mod'}
+use Rattle.std.proofs.lemmas.Nat.{div-add-mod'}
 use Rattle.std.proofs.Math.Nat.{mul-le-mul_right, div-one, mod-one, mod-lt}
 use Rattle.rbd_kinds.specs.declared.layout.Extent.{Extent}
 use Rattle.rbd_kinds.specs.declared.layout.Layout.{Layout}
@@ -13,6 +13,7 @@ use Rattle.rbd_layout.specs.Pieces.{IsHeld, part_at, parts_at, with_place}
 use Rattle.rbd_layout.proofs.Cover.{cover, range_append, map-range}
 use Rattle.rbd_layout.proofs.Limits.{Shape, shape_of}
 use Rattle.rbd_layout.proofs.Mixed.{cases_lt}
+use Rattle.rbd_layout.proofs.Walk.{next_row, same_row}
 use Rattle.rbd_stands.specs.Condition.{extents_of}
 use Rattle.rbd_stands.specs.Effect.{joined, places_below, whole_object}
 use Rattle.rbd_effect.specs.Kept.{IsHeldBelow, extents_between, kept_len, run_from}
@@ -68,18 +69,6 @@ linear : (l : Layout) → l.count ≡ 1 → (n o : ℕ) → byte_at l n o ≡ n 
 linear l one n o =
     let rest : o / l.unit * l.unit + o % l.unit ≡ o = div-add-mod' o l.unit in
     rw (one, div-one n, mod-one n) (omega (arith, rest))
-
-same_row : (u o k : ℕ) → o % u + k < u → ((o + k) / u ≡ o / u) × ((o + k) % u ≡ o % u + k)
-same_row u o k h =
-    let whole : o / u * u + o % u ≡ o = div-add-mod' o u in
-    let e : o / u * u + (o % u + k) ≡ o + k = omega arith in
-    ((rw e at (div-mul-add (o / u) u (o % u + k) h)), (rw e at (mod-mul-add (o / u) u (o % u + k) h)))
-
-next_row : (u o k : ℕ) → 0 < u → o % u + k ≡ u → ((o + k) / u ≡ o / u + 1) × ((o + k) % u ≡ 0)
-next_row u o k hu h =
-    let whole : o / u * u + o % u ≡ o = div-add-mod' o u in
-    let e : (o / u + 1) * u + 0 ≡ o + k = omega arith in
-    ((rw e at (div-mul-add (o / u + 1) u 0 hu)), (rw e at (mod-mul-add (o / u + 1) u 0 hu)))
 
 along_all : (l : Layout) → l.count ≡ 1 → (n o k : ℕ) → byte_at l n (o + k) ≡ byte_at l n o + k
 along_all l one n o k =

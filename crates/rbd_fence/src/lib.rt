@@ -9,9 +9,10 @@
 //!
 //! # Rules
 //!
-//! Every operation of a listed instance is refused and changes nothing, so its lock can be broken without
-//! fear of what it may still have on its way: that is the layer above. Entries stay (own; Ceph's expire),
-//! so there is no call that takes one out. Each site has its own list (Ceph: each cluster has).
+//! Every operation of a listed instance is refused and changes nothing, so its lock can be broken
+//! without fear of what it may still have on its way: that is the layer above. Entries stay (own;
+//! Ceph's expire), so there is no call that takes one out. Each site has its own list (Ceph: each
+//! cluster has).
 //!
 //! # Cost
 //!

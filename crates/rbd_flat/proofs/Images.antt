@@ -1,4 +1,5 @@
--- The image with an id after one step, as a whole: the laws on bytes, sizes, roles and snapshots follow.
+-- The image with an id after one step, as a whole: the laws on bytes, sizes, roles and snapshots
+-- follow.
 use Rattle.std.proofs.Common.{◌≡◌, ◌≢◌, ℕ, Bool, true, false, cond, eqb, not, List, [], ◌∷◌, ◌++◌, map, replicate, Option, Some, None, refl, sym, ◌∙◌, ap, subst}
 use Rattle.std.specs.List.{filter}
 use Rattle.std.specs.Ordering.{nat_cmp}

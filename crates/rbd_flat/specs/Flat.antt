@@ -68,8 +68,8 @@ places_of_one e = range_with_len e.at e.len
 abbrev pub places_of : List Extent → List ℕ
 places_of extents = flat_map places_of_one extents
 
--- The old bytes with the new ones at the places, in order. A place past the end is passed over, and a
--- place past the new bytes becomes zero.
+-- The old bytes with the new ones at the places, in order. A place past the end is passed over, and
+-- a place past the new bytes becomes zero.
 abbrev pub painted : (places new old : List ℕ) → List ℕ
 painted [] new old = old
 painted (x ∷ places) new old = painted places (drop 1 new) (slice_set old x (slice_index new 0))

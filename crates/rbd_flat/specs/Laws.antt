@@ -1,4 +1,5 @@
--- What one step of the flat-copy machine leaves: at one byte, of one size, one role and one snapshot.
+-- What one step of the flat-copy machine leaves: at one byte, of one size, one role and one
+-- snapshot.
 use Rattle.std.specs.Prelude.{ℕ, ◌+◌, ◌-◌, ◌==◌, nat_lt, nat_le, Bool, true, false, ◌&&◌, if◌then◌else◌, List, [], ◌∷◌, length, drop, slice_index, Option, Some, None, is_some}
 use Rattle.std.specs.List.{list_any}
 use Rattle.std.specs.Option.{option_map, option_or}
@@ -17,8 +18,8 @@ covers e x = nat_le e.at x && nat_lt x (e.at + e.len)
 abbrev pub covered : List Extent → ℕ → Bool
 covered at x = list_any (λ e. covers e x) at
 
--- The byte at x, `old` before, once the bytes went to the extents in order. The last extent that has x
--- tells it.
+-- The byte at x, `old` before, once the bytes went to the extents in order. The last extent that
+-- has x tells it.
 abbrev pub painted_at : List Extent → (new : List ℕ) → (old x : ℕ) → ℕ
 painted_at [] new old x = old
 painted_at (e ∷ at) new old x = painted_at at (drop e.len new) (if covers e x then slice_index new (x - e.at) else old) x

@@ -30,8 +30,8 @@ pub enum Effect {
         parent: ImageId,
         snap: SnapId,
     },
-    /// The bytes go to the places in order, as far as these are below the size. Places past the given
-    /// bytes become zeros.
+    /// The bytes go to the places in order, as far as these are below the size. Places past the
+    /// given bytes become zeros.
     Piece {
         image: ImageId,
         at: Extents,

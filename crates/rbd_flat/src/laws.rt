@@ -1,6 +1,6 @@
-//! What one step leaves and what it does not touch: laws of the definition `after`, each the contract of a
-//! function that does nothing. They say no more than `after`, and say it of one byte, one image or one
-//! snapshot, as the proofs that stand on this crate need it.
+//! What one step leaves and what it does not touch: laws of the definition `after`, each the
+//! contract of a function that does nothing. They say no more than `after`, and say it of one byte,
+//! one image or one snapshot, as the proofs that stand on this crate need it.
 ghost use Rattle.std.specs.Prelude.{◌≡◌, ◌≢◌, ℕ, ◌+◌, ◌-◌, ◌<◌, ◌≤◌, ◌++◌, length, drop, slice_index, List, false, Some, ◌==◌, if◌then◌else◌};
 ghost use Rattle.std.specs.Option.{option_map};
 ghost use Rattle.std.specs.List.{range_with_len};
@@ -9,10 +9,10 @@ ghost use Rattle.rbd_flat.specs.declared.effect.Effect.{Effect};
 ghost use Rattle.rbd_flat.specs.Flat.{Flat, FlatImage, FlatSnap, after, after_all, painted, places_of, image_at, with_image};
 ghost use Rattle.rbd_flat.specs.Laws.{painted_at, painted_byte, flat_byte, byte_after, size_at, size_after, role_at, role_after, snap_at, snap_after, image_of, is_on_names, is_on_links};
 
-/// What is painted. `inside`, `before` and `behind` are one extent at one place; `extents` are several, of
-/// which the last that has the place tells it; `places` are places that are listed one by one. Painting a
-/// front and then the rest with the bytes that are left is painting both (`in_turn`), as for two
-/// `neighbours`.
+/// What is painted. `inside`, `before` and `behind` are one extent at one place; `extents` are
+/// several, of which the last that has the place tells it; `places` are places that are listed one
+/// by one. Painting a front and then the rest with the bytes that are left is painting both
+/// (`in_turn`), as for two `neighbours`.
 pub fn painting()
     ensures len { (places new old : List ℕ) → length (painted places new old) ≡ length old }
     ensures inside { (at len : ℕ) (new old : List ℕ) (x : ℕ) → x < length old → at ≤ x → x < at + len → slice_index (painted (range_with_len at len) new old) x ≡ slice_index new (x - at) }
@@ -24,8 +24,8 @@ pub fn painting()
     ensures neighbours { (at m n : ℕ) (new old : List ℕ) → painted (range_with_len at (m + n)) new old ≡ painted (range_with_len (at + m) n) (drop m new) (painted (range_with_len at m) new old) }
 {}
 
-/// What stands after one step: the byte at a place of an image, its size, its role, a snapshot of it; and
-/// the whole image where it is changed by a function of it.
+/// What stands after one step: the byte at a place of an image, its size, its role, a snapshot of
+/// it; and the whole image where it is changed by a function of it.
 pub fn step()
     ensures bytes { (f : Flat) (e : Effect) (i x : ℕ) → flat_byte (after f e) i x ≡ byte_after e f i x }
     ensures sizes { (f : Flat) (e : Effect) (i : ℕ) → size_at (after f e) i ≡ size_after e f i }
@@ -34,8 +34,8 @@ pub fn step()
     ensures images { (f : Flat) (image : ℕ) (change : FlatImage → FlatImage) (i : ℕ) → image_at (with_image f image change) i ≡ (if i == image then option_map change (image_at f i) else image_at f i) }
 {}
 
-/// What one step does not touch: the names and the links unless it is an effect on them, every image but
-/// its own, and the bytes and the name of a snapshot that stands before and after it.
+/// What one step does not touch: the names and the links unless it is an effect on them, every
+/// image but its own, and the bytes and the name of a snapshot that stands before and after it.
 pub fn elsewhere()
     ensures names { (f : Flat) (e : Effect) → is_on_names e ≡ false → (after f e).names ≡ f.names }
     ensures links { (f : Flat) (e : Effect) → is_on_links e ≡ false → (after f e).links ≡ f.links }

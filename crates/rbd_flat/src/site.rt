@@ -101,8 +101,8 @@ impl FlatSite {
         Ok(())
     }
 
-    /// The bytes at an extent of an image, or of a snapshot of it. It tries the faults in the order in
-    /// which they are listed, so memory is wanted only for bytes that there are.
+    /// The bytes at an extent of an image, or of a snapshot of it. It tries the faults in the order
+    /// in which they are listed, so memory is wanted only for bytes that there are.
     pub fn read(
         &self,
         image: ImageId,

@@ -23,7 +23,8 @@ pub record HasBody (kind : Kind) (body : List ℕ) (e : journal.Event) : Type 0 
   pub kind_is : kind_of e ≡ kind
   pub body_is : body_of e ≡ body
 
--- at the front stand the length of this body in four bytes, and the body; its kind allows the length
+-- at the front stand the length of this body in four bytes, and the body; its kind allows the
+-- length
 pub record HasBodyAfter (bytes : List ℕ) (kind : Kind) (body : List ℕ) : Type 0 where
   pub allowed : IsTrue (allows_length kind (length body))
   pub parts : bytes ≡ to_be_bytes w32 (length body) ++ body ++ drop (4 + length body) bytes

@@ -1,4 +1,5 @@
-//! From the body of a frame to the event. Each function finds the first fault of its kind, if there is one.
+//! From the body of a frame to the event. Each function finds the first fault of its kind, if there
+//! is one.
 ghost use Rattle.std.specs.Prelude.{◌≡◌, ◌≤◌, length, IfOk, IfErr, Err, Some, None, IsTrue, not, ◌==◌, ◌||◌};
 ghost use Rattle.rbd_frame.specs.Faults.{IsNoMemory, allows_length, body_fault, ends_too_far, misplaced, name_fault};
 ghost use Rattle.rbd_frame.specs.Parts.{HasBody};

@@ -14,7 +14,8 @@ use byteorder::{BigEndian, ByteOrder};
 use rbd_kinds::Event;
 use std::alloc::Global;
 
-/// The event of the frame at the front of the bytes, and the frame's length. What follows isn't looked at.
+/// The event of the frame at the front of the bytes, and the frame's length. What follows isn't
+/// looked at.
 ///
 /// A fault is the first that applies, from left to right; memory is taken only where there is none.
 pub fn decode(alloc: Global, bytes: &[u8]) -> Result<(Event, usize), FrameFault>
@@ -35,7 +36,8 @@ pub fn decode(alloc: Global, bytes: &[u8]) -> Result<(Event, usize), FrameFault>
     Ok((event, HEADER + body.len()))
 }
 
-/// The kind and the body of the frame at the front. A fault is the first, where it is none of the body.
+/// The kind and the body of the frame at the front. A fault is the first, where it is none of the
+/// body.
 fn parts(bytes: &[u8]) -> Result<(Kind, &[u8]), FrameFault>
     ensures header { IfOk result (λ x. HasHeader bytes.now x.0 x.1.now) }
     ensures fault { IfOk result (λ x. first_fault bytes.now ≡ body_fault x.0 x.1.now) }

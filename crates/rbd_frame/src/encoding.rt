@@ -12,8 +12,8 @@ use std::alloc::Global;
 
 /// The frame of an event, its one spelling (own).
 ///
-/// The event is in the ranges of the format: a write has 1 to 1,048,576 bytes, a discard at least 1, neither
-/// ends past byte 2^63, and no size is above it.
+/// The event is in the ranges of the format: a write has 1 to 1,048,576 bytes, a discard at least
+/// 1, neither ends past byte 2^63, and no size is above it.
 pub fn encode(alloc: Global, event: &Event) -> Result<Vec<u8>, NoMemory>
     requires { IsInRange event.now }
     ensures { IfOk result (λ written. written.items ≡ frame event.now) }

@@ -4,8 +4,8 @@ ghost use Rattle.rbd_kinds.specs.declared.journal.Event.{Event};
 ghost use Rattle.rbd_frame.specs.Faults.{first_fault};
 ghost use Rattle.rbd_kinds.specs.Frame.{IsInRange, frame};
 
-/// No frame is a proper prefix of another, so the bytes alone say where a frame ends. What stands at the front
-/// tells the event, and what follows it.
+/// No frame is a proper prefix of another, so the bytes alone say where a frame ends. What stands
+/// at the front tells the event, and what follows it.
 pub fn no_frame_begins_another()
     ensures prefix { (e f : Event) (more : List ℕ)
         → IsInRange e → IsInRange f → frame e ++ more ≡ frame f → more ≡ [] }

@@ -7,8 +7,8 @@
 //!
 //! # Format
 //!
-//! A frame is a kind byte, the length of the body in four bytes, and the body. The high half of the kind is
-//! the version, 1. All numbers have their highest byte first.
+//! A frame is a kind byte, the length of the body in four bytes, and the body. The high half of the
+//! kind is the version, 1. All numbers have their highest byte first.
 //!
 //! | kind | event | body | its length |
 //! |---|---|---|---|
@@ -18,10 +18,10 @@
 //! | `14`, `15`, `16` | SnapCreate, SnapRemove, SnapRollback | the snapshot's name | 1 to 64 |
 //! | `17` | Demote | nothing | 0 |
 //!
-//! A discard has at least 1 byte. No write or discard ends past byte 2^63, and no size is above it. A name
-//! has letters, digits, `.`, `_` and `-`, whatever the first. That a session asks for none that begins
-//! with `.` or `-` is no rule of the journal: a synchronisation makes, records and replays a snapshot
-//! `.sync`.
+//! A discard has at least 1 byte. No write or discard ends past byte 2^63, and no size is above it.
+//! A name has letters, digits, `.`, `_` and `-`, whatever the first. That a session asks for none
+//! that begins with `.` or `-` is no rule of the journal: a synchronisation makes, records and
+//! replays a snapshot `.sync`.
 //!
 //! Each event has one frame, and no frame begins another, so frames can stand one behind the other.
 //!
@@ -38,17 +38,20 @@
 //!
 //! # Cost
 //!
-//! Both calls copy the bytes of a write or of a name once, and take memory for that alone: `encode` exactly
-//! the frame's length. A decode looks at no byte behind the frame, and a fault takes no memory.
+//! Both calls copy the bytes of a write or of a name once, and take memory for that alone: `encode`
+//! exactly the frame's length. A decode looks at no byte behind the frame, and a fault takes no
+//! memory.
 //!
 //! # How it works
 //!
-//! `Kind` stands between bytes and events: it knows its byte and which lengths its body may have. Decoding
-//! first finds the kind and the body, whatever the kind is, and then the event in the body, by one small
-//! function for each form of body. A further event is a further kind, with a function of its own.
+//! `Kind` stands between bytes and events: it knows its byte and which lengths its body may have.
+//! Decoding first finds the kind and the body, whatever the kind is, and then the event in the
+//! body, by one small function for each form of body. A further event is a further kind, with a
+//! function of its own.
 //!
-//! Contracts speak of `frame`, the spelling of an event, and of `first_fault`, which says of any bytes which
-//! fault applies, if one does. What they mean is said in [`laws`]: [`laws::frame_or_fault`] joins the two.
+//! Contracts speak of `frame`, the spelling of an event, and of `first_fault`, which says of any
+//! bytes which fault applies, if one does. What they mean is said in [`laws`]:
+//! [`laws::frame_or_fault`] joins the two.
 #![tactic(auto)]
 
 mod body;

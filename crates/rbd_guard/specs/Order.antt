@@ -18,7 +18,8 @@ abbrev pub AreApart : List ℕ → Type 0
 AreApart [] = Unit {0}
 AreApart (n ∷ line) = IsFalse (is_in n line) × AreApart line
 
--- the tables of some lines: each number's link, each key's ends, and for how many more numbers there is room
+-- the tables of some lines: each number's link, each key's ends, and for how many more numbers
+-- there is room
 pub record Tables : Type 0 where
   pub links : List (ℕ × Link)
   pub ends : List (ℕ × Ends)

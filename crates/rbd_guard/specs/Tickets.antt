@@ -3,8 +3,9 @@ use Rattle.std.specs.Prelude.{◌≡◌, ℕ, ◌==◌, ◌<◌, ◌≤◌, ◌^
 use Rattle.std.specs.List.{filter}
 use Rattle.rbd_guard.specs.Order.{Tables, line, key_of, is_in, IsInOrder}
 
--- what a guard holds: the queues of objects and the lists of requests, as tables that contracts read by the words below
--- alone, how many tickets were ever given, and for how many more there is room
+-- what a guard holds: the queues of objects and the lists of requests, as tables that contracts
+-- read by the words below alone, how many tickets were ever given, and for how many more there is
+-- room
 pub record Tickets : Type 0 where
   pub queues : Tables
   pub lists : Tables
@@ -34,7 +35,8 @@ abbrev pub is_ahead : (one other : ℕ) → List ℕ → Bool
 is_ahead one other [] = false
 is_ahead one other (t ∷ tickets) = cond (t == one) (is_in other tickets) (is_ahead one other tickets)
 
--- each queue and each list stays, each ticket's object and request, and the number of the next ticket
+-- each queue and each list stays, each ticket's object and request, and the number of the next
+-- ticket
 pub record AreSame (old new : Tickets) : Type 0 where
   pub queue : (object : ℕ) → queue object new ≡ queue object old
   pub list : (request : ℕ) → list request new ≡ list request old
@@ -42,8 +44,9 @@ pub record AreSame (old new : Tickets) : Type 0 where
   pub request : (ticket : ℕ) → request_of ticket new ≡ request_of ticket old
   pub drawn : new.drawn ≡ old.drawn
 
--- what holds of each guard: a ticket stands once, in the queue of its object and in the list of its request alone; who has
--- an object has a request; and each ticket that is in has a number that was drawn
+-- what holds of each guard: a ticket stands once, in the queue of its object and in the list of its
+-- request alone; who has an object has a request; and each ticket that is in has a number that was
+-- drawn
 pub record IsSoundGuard (g : Tickets) : Type 0 where
   pub queues : IsInOrder g.queues
   pub lists : IsInOrder g.lists

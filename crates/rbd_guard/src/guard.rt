@@ -8,9 +8,9 @@ use rbd_kinds::NoMemory;
 use std::alloc::Global;
 use std::marker::Model;
 
-/// The tickets of one session's requests. Contracts see each object's `queue` and each request's `list`,
-/// both earliest first, the `object_of` and the `request_of` each ticket that is in, how many tickets were
-/// `drawn`, and for how many more there is room.
+/// The tickets of one session's requests. Contracts see each object's `queue` and each request's
+/// `list`, both earliest first, the `object_of` and the `request_of` each ticket that is in, how
+/// many tickets were `drawn`, and for how many more there is room.
 #[derive(Debug, Drop)]
 pub struct Guard {
     /// The tickets of each object.
@@ -49,8 +49,8 @@ impl Guard {
         }
     }
 
-    /// Makes room for `more` tickets: the next `more` calls of `enter` take no memory and are Ok, whatever
-    /// tickets leave between them. No queue or list changes, also where memory is refused.
+    /// Makes room for `more` tickets: the next `more` calls of `enter` take no memory and are Ok,
+    /// whatever tickets leave between them. No queue or list changes, also where memory is refused.
     pub fn reserve(&mut self, more: u32) -> Result<(), NoMemory>
         ensures same { AreSame self.old self.new }
         ensures ok { OnOk result (more ≤ self.new.reserved) }
@@ -65,8 +65,8 @@ impl Guard {
     }
 
     /// Gives a request a ticket for an object: the last in the object's queue, and the last in the
-    /// request's list. Its number is drawn once. Where room is reserved it is Ok and takes no memory.
-    /// Refused memory, no queue or list changes.
+    /// request's list. Its number is drawn once. Where room is reserved it is Ok and takes no
+    /// memory. Refused memory, no queue or list changes.
     pub fn enter(&mut self, request: u32, object: u64) -> Result<Ticket, NoMemory>
         ensures queue { IfOk result (λ ticket. (o : ℕ)
             → queue o self.new ≡ cond (object == o) (queue o self.old ++ ticket ∷ []) (queue o self.old)) }
@@ -93,8 +93,8 @@ impl Guard {
         Ok(Ticket { number })
     }
 
-    /// The ticket that entered an object's queue earliest and hasn't left. `None` exactly where the queue
-    /// is empty. It takes no memory.
+    /// The ticket that entered an object's queue earliest and hasn't left. `None` exactly where the
+    /// queue is empty. It takes no memory.
     pub fn first(&self, object: u64) -> Option<Ticket>
         ensures first { result ≡ slice_get (queue object self.now) 0 }
         ensures object { IfSome result (λ ticket. object_of ticket self.now ≡ Some object) }
@@ -103,8 +103,8 @@ impl Guard {
         ticket_of(self.queues.first(object))
     }
 
-    /// The ticket of a request that entered earliest and hasn't left. `None` exactly where its list is
-    /// empty. It takes no memory.
+    /// The ticket of a request that entered earliest and hasn't left. `None` exactly where its list
+    /// is empty. It takes no memory.
     pub fn next_of(&self, request: u32) -> Option<Ticket>
         ensures first { result ≡ slice_get (list request self.now) 0 }
         ensures request { IfSome result (λ ticket. request_of ticket self.now ≡ Some request) }
@@ -128,8 +128,8 @@ impl Guard {
         self.lists.remove(ticket.number);
     }
 
-    /// Takes away all tickets of a request, and answers how many. Every other order stays. It takes no
-    /// memory.
+    /// Takes away all tickets of a request, and answers how many. Every other order stays. It takes
+    /// no memory.
     pub fn leave_all(&mut self, request: u32) -> u64
         ensures count { result ≡ length (list request self.old) }
         ensures queue { (o : ℕ) → queue o self.new ≡ without_all (list request self.old) (queue o self.old) }

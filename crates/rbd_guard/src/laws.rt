@@ -1,5 +1,5 @@
-//! What entering and leaving do to the order of tickets: each law is the contract of a function that does
-//! nothing.
+//! What entering and leaving do to the order of tickets: each law is the contract of a function
+//! that does nothing.
 ghost use Rattle.std.specs.Prelude.{◌≡◌, ◌≢◌, ℕ, ◌+◌, ◌<◌, Some, IsSome, IsTrue, IsFalse, List, [], ◌∷◌, ◌++◌, length, slice_get};
 ghost use Rattle.rbd_guard.specs.Order.{is_in, without, AreApart};
 ghost use Rattle.rbd_guard.specs.Tickets.{Tickets, queue, list, object_of, request_of, without_all, is_ahead, IsSoundGuard};
@@ -54,8 +54,8 @@ pub fn leaving_all()
         → IsFalse (is_in one gone) → IsFalse (is_in other gone) → is_ahead one other (without_all gone tickets) ≡ is_ahead one other tickets }
 {}
 
-/// A ticket that is in stands in one queue, that of its object, and in one list, that of its request, once
-/// in each; and its number is below that of each ticket that is given from now on.
+/// A ticket that is in stands in one queue, that of its object, and in one list, that of its
+/// request, once in each; and its number is below that of each ticket that is given from now on.
 pub fn tickets_differ()
     ensures one_queue { (g : Tickets) → IsSoundGuard g → (ticket object other : ℕ)
         → IsTrue (is_in ticket (queue object g)) → IsTrue (is_in ticket (queue other g)) → object ≡ other }

@@ -1,5 +1,5 @@
-//! The order in which the requests of one session do their pieces: first in, first out for each object
-//! (own; Ceph keeps the writes to one object in order by the object itself).
+//! The order in which the requests of one session do their pieces: first in, first out for each
+//! object (own; Ceph keeps the writes to one object in order by the object itself).
 //!
 //! ```text
 //! guard.reserve(2)?;                       // the next two calls of `enter` are Ok
@@ -13,30 +13,30 @@
 //!
 //! # Rules
 //!
-//! A request enters the objects that it changes, and does the piece of an object only while its ticket is
-//! the first there. So effects on one object come in the order of entry. Where a request ends early, all
-//! its tickets leave.
+//! A request enters the objects that it changes, and does the piece of an object only while its
+//! ticket is the first there. So effects on one object come in the order of entry. Where a request
+//! ends early, all its tickets leave.
 //!
 //! # Contracts
 //!
-//! Contracts see each object's `queue` and each request's `list`, as lists of tickets, earliest first. They
-//! see the `object_of` and the `request_of` each ticket that is in, how many tickets were `drawn`, and
-//! beside them `reserved`: for how many calls of `enter` there is room. Each call says what becomes of
-//! every queue and every list. No order of all tickets is told.
+//! Contracts see each object's `queue` and each request's `list`, as lists of tickets, earliest
+//! first. They see the `object_of` and the `request_of` each ticket that is in, how many tickets
+//! were `drawn`, and beside them `reserved`: for how many calls of `enter` there is room. Each call
+//! says what becomes of every queue and every list. No order of all tickets is told.
 //!
-//! A ticket is seen as its number. Each is the count of those drawn before it, and `drawn` only rises. So a
-//! ticket that has left equals no later one, as long as it is of the same guard.
+//! A ticket is seen as its number. Each is the count of those drawn before it, and `drawn` only
+//! rises. So a ticket that has left equals no later one, as long as it is of the same guard.
 //!
-//! What holds of each guard (`IsSound`) is a clause of each call: a ticket that is in stands once, in the
-//! queue of its object and in the list of its request alone. What entering and leaving do to the order of
-//! tickets is said in [`laws`].
+//! What holds of each guard (`IsSound`) is a clause of each call: a ticket that is in stands once,
+//! in the queue of its object and in the list of its request alone. What entering and leaving do to
+//! the order of tickets is said in [`laws`].
 //!
 //! # Cost
 //!
-//! `enter`, `first`, `next_of` and `leave` look up a few entries of hash tables (whose seed is fixed), and so
-//! cost the same on average however many tickets are in. `leave_all` costs as much as its tickets do one by
-//! one. Only `reserve` and `enter` take memory, and `enter` none where room is reserved. Growing the tables
-//! moves what is in. `scripts/guard-cost` measures each call.
+//! `enter`, `first`, `next_of` and `leave` look up a few entries of hash tables (whose seed is
+//! fixed), and so cost the same on average however many tickets are in. `leave_all` costs as much
+//! as its tickets do one by one. Only `reserve` and `enter` take memory, and `enter` none where
+//! room is reserved. Growing the tables moves what is in. `scripts/guard-cost` measures each call.
 //!
 //! # How it works
 //!

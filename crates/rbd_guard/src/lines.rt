@@ -11,8 +11,8 @@ use std::alloc::Global;
 use std::collections::HashMap;
 use std::marker::Model;
 
-/// Numbers in lines, each line under a key. A number stands once, under one key. Contracts see the lines by
-/// `line`, each number's key by `key_of`, and for how many more numbers there is room.
+/// Numbers in lines, each line under a key. A number stands once, under one key. Contracts see the
+/// lines by `line`, each number's key by `key_of`, and for how many more numbers there is room.
 #[derive(Debug, Drop)]
 pub struct Lines {
     /// The link of each number that stands in line.
@@ -59,7 +59,8 @@ impl Lines {
         reserve_both(&mut self.links, &mut self.ends, more)
     }
 
-    /// The number that stands first under a key: `None` exactly where none stands there. It takes no memory.
+    /// The number that stands first under a key: `None` exactly where none stands there. It takes
+    /// no memory.
     pub fn first(&self, key: u64) -> Option<u64>
         ensures first { result ≡ slice_get (line key self.now) 0 }
         ensures order { IsInOrder self.now }

@@ -46,8 +46,8 @@ new_header layout size = record {
 abbrev pub ids_of : List SnapView → List ℕ
 ids_of snaps = map (λ (s : SnapView). s.id) snaps
 
--- The snapshot context of a change of the image's data: the id of the snapshot that was taken last, and the ids
--- of those that are listed, newest first.
+-- The snapshot context of a change of the image's data: the id of the snapshot that was taken last,
+-- and the ids of those that are listed, newest first.
 abbrev pub context_of : HeaderView → SnapContext
 context_of h = record { seq = h.snap_seq; snaps = reverse (ids_of h.snaps) }
 

@@ -5,8 +5,9 @@ ghost use Rattle.rbd_header.specs.Header.{context_of as told_context, ids_of as 
 use rbd_kinds::{HeaderView, NoMemory, SnapContext, SnapId, SnapIds, SnapView};
 use std::alloc::Global;
 
-/// The snapshot context of a change: the number of the snapshot that was taken last, and those that the header
-/// lists, newest first (Ceph: RADOS self-managed snapshots). Copies of the context share the list.
+/// The snapshot context of a change: the number of the snapshot that was taken last, and those that
+/// the header lists, newest first (Ceph: RADOS self-managed snapshots). Copies of the context share
+/// the list.
 pub fn context_of(alloc: Global, header: &HeaderView) -> Result<SnapContext, NoMemory>
     ensures { IfOk result (λ context. context ≡ told_context header.now) }
 {

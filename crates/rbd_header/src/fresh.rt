@@ -7,7 +7,8 @@ ghost use Rattle.rbd_header.specs.Header.{new_header as header_of};
 use rbd_kinds::{HeaderView, Layout, Role, Snaps};
 use std::alloc::Global;
 
-/// The header of a new image of zeros, of a size in bytes: it has no parent and no journal. It takes no memory.
+/// The header of a new image of zeros, of a size in bytes: it has no parent and no journal. It
+/// takes no memory.
 pub fn new_header(alloc: Global, layout: Layout, size: u64) -> HeaderView
     ensures header { result ≡ header_of layout size }
     ensures form { IsLayout layout → HasFewObjects layout size → IsNewHeader result }

@@ -39,7 +39,8 @@ impl Model for Header {
 }
 
 impl Header {
-    /// A header that tells this. It copies the list of snapshots only where another value shares it.
+    /// A header that tells this. It copies the list of snapshots only where another value shares
+    /// it.
     pub fn make(view: HeaderView) -> Result<Self, NoMemory>
         ensures { IfOk result (λ header. header ≡ view) }
     {
@@ -55,7 +56,8 @@ impl Header {
         })
     }
 
-    /// What it tells: a copy of the list of snapshots, or, after [`Header::share`], one that shares it.
+    /// What it tells: a copy of the list of snapshots, or, after [`Header::share`], one that shares
+    /// it.
     pub fn view(&self) -> Result<HeaderView, NoMemory>
         ensures { IfOk result (λ copy. copy ≡ self.now) }
     {
@@ -65,8 +67,8 @@ impl Header {
         })
     }
 
-    /// From now on, until the list of snapshots changes, `view` copies no list. It copies the list once, unless it
-    /// was shared already, and may be refused the memory: then all is as before.
+    /// From now on, until the list of snapshots changes, `view` copies no list. It copies the list
+    /// once, unless it was shared already, and may be refused the memory: then all is as before.
     pub fn share(&mut self) -> Result<(), NoMemory>
         ensures { self.new ≡ self.old }
     {
@@ -126,8 +128,8 @@ impl Header {
         self.rest.owner
     }
 
-    /// Sets the size in bytes, and cuts the head's overlap to it (Ceph: growing an image never raises the
-    /// overlap).
+    /// Sets the size in bytes, and cuts the head's overlap to it (Ceph: growing an image never
+    /// raises the overlap).
     pub fn set_size(&mut self, size: u64)
         requires { self.old.generation + 1 < 2 ^ 64 }
         ensures { self.new ≡ with_size size self.old }
@@ -137,15 +139,16 @@ impl Header {
         self.rest.generation += 1;
     }
 
-    /// Whether no snapshot may be taken: 256 are listed, or the ids are used up (own). It takes no memory.
+    /// Whether no snapshot may be taken: 256 are listed, or the ids are used up (own). It takes no
+    /// memory.
     pub fn is_full(&self) -> bool
         ensures { result ≡ is_full self.now }
     {
         is_full_list(self.snaps.len(), self.rest.snap_seq)
     }
 
-    /// Takes a snapshot: the newest, unprotected, with the head's size and parent. `Exists` where the name is
-    /// listed; else `Full` where 256 are listed or the last id is `u32::MAX` (own).
+    /// Takes a snapshot: the newest, unprotected, with the head's size and parent. `Exists` where
+    /// the name is listed; else `Full` where 256 are listed or the last id is `u32::MAX` (own).
     pub fn snap_add(&mut self, name: &Name) -> Result<SnapId, SnapAddFault>
         requires { self.old.generation + 1 < 2 ^ 64 }
         ensures id { IfOk result (λ id. id ≡ self.old.snap_seq + 1) }
@@ -258,8 +261,8 @@ impl Header {
         self.rest.generation += 1;
     }
 
-    /// Makes an instance the owner of the exclusive lock; `Held` where another instance is. It may be the
-    /// owner already.
+    /// Makes an instance the owner of the exclusive lock; `Held` where another instance is. It may
+    /// be the owner already.
     pub fn lock(&mut self, instance: Instance) -> Result<(), Held>
         ensures ok { OnOk result (self.new ≡ record self.old { owner = Some instance }) }
         ensures err { OnErr result (self.new ≡ self.old) }

@@ -13,8 +13,8 @@
 //! [`context_of`] is the snapshot context that a header gives to changes of the image's data, and
 //! [`ids_of`] lists the ids of its snapshots.
 //!
-//! Contracts see a [`Header`] as the [`HeaderView`](rbd_kinds::HeaderView) that it tells, and each call's
-//! contract is one equation: the view after it is this function of the view before.
+//! Contracts see a [`Header`] as the [`HeaderView`](rbd_kinds::HeaderView) that it tells, and each
+//! call's contract is one equation: the view after it is this function of the view before.
 //!
 //! Costs: a look-up of a snapshot, by id or by name, and a change of one read the list of
 //! snapshots, which are 256 at most; all other calls are a few words. [`Header::view`] copies the

@@ -11,8 +11,8 @@ pub struct View {
     pub size: u64,
 }
 
-/// The view of a name, the head where there is none. It is `None` exactly where the header lists no snapshot of
-/// the name.
+/// The view of a name, the head where there is none. It is `None` exactly where the header lists no
+/// snapshot of the name.
 pub fn view_of(header: &HeaderView, snap: Option<&Name>) -> Option<View>
     ensures { result ≡ named_view header.now (option_copied snap.entry) }
 {

@@ -108,8 +108,8 @@ abbrev pub tag_of : List Span → (seq : ℕ) → Option Tag
 tag_of [] seq = None
 tag_of (s ∷ spans) seq = if has s seq then Some s.tag else tag_of spans seq
 
--- What holds of a journal at every moment. What Local hasn't committed is held, and each held frame has the
--- tag of the span that has its number.
+-- What holds of a journal at every moment. What Local hasn't committed is held, and each held frame
+-- has the tag of the span that has its number.
 pub record IsSoundJournal (j : Records) : Type 0 where
   pub run : RunFrom 1 j.spans
   pub end : j.end ≡ end_after 0 j.spans

@@ -13,13 +13,14 @@ use std::alloc::Global;
 use std::collections::VecDeque;
 use std::marker::Model;
 
-/// A journal: spans of positions, the frames that are held, and commit positions (Ceph: RBD journaling).
-/// Contracts see it as `Records`.
+/// A journal: spans of positions, the frames that are held, and commit positions (Ceph: RBD
+/// journaling). Contracts see it as `Records`.
 #[derive(Debug, Drop)]
 pub struct Journal {
     alloc: Global,
     spans: Vec<Span>,
-    /// The same spans, as views of the journal share them: once they were asked for, and until they change.
+    /// The same spans, as views of the journal share them: once they were asked for, and until they
+    /// change.
     told: Option<Spans>,
     /// The last number of the spans, or 0.
     end: u64,
@@ -43,8 +44,8 @@ impl Model for Journal {
 }
 
 impl Journal {
-    /// A journal on these spans, which run from 1 without gaps. It ends where they end, holds no frame, and
-    /// the owner's commit position is that end. It has drawn no tag.
+    /// A journal on these spans, which run from 1 without gaps. It ends where they end, holds no
+    /// frame, and the owner's commit position is that end. It has drawn no tag.
     pub fn based(alloc: Global, spans: &Spans) -> Result<Self, NoMemory>
         requires { RunFrom 1 spans.now }
         ensures { IfOk result (λ journal. journal ≡ based_on spans.now) }
@@ -76,8 +77,8 @@ impl Journal {
         }
     }
 
-    /// Records a frame at the next position, which may be the last that 64 bits count. Refused memory, nothing
-    /// changes.
+    /// Records a frame at the next position, which may be the last that 64 bits count. Refused
+    /// memory, nothing changes.
     pub fn append(&mut self, position: Position, frame: &[u8]) -> Result<(), NoMemory>
         requires next { position.seq ≡ self.old.end + 1 }
         ensures ok { OnOk result (self.new ≡ appended position frame.now self.old) }
@@ -95,8 +96,8 @@ impl Journal {
         Ok(())
     }
 
-    /// The frame that is held with a number, and its position: None exactly where none is held. It takes no
-    /// memory.
+    /// The frame that is held with a number, and its position: None exactly where none is held. It
+    /// takes no memory.
     pub fn read(&self, seq: u64) -> Option<(Position, &[u8])>
         ensures { option_map (λ x. (x.0, x.1.now)) result ≡ frame_at self.now seq }
     {
@@ -112,8 +113,8 @@ impl Journal {
         Some((position, entry.frame.as_slice()))
     }
 
-    /// From now on, until the spans change, `view` copies no spans. It copies them once, unless they were shared
-    /// already, and may be refused the memory: then all is as before.
+    /// From now on, until the spans change, `view` copies no spans. It copies them once, unless
+    /// they were shared already, and may be refused the memory: then all is as before.
     pub fn share(&mut self) -> Result<(), NoMemory>
         ensures { self.new ≡ self.old }
     {
@@ -155,8 +156,8 @@ impl Journal {
         self.mirror = Some(self.mirror.unwrap_or(0));
     }
 
-    /// Raises a client's commit position to a number up to the end. An unregistered mirror daemon is
-    /// registered by it. It takes no memory.
+    /// Raises a client's commit position to a number up to the end. An unregistered mirror daemon
+    /// is registered by it. It takes no memory.
     pub fn commit(&mut self, client: JournalClient, seq: u64)
         requires { seq ≤ self.old.end }
         ensures { self.new ≡ committed client seq self.old }

@@ -1,5 +1,5 @@
-//! What the definitions of a journal mean for its readers: each law is the contract of a function that does
-//! nothing. `frame_at` is what `read` answers.
+//! What the definitions of a journal mean for its readers: each law is the contract of a function
+//! that does nothing. `frame_at` is what `read` answers.
 ghost use Rattle.std.specs.Prelude.{◌≡◌, ◌≢◌, ℕ, ◌+◌, ◌<◌, ◌≤◌, List, All, AllPairs, None, Some, IsSome, slice_get};
 ghost use Rattle.rbd_kinds.specs.declared.journal.JournalClient.{JournalClient};
 ghost use Rattle.rbd_kinds.specs.declared.journal.Position.{Position};
@@ -8,8 +8,8 @@ ghost use Rattle.rbd_kinds.specs.Spans.{RunFrom};
 ghost use Rattle.rbd_journal.specs.Calls.{Call, tags_drawn};
 ghost use Rattle.rbd_journal.specs.Records.{IsSoundJournal, Records, appended, based_on, committed, frame_at, least_commit, registered, tag_drawn, tag_of, trimmed, journal_view};
 
-/// After an append its position and frame are read at its number, and what was read at each other number
-/// before.
+/// After an append its position and frame are read at its number, and what was read at each other
+/// number before.
 pub fn reads_after_an_append()
     ensures here { (j : Records) (p : Position) (frame : List ℕ)
         → IsSoundJournal j → p.seq ≡ j.end + 1 → frame_at (appended p frame j) p.seq ≡ Some (p, frame) }
@@ -32,8 +32,8 @@ pub fn uncommitted_frames_are_held()
     ensures { (j : Records) (seq : ℕ) → IsSoundJournal j → j.local < seq → seq ≤ j.end → IsSome (frame_at j seq) }
 {}
 
-/// What is read with a number has that number, and the tag of the span that has it in the view: there is such
-/// a span, and whichever has it bears that tag.
+/// What is read with a number has that number, and the tag of the span that has it in the view:
+/// there is such a span, and whichever has it bears that tag.
 pub fn tags_of_held_frames()
     ensures number { (j : Records) (seq : ℕ) (p : Position) (frame : List ℕ)
         → frame_at j seq ≡ Some (p, frame) → p.seq ≡ seq }
@@ -61,8 +61,8 @@ pub fn soundness_is_kept()
     ensures tag_drawn { (j : Records) → IsSoundJournal j → IsSoundJournal (tag_drawn j) }
 {}
 
-/// No journal draws a tag twice, whatever is called between: each tag's number is above all that were drawn
-/// before.
+/// No journal draws a tag twice, whatever is called between: each tag's number is above all that
+/// were drawn before.
 pub fn tags_are_drawn_once()
     ensures new { (calls : List Call) (j : Records) → All (λ t. j.drawn < t.no) (tags_drawn calls j) }
     ensures once { (calls : List Call) (j : Records) → AllPairs (λ t u. t ≢ u) (tags_drawn calls j) }

@@ -14,9 +14,9 @@ use Rattle.rbd_kinds.specs.Parts.{parts_len}
 use Rattle.rbd_kinds.specs.Spans.{IsJournalInForm}
 use Rattle.rbd_kinds.specs.States.{HoldStates}
 
--- A header keeps its limits. The bytes of a read are as many as its parts have. The bits of a map hold no state 3. A
--- frame is one event's, with the number that was asked for. A journal's spans have no gaps, and it never comes to the
--- last number of 64 bits.
+-- A header keeps its limits. The bytes of a read are as many as its parts have. The bits of a map
+-- hold no state 3. A frame is one event's, with the number that was asked for. A journal's spans
+-- have no gaps, and it never comes to the last number of 64 bits.
 abbrev pub IsInForm : Op → Answer → Type 0
 IsInForm (op.Header image header.Get) (answer.Header h) = IsHeaderInForm h
 IsInForm (op.Data image number (object.Read snap parts)) (answer.Bytes bytes) = length bytes ≡ parts_len parts

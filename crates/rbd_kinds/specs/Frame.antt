@@ -1,4 +1,5 @@
--- The one spelling of each event of a journal: its frame. All numbers have their highest byte first.
+-- The one spelling of each event of a journal: its frame. All numbers have their highest byte
+-- first.
 use Rattle.std.specs.Prelude.{◌≡◌, ℕ, ◌+◌, ◌^◌, ◌≤◌, List, [], ◌∷◌, ◌++◌, length}
 use Rattle.std.specs.Int.{w32, w64, to_be_bytes}
 use Rattle.rbd_kinds.specs.Name.{IsName}
@@ -61,7 +62,8 @@ abbrev pub AsksForASize : Event → Type 0
 AsksForASize (Resize size) = size ≤ greatest_size
 AsksForASize _ = Unit {0}
 
--- The bytes are the frame of one event, whole, and a size that it asks for is one that an image may have.
+-- The bytes are the frame of one event, whole, and a size that it asks for is one that an image may
+-- have.
 pub record IsOneFrame (bytes : List ℕ) : Type 0 where
   pub event : Event
   pub spelled : bytes ≡ frame event

@@ -13,8 +13,8 @@ abbrev pub end_after : (before : ℕ) → List Span → ℕ
 end_after before [] = before
 end_after before (s ∷ spans) = end_after s.last spans
 
--- What a journal tells of itself: spans from 1 on without gaps, which end below the last number of 64 bits, and commit
--- positions up to their end.
+-- What a journal tells of itself: spans from 1 on without gaps, which end below the last number of
+-- 64 bits, and commit positions up to their end.
 pub record IsJournalInForm (j : JournalView) : Type 0 where
   pub run : RunFrom 1 j.spans
   pub end : end_after 0 j.spans < 2 ^ 64 - 1

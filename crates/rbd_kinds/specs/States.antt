@@ -1,4 +1,5 @@
--- The states of an object map, in the bytes that it is kept and sent in: four a byte, the first in the highest bits.
+-- The states of an object map, in the bytes that it is kept and sent in: four a byte, the first in
+-- the highest bits.
 use Rattle.std.specs.Prelude.{ℕ, zero, suc, ◌/◌, ◌%◌, Bool, nat_lt, IsTrue, List, slice_index}
 
 -- State 3 is never written.

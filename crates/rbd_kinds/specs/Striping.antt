@@ -2,8 +2,8 @@
 use Rattle.std.specs.Prelude.{◌≡◌, ◌≢◌, ℕ, ◌+◌, ◌*◌, ◌/◌, ◌%◌, ◌^◌, ◌<◌, ◌≤◌}
 use Rattle.rbd_kinds.specs.declared.layout.Layout.{Layout}
 
--- The object size is a power of two from 4,096 to 33,554,432, the stripe unit one from 512 to the object
--- size, and the stripe count is 1 to 16.
+-- The object size is a power of two from 4,096 to 33,554,432, the stripe unit one from 512 to the
+-- object size, and the stripe count is 1 to 16.
 pub record IsLayout (l : Layout) : Type 0 where
   pub object : (k : ℕ) × (12 ≤ k) × (k ≤ 25) × (l.object ≡ 2 ^ k)
   pub unit : (k : ℕ) × (9 ≤ k) × (l.unit ≡ 2 ^ k)
@@ -33,8 +33,8 @@ abbrev pub byte_at : Layout → (object offset : ℕ) → ℕ
 byte_at l object offset =
     ((object / l.count * units_per_object l + offset / l.unit) * l.count + object % l.count) * l.unit + offset % l.unit
 
--- The number of objects of a size is one more than the greatest object number of a byte below the size,
--- and 0 for size 0.
+-- The number of objects of a size is one more than the greatest object number of a byte below the
+-- size, and 0 for size 0.
 pub record IsObjectCount (l : Layout) (size count : ℕ) : Type 0 where
   pub none : size ≡ 0 → count ≡ 0
   pub each : (x : ℕ) → x < size → object_of l x < count

@@ -2,12 +2,14 @@ ghost use Rattle.std.specs.Prelude.{◌≡◌, IsSome, IfSome, IsTrue, ◌↔◌
 ghost use Rattle.rbd_kinds.specs.Name.{IsAskedName};
 
 use crate::byte_string::Bytes;
+use crate::copies::TryClone;
+use crate::memory::NoMemory;
 use crate::name::Name;
 use std::marker::Model;
 
-/// The name that a session may ask for: a [`Name`] whose first byte isn't `.` or `-`. So what begins
-/// with a `.` is the project's own, as the snapshot `.sync` of a synchronisation. Contracts see the
-/// list of its bytes.
+/// The name that a session may ask for: a [`Name`] whose first byte isn't `.` or `-`. So what
+/// begins with a `.` is the project's own, as the snapshot `.sync` of a synchronisation. Contracts
+/// see the list of its bytes.
 #[derive(Debug, Drop)]
 pub struct AskedName {
     name: Name,
@@ -25,8 +27,8 @@ impl Model for AskedName {
 }
 
 impl AskedName {
-    /// The name that the bytes spell, or `None` where they spell none that may be asked for. It takes no
-    /// memory.
+    /// The name that the bytes spell, or `None` where they spell none that may be asked for. It
+    /// takes no memory.
     pub fn parse(text: Bytes) -> Option<Self>
         ensures valid { IsSome result ↔ IsAskedName text }
         ensures value { IfSome result (λ name. name ≡ text) }
@@ -61,6 +63,14 @@ impl AskedName {
         ensures name { IsAskedName self }
     {
         self.name
+    }
+}
+
+impl TryClone for AskedName {
+    fn try_clone(&self) -> Result<Self, NoMemory> {
+        Ok(AskedName {
+            name: self.name.try_clone()?,
+        })
     }
 }
 

@@ -7,9 +7,9 @@ use std::alloc::Global;
 use std::fmt;
 use std::marker::Model;
 
-/// Some bytes of an image, an object or a message, seen by contracts as the list of them. They lie in a vector of
-/// their own, or in memory that several values share, and then a copy and a slice count one more owner and copy no
-/// byte.
+/// Some bytes of an image, an object or a message, seen by contracts as the list of them. They lie
+/// in a vector of their own, or in memory that several values share, and then a copy and a slice
+/// count one more owner and copy no byte.
 #[derive(Drop)]
 pub struct Bytes {
     held: Held,
@@ -74,8 +74,8 @@ impl Bytes {
         Ok(Bytes::from_vec(Vec::from_slice(alloc, bytes)?))
     }
 
-    /// The same bytes, without a copy: from now on, copies and slices of them share their memory. The count of the
-    /// owners takes a few words of memory, once.
+    /// The same bytes, without a copy: from now on, copies and slices of them share their memory.
+    /// The count of the owners takes a few words of memory, once.
     pub fn share(self) -> Result<Self, NoMemory>
         ensures { IfOk result (λ shared. shared ≡ self) }
     {

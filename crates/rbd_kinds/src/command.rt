@@ -4,6 +4,8 @@ ghost use Rattle.rbd_kinds.specs.Command.{IsPayload};
 
 use crate::asked_name::AskedName;
 use crate::byte_string::Bytes;
+use crate::copies::TryClone;
+use crate::memory::NoMemory;
 use crate::number::{AtMost, Number};
 use std::marker::Model;
 
@@ -210,5 +212,13 @@ impl Payload {
     {
         let Payload { bytes } = self;
         bytes
+    }
+}
+
+impl TryClone for Payload {
+    fn try_clone(&self) -> Result<Self, NoMemory> {
+        Ok(Payload {
+            bytes: self.bytes.try_clone()?,
+        })
     }
 }

@@ -10,12 +10,12 @@ use crate::layout::Parts;
 use crate::memory::NoMemory;
 use crate::operation_kind::OpKind;
 
-/// An operation on one data object of an image (Ceph: `rbd_data.<id>.<number>`). A change carries its snapshot
-/// context. With `must`, nothing changes where the head is absent.
+/// An operation on one data object of an image (Ceph: `rbd_data.<id>.<number>`). A change carries
+/// its snapshot context. With `must`, nothing changes where the head is absent.
 #[derive(Debug, Drop)]
 pub enum DataOp {
-    /// The bytes of the parts, one part after another, at the head or at a snapshot. Without parts it asks
-    /// whether the object exists there.
+    /// The bytes of the parts, one part after another, at the head or at a snapshot. Without parts
+    /// it asks whether the object exists there.
     Read {
         snap: Option<SnapId>,
         parts: Parts,

@@ -4,8 +4,8 @@ use crate::memory::NoMemory;
 use std::alloc::Global;
 use std::marker::Model;
 
-/// Some items in order, which needn't be such that can be copied, and to which more are added at the end. Contracts see
-/// the list of them.
+/// Some items in order, which needn't be such that can be copied, and to which more are added at
+/// the end. Contracts see the list of them.
 #[derive(Debug, Drop)]
 pub struct Growing<T> {
     items: Vec<T>,

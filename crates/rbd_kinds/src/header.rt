@@ -23,8 +23,8 @@ pub struct SnapContext {
     pub snaps: SnapIds,
 }
 
-/// A clone's parent: an image, its snapshot, and how many bytes from the front the clone takes from it
-/// where it has no object of its own (Ceph: RBD layering).
+/// A clone's parent: an image, its snapshot, and how many bytes from the front the clone takes from
+/// it where it has no object of its own (Ceph: RBD layering).
 #[derive(Clone, Copy, Debug, PartialEq, Eq, Hash)]
 pub struct ParentLink {
     pub image: ImageId,
@@ -98,8 +98,8 @@ pub struct HeaderView {
 }
 
 impl HeaderView {
-    /// The snapshot of a name: `None` exactly where no listed snapshot has it, else the first that has.
-    /// It takes no memory. Every look-up by name goes through it.
+    /// The snapshot of a name: `None` exactly where no listed snapshot has it, else the first that
+    /// has. It takes no memory. Every look-up by name goes through it.
     pub fn named(&self, name: &Name) -> Option<&SnapView>
         ensures { option_copied result ≡ snap_named self.now.snaps name.now }
     {

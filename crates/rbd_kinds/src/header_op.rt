@@ -10,8 +10,9 @@ use crate::name::Name;
 use crate::notice::NoticeKind;
 use crate::operation_kind::OpKind;
 
-/// An operation on an image's header, with its exclusive lock and its watchers (Ceph: `rbd_header.<id>`). The
-/// instance that does it is who takes or drops the lock, watches, and notifies.
+/// An operation on an image's header, with its exclusive lock and its watchers (Ceph:
+/// `rbd_header.<id>`). The instance that does it is who takes or drops the lock, watches, and
+/// notifies.
 #[derive(Debug, Drop)]
 pub enum HeaderOp {
     Create { view: HeaderView },

@@ -37,8 +37,8 @@ impl Model for Slot {
     ghost inverse = { λ n. record { 0 = n } };
 }
 
-/// One life of a session: its address, by which it owns locks, watches and is blocklisted. A session
-/// begins with life 0, and each restart is a new life.
+/// One life of a session: its address, by which it owns locks, watches and is blocklisted. A
+/// session begins with life 0, and each restart is a new life.
 #[derive(Clone, Copy, Debug, PartialEq, Eq, PartialOrd, Ord, Hash)]
 pub struct Instance {
     pub session: SessionNo,

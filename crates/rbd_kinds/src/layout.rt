@@ -6,9 +6,9 @@ use crate::copies::TryClone;
 use crate::memory::NoMemory;
 use crate::sequence::Sequence;
 
-/// How an image's bytes are striped over objects (Ceph: RBD striping). `object` and `unit` are bytes,
-/// `count` is objects: a stripe is one unit in each of `count` objects, and `count` objects that are
-/// filled together are an object set.
+/// How an image's bytes are striped over objects (Ceph: RBD striping). `object` and `unit` are
+/// bytes, `count` is objects: a stripe is one unit in each of `count` objects, and `count` objects
+/// that are filled together are an object set.
 #[derive(Clone, Copy, Debug, PartialEq, Eq, Hash)]
 pub struct Layout {
     /// The object size in bytes.
@@ -27,8 +27,8 @@ pub struct Extent {
 }
 
 impl Extent {
-    /// Whether it isn't empty and ends within a size, in bytes: the one test of an extent, for reads, writes and the
-    /// measure of both. It takes no memory.
+    /// Whether it isn't empty and ends within a size, in bytes: the one test of an extent, for
+    /// reads, writes and the measure of both. It takes no memory.
     pub fn fits(&self, size: u64) -> bool
         ensures { result ≡ extents.fits self.now size }
     {

@@ -1,14 +1,15 @@
 //! The words of block images: what every other crate of the repository speaks in.
 //!
 //! A cluster (here a *site*) holds images, found by name; an image is striped over objects of its
-//! site, may have snapshots, and is changed by sessions, of which each life is an instance. The types
-//! are plain data: enums and structs with whole-word names, and lists of them.
+//! site, may have snapshots, and is changed by sessions, of which each life is an instance. The
+//! types are plain data: enums and structs with whole-word names, and lists of them.
 //!
 //! A [`Name`] may begin with `.` or `-`. A session asks for an [`AskedName`], which doesn't: so no
 //! session names the snapshot `.sync` that a synchronisation makes.
 //!
-//! Contracts see an id as its number, a [`Name`], an [`AskedName`] and [`Bytes`] as the list of their
-//! bytes, and a [`Sequence`] and a [`Growing`] list as the list of their items, wherever these lie.
+//! Contracts see an id as its number, a [`Name`], an [`AskedName`] and [`Bytes`] as the list of
+//! their bytes, and a [`Sequence`] and a [`Growing`] list as the list of their items, wherever
+//! these lie.
 //!
 //! ```text
 //! Name::parse(Bytes::from_slice(alloc, b".sync")?)         the name `.sync`
@@ -30,6 +31,7 @@ mod asked_name;
 mod byte_string;
 mod children_op;
 mod command;
+mod command_copy;
 mod copies;
 mod data_op;
 mod directory_op;

@@ -8,8 +8,8 @@ use crate::id::SnapId;
 use crate::memory::NoMemory;
 use crate::operation_kind::OpKind;
 
-/// An operation on the object map of an image's head, or of a snapshot (Ceph: `rbd_object_map.<id>`, and with
-/// `.<snap>` behind it).
+/// An operation on the object map of an image's head, or of a snapshot (Ceph:
+/// `rbd_object_map.<id>`, and with `.<snap>` behind it).
 #[derive(Debug, Drop)]
 pub enum MapOp {
     /// Makes the head's map, or lengthens it to so many objects.

@@ -5,7 +5,8 @@ use std::alloc::{AllocError, AllocFailed};
 use std::error::Error;
 use std::fmt;
 
-/// A growth of memory was refused. It is merged with no other refusal, and comes at no stated moment.
+/// A growth of memory was refused. It is merged with no other refusal, and comes at no stated
+/// moment.
 #[derive(Clone, Copy, Debug, PartialEq, Eq, Hash)]
 pub struct NoMemory;
 

@@ -13,8 +13,9 @@ use crate::map_op::MapOp;
 use crate::memory::NoMemory;
 use crate::operation_kind::OpKind;
 
-/// One operation on one object of a site: which object, and what is done to it. Each is one step, whole or not
-/// at all (Ceph: the operations of librados and of the object class `rbd`). There are 47 kinds.
+/// One operation on one object of a site: which object, and what is done to it. Each is one step,
+/// whole or not at all (Ceph: the operations of librados and of the object class `rbd`). There are
+/// 47 kinds.
 #[derive(Debug, Drop)]
 pub enum Op {
     /// On `rbd_directory`.

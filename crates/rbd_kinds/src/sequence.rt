@@ -8,8 +8,8 @@ use std::fmt;
 use std::marker::Model;
 use std::sync::Arc;
 
-/// Some items in order, seen by contracts as the list of them. They lie in a vector of their own, or in one that
-/// several values share, and then a copy counts one more owner and copies no item.
+/// Some items in order, seen by contracts as the list of them. They lie in a vector of their own,
+/// or in one that several values share, and then a copy counts one more owner and copies no item.
 #[derive(Drop)]
 pub struct Sequence<T> {
     held: Held<T>,
@@ -84,8 +84,8 @@ impl<T> Sequence<T> {
         }
     }
 
-    /// The same items, without a copy: from now on, copies of them share their memory. The count of the owners takes
-    /// a few words of memory, once.
+    /// The same items, without a copy: from now on, copies of them share their memory. The count of
+    /// the owners takes a few words of memory, once.
     pub fn share(self) -> Result<Self, NoMemory>
     where
         T: Drop,
@@ -132,7 +132,8 @@ impl<T: TryClone> Sequence<T> {
         Ok(Sequence::from_vec(copied(alloc, items)?))
     }
 
-    /// Adds an item at the end. It copies a shared list first, which is then no longer shared by this value.
+    /// Adds an item at the end. It copies a shared list first, which is then no longer shared by
+    /// this value.
     pub fn push(&mut self, item: T) -> Result<(), NoMemory>
         ensures ok { OnOk result (self.new ≡ self.old ++ item ∷ []) }
         ensures err { OnErr result (self.new ≡ self.old) }

@@ -40,9 +40,9 @@ told_text Trace script history a b = trace_text script history a b
 abbrev pub text_of : Mode → Script → Played → List ℕ
 text_of mode script p = told_text mode script p.history (log_at A p) (log_at B p)
 
--- The script's commands were played by its session at its home: the history is theirs (each request with its operations,
--- its reply and its effects over the flat site before it), and the log has these operations, each with the answer
--- of the records that the earlier ones left.
+-- The script's commands were played by its session at its home: the history is theirs (each request
+-- with its operations, its reply and its effects over the flat site before it), and the log has
+-- these operations, each with the answer of the records that the earlier ones left.
 pub record IsPlay (script : Script) (p : Played) : Type 0 where
   pub played : IsPlayed p (commands_of script.lines)
   pub home : p.site.id ≡ home_of script.sessions

@@ -26,7 +26,8 @@ abbrev pub IsAskedBy : List (List ℕ) → Option Mode → Type 0
 IsAskedBy words None = ¬ (AreRun words)
 IsAskedBy words (Some mode) = words ≡ words_of mode
 
--- The bytes are a script of built forms, and the text tells a play of it, in the mode that the words ask for.
+-- The bytes are a script of built forms, and the text tells a play of it, in the mode that the
+-- words ask for.
 pub record IsOutput (words : List (List ℕ)) (bytes text : List ℕ) : Type 0 where
   pub mode : Mode
   pub asked : words ≡ words_of mode
@@ -60,14 +61,15 @@ Prints P old new = (text : List ℕ) × P text × (new ≡ held_with text old)
 abbrev pub PrintsFront : (List ℕ → Type 0) → Option (List ℕ) → Option (List ℕ) → Type 0
 PrintsFront P old new = (text : List ℕ) × P text × GainsFront text old new
 
--- The ends of a run. `left` and `held` are what the source has left and the sink holds before it, where they
--- tell, and `left'` and `held'` after it.
+-- The ends of a run. `left` and `held` are what the source has left and the sink holds before it,
+-- where they tell, and `left'` and `held'` after it.
 
 -- The source was read to its end, its bytes are a script, and its output was printed.
 abbrev pub IsDone : (words : List (List ℕ)) → (left left' held held' : Option (List ℕ)) → Type 0
 IsDone words left left' held held' = AreRun words × IfSome left (λ bytes. Prints (IsOutput words bytes) held held' × (left' ≡ Some []))
 
--- The source was read to its end or one byte past the limit, and the first line that doesn't fit was printed.
+-- The source was read to its end or one byte past the limit, and the first line that doesn't fit
+-- was printed.
 abbrev pub IsBadLine : (words : List (List ℕ)) → (left left' held held' : Option (List ℕ)) → Type 0
 IsBadLine words left left' held held' = AreRun words × IfSome left (λ bytes. Prints (IsComplaint bytes) held held' × (left' ≡ Some (drop (limit + 1) bytes)))
 
@@ -79,8 +81,8 @@ IsUsage words held held' = ¬ (AreRun words) × (held' ≡ held_with usage_text 
 abbrev pub IsForOthers : {S : Type 0} → (words : List (List ℕ)) → Status → (old new : S) → Type 0
 IsForOthers words status old new = ¬ (AreRun words) → ((status ≡ Usage) ⊎ (status ≡ WriteFault)) × (new ≡ old)
 
--- The sink has some first part of what was to be printed, and not all of it: of the usage line for other words, whatever the
--- source is; else of the text for the bytes that the source had.
+-- The sink has some first part of what was to be printed, and not all of it: of the usage line for
+-- other words, whatever the source is; else of the text for the bytes that the source had.
 abbrev pub IsCut : (words : List (List ℕ)) → (left held held' : Option (List ℕ)) → Type 0
 IsCut words left held held' =
     (¬ (AreRun words) × PrintsFront (λ text. text ≡ usage_text) held held')

@@ -1,4 +1,5 @@
-//! `rbd_lab` plays a script of client sessions on block images and prints what each command is answered.
+//! `rbd_lab` plays a script of client sessions on block images and prints what each command is
+//! answered.
 //!
 //! ```text
 //! $ printf 'client c1 a\nc1 create disk 8192 object 4096\nc1 write disk 4094 68656c6c6f\nc1 read disk 4094 5\n' | rbd_lab run
@@ -7,20 +8,22 @@
 //! 4 c1 ok 68656c6c6f
 //! ```
 //!
-//! The script is read from the standard input to its end and judged as a whole: one that has a faulty line, or
-//! a form that isn't built yet, plays nothing. Its commands are then answered in order, each by single
-//! operations on single objects of a site, and the replies are printed at the end, all of them or, where the
-//! output fails, a first part. With `--trace` the history and the operation logs come before the replies.
+//! The script is read from the standard input to its end and judged as a whole: one that has a
+//! faulty line, or a form that isn't built yet, plays nothing. Its commands are then answered in
+//! order, each by single operations on single objects of a site, and the replies are printed at the
+//! end, all of them or, where the output fails, a first part. With `--trace` the history and the
+//! operation logs come before the replies.
 //!
 //! ```text
 //! Source -> read_to -> read -> judged -> Solo::play, line by line -> replies, trace -> write_all -> Sink
 //!           bytes      script            history, log                text
 //! ```
 //!
-//! [`run::run_alone`] has the contract: what is printed tells a history whose replies are the flat-copy
-//! machine's. Reading and printing take time in proportion to the text; a command's work grows with the objects
-//! that it touches and the logarithm of their number, not with the image's size or with what was done before. The
-//! script, the objects, history, logs and the output lie in memory at the same time.
+//! [`run::run_alone`] has the contract: what is printed tells a history whose replies are the
+//! flat-copy machine's. Reading and printing take time in proportion to the text; a command's work
+//! grows with the objects that it touches and the logarithm of their number, not with the image's
+//! size or with what was done before. The script, the objects, history, logs and the output lie in
+//! memory at the same time.
 #![tactic(auto)]
 
 use rbd_edge::{StdSink, StdSource};

@@ -50,8 +50,8 @@ impl Status {
     }
 }
 
-/// Runs the program, as [`run_alone`] does. It may start threads and wait for them; no words that are
-/// built do.
+/// Runs the program, as [`run_alone`] does. It may start threads and wait for them; no words that
+/// are built do.
 pub fn run<R: Threads + Wait + Sync, S: Source, K: Sink>(
     _rt: &R,
     alloc: Global,
@@ -83,11 +83,11 @@ pub fn run<R: Threads + Wait + Sync, S: Source, K: Sink>(
     run_alone(alloc, words, source, sink)
 }
 
-/// Runs the program: the words without the program's name, a source that has the script, and a sink for
-/// all that is printed.
+/// Runs the program: the words without the program's name, a source that has the script, and a sink
+/// for all that is printed.
 ///
-/// The script is read to its end, or to one byte past the limit, before it is judged; a script that isn't
-/// one plays nothing. What is printed is whole before printing begins.
+/// The script is read to its end, or to one byte past the limit, before it is judged; a script that
+/// isn't one plays nothing. What is printed is whole before printing begins.
 pub fn run_alone<S: Source, K: Sink>(
     alloc: Global,
     words: &[String],

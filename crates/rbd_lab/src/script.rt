@@ -9,8 +9,8 @@ use rbd_script::{Declared, Line, LineCause, LineFault, Said, Script, ScriptFault
 use rbd_solo::is_built;
 use std::alloc::Global;
 
-/// The script that the bytes are, or the first fault of a line. Where the grammar has none, the first line
-/// with a form that isn't built yet is an unknown word.
+/// The script that the bytes are, or the first fault of a line. Where the grammar has none, the
+/// first line with a form that isn't built yet is an unknown word.
 pub fn judged(alloc: Global, bytes: &[u8]) -> Result<Script, ScriptFault>
     ensures script { IfOk result (λ script. told.judged bytes.now ≡ Ok script) }
     ensures built { IfOk result (λ script. told.first_unbuilt script ≡ None) }

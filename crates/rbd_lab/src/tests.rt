@@ -39,8 +39,8 @@ fn words(alloc: Global, text: &str) -> Result<Vec<String>, Fail> {
     Ok(words)
 }
 
-/// Runs with a source in blocks of seven bytes and a sink that takes five at a time: the status, and the
-/// sink.
+/// Runs with a source in blocks of seven bytes and a sink that takes five at a time: the status,
+/// and the sink.
 fn printed(alloc: Global, text: &str, script: &str) -> Result<(Status, MemSink), Fail> {
     let words = words(alloc, text)?;
     let bytes = Vec::from_slice(alloc, script.as_bytes())?;

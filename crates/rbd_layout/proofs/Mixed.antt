@@ -1,5 +1,5 @@
--- Numbers in a mixed base. With units of `u` bytes, `c` objects in a stripe and `per` units in an object,
--- a byte is (set, row, position, rest): ((set * per + row) * c + position) * u + rest.
+-- Numbers in a mixed base. With units of `u` bytes, `c` objects in a stripe and `per` units in an
+-- object, a byte is (set, row, position, rest): ((set * per + row) * c + position) * u + rest.
 use Rattle.std.proofs.Common.{◌≡◌, ℕ, ◌+◌, ◌*◌, ◌/◌, ◌%◌, ◌<◌, ◌≤◌, ◌⊎◌, inl, inr, refl, ap, arith}
 use Rattle.std.proofs.lemmas.Nat.{div-mul-add, mod-mul-add, div-add-mod', le-div, div_below}
 use Rattle.std.proofs.Math.Nat.{mul-le-mul_right, mod-lt, div-mul-le_self}
@@ -74,8 +74,8 @@ off-byt u c per n o hu hc hp h =
     )
     (div-add-mod' o u)
 
--- Of two bytes the one in the lower set comes first; in one set the one in the lower row; in one row the
--- one in the lower object.
+-- Of two bytes the one in the lower set comes first; in one set the one in the lower row; in one
+-- row the one in the lower object.
 pub set_lt : (u c per n o m q : ℕ) → 0 < u → 0 < c → n / c < m / c → o < per * u → byt u c per n o < byt u c per m q
 set_lt u c per n o m q hu hc s h =
     let row : o / u < per = row_lt u per o hu h in

@@ -17,7 +17,8 @@ use Rattle.rbd_layout.proofs.Limits.{shape_of}
 use Rattle.rbd_layout.proofs.Places.{object_of_byte, offset_of_byte, ascends}
 use Rattle.rbd_layout.proofs.Cover.{range_append, map-range, cover}
 
--- how many bytes of an object lie together in the image: all of it, where no other object is in the stripe, else a unit
+-- how many bytes of an object lie together in the image: all of it, where no other object is in the
+-- stripe, else a unit
 abbrev pub IsRun : Layout → ℕ → Type 0
 IsRun l run = ((l.count ≡ 1) × (run ≡ l.object)) ⊎ ((l.count ≢ 1) × (run ≡ l.unit))
 
@@ -32,13 +33,13 @@ whole_object l one n o =
     rw (one, div-one n, mod-one n) (omega (arith, rest))
 
 -- the digits of an offset further on in its unit
-same_row : (u o k : ℕ) → o % u + k < u → ((o + k) / u ≡ o / u) × ((o + k) % u ≡ o % u + k)
+pub same_row : (u o k : ℕ) → o % u + k < u → ((o + k) / u ≡ o / u) × ((o + k) % u ≡ o % u + k)
 same_row u o k h =
     let whole : o / u * u + o % u ≡ o = div-add-mod' o u in
     let e : o / u * u + (o % u + k) ≡ o + k = omega arith in
     ((rw e at (div-mul-add (o / u) u (o % u + k) h)), (rw e at (mod-mul-add (o / u) u (o % u + k) h)))
 
-next_row : (u o k : ℕ) → 0 < u → o % u + k ≡ u → ((o + k) / u ≡ o / u + 1) × ((o + k) % u ≡ 0)
+pub next_row : (u o k : ℕ) → 0 < u → o % u + k ≡ u → ((o + k) / u ≡ o / u + 1) × ((o + k) % u ≡ 0)
 next_row u o k hu h =
     let whole : o / u * u + o % u ≡ o = div-add-mod' o u in
     let e : (o / u + 1) * u + 0 ≡ o + k = omega arith in

@@ -5,7 +5,8 @@ use Rattle.rbd_kinds.specs.declared.layout.Layout.{Layout}
 use Rattle.rbd_kinds.specs.Form.{HasFewObjects}
 use Rattle.rbd_kinds.specs.Striping.{IsLayout}
 
--- objects of a usual size, the stripe unit the whole object, and one object in a stripe, where nothing else is asked for
+-- objects of a usual size, the stripe unit the whole object, and one object in a stripe, where
+-- nothing else is asked for
 abbrev pub layout_on : (usual : ℕ) → Shape → Layout
 layout_on usual shape =
     let object : ℕ = unwrap_or shape.object usual in
@@ -18,7 +19,8 @@ layout_of shape = layout_on 4194304 shape
 abbrev pub asks_for_layout : Shape → Bool
 asks_for_layout shape = is_some shape.object || is_some shape.unit || is_some shape.count
 
--- A clone's is its parent's. Where any part is asked for, the parent gives the usual object size alone.
+-- A clone's is its parent's. Where any part is asked for, the parent gives the usual object size
+-- alone.
 abbrev pub clone_layout_of : (parent : Layout) → Shape → Layout
 clone_layout_of parent shape = if asks_for_layout shape then layout_on parent.object shape else parent
 

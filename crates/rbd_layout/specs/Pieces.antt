@@ -32,7 +32,8 @@ pub record IsPart (l : Layout) (object : ℕ) (p : Part) : Type 0 where
   pub within : p.offset + p.len ≤ l.object
   pub lies : (k : ℕ) → k < p.len → (object_of l (p.at + k) ≡ object) × (offset_of l (p.at + k) ≡ p.offset + k)
 
--- The parts are the extent's bytes in an object, each once and in order, and parts that touch are joined.
+-- The parts are the extent's bytes in an object, each once and in order, and parts that touch are
+-- joined.
 pub record IsPartsOf (l : Layout) (e : Extent) (object : ℕ) (parts : List Part) : Type 0 where
   pub each : All (IsPart l object) parts
   pub cover : flat_map places_of parts ≡ places_in l e object
@@ -66,7 +67,8 @@ piece_in l e object = record { object = object; parts = parts_at l (places_in l 
 abbrev pub is_touched : Piece → Bool
 is_touched p = nat_lt 0 (length p.parts)
 
--- One piece for each object that the extent touches. No byte has an object whose number is above its own.
+-- One piece for each object that the extent touches. No byte has an object whose number is above
+-- its own.
 abbrev pub pieces_of : Layout → Extent → List Piece
 pieces_of l e = filter is_touched (map (piece_in l e) (range_with_len 0 (e.at + e.len)))
 

@@ -13,16 +13,17 @@ const USUAL_OBJECT: u64 = 4_194_304;
 /// How many objects an image has at most.
 const MOST_OBJECTS: u64 = 1_048_576;
 
-/// The layout of an image that is made new: where its shape doesn't say otherwise, objects of 4 MiB, the stripe
-/// unit the whole object, and one object in a stripe (Ceph: `rbd create`).
+/// The layout of an image that is made new: where its shape doesn't say otherwise, objects of 4
+/// MiB, the stripe unit the whole object, and one object in a stripe (Ceph: `rbd create`).
 pub fn layout_of(shape: &Shape) -> Layout
     ensures { result ≡ asked.layout_of shape.now }
 {
     layout_on(USUAL_OBJECT, shape)
 }
 
-/// The layout of a clone: its parent's, where its shape says nothing of it. Where it says anything, the object size
-/// is the parent's unless it says otherwise, and the rest is as for an image that is made new (own).
+/// The layout of a clone: its parent's, where its shape says nothing of it. Where it says anything,
+/// the object size is the parent's unless it says otherwise, and the rest is as for an image that
+/// is made new (own).
 pub fn clone_layout_of(parent: &Layout, shape: &Shape) -> Layout
     ensures { result ≡ asked.clone_layout_of parent.now shape.now }
 {

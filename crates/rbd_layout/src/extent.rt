@@ -9,9 +9,9 @@ use crate::types::{Piece, Place};
 use rbd_kinds::{Extent, Layout, NoMemory, Part, Parts};
 use std::alloc::Global;
 
-/// The pieces of an extent: its bytes grouped by object. There is one piece for each object that the
-/// extent touches, in the order of their numbers; in a piece parts that touch are joined (Ceph: RBD
-/// striping). An empty extent has none.
+/// The pieces of an extent: its bytes grouped by object. There is one piece for each object that
+/// the extent touches, in the order of their numbers; in a piece parts that touch are joined (Ceph:
+/// RBD striping). An empty extent has none.
 ///
 /// The answer `NoMemory` comes only where a growth of the list or of its parts was refused.
 pub fn pieces(alloc: Global, layout: &Layout, extent: &Extent) -> Result<Vec<Piece>, NoMemory>
@@ -32,9 +32,9 @@ pub fn pieces(alloc: Global, layout: &Layout, extent: &Extent) -> Result<Vec<Pie
     Ok(pieces)
 }
 
-/// The parts of an extent that lie in one object: those of its piece in [`pieces`], or none where the
-/// extent doesn't touch the object. An object's bytes below a clone's overlap are its parts of the extent
-/// from 0 to the overlap.
+/// The parts of an extent that lie in one object: those of its piece in [`pieces`], or none where
+/// the extent doesn't touch the object. An object's bytes below a clone's overlap are its parts of
+/// the extent from 0 to the overlap.
 ///
 /// The answer `NoMemory` comes only where a growth of the parts was refused.
 pub fn parts_in(
@@ -67,8 +67,8 @@ pub fn parts_in(
 
 /// How many bytes of an object lie below an image byte. They are the object's first ones.
 ///
-/// In the set of the first byte that isn't below, the objects before that byte's own have their unit of
-/// its stripe too, and those after it don't.
+/// In the set of the first byte that isn't below, the objects before that byte's own have their
+/// unit of its stripe too, and those after it don't.
 fn held(layout: &Layout, object: u64, below: u64) -> u64
     requires layout { IsLayout layout.now }
     requires below { below < 2 ^ 63 }

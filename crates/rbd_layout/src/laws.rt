@@ -35,8 +35,8 @@ pub fn bytes_of_an_object()
         ↔ ((offset : ℕ) × (offset < l.object) × (byte_at l object offset ≡ x) × (x < size)) }
 {}
 
-/// An object is inside an overlap exactly where its byte at offset 0 is below the overlap, and it is one
-/// of the objects of a size exactly where that byte is below the size.
+/// An object is inside an overlap exactly where its byte at offset 0 is below the overlap, and it
+/// is one of the objects of a size exactly where that byte is below the size.
 pub fn first_byte_decides()
     ensures inside { (l : Layout) → IsLayout l → (object overlap : ℕ)
         → ((offset : ℕ) × (offset < l.object) × (byte_at l object offset < overlap))
@@ -52,8 +52,8 @@ pub fn objects_grow()
         → IsObjectCount l small few → IsObjectCount l great many → few ≤ many }
 {}
 
-/// A piece's parts cover exactly the extent's bytes in its object. No byte lies in two of them, and a later
-/// part lies further on in the object too. There is one list of such parts.
+/// A piece's parts cover exactly the extent's bytes in its object. No byte lies in two of them, and
+/// a later part lies further on in the object too. There is one list of such parts.
 pub fn parts_are_the_bytes()
     ensures cover { (l : Layout) (e : Extent) (object : ℕ) (parts : List Part) → IsPartsOf l e object parts → (x : ℕ)
         → Any (IsIn x) parts ↔ (IsWithin e x × (object_of l x ≡ object)) }
@@ -65,7 +65,8 @@ pub fn parts_are_the_bytes()
         → IsPartsOf l e object some → IsPartsOf l e object others → some ≡ others }
 {}
 
-/// The pieces of an extent are its bytes, no byte lies in two of them, and an extent has one list of pieces.
+/// The pieces of an extent are its bytes, no byte lies in two of them, and an extent has one list
+/// of pieces.
 pub fn pieces_are_the_bytes()
     ensures cover { (l : Layout) (e : Extent) (pieces : List Piece) → IsPieces l e pieces → (x : ℕ)
         → Any (IsInPiece x) pieces ↔ IsWithin e x }

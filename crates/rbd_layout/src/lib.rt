@@ -1,7 +1,8 @@
-//! Where the bytes of a block image lie: the striping of an image over objects (Ceph: RBD striping).
+//! Where the bytes of a block image lie: the striping of an image over objects (Ceph: RBD
+//! striping).
 //!
-//! A stripe is one stripe unit in each of `count` objects. Stripes are filled one after another, and
-//! when the `count` objects are full, the next `count` objects begin: these are an object set.
+//! A stripe is one stripe unit in each of `count` objects. Stripes are filled one after another,
+//! and when the `count` objects are full, the next `count` objects begin: these are an object set.
 //!
 //! ```text
 //! Layout { object: 8192, unit: 4096, count: 3 }       unit 0 is image bytes 0 to 4095
@@ -20,23 +21,24 @@
 //!
 //! # Cost
 //!
-//! All but [`pieces`] and [`parts_in`] is a handful of divisions, and takes no memory. These two take a
-//! step for each part that they return, and [`pieces`] one for each object of the first and the last set
-//! that the extent doesn't touch, at most 15 in each. Neither the object's size nor the image's counts.
-//! They take no memory but for what they return.
+//! All but [`pieces`] and [`parts_in`] is a handful of divisions, and takes no memory. These two
+//! take a step for each part that they return, and [`pieces`] one for each object of the first and
+//! the last set that the extent doesn't touch, at most 15 in each. Neither the object's size nor
+//! the image's counts. They take no memory but for what they return.
 //!
 //! # How it works
 //!
 //! In one object a greater offset is a greater image byte. So the bytes of an object that lie in an
-//! extent are those from one offset to another: as many as lie below the extent's begin, and as many as
-//! lie below its end. [`pieces`] computes the two and walks from the one to the other, a stripe unit at
-//! a time, or at once where the stripe count is 1, since there the units of an object lie together.
+//! extent are those from one offset to another: as many as lie below the extent's begin, and as
+//! many as lie below its end. [`pieces`] computes the two and walks from the one to the other, a
+//! stripe unit at a time, or at once where the stripe count is 1, since there the units of an
+//! object lie together.
 //!
-//! The laws are public functions with an empty body. Their contracts say what the layers above rely on:
-//! places and bytes are inverse ([`place_of_a_byte`], [`byte_at_a_place`]), which bytes an object has
-//! ([`bytes_ascend`], [`bytes_of_an_object`], [`first_byte_decides`]), and that the pieces of an extent are
-//! its bytes, each once, and are one list ([`parts_are_the_bytes`], [`pieces_are_the_bytes`]), which a
-//! definition computes ([`pieces_are_listed`]).
+//! The laws are public functions with an empty body. Their contracts say what the layers above rely
+//! on: places and bytes are inverse ([`place_of_a_byte`], [`byte_at_a_place`]), which bytes an
+//! object has ([`bytes_ascend`], [`bytes_of_an_object`], [`first_byte_decides`]), and that the
+//! pieces of an extent are its bytes, each once, and are one list ([`parts_are_the_bytes`],
+//! [`pieces_are_the_bytes`]), which a definition computes ([`pieces_are_listed`]).
 #![tactic(auto)]
 
 mod asked;

@@ -21,9 +21,10 @@ impl fmt::Display for BadShape {
 
 impl Error for BadShape {}
 
-/// Whether a layout keeps the limits, and `BadShape` where it doesn't. The object size is a power of two
-/// from 4,096 to 33,554,432 bytes, the stripe unit one from 512 bytes to the object size, and the stripe
-/// count is 1 to 16 (Ceph: RBD striping; the ranges of unit and count are this project's own).
+/// Whether a layout keeps the limits, and `BadShape` where it doesn't. The object size is a power
+/// of two from 4,096 to 33,554,432 bytes, the stripe unit one from 512 bytes to the object size,
+/// and the stripe count is 1 to 16 (Ceph: RBD striping; the ranges of unit and count are this
+/// project's own).
 pub fn check(layout: &Layout) -> Result<(), BadShape>
     ensures valid { IsOk result ↔ IsLayout layout.now }
 {

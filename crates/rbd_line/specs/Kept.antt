@@ -16,7 +16,8 @@ held_at slot s = cond (s.slot == slot) (record s { stage = held_stage s.stage })
 abbrev pub passed_at : (slot : ℕ) → Standing → Standing
 passed_at slot s = cond (s.slot == slot) (record s { stage = stage.Past }) s
 
--- the line is fair, an object is held by the members that hold it, in line order, and who isn't a member holds none
+-- the line is fair, an object is held by the members that hold it, in line order, and who isn't a
+-- member holds none
 pub record IsKept (held holders : ℕ → List ℕ) (members : List Member) : Type 0 where
   pub fair : IsFairLine members
   pub turns : (object : ℕ) → holders object ≡ slots (filter (holds object) members)

@@ -7,8 +7,8 @@ use Rattle.rbd_course.specs.Course.{held_stage}
 use Rattle.rbd_guard.specs.Order.{is_in, AreApart}
 use Rattle.rbd_line.specs.Turns.{begins_with}
 
--- a request in the line: its slot, whether it is alone on the image, how far it has come, and the objects whose tickets it has,
--- in the order in which it took them
+-- a request in the line: its slot, whether it is alone on the image, how far it has come, and the
+-- objects whose tickets it has, in the order in which it took them
 pub record Member : Type 0 where
   pub slot : ℕ
   pub alone : Bool

@@ -34,7 +34,8 @@ pub record EndsRefused (refuses : HeaderView → Option Refusal) (late : Refusal
   pub comes : changed ≡ true → late why
 
 module _ (refuses : HeaderView → Option Refusal) (late : Refusal → Type 0) (grants : Reply → Type 0) where
-  -- Each answer refuses it, or it goes on, and then the answer refuses nothing; where it isn't refused it grants a reply.
+  -- Each answer refuses it, or it goes on, and then the answer refuses nothing; where it isn't
+  -- refused it grants a reply.
   abbrev pub IsRefusing : Bool → Plan → Type 0
   IsRefusing changed (Ask site why o next) =
       (a : Answer) → CanGive o a

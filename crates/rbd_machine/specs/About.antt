@@ -1,4 +1,5 @@
--- Which operations are a request's own: a first one, which tells its image, and those of that image.
+-- Which operations are a request's own: a first one, which tells its image, and those of that
+-- image.
 use Rattle.std.specs.Prelude.{◌≡◌, ℕ, List, [], ◌∷◌, Option, Some, None}
 use Rattle.rbd_kinds.specs.declared.answer.Answer.TheVariants as answer
 use Rattle.rbd_kinds.specs.declared.directory_op.DirectoryOp.TheVariants as directory

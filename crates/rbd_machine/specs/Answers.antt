@@ -1,5 +1,5 @@
--- Which answers an operation can give. What no request ever gets isn't counted: a header, a journal or a snapshot
--- that is made is new, since its id was just drawn or was looked up under the lock.
+-- Which answers an operation can give. What no request ever gets isn't counted: a header, a journal
+-- or a snapshot that is made is new, since its id was just drawn or was looked up under the lock.
 use Rattle.std.specs.Prelude.{◌≡◌, Bool, true, false, None}
 use Rattle.rbd_kinds.specs.declared.answer.Answer.{Answer}
 use Rattle.rbd_kinds.specs.declared.answer.Answer.TheVariants as answer

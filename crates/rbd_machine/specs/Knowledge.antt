@@ -1,4 +1,5 @@
--- What a request knows: what its operations were answered, and what it waited for. It names no site's state.
+-- What a request knows: what its operations were answered, and what it waited for. It names no
+-- site's state.
 use Rattle.std.specs.Prelude.{ℕ, ◌==◌, ◌&&◌, Bool, true, false, not, if◌then◌else◌, List, [], ◌∷◌, map, filter, Option, Some, None, option_map}
 use Rattle.rbd_kinds.specs.declared.answer.Answer.{Answer}
 use Rattle.rbd_kinds.specs.declared.answer.Answer.TheVariants as answer
@@ -20,8 +21,8 @@ pub record Place : Type 0 where
   pub site : SiteId
   pub image : ℕ
 
--- An image whose lock it waited for, whether it is alone on it, and its header: what the first look behind told, with
--- its own changes since.
+-- An image whose lock it waited for, whether it is alone on it, and its header: what the first look
+-- behind told, with its own changes since.
 pub record Own : Type 0 where
   pub site : SiteId
   pub image : ℕ

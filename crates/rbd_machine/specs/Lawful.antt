@@ -9,8 +9,8 @@ use Rattle.rbd_machine.specs.Label.{Label}
 use Rattle.rbd_machine.specs.Permits.{Permits}
 use Rattle.rbd_machine.specs.Plan.{Plan, Ask, Await, Note, Return, Goto, Standing}
 
--- Each operation is permitted by what is known there, whatever those before it were answered of what they can give.
--- A label is gone to with what is known at it.
+-- Each operation is permitted by what is known there, whatever those before it were answered of
+-- what they can give. A label is gone to with what is known at it.
 abbrev pub IsLawful : (at : Label → Knowledge) → Knowledge → Plan → Type 0
 IsLawful at k (Ask site why op next) = Permits k site op × ((answer : Answer) → CanGive op answer → IsLawful at (learned k site op answer) (next answer))
 IsLawful at k (Await wait next) = IsLawful at (passed k wait) next

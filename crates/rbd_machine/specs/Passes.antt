@@ -13,7 +13,8 @@ pub record GoesTo (plan : Plan) (pass : List Answered) : Type 0 where
   pub feds : List Fed
   pub walk : IsWalk Goto plan feds pass (Goto label)
 
--- Passes, one after another, each to a label at which the next begins; the last goes to where a plan is left.
+-- Passes, one after another, each to a label at which the next begins; the last goes to where a
+-- plan is left.
 abbrev pub ArePasses : (Label → Plan) → Plan → List (List Answered) → (left : Plan) → Type 0
 ArePasses labels plan [] left = left ≡ plan
 ArePasses labels plan (pass ∷ passes) left = (goes : GoesTo plan pass) × ArePasses labels (labels goes.label) passes left
@@ -21,7 +22,8 @@ ArePasses labels plan (pass ∷ passes) left = (goes : GoesTo plan pass) × AreP
 abbrev pub joined : List (List Answered) → List Answered
 joined = flat_map (λ pass. pass)
 
--- The steps of a walk are those of passes, each to a label, and then those of a walk without a jump.
+-- The steps of a walk are those of passes, each to a label, and then those of a walk without a
+-- jump.
 pub record EndsInPass (labels : Label → Plan) (plan : Plan) (steps : List Answered) (last : Plan) : Type 0 where
   pub passes : List (List Answered)
   pub left : Plan

@@ -51,8 +51,8 @@ IsPath labels plan (step ∷ more) =
 abbrev pub IsPass : Plan → List Answered → Type 0
 IsPass = IsPath Goto
 
--- What a request is fed, one thing after another, leads it from a plan to another; the steps are the operations that
--- it asked for, each with the answer that it was fed.
+-- What a request is fed, one thing after another, leads it from a plan to another; the steps are
+-- the operations that it asked for, each with the answer that it was fed.
 pub record IsFirstStep (site : SiteId) (op : Op) (answer : Answer) (steps : List Answered) : Type 0 where
   pub rest : List Answered
   pub is : steps ≡ record { site = site; op = op; answer = answer } ∷ rest

@@ -1,5 +1,6 @@
--- What a request may do by what it knows. An operation that no request does yet isn't permitted: its row comes with the
--- first request that does it. No image has a parent, a journal or a map yet, so nothing is said of these either.
+-- What a request may do by what it knows. An operation that no request does yet isn't permitted:
+-- its row comes with the first request that does it. No image has a parent, a journal or a map yet,
+-- so nothing is said of these either.
 use Rattle.std.specs.Prelude.{◌≡◌, ℕ, ◌+◌, ◌≤◌, Bool, true, false, List, All, length, Option, Some, None}
 use Rattle.rbd_kinds.specs.declared.data_op.DataOp.{DataOp}
 use Rattle.rbd_kinds.specs.declared.data_op.DataOp.TheVariants as object
@@ -22,7 +23,8 @@ use Rattle.rbd_header.specs.Header.{context_of, is_full, snap_in}
 use Rattle.rbd_layout.specs.Pieces.{IsPart}
 use Rattle.rbd_machine.specs.Knowledge.{Knowledge, own_of, is_drawn}
 
--- It has the image's lock, and by its own look, with its own changes since, the header meets a condition.
+-- It has the image's lock, and by its own look, with its own changes since, the header meets a
+-- condition.
 pub record OwnsBy (k : Knowledge) (site : SiteId) (image : ℕ) (condition : (alone : Bool) → HeaderView → Type 0) : Type 0 where
   pub alone : Bool
   pub header : HeaderView

@@ -16,7 +16,8 @@ use Rattle.rbd_machine.specs.Label.{Label}
 use Rattle.rbd_machine.specs.Wait.{Wait, want_of}
 use Rattle.rbd_machine.specs.declared.reason.Reason.{Reason}
 
--- What is left of a request: a finite tree of steps. A request that may begin a part again goes to a label.
+-- What is left of a request: a finite tree of steps. A request that may begin a part again goes to
+-- a label.
 pub data Plan : Type 0 where
   -- an operation at a site, why it is asked for, and how it goes on after each answer
   Ask : SiteId → Reason → Op → (Answer → Plan) → Plan

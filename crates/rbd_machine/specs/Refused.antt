@@ -18,8 +18,8 @@ use Rattle.rbd_machine.specs.About.{AreOwn}
 use Rattle.rbd_machine.specs.Answers.{CanGive}
 use Rattle.rbd_machine.specs.Path.{Answered}
 
--- What an answer to an operation refuses, where a request refuses some headers: the fence refuses anything, what isn't
--- there is no image, and a new name may be held, or be one too many.
+-- What an answer to an operation refuses, where a request refuses some headers: the fence refuses
+-- anything, what isn't there is no image, and a new name may be held, or be one too many.
 abbrev pub refusal_by : (HeaderView → Option Refusal) → Op → Answer → Option Refusal
 refusal_by refuses o answer.Fenced = Some refusal.Fenced
 refusal_by refuses (op.Directory (directory.Find name)) answer.Absent = Some refusal.NoImage
@@ -60,16 +60,16 @@ abbrev pub AreAllowed : (HeaderView → Option Refusal) → List Answered → Ty
 AreAllowed refuses [] = Unit {0}
 AreAllowed refuses (step ∷ steps) = (refusal_by refuses step.op step.answer ≡ None) × AreAllowed refuses steps
 
--- Which refusals may come when a part was done: none, of a request that changes by its last operation alone, or the
--- fence's, which may come at any time.
+-- Which refusals may come when a part was done: none, of a request that changes by its last
+-- operation alone, or the fence's, which may come at any time.
 abbrev pub never : Refusal → Type 0
 never x = ⊥
 
 abbrev pub by_fence : Refusal → Type 0
 by_fence x = x ≡ refusal.Fenced
 
--- The answer to the last operation refuses it so, as the first refusal that holds there, and no answer before refused
--- it; and unless it may come late, nothing was changed before.
+-- The answer to the last operation refuses it so, as the first refusal that holds there, and no
+-- answer before refused it; and unless it may come late, nothing was changed before.
 pub record IsRefusedBy (refuses : HeaderView → Option Refusal) (late : Refusal → Type 0) (steps : List Answered) (x : Refusal) : Type 0 where
   pub before : List Answered
   pub last : Answered

@@ -60,8 +60,8 @@ pub enum Stage {
 }
 
 impl Approach {
-    /// The way of a change of the image of a name at a site. It is alone in the image's line, or goes beside other
-    /// changes. It takes no memory.
+    /// The way of a change of the image of a name at a site. It is alone in the image's line, or
+    /// goes beside other changes. It takes no memory.
     pub fn new(site: SiteId, name: Name, alone: bool) -> Self
         ensures { (refuses : HeaderView → Option Refusal) (act : ℕ → HeaderView → Plan) → rest_of result refuses act ≡ change site name alone refuses act }
     {
@@ -127,8 +127,8 @@ impl Approach {
         }
     }
 
-    /// Goes on with what it is fed, by the refusals of a rule. It has ended with the image where its own look told a
-    /// header that refuses nothing. It takes no memory.
+    /// Goes on with what it is fed, by the refusals of a rule. It has ended with the image where
+    /// its own look told a header that refuses nothing. It takes no memory.
     pub fn feed<R: Refuses>(&mut self, rule: &R, fed: &Fed) -> Progress<ImageId>
         requires { CanBeFedAt self.old.stage self.old.name fed.now }
         ensures { (act : ℕ → HeaderView → Plan) → Approaches (R.refuses rule.now) act fed.now (plan_after (rest_of self.old (R.refuses rule.now) act) fed.now) result self.old self.new }

@@ -27,14 +27,15 @@ ghost use Rattle.rbd_machine.specs.Path.{Answered, IsPath, IsPass, IsWalk, IsBou
 ghost use Rattle.rbd_machine.specs.Passes.{EndsInPass, jumps};
 ghost use Rattle.rbd_machine.specs.Steps.{change};
 
-/// A request that wants an operation has one to ask for, and one that wants an event noted has that event.
+/// A request that wants an operation has one to ask for, and one that wants an event noted has that
+/// event.
 pub fn what_is_wanted_is_there()
     ensures operation { (plan : Plan) (site : SiteId) (kind : OpKind) → IsLive plan → Wants plan (WantsOp site kind) → IsAsking plan }
     ensures event { (plan : Plan) (site : SiteId) (image : ℕ) → IsLive plan → Wants plan (Note site image) → IsNoting plan }
 {}
 
-/// The operations that a request asks for, with the answers that it is fed, are a path of its plan, whatever it is
-/// fed between. Each label of the plan stands at an operation.
+/// The operations that a request asks for, with the answers that it is fed, are a path of its plan,
+/// whatever it is fed between. Each label of the plan stands at an operation.
 pub fn walks_are_paths()
     ensures { (labels : Label → Plan) → ((label : Label) → IsAsking (labels label))
         → (feds : List Fed) (plan : Plan) (steps : List Answered) (last : Plan) → IsWalk labels plan feds steps last → IsPath labels plan steps }
@@ -45,14 +46,16 @@ pub fn paths_keep_bounds()
     ensures { (n : ℕ) (plan : Plan) (path : List Answered) → IsBounded plan n → IsPass plan path → length path ≤ n }
 {}
 
-/// A walk that goes to labels is passes one after another: each goes from where the one before went to its own label, and
-/// the last, which ends where the walk does, goes to none. Its steps are theirs.
+/// A walk that goes to labels is passes one after another: each goes from where the one before went
+/// to its own label, and the last, which ends where the walk does, goes to none. Its steps are
+/// theirs.
 pub fn walks_end_in_a_pass()
     ensures { (labels : Label → Plan) (plan : Plan) (feds : List Fed) (steps : List Answered) (last : Plan)
         → IsWalk labels plan feds steps last → EndsInPass labels plan steps last }
 {}
 
-/// A walk has at most as many operations as its plan, and for each label that it goes to as many as the plan at a label.
+/// A walk has at most as many operations as its plan, and for each label that it goes to as many as
+/// the plan at a label.
 pub fn walks_keep_bounds()
     ensures { (labels : Label → Plan) (plan : Plan) (feds : List Fed) (steps : List Answered) (last : Plan) (n each : ℕ)
         → IsBounded plan n → ((label : Label) → IsBounded (labels label) each) → IsWalk labels plan feds steps last
@@ -65,8 +68,8 @@ pub fn changes_look_twice()
         → ((image : ℕ) (h : HeaderView) → IsBounded (act image h) n) → IsBounded (change site name alone refuses act) (n + 3) }
 {}
 
-/// What a request doesn't own by a look of its own it may not change: no bytes are written, and no snapshot is taken or
-/// removed, before the look behind the lock, whatever was told before.
+/// What a request doesn't own by a look of its own it may not change: no bytes are written, and no
+/// snapshot is taken or removed, before the look behind the lock, whatever was told before.
 pub fn what_is_not_owned_is_left()
     ensures bytes { (k : Knowledge) (site : SiteId) (image number : ℕ) (context : SnapContext) (must : Bool) (parts : List Part) (bytes : List ℕ)
         → own_of k.owns site image ≡ None → Permits k site (Data image number (Write context must parts bytes)) → ⊥ }
@@ -76,8 +79,8 @@ pub fn what_is_not_owned_is_left()
         → own_of k.owns site image ≡ None → Permits k site (Header image (SnapRemove snap)) → ⊥ }
 {}
 
-/// By its own look a request may not write under another snapshot context than that look's, nor remove a snapshot that it
-/// lists as protected.
+/// By its own look a request may not write under another snapshot context than that look's, nor
+/// remove a snapshot that it lists as protected.
 pub fn the_own_look_decides()
     ensures context { (k : Knowledge) (site : SiteId) (image number : ℕ) (alone : Bool) (h : HeaderView) (context : SnapContext) (must : Bool) (parts : List Part) (bytes : List ℕ)
         → own_of k.owns site image ≡ Some (record { site = site; image = image; alone = alone; header = Some h })
@@ -88,7 +91,8 @@ pub fn the_own_look_decides()
         → Permits k site (Header image (SnapRemove snap)) → ⊥ }
 {}
 
-/// A lawful request asks only for what it may by what it knows, and stays lawful by what it then knows, whatever it is fed.
+/// A lawful request asks only for what it may by what it knows, and stays lawful by what it then
+/// knows, whatever it is fed.
 pub fn lawful_requests_stay_lawful()
     ensures asks { (at : Label → Knowledge) (k : Knowledge) (site : SiteId) (why : Reason) (op : Op) (next : Answer → Plan)
         → IsLawful at k (Ask site why op next) → Permits k site op }

@@ -1,5 +1,5 @@
-//! Requests as machines that want one thing at a time. A request does nothing itself: whoever holds it asks what it
-//! wants, does that, and feeds it what came of it, until it is done with its reply.
+//! Requests as machines that want one thing at a time. A request does nothing itself: whoever holds
+//! it asks what it wants, does that, and feeds it what came of it, until it is done with its reply.
 //!
 //! ```text
 //! let mut way = Approach::new(SiteId::A, disk, true);     // a change that is alone on the image `disk`
@@ -24,19 +24,20 @@
 //! | `Note` | takes the event (`event`), and notes it in the image's journal | `Passed` |
 //! | `Join`, `Hold`, `Turn`, `Applied`, `Leave` | lets it wait until it may go on | `Passed` |
 //!
-//! - What it wants stays the same until it is fed. `feed` takes no memory, so the answer to an operation that was done
-//!   is never lost for want of it; a `ready` that is refused changes nothing, and may be called again.
-//! - The answer `fenced` ends a request with Fenced. What isn't there ends it with NoImage ([`told_image`],
-//!   [`told_header`], [`told_done`], [`refusal_of`]).
-//! - A change looks at its header twice, before it waits for the lock and under it. The look under the lock decides,
-//!   since what it shows can't change as long as the session has the lock. The look before spares a request that is
-//!   refused the wait.
+//! - What it wants stays the same until it is fed. `feed` takes no memory, so the answer to an
+//!   operation that was done is never lost for want of it; a `ready` that is refused changes
+//!   nothing, and may be called again.
+//! - The answer `fenced` ends a request with Fenced. What isn't there ends it with NoImage
+//!   ([`told_image`], [`told_header`], [`told_done`], [`refusal_of`]).
+//! - A change looks at its header twice, before it waits for the lock and under it. The look under
+//!   the lock decides, since what it shows can't change as long as the session has the lock. The
+//!   look before spares a request that is refused the wait.
 //! - Clients don't change a secondary ([`non_primary`]).
 //!
 //! # Contracts
 //!
-//! Contracts see a machine as where it stands (`Standing`): the plan that is left, and the plan at each of its labels.
-//! The definitions are read in this order.
+//! Contracts see a machine as where it stands (`Standing`): the plan that is left, and the plan at
+//! each of its labels. The definitions are read in this order.
 //!
 //! | file | what it says |
 //! |---|---|
@@ -56,11 +57,12 @@
 //! | `specs/About.antt` | which operations are a request's own: of the image that the first was told |
 //! | `specs/Refused.antt` | what an answer refuses (`refusal_by`), what a refusal rests on (`IsRefusedBy`), and that it is of the request's own (`IsRefused`) |
 //!
-//! [`laws`] says that a request which wants an operation or an event noted has it, that what a request asks for, with the
-//! answers that it is fed, is a path of its plan, that a path has at most as many operations as its plan, that a request
-//! which begins again ends in a pass that doesn't, and has a pass's operations once more each time, and that a change has
-//! three operations up to its own look. A request that is lawful stays so, whatever it is fed. What it doesn't own by a look
-//! behind the lock it may not change, and that look decides what it may.
+//! [`laws`] says that a request which wants an operation or an event noted has it, that what a
+//! request asks for, with the answers that it is fed, is a path of its plan, that a path has at
+//! most as many operations as its plan, that a request which begins again ends in a pass that
+//! doesn't, and has a pass's operations once more each time, and that a change has three operations
+//! up to its own look. A request that is lawful stays so, whatever it is fed. What it doesn't own
+//! by a look behind the lock it may not change, and that look decides what it may.
 //!
 //! # A new request
 //!
@@ -83,14 +85,16 @@
 //!
 //! # Cost
 //!
-//! A call is a few words, whatever came before it. `wants` and `feed` take no memory. `next` and `event` copy what they
-//! name: [`dir_find`] copies the name once, [`header_get`] nothing. An [`Approach`] holds the name that it was given,
-//! without a copy, and takes memory in `next` alone. [`told_header`] lends the header of the answer.
+//! A call is a few words, whatever came before it. `wants` and `feed` take no memory. `next` and
+//! `event` copy what they name: [`dir_find`] copies the name once, [`header_get`] nothing. An
+//! [`Approach`] holds the name that it was given, without a copy, and takes memory in `next` alone.
+//! [`told_header`] lends the header of the answer.
 //!
 //! # How it works
 //!
-//! A machine has the step at which it stands, and each of its calls is a `match` on the step. An [`Approach`] doesn't know
-//! what its change refuses: each `feed` is given a rule ([`Refuses`]), which it asks at both looks.
+//! A machine has the step at which it stands, and each of its calls is a `match` on the step. An
+//! [`Approach`] doesn't know what its change refuses: each `feed` is given a rule ([`Refuses`]),
+//! which it asks at both looks.
 #![tactic(auto)]
 
 mod approach;

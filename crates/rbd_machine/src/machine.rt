@@ -9,9 +9,9 @@ use crate::reason::Reason;
 use rbd_kinds::{Event, Fed, NoMemory, Op, Turn, Want};
 use std::alloc::Global;
 
-/// A request as a machine that wants one thing at a time. It does nothing itself: whoever holds it asks what it
-/// wants, does that, and feeds it what came of it, until it is done with its reply (etcd's raft is a core of this
-/// kind).
+/// A request as a machine that wants one thing at a time. It does nothing itself: whoever holds it
+/// asks what it wants, does that, and feeds it what came of it, until it is done with its reply
+/// (etcd's raft is a core of this kind).
 ///
 /// ```text
 ///        ┌──────────────────────────────────────────────────────────────┐
@@ -22,9 +22,9 @@ use std::alloc::Global;
 ///        └──Join, Hold, Turn, Applied, Leave ──▶ it may go on ──Passed──┘     ┌─Done───┴──▶ its reply
 /// ```
 ///
-/// Contracts see where it stands: the plan that is left. What it wants stays the same until it is fed. Once it is
-/// done it has no plan left, and nothing is said of it. So it isn't asked before what it wants, and a request that may be
-/// refused before any operation has a call that tells so.
+/// Contracts see where it stands: the plan that is left. What it wants stays the same until it is
+/// fed. Once it is done it has no plan left, and nothing is said of it. So it isn't asked before
+/// what it wants, and a request that may be refused before any operation has a call that tells so.
 pub trait Machine {
     /// What is left of the request.
     ghost stands: { Self → Standing };
@@ -42,7 +42,8 @@ pub trait Machine {
         requires { IsAsking (stands self.now).plan }
         ensures { IfOk result (Asks (stands self.now).plan) };
 
-    /// Why it wants its operation: a request's own steps, the way to a lock and the replay of an event are told apart.
+    /// Why it wants its operation: a request's own steps, the way to a lock and the replay of an
+    /// event are told apart.
     fn reason(&self) -> Reason
         requires { IsAsking (stands self.now).plan }
         ensures { AsksBy (stands self.now).plan result };
@@ -57,7 +58,8 @@ pub trait Machine {
         ensures stands { stands self.new ≡ stands self.old }
         ensures ready { OnOk result (IsReadyFor (is_ready self.new) fed.now) };
 
-    /// Goes on with what it is fed. Where it isn't done there is something that it wants. It takes no memory.
+    /// Goes on with what it is fed. Where it isn't done there is something that it wants. It takes
+    /// no memory.
     fn feed(&mut self, fed: &Fed) -> Turn
         requires can { CanBeFed (stands self.old).plan fed.now }
         requires ready { IsReadyFor (is_ready self.old) fed.now }

@@ -10,7 +10,8 @@ AreStates states = IsTrue (list_all is_state states)
 abbrev pub is_used : ℕ → Bool
 is_used s = not (s == 0)
 
--- The bytes of some states: four a byte, the first in the highest bits. Past the last state there are zeros.
+-- The bytes of some states: four a byte, the first in the highest bits. Past the last state there
+-- are zeros.
 abbrev pub byte_of : (states : List ℕ) (k : ℕ) → ℕ
 byte_of states k =
     64 * slice_index states (4 * k) + 16 * slice_index states (4 * k + 1)

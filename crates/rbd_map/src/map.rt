@@ -45,8 +45,8 @@ impl ObjectMap {
         self.count
     }
 
-    /// Adds objects in state 0 until there are `count`. A map never becomes shorter (own). Refused memory,
-    /// nothing changes.
+    /// Adds objects in state 0 until there are `count`. A map never becomes shorter (own). Refused
+    /// memory, nothing changes.
     pub fn resize(&mut self, count: u64) -> Result<(), NoMemory>
         requires { count ≤ 2 ^ 20 }
         ensures ok { OnOk result (self.new ≡ self.old ++ replicate (count - length self.old) 0) }
@@ -98,8 +98,8 @@ impl ObjectMap {
         Ok(Bytes::from_slice(*self.bytes.allocator(), self.bytes.as_slice())?)
     }
 
-    /// The map of `count` objects whose states the bytes have. What lies in the last byte past them is
-    /// passed over.
+    /// The map of `count` objects whose states the bytes have. What lies in the last byte past them
+    /// is passed over.
     pub fn from_bits(alloc: Global, bits: &Bytes, count: u64) -> Result<ObjectMap, NoMemory>
         requires bytes { length bits.now ≡ (count + 3) / 4 }
         requires states { AreStates (states_of bits.now count) }

@@ -7,7 +7,8 @@ use Rattle.rbd_layout.specs.Pieces.{pieces_of}
 use Rattle.rbd_layout.specs.declared.types.Piece.{Piece}
 use Rattle.rbd_object.specs.Contents.{window, overwritten}
 
--- the bytes of the parts, one part after another, put into bytes that begin at the image byte `from`
+-- the bytes of the parts, one part after another, put into bytes that begin at the image byte
+-- `from`
 abbrev pub put_parts : (from : ℕ) → List Part → (read into : List ℕ) → List ℕ
 put_parts from [] read into = into
 put_parts from (p ∷ parts) read into = put_parts from parts (drop p.len read) (overwritten into (p.at - from) (window read 0 p.len))

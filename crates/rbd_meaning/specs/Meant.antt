@@ -11,8 +11,8 @@ use Rattle.rbd_meaning.specs.Reads.{ReadMeans}
 use Rattle.rbd_meaning.specs.Snaps.{SnapCreateMeans, SnapRemoveMeans}
 use Rattle.rbd_meaning.specs.Writes.{WriteMeans}
 
--- The reply to a command of a session at a site, behind these steps, says what happened. Other commands aren't served
--- yet, nor is a `create` of an image with a journal.
+-- The reply to a command of a session at a site, behind these steps, says what happened. Other
+-- commands aren't served yet, nor is a `create` of an image with a journal.
 abbrev pub IsMeantBy : SiteId → Command → List Answered → Reply → Type 0
 IsMeantBy site (command.Create image size shape) steps r = (shape.journal ≡ false) × CreateMeans site image size shape steps r
 IsMeantBy site (command.Write image at bytes) steps r = WriteMeans site image at bytes steps r

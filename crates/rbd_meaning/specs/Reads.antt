@@ -1,5 +1,5 @@
--- `read`: what refuses one, when it shows bytes, and what its replies mean. It shows them in one pass, between two looks
--- at a header that didn't change, however often it began again before.
+-- `read`: what refuses one, when it shows bytes, and what its replies mean. It shows them in one
+-- pass, between two looks at a header that didn't change, however often it began again before.
 use Rattle.std.specs.Prelude.{◌≡◌, ◌≤◌, ℕ, List, [], ◌∷◌, ◌++◌, length, replicate, Option, Some, None, IsSome, unwrap_or}
 use Rattle.rbd_kinds.specs.declared.answer.Answer.{Answer}
 use Rattle.rbd_kinds.specs.declared.answer.Answer.TheVariants as answer
@@ -55,8 +55,8 @@ abbrev pub bytes_read : List Piece → List Answered → List ℕ
 bytes_read (p ∷ pieces) (step ∷ steps) = unwrap_or (bytes_shown p.parts step.answer) [] ++ bytes_read pieces steps
 bytes_read _ _ = []
 
--- It found its image and looked at the header, in which the extent fits into the view; it read each piece of the
--- extent there; and it looked again, and was told this.
+-- It found its image and looked at the header, in which the extent fits into the view; it read each
+-- piece of the extent there; and it looked again, and was told this.
 pub record IsPassTo (site : SiteId) (name : List ℕ) (snap : Option (List ℕ)) (e : Extent) (steps : List Answered) (closing : Answer) : Type 0 where
   pub image : ℕ
   pub first : HeaderView
@@ -104,8 +104,8 @@ pub record ShowsAtLast (site : SiteId) (name : List ℕ) (snap : Option (List �
   pub before : SeeOthers site name snap e passes
   pub shows : ShowsBetween site name snap e pass bytes
 
--- However often it began again, its last pass refused it; and but for the fence, which may come at any time, that was
--- no later than at its first look.
+-- However often it began again, its last pass refused it; and but for the fence, which may come at
+-- any time, that was no later than at its first look.
 pub record RefusedAtLast (site : SiteId) (name : List ℕ) (snap : Option (List ℕ)) (e : Extent) (steps : List Answered) (x : Refusal) : Type 0 where
   pub passes : List (List Answered)
   pub pass : List Answered

@@ -1,4 +1,5 @@
--- `snap create` and `snap rm`: what refuses one, what has been done when it is done, and what their replies mean.
+-- `snap create` and `snap rm`: what refuses one, what has been done when it is done, and what their
+-- replies mean.
 use Rattle.std.specs.Prelude.{◌≡◌, ℕ, List, [], ◌∷◌, Bool, true, false, if◌then◌else◌, Option, Some, None, is_some}
 use Rattle.rbd_kinds.specs.declared.answer.Answer.TheVariants as answer
 use Rattle.rbd_kinds.specs.declared.header.HeaderView.{HeaderView}
@@ -43,7 +44,8 @@ remove_refuses snap h = or_else (non_primary h.role) (removal_refusal (snap_name
 
 -- ---- what was done
 
--- It found its image and looked at the header twice, and neither look refused it; then the header took the snapshot.
+-- It found its image and looked at the header twice, and neither look refused it; then the header
+-- took the snapshot.
 pub record TakesOne (site : SiteId) (image_name snap : List ℕ) (steps : List Answered) : Type 0 where
   pub image : ℕ
   pub first : HeaderView

@@ -1,4 +1,5 @@
--- `write` and `fill`: what refuses one, what has been written when it is done, and what its replies mean.
+-- `write` and `fill`: what refuses one, what has been written when it is done, and what its replies
+-- mean.
 use Rattle.std.specs.Prelude.{◌≡◌, ◌⊎◌, ℕ, List, [], ◌∷◌, ◌++◌, Option, None}
 use Rattle.rbd_kinds.specs.declared.answer.Answer.TheVariants as answer
 use Rattle.rbd_kinds.specs.declared.header.HeaderView.{HeaderView}
@@ -31,8 +32,8 @@ abbrev pub pieces_written : SiteId → (image : ℕ) → HeaderView → (at : �
 pieces_written site image h at bytes [] = []
 pieces_written site image h at bytes (p ∷ pieces) = piece_written site image h at bytes p ∷ pieces_written site image h at bytes pieces
 
--- It found its image, looked at the header twice, and neither look refused it; then it wrote each piece of its extent
--- by the second, its own, and nothing else.
+-- It found its image, looked at the header twice, and neither look refused it; then it wrote each
+-- piece of its extent by the second, its own, and nothing else.
 pub record WritesWhole (site : SiteId) (name : List ℕ) (at : ℕ) (bytes : List ℕ) (steps : List Answered) : Type 0 where
   pub image : ℕ
   pub first : HeaderView

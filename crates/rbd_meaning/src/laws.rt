@@ -1,4 +1,5 @@
-//! What holds of every reply that is meant: laws, each the contract of a function that does nothing.
+//! What holds of every reply that is meant: laws, each the contract of a function that does
+//! nothing.
 ghost use Rattle.std.specs.Prelude.{◌≡◌, ℕ, List, [], ◌∷◌, ◌++◌, true, Some, None};
 ghost use Rattle.rbd_kinds.specs.declared.answer.Answer.TheVariants.{Absent};
 ghost use Rattle.rbd_kinds.specs.declared.command.Command.{Command};
@@ -36,8 +37,8 @@ pub fn nothing_is_granted_for_nothing()
     ensures { (site : SiteId) (command : Command) (reply : Reply) → IsMeantBy site command [] reply → reply ≡ Refused BadShape }
 {}
 
-/// A request that was refused has changed nothing, unless its refusal may come late: the fence's, which
-/// may come at any time, of a command that changes by more than its last operation.
+/// A request that was refused has changed nothing, unless its refusal may come late: the fence's,
+/// which may come at any time, of a command that changes by more than its last operation.
 pub fn refusals_change_nothing()
     ensures early { (site : SiteId) (command : Command) (steps : List Answered) (x : Refusal)
         → IsMeantBy site command steps (Refused x) → (ComesLate command x → ⊥) → ChangeNothing steps }
@@ -45,15 +46,15 @@ pub fn refusals_change_nothing()
         → IsMeantBy site command steps (Refused x) → (x ≡ Fenced → ⊥) → ChangeNothing steps }
 {}
 
-/// A name that isn't there is the command's own: where NoImage is told behind one operation, that was
-/// the look-up of its image, at its site, and it was answered none.
+/// A name that isn't there is the command's own: where NoImage is told behind one operation, that
+/// was the look-up of its image, at its site, and it was answered none.
 pub fn unknown_names_are_looked_up()
     ensures { (site : SiteId) (command : Command) (name : List ℕ) (step : Answered) → looks_up command ≡ Some name
         → IsMeantBy site command (step ∷ []) (Refused NoImage) → step ≡ record { site = site; op = look_up name; answer = Absent } }
 {}
 
-/// Where a look refused it the first refusal of that header is told: at a secondary, that clients don't
-/// change it, whatever else holds there.
+/// Where a look refused it the first refusal of that header is told: at a secondary, that clients
+/// don't change it, whatever else holds there.
 pub fn secondaries_refuse_first()
     ensures write { (site there : SiteId) (image : List ℕ) (at : ℕ) (bytes : List ℕ) (before : List Answered) (id : ℕ) (h : HeaderView) (x : Refusal)
         → IsMeantBy site (Write image at bytes) (before ++ looked_at there id h ∷ []) (Refused x) → h.role ≡ Secondary → x ≡ NonPrimary }

@@ -1,12 +1,13 @@
-//! What the reply to a command means, behind the operations that were done for it: definitions, laws on
-//! them, and no code that a program calls.
+//! What the reply to a command means, behind the operations that were done for it: definitions,
+//! laws on them, and no code that a program calls.
 //!
-//! A request does operations, and is answered each. The operations with their answers are its *steps*,
-//! one list, however other requests' operations came in between. `IsMeantBy site command steps reply`
-//! says that the reply is the one that the command of a session at that site has behind these steps: it
-//! is done and this was done, or it shows what was told, or it is refused and this answer refused it.
-//! It says nothing of how a request asks. That is a plan, and each crate of requests shows of its plans
-//! that each reply to which a walk leads is meant (`laws::replies_are_meant` there).
+//! A request does operations, and is answered each. The operations with their answers are its
+//! *steps*, one list, however other requests' operations came in between. `IsMeantBy site command
+//! steps reply` says that the reply is the one that the command of a session at that site has
+//! behind these steps: it is done and this was done, or it shows what was told, or it is refused
+//! and this answer refused it. It says nothing of how a request asks. That is a plan, and each
+//! crate of requests shows of its plans that each reply to which a walk leads is meant
+//! (`laws::replies_are_meant` there).
 //!
 //! ```text
 //! write disk 4094 hello       steps                                reply
@@ -33,17 +34,17 @@
 //! | `snap create` | Done: two looks, and the header took the snapshot |
 //! | `snap rm` | Done: two looks, and the snapshot went that the second lists under the name |
 //!
-//! A refusal is that of the last answer (`refusal_by` in `rbd_machine`): the first that holds there, in
-//! the order in which the command's definition names them. The operations were the command's own: it
-//! looked its name up, or drew an id for it, and the others are of the image that it was told. No
-//! answer before refused. Nothing was changed before, but where the fence refused a write, a fill or a
-//! create, which may come at any time: the write had only looked, or had written its first pieces by
-//! its own look, and the create had drawn its id at most. A `create` of a shape outside the limits is
-//! refused behind no operation. A read that began again is refused by its last pass, and each pass
-//! before saw another header at its end, or none.
+//! A refusal is that of the last answer (`refusal_by` in `rbd_machine`): the first that holds
+//! there, in the order in which the command's definition names them. The operations were the
+//! command's own: it looked its name up, or drew an id for it, and the others are of the image that
+//! it was told. No answer before refused. Nothing was changed before, but where the fence refused a
+//! write, a fill or a create, which may come at any time: the write had only looked, or had written
+//! its first pieces by its own look, and the create had drawn its id at most. A `create` of a shape
+//! outside the limits is refused behind no operation. A read that began again is refused by its
+//! last pass, and each pass before saw another header at its end, or none.
 //!
-//! No other reply is meant, and none for a command that isn't in the table, nor for a `create` with a
-//! journal.
+//! No other reply is meant, and none for a command that isn't in the table, nor for a `create` with
+//! a journal.
 //!
 //! # Contracts
 //!
@@ -57,17 +58,17 @@
 //! | `specs/Meant.antt` | `IsMeantBy`: all commands |
 //! | `specs/Replies.antt`, `specs/Named.antt`, `specs/Undone.antt` | which kinds of reply a command has, which name it looks up, and which steps changed nothing: the words of the laws |
 //!
-//! [`laws`] says that behind the same operations one reply is meant, that no reply of one kind is meant
-//! for a command of another, that nothing is done or shown for no operation, that a request which was
-//! refused has changed nothing, but where the fence refused a write, a fill or a create, that a name
-//! which isn't there is the command's own, that a secondary is refused as such whatever else holds
-//! there, and that what was taken wasn't listed and what was removed wasn't protected.
+//! [`laws`] says that behind the same operations one reply is meant, that no reply of one kind is
+//! meant for a command of another, that nothing is done or shown for no operation, that a request
+//! which was refused has changed nothing, but where the fence refused a write, a fill or a create,
+//! that a name which isn't there is the command's own, that a secondary is refused as such whatever
+//! else holds there, and that what was taken wasn't listed and what was removed wasn't protected.
 //!
 //! # A new command
 //!
 //! Its rows go into a file of `specs/`, and its line into `IsMeantBy` and into `grants`
-//! (`specs/Replies.antt`). The laws here then want its cases, and the crate that has its plan wants the
-//! law that its replies are meant.
+//! (`specs/Replies.antt`). The laws here then want its cases, and the crate that has its plan wants
+//! the law that its replies are meant.
 #![tactic(auto)]
 
 pub mod laws;

@@ -77,8 +77,8 @@ sound_trimmed live seq old new kept used newest sound = record {
   newest = newest;
 }
 
--- A change in the steps of the code: o is the value before, `snaps` were picked, `version` was made of the
--- head, `room` are the versions after memory was taken, and `items` those at the end.
+-- A change in the steps of the code: o is the value before, `snaps` were picked, `version` was made
+-- of the head, `room` are the versions after memory was taken, and `items` those at the end.
 pub sound_step : (c : SnapContext) (o : Mapped) (head : Option (List ℕ)) (seq next : ℕ) (snaps : List ℕ)
     (version : Option Kept) (versions room items : List Kept)
     → value_of head seq versions ≡ o → new_version o.head snaps ≡ new_version o.head (due_snaps c o.seq)

@@ -53,8 +53,8 @@ mapped_copy_up bytes o = record o { head = Some (unwrap_or o.head bytes) }
 abbrev pub mapped_trim : (live : List ℕ) → Mapped → Mapped
 mapped_trim live o = record o { kept = map.retain_keys o.kept (is_listed live) }
 
--- What holds of an object's versions at every moment: nothing is kept above `seq`, no version is left that no snapshot
--- needs, and each is the newest for its snapshots.
+-- What holds of an object's versions at every moment: nothing is kept above `seq`, no version is
+-- left that no snapshot needs, and each is the newest for its snapshots.
 pub record IsSound (seq : ℕ) (versions : List Kept) : Type 0 where
   pub tidy : IsTidy (looked (value_of None seq versions))
   pub used : AreUsed versions

@@ -35,13 +35,14 @@ pub record IsReady (sheets : List Sheet) (pages : List ℕ) (k byte : ℕ) : Typ
   pub alone : count_at sheets (slice_index pages k) ≡ 1
   pub stored : byte ≢ 0 → length (bytes_at sheets (slice_index pages k)) ≡ PAGE
 
--- One list of pages was changed. Each count follows it, and pages that others name keep their bytes.
+-- One list of pages was changed. Each count follows it, and pages that others name keep their
+-- bytes.
 pub record Moved (old : List Sheet) (pages : List ℕ) (new : List Sheet) (after : List ℕ) : Type 0 where
   pub counts : (page : ℕ) → count_at new page + occurs page pages ≡ count_at old page + occurs page after
   pub others : (page : ℕ) → occurs page pages < count_at old page → bytes_at new page ≡ bytes_at old page
 
--- Pages were copied or added, and each byte is the same. A page that is named once in all, here and by some others,
--- is so afterwards.
+-- Pages were copied or added, and each byte is the same. A page that is named once in all, here and
+-- by some others, is so afterwards.
 pub record Prepared (old : List Sheet) (pages : List ℕ) (new : List Sheet) (after : List ℕ) : Type 0 where
   pub moved : Moved old pages new after
   pub bytes : (k j : ℕ) → slice_index (bytes_on new after k) j ≡ slice_index (bytes_on old pages k) j

@@ -26,8 +26,9 @@ pages_on stock c = pages_in stock.sheaves c.sheaves
 abbrev pub bytes_in : Stock → Listed → List ℕ
 bytes_in stock c = map (byte_at stock.sheets (pages_on stock c)) (range_with_len 0 c.len)
 
--- The list has the sheaves and the pages that the bytes take, no page twice, and no byte past the length but zeros. Behind
--- the last byte there may be pages that a refused change added, up to the end of the last sheaf.
+-- The list has the sheaves and the pages that the bytes take, no page twice, and no byte past the
+-- length but zeros. Behind the last byte there may be pages that a refused change added, up to the
+-- end of the last sheaf.
 pub record IsContent (stock : Stock) (c : Listed) : Type 0 where
   pub held : length c.sheaves ≡ sheaves_for (pages_for c.len)
   pub full : AreFull stock.sheaves c.sheaves
@@ -108,7 +109,8 @@ pub record IsKept (wanted : Bool) (old : Stock) (head : Option Listed) (new : St
   pub kept_is : IsHead new kept
   pub bytes : bytes_of new kept ≡ (if wanted then bytes_of old head else None)
 
--- how many pages the parts of a write touch, each from the end of a head so far where that is before it
+-- how many pages the parts of a write touch, each from the end of a head so far where that is
+-- before it
 abbrev pub written_touch : (len : ℕ) → List Part → ℕ
 written_touch len [] = 0
 written_touch len (p ∷ parts) = touched (min len p.offset) (p.offset + p.len) + written_touch (max len (p.offset + p.len)) parts

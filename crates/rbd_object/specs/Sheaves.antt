@@ -4,7 +4,8 @@ use Rattle.rbd_object.specs.Sheets.{Sheet, count_at, bytes_at}
 use Rattle.rbd_object.specs.Paging.{occurs, bytes_on, AreApart, IsReady}
 use Rattle.rbd_object.specs.declared.sheaf.TheConstants.{SHEAF}
 
--- The sheaves that contents share, each with its pages in place of bytes, and the pages that sheaves share.
+-- The sheaves that contents share, each with its pages in place of bytes, and the pages that
+-- sheaves share.
 pub record Stock : Type 0 where
   pub sheaves : List Sheet
   pub sheets : List Sheet
@@ -38,7 +39,8 @@ pub record IsSame (old new : Stock) (s : ℕ) : Type 0 where
   pub pages : bytes_at new.sheaves s ≡ bytes_at old.sheaves s
   pub bytes : (page : ℕ) → 0 < occurs page (bytes_at old.sheaves s) → bytes_at new.sheets page ≡ bytes_at old.sheets page
 
--- One list of sheaves became another. Each count follows it, and sheaves that others name are the same.
+-- One list of sheaves became another. Each count follows it, and sheaves that others name are the
+-- same.
 pub record Exchanged (old : Stock) (list : List ℕ) (new : Stock) (after : List ℕ) : Type 0 where
   pub counts : (s : ℕ) → count_at new.sheaves s + occurs s list ≡ count_at old.sheaves s + occurs s after
   pub others : (s : ℕ) → occurs s list < count_at old.sheaves s → IsSame old new s

@@ -18,7 +18,8 @@ abbrev pub view : Versioned → Option ℕ → Option (List ℕ)
 view o None = o.head
 view o (Some snap) = if nat_lt o.seq snap then o.head else o.kept snap
 
--- whether a change under a context with number `number` is the first for a snapshot of an object at `seq`
+-- whether a change under a context with number `number` is the first for a snapshot of an object at
+-- `seq`
 abbrev pub is_due : (seq number snap : ℕ) → Bool
 is_due seq number snap = nat_lt seq snap && nat_le snap number
 

@@ -9,12 +9,13 @@ use rbd_kinds::NoMemory;
 use std::alloc::Global;
 use std::marker::Model;
 
-/// Counted pages, named by their index. Contracts see them as the list of pages. A page with count 0 is free:
-/// its place is taken again before the arena grows.
+/// Counted pages, named by their index. Contracts see them as the list of pages. A page with count
+/// 0 is free: its place is taken again before the arena grows.
 #[derive(Debug, Drop)]
 pub struct Arena {
     pages: Vec<Page>,
-    /// The first free page, from which the others are linked by index. No page's index ends the list.
+    /// The first free page, from which the others are linked by index. No page's index ends the
+    /// list.
     free: u32,
     used: u32,
 }
@@ -203,7 +204,8 @@ impl Arena {
         self.pages[index as usize].read(at, into);
     }
 
-    /// Writes bytes into a page from offset `at` on. Where one isn't zero, the memory for them has to be there.
+    /// Writes bytes into a page from offset `at` on. Where one isn't zero, the memory for them has
+    /// to be there.
     pub fn put(&mut self, index: u32, at: usize, bytes: &[u8])
         requires used { 0 < count_at self.old index }
         requires within { at + length bytes.now ≤ PAGE }

@@ -1,8 +1,8 @@
 //! What is done to a head.
 use rbd_kinds::Part;
 
-/// A change of a head. An absent head begins with no bytes where one is written, and stays absent where it
-/// is made zero.
+/// A change of a head. An absent head begins with no bytes where one is written, and stays absent
+/// where it is made zero.
 #[derive(Drop)]
 pub enum Change<'a> {
     /// Bytes are written from a byte on.

@@ -17,8 +17,8 @@ use std::marker::Model;
 /// The greatest size of an object in bytes (Ceph: 32 MiB for RBD's objects).
 pub const LARGEST_OBJECT: u64 = 33_554_432;
 
-/// Bytes that an object holds, as a list of sheaves of its pages. They are changed in place where no other content
-/// names the sheaf, and no other sheaf the page.
+/// Bytes that an object holds, as a list of sheaves of its pages. They are changed in place where
+/// no other content names the sheaf, and no other sheaf the page.
 #[derive(Debug, Drop)]
 pub struct Content {
     list: Vec<u32>,
@@ -66,7 +66,8 @@ impl Content {
         })
     }
 
-    /// Lets its sheaves go. Those that no other content names are free then, and so are pages that no other sheaf names.
+    /// Lets its sheaves go. Those that no other content names are free then, and so are pages that
+    /// no other sheaf names.
     pub fn let_go(&self, sheaves: &mut Sheaves)
         requires counted { AreCounted sheaves.old.sheaves self.now.sheaves }
         ensures exchanged { Exchanged sheaves.old self.now.sheaves sheaves.new [] }
@@ -165,8 +166,8 @@ impl Content {
         Ok(())
     }
 
-    /// Makes bytes ready to be changed, as [`lists::prepare`] does. Refused memory, the content has the bytes that it
-    /// had.
+    /// Makes bytes ready to be changed, as [`lists::prepare`] does. Refused memory, the content has
+    /// the bytes that it had.
     fn prepare(
         &mut self,
         sheaves: &mut Sheaves,

@@ -117,8 +117,8 @@ fn zero(
     }
 }
 
-/// Writes bytes into parts of a head, one part after another. All parts are written, or none: one part alone
-/// is, and several with the head as it was beside them.
+/// Writes bytes into parts of a head, one part after another. All parts are written, or none: one
+/// part alone is, and several with the head as it was beside them.
 fn write_parts(
     alloc: Global,
     sheaves: &mut Sheaves,

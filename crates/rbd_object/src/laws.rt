@@ -1,5 +1,5 @@
-//! What the definitions of a versioned object mean: each law is the contract of a function that does
-//! nothing. A view is of the head (`None`) or of a snapshot (`Some snap`).
+//! What the definitions of a versioned object mean: each law is the contract of a function that
+//! does nothing. A view is of the head (`None`) or of a snapshot (`Some snap`).
 ghost use Rattle.std.specs.Prelude.{◌≡◌, ℕ, ◌+◌, ◌-◌, ◌<◌, ◌≤◌, if◌then◌else◌, length, slice_index, List, ◌∷◌, Option, Some, None, max, unwrap_or, IsTrue, IsFalse};
 ghost use Rattle.std.specs.List.{list_all};
 ghost use Rattle.rbd_kinds.specs.declared.header.SnapContext.{SnapContext};
@@ -8,8 +8,8 @@ ghost use Rattle.rbd_object.specs.Kept.{is_listed};
 ghost use Rattle.rbd_object.specs.Versioned.{Versioned, IsTidy, Step, Change, blank, view, change, copy_up, trim, after_steps, spares};
 ghost use Rattle.rbd_object.specs.Mapped.{Mapped, looked, mapped_blank, mapped_change, mapped_copy_up, mapped_trim};
 
-/// Once a snapshot is up to the object's number, and from the first change on whose context lists it, its
-/// view never changes, whatever is done: only a trim for which it isn't live takes it away.
+/// Once a snapshot is up to the object's number, and from the first change on whose context lists
+/// it, its view never changes, whatever is done: only a trim for which it isn't live takes it away.
 pub fn views_of_snapshots_stay()
     ensures earlier { (snap : ℕ) (steps : List Step) (o : Versioned)
         → snap ≤ o.seq → IsTrue (list_all (spares snap) steps)
@@ -20,8 +20,8 @@ pub fn views_of_snapshots_stay()
         → view (after_steps (Change c new ∷ steps) o) (Some snap) ≡ view o (Some snap) }
 {}
 
-/// What each view is after a change: the head, the snapshots up to the object's number, those for which
-/// it is the first change, and those that come later.
+/// What each view is after a change: the head, the snapshots up to the object's number, those for
+/// which it is the first change, and those that come later.
 pub fn views_after_a_change()
     ensures head { (c : SnapContext) (new : Option (List ℕ)) (o : Versioned) → view (change c new o) None ≡ new }
 
@@ -48,8 +48,8 @@ pub fn changes_join()
         → change c second (change c first o) ≡ change c second o }
 {}
 
-/// A copy-up fills an absent head, and with it each snapshot above the object's number. Every other view
-/// stays.
+/// A copy-up fills an absent head, and with it each snapshot above the object's number. Every other
+/// view stays.
 pub fn views_after_a_copy_up()
     ensures head { (bytes : List ℕ) (o : Versioned) → view (copy_up bytes o) None ≡ Some (unwrap_or o.head bytes) }
 
@@ -60,8 +60,8 @@ pub fn views_after_a_copy_up()
         → o.seq < snap → view (copy_up bytes o) (Some snap) ≡ Some (unwrap_or o.head bytes) }
 {}
 
-/// A trim leaves the views of the head, of each live snapshot, and of each one above the object's number.
-/// The object is absent in every other.
+/// A trim leaves the views of the head, of each live snapshot, and of each one above the object's
+/// number. The object is absent in every other.
 pub fn views_after_a_trim()
     ensures head { (live : List ℕ) (o : Versioned) → view (trim live o) None ≡ view o None }
 
@@ -75,8 +75,8 @@ pub fn views_after_a_trim()
         → snap ≤ o.seq → IsFalse (is_listed live snap) → view (trim live o) (Some snap) ≡ None }
 {}
 
-/// The bytes of a read, of a write and of a zero, one by one. `slice_index` is zero past the end of a list,
-/// so a gap before what is written is zeros, and so is what is read past the end.
+/// The bytes of a read, of a write and of a zero, one by one. `slice_index` is zero past the end of
+/// a list, so a gap before what is written is zeros, and so is what is read past the end.
 pub fn bytes_one_by_one()
     ensures read { (bytes : List ℕ) (start count i : ℕ)
         → i < count → slice_index (window bytes start count) i ≡ slice_index bytes (start + i) }

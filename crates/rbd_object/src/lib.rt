@@ -1,5 +1,5 @@
-//! Objects with self-managed snapshots, as RADOS has them: the object remembers what it was for each
-//! snapshot that it was told of, and each change says which snapshots there are.
+//! Objects with self-managed snapshots, as RADOS has them: the object remembers what it was for
+//! each snapshot that it was told of, and each change says which snapshots there are.
 //!
 //! ```text
 //! let mut object = Object::new(alloc);                 // the head is absent, and its number `seq` is 0
@@ -12,31 +12,33 @@
 //!
 //! # Rules
 //!
-//! Ceph: RADOS self-managed snapshots. A change carries a context: a number, and the snapshots that exist.
+//! Ceph: RADOS self-managed snapshots. A change carries a context: a number, and the snapshots that
+//! exist.
 //!
 //! 1. The head as it was is kept for each listed snapshot above `seq` and up to the number. An absent
 //!    head is not kept.
 //! 2. `seq` becomes the greater of `seq` and the number.
 //! 3. The head is changed.
 //!
-//! A snapshot above `seq` shows the head, any other what is kept for it, and is absent where that is
-//! nothing. A copy-up carries no context: it fills an absent head, and each snapshot above `seq` with it
-//! (own; Ceph: RBD layering). Past its last byte an object reads as zeros.
+//! A snapshot above `seq` shows the head, any other what is kept for it, and is absent where that
+//! is nothing. A copy-up carries no context: it fills an absent head, and each snapshot above `seq`
+//! with it (own; Ceph: RBD layering). Past its last byte an object reads as zeros.
 //!
 //! # Contracts
 //!
-//! Contracts see an [`Object`] as a value with `head`, `seq` and `kept`, a finite map from snapshots to
-//! bytes. Each change says what the whole value becomes, and that it stays where memory is refused. What
-//! that means for each view is said once, in [`laws`], of versioned objects, whose `kept` is a function:
-//! the value stands for one (`looked`), and both change alike. The first law to read is
-//! [`laws::views_of_snapshots_stay`].
+//! Contracts see an [`Object`] as a value with `head`, `seq` and `kept`, a finite map from
+//! snapshots to bytes. Each change says what the whole value becomes, and that it stays where
+//! memory is refused. What that means for each view is said once, in [`laws`], of versioned
+//! objects, whose `kept` is a function: the value stands for one (`looked`), and both change alike.
+//! The first law to read is [`laws::views_of_snapshots_stay`].
 //!
 //! # Parts
 //!
-//! A request names *parts* of an object, each some bytes that lie together. [`gather`] takes the bytes at the
-//! parts out of some bytes, [`scatter`] puts bytes at the parts, and [`shifted_parts`] are the parts as they
-//! lie in bytes that begin at a byte of the image, such as the bytes that a caller gave for an extent. [`bytes_for`]
-//! takes those that parts have out of such bytes, and copies none where they lie together in shared bytes.
+//! A request names *parts* of an object, each some bytes that lie together. [`gather`] takes the
+//! bytes at the parts out of some bytes, [`scatter`] puts bytes at the parts, and [`shifted_parts`]
+//! are the parts as they lie in bytes that begin at a byte of the image, such as the bytes that a
+//! caller gave for an extent. [`bytes_for`] takes those that parts have out of such bytes, and
+//! copies none where they lie together in shared bytes.
 //!
 //! # Cost
 //!

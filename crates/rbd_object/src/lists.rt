@@ -14,9 +14,9 @@ use crate::sheaves::Sheaves;
 use rbd_kinds::NoMemory;
 use std::alloc::Global;
 
-/// Makes bytes of a list that has at least `held` pages ready to be changed, `len` of them from byte `at` on, to
-/// `bytes` as far as those go, and else to zeros. Sheaves and pages that others name too are copied, and missing
-/// ones are added.
+/// Makes bytes of a list that has at least `held` pages ready to be changed, `len` of them from
+/// byte `at` on, to `bytes` as far as those go, and else to zeros. Sheaves and pages that others
+/// name too are copied, and missing ones are added.
 pub fn prepare(
     list: &mut Vec<u32>,
     sheaves: &mut Sheaves,
@@ -86,7 +86,8 @@ pub fn pages_for(len: usize) -> usize
     (len + (PAGE - 1)) / PAGE
 }
 
-/// Whether one of the bytes that lie on the page at place `k` isn't zero, where the first lies at byte `at`.
+/// Whether one of the bytes that lie on the page at place `k` isn't zero, where the first lies at
+/// byte `at`.
 fn needs_store(bytes: &[u8], at: usize, k: usize) -> bool
     requires { k < LARGEST_OBJECT }
     ensures { (j : ℕ) → j < length bytes.now → (at + j) / PAGE ≡ k → slice_index bytes.now j ≢ 0 → IsTrue result }
@@ -105,8 +106,8 @@ fn has_value(bytes: &[u8]) -> bool
     bytes.iter().any(|byte| *byte > 0)
 }
 
-/// Makes the page at place `k` ready, which is the next one where it isn't there. `more` pages are wanted from
-/// there on.
+/// Makes the page at place `k` ready, which is the next one where it isn't there. `more` pages are
+/// wanted from there on.
 fn prepare_page(
     list: &mut Vec<u32>,
     sheaves: &mut Sheaves,
@@ -128,7 +129,8 @@ fn prepare_page(
     sheaves.prepare_page(list[k / SHEAF], k % SHEAF, stored)
 }
 
-/// Makes the sheaf of the page at place `k` this list's alone, which is the next one where it isn't there.
+/// Makes the sheaf of the page at place `k` this list's alone, which is the next one where it isn't
+/// there.
 fn have(list: &mut Vec<u32>, sheaves: &mut Sheaves, k: usize, more: usize) -> Result<(), NoMemory>
     requires counted { AreCounted sheaves.old.sheaves list.old.items }
     requires apart { AreApart (pages_in sheaves.old.sheaves list.old.items) }

@@ -13,8 +13,8 @@ use rbd_kinds::{Bytes, NoMemory, Part, SnapContext, SnapId};
 use std::alloc::Global;
 use std::marker::Model;
 
-/// An object with self-managed snapshots (Ceph: RADOS). Contracts see it as `Mapped`: a head that is absent
-/// or bytes, the number `seq`, and the bytes that are kept for snapshots up to it.
+/// An object with self-managed snapshots (Ceph: RADOS). Contracts see it as `Mapped`: a head that
+/// is absent or bytes, the number `seq`, and the bytes that are kept for snapshots up to it.
 #[derive(Debug, Drop)]
 pub struct Object {
     paged: PagedObject,
@@ -40,8 +40,8 @@ impl Object {
         }
     }
 
-    /// How many pages its contents lie on, each counted once: at least those of the longest one, and none
-    /// where no content has a byte. It takes no memory.
+    /// How many pages its contents lie on, each counted once: at least those of the longest one,
+    /// and none where no content has a byte. It takes no memory.
     pub fn pages(&self) -> u64
         ensures longest { (snap : Option ℕ) (bytes : List ℕ) → view (looked self.now) snap ≡ Some bytes → pages_for (length bytes) ≤ result }
         ensures none { ((snap : Option ℕ) (bytes : List ℕ) → view (looked self.now) snap ≡ Some bytes → bytes ≡ []) → result ≡ 0 }
@@ -57,9 +57,9 @@ impl Object {
         self.paged.exists(snap)
     }
 
-    /// Fills a buffer with the bytes of the head (None) or of a snapshot, from the byte `at` on, and with
-    /// zeros past the last one. It is false exactly where the object is absent there, and then the buffer
-    /// stays. It takes no memory.
+    /// Fills a buffer with the bytes of the head (None) or of a snapshot, from the byte `at` on,
+    /// and with zeros past the last one. It is false exactly where the object is absent there, and
+    /// then the buffer stays. It takes no memory.
     pub fn read(&self, snap: Option<SnapId>, at: u64, into: &mut [u8]) -> bool
         ensures shown { IsTrue result ↔ IsSome (view (looked self.now) snap) }
         ensures bytes { IfSome (view (looked self.now) snap) (λ bytes. into.new ≡ window bytes at (length into.old)) }
@@ -68,8 +68,9 @@ impl Object {
         self.paged.read(snap, at, into)
     }
 
-    /// A copy of the bytes of the parts, one part after another, in the head (None) or in a snapshot, with
-    /// zeros past the last one. It is `None` exactly where the object is absent there.
+    /// A copy of the bytes of the parts, one part after another, in the head (None) or in a
+    /// snapshot, with zeros past the last one. It is `None` exactly where the object is absent
+    /// there.
     pub fn read_parts(
         &self,
         snap: Option<SnapId>,
@@ -80,8 +81,8 @@ impl Object {
         self.paged.read_parts(snap, parts)
     }
 
-    /// Writes bytes into the head, from the byte `at` on. A gap is zeros, and an absent head begins with
-    /// no bytes. Refused memory, nothing changes; so it is for each change.
+    /// Writes bytes into the head, from the byte `at` on. A gap is zeros, and an absent head begins
+    /// with no bytes. Refused memory, nothing changes; so it is for each change.
     pub fn write(&mut self, context: &SnapContext, at: u64, bytes: &[u8]) -> Result<(), NoMemory>
         requires { at + length bytes.now ≤ LARGEST_OBJECT }
         ensures ok { let head = overwritten (unwrap_or self.old.head []) at bytes.now in
@@ -91,8 +92,8 @@ impl Object {
         self.paged.write(context, at, bytes)
     }
 
-    /// Writes bytes into parts of the head, one part after another, as `write` does into one. All parts are
-    /// written, or none.
+    /// Writes bytes into parts of the head, one part after another, as `write` does into one. All
+    /// parts are written, or none.
     pub fn write_parts(
         &mut self,
         context: &SnapContext,
@@ -117,8 +118,8 @@ impl Object {
         self.paged.write_full(context, bytes)
     }
 
-    /// Makes `len` bytes of the head zero, from the byte `at` on and as far as it goes: its length stays,
-    /// and an absent head stays absent.
+    /// Makes `len` bytes of the head zero, from the byte `at` on and as far as it goes: its length
+    /// stays, and an absent head stays absent.
     pub fn zero(&mut self, context: &SnapContext, at: u64, len: u64) -> Result<(), NoMemory>
         ensures ok { let head = option_map (λ held. zeroed held at len) self.old.head in
             OnOk result (self.new ≡ mapped_change context.now head self.old) }
@@ -152,9 +153,9 @@ impl Object {
         self.paged.remove(context)
     }
 
-    /// Fills an absent head with the bytes that a clone's parent has there (Ceph: RBD layering). It is
-    /// false exactly where the head exists, and then nothing changes. It is no change of what the clone
-    /// shows, so it carries no context: nothing is kept, and `seq` stays (own).
+    /// Fills an absent head with the bytes that a clone's parent has there (Ceph: RBD layering). It
+    /// is false exactly where the head exists, and then nothing changes. It is no change of what
+    /// the clone shows, so it carries no context: nothing is kept, and `seq` stays (own).
     pub fn copy_up(&mut self, bytes: &[u8]) -> Result<bool, NoMemory>
         ensures exists { IsSome self.old.head → result ≡ Ok false }
         ensures copied { IfOk result (λ copied. IsTrue copied ↔ IsNone self.old.head) }

@@ -11,8 +11,8 @@ use std::marker::Model;
 /// The size of a page in bytes (own; the page of x86-64 and of Ceph's BlueStore).
 pub const PAGE: usize = 4096;
 
-/// How many places name it, its bytes, and the free page after it. A page of zeros has no bytes: they are
-/// taken at the first one that isn't zero.
+/// How many places name it, its bytes, and the free page after it. A page of zeros has no bytes:
+/// they are taken at the first one that isn't zero.
 #[derive(Debug, Drop)]
 pub struct Page {
     count: u32,
@@ -62,7 +62,8 @@ impl Page {
         self.count = count;
     }
 
-    /// Drops the bytes of a page that no place names any more, and puts it before the free page `next`.
+    /// Drops the bytes of a page that no place names any more, and puts it before the free page
+    /// `next`.
     pub fn free(&mut self, next: u32)
         ensures { self.new ≡ record { count = 0; bytes = [] } }
     {

@@ -20,8 +20,8 @@ use std::alloc::Global;
 use std::collections::VecDeque;
 use std::marker::Model;
 
-/// An object as [`crate::Object`] is one, whose contracts see its pages too: `shown` is the object's value,
-/// and `pages` how many pages have a count above 0.
+/// An object as [`crate::Object`] is one, whose contracts see its pages too: `shown` is the
+/// object's value, and `pages` how many pages have a count above 0.
 #[derive(Debug, Drop)]
 pub struct PagedObject {
     sheaves: Sheaves,
@@ -57,8 +57,8 @@ impl PagedObject {
         }
     }
 
-    /// How many pages have a count above 0: at least those of the longest content, and none where no
-    /// content has a byte. It takes no memory.
+    /// How many pages have a count above 0: at least those of the longest content, and none where
+    /// no content has a byte. It takes no memory.
     pub fn pages(&self) -> u64
         ensures count { result ≡ self.now.pages }
         ensures longest { (snap : Option ℕ) (bytes : List ℕ) → view (looked self.now.shown) snap ≡ Some bytes → pages_for (length bytes) ≤ result }
@@ -78,9 +78,9 @@ impl PagedObject {
         }
     }
 
-    /// Fills a buffer with the bytes of the head (None) or of a snapshot, from the byte `at` on, and with
-    /// zeros past the last one. It is false exactly where the object is absent there, and then the buffer
-    /// stays. It takes no memory.
+    /// Fills a buffer with the bytes of the head (None) or of a snapshot, from the byte `at` on,
+    /// and with zeros past the last one. It is false exactly where the object is absent there, and
+    /// then the buffer stays. It takes no memory.
     pub fn read(&self, snap: Option<SnapId>, at: u64, into: &mut [u8]) -> bool
         ensures shown { IsTrue result ↔ IsSome (view (looked self.now.shown) snap) }
         ensures bytes { IfSome (view (looked self.now.shown) snap) (λ bytes. into.new ≡ window bytes at (length into.old)) }
@@ -95,8 +95,9 @@ impl PagedObject {
         }
     }
 
-    /// A copy of the bytes of the parts, one part after another, in the head (None) or in a snapshot, with
-    /// zeros past the last one. It is `None` exactly where the object is absent there.
+    /// A copy of the bytes of the parts, one part after another, in the head (None) or in a
+    /// snapshot, with zeros past the last one. It is `None` exactly where the object is absent
+    /// there.
     pub fn read_parts(
         &self,
         snap: Option<SnapId>,
@@ -186,8 +187,8 @@ impl PagedObject {
         self.change(context, Change::Remove)
     }
 
-    /// Fills an absent head with the bytes that a clone's parent has there. It is false exactly where the
-    /// head exists, and then nothing changes.
+    /// Fills an absent head with the bytes that a clone's parent has there. It is false exactly
+    /// where the head exists, and then nothing changes.
     pub fn copy_up(&mut self, bytes: &[u8]) -> Result<bool, NoMemory>
         ensures exists { IsSome self.old.shown.head → result ≡ Ok false }
         ensures copied { IfOk result (λ copied. IsTrue copied ↔ IsNone self.old.shown.head) }
@@ -215,7 +216,8 @@ impl PagedObject {
         versions::keep_live(&mut self.versions, live);
     }
 
-    /// A change under a context: the head as it was is kept for the snapshots for which it is the first.
+    /// A change under a context: the head as it was is kept for the snapshots for which it is the
+    /// first.
     fn change(&mut self, context: &SnapContext, change: Change) -> Result<(), NoMemory>
         requires { IsWithin change }
         ensures ok { OnOk result (self.new.shown ≡ mapped_change context.now (after change.entry self.old.shown.head) self.old.shown) }

@@ -7,7 +7,8 @@ ghost use Rattle.rbd_object.specs.Parts.{parts_of, parts_written, EndWithin, shi
 use rbd_kinds::{NoMemory, Part};
 use std::alloc::Global;
 
-/// A copy of the bytes at the parts' offsets, one part after another, with zeros past the last byte.
+/// A copy of the bytes at the parts' offsets, one part after another, with zeros past the last
+/// byte.
 pub fn gather(alloc: Global, bytes: &[u8], parts: &[Part]) -> Result<Vec<u8>, NoMemory>
     ensures { IfOk result (λ gathered. gathered.items ≡ parts_of parts.now bytes.now) }
 {

@@ -12,8 +12,8 @@ use std::marker::Model;
 /// How many pages a full sheaf has (own): a full object of the largest size has 64 sheaves.
 pub const SHEAF: usize = 128;
 
-/// How many places name it, its pages, and the free sheaf after it. Contracts see it as a `Sheet`, with its
-/// pages in place of bytes.
+/// How many places name it, its pages, and the free sheaf after it. Contracts see it as a `Sheet`,
+/// with its pages in place of bytes.
 #[derive(Debug, Drop)]
 pub struct Sheaf {
     count: u32,
@@ -116,7 +116,8 @@ impl Sheaf {
         pages::prepare_page(&mut self.pages, arena, k, stored)
     }
 
-    /// Lets the pages go of a sheaf that no place names any more, and puts it before the free sheaf `next`.
+    /// Lets the pages go of a sheaf that no place names any more, and puts it before the free sheaf
+    /// `next`.
     pub fn free(&mut self, arena: &mut Arena, next: u32)
         requires { AreCounted arena.old self.old.bytes }
         ensures sheaf { self.new ≡ record { count = 0; bytes = [] } }

@@ -14,13 +14,14 @@ use rbd_kinds::NoMemory;
 use std::alloc::Global;
 use std::marker::Model;
 
-/// Counted sheaves, named by their index, and the counted pages that they name. A sheaf with count 0 is free and
-/// has no page: its place is taken again before there are more.
+/// Counted sheaves, named by their index, and the counted pages that they name. A sheaf with count
+/// 0 is free and has no page: its place is taken again before there are more.
 #[derive(Debug, Drop)]
 pub struct Sheaves {
     arena: Arena,
     sheaves: Vec<Sheaf>,
-    /// The first free sheaf, from which the others are linked by index. No sheaf's index ends the list.
+    /// The first free sheaf, from which the others are linked by index. No sheaf's index ends the
+    /// list.
     free: u32,
 }
 
@@ -120,7 +121,8 @@ impl Sheaves {
         Ok(())
     }
 
-    /// One place less names a sheaf. Where that was the last one, it is free, and names its pages no more.
+    /// One place less names a sheaf. Where that was the last one, it is free, and names its pages
+    /// no more.
     pub fn release(&mut self, index: u32)
         requires { 0 < count_at self.old.sheaves index }
         ensures changed { Changed index self.old.sheaves self.new.sheaves }
@@ -139,7 +141,8 @@ impl Sheaves {
         self.free = index;
     }
 
-    /// Makes the page at place `k` of a sheaf ready to be changed, which is the next one where it isn't there.
+    /// Makes the page at place `k` of a sheaf ready to be changed, which is the next one where it
+    /// isn't there.
     pub fn prepare_page(&mut self, index: u32, k: usize, stored: bool) -> Result<(), NoMemory>
         requires alone { count_at self.old.sheaves index ≡ 1 }
         requires near { k ≤ length (bytes_at self.old.sheaves index) }
@@ -185,7 +188,8 @@ impl Sheaves {
         bytes::zero(list, self.sheaves.as_slice(), &mut self.arena, at, len);
     }
 
-    /// Fills a buffer with the bytes from byte `at` of a list's pages on, and with zeros where there is no page.
+    /// Fills a buffer with the bytes from byte `at` of a list's pages on, and with zeros where
+    /// there is no page.
     pub fn read(&self, list: &[u32], at: usize, into: &mut [u8])
         requires counted { AreCounted self.now.sheaves list.now }
         requires full { AreFull self.now.sheaves list.now }

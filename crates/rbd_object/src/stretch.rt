@@ -6,9 +6,10 @@ use crate::parts::{gather, shifted_parts};
 use rbd_kinds::{Bytes, NoMemory, Part};
 use std::alloc::Global;
 
-/// Those of the bytes that the parts have, one part after another, with zeros past the last byte. The bytes begin at
-/// the image byte `from`. What a single part has is a slice, which of shared bytes copies none. What several parts
-/// have is gathered into new memory, which copies of it share.
+/// Those of the bytes that the parts have, one part after another, with zeros past the last byte.
+/// The bytes begin at the image byte `from`. What a single part has is a slice, which of shared
+/// bytes copies none. What several parts have is gathered into new memory, which copies of it
+/// share.
 pub fn bytes_for(alloc: Global, bytes: &Bytes, from: u64, parts: &[Part]) -> Result<Bytes, NoMemory>
     requires { AreBehind from parts.now }
     ensures { IfOk result (λ taken. taken ≡ bytes_of_parts parts.now from bytes.now) }

@@ -24,8 +24,8 @@ TellsBytes (answer.Bytes bytes) = Unit {0}
 TellsBytes answer.Absent = Unit {0}
 TellsBytes a = EndsIt a
 
--- The bytes of the pieces, one piece after another and in it one part after another, behind those that were read
--- before.
+-- The bytes of the pieces, one piece after another and in it one part after another, behind those
+-- that were read before.
 abbrev pub gather : SiteId → (image : ℕ) → (snap : Option ℕ) → List Piece → (read : List ℕ) → (next : List ℕ → Plan) → Plan
 gather site image snap [] read next = next read
 gather site image snap (p ∷ pieces) read next =

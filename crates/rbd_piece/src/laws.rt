@@ -1,5 +1,5 @@
-//! How many operations pieces have, that they go to no label, and that they do what they may: laws, each the contract of
-//! a function that does nothing.
+//! How many operations pieces have, that they go to no label, and that they do what they may: laws,
+//! each the contract of a function that does nothing.
 ghost use Rattle.std.specs.Prelude.{ℕ, ◌+◌, List, length, Option};
 ghost use Rattle.rbd_kinds.specs.declared.header.HeaderView.{HeaderView};
 ghost use Rattle.rbd_kinds.specs.declared.id.SiteId.{SiteId};
@@ -35,8 +35,8 @@ pub fn pieces_go_to_no_label()
         → ((bytes : List ℕ) → IsClosed labels (next bytes)) → IsClosed labels (gather site image snap pieces read next) }
 {}
 
-/// A piece of a write is lawful where its one operation is permitted, and a gather anywhere, given that what comes next is
-/// lawful by what was known before: neither teaches anything.
+/// A piece of a write is lawful where its one operation is permitted, and a gather anywhere, given
+/// that what comes next is lawful by what was known before: neither teaches anything.
 pub fn pieces_are_lawful()
     ensures write { (at : Label → Knowledge) (k : Knowledge) (site : SiteId) (image : ℕ) (h : HeaderView) (piece : Piece) (bytes : List ℕ) (next : Plan)
         → Permits k site (data_write image (context_of h) piece bytes) → IsLawful at k next → IsLawful at k (write_piece site image h piece bytes next) }

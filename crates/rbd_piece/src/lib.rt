@@ -27,22 +27,25 @@
 //! | | | `none` | as many zeros as the piece has bytes are added, and the next piece is read |
 //! | either | | `fenced` | Fenced |
 //!
-//! - A write goes to its object under the snapshot context of the header that it was made by, and makes the object where
-//!   it isn't there. Its bytes are laid to the parts of the piece one part after another.
-//! - A gather reads the head, or one snapshot. Its bytes are those of the pieces in the order in which they were given,
-//!   and in a piece those of its parts.
+//! - A write goes to its object under the snapshot context of the header that it was made by, and
+//!   makes the object where it isn't there. Its bytes are laid to the parts of the piece one part
+//!   after another.
+//! - A gather reads the head, or one snapshot. Its bytes are those of the pieces in the order in
+//!   which they were given, and in a piece those of its parts.
 //!
 //! # Contracts
 //!
-//! Both are parts of a request: their clauses hold for every plan that comes next, and a step tells a
-//! [`Progress`](rbd_machine::Progress). They are fed what their operation can be answered, and nothing else. Each is also a
-//! request of its own that ends with Done ([`Machine`](rbd_machine::Machine)).
+//! Both are parts of a request: their clauses hold for every plan that comes next, and a step tells
+//! a [`Progress`](rbd_machine::Progress). They are fed what their operation can be answered, and
+//! nothing else. Each is also a request of its own that ends with Done
+//! ([`Machine`](rbd_machine::Machine)).
 //!
-//! The definitions are read after those of `rbd_machine`. `specs/Write.antt`: `write_piece` is the plan of a piece of a
-//! write, and `rest_of_write` what is left of one. `specs/Gather.antt`: `gather` is the plan that reads pieces behind the
-//! bytes that were read before, and `rest_of_gather` what is left of one; `Gathers` says what comes of a step, and
-//! `HasRoom` for which answers it has the memory. [`laws`] says how many operations they have, and that neither begins a
-//! part again.
+//! The definitions are read after those of `rbd_machine`. `specs/Write.antt`: `write_piece` is the
+//! plan of a piece of a write, and `rest_of_write` what is left of one. `specs/Gather.antt`:
+//! `gather` is the plan that reads pieces behind the bytes that were read before, and
+//! `rest_of_gather` what is left of one; `Gathers` says what comes of a step, and `HasRoom` for
+//! which answers it has the memory. [`laws`] says how many operations they have, and that neither
+//! begins a part again.
 //!
 //! # Cost
 //!
@@ -57,9 +60,9 @@
 //!
 //! # How it works
 //!
-//! A piece of a write has one step, so it has no stages. A gather holds the piece that it reads, a queue of those after
-//! it, and the bytes that were read: with each answer the next piece comes out of the queue, and the end is where none is
-//! left.
+//! A piece of a write has one step, so it has no stages. A gather holds the piece that it reads, a
+//! queue of those after it, and the bytes that were read: with each answer the next piece comes out
+//! of the queue, and the end is where none is left.
 #![tactic(auto)]
 
 mod gather;

@@ -34,8 +34,8 @@ pub struct WritePiece {
 }
 
 impl WritePiece {
-    /// Puts bytes into a piece of an image, under a snapshot context that its header gives: as many bytes as the
-    /// piece's parts have together. It takes no memory.
+    /// Puts bytes into a piece of an image, under a snapshot context that its header gives: as many
+    /// bytes as the piece's parts have together. It takes no memory.
     pub fn new(
         site: SiteId,
         image: ImageId,

@@ -1,8 +1,9 @@
-//! Tests of the small records: headers, names, journals, watchers, maps, the fence and the guard, through their public
-//! calls, with a file for each crate.
+//! Tests of the small records: headers, names, journals, watchers, maps, the fence and the guard,
+//! through their public calls, with a file for each crate.
 //!
-//! They stand apart from the crates that they test, since a crate that has tests is proved twice: once as it is, and
-//! once with its tests. Expected values were worked out by hand, or by a program of another kind.
+//! They stand apart from the crates that they test, since a crate that has tests is proved twice:
+//! once as it is, and once with its tests. Expected values were worked out by hand, or by a program
+//! of another kind.
 #![tactic(auto)]
 
 #[cfg(test)]

@@ -54,7 +54,8 @@ abbrev pub renamed : Option ℕ → (from to : List ℕ) → Listing → Listing
 renamed None from to d = d
 renamed (Some image) from to d = record d { names = finmap.insert (finmap.remove d.names from) to image }
 
--- Each id that is held was drawn, and no two names have one id. So an id that is drawn is above all of them.
+-- Each id that is held was drawn, and no two names have one id. So an id that is drawn is above all
+-- of them.
 pub record IsSoundListing (d : Listing) : Type 0 where
   pub drawn : (name : List ℕ) (image : ℕ) → id_of d name ≡ Some image → (0 < image) × (image ≤ d.drawn)
   pub one_name : (a b : List ℕ) (image : ℕ) → id_of d a ≡ Some image → id_of d b ≡ Some image → a ≡ b

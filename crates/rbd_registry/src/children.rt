@@ -9,8 +9,8 @@ use std::alloc::Global;
 use std::collections::BTreeSet;
 use std::marker::Model;
 
-/// Which images were cloned of which snapshot (Ceph: the `rbd_children` object), seen by contracts as a
-/// finite set of entries of a parent, a snapshot and a child.
+/// Which images were cloned of which snapshot (Ceph: the `rbd_children` object), seen by contracts
+/// as a finite set of entries of a parent, a snapshot and a child.
 #[derive(Debug, Drop)]
 pub struct Children {
     alloc: Global,

@@ -16,8 +16,8 @@ use std::marker::Model;
 /// How many names a directory holds at most (own).
 const MOST_NAMES: usize = 4096;
 
-/// A site's names (Ceph: the `rbd_directory` object), seen by contracts as a finite map from names to
-/// image ids and the id that was drawn last.
+/// A site's names (Ceph: the `rbd_directory` object), seen by contracts as a finite map from names
+/// to image ids and the id that was drawn last.
 #[derive(Debug, Drop)]
 pub struct Directory {
     alloc: Global,
@@ -49,8 +49,8 @@ impl Directory {
         }
     }
 
-    /// Gives a name the next id. `Exists` where the name is held; else `Full` where 4,096 names are held or
-    /// the last id is `u32::MAX` (own).
+    /// Gives a name the next id. `Exists` where the name is held; else `Full` where 4,096 names are
+    /// held or the last id is `u32::MAX` (own).
     pub fn add(&mut self, name: &Name) -> Result<ImageId, AddFault>
         ensures id { IfOk result (λ id. id ≡ self.old.drawn + 1) }
         ensures ok { OnOk result (self.new ≡ added name.now self.old) }
@@ -86,7 +86,8 @@ impl Directory {
         self.names.get(name).copied()
     }
 
-    /// Whether no name may be added: 4,096 are held, or the ids are used up (own). It takes no memory.
+    /// Whether no name may be added: 4,096 are held, or the ids are used up (own). It takes no
+    /// memory.
     pub fn is_full(&self) -> bool
         ensures { result ≡ is_full self.now }
     {
@@ -110,8 +111,8 @@ impl Directory {
         is_value(&self.names, image)
     }
 
-    /// Takes the name of an image away, and answers whether it had one. It takes no memory, and reads each
-    /// name's id once. The id isn't drawn again.
+    /// Takes the name of an image away, and answers whether it had one. It takes no memory, and
+    /// reads each name's id once. The id isn't drawn again.
     pub fn remove(&mut self, image: ImageId) -> bool
         ensures found { IsTrue result ↔ IsNamed self.old image }
         ensures held { result ≡ holds image self.old }
@@ -124,8 +125,8 @@ impl Directory {
         self.names.len() != before
     }
 
-    /// Gives an image another name. `NoName` where `from` isn't held; else `Exists` where `to` is, also
-    /// where both are one name.
+    /// Gives an image another name. `NoName` where `from` isn't held; else `Exists` where `to` is,
+    /// also where both are one name.
     pub fn rename(&mut self, from: &Name, to: &Name) -> Result<(), RenameFault>
         ensures ok { OnOk result (self.new ≡ renamed (id_of self.old from.now) from.now to.now self.old) }
         ensures err { OnErr result (self.new ≡ self.old) }

@@ -12,14 +12,14 @@
 //! children.of(disk, SnapId(3))?;                  // image 2
 //! ```
 //!
-//! Costs: a look-up, an `add`, a `rename` and each call on one child go down an ordered map (at most
-//! 4,096 names; children are as many as clones). [`Children::of`] reads the entries of the one snapshot
-//! and no others. [`Directory::remove`] finds the name by its id, so it reads each name's id once: it
-//! ends the removal of an image, which visits each object of it.
+//! Costs: a look-up, an `add`, a `rename` and each call on one child go down an ordered map (at
+//! most 4,096 names; children are as many as clones). [`Children::of`] reads the entries of the one
+//! snapshot and no others. [`Directory::remove`] finds the name by its id, so it reads each name's
+//! id once: it ends the removal of an image, which visits each object of it.
 //!
-//! How it works: both are std's ordered maps. Ids are numbered from 1 by a counter that only rises, so
-//! an id is never drawn twice, and what another cluster, a journal or a late operation says of an image
-//! that is gone is never said of another one (own).
+//! How it works: both are std's ordered maps. Ids are numbered from 1 by a counter that only rises,
+//! so an id is never drawn twice, and what another cluster, a journal or a late operation says of
+//! an image that is gone is never said of another one (own).
 #![tactic(auto)]
 
 mod children;

@@ -1,11 +1,9 @@
 -- What is known stays true under what is permitted to others, and under the store's own steps.
 use Rattle.std.proofs.Common.{◌≡◌, ℕ, ◌==◌, cond, Bool, true, false, List, Option, Some, None, option_map, refl, sym, ap, ◌∙◌, subst}
 use Rattle.std.proofs.lemmas.Bool.{true≢false, eqb-true, ne_eqb}
+use Rattle.std.proofs.lemmas.Option.{none-some}
 use Rattle.std.specs.FinMap as finmap
 use Rattle.std.specs.Ordering.{nat_cmp}
-use Rattle.std.specs.Cmp.{nat_cmp_total}
-use Rattle.rbd_object.specs.Kept.{is_listed}
-use Rattle.rbd_object.proofs.KeptLemmas.{get-live}
 use Rattle.std.specs.Prelude.{IsSome, is_some}
 use Rattle.rbd_kinds.specs.declared.data_op.DataOp.{DataOp}
 use Rattle.rbd_kinds.specs.declared.data_op.DataOp.TheVariants as object
@@ -28,14 +26,12 @@ use Rattle.rbd_site.proofs.GenerationLemmas.{looked_at}
 use Rattle.rbd_stands.specs.Site.{IsUntouched}
 use Rattle.rbd_stands.specs.Unseen.{is_about}
 use Rattle.rbd_stands.proofs.EditSteps.{untouched_stays, drawn_stays}
+use Rattle.rbd_stands.proofs.StoreSteps.{blank_trimmed}
 use Rattle.rbd_flat.specs.Flat.{no_images}
 use Rattle.rbd_rely.specs.Beside.{AreBeside, is_own_alone}
 use Rattle.rbd_rely.specs.Truth.{IsTrueAt, IsStill, IsWaiting, header_of_own, known_header}
 
 -- ---- a header that is known
-
-no_some : {T : Type 0} (x : T) → None ≡ Some x → ⊥
-no_some x is = true≢false (ap is_some (sym is))
 
 -- the header that is there, where one is known
 pub record IsThere (known : HeaderView) (there : Option HeaderView) : Type 0 where
@@ -62,7 +58,7 @@ pub not_waiting : (site : SiteId) (r : Records) (k : Knowledge) (image : ℕ) (c
     → r.headers image ≡ None → ⊥
 not_waiting site r k image condition t owns none =
     let there = owned_there site r k image condition t owns in
-    no_some there.view (sym none ∙ there.is)
+    none-some there.view (sym none ∙ there.is)
 
 pub unknown_of_none : (known there : Option HeaderView) → IsStill known None → IsStill known there
 unknown_of_none None there still = tt
@@ -157,16 +153,6 @@ others_keep site r k j you o t u beside permits = record {
 }
 
 -- ---- the store
-
-blank_trimmed : (live : List ℕ) → mapped_trim live mapped_blank ≡ mapped_blank
-blank_trimmed live = ap (λ (kept : finmap.FinMap nat_cmp (List ℕ)). record mapped_blank { kept = kept })
-    (finmap.same_map nat_cmp_total finmap.nat_cmp-IsAntisymmetric _ _ (λ snap.
-    get-live live finmap.empty snap ∙ ap (λ (o : Option (List ℕ)). cond (is_listed live snap) o None) (finmap.get-empty nat_cmp snap) ∙ both (is_listed live snap)
-    ∙ sym (finmap.get-empty nat_cmp snap)))
-  where
-    both : (b : Bool) → ◌≡◌ {A = Option (List ℕ)} (cond b None None) None
-    both true = refl
-    both false = refl
 
 blank_in : (live : List ℕ) (object : Option Mapped) → or_blank object ≡ mapped_blank → or_blank (option_map (mapped_trim live) object) ≡ mapped_blank
 blank_in live None blank = refl

@@ -44,7 +44,7 @@ bounded_write_request site name at bytes most few =
 
 -- ---- reads
 
-bounded_closing : (site : SiteId) (image : ℕ) (seen : Seen) (read : List ℕ) → IsBounded (closing site image seen read) 1
+pub bounded_closing : (site : SiteId) (image : ℕ) (seen : Seen) (read : List ℕ) → IsBounded (closing site image seen read) 1
 bounded_closing site image seen read (answer.Header h) = go (eqb h.generation seen.generation)
   where
     go : (b : Bool) → IsBounded (cond b (Return (reply.Bytes (shown seen read))) (Goto label.Begin)) 0

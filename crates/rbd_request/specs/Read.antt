@@ -1,4 +1,5 @@
--- `read`: a pass over the objects between two looks at the header, which is made again where the header changed.
+-- `read`: a pass over the objects between two looks at the header, which is made again where the
+-- header changed.
 use Rattle.std.specs.Prelude.{◌≡◌, ℕ, ◌==◌, List, [], Bool, true, false, if◌then◌else◌, Option, Some, None}
 use Rattle.rbd_kinds.specs.declared.answer.Answer.{Answer}
 use Rattle.rbd_kinds.specs.declared.answer.Answer.TheVariants as answer
@@ -34,8 +35,8 @@ is_read _ = false
 
 -- ---- the steps of a pass
 
--- The closing look. Where the header is still what it was, the bytes are the reply. Where it changed, or is gone,
--- the read begins again.
+-- The closing look. Where the header is still what it was, the bytes are the reply. Where it
+-- changed, or is gone, the read begins again.
 abbrev pub on_closing : Seen → (read : List ℕ) → Answer → Plan
 on_closing seen read (answer.Header h) = if h.generation == seen.generation then Return (reply.Bytes (shown seen read)) else Goto label.Begin
 on_closing seen read answer.Absent = Goto label.Begin

@@ -11,7 +11,8 @@ use rbd_layout::pieces;
 use rbd_object::copy_window;
 use std::alloc::Global;
 
-/// The bytes of an extent, out of those of its pieces, one piece after another and in it one part after another.
+/// The bytes of an extent, out of those of its pieces, one piece after another and in it one part
+/// after another.
 pub fn arrange(
     alloc: Global,
     layout: &Layout,

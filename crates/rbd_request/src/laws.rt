@@ -1,4 +1,5 @@
-//! What requests do to their end, and by how many operations: laws, each the contract of a function that does nothing.
+//! What requests do to their end, and by how many operations: laws, each the contract of a function
+//! that does nothing.
 ghost use Rattle.std.specs.Prelude.{◌≡◌, ℕ, ◌+◌, ◌*◌, ◌<◌, ◌≤◌, List, AllPairs, length, Option, true};
 ghost use Rattle.rbd_kinds.specs.declared.header.HeaderView.{HeaderView};
 ghost use Rattle.rbd_kinds.specs.declared.id.SiteId.{SiteId};
@@ -32,8 +33,9 @@ pub fn writes_are_bounded()
         → IsBounded (write site name at bytes) (most + 3) }
 {}
 
-/// A pass of a read has one operation for each piece, and three beside: it finds its image, and looks at the
-/// header before and after. A read has those of as many passes, each time that it begins again one more.
+/// A pass of a read has one operation for each piece, and three beside: it finds its image, and
+/// looks at the header before and after. A read has those of as many passes, each time that it
+/// begins again one more.
 pub fn reads_are_bounded()
     ensures pass { (site : SiteId) (name : List ℕ) (snap : Option (List ℕ)) (e : Extent) (most : ℕ)
         → ((h : HeaderView) → length (pieces_of h.layout e) ≤ most)
@@ -44,8 +46,8 @@ pub fn reads_are_bounded()
         → length steps ≤ (1 + jumps (read_labels site name snap e) (pass site name snap e) feds) * (most + 3) }
 {}
 
-/// A write waits for its turn at the objects of its pieces, the pieces of its extent by the layout that its own look
-/// told, one after another and at no others. They ascend.
+/// A write waits for its turn at the objects of its pieces, the pieces of its extent by the layout
+/// that its own look told, one after another and at no others. They ascend.
 pub fn turns_are_those_of_the_pieces()
     ensures turns { (site : SiteId) (at : ℕ) (bytes : List ℕ) (image : ℕ) (h : HeaderView)
         → AreTurns (put site at bytes image h) (objects_of (pieces_of h.layout (extent_at at bytes))) }
@@ -58,23 +60,25 @@ pub fn labels_stand_at_operations()
     ensures read { (site : SiteId) (name : List ℕ) (snap : Option (List ℕ)) (e : Extent) → IsClosed (read_labels site name snap e) (pass site name snap e) }
 {}
 
-/// A read, however often it begins again, shows bytes only at the end of a pass between two looks at a header that
-/// didn't change, and they are what that pass read of each piece by the first look, in the order of the image. Each pass
-/// before saw another header at its second look, or none.
+/// A read, however often it begins again, shows bytes only at the end of a pass between two looks
+/// at a header that didn't change, and they are what that pass read of each piece by the first
+/// look, in the order of the image. Each pass before saw another header at its second look, or
+/// none.
 pub fn bytes_are_shown_between_looks()
     ensures { (site : SiteId) (name : List ℕ) (snap : Option (List ℕ)) (e : Extent) (feds : List Fed) (steps : List Answered) (bytes : List ℕ)
         → IsWalk (read_labels site name snap e) (pass site name snap e) feds steps (Return (Bytes bytes)) → ShowsAtLast site name snap e steps bytes }
 {}
 
-/// A write is done only when each of its pieces was written by its own look, under the snapshot context of that look,
-/// and it has done nothing else but to look up its image and look at its header.
+/// A write is done only when each of its pieces was written by its own look, under the snapshot
+/// context of that look, and it has done nothing else but to look up its image and look at its
+/// header.
 pub fn writes_are_whole()
     ensures { (site : SiteId) (name : List ℕ) (at : ℕ) (bytes : List ℕ) (feds : List Fed) (steps : List Answered)
         → IsWalk Goto (write site name at bytes) feds steps (Return Done) → WritesWhole site name at bytes steps }
 {}
 
-/// A write and a fill are lawful from nothing known: each piece is written under the snapshot context and within the size
-/// that the own look told, at its turn.
+/// A write and a fill are lawful from nothing known: each piece is written under the snapshot
+/// context and within the size that the own look told, at its turn.
 pub fn writes_are_lawful()
     ensures { (home : SiteId) (command : Command) → IsLawfulRequest (without_labels (write_plan home command)) }
 {}
@@ -84,9 +88,10 @@ pub fn reads_are_lawful()
     ensures { (home : SiteId) (command : Command) (standing : Standing) → IsReadOf home command standing → IsLawfulRequest standing }
 {}
 
-/// A reply is meant by its command, behind the operations that were done (`IsMeantBy` of `rbd_meaning`), where each answer is
-/// one that its operation can give: it was written or is shown when a request isn't refused, and when it is, the last answer
-/// refused it, and none before. No other reply comes.
+/// A reply is meant by its command, behind the operations that were done (`IsMeantBy` of
+/// `rbd_meaning`), where each answer is one that its operation can give: it was written or is shown
+/// when a request isn't refused, and when it is, the last answer refused it, and none before. No
+/// other reply comes.
 pub fn replies_are_meant()
     ensures write { (home : SiteId) (command : Command) (feds : List Fed) (steps : List Answered) (reply : Reply) → is_write command ≡ true → AreGiven steps
         → IsWalk Goto (write_plan home command) feds steps (Return reply) → IsMeantBy home command steps reply }

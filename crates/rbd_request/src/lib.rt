@@ -1,5 +1,5 @@
-//! The requests of `write`, `fill` and `read`, as machines that want one thing at a time. They do nothing themselves:
-//! whoever holds one does what it wants, and feeds it what came of it.
+//! The requests of `write`, `fill` and `read`, as machines that want one thing at a time. They do
+//! nothing themselves: whoever holds one does what it wants, and feeds it what came of it.
 //!
 //! ```text
 //! let mut request = WriteRequest::new(alloc, SiteId::A, command)?;    // write disk 4094 hello
@@ -22,47 +22,52 @@
 //! | `write`, `fill` | `dir-find`, the image's line (beside other writes), `header-get`, the lock, `header-get`, the event noted, for each object its turn and a `data-write`, the event counts as applied | NoImage, NonPrimary, BadRange |
 //! | `read` | `dir-find`, `header-get`, a `data-read` for each object, `header-get` | NoImage, NoSnap, BadRange |
 //!
-//! Refusals are tested in the order of the table, those of a write at both looks. Any operation may be answered
-//! `fenced`, which ends the request with Fenced.
+//! Refusals are tested in the order of the table, those of a write at both looks. Any operation may
+//! be answered `fenced`, which ends the request with Fenced.
 //!
-//! A fill is a write of one byte many times. A write's pieces are those of its extent by the striping that the own
-//! look told (Ceph: RBD striping), object by object in the order of their numbers, under the snapshot context of that
-//! header. They are made at the own look, before the event is noted.
+//! A fill is a write of one byte many times. A write's pieces are those of its extent by the
+//! striping that the own look told (Ceph: RBD striping), object by object in the order of their
+//! numbers, under the snapshot context of that header. They are made at the own look, before the
+//! event is noted.
 //!
-//! A read takes no lock. It looks at the header before and after, and where the generation is another, or the header
-//! is gone, it begins again with `dir-find`. So its bytes are those of one state of the header. An object that isn't
-//! there shows zeros.
+//! A read takes no lock. It looks at the header before and after, and where the generation is
+//! another, or the header is gone, it begins again with `dir-find`. So its bytes are those of one
+//! state of the header. An object that isn't there shows zeros.
 //!
 //! # Contracts
 //!
-//! Both requests meet the contract of `Machine` in `rbd_machine`: it says of each step that it is the next of a *plan*,
-//! a tree of steps, and the definitions here are the plans. They are read in this order. `specs/Write.antt`: what a
-//! write does at its own look (`put`), the whole (`write`), and what is left of it at each stage (`rest_at`).
-//! `specs/Seen.antt`: what a read keeps of the header, and the bytes that it shows (`shown`). `specs/Read.antt`: a
-//! pass over the objects between two looks (`pass`), its closing look (`on_closing`), and where it stands (`rest_at`). What
-//! they refuse, and what their replies mean, stands in `rbd_meaning`.
-//! [`laws`] says what such plans come to: a write is done only when each of its pieces was written by its own look,
-//! its turns are those at the objects of its pieces, ascending, a read shows bytes only in a pass between
-//! two looks at a header that didn't change, however often it began again, each reply is meant, refusals
-//! among them, the plans are lawful from nothing known (`rbd_machine`), and how many operations they have.
+//! Both requests meet the contract of `Machine` in `rbd_machine`: it says of each step that it is
+//! the next of a *plan*, a tree of steps, and the definitions here are the plans. They are read in
+//! this order. `specs/Write.antt`: what a write does at its own look (`put`), the whole (`write`),
+//! and what is left of it at each stage (`rest_at`). `specs/Seen.antt`: what a read keeps of the
+//! header, and the bytes that it shows (`shown`). `specs/Read.antt`: a pass over the objects
+//! between two looks (`pass`), its closing look (`on_closing`), and where it stands (`rest_at`).
+//! What they refuse, and what their replies mean, stands in `rbd_meaning`. [`laws`] says what such
+//! plans come to: a write is done only when each of its pieces was written by its own look, its
+//! turns are those at the objects of its pieces, ascending, a read shows bytes only in a pass
+//! between two looks at a header that didn't change, however often it began again, each reply is
+//! meant, refusals among them, the plans are lawful from nothing known (`rbd_machine`), and how
+//! many operations they have.
 //!
 //! # Cost
 //!
-//! A request takes a step for each thing that it wants, and each object that is touched is asked for once; a read that
-//! begins again takes all its steps again. The bytes of a write lie in memory once: the request takes them over from the
-//! command, and its event, its pieces and their operations share them. Only those of a piece with several parts, which
-//! lie apart in the command's bytes, are gathered, once, at the own look. The snapshot context is one for all pieces.
-//! Those of a read are copied once from the answers to behind one another, and once into the reply, in the order of the
-//! image.
+//! A request takes a step for each thing that it wants, and each object that is touched is asked
+//! for once; a read that begins again takes all its steps again. The bytes of a write lie in memory
+//! once: the request takes them over from the command, and its event, its pieces and their
+//! operations share them. Only those of a piece with several parts, which lie apart in the
+//! command's bytes, are gathered, once, at the own look. The snapshot context is one for all
+//! pieces. Those of a read are copied once from the answers to behind one another, and once into
+//! the reply, in the order of the image.
 //!
-//! Memory is taken by [`WriteRequest::new`], `next`, `event` and `ready`, and these may be refused it without a change.
-//! [`ReadRequest::new`], `wants` and `feed` take none.
+//! Memory is taken by [`WriteRequest::new`], `next`, `event` and `ready`, and these may be refused
+//! it without a change. [`ReadRequest::new`], `wants` and `feed` take none.
 //!
 //! # How it works
 //!
-//! A [`WriteRequest`] goes through stages: the way to its own look is `Approach` of `rbd_machine`, and each piece a
-//! `WritePiece` of `rbd_piece`, in a queue. A [`ReadRequest`] goes through stages too, and its reading is a `Gather` of
-//! `rbd_piece`. What an answer needs is made ready in `ready` and put beside the stage, and `feed` takes it from there.
+//! A [`WriteRequest`] goes through stages: the way to its own look is `Approach` of `rbd_machine`,
+//! and each piece a `WritePiece` of `rbd_piece`, in a queue. A [`ReadRequest`] goes through stages
+//! too, and its reading is a `Gather` of `rbd_piece`. What an answer needs is made ready in `ready`
+//! and put beside the stage, and `feed` takes it from there.
 #![tactic(auto)]
 
 mod arrange;

@@ -8,7 +8,8 @@ use rbd_kinds::{Bytes, Extent, HeaderView, Layout, NoMemory};
 use std::alloc::Global;
 use std::marker::Model;
 
-/// What a read keeps of the header that it looked at, and the extent that fits there. Contracts see it as `Seen`.
+/// What a read keeps of the header that it looked at, and the extent that fits there. Contracts see
+/// it as `Seen`.
 #[derive(Debug, Drop)]
 pub struct Looked {
     layout: Layout,

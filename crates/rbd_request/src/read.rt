@@ -28,8 +28,8 @@ use rbd_machine::{
 use rbd_piece::Gather;
 use std::alloc::Global;
 
-/// A read of bytes of an image or of a snapshot. It needs no lock: that nothing changed while it went from object to
-/// object is shown by the header's generation, before and after.
+/// A read of bytes of an image or of a snapshot. It needs no lock: that nothing changed while it
+/// went from object to object is shown by the header's generation, before and after.
 ///
 /// ```text
 ///    ┌─────────▶ Finding    dir-find     ──none──▶ NoImage

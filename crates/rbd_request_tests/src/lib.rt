@@ -1,9 +1,9 @@
-//! Tests of requests, through their public calls: the way of a change (`machine`), the parts of requests (`piece`), and
-//! the requests of a client (`write`, `read`, `admin`).
+//! Tests of requests, through their public calls: the way of a change (`machine`), the parts of
+//! requests (`piece`), and the requests of a client (`write`, `read`, `admin`).
 //!
-//! They stand apart from the crates that they test, since a crate that has tests is proved twice: once as it is, and
-//! once with its tests. Each request is fed by hand, by the calls of `drive`. What it has to want was worked out from
-//! its diagram, or from the rules in prose.
+//! They stand apart from the crates that they test, since a crate that has tests is proved twice:
+//! once as it is, and once with its tests. Each request is fed by hand, by the calls of `drive`.
+//! What it has to want was worked out from its diagram, or from the rules in prose.
 #![tactic(auto)]
 
 #[cfg(test)]

@@ -1,14 +1,12 @@
 -- How many operations commands have.
-use Rattle.std.proofs.Common.{◌≡◌, ℕ, ◌+◌, ◌*◌, ◌≤◌, suc, List, [], length, replicate, Bool, true, false, cond, eqb, Option, Some, None, sym, subst, add-mul, arith}
+use Rattle.std.proofs.Common.{◌≡◌, ℕ, ◌+◌, ◌*◌, ◌≤◌, suc, List, [], length, replicate, true, false, Option, Some, None, sym, subst, add-mul, arith}
 use Rattle.std.proofs.lemmas.List.{length-replicate}
-use Rattle.rbd_kinds.specs.declared.answer.Answer.TheVariants as answer
 use Rattle.rbd_kinds.specs.declared.command.Command.{Command}
 use Rattle.rbd_kinds.specs.declared.command.Command.TheVariants as command
 use Rattle.rbd_kinds.specs.declared.header.HeaderView.{HeaderView}
 use Rattle.rbd_kinds.specs.declared.id.SiteId.{SiteId}
 use Rattle.rbd_kinds.specs.declared.layout.Extent.{Extent}
 use Rattle.rbd_kinds.specs.declared.machine.Fed.{Fed}
-use Rattle.rbd_kinds.specs.declared.reply.Reply.TheVariants as reply
 use Rattle.rbd_layout.specs.Pieces.{pieces_of}
 use Rattle.rbd_header.specs.Header.{view_of}
 use Rattle.rbd_header.specs.declared.view.View.{View}
@@ -16,14 +14,14 @@ use Rattle.rbd_machine.specs.Label.{Label}
 use Rattle.rbd_machine.specs.Label as label
 use Rattle.rbd_machine.specs.Passes.{jumps}
 use Rattle.rbd_machine.specs.Path.{Answered, IsBounded, IsWalk}
-use Rattle.rbd_machine.specs.Plan.{Plan, Return, Goto, Standing, without_labels}
+use Rattle.rbd_machine.specs.Plan.{Plan, Standing, without_labels}
 use Rattle.rbd_machine.specs.Refused.{AreGiven}
 use Rattle.rbd_meaning.specs.Range.{extent_at, out_of_range}
 use Rattle.rbd_meaning.specs.Writes.{write_refuses}
 use Rattle.rbd_piece.proofs.Bounded.{bounded_gather}
-use Rattle.rbd_request.proofs.Bounded.{bounded_put}
+use Rattle.rbd_request.proofs.Bounded.{bounded_closing, bounded_put}
 use Rattle.rbd_request.specs.Read.{IsReadOf, pass, looking, reading, viewing, gathering, closing}
-use Rattle.rbd_request.specs.Seen.{Seen, seen_at, shown}
+use Rattle.rbd_request.specs.Seen.{seen_at}
 use Rattle.rbd_request.specs.Write.{is_write, put, write, write_plan}
 use Rattle.rbd_admin.proofs.Bounds.{bounded_create, bounded_listing, bounded_names, bounded_snap}
 use Rattle.rbd_admin.specs.Create.{IsCreatePlan}
@@ -51,22 +49,12 @@ write_plan_asks_few site _ most is few = cc
 
 -- ---- read
 
-closing_bounded : (site : SiteId) (image : ℕ) (seen : Seen) (read : List ℕ) → IsBounded (closing site image seen read) 1
-closing_bounded site image seen read (answer.Header h) = go (eqb h.generation seen.generation)
-  where
-    go : (b : Bool) → IsBounded (cond b (Return (reply.Bytes (shown seen read))) (Goto label.Begin)) 0
-    go true = tt
-    go false = tt
-closing_bounded site image seen read answer.Absent = tt
-closing_bounded site image seen read answer.Fenced = tt
-closing_bounded site image seen read _ = tt
-
 viewing_asks_few : (site : SiteId) (image : ℕ) (h : HeaderView) (e : Extent) (view : Option View) (most : ℕ) → length (pieces_of h.layout e) ≤ most → AsksAtMost (viewing site image h e view) (suc most)
 viewing_asks_few site image h e None most few = tt
 viewing_asks_few site image h e (Some view) most few =
     asks_unless (out_of_range e view.size) (gathering site image h e view) (suc most)
     (asks_within (gathering site image h e view) (1 + length (pieces_of h.layout e)) (suc most) (omega arith)
-    (bounded_gather (pieces_of h.layout e) site image view.snap [] (closing site image (seen_at h e)) 1 (closing_bounded site image (seen_at h e))))
+    (bounded_gather (pieces_of h.layout e) site image view.snap [] (closing site image (seen_at h e)) 1 (bounded_closing site image (seen_at h e))))
 
 pass_asks_few : (site : SiteId) (name : List ℕ) (snap : Option (List ℕ)) (e : Extent) (most : ℕ) → HasAtMost most (Some e) → AsksAtMost (pass site name snap e) (most + 3)
 pass_asks_few site name snap e most few =

@@ -1,4 +1,5 @@
--- How many operations a plan has, whatever they are answered of what they can give: step by step, and along a walk.
+-- How many operations a plan has, whatever they are answered of what they can give: step by step,
+-- and along a walk.
 use Rattle.std.proofs.Common.{◌≡◌, ℕ, ◌+◌, ◌*◌, ◌≤◌, zero, suc, List, [], ◌∷◌, length, Bool, Option, Some, None, ap, subst, add-mul, arith}
 use Rattle.rbd_kinds.specs.declared.answer.Answer.{Answer}
 use Rattle.rbd_kinds.specs.declared.answer.Answer.TheVariants as answer

@@ -1,4 +1,5 @@
--- Lines of a schedule, and declarations of sessions, are read of the tokens that spell them, and of no others.
+-- Lines of a schedule, and declarations of sessions, are read of the tokens that spell them, and of
+-- no others.
 use Rattle.std.proofs.Common.{◌≡◌, inl, inr, ℕ, ◌<◌, ◌≤◌, ◌^◌, List, [], ◌∷◌, Ok, refl, sym, ap, ◌∙◌, subst, arith}
 use Rattle.std.specs.Prelude.{codes, decimal}
 use Rattle.rbd_kinds.specs.declared.id.SiteId.{SiteId}

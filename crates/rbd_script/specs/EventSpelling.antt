@@ -27,7 +27,8 @@ abbrev pub IsPoll : (name : List ℕ) (slot times : ℕ) → List (List ℕ) →
 IsPoll name slot times tokens =
     (tokens ≡ codes "@poll" ∷ name ∷ decimal slot ∷ decimal times ∷ []) ⊎ ((tokens ≡ codes "@poll" ∷ name ∷ decimal slot ∷ []) × (times ≡ 1))
 
--- The tokens spell the line of a schedule, whose parts are in range. A session's command is no such line.
+-- The tokens spell the line of a schedule, whose parts are in range. A session's command is no such
+-- line.
 abbrev pub SpellsEvent : List Declared → List (List ℕ) → Said → Type 0
 SpellsEvent sessions tokens (said.Command session beside command) = ⊥
 SpellsEvent sessions tokens (said.Poll session slot times) =
@@ -46,7 +47,8 @@ SpellsEvent sessions tokens (said.Late session slot) =
 SpellsEvent sessions tokens (said.Trim site image object) =
     (tokens ≡ codes "@trim" ∷ site_word site ∷ decimal image ∷ decimal object ∷ []) × (image ≤ 4294967295) × (object ≤ greatest)
 
--- Behind `client`, on the line of this number, the tokens declare one more session, whose name is a new one.
+-- Behind `client`, on the line of this number, the tokens declare one more session, whose name is a
+-- new one.
 pub record Declares (sessions : List Declared) (number : ℕ) (tokens : List (List ℕ)) (d : Declared) : Type 0 where
   pub spelled : tokens ≡ d.name ∷ site_word d.home ∷ []
   pub name : IsTrue (is_session_name d.name)

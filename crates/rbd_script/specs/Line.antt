@@ -49,6 +49,7 @@ with_tokens threads number s (first ∷ tokens) =
     if is (codes "client") first then declaring s (declaration_of s.sessions number tokens)
     else saying s number (said_behind threads s.sessions first tokens)
 
--- A script with one line more, the line of this number. A line whose first byte is `#` is passed over, too.
+-- A script with one line more, the line of this number. A line whose first byte is `#` is passed
+-- over, too.
 unfoldable pub with_line : (threads : Bool) (number : ℕ) → Script → List ℕ → Result Script LineCause
 with_line threads number s line = if begins_with 35 line then Ok s else with_tokens threads number s (tokens_of line)

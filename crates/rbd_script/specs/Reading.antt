@@ -28,7 +28,8 @@ limit = 16777216
 abbrev pub lines_before : List ℕ → List (List ℕ)
 lines_before text = without_last (lines_of (take limit text))
 
--- The byte too many is a fault of its line, whatever else is wrong in it, where no earlier line has one.
+-- The byte too many is a fault of its line, whatever else is wrong in it, where no earlier line has
+-- one.
 abbrev pub too_long : (lines : ℕ) → Result Script LineFault → Result Script LineFault
 too_long lines (Ok s) = Err (record { line = lines + 1; cause = ExtraPart })
 too_long lines (Err fault) = Err fault

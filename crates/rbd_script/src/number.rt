@@ -7,7 +7,8 @@ ghost use Rattle.rbd_script.specs.Number.{is_digit, is_numeral as is_numeral_in,
 use crate::fault::{LineCause, PartFault};
 use rbd_kinds::AtMost;
 
-/// The number from `least` to `MOST` that the token spells in decimal, without sign or leading zeros.
+/// The number from `least` to `MOST` that the token spells in decimal, without sign or leading
+/// zeros.
 #[tactic(auto, unfolding(crate::specs::Number::number_between))]
 pub fn number_between<const MOST: u64>(least: u64, token: &[u8]) -> Result<AtMost<MOST>, PartFault>
     ensures { Gives result (number_in least MOST token.now) }

@@ -14,8 +14,9 @@ use std::alloc::Global;
 /// How many bytes a script may have.
 pub const SCRIPT_LIMIT: usize = 16_777_216;
 
-/// The script that the bytes are, or the first fault from the left of the first line that has one. With
-/// `threads` a line of a schedule is one. Of bytes past the limit only the lines that end within it are read.
+/// The script that the bytes are, or the first fault from the left of the first line that has one.
+/// With `threads` a line of a schedule is one. Of bytes past the limit only the lines that end
+/// within it are read.
 pub fn read(alloc: Global, bytes: &[u8], threads: bool) -> Result<Script, ScriptFault>
     ensures script { IfOk result (λ script. reading threads bytes.now ≡ Ok script) }
     ensures fault { IfErr result (AtLine (λ fault. reading threads bytes.now ≡ Err fault)) }

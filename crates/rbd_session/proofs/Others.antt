@@ -1,4 +1,5 @@
--- What a request does in its line leaves the others where they are, and itself out of all other lines.
+-- What a request does in its line leaves the others where they are, and itself out of all other
+-- lines.
 use Rattle.std.proofs.Common.{◌≡◌, ◌≢◌, ℕ, cond, Bool, true, false, List, [], ◌∷◌, ◌++◌, Option, Some, None, refl, ap, ◌∙◌}
 use Rattle.rbd_kinds.specs.declared.answer.Answer.{Answer}
 use Rattle.rbd_kinds.specs.declared.answer.Answer.TheVariants as answer

@@ -1,4 +1,5 @@
--- Lists of snapshots that are changed: what holds of each, how many they are, and that their ids rise.
+-- Lists of snapshots that are changed: what holds of each, how many they are, and that their ids
+-- rise.
 use Rattle.std.proofs.Common.{◌≡◌, ℕ, zero, suc, ◌+◌, ◌≤◌, Bool, true, false, cond, eqb, List, [], ◌∷◌, ◌++◌, length, map, filter, Some, refl, sym, subst, arith}
 use Rattle.std.specs.Prelude.{slice_get}
 use Rattle.rbd_kinds.specs.declared.header.SnapView.{SnapView}

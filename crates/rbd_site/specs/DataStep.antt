@@ -1,5 +1,5 @@
--- Operations on a data object: the answer, and the object after it. An object that nothing was done to is
--- blank, and one to which a change was done stands for good.
+-- Operations on a data object: the answer, and the object after it. An object that nothing was done
+-- to is blank, and one to which a change was done stands for good.
 use Rattle.std.specs.Prelude.{◌≡◌, ℕ, ◌≤◌, ◌||◌, not, Bool, List, [], length, if◌then◌else◌, Option, Some, None, is_some, option_map, unwrap_or}
 use Rattle.rbd_kinds.specs.declared.answer.Answer.{Answer}
 use Rattle.rbd_kinds.specs.declared.answer.Answer.TheVariants as answer
@@ -14,8 +14,8 @@ use Rattle.rbd_object.specs.declared.content.TheConstants.{LARGEST_OBJECT}
 use Rattle.rbd_site.specs.Records.{or_blank}
 use Rattle.rbd_site.specs.Found.{done_where}
 
--- The operations that are built, and their conditions: parts within the largest object, with as many bytes
--- as they have.
+-- The operations that are built, and their conditions: parts within the largest object, with as
+-- many bytes as they have.
 pub record MayWrite (parts : List Part) (bytes : List ℕ) : Type 0 where
   pub within : AreWithin parts
   pub long : length bytes ≡ parts_len parts

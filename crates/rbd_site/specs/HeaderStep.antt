@@ -14,8 +14,8 @@ use Rattle.rbd_site.specs.Found.{done_where}
 abbrev pub same_instance : Instance → Instance → Bool
 same_instance a b = (a.session == b.session) && (a.life == b.life)
 
--- The operations that are built, and their conditions: a header is made in form, and a size has at most
--- 2^20 objects.
+-- The operations that are built, and their conditions: a header is made in form, and a size has at
+-- most 2^20 objects.
 abbrev pub MayDoOnHeader : Option HeaderView → HeaderOp → Type 0
 MayDoOnHeader header (Create view) = IsNewHeader view
 MayDoOnHeader (Some h) (SetSize size) = HasFewObjects h.layout size

@@ -1,4 +1,5 @@
--- The log of a site: what each operation did to the records, from none on, and what it was answered.
+-- The log of a site: what each operation did to the records, from none on, and what it was
+-- answered.
 use Rattle.std.specs.Prelude.{◌≡◌, ℕ, ◌+◌, List, [], ◌∷◌, length, Option, Some, None, option_map, IsSome}
 use Rattle.rbd_kinds.specs.declared.answer.Answer.{Answer}
 use Rattle.rbd_kinds.specs.declared.answer.Answer.TheVariants as answer
@@ -35,8 +36,8 @@ abbrev pub after_all : Records → List Done → Records
 after_all r [] = r
 after_all r (d ∷ log) = after_all (after_op r d.instance d.op) log
 
--- An operation is an instance's, and its answer is that of the records before it. A trim is the store's own, of an object
--- that is there, and is done.
+-- An operation is an instance's, and its answer is that of the records before it. A trim is the
+-- store's own, of an object that is there, and is done.
 abbrev pub IsAnswer : Records → Option Instance → DoneOp → Answer → Type 0
 IsAnswer r (Some me) (done.Op op) a = a ≡ answer_to r me op
 IsAnswer r None (done.Op op) a = ⊥

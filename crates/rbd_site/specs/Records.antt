@@ -1,4 +1,5 @@
--- What a site keeps: its directory, the children of its snapshots, the header of each image, and the data objects of each image by number.
+-- What a site keeps: its directory, the children of its snapshots, the header of each image, and
+-- the data objects of each image by number.
 use Rattle.std.specs.Prelude.{ℕ, ◌==◌, if◌then◌else◌, Option, Some, None}
 use Rattle.rbd_kinds.specs.declared.header.HeaderView.{HeaderView}
 use Rattle.std.specs.FinSet as finset

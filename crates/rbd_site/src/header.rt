@@ -31,7 +31,8 @@ pub fn answer(
     }
 }
 
-/// Before a look at a header, if it is there: views of it share one list of its snapshots from now on.
+/// Before a look at a header, if it is there: views of it share one list of its snapshots from now
+/// on.
 pub fn share(
     headers: &mut BTreeMap<ImageId, Header>,
     image: ImageId,
@@ -125,8 +126,9 @@ fn change_kept(
     Ok(())
 }
 
-/// Changes a header. Where its list of snapshots changed, views of it share the new one at once if there is memory
-/// for it; else from a later look on. That it is shared is no part of what the header tells, so this refuses nothing.
+/// Changes a header. Where its list of snapshots changed, views of it share the new one at once if
+/// there is memory for it; else from a later look on. That it is shared is no part of what the
+/// header tells, so this refuses nothing.
 fn change_and_share(header: &mut Header, instance: Instance, op: &HeaderOp) -> Result<(), NoMemory>
     requires may { MayDoOnHeader (Some header.old) op.now }
     requires generation { header.old.generation + 1 < 2 ^ 64 }

@@ -1,5 +1,5 @@
-//! What the definitions of a site's operations mean: each law is the contract of a function that does
-//! nothing.
+//! What the definitions of a site's operations mean: each law is the contract of a function that
+//! does nothing.
 ghost use Rattle.std.specs.Prelude.{◌≡◌, ℕ, ◌+◌, ◌≤◌, List, Some, IsFalse, IsTrue};
 ghost use Rattle.rbd_kinds.specs.declared.header.HeaderView.{HeaderView};
 ghost use Rattle.rbd_kinds.specs.declared.id.Instance.{Instance};
@@ -37,8 +37,9 @@ pub fn looks_change_nothing()
     ensures { (r : Records) (me : Instance) (op : Op) → IsTrue (is_look op) → after r me op ≡ r }
 {}
 
-/// As long as a header is there its generation never falls, and an operation that leaves it leaves the header, but for its
-/// lock. So two looks with one generation say that the header was one all the time between, but for its owner.
+/// As long as a header is there its generation never falls, and an operation that leaves it leaves
+/// the header, but for its lock. So two looks with one generation say that the header was one all
+/// the time between, but for its owner.
 pub fn changes_raise_the_generation()
     ensures lasts { (r : Records) (me : Instance) (op : Op) (image : ℕ) (old new : HeaderView)
         → r.headers image ≡ Some old → (after r me op).headers image ≡ Some new → old.generation ≤ new.generation }
@@ -52,16 +53,16 @@ pub fn changes_raise_the_generation()
         → new ≡ record old { owner = new.owner } }
 {}
 
-/// No operation changes what a snapshot shows that an object has a number for: only a trim for which it isn't
-/// live takes it away.
+/// No operation changes what a snapshot shows that an object has a number for: only a trim for
+/// which it isn't live takes it away.
 pub fn operations_leave_snapshots()
     ensures { (r : Records) (me : Instance) (op : Op) (image number snap : ℕ)
         → snap ≤ (object_at r image number).seq
         → view (looked (object_at (after r me op) image number)) (Some snap) ≡ view (looked (object_at r image number)) (Some snap) }
 {}
 
-/// Headers are in form at first, and each operation that may be done and each trim leaves them so. No
-/// operation raises a generation by more than one.
+/// Headers are in form at first, and each operation that may be done and each trim leaves them so.
+/// No operation raises a generation by more than one.
 pub fn headers_stay_in_form()
     ensures first { AreInForm no_records 0 }
 

@@ -12,8 +12,8 @@ use rbd_kinds::{Answer, ImageId, Instance, NoMemory, Op, SiteId};
 use std::alloc::Global;
 use std::marker::Model;
 
-/// A site (a cluster): its records and the log of the operations that made them. Contracts see it as its
-/// id and its log; the records are what the log leaves.
+/// A site (a cluster): its records and the log of the operations that made them. Contracts see it
+/// as its id and its log; the records are what the log leaves.
 #[derive(Debug, Drop)]
 pub struct Site {
     id: SiteId,
@@ -50,8 +50,9 @@ impl Site {
         self.id
     }
 
-    /// The operations that were done, numbered from 1. Each has the answer and the change that the records
-    /// have for it which the earlier ones left, and each header of these records is in form.
+    /// The operations that were done, numbered from 1. Each has the answer and the change that the
+    /// records have for it which the earlier ones left, and each header of these records is in
+    /// form.
     pub fn log(&self) -> &[Done]
         ensures log { result.now ≡ self.now.log }
         ensures answered { AreAnswered no_records self.now.log }
@@ -69,8 +70,8 @@ impl Site {
         self.store.answer(instance, op)
     }
 
-    /// Does one operation on one object, and logs it with its answer. Refused memory, nothing is done and
-    /// nothing is logged.
+    /// Does one operation on one object, and logs it with its answer. Refused memory, nothing is
+    /// done and nothing is logged.
     pub fn apply(&mut self, instance: Instance, op: Op) -> Result<Answer, NoMemory>
         requires { MayDo (records_of self.old) op }
         ensures answer { IfOk result (λ answer. answer ≡ answer_to (records_of self.old) instance op) }
@@ -94,9 +95,10 @@ impl Site {
         Ok(answer)
     }
 
-    /// The store's own step: drops what an object keeps for snapshots that the image's header doesn't list
-    /// (Ceph: snapshot trimming), which is all where the header is gone. It is `false` exactly where there is
-    /// no such object, and then nothing is logged. Refused memory, nothing changes.
+    /// The store's own step: drops what an object keeps for snapshots that the image's header
+    /// doesn't list (Ceph: snapshot trimming), which is all where the header is gone. It is `false`
+    /// exactly where there is no such object, and then nothing is logged. Refused memory, nothing
+    /// changes.
     pub fn trim(&mut self, image: ImageId, object: u64) -> Result<bool, NoMemory>
         ensures found { IfOk result (λ found. found ≡ is_some ((records_of self.old).objects image object)) }
         ensures ok { let line = trim_line (length self.old.log + 1) image object in

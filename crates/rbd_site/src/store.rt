@@ -16,7 +16,8 @@ use rbd_registry::{Children, Directory};
 use std::alloc::Global;
 use std::collections::BTreeMap;
 
-/// The records of a site: its directory, the children of its snapshots, and the headers and data objects of its images.
+/// The records of a site: its directory, the children of its snapshots, and the headers and data
+/// objects of its images.
 #[derive(Debug, Drop)]
 pub struct Store {
     pub alloc: Global,
@@ -60,7 +61,8 @@ impl Store {
         }
     }
 
-    /// Does an operation, or nothing at all, and gives its answer twice: for who asked, and for the log.
+    /// Does an operation, or nothing at all, and gives its answer twice: for who asked, and for the
+    /// log.
     pub fn perform(&mut self, me: &Instance, op: &Op) -> Result<(Answer, Answer), NoMemory>
         requires may { MayDo (kept self.old) op.now }
         requires generation { (image : ℕ) (h : HeaderView) → (kept self.old).headers image ≡ Some h → h.generation + 1 < 2 ^ 64 }
@@ -76,8 +78,8 @@ impl Store {
         Ok((answer, copy))
     }
 
-    /// Before a look at a header: from now on, the answers to such looks share one list of its snapshots, until it
-    /// changes. Refused memory, they don't yet.
+    /// Before a look at a header: from now on, the answers to such looks share one list of its
+    /// snapshots, until it changes. Refused memory, they don't yet.
     fn share(&mut self, op: &Op) -> Result<(), NoMemory>
         ensures { kept self.new ≡ kept self.old }
     {
@@ -123,7 +125,8 @@ impl Store {
         header::live_snaps(self.alloc, &self.headers, image)
     }
 
-    /// Drops what an object keeps for snapshots that aren't live, if it is there. It takes no memory.
+    /// Drops what an object keeps for snapshots that aren't live, if it is there. It takes no
+    /// memory.
     pub fn trim(&mut self, key: ObjectKey, live: &[SnapId])
         ensures { let there = (kept self.old).objects key.image key.number in
             kept self.new ≡ with_object key.image key.number (option_map (mapped_trim live.now) there) (kept self.old) }

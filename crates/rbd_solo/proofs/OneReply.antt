@@ -1,5 +1,5 @@
--- A command has one reply. Whether a layout keeps the limits isn't tested: two replies to `create` are two of
--- three, and neither case lets them differ.
+-- A command has one reply. Whether a layout keeps the limits isn't tested: two replies to `create`
+-- are two of three, and neither case lets them differ.
 use Rattle.std.proofs.Common.{◌≡◌, ◌≢◌, ℕ, Bool, true, false, cond, eqb, List, inl, inr, ◌⊎◌, refl, sym, ap, ◌∙◌, is_some}
 use Rattle.std.proofs.lemmas.Bool.Decides.{eqb_tells}
 use Rattle.rbd_kinds.specs.declared.command.Command.{Command}

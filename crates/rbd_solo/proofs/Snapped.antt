@@ -1,4 +1,5 @@
--- A change of one header: what the records hold after it. And the commands that take a snapshot and remove one.
+-- A change of one header: what the records hold after it. And the commands that take a snapshot and
+-- remove one.
 use Rattle.std.proofs.Common.{◌≡◌, ℕ, ◌+◌, Bool, true, false, cond, eqb, leb, ◌||◌, List, [], ◌∷◌, length, map, not, Bor, Option, Some, None, option_map, is_some, refl, sym, ap, ◌∙◌, subst, eq-eqb}
 use Rattle.std.specs.Prelude.{IsSome, option_copied}
 use Rattle.std.specs.FinMap as finmap

@@ -66,7 +66,8 @@ abbrev pub effects_in : List Entry → List Effect
 effects_in [] = []
 effects_in (e ∷ history) = where_some (entry_effect e) (effects_in history)
 
--- An operation that was done at a site: its number in the site's log, and its effect, where it has one.
+-- An operation that was done at a site: its number in the site's log, and its effect, where it has
+-- one.
 pub record Operation : Type 0 where
   pub site : SiteId
   pub number : ℕ

@@ -22,8 +22,8 @@ use Rattle.rbd_site.specs.Records.{put}
 use Rattle.rbd_stands.specs.Reading.{flat_snap_named}
 use Rattle.rbd_stands.specs.Writing.{piece_effects}
 
--- A flat site, and what no flat image tells: how many ids the directory has drawn, and of each image how many
--- ids of snapshots were drawn, and its layout.
+-- A flat site, and what no flat image tells: how many ids the directory has drawn, and of each
+-- image how many ids of snapshots were drawn, and its layout.
 pub record FlatState : Type 0 where
   pub site : Flat
   pub drawn : ℕ
@@ -120,7 +120,8 @@ IsReply s _ reply = ⊥
 
 -- ---- effects
 
--- One piece for each object that the extent touches, in the order of their numbers, with the bytes that go there.
+-- One piece for each object that the extent touches, in the order of their numbers, with the bytes
+-- that go there.
 pub record AreWritten (s : FlatState) (image : List ℕ) (at : ℕ) (bytes : List ℕ) (effects : List Effect) : Type 0 where
   pub id : ℕ
   pub is_id : id_of s.site image ≡ Some id

@@ -112,7 +112,8 @@ HasNoParent h view = IfSome (shape_of h view.snap) (λ shape. shape.parent ≡ N
 abbrev pub is_at : (from : ℕ) → List Part → (k : ℕ) → Bool
 is_at from parts k = list_any (λ p. covers (extent_of p) (from + k)) parts
 
--- The places of the parts show the flat bytes, and the others what they did, where that was the flat byte or zero.
+-- The places of the parts show the flat bytes, and the others what they did, where that was the
+-- flat byte or zero.
 abbrev pub IsRead : (flat : List ℕ) (from : ℕ) → List Part → (old new : List ℕ) → Type 0
 IsRead flat from parts old new = (k : ℕ) (read : Bool) → k < length old → slice_index old k ≡ (if read then slice_index flat (from + k) else 0)
     → slice_index new k ≡ (if is_at from parts k then slice_index flat (from + k) else slice_index old k)
@@ -142,7 +143,8 @@ pub record Holds (r : Records) (s : FlatState) : Type 0 where
   pub own : (image : ℕ) (h : HeaderView) → r.headers image ≡ Some h → IsOwn s image h
   pub made : (name : List ℕ) (image : ℕ) → flat.id_of s.site name ≡ Some image → IsSome (r.headers image)
 
--- The reply and the effects are the command's over the state, and the records hold the state after it.
+-- The reply and the effects are the command's over the state, and the records hold the state after
+-- it.
 pub record Means (r : Records) (s : FlatState) (command : Command) (reply : Reply) (effects : List Effect) : Type 0 where
   pub replied : IsReply s command reply
   pub are : AreEffects s command reply effects

@@ -24,8 +24,8 @@ AreOperationsFor line site (entry.Look c at number ∷ history) = (c ≡ cause.L
 AreOperationsFor line site (entry.Effect c at number e ∷ history) = (c ≡ cause.Line line) × (at ≡ site) × AreOperationsFor line site history
 AreOperationsFor line site _ = ⊥
 
--- A request begins, does its operations, and is answered. Its reply and its effects are the command's over the
--- flat state before it, and the effects leave the flat state after it.
+-- A request begins, does its operations, and is answered. Its reply and its effects are the
+-- command's over the flat state before it, and the effects leave the flat state after it.
 pub record IsRequest (me : Instance) (site : SiteId) (s : FlatState) (asked : Asked) (entries : List Entry) (t : FlatState) : Type 0 where
   pub operations : List Entry
   pub reply : Reply
@@ -47,8 +47,8 @@ pub record Played : Type 0 where
   pub me : Instance
   pub history : List Entry
 
--- The history is that of the commands from no images on, its operations are those of the log, and the records
--- that the log leaves stand for the flat state at its end.
+-- The history is that of the commands from no images on, its operations are those of the log, and
+-- the records that the log leaves stand for the flat state at its end.
 pub record IsPlayed (p : Played) (commands : List Asked) : Type 0 where
   pub state : FlatState
   pub history : IsHistory p.me p.site.id at_first commands p.history state

@@ -12,8 +12,8 @@ use rbd_layout::{keeps_limits, layout_of};
 use rbd_site::Site;
 use std::alloc::Global;
 
-/// Makes an image of zeros: `dir-add` draws its id, `header-create` makes it. A shape outside the limits is
-/// refused before any operation.
+/// Makes an image of zeros: `dir-add` draws its id, `header-create` makes it. A shape outside the
+/// limits is refused before any operation.
 pub fn create(
     alloc: Global,
     site: &mut Site,

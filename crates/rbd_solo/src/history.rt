@@ -12,8 +12,8 @@ use rbd_kinds::{
 use rbd_site::{Done, DoneOp};
 use std::alloc::Global;
 
-/// Adds a request's entries: its start, its operations in order, and its reply. Refused memory, it may have
-/// added some of them.
+/// Adds a request's entries: its start, its operations in order, and its reply. Refused memory, it
+/// may have added some of them.
 pub fn push_request(
     history: &mut Vec<Entry>,
     line: u32,
@@ -69,8 +69,8 @@ fn entry(line: u32, site: SiteId, number: u64, effect: Option<Effect>) -> Entry
     }
 }
 
-/// The effect of what was done, or `None` where it changed nothing that users see. Steps of the store itself
-/// never do.
+/// The effect of what was done, or `None` where it changed nothing that users see. Steps of the
+/// store itself never do.
 fn effect_of(alloc: Global, done: &Done) -> Result<Option<Effect>, NoMemory>
     ensures { IfOk result (λ effect. effect ≡ told.effect_of done.now.op done.now.answer) }
 {

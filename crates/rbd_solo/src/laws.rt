@@ -10,8 +10,8 @@ ghost use Rattle.rbd_solo.specs.History.{effects_in};
 ghost use Rattle.rbd_solo.specs.Meaning.{FlatState, IsReply};
 ghost use Rattle.rbd_solo.specs.Story.{Asked, IsHistory};
 
-/// The flat site at the end of a history is the one at its begin with the history's effects, one after
-/// another.
+/// The flat site at the end of a history is the one at its begin with the history's effects, one
+/// after another.
 pub fn flat_sites_are_folds()
     ensures { (me : Instance) (site : SiteId) (s t : FlatState) (commands : List Asked) (history : List Entry)
         → IsHistory me site s commands history t → t.site ≡ after_all s.site (effects_in history) }

@@ -18,8 +18,8 @@ pub struct Opened {
     pub header: HeaderView,
 }
 
-/// Looks an image up by its name: `dir-find`, then `header-get`. It is `None` exactly where the directory
-/// has no such name, or the header isn't there.
+/// Looks an image up by its name: `dir-find`, then `header-get`. It is `None` exactly where the
+/// directory has no such name, or the header isn't there.
 pub fn open(site: &mut Site, me: &Instance, name: &Name) -> Result<Option<Opened>, NoMemory>
     ensures looks { OnOk result (Looks site.old site.new) }
     ensures opened { IfOk result (λ opened. opened ≡ opened_in (records_of site.old) name.now) }

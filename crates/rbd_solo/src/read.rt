@@ -18,8 +18,8 @@ use rbd_object::{scatter, shifted_parts};
 use rbd_site::Site;
 use std::alloc::Global;
 
-/// Shows bytes of an image or of a snapshot: `dir-find`, `header-get`, and a `data-read` for each object that
-/// they touch.
+/// Shows bytes of an image or of a snapshot: `dir-find`, `header-get`, and a `data-read` for each
+/// object that they touch.
 pub fn read(
     alloc: Global,
     site: &mut Site,

@@ -13,8 +13,8 @@ use rbd_site::{Done, Site};
 use std::alloc::Global;
 use std::marker::Model;
 
-/// One client alone on one site: each command is done to its end before the next. Contracts see the site as
-/// its id and its log, who plays, and the history.
+/// One client alone on one site: each command is done to its end before the next. Contracts see the
+/// site as its id and its log, who plays, and the history.
 ///
 /// ```text
 /// play(line, command)
@@ -53,7 +53,8 @@ impl Solo {
         })
     }
 
-    /// Plays the command of a line to its end. Refused memory, nothing is promised of what was played.
+    /// Plays the command of a line to its end. Refused memory, nothing is promised of what was
+    /// played.
     pub fn play(&mut self, alloc: Global, line: u32, command: &Command) -> Result<(), NoMemory>
         requires { is_built command.now ≡ true }
         ensures played { OnOk result ((commands : List Asked) → IsPlayed self.old commands → IsPlayed self.new (commands ++ record { line = line; command = command.now } ∷ [])) }
@@ -80,7 +81,8 @@ impl Solo {
         self.history.as_slice()
     }
 
-    /// The site's operations, numbered from 1. Each has the answer of the records that the earlier ones left.
+    /// The site's operations, numbered from 1. Each has the answer of the records that the earlier
+    /// ones left.
     pub fn log(&self) -> &[Done]
         ensures log { result.now ≡ self.now.site.log }
         ensures answered { AreAnswered no_records self.now.site.log }

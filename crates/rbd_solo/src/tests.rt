@@ -1,5 +1,5 @@
-//! What commands are answered, and what they leave in the log and in the history. The wanted values were
-//! worked out by hand from the rules in prose.
+//! What commands are answered, and what they leave in the log and in the history. The wanted values
+//! were worked out by hand from the rules in prose.
 mod images;
 mod refusals;
 mod snapshots;

@@ -15,7 +15,8 @@ use rbd_object::bytes_for;
 use rbd_site::Site;
 use std::alloc::Global;
 
-/// Puts bytes into an image: `dir-find`, `header-get`, and a `data-write` for each object that they touch.
+/// Puts bytes into an image: `dir-find`, `header-get`, and a `data-write` for each object that they
+/// touch.
 pub fn write(
     alloc: Global,
     site: &mut Site,

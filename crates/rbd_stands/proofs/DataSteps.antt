@@ -48,7 +48,8 @@ nothing_inherited below (Some link) first x later outside = elim (cases_lt first
   | inr past ↦ ap (λ b. cond b (snap_byte (below link.image link.snap) 0 x) 0) (le-ltb x link.overlap (omega arith))
 ]
 
--- the head that was copied up where it had to be, or is absent, shows its own bytes and zeros past them
+-- the head that was copied up where it had to be, or is absent, shows its own bytes and zeros past
+-- them
 pub own_bytes : (below : Snapshots) (parent : Option ParentLink) (first : ℕ) (head : Option (List ℕ)) → (IsInOverlap parent first → IsSome head) → (offset x : ℕ) → first ≤ x
     → shown below parent head offset x ≡ get_or (unwrap_or head []) offset 0
 own_bytes below parent first (Some bytes) up offset x later = refl

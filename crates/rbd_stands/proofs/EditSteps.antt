@@ -1,5 +1,5 @@
--- Size, status, role and parent are set and a header is removed, at the site; and what an id needs that has no
--- header yet.
+-- Size, status, role and parent are set and a header is removed, at the site; and what an id needs
+-- that has no header yet.
 use Rattle.std.proofs.Common.{◌≡◌, ◌≢◌, ℕ, ◌≤◌, Bool, true, false, cond, eqb, ◌&&◌, List, [], map, Option, Some, None, option_map, is_some, refl, sym, ◌∙◌, ap, arith}
 use Rattle.std.proofs.lemmas.Bool.{eq-eqb, eqb-true, eqb-false}
 use Rattle.std.proofs.lemmas.Option.{none-some, same_Some}

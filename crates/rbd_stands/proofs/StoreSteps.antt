@@ -1,4 +1,5 @@
--- Steps that have no effect: on the lock, late ones on objects of an image that is gone, and the store's trim.
+-- Steps that have no effect: on the lock, late ones on objects of an image that is gone, and the
+-- store's trim.
 use Rattle.std.proofs.Common.{◌≡◌, ℕ, ◌+◌, ◌<◌, ◌≤◌, Bool, true, false, cond, eqb, ◌||◌, List, [], ◌∷◌, map, get_or, Option, Some, None, option_map, is_some, unwrap_or, ltb, refl, sym, ◌∙◌, ap, subst, arith}
 use Rattle.std.proofs.lemmas.Bool.{true≢false}
 use Rattle.std.proofs.lemmas.Option.{none-some}
@@ -126,7 +127,7 @@ view_trimmed live t o listed =
 tidy_trimmed : (live : List ℕ) (o : Versioned) → IsTidy o → IsTidy (trim live o)
 tidy_trimmed live o tidy = record { above = λ snap h. grind (arith, tidy.above snap) }
 
-blank_trimmed : (live : List ℕ) → mapped_trim live mapped_blank ≡ mapped_blank
+pub blank_trimmed : (live : List ℕ) → mapped_trim live mapped_blank ≡ mapped_blank
 blank_trimmed live = ap (λ (kept : FinMap nat_cmp (List ℕ)). record mapped_blank { kept = kept })
     (same_map nat_cmp_total nat_cmp-IsAntisymmetric _ _ (λ snap.
     get-live live empty snap ∙ ap (λ (o : Option (List ℕ)). cond (is_listed live snap) o None) (get-empty nat_cmp snap) ∙ both (is_listed live snap) ∙ sym (get-empty nat_cmp snap)))

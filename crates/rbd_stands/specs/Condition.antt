@@ -23,8 +23,8 @@ use Rattle.rbd_stands.specs.Shown.{Snapshots, IsInOverlap, inherited, shown}
 abbrev pub IsDrawn : Records → (image : ℕ) → Type 0
 IsDrawn r image = image ≤ r.directory.drawn
 
--- The context of a change is the header's: its number is that of the snapshot that was taken last, and it
--- lists each snapshot that the header lists.
+-- The context of a change is the header's: its number is that of the snapshot that was taken last,
+-- and it lists each snapshot that the header lists.
 pub record IsContextOf (h : HeaderView) (context : SnapContext) : Type 0 where
   pub seq : context.seq ≡ h.snap_seq
   pub lists : (t : ℕ) (s : SnapView) → snap_in h.snaps t ≡ Some s → IsTrue (is_listed context.snaps t)
@@ -66,14 +66,15 @@ AreWhole h number parts = IsPartsOf h.layout (record { at = 0; len = h.size }) n
 abbrev pub IsZeroPast : HeaderView → (number : ℕ) → (bytes : List ℕ) → Type 0
 IsZeroPast h number bytes = (x : ℕ) → h.size ≤ x → object_of h.layout x ≡ number → slice_index bytes (offset_of h.layout x) ≡ 0
 
--- What a shrink does before it sets the size: at each place from the new size on the head is zero, and an
--- object that the size cuts inside the overlap was copied up.
+-- What a shrink does before it sets the size: at each place from the new size on the head is zero,
+-- and an object that the size cuts inside the overlap was copied up.
 pub record IsZeroedFrom (h : HeaderView) (size : ℕ) (objects : ℕ → Mapped) : Type 0 where
   pub zeros : (x : ℕ) → size ≤ x → x < h.size → slice_index (unwrap_or (objects (object_of h.layout x)).head []) (offset_of h.layout x) ≡ 0
   pub copied_up : (x : ℕ) → size ≤ x → x < h.size → IsInOverlap (cut size h.parent) (byte_at h.layout (object_of h.layout x) 0) → IsSome (objects (object_of h.layout x)).head
 
--- The flat bytes after an object's head became `new`: at its places what it shows now, elsewhere the old ones.
--- Inside the overlap a head doesn't become absent, since the parent's bytes would show again.
+-- The flat bytes after an object's head became `new`: at its places what it shows now, elsewhere
+-- the old ones. Inside the overlap a head doesn't become absent, since the parent's bytes would
+-- show again.
 pub record IsChanged (below : Snapshots) (h : HeaderView) (n : ℕ) (new : Option (List ℕ)) (old bytes : List ℕ) : Type 0 where
   pub long : length bytes ≡ length old
   pub here : (x : ℕ) → x < h.size → object_of h.layout x ≡ n → slice_index bytes x ≡ shown below h.parent new (offset_of h.layout x) x
@@ -85,20 +86,22 @@ pub record IsChanged (below : Snapshots) (h : HeaderView) (n : ℕ) (new : Optio
 abbrev pub IsGathered : Snapshots → HeaderView → (number : ℕ) → (bytes : List ℕ) → Type 0
 IsGathered below h number bytes = (x : ℕ) → object_of h.layout x ≡ number → slice_index bytes (offset_of h.layout x) ≡ inherited below h.parent x
 
--- What a copy-up has to meet, if the head is still absent: the object is inside the overlap, and the bytes are those that it
--- inherits. If the head is there, nothing is done.
+-- What a copy-up has to meet, if the head is still absent: the object is inside the overlap, and
+-- the bytes are those that it inherits. If the head is there, nothing is done.
 pub record MayCopyUp (below : Snapshots) (h : HeaderView) (number : ℕ) (o : Mapped) (bytes : List ℕ) : Type 0 where
   pub inside : o.head ≡ None → IsInside h number
   pub gathered : o.head ≡ None → IsGathered below h number bytes
 
--- A clone's header as it is made: its parent is the link, with the whole snapshot as overlap, and it isn't mirrored.
+-- A clone's header as it is made: its parent is the link, with the whole snapshot as overlap, and
+-- it isn't mirrored.
 pub record IsCloneHeader (view : HeaderView) (link : ParentLink) : Type 0 where
   pub new : IsNewHeader view
   pub parent : view.parent ≡ Some link
   pub whole : view.size ≡ link.overlap
   pub role : view.role ≡ Plain
 
--- No view of the child has this snapshot as its parent, and no clone of its id that is being made awaits it.
+-- No view of the child has this snapshot as its parent, and no clone of its id that is being made
+-- awaits it.
 pub record IsFree (pending : List Pending) (r : Records) (parent snap child : ℕ) : Type 0 where
   pub views : (h : HeaderView) → r.headers child ≡ Some h → EachView h (λ v shape. NamesOther parent snap shape.parent)
   pub awaited : (k : ℕ) (p : Pending) → slice_get pending k ≡ Some p → p.child ≡ child → NamesOther parent snap (Some p.link)

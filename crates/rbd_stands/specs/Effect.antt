@@ -1,4 +1,5 @@
--- The effect of an operation on the flat site, told of the operation, its answer, and the header of its image at that moment.
+-- The effect of an operation on the flat site, told of the operation, its answer, and the header of
+-- its image at that moment.
 use Rattle.std.specs.Prelude.{ℕ, nat_lt, List, [], ◌∷◌, ◌++◌, map, take, drop, length, Option, Some, None}
 use Rattle.std.specs.List.{filter, flat_map, range_with_len}
 use Rattle.rbd_kinds.specs.declared.answer.Answer.{Answer}
@@ -71,8 +72,8 @@ effect_of_data image number h (data_op.Empty context) = Some (effect.Zero image 
 effect_of_data image number h (data_op.Remove context) = Some (effect.Zero image (whole_object h.layout h.size number))
 effect_of_data image number h o = None
 
--- Of an operation and its answer. What isn't answered done, with an id or with a snapshot has none; nor has a change of an
--- object whose image has no header.
+-- Of an operation and its answer. What isn't answered done, with an id or with a snapshot has none;
+-- nor has a change of an object whose image has no header.
 abbrev pub effect_of_op : Option HeaderView → Op → Answer → Option Effect
 effect_of_op header (op.Directory (directory_op.Add name)) (answer.Id image) = Some (effect.Name name image)
 effect_of_op header (op.Directory (directory_op.Remove image)) answer.Done = Some (effect.NameFree image)

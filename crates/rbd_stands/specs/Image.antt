@@ -37,7 +37,8 @@ IsNumbered h (Some t) = (0 < t) × (t ≤ h.snap_seq)
 abbrev pub IsInside : HeaderView → (number : ℕ) → Type 0
 IsInside h number = IsInOverlap h.parent (byte_at h.layout number 0)
 
--- where an object inside the head's overlap is absent, a view inherits the bytes that the head inherits
+-- where an object inside the head's overlap is absent, a view inherits the bytes that the head
+-- inherits
 abbrev pub IsAlike : Snapshots → HeaderView → (objects : ℕ → Mapped) → Shape → Type 0
 IsAlike below h objects shape = (x : ℕ) → IsInside h (object_of h.layout x) → (objects (object_of h.layout x)).head ≡ None
     → inherited below shape.parent x ≡ inherited below h.parent x
@@ -49,13 +50,15 @@ pub record ImageStands (below : Snapshots) (linked : Links) (h : HeaderView) (ob
   -- each view is as long as its size
   pub long : EachView h (λ v shape. length (flat_bytes i v) ≡ shape.size)
   pub bytes : EachView h (IsShown below h objects i)
-  -- the parent that a view names is there, with bytes up to the overlap, which ends within the view; the image is linked to it
+  -- the parent that a view names is there, with bytes up to the overlap, which ends within the
+  -- view; the image is linked to it
   pub parents : EachView h (λ v shape. HasParent below linked shape.parent)
   pub within : EachView h (λ v shape. IsOverlapWithin shape.size shape.parent)
   -- a head's bytes past the image's size are zeros
   pub clear : (x : ℕ) → h.size ≤ x → slice_index (unwrap_or (objects (object_of h.layout x)).head []) (offset_of h.layout x) ≡ 0
-  -- An object that is absent inside the head's overlap was never changed, and there each view inherits what the head does. So
-  -- a copy-up fills the head and each snapshot with what they showed.
+  -- An object that is absent inside the head's overlap was never changed, and there each view
+  -- inherits what the head does. So a copy-up fills the head and each snapshot with what they
+  -- showed.
   pub untouched : (n : ℕ) → IsInside h n → (objects n).head ≡ None → objects n ≡ mapped_blank
   pub alike : EachView h (λ v shape. IsAlike below h objects shape)
   -- an object keeps nothing above its number, and its number isn't above the header's

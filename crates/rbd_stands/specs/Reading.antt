@@ -47,7 +47,8 @@ pub record AreFlatBytes (f : Flat) (image : ℕ) (v : Option ℕ) (parts : List 
   pub is : view_at (image_at f image) v ≡ Some flat
   pub same : bytes ≡ bytes_at_parts parts flat
 
--- The flat image's view has at the parts what it inherits of its parent, and zeros outside the overlap.
+-- The flat image's view has at the parts what it inherits of its parent, and zeros outside the
+-- overlap.
 pub record AreInherited (f : Flat) (image : ℕ) (v : Option ℕ) (parent : Option ParentLink) (parts : List Part) : Type 0 where
   pub flat : List ℕ
   pub is : view_at (image_at f image) v ≡ Some flat

@@ -1,5 +1,6 @@
--- The byte that an object shows, its own or the parent's (Ceph: RBD layering). The parent's byte is taken from
--- the flat snapshot that the view names, one step away, and never through the parent's objects.
+-- The byte that an object shows, its own or the parent's (Ceph: RBD layering). The parent's byte is
+-- taken from the flat snapshot that the view names, one step away, and never through the parent's
+-- objects.
 use Rattle.std.specs.Prelude.{◌≡◌, ◌≢◌, ℕ, ◌<◌, ◌≤◌, nat_lt, if◌then◌else◌, Bool, IsTrue, List, length, slice_index, Option, Some, None}
 use Rattle.std.specs.FinSet as finset
 use Rattle.rbd_kinds.specs.declared.header.ParentLink.{ParentLink}
@@ -24,8 +25,8 @@ abbrev pub inherited : Snapshots → Option ParentLink → (x : ℕ) → ℕ
 inherited below None x = 0
 inherited below (Some link) x = if nat_lt x link.overlap then snap_byte (below link.image link.snap) 0 x else 0
 
--- The byte at x of a view with this parent, where the object that holds x has this content at the view, and
--- x lies at `offset` in it. It is zero past the content's end.
+-- The byte at x of a view with this parent, where the object that holds x has this content at the
+-- view, and x lies at `offset` in it. It is zero past the content's end.
 abbrev pub shown : Snapshots → Option ParentLink → (content : Option (List ℕ)) → (offset x : ℕ) → ℕ
 shown below parent None offset x = inherited below parent x
 shown below parent (Some bytes) offset x = slice_index bytes offset
@@ -37,7 +38,8 @@ Links = (image snap : ℕ) → Bool
 abbrev pub links_of : Flat → (child : ℕ) → Links
 links_of f child image snap = finset.contains f.links (record { parent = image; snap = snap; child = child })
 
--- The parent has that snapshot, it is at least as long as the overlap, it isn't unprotected, and the child is linked to it.
+-- The parent has that snapshot, it is at least as long as the overlap, it isn't unprotected, and
+-- the child is linked to it.
 pub record HasSnapshot (below : Snapshots) (linked : Links) (link : ParentLink) : Type 0 where
   pub snap : FlatSnap
   pub is : below link.image link.snap ≡ Some snap

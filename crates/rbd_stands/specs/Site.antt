@@ -10,27 +10,29 @@ use Rattle.rbd_site.specs.Records.{Records, object_at}
 use Rattle.rbd_stands.specs.Shown.{Snapshots, Links, links_of, snapshots_of}
 use Rattle.rbd_stands.specs.Image.{ImageStands}
 
--- The header and the flat image of an id are both there or both not. Where there is no header, objects may
--- lie about that a removed image left.
+-- The header and the flat image of an id are both there or both not. Where there is no header,
+-- objects may lie about that a removed image left.
 abbrev pub StandsAt : Snapshots → Links → Option HeaderView → (objects : ℕ → Mapped) → Option FlatImage → Type 0
 StandsAt below linked None objects None = Unit {0}
 StandsAt below linked None objects (Some i) = ⊥
 StandsAt below linked (Some h) objects None = ⊥
 StandsAt below linked (Some h) objects (Some i) = ImageStands below linked h objects i
 
--- Nothing was done to an id yet but to draw it: so it is from `dir-add` on, until its header is made.
+-- Nothing was done to an id yet but to draw it: so it is from `dir-add` on, until its header is
+-- made.
 pub record IsUntouched (r : Records) (f : Flat) (image : ℕ) : Type 0 where
   pub header : r.headers image ≡ None
   pub flat : image_at f image ≡ None
   pub blank : (number : ℕ) → object_at r image number ≡ mapped_blank
 
--- A clone that is being made: it has seen its parent's snapshot protected, and its header, which may not be there yet, will
--- name this parent.
+-- A clone that is being made: it has seen its parent's snapshot protected, and its header, which
+-- may not be there yet, will name this parent.
 pub record Pending : Type 0 where
   pub child : ℕ
   pub link : ParentLink
 
--- The snapshot is there, its length is the overlap, it isn't unprotected, and the child is linked to it.
+-- The snapshot is there, its length is the overlap, it isn't unprotected, and the child is linked
+-- to it.
 pub record IsAwaited (below : Snapshots) (linked : Links) (link : ParentLink) : Type 0 where
   pub snap : FlatSnap
   pub is : below link.image link.snap ≡ Some snap

@@ -1,5 +1,5 @@
-//! What each operation does to the relation `StandsFor`: laws, each the contract of a function that does
-//! nothing. A law speaks of any records, and of any flat site that they stand for.
+//! What each operation does to the relation `StandsFor`: laws, each the contract of a function that
+//! does nothing. A law speaks of any records, and of any flat site that they stand for.
 ghost use Rattle.std.specs.Prelude.{◌≡◌, ℕ, ◌≤◌, ◌↔◌, List, [], All, Option, Some, None, Bool, true, false, IsTrue, IsFalse, IsSome, ◌∷◌, slice_get};
 ghost use Rattle.std.specs.FinMap as finmap;
 ghost use Rattle.rbd_kinds.specs.declared.answer.Answer.{Answer};
@@ -60,7 +60,8 @@ pub fn no_records_stand()
 
 // ---- what changes nothing
 
-/// The flat image doesn't have what these operations change: the lock, and whether a copy is under way.
+/// The flat image doesn't have what these operations change: the lock, and whether a copy is under
+/// way.
 pub fn unseen_changes()
     ensures { (pending : List Pending) (r : Records) (f : Flat) (me : Instance) (image : ℕ) (o : HeaderOp) → StandsFor pending r f → is_unseen o ≡ true
         → StandsFor pending (after r me (op.Header image o)) f }
@@ -79,7 +80,8 @@ pub fn trimming_an_object()
 
 // ---- what is told
 
-/// The directory tells the flat site's names: where one leads, all of them, and when a name is held or missing.
+/// The directory tells the flat site's names: where one leads, all of them, and when a name is held
+/// or missing.
 pub fn telling_names()
     ensures find { (pending : List Pending) (r : Records) (f : Flat) (me : Instance) (name : List ℕ) → StandsFor pending r f
         → answer_to r me (op.Directory (directory_op.Find name)) ≡ image_found (id_of f name) }
@@ -107,8 +109,8 @@ pub fn telling_a_header()
         → (answer_to r me (op.Header image header_op.Get) ≡ answer.Absent) ↔ (image_at f image ≡ None) }
 {}
 
-/// `data-read` of parts below the size of the view that is read: bytes are the flat image's, and where the
-/// object is absent the flat image has what it inherits, or zeros.
+/// `data-read` of parts below the size of the view that is read: bytes are the flat image's, and
+/// where the object is absent the flat image has what it inherits, or zeros.
 pub fn reading_an_object()
     ensures bytes { (pending : List Pending) (r : Records) (f : Flat) (me : Instance) (image number : ℕ) (h : HeaderView) (view : Option ℕ) (shape : Shape) (parts : List Part) (bytes : List ℕ)
         → StandsFor pending r f → r.headers image ≡ Some h → shape_of h view ≡ Some shape → ArePartsBelow h shape.size number parts
@@ -135,7 +137,8 @@ pub fn adding_a_name()
         → IsDrawn (after r me (op.Directory (directory_op.Add name))) image }
 {}
 
-/// An id that is drawn stays drawn, and an untouched one untouched under each operation that isn't about it.
+/// An id that is drawn stays drawn, and an untouched one untouched under each operation that isn't
+/// about it.
 pub fn waiting_for_a_header()
     ensures drawn { (r : Records) (me : Instance) (o : Op) (image : ℕ) → IsDrawn r image → IsDrawn (after r me o) image }
     ensures untouched { (r : Records) (f g : Flat) (me : Instance) (o : Op) (image : ℕ) → IsUntouched r f image
@@ -165,7 +168,8 @@ pub fn linking_a_child()
         → StandsFor pending (after r me (op.Children (children_op.Add parent snap child))) (flat.after f (effect.Link parent snap child)) }
 {}
 
-/// `child-remove` that was done, where neither a view of the child nor its making relies on the snapshot: the link goes.
+/// `child-remove` that was done, where neither a view of the child nor its making relies on the
+/// snapshot: the link goes.
 pub fn unlinking_a_child()
     ensures { (pending : List Pending) (r : Records) (f : Flat) (me : Instance) (parent snap child : ℕ) → StandsFor pending r f
         → IsFree pending r parent snap child
@@ -173,8 +177,8 @@ pub fn unlinking_a_child()
         → StandsFor pending (after r me (op.Children (children_op.Remove parent snap child))) (flat.after f (effect.Unlink parent snap child)) }
 {}
 
-/// A clone counts as being made from the moment on at which its link is there and the snapshot not unprotected. So the
-/// snapshot stays, with its bytes, until the clone's header names it.
+/// A clone counts as being made from the moment on at which its link is there and the snapshot not
+/// unprotected. So the snapshot stays, with its bytes, until the clone's header names it.
 pub fn beginning_a_clone()
     ensures { (pending : List Pending) (r : Records) (f : Flat) (p : Pending) → StandsFor pending r f
         → IsAwaited (snapshots_of f) (links_of f p.child) p.link → StandsFor (p ∷ pending) r f }
@@ -186,9 +190,10 @@ pub fn ending_clones()
         → ((k : ℕ) (p : Pending) → slice_get fewer k ≡ Some p → (j : ℕ) × (slice_get pending j ≡ Some p)) → StandsFor fewer r f }
 {}
 
-/// What a view of a header has as its parent is there: the snapshot, as long as the overlap at least, not unprotected, and
-/// linked to the child. So whoever reads behind a header that stays the same finds the snapshot at each moment; and no step
-/// changes the bytes of a flat snapshot that is there before and after it.
+/// What a view of a header has as its parent is there: the snapshot, as long as the overlap at
+/// least, not unprotected, and linked to the child. So whoever reads behind a header that stays the
+/// same finds the snapshot at each moment; and no step changes the bytes of a flat snapshot that is
+/// there before and after it.
 pub fn relying_on_a_snapshot()
     ensures there { (pending : List Pending) (r : Records) (f : Flat) (image : ℕ) (h : HeaderView) → StandsFor pending r f
         → r.headers image ≡ Some h → EachView h (λ v shape. HasParent (snapshots_of f) (links_of f image) shape.parent) }
@@ -206,8 +211,8 @@ pub fn making_a_header()
         → StandsFor pending (after r me (op.Header image (header_op.Create view))) (flat.after f (effect.Create image view.size view.role)) }
 {}
 
-/// `header-create` that was done at a drawn id that is untouched, with the parent that the clone awaits: an image with a copy
-/// of the snapshot's bytes.
+/// `header-create` that was done at a drawn id that is untouched, with the parent that the clone
+/// awaits: an image with a copy of the snapshot's bytes.
 pub fn making_a_clone()
     ensures { (pending : List Pending) (r : Records) (f : Flat) (me : Instance) (image k : ℕ) (view : HeaderView) (link : ParentLink) → StandsFor pending r f
         → slice_get pending k ≡ Some (record { child = image; link = link })
@@ -223,8 +228,8 @@ pub fn taking_a_snapshot()
         → StandsFor pending (after r me (op.Header image (header_op.SnapAdd name))) (flat.after f (effect.Snap image snap name)) }
 {}
 
-/// `header-snap-remove` that was done, of a snapshot that is no view's parent: it goes. An unprotected one
-/// is no view's parent.
+/// `header-snap-remove` that was done, of a snapshot that is no view's parent: it goes. An
+/// unprotected one is no view's parent.
 pub fn removing_a_snapshot()
     ensures stands { (pending : List Pending) (r : Records) (f : Flat) (me : Instance) (image snap : ℕ) → StandsFor pending r f → IsUnnamed pending r image snap
         → answer_to r me (op.Header image (header_op.SnapRemove snap)) ≡ answer.Done
@@ -233,8 +238,8 @@ pub fn removing_a_snapshot()
         → r.headers image ≡ Some h → snap_in h.snaps snap ≡ Some s → s.status ≡ Unprotected → IsUnnamed pending r image snap }
 {}
 
-/// `header-snap-status` that was done: the status is set. A snapshot that becomes unprotected is no view's
-/// parent.
+/// `header-snap-status` that was done: the status is set. A snapshot that becomes unprotected is no
+/// view's parent.
 pub fn marking_a_snapshot()
     ensures { (pending : List Pending) (r : Records) (f : Flat) (me : Instance) (image snap : ℕ) (status : SnapStatus) → StandsFor pending r f
         → (status ≡ Unprotected → IsUnnamed pending r image snap)
@@ -242,7 +247,8 @@ pub fn marking_a_snapshot()
         → StandsFor pending (after r me (op.Header image (header_op.SnapStatus snap status))) (flat.after f (effect.Status image snap status)) }
 {}
 
-/// `header-set-size` that was done, to a greater size or a smaller one: the image is lengthened by zeros, or cut.
+/// `header-set-size` that was done, to a greater size or a smaller one: the image is lengthened by
+/// zeros, or cut.
 pub fn setting_the_size()
     ensures { (pending : List Pending) (r : Records) (f : Flat) (me : Instance) (image size : ℕ) (h : HeaderView) → StandsFor pending r f
         → r.headers image ≡ Some h → IsZeroedFrom h size (object_at r image)
@@ -274,16 +280,16 @@ pub fn removing_a_header()
 
 // ---- changes of an object
 
-/// The context of a header: its number, and any list that has each snapshot that the header lists. One of these is
-/// `context_of`, which has just those, newest first.
+/// The context of a header: its number, and any list that has each snapshot that the header lists.
+/// One of these is `context_of`, which has just those, newest first.
 pub fn context_of_a_header()
     ensures any { (h : HeaderView) (context : SnapContext) → context.seq ≡ h.snap_seq
         → ((snap : ℕ) → IsTrue (is_listed (live_in (Some h)) snap) → IsTrue (is_listed context.snaps snap)) → IsContextOf h context }
     ensures told { (h : HeaderView) → IsContextOf h (context_of h) }
 {}
 
-/// Any change of an object's head under the header's context: where the flat bytes change as `IsChanged`
-/// says, the records after it stand for them. Each operation below is one of these.
+/// Any change of an object's head under the header's context: where the flat bytes change as
+/// `IsChanged` says, the records after it stand for them. Each operation below is one of these.
 pub fn changing_a_head()
     ensures { (pending : List Pending) (r : Records) (f : Flat) (image number : ℕ) (h : HeaderView) (context : SnapContext) (new : Option (List ℕ)) (i : FlatImage) (bytes : List ℕ)
         → StandsFor pending r f → r.headers image ≡ Some h → image_at f image ≡ Some i → IsContextOf h context
@@ -325,7 +331,8 @@ pub fn removing_an_object()
         → StandsFor pending (after r me (op.Data image number (data_op.Remove context))) (flat.after f (effect.Zero image (extents_of parts))) }
 {}
 
-/// `data-write-full` that was done: the bytes go to the object's places in order, and places past them become zeros.
+/// `data-write-full` that was done: the bytes go to the object's places in order, and places past
+/// them become zeros.
 pub fn replacing_an_object()
     ensures { (pending : List Pending) (r : Records) (f : Flat) (me : Instance) (image number : ℕ) (h : HeaderView) (context : SnapContext) (bytes : List ℕ) (parts : List Part)
         → StandsFor pending r f → r.headers image ≡ Some h → IsContextOf h context → AreWhole h number parts → IsZeroPast h number bytes
@@ -349,8 +356,9 @@ pub fn writing_piece_by_piece()
 
 // ---- effects
 
-/// The effect of a change of an object whose parts lie as parts of the image below its size is at just these parts, with just
-/// these bytes, and that of a change of a whole object at all of its parts: so it is the one that the change's law names.
+/// The effect of a change of an object whose parts lie as parts of the image below its size is at
+/// just these parts, with just these bytes, and that of a change of a whole object at all of its
+/// parts: so it is the one that the change's law names.
 pub fn effects_of_objects()
     ensures write { (h : HeaderView) (image number : ℕ) (context : SnapContext) (must : Bool) (parts : List Part) (bytes : List ℕ)
         → IsLayout h.layout → ArePartsBelow h h.size number parts → MayWrite parts bytes
@@ -369,8 +377,8 @@ pub fn effects_of_objects()
         → effect_of_data image number h (data_op.Remove context) ≡ Some (effect.Zero image (extents_of parts)) }
 {}
 
-/// What has no effect: a look, what isn't answered done, with an id or with a snapshot, what is done to objects of an image
-/// without a header, a copy-up, and each step of the store.
+/// What has no effect: a look, what isn't answered done, with an id or with a snapshot, what is
+/// done to objects of an image without a header, a copy-up, and each step of the store.
 pub fn what_has_no_effect()
     ensures look { (r : Records) (o : Op) (a : Answer) → IsTrue (is_look o) → effect_of r (done.Op o) a ≡ None }
     ensures refused { (r : Records) (o : Op) (a : Answer) → IsFalse (is_change a) → effect_of r (done.Op o) a ≡ None }

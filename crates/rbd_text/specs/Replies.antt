@@ -25,8 +25,8 @@ unfoldable pub count_below : (ℕ → ℕ) → ℕ → ℕ
 count_below f zero = 0
 count_below f (suc n) = max (count_below f n) (f n + 1)
 
--- The number of objects of a size is one more than the greatest object number of a byte below the size, and 0
--- for size 0.
+-- The number of objects of a size is one more than the greatest object number of a byte below the
+-- size, and 0 for size 0.
 abbrev pub object_count : Layout → (size : ℕ) → ℕ
 object_count layout size = count_below (object_of layout) size
 

@@ -42,7 +42,8 @@ abbrev pub reply_line : List Declared → List Line → Entry → List ℕ
 reply_line sessions lines (entry.Reply line reply) = spoken_line sessions (speaker_of lines line) line reply
 reply_line sessions lines e = []
 
--- the replies in the order of the history, then the commands without a reply in the order of the script
+-- the replies in the order of the history, then the commands without a reply in the order of the
+-- script
 abbrev pub replies_text : Script → List Entry → (a b : List Done) → List ℕ
 replies_text script history a b = flat_map (reply_line script.sessions script.lines) history ++ flat_map (unanswered_line script.sessions a b history) script.lines
 

@@ -95,7 +95,8 @@ abbrev pub last_of : {X Y : Type 0} → (X → Option Y) → List X → Option Y
 last_of f [] = None
 last_of f (x ∷ xs) = option_or (last_of f xs) (f x)
 
--- what a history and the logs tell of the command of a line: the holder is the one that its last lock-take found
+-- what a history and the logs tell of the command of a line: the holder is the one that its last
+-- lock-take found
 abbrev pub progress_of : (a b : List Done) → List Entry → (line : ℕ) → Progress
 progress_of a b history line = record {
   started = list_any (starts line) history;

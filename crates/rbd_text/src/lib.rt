@@ -1,10 +1,11 @@
 //! The output text: what a run prints of its history.
 //!
-//! A *history* tells in order what happened: which command began, which single operation on which site was done for
-//! it, which reply it was given, which session was stopped. Each site keeps a *log* of its operations. [`replies`]
-//! prints a line for each reply of a history, and then one for each command of the script that has none.
-//! [`trace`] prints history and logs before that. [`usage`] is the line for words that aren't understood. [`push_line`],
-//! [`push_log`] and [`push_reply`] append one line of a history, one log and one reply.
+//! A *history* tells in order what happened: which command began, which single operation on which
+//! site was done for it, which reply it was given, which session was stopped. Each site keeps a
+//! *log* of its operations. [`replies`] prints a line for each reply of a history, and then one for
+//! each command of the script that has none. [`trace`] prints history and logs before that.
+//! [`usage`] is the line for words that aren't understood. [`push_line`], [`push_log`] and
+//! [`push_reply`] append one line of a history, one log and one reply.
 //!
 //! ```text
 //! replies(alloc, &script, &history, &a, &b)       3 c1 ok
@@ -22,36 +23,40 @@
 //!
 //! # The forms
 //!
-//! A reply's line is the line of its command, the session's name and the reply, in the order of the history. The
-//! others follow in the order of the script: `lost` where the session was stopped with the command under way, `unsent`
-//! where it never began, `unfinished` else, with `waiting` and the owner where its last attempt at an image's lock, at
-//! either site and also in a replay, was answered that another instance has it.
+//! A reply's line is the line of its command, the session's name and the reply, in the order of the
+//! history. The others follow in the order of the script: `lost` where the session was stopped with
+//! the command under way, `unsent` where it never began, `unfinished` else, with `waiting` and the
+//! owner where its last attempt at an image's lock, at either site and also in a replay, was
+//! answered that another instance has it.
 //!
-//! A line of the history begins with `h` and its place from 1, a line of a log with `o`, the site's letter and the
-//! operation's number. An instance is a session's name and the number of its life. Ids are decimal, but in the names of
-//! objects they are lower-case hexadecimal, and the number of a data object, and a snapshot behind a map's name, have
-//! 16 digits (Ceph: the names of an image's RADOS objects). The rest of the forms is this project's own: each stands once,
-//! in specs/Names.antt, Objects.antt, Replies.antt, Entries.antt, Operations.antt and Unanswered.antt.
+//! A line of the history begins with `h` and its place from 1, a line of a log with `o`, the site's
+//! letter and the operation's number. An instance is a session's name and the number of its life.
+//! Ids are decimal, but in the names of objects they are lower-case hexadecimal, and the number of
+//! a data object, and a snapshot behind a map's name, have 16 digits (Ceph: the names of an image's
+//! RADOS objects). The rest of the forms is this project's own: each stands once, in
+//! specs/Names.antt, Objects.antt, Replies.antt, Entries.antt, Operations.antt and Unanswered.antt.
 //!
 //! # Contracts
 //!
-//! The text is exactly `replies_text` or `trace_text` (specs/Text.antt), for any script, history and logs, also those
-//! that no run makes: a session that isn't declared prints no name. One condition there is: a header that a reply tells
-//! has a layout within the limits and a size below 2^63, since its objects are counted.
+//! The text is exactly `replies_text` or `trace_text` (specs/Text.antt), for any script, history
+//! and logs, also those that no run makes: a session that isn't declared prints no name. One
+//! condition there is: a header that a reply tells has a layout within the limits and a size below
+//! 2^63, since its objects are counted.
 //!
 //! # Cost
 //!
-//! Time and memory are linear in script, history, logs and text, times the logarithm of the number of commands. The
-//! history is gone over once for the replies and once for the others, and an operation is found by its number. The text
-//! is given room for about its length at once, and what a read showed is held a second time while it is printed. Nothing
-//! of what is printed is copied.
+//! Time and memory are linear in script, history, logs and text, times the logarithm of the number
+//! of commands. The history is gone over once for the replies and once for the others, and an
+//! operation is found by its number. The text is given room for about its length at once, and what
+//! a read showed is held a second time while it is printed. Nothing of what is printed is copied.
 //!
 //! # How it works
 //!
-//! One printer for each form appends to a vector, and its contract is one equation: the text before, and the form
-//! (numbers.rt, names.rt, objects.rt, reply.rt, info.rt, snaps.rt, entries.rt, operations.rt, lines.rt). speakers.rt keeps
-//! whose each line of the script is, and progress.rt how far each command has come: sets of the lines that were started,
-//! answered and lost, and whom each line's last attempt at a lock found.
+//! One printer for each form appends to a vector, and its contract is one equation: the text
+//! before, and the form (numbers.rt, names.rt, objects.rt, reply.rt, info.rt, snaps.rt, entries.rt,
+//! operations.rt, lines.rt). speakers.rt keeps whose each line of the script is, and progress.rt
+//! how far each command has come: sets of the lines that were started, answered and lost, and whom
+//! each line's last attempt at a lock found.
 #![tactic(auto)]
 
 mod entries;

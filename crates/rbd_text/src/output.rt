@@ -25,8 +25,8 @@ pub fn usage() -> &'static str
 
 /// A line for each reply of a history, in its order, and then one for each command without a reply.
 ///
-/// `history` tells of the commands of `script`, and `a` and `b` are the operation logs of the two sites. Each
-/// Info of the history tells a layout within the limits and a size below 2^63.
+/// `history` tells of the commands of `script`, and `a` and `b` are the operation logs of the two
+/// sites. Each Info of the history tells a layout within the limits and a size below 2^63.
 pub fn replies(
     alloc: Global,
     script: &Script,
@@ -43,7 +43,8 @@ pub fn replies(
     Ok(text)
 }
 
-/// The history, the operation logs of site a and of site b, and then what [`replies`] gives, under its condition.
+/// The history, the operation logs of site a and of site b, and then what [`replies`] gives, under
+/// its condition.
 pub fn trace(
     alloc: Global,
     script: &Script,

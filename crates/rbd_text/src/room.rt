@@ -1,5 +1,5 @@
-//! How much room a text is given before it is printed, so that a long one doesn't grow in steps. It is about what the
-//! text takes: the usual length of each line, and what reads and lists show.
+//! How much room a text is given before it is printed, so that a long one doesn't grow in steps. It
+//! is about what the text takes: the usual length of each line, and what reads and lists show.
 ghost use Rattle.std.specs.Prelude.{◌≤◌, ◌+◌, ◌*◌, length};
 ghost use Rattle.rbd_text.specs.Room.{all_shown, shown_by, shown_by_reply};
 

@@ -1,7 +1,7 @@
 //! Texts worked out by hand, from the rules in words.
 //!
-//! What is shown is passed by value to one helper of each file, which lets it go: each way out of a function that owns
-//! such a value costs the proof seconds.
+//! What is shown is passed by value to one helper of each file, which lets it go: each way out of a
+//! function that owns such a value costs the proof seconds.
 mod entries;
 mod operations;
 mod replies;

@@ -14,30 +14,30 @@
 //!
 //! # Rules
 //!
-//! - Watchers stand in order of registration. To watch again changes nothing, and to end a watch leaves
-//!   the others in their order.
+//! - Watchers stand in order of registration. To watch again changes nothing, and to end a watch
+//!   leaves the others in their order.
 //! - A post makes one notice for each receiver, in their order. Notices are numbered from 1 without
-//!   gaps, and one numbering serves both sites, so a number alone says which is meant. A refused post
-//!   makes none.
-//! - A notice stays for good (own; Ceph forgets one that was acknowledged): it may be delivered late, never,
-//!   or several times. Who gets it, and when, is said by the layer above.
+//!   gaps, and one numbering serves both sites, so a number alone says which is meant. A refused
+//!   post makes none.
+//! - A notice stays for good (own; Ceph forgets one that was acknowledged): it may be delivered
+//!   late, never, or several times. Who gets it, and when, is said by the layer above.
 //!
 //! # Contracts
 //!
-//! Contracts see [`Watchers`] as the list of instances, without repetition, and [`Mail`] as the list of its
-//! notices, oldest first. [`laws`] says what a post means for a reader.
+//! Contracts see [`Watchers`] as the list of instances, without repetition, and [`Mail`] as the
+//! list of its notices, oldest first. [`laws`] says what a post means for a reader.
 //!
 //! # Cost
 //!
-//! `watch` is a look-up by hash. `unwatch` also moves the watchers behind, `list` copies all, and `others`
-//! looks at those up to the one that it finds. A post costs the notices that it makes, however many stand
-//! already, but for the moves of a vector that grows. `get` is an index. Only `watch`, `list` and `post`
-//! take memory.
+//! `watch` is a look-up by hash. `unwatch` also moves the watchers behind, `list` copies all, and
+//! `others` looks at those up to the one that it finds. A post costs the notices that it makes,
+//! however many stand already, but for the moves of a vector that grows. `get` is an index. Only
+//! `watch`, `list` and `post` take memory.
 //!
 //! # How it works
 //!
-//! A set in order of insertion, and a vector of notices. A post makes its notices beside the vector, with
-//! their copies of what is told, and then moves them all there.
+//! A set in order of insertion, and a vector of notices. A post makes its notices beside the
+//! vector, with their copies of what is told, and then moves them all there.
 #![tactic(auto)]
 
 pub mod laws;

@@ -6,8 +6,8 @@ use rbd_kinds::{ImageId, Instance, NoMemory, Notice, NoticeKind, SiteId, TryClon
 use std::alloc::Global;
 use std::marker::Model;
 
-/// What was told to watchers, at either site: one numbering serves both (Ceph: notify). Contracts see
-/// the list of notices, oldest first.
+/// What was told to watchers, at either site: one numbering serves both (Ceph: notify). Contracts
+/// see the list of notices, oldest first.
 #[derive(Debug, Drop)]
 pub struct Mail {
     alloc: Global,
@@ -38,8 +38,8 @@ impl Mail {
         }
     }
 
-    /// Tells each receiver: one notice for each, in their order, numbered on from the last, from 1. Refused
-    /// memory, nothing changes.
+    /// Tells each receiver: one notice for each, in their order, numbered on from the last, from 1.
+    /// Refused memory, nothing changes.
     pub fn post(
         &mut self,
         site: SiteId,

@@ -8,8 +8,8 @@ use rbd_kinds::{Instance, Instances, NoMemory, SessionNo};
 use std::alloc::Global;
 use std::marker::Model;
 
-/// The instances that watch an image's header (Ceph: watch). Contracts see the list of them, in order of
-/// registration and without repetition.
+/// The instances that watch an image's header (Ceph: watch). Contracts see the list of them, in
+/// order of registration and without repetition.
 #[derive(Debug, Drop)]
 pub struct Watchers {
     alloc: Global,
@@ -36,8 +36,8 @@ impl Watchers {
         }
     }
 
-    /// Registers an instance, behind the others. A second time changes nothing. Refused memory, nothing
-    /// changes.
+    /// Registers an instance, behind the others. A second time changes nothing. Refused memory,
+    /// nothing changes.
     pub fn watch(&mut self, instance: Instance) -> Result<(), NoMemory>
         ensures ok { OnOk result (self.new ≡ registered instance self.old) }
         ensures err { OnErr result (self.new ≡ self.old) }
@@ -46,8 +46,8 @@ impl Watchers {
         Ok(())
     }
 
-    /// Ends an instance's watch, and answers whether it watched. The others keep their order. It takes no
-    /// memory.
+    /// Ends an instance's watch, and answers whether it watched. The others keep their order. It
+    /// takes no memory.
     pub fn unwatch(&mut self, instance: Instance) -> bool
         ensures found { result ≡ watches instance self.old }
         ensures others { self.new ≡ without instance self.old }

@@ -403,6 +403,21 @@ fn an_operation_and_its_copy_are_of_one_kind(rt: HostRuntime) -> Result<(), Fail
     Ok(())
 }
 
+/// Whether a command and its copy are told alike.
+fn is_copied(alloc: Global, command: Command) -> Result<bool, Fail> {
+    let copy = command.try_clone()?;
+    Ok(format!(in alloc; "{copy:?}")? == format!(in alloc; "{command:?}")?)
+}
+
+#[test]
+fn a_command_and_its_copy_are_alike(rt: HostRuntime) -> Result<(), Fail> {
+    let image = asked(rt.alloc(), "disk")?.ok_or("disk")?;
+    let snap = asked(rt.alloc(), "s1")?.ok_or("s1")?;
+    let alike = is_copied(rt.alloc(), Command::SnapProtect { image, snap })?;
+    assert!(rt; alike);
+    Ok(())
+}
+
 #[test]
 fn an_answer_has_its_word(rt: HostRuntime) -> Result<(), Fail> {
     let ids = Sequence::from_vec(vec![in rt.alloc(); ImageId(3); 2]?);

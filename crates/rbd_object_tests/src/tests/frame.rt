@@ -1,4 +1,5 @@
-//! What is decoded from some bytes. The wanted answers were worked out from the table of kinds in prose.
+//! What is decoded from some bytes. The wanted answers were worked out from the table of kinds in
+//! prose.
 use Wanted::*;
 use rbd_frame::FrameFault::*;
 use rbd_frame::{FrameFault, decode, encode};

@@ -1,4 +1,5 @@
-//! What an object shows after each operation. The wanted views were worked out from the rules in prose.
+//! What an object shows after each operation. The wanted views were worked out from the rules in
+//! prose.
 use Operation::*;
 use rbd_kinds::{NoMemory, Part, SnapContext, SnapId, SnapIds};
 use rbd_object::{LARGEST_OBJECT, Object, gather, shifted_parts};
@@ -20,7 +21,8 @@ enum Operation {
 }
 
 /// Each line has an operation and what four bytes from offset 0 then are in the head and in the
-/// snapshots 1 to 4: `.` for a zero, and `????`, as the buffer was before, where the object is absent.
+/// snapshots 1 to 4: `.` for a zero, and `????`, as the buffer was before, where the object is
+/// absent.
 const TABLE: &[(Operation, &str)] = &[
     (Trim(&[]), "???? ???? ???? ???? ????"),
     (Zero(0, &[], 0, 4), "???? ???? ???? ???? ????"),
@@ -229,11 +231,12 @@ fn bytes_past_the_last_are_gathered_as_zeros(rt: HostRuntime) -> Result<(), Fail
     Ok(())
 }
 
-/// Random operations, and what they show, which a program of its own worked out on plain lists of bytes. Each row
-/// has what is done: `w` writes, `z` makes zero, `p` does so with two parts, the second at byte 9,000, `f` writes
-/// a whole head, `e` empties it, `r` removes it, `c` copies up and `t` trims. Then come the context's number, its
-/// snapshots or those that are live (a bit each), an offset, a length, and the byte that is written so often; and
-/// at the end a fingerprint of the first 12,300 bytes of the head and of the snapshots 1 to 4, 0 for none.
+/// Random operations, and what they show, which a program of its own worked out on plain lists of
+/// bytes. Each row has what is done: `w` writes, `z` makes zero, `p` does so with two parts, the
+/// second at byte 9,000, `f` writes a whole head, `e` empties it, `r` removes it, `c` copies up and
+/// `t` trims. Then come the context's number, its snapshots or those that are live (a bit each), an
+/// offset, a length, and the byte that is written so often; and at the end a fingerprint of the
+/// first 12,300 bytes of the head and of the snapshots 1 to 4, 0 for none.
 const RANDOM: &str = "\
 w 0 0 8193 269 156 2191290403 2191290403 2191290403 2191290403 2191290403
 w 0 0 4096 5000 121 3827560967 3827560967 3827560967 3827560967 3827560967

@@ -68,8 +68,8 @@ fn all_of_a_request_leave(rt: HostRuntime) -> Result<(), Fail> {
     all_leave(&rt, &mut guard)
 }
 
-/// Of three at an object the second leaves: the third comes behind the first, and a number isn't given
-/// twice.
+/// Of three at an object the second leaves: the third comes behind the first, and a number isn't
+/// given twice.
 fn middle_leaves(rt: &impl Abort, guard: &mut Guard) -> Result<(), Fail> {
     let (first, _) = enter_both(guard, 1)?;
     enter_both(guard, 2)?;

@@ -167,7 +167,8 @@ fn is_listed(
     Ok(view.named(&name).is_some())
 }
 
-/// The head has 8,000 bytes and its overlap 6,000, as after a cut, and the snapshot has what it was taken with.
+/// The head has 8,000 bytes and its overlap 6,000, as after a cut, and the snapshot has what it was
+/// taken with.
 fn keeps_first(rt: &impl Abort, alloc: Global, header: &Header) -> Result<bool, NoMemory> {
     let head =
         "(8000, 73, 6, 1) Some(ParentLink { image: ImageId(3), snap: SnapId(4), overlap: 6000 })";
@@ -239,7 +240,8 @@ fn a_snapshot_is_protected_and_removed(rt: HostRuntime) -> Result<(), Fail> {
     Ok(())
 }
 
-/// A header of 8,000 bytes with the snapshots 6, `first`, of 10,000 bytes, and 7, `second`, of 8,000.
+/// A header of 8,000 bytes with the snapshots 6, `first`, of 10,000 bytes, and 7, `second`, of
+/// 8,000.
 fn snapped(rt: &impl Abort, alloc: Global) -> Result<Header, NoMemory> {
     let mut header = cloned(alloc)?;
     assert!(rt; holds(adds(rt, alloc, &mut header, b"first", 6)));

@@ -1,4 +1,5 @@
-//! What a journal tells after some steps. The wanted answers were worked out from the rules in prose.
+//! What a journal tells after some steps. The wanted answers were worked out from the rules in
+//! prose.
 ghost use Rattle.std.specs.Prelude.{◌≡◌, ◌+◌, OnOk};
 
 use rbd_journal::Journal;
@@ -22,7 +23,8 @@ fn reads(journal: &Journal, seq: u64, wanted: &[u8]) -> bool {
     }
 }
 
-/// The number of the first frame that is held, the counters of both clients, and the last number that was drawn.
+/// The number of the first frame that is held, the counters of both clients, and the last number
+/// that was drawn.
 type Told = (u64, u64, Option<u64>, u64);
 
 fn told(journal: &Journal) -> Result<Told, NoMemory> {

@@ -1,5 +1,5 @@
-//! Each request is fed by hand, on its way to its end and to a refusal. What it has to want was worked out from the
-//! rules in prose.
+//! Each request is fed by hand, on its way to its end and to a refusal. What it has to want was
+//! worked out from the rules in prose.
 ghost use Rattle.std.specs.Prelude.{◌≡◌, true, IfOk, OnOk};
 ghost use Rattle.rbd_kinds.specs.declared.id.SiteId.TheVariants as site;
 ghost use Rattle.rbd_header.specs.Header.{new_header};

@@ -53,8 +53,9 @@ pub fn name(rt: &impl Abort, alloc: Global, text: &[u8]) -> Result<AskedName, No
     Ok(AskedName::parse(Bytes::from_slice(alloc, text)?).expect(rt, "a name"))
 }
 
-/// Whether what is asked holds, and there was memory to find it out. A test has a request for itself alone, and lets
-/// helpers feed it: each way out of a function that holds a request costs the proof seconds.
+/// Whether what is asked holds, and there was memory to find it out. A test has a request for
+/// itself alone, and lets helpers feed it: each way out of a function that holds a request costs
+/// the proof seconds.
 pub fn holds(found_out: Result<bool, NoMemory>) -> bool {
     found_out.unwrap_or(false)
 }

@@ -1,5 +1,5 @@
-//! The way of a change is fed by hand to its own look, and to a refusal at each look. What it has to want was worked
-//! out from its diagram.
+//! The way of a change is fed by hand to its own look, and to a refusal at each look. What it has
+//! to want was worked out from its diagram.
 ghost use Rattle.std.specs.Prelude.{◌≡◌, None, Some, ◌==◌, if◌then◌else◌, [], ◌∷◌, IfOk};
 ghost use Rattle.rbd_kinds.specs.declared.id.SiteId.TheVariants as site;
 ghost use Rattle.rbd_kinds.specs.declared.refusal.Refusal.TheVariants.{BadRange};

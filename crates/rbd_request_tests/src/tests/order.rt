@@ -1,6 +1,8 @@
-//! A read shows the bytes of its objects in the order of the image. Which of them an object has was worked out by hand.
+//! A read shows the bytes of its objects in the order of the image. Which of them an object has was
+//! worked out by hand.
 //!
-//! Whether the request wants what it is told is looked at when the test runs, so that no proof has to know its pieces.
+//! Whether the request wants what it is told is looked at when the test runs, so that no proof has
+//! to know its pieces.
 ghost use Rattle.std.specs.Prelude.{◌≡◌, ◌≤◌, true, ℕ, IfOk, IfSome, OnOk};
 ghost use Rattle.rbd_kinds.specs.declared.machine.Fed.TheVariants as of_fed;
 ghost use Rattle.rbd_kinds.specs.declared.operation.Op.TheVariants as of_op;
@@ -74,7 +76,8 @@ fn is_found(op: &DirectoryOp, answer: &Answer) -> bool
     }
 }
 
-/// Whether it is an answer of the operation: of a look at a name or a header, or of a read of bytes.
+/// Whether it is an answer of the operation: of a look at a name or a header, or of a read of
+/// bytes.
 fn can_give(op: &Op, answer: &Answer) -> bool
     requires { IsHeaderToldInForm answer.now }
     ensures { result ≡ true → CanGive op.now answer.now }
@@ -214,7 +217,8 @@ fn is_run(bytes: &[u8], from: usize, to: usize, byte: u8) -> bool {
     }
 }
 
-/// What a read shows whose first object tells halves of 1 and 2, and whose second halves of 3 and 4.
+/// What a read shows whose first object tells halves of 1 and 2, and whose second halves of 3 and
+/// 4.
 fn shown(
     rt: &impl Abort,
     alloc: Global,
@@ -247,8 +251,8 @@ fn has_runs(reply: Reply, ends: [usize; 4], values: [u8; 4]) -> bool {
         && is_run(bytes, ends[2], ends[3], values[3])
 }
 
-/// Stripe units of 512 bytes, two objects a set: the object 0 has the bytes 0 to 511 and 1,024 to 1,535 of the image,
-/// the object 1 the others.
+/// Stripe units of 512 bytes, two objects a set: the object 0 has the bytes 0 to 511 and 1,024 to
+/// 1,535 of the image, the object 1 the others.
 fn units_are_in_order(
     rt: &impl Abort,
     alloc: Global,
@@ -273,8 +277,8 @@ fn units_are_put_in_the_order_of_the_image(rt: HostRuntime) -> Result<(), Fail> 
     Ok(())
 }
 
-/// Stripe units of 4,096 bytes, two objects a set: the bytes 4,000 to 4,095 are the last of a unit in the object 0, and
-/// 4,096 to 4,195 the first of one in the object 1.
+/// Stripe units of 4,096 bytes, two objects a set: the bytes 4,000 to 4,095 are the last of a unit
+/// in the object 0, and 4,096 to 4,195 the first of one in the object 1.
 fn objects_are_in_order(
     rt: &impl Abort,
     alloc: Global,

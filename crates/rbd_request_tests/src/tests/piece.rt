@@ -1,5 +1,5 @@
-//! A piece of a write and the pieces of a view are fed by hand to their end and to a refusal. What they have to want
-//! was worked out from their diagrams.
+//! A piece of a write and the pieces of a view are fed by hand to their end and to a refusal. What
+//! they have to want was worked out from their diagrams.
 ghost use Rattle.rbd_machine.specs.Answers.{CanBeFed};
 ghost use Rattle.rbd_machine.specs.Steps.{TellsDone};
 ghost use Rattle.rbd_piece.specs.Gather.{TellsBytes};

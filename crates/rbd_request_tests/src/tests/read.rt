@@ -1,5 +1,6 @@
-//! A read is fed by hand to its end, also behind passes that it made in vain, and to its refusals. The image has 8,192
-//! bytes in objects of 4,096, so the bytes 4,094 to 4,098 lie in the objects 0 (two of them) and 1 (three).
+//! A read is fed by hand to its end, also behind passes that it made in vain, and to its refusals.
+//! The image has 8,192 bytes in objects of 4,096, so the bytes 4,094 to 4,098 lie in the objects 0
+//! (two of them) and 1 (three).
 ghost use Rattle.std.specs.Prelude.{◌≡◌, [], ◌∷◌, ◌++◌, None, Some, IfOk, OnOk};
 ghost use Rattle.rbd_kinds.specs.declared.id.SiteId.TheVariants as site;
 ghost use Rattle.rbd_kinds.specs.declared.data_op.DataOp.TheVariants as object;
@@ -132,7 +133,8 @@ fn a_read_past_the_end_is_refused(rt: HostRuntime) -> Result<(), Fail> {
     Ok(())
 }
 
-/// It looks: what is left is to read two bytes of the object 0 and three of the object 1, and the closing look.
+/// It looks: what is left is to read two bytes of the object 0 and three of the object 1, and the
+/// closing look.
 fn look(
     rt: &impl Abort,
     alloc: Global,

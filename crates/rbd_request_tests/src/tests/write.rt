@@ -1,5 +1,6 @@
-//! A write and a fill are fed by hand, to their end and to their refusals. The image has 8,192 bytes in objects of
-//! 4,096, so the bytes 4,094 to 4,098 lie in the objects 0 (two of them) and 1 (three).
+//! A write and a fill are fed by hand, to their end and to their refusals. The image has 8,192
+//! bytes in objects of 4,096, so the bytes 4,094 to 4,098 lie in the objects 0 (two of them) and 1
+//! (three).
 ghost use Rattle.std.specs.Prelude.{◌≡◌, false, [], ◌∷◌, replicate, IfOk, OnOk};
 ghost use Rattle.rbd_kinds.specs.declared.id.SiteId.TheVariants as site;
 ghost use Rattle.rbd_kinds.specs.declared.data_op.DataOp.TheVariants as object;
@@ -106,8 +107,8 @@ fn a_secondary_is_not_written(rt: HostRuntime) -> Result<(), Fail> {
     Ok(())
 }
 
-/// Its own look tells the header: what is left is to note it and to write two bytes to the object 0 and three to the
-/// object 1.
+/// Its own look tells the header: what is left is to note it and to write two bytes to the object 0
+/// and three to the object 1.
 fn look(rt: &impl Abort, alloc: Global, request: &mut WriteRequest) -> Result<(), NoMemory>
     requires { of_write.rest_of_request request.old ≡ owning site.A (of_write.write_refuses (record { at = 4094; len = 5 })) (of_write.put site.A 4094 (104 ∷ 101 ∷ 108 ∷ 108 ∷ 111 ∷ [])) 7 }
     ensures { OnOk result (of_write.rest_of_request request.new

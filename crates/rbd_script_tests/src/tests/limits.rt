@@ -41,8 +41,8 @@ fn filled_is_told(alloc: Global, front: &str, length: usize, want: &str) -> bool
     }
 }
 
-/// A script may have so many bytes, and one more is a fault of its line, whatever else is wrong there. An earlier
-/// fault comes before it.
+/// A script may have so many bytes, and one more is a fault of its line, whatever else is wrong
+/// there. An earlier fault comes before it.
 #[test]
 fn a_script_may_have_so_many_bytes(rt: HostRuntime) {
     let alloc = rt.alloc();

@@ -2,7 +2,8 @@
 use super::{is_told, push_unfolded};
 use std::alloc::Global;
 
-/// A script, piece by piece: what is told of each prefix that ends within the piece, its end included.
+/// A script, piece by piece: what is told of each prefix that ends within the piece, its end
+/// included.
 const PIECES: &str = "line 1: unknown word|clien
 line 1: missing part|t c1\x20
 1 sessions, 0 lines|a;

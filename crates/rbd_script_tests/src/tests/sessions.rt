@@ -4,7 +4,8 @@ use rbd_kinds::SiteId;
 use rbd_script::{Declared, Line, Said, read};
 use std::alloc::Global;
 
-/// The number of a line, the number of the session that asks in it, and whether it does so beside the others.
+/// The number of a line, the number of the session that asks in it, and whether it does so beside
+/// the others.
 fn asked(alloc: Global, line: &Line) -> Option<String> {
     match &line.said {
         Said::Command {
@@ -42,7 +43,8 @@ fn is_declared(found: &Declared, line: u32, name: &str, home: SiteId) -> bool {
     found.line == line && found.name.as_slice() == name.as_bytes() && found.home == home
 }
 
-/// Whether the script declares `c1` at `a` on its first line and `z9` at `b` on this line, and nothing else.
+/// Whether the script declares `c1` at `a` on its first line and `z9` at `b` on this line, and
+/// nothing else.
 fn declares(alloc: Global, text: &str, line: u32) -> bool {
     let Ok(script) = read(alloc, text.as_bytes(), false) else {
         return false;

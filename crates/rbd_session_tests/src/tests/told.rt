@@ -5,9 +5,9 @@ ghost use Rattle.rbd_kinds.specs.Form.{IsHeaderInForm};
 ghost use Rattle.rbd_machine.specs.Answers.{CanGive};
 ghost use Rattle.rbd_request.specs.Read.{IsHeaderToldInForm};
 
+use rbd_header::new_header;
 use rbd_kinds::{
-    Answer, DataOp, DirectoryOp, HeaderOp, HeaderView, ImageId, Layout, Names, Op, Role, SnapId,
-    Snaps,
+    Answer, DataOp, DirectoryOp, HeaderOp, HeaderView, ImageId, Layout, Names, Op, SnapId,
 };
 use std::alloc::Global;
 use std::process::Abort;
@@ -17,26 +17,12 @@ fn header(alloc: Global, size: u64) -> HeaderView
     requires { size ≤ 8192 }
     ensures { IsHeaderInForm result }
 {
-    HeaderView {
-        layout: Layout {
-            object: 4096,
-            unit: 4096,
-            count: 1,
-        },
-        size,
-        generation: 1,
-        snap_seq: 0,
-        snaps: Snaps::new(alloc),
-        parent: None,
-        depth: 0,
-        born: 4096,
-        born_clone: false,
-        journal: false,
-        syncing: false,
-        owner: None,
-        global: None,
-        role: Role::Plain,
-    }
+    let layout = Layout {
+        object: 4096,
+        unit: 4096,
+        count: 1,
+    };
+    new_header(alloc, layout, size)
 }
 
 /// The answer of a word. The image of `header` has 8,192 bytes, and so the objects 0 and 1, that of

@@ -20,8 +20,8 @@ fn striped(rt: &impl Abort) -> Shape {
     }
 }
 
-/// Makes an image `d` of three such objects. Its first two stripe units are the first of object 0 and of
-/// object 1, and two bytes are written over the end of the first.
+/// Makes an image `d` of three such objects. Its first two stripe units are the first of object 0
+/// and of object 1, and two bytes are written over the end of the first.
 fn with_striped(rt: &impl Abort, alloc: Global, site: &mut Site) -> Result<(), NoMemory> {
     let shape = striped(rt);
     assert!(rt; is_done(create(rt, alloc, site, b"d", 24576, shape)?));

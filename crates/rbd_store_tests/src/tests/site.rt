@@ -86,7 +86,8 @@ fn take_snap(site: &mut Site, name: Name) -> Result<Answer, NoMemory> {
     )
 }
 
-/// The context of a change while there are the snapshots from 1 up to a number, of which there is one at most.
+/// The context of a change while there are the snapshots from 1 up to a number, of which there is
+/// one at most.
 fn context(alloc: Global, number: u32) -> Result<SnapContext, NoMemory> {
     let mut snaps = Vec::new(alloc);
     if number > 0 {

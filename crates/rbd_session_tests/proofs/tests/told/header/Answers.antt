@@ -1,38 +1,17 @@
-use Rattle.std.proofs.Common.{ℕ, ◌≤◌, [], None, false, refl, sym, subst, arith}
-use Rattle.rbd_kinds.specs.declared.header.HeaderView.{HeaderView}
-use Rattle.rbd_kinds.specs.declared.header.Role.TheVariants.{Plain}
-use Rattle.rbd_kinds.specs.Form.{IsHeaderInForm}
+use Rattle.std.proofs.Common.{ℕ, ◌≤◌, refl, arith}
+use Rattle.rbd_kinds.specs.declared.layout.Layout.{Layout}
+use Rattle.rbd_kinds.specs.Form.{HasFewObjects}
+use Rattle.rbd_kinds.specs.Striping.{IsLayout}
 use Rattle.rbd_session_tests.proofs.tests.told.header.Goals as goal
 
-abbrev disk : (size : ℕ) → HeaderView
-disk size = record {
-  layout = record { object = 4096; unit = 4096; count = 1 };
-  size = size;
-  generation = 1;
-  snap_seq = 0;
-  snaps = [];
-  parent = None;
-  depth = 0;
-  born = 4096;
-  born_clone = false;
-  journal = false;
-  syncing = false;
-  owner = None;
-  global = None;
-  role = Plain;
-}
+abbrev laid : Layout
+laid = record { object = 4096; unit = 4096; count = 1 }
 
-in_form : (size : ℕ) → size ≤ 8192 → IsHeaderInForm (disk size)
-in_form size most = record {
-  layout = record { object = (12, omega arith, omega arith, refl); unit = (12, omega arith, refl); unit_within = omega arith; count = (omega arith, omega arith) };
-  objects = λ x below. omega arith;
-  born = λ x below. omega arith;
-  overlap = tt;
-  snaps = λ k s is. cc;
-  few = omega arith;
-  rising = tt;
-  depth = omega arith;
-}
+is_laid : IsLayout laid
+is_laid = record { object = (12, omega arith, omega arith, refl); unit = (12, omega arith, refl); unit_within = omega arith; count = (omega arith, omega arith) }
+
+few : (size : ℕ) → size ≤ 8192 → HasFewObjects laid size
+few size most = λ x below. omega arith
 
 pub returns : goal.returns
-returns c = subst (λ snaps. IsHeaderInForm (record (disk c.args.size) { snaps = snaps })) (sym c.new.ensures) (in_form c.args.size c.requires)
+returns c = (c.new_header.ensures.form is_laid (few c.args.size c.requires)).form
