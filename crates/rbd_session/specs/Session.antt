@@ -73,6 +73,12 @@ module _ {R : Type 0} where
     pub others : (slot : ℕ) → running_at slot s ≡ None → (site : SiteId) (image : ℕ) → member_of slot (lines_of s.lines site image) ≡ None
     pub fair : AreFair (lines_of s.lines)
 
+-- the script's line of the request in a slot
+abbrev pub line_in : {R : Type 0} → Option (Occupant R) → Option ℕ
+line_in None = None
+line_in (Some (occupant.Refused line refusal)) = Some line
+line_in (Some (occupant.Running r)) = Some r.line
+
 -- ---- what a request is in its slot at first
 
 pub record BeginsAt {R W : Type 0} (stands : R → Standing) (stands_for : SiteId → W → Standing → Type 0) (extent_for : W → Option Extent) (home : SiteId) (line : ℕ) (work : W) (r : Running R) : Type 0 where

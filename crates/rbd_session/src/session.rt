@@ -2,7 +2,7 @@
 ghost use Rattle.std.specs.Prelude.{◌≡◌, ◌≢◌, ℕ, ◌<◌, ◌≤◌, [], None, Some, IsSome, IsNone, IfOk, OnErr, OnOk};
 ghost use Rattle.rbd_kinds.specs.declared.id.SiteId.{SiteId as Site};
 ghost use Rattle.rbd_session.specs.Lines.{lines_of};
-ghost use Rattle.rbd_session.specs.Session.{IsSoundSession, IsNewcomer, free_slot, held_in, kind_at, op_at, refusal_in, reply_of, lowest_after, OfRunning, IsAlike, IsAnswered, IsFed, IsReadied};
+ghost use Rattle.rbd_session.specs.Session.{IsSoundSession, IsNewcomer, free_slot, held_in, line_in, kind_at, op_at, refusal_in, reply_of, lowest_after, OfRunning, IsAlike, IsAnswered, IsFed, IsReadied};
 ghost use Rattle.rbd_session.specs.OnTrack.{LeavesOthers};
 
 use crate::feeding::{feed_in, prepare_in};
@@ -83,6 +83,18 @@ impl<R: Request> Session<R> {
         self.slots[slot as usize] = Some(occupant);
         self.lowest = next_free(self.slots.as_slice(), slot + 1);
         Ok(Slot(slot))
+    }
+
+    /// The script's line of the request in a slot: `None` exactly where the slot is free. It takes
+    /// no memory.
+    pub fn line(&self, slot: Slot) -> Option<u32>
+        ensures line { result ≡ line_in (held_in slot self.now.slots) }
+        ensures sound { IsSoundSession R.stands self.now }
+    {
+        match held_at(self.slots.as_slice(), slot)? {
+            Occupant::Refused { line, .. } => Some(*line),
+            Occupant::Running(running) => Some(running.line),
+        }
     }
 
     /// The site and the kind of the operation that the request in a slot wants: `None` exactly

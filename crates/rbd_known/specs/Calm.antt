@@ -1,0 +1,29 @@
+-- Requests that wait for nothing: they only look, or make what nobody knows yet.
+use Rattle.std.specs.Prelude.{◌≡◌, ℕ, ◌||◌, Bool, None}
+use Rattle.rbd_admin.specs.Snap.{is_snap}
+use Rattle.rbd_kinds.specs.declared.answer.Answer.{Answer}
+use Rattle.rbd_kinds.specs.declared.command.Command.{Command}
+use Rattle.rbd_kinds.specs.declared.id.SiteId.{SiteId}
+use Rattle.rbd_machine.specs.Knowledge.{Knowledge, own_of}
+use Rattle.rbd_machine.specs.Label.{Label}
+use Rattle.rbd_machine.specs.Plan.{Plan, Ask, Await, Note, Return, Goto, Standing}
+use Rattle.rbd_request.specs.Write.{is_write}
+
+abbrev pub IsCalm : Plan → Type 0
+IsCalm (Ask site why op next) = (answer : Answer) → IsCalm (next answer)
+IsCalm (Await wait next) = ⊥
+IsCalm (Note site image event next) = ⊥
+IsCalm (Return reply) = Unit {0}
+IsCalm (Goto label) = Unit {0}
+
+pub record IsCalmRequest (s : Standing) : Type 0 where
+  pub plan : IsCalm s.plan
+  pub labels : (label : Label) → IsCalm (s.labels label)
+
+-- it waited for the lock of no image
+abbrev pub OwnsNothing : Knowledge → Type 0
+OwnsNothing k = (site : SiteId) (image : ℕ) → own_of k.owns site image ≡ None
+
+-- a command that changes an image that is there
+abbrev pub is_change : Command → Bool
+is_change c = is_write c || is_snap c

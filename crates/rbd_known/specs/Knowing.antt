@@ -1,0 +1,51 @@
+-- What the requests of a session know.
+use Rattle.std.specs.Prelude.{◌≡◌, ℕ, ◌==◌, if◌then◌else◌, Option, Some, None}
+use Rattle.rbd_kinds.specs.declared.machine.Fed.{Fed}
+use Rattle.rbd_kinds.specs.declared.reply.Reply.{Reply}
+use Rattle.rbd_machine.specs.Knowledge.{Knowledge, nothing_known, passed}
+use Rattle.rbd_machine.specs.Label.{Label}
+use Rattle.rbd_machine.specs.Lawful.{IsLawful, known_after}
+use Rattle.rbd_machine.specs.Plan.{Plan, Await, Note, Standing, plan_after}
+use Rattle.rbd_session.specs.declared.running.Running.{Running}
+use Rattle.rbd_session.specs.Advance.{track_of}
+use Rattle.rbd_session.specs.Lines.{LinesView}
+use Rattle.rbd_session.specs.Session.{SessionView, running_at}
+use Rattle.rbd_session.specs.Track.{course_of}
+use Rattle.rbd_known.specs.Tied.{IsTied}
+
+-- what is known at the plan's next operation, where all that it waits for before has come
+abbrev pub known_at_operation : Knowledge → Plan → Knowledge
+known_at_operation k (Await wait next) = known_at_operation (passed k wait) next
+known_at_operation k (Note site image event next) = known_at_operation k next
+known_at_operation k plan = k
+
+-- what is known there behind what it was fed
+abbrev pub known_behind : Knowledge → Plan → Fed → Knowledge
+known_behind k plan f = known_at_operation (known_after k plan f) (plan_after plan f)
+
+-- who has ended knows nothing any more
+abbrev pub unless_ended : Option Reply → Knowledge → Knowledge
+unless_ended None k = k
+unless_ended (Some reply) k = nothing_known
+
+-- what the slots know once one of them was fed
+abbrev pub knows_after : (knows : (slot : ℕ) → Knowledge) → (slot : ℕ) → Option Reply → Plan → Fed → (other : ℕ) → Knowledge
+knows_after knows slot result plan f other = if other == slot then unless_ended result (known_behind (knows slot) plan f) else knows other
+
+module _ {R : Type 0} (stands : R → Standing) where
+  -- A request knows this: by it, it asks for nothing but what it may, and it goes with where the
+  -- request stands in its line.
+  pub record KnowsBy (slot : ℕ) (r : Running R) (lines : LinesView) (k : Knowledge) : Type 0 where
+    pub known_at : Label → Knowledge
+    pub lawful : IsLawful known_at k (stands r.request).plan
+    pub labels : (label : Label) → IsLawful known_at (known_at label) ((stands r.request).labels label)
+    pub tied : IsTied k (course_of slot (track_of r lines))
+
+  -- nobody knows nothing
+  abbrev pub KnowsIn : (slot : ℕ) → Option (Running R) → LinesView → Knowledge → Type 0
+  KnowsIn slot None lines k = k ≡ nothing_known
+  KnowsIn slot (Some r) lines k = KnowsBy slot r lines k
+
+  -- each slot's request knows what is said of it
+  abbrev pub AllKnow : (knows : (slot : ℕ) → Knowledge) → SessionView R → Type 0
+  AllKnow knows s = (slot : ℕ) → KnowsIn slot (running_at slot s) s.lines (knows slot)

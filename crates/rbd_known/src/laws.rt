@@ -1,0 +1,88 @@
+//! What the requests of a session know, and that they may count on it: each law is the contract of
+//! a function that does nothing.
+ghost use Rattle.std.specs.Prelude.{◌≡◌, ◌≢◌, ℕ, false, None, Some, Option};
+ghost use Rattle.rbd_kinds.specs.declared.answer.Answer.{Answer};
+ghost use Rattle.rbd_kinds.specs.declared.command.Command.{Command};
+ghost use Rattle.rbd_kinds.specs.declared.id.SiteId.{SiteId as Site};
+ghost use Rattle.rbd_kinds.specs.declared.machine.Fed.{Fed};
+ghost use Rattle.rbd_kinds.specs.declared.operation.Op.{Op};
+ghost use Rattle.rbd_kinds.specs.declared.reply.Reply.{Reply};
+ghost use Rattle.rbd_machine.specs.Answers.{CanBeFed};
+ghost use Rattle.rbd_machine.specs.Knowledge.{Knowledge, nothing_known};
+ghost use Rattle.rbd_machine.specs.Label.{Label};
+ghost use Rattle.rbd_machine.specs.Path.{at_operation};
+ghost use Rattle.rbd_machine.specs.Permits.{Permits};
+ghost use Rattle.rbd_machine.specs.Plan.{Plan, Ask, Standing, plan_after};
+ghost use Rattle.rbd_machine.specs.declared.reason.Reason.{Reason};
+ghost use Rattle.rbd_rely.specs.Beside.{AreBeside, MayLook};
+ghost use Rattle.rbd_rely.specs.Truth.{IsTrueAt};
+ghost use Rattle.rbd_requests.specs.Served.{IsPlanFor};
+ghost use Rattle.rbd_session.specs.Advance.{track_of};
+ghost use Rattle.rbd_session.specs.Lines.{LinesView, lines_of};
+ghost use Rattle.rbd_session.specs.OnTrack.{LeavesOthers};
+ghost use Rattle.rbd_session.specs.Session.{SessionView, IsSoundSession, BeginsAt, IsAlike, IsFed, held_in, running_at};
+ghost use Rattle.rbd_session.specs.Waits.{waits};
+ghost use Rattle.rbd_session.specs.declared.running.Running.{Running};
+ghost use Rattle.rbd_site.specs.Records.{Records};
+ghost use Rattle.rbd_known.specs.Calm.{IsCalmRequest, OwnsNothing, is_change};
+ghost use Rattle.rbd_known.specs.Knowing.{KnowsBy, AllKnow, knows_after, known_at_operation, known_behind};
+
+use rbd_course::Request;
+
+/// A request that begins knows nothing.
+pub fn newcomers_know_nothing<R: Request>()
+    ensures { (home : Site) (line slot : ℕ) (work : R.Work) (r : Running R) (lines : LinesView)
+        → R.serves work → BeginsAt R.stands R.stands_for R.extent_for home line work r
+        → KnowsBy R.stands slot r lines nothing_known }
+{}
+
+/// A request that is fed knows what the answer taught it and what it waited for then, and each other
+/// request of the session knows what it did.
+pub fn knowledge_goes_with_the_line<R: Request>()
+    ensures { (s t : SessionView R) (slot : ℕ) (r : Running R) (f : Fed) (result : Option Reply) (knows : ℕ → Knowledge)
+        → IsSoundSession R.stands s → IsSoundSession R.stands t → running_at slot s ≡ Some r → CanBeFed (R.stands r.request).plan f
+        → IsFed R.stands slot f result s t
+        → ((other : ℕ) → other ≢ slot → held_in other t.slots ≡ held_in other s.slots)
+        → LeavesOthers slot (lines_of s.lines) (lines_of t.lines)
+        → AllKnow R.stands knows s → AllKnow R.stands (knows_after knows slot result (R.stands r.request).plan f) t }
+{}
+
+/// What a session is ready for is no part of what its requests know.
+pub fn ready_requests_know_the_same<R: Request>()
+    ensures { (s t : SessionView R) (knows : ℕ → Knowledge) → IsAlike R.stands s t → AllKnow R.stands knows s → AllKnow R.stands knows t }
+{}
+
+/// A request that may go on may look, whatever another one of its session knows: the line lets it
+/// look under the lock only where neither is alone that knows the header.
+pub fn who_may_go_on_may_look<R: Request>()
+    ensures { (s : SessionView R) (slot other : ℕ) (r : Running R) (knows : ℕ → Knowledge) (site : Site) (why : Reason) (op : Op) (next : Answer → Plan)
+        → IsSoundSession R.stands s → AllKnow R.stands knows s → slot ≢ other
+        → running_at slot s ≡ Some r → waits slot (track_of r s.lines) ≡ false → (R.stands r.request).plan ≡ Ask site why op next
+        → MayLook site (knows slot) (knows other) op }
+{}
+
+/// What a request knows at its next operation is lawful for it to go by, and is true and beside
+/// another's as it was before the waits.
+pub fn waits_change_little()
+    ensures truth { (site : Site) (r : Records) (k : Knowledge) (plan : Plan) → IsTrueAt site r k → IsTrueAt site r (known_at_operation k plan) }
+    ensures beside { (site : Site) (k j : Knowledge) (plan : Plan) → AreBeside site k j → AreBeside site (known_at_operation k plan) j }
+{}
+
+/// A request that waits for nothing owns nothing, and so is beside each other one that drew no id of
+/// its; it may look at whatever it looks at, and each other one may, beside it.
+pub fn calm_requests_own_nothing()
+    ensures first { OwnsNothing nothing_known }
+    ensures fed { (labels : Label → Plan) (k : Knowledge) (plan : Plan) (f : Fed)
+        → IsCalmRequest (record { labels = labels; plan = plan }) → CanBeFed plan f → OwnsNothing k
+        → OwnsNothing (known_behind k plan f) }
+    ensures stays { (labels : Label → Plan) (plan : Plan) (f : Fed)
+        → IsCalmRequest (record { labels = labels; plan = plan }) → CanBeFed plan f
+        → IsCalmRequest (record { labels = labels; plan = at_operation labels (plan_after plan f) }) }
+    ensures looks { (site : Site) (k j : Knowledge) (op : Op) → OwnsNothing k → MayLook site k j op }
+    ensures looked_beside { (site : Site) (k j : Knowledge) (op : Op) → OwnsNothing j → MayLook site k j op }
+{}
+
+/// Only a `write`, a `fill`, a `snap create` and a `snap rm` wait for anything.
+pub fn looks_wait_for_nothing()
+    ensures { (home : Site) (command : Command) (s : Standing) → is_change command ≡ false → IsPlanFor home command s → IsCalmRequest s }
+{}

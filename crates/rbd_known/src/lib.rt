@@ -1,0 +1,36 @@
+//! What the requests of a session know: definitions, laws on them, and no code that a program calls.
+//!
+//! A request's knowledge (`rbd_machine`) says what it may do, and by `rbd_rely` it stays true at a
+//! site as long as two requests are beside each other. This crate ties it to the line that the
+//! request is in (`rbd_session`), so that the session's own rules see to that.
+//!
+//! ```text
+//! slot 1, a `write` of image 7     the line of 7        what slot 1 knows
+//! dir-find                         joined, shared       nothing
+//! header-get                       waiting              that it waits for 7, not alone
+//! header-get, its own look         past                 the header of 7
+//! data-write ..                    past
+//! (it has ended)                   (it has left)        nothing
+//! ```
+//!
+//! # Rules
+//!
+//! - A request owns no image but that of its line, alone exactly where it joined alone. It knows a
+//!   header of it only past its own look.
+//! - So a request that may go on to its own look finds nobody beside it that knows the header and is
+//!   alone, and is alone itself only where nobody knows it.
+//! - A request that waits for nothing (a look, a listing, a `create`) owns nothing.
+//!
+//! # Contracts
+//!
+//! | file | what it says |
+//! |---|---|
+//! | `specs/Tied.antt` | how knowledge goes with the place in a line (`IsTied`) |
+//! | `specs/Knowing.antt` | what the slots of a session know (`AllKnow`), and what they know once one was fed (`knows_after`) |
+//! | `specs/Calm.antt` | requests that wait for nothing |
+//!
+//! [`laws`] says that a session's calls keep this, that who may go on may look (`MayLook` of
+//! `rbd_rely`), and which commands wait for nothing.
+#![tactic(auto)]
+
+pub mod laws;
