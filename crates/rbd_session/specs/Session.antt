@@ -74,10 +74,10 @@ module _ {R : Type 0} where
     pub fair : AreFair (lines_of s.lines)
 
 -- the script's line of the request in a slot
-abbrev pub line_in : {R : Type 0} → Option (Occupant R) → Option ℕ
-line_in None = None
-line_in (Some (occupant.Refused line refusal)) = Some line
-line_in (Some (occupant.Running r)) = Some r.line
+abbrev pub script_line : {R : Type 0} → Option (Occupant R) → Option ℕ
+script_line None = None
+script_line (Some (occupant.Refused line refusal)) = Some line
+script_line (Some (occupant.Running r)) = Some r.line
 
 -- ---- what a request is in its slot at first
 

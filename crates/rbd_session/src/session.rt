@@ -2,7 +2,7 @@
 ghost use Rattle.std.specs.Prelude.{◌≡◌, ◌≢◌, ℕ, ◌<◌, ◌≤◌, [], None, Some, IsSome, IsNone, IfOk, OnErr, OnOk};
 ghost use Rattle.rbd_kinds.specs.declared.id.SiteId.{SiteId as Site};
 ghost use Rattle.rbd_session.specs.Lines.{lines_of};
-ghost use Rattle.rbd_session.specs.Session.{IsSoundSession, IsNewcomer, free_slot, held_in, line_in, kind_at, op_at, refusal_in, reply_of, lowest_after, OfRunning, IsAlike, IsAnswered, IsFed, IsReadied};
+ghost use Rattle.rbd_session.specs.Session.{IsSoundSession, IsNewcomer, free_slot, held_in, script_line, kind_at, op_at, refusal_in, reply_of, lowest_after, OfRunning, IsAlike, IsAnswered, IsFed, IsReadied};
 ghost use Rattle.rbd_session.specs.OnTrack.{LeavesOthers};
 
 use crate::feeding::{feed_in, prepare_in};
@@ -54,6 +54,19 @@ impl<R: Request> Session<R> {
         })
     }
 
+    pub fn instance(&self) -> Instance
+        ensures { result ≡ self.now.instance }
+    {
+        self.instance
+    }
+
+    /// The site at which the client is.
+    pub fn home(&self) -> SiteId
+        ensures { result ≡ self.now.home }
+    {
+        self.home
+    }
+
     /// The lowest free slot: `None` exactly where 64 are held. It takes no memory.
     pub fn free(&self) -> Option<Slot>
         ensures free { result ≡ free_slot self.now.lowest }
@@ -88,7 +101,7 @@ impl<R: Request> Session<R> {
     /// The script's line of the request in a slot: `None` exactly where the slot is free. It takes
     /// no memory.
     pub fn line(&self, slot: Slot) -> Option<u32>
-        ensures line { result ≡ line_in (held_in slot self.now.slots) }
+        ensures line { result ≡ script_line (held_in slot self.now.slots) }
         ensures sound { IsSoundSession R.stands self.now }
     {
         match held_at(self.slots.as_slice(), slot)? {

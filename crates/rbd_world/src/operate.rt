@@ -1,0 +1,115 @@
+//! The operation that the request in a slot wants is done at its site.
+//!
+//! ```text
+//! next ── answer ── ready ── apply ── feed ── next
+//!   what it wants     │        │        └ goes on, or ends; takes no memory
+//!   what the site     │        └ one operation, or nothing at all
+//!   would answer      └ all memory that the answer needs
+//! ```
+ghost use Rattle.std.specs.Prelude.{◌≡◌, Some, IfOk, OnErr};
+ghost use Rattle.rbd_machine.specs.Answers.{CanGive};
+ghost use Rattle.rbd_session.specs.Session.{IsAlike, IsSoundSession, op_at};
+ghost use Rattle.rbd_site.specs.Log.{records_of};
+ghost use Rattle.rbd_site.specs.Step.{MayDo, answer_to};
+ghost use Rattle.rbd_site.specs.declared.done.DoneOp.TheVariants as of_done;
+ghost use Rattle.rbd_stands.specs.Effect.{effect_of as effect_there};
+ghost use Rattle.rbd_world.specs.Operate.{IsOperated, image_of_op};
+
+use crate::happened::Happened;
+use rbd_course::Request;
+use rbd_effect::effect_of;
+use rbd_flat::Effect;
+use rbd_kinds::{Answer, Fed, HeaderOp, ImageId, Instance, NoMemory, Op, SessionNo, SiteId, Slot};
+use rbd_session::Session;
+use rbd_site::Site;
+use std::alloc::Global;
+
+/// Does the operation that the request in a slot wants, at its site, and feeds the request. Refused
+/// memory, nothing was done, and the request is where it was.
+pub fn operate<R: Request>(
+    alloc: Global,
+    at: &mut Site,
+    client: &mut Session<R>,
+    slot: Slot,
+    line: u32,
+    site: SiteId,
+    op: Op,
+) -> Result<Happened, NoMemory>
+    requires wants { op_at R.stands slot client.old ≡ Some (site, op) }
+    requires may { MayDo (records_of at.old) op }
+    requires gives { CanGive op (answer_to (records_of at.old) client.old.instance op) }
+    ensures done { IfOk result (IsOperated R.stands slot line site op at.old at.new client.old client.new) }
+    ensures err { OnErr result (at.new ≡ at.old) }
+    ensures alike { OnErr result (IsAlike R.stands client.old client.new) }
+    ensures sound { IsSoundSession R.stands client.new }
+{
+    let instance = client.instance();
+    let answer = at.answer(instance, &op)?;
+    let effect = effect_now(alloc, at, &op, &answer)?;
+    let number = at.log().len() as u64 + 1;
+    let fed = Fed::Answer(answer);
+    client.ready(alloc, slot, &fed)?;
+    at.apply(instance, op)?;
+    let reply = client.feed(slot, &fed);
+    Ok(Happened::Did {
+        line,
+        site,
+        number,
+        effect,
+        reply,
+    })
+}
+
+/// The effect of an operation that will be answered so, by the header that its image has now.
+fn effect_now(
+    alloc: Global,
+    at: &Site,
+    op: &Op,
+    answer: &Answer,
+) -> Result<Option<Effect>, NoMemory>
+    ensures { IfOk result (λ effect. effect ≡ effect_there (records_of at.now) (of_done.Op op.now) answer.now) }
+{
+    match image_of(op) {
+        Some(image) => effect_of_image(alloc, at, image, op, answer),
+        None => effect_of(alloc, op, answer, None),
+    }
+}
+
+/// The image whose header tells an operation's effect: that of a header or of a data object.
+fn image_of(op: &Op) -> Option<ImageId>
+    ensures { result ≡ image_of_op op.now }
+{
+    match op {
+        Op::Header { image, .. } => Some(*image),
+        Op::Data { image, .. } => Some(*image),
+        _ => None,
+    }
+}
+
+/// The effect of an operation on a header or on a data object of an image.
+fn effect_of_image(
+    alloc: Global,
+    at: &Site,
+    image: ImageId,
+    op: &Op,
+    answer: &Answer,
+) -> Result<Option<Effect>, NoMemory>
+    requires { image_of_op op.now ≡ Some image }
+    ensures { IfOk result (λ effect. effect ≡ effect_there (records_of at.now) (of_done.Op op.now) answer.now) }
+{
+    let look = Op::Header {
+        image,
+        op: HeaderOp::Get,
+    };
+    let told = at.answer(NOBODY, &look)?;
+    match &told {
+        Answer::Header(header) => effect_of(alloc, op, answer, Some(header)),
+        _ => effect_of(alloc, op, answer, None),
+    }
+}
+
+/// Whoever looks is told the same header.
+const NOBODY: Instance = Instance {
+    session: SessionNo(0),
+    life: 0,
+};

@@ -1,0 +1,103 @@
+//! A session begins a command.
+ghost use Rattle.std.specs.Prelude.{◌≡◌, ℕ, true, false, Some, IfOk, OnOk, OnErr};
+ghost use Rattle.rbd_requests.specs.Served.{is_built};
+ghost use Rattle.rbd_requests.specs.Session.{stands_of};
+ghost use Rattle.rbd_session.specs.Session.{IsSoundSession};
+ghost use Rattle.rbd_world.specs.Begun.{has_line};
+ghost use Rattle.rbd_world.specs.Run.{Asked};
+ghost use Rattle.rbd_world.specs.Step.{Becomes, DoesToSessions, begun_behind, noted_of, submitted};
+ghost use Rattle.rbd_world.specs.World.{session_in};
+ghost use Rattle.rbd_world.specs.declared.event.Event.TheVariants as of_event;
+
+use crate::begun::BegunLines;
+use crate::happened::Happened;
+use rbd_kinds::{Command, NoMemory, SessionNo, TryClone};
+use rbd_machine::Machine;
+use rbd_requests::{SessionRequest, Work};
+use rbd_session::Session;
+use std::alloc::Global;
+
+/// A session begins the command of a line, in its lowest free slot: nothing where there is no such
+/// session, where it has no free slot, or where the line was begun before. Refused memory, nothing
+/// changes.
+pub fn submit<E: Machine + Drop>(
+    alloc: Global,
+    sessions: &mut Vec<Session<SessionRequest<E>>>,
+    begun: &mut BegunLines,
+    session: SessionNo,
+    line: u32,
+    command: &Command,
+) -> Result<Happened, NoMemory>
+    requires { is_built command.now ≡ true }
+    ensures noted { let asked : Asked = record { session = session; line = line; command = command.now } in
+        IfOk result (λ h. h ≡ noted_of (submitted (has_line line begun.old) asked (session_in session sessions.old.items))) }
+    ensures sessions { let asked : Asked = record { session = session; line = line; command = command.now } in
+        let h = submitted (has_line line begun.old) asked (session_in session sessions.old.items) in
+        OnOk result (DoesToSessions (stands_of E.stands) (of_event.Submit session line command.now) h sessions.old.items sessions.new.items) }
+    ensures begun { let asked : Asked = record { session = session; line = line; command = command.now } in
+        let h = submitted (has_line line begun.old) asked (session_in session sessions.old.items) in
+        OnOk result ((l : ℕ) → has_line l begun.new ≡ begun_behind (λ l. has_line l begun.old) h l) }
+    ensures err { OnErr result (sessions.new.items ≡ sessions.old.items) }
+    ensures same { OnErr result ((l : ℕ) → has_line l begun.new ≡ has_line l begun.old) }
+{
+    if begun.has(line) {
+        return Ok(Happened::Nothing);
+    }
+    begun.reserve()?;
+    let happened = submit_to(alloc, sessions, session, line, command)?;
+    if happened.has_begun() {
+        begun.add(line, session);
+    }
+    Ok(happened)
+}
+
+/// The same, of a line that wasn't begun.
+fn submit_to<E: Machine + Drop>(
+    alloc: Global,
+    sessions: &mut Vec<Session<SessionRequest<E>>>,
+    session: SessionNo,
+    line: u32,
+    command: &Command,
+) -> Result<Happened, NoMemory>
+    requires { is_built command.now ≡ true }
+    ensures noted { let asked : Asked = record { session = session; line = line; command = command.now } in
+        IfOk result (λ h. h ≡ noted_of (submitted false asked (session_in session sessions.old.items))) }
+    ensures sessions { let asked : Asked = record { session = session; line = line; command = command.now } in
+        let h = submitted false asked (session_in session sessions.old.items) in
+        OnOk result (DoesToSessions (stands_of E.stands) (of_event.Submit session line command.now) h sessions.old.items sessions.new.items) }
+    ensures err { OnErr result (sessions.new.items ≡ sessions.old.items) }
+{
+    match sessions.get_mut(session.0 as usize) {
+        Some(client) => begin(alloc, client, session, line, command),
+        None => Ok(Happened::Nothing),
+    }
+}
+
+/// The command of a line takes the lowest free slot of a session.
+fn begin<E: Machine + Drop>(
+    alloc: Global,
+    client: &mut Session<SessionRequest<E>>,
+    session: SessionNo,
+    line: u32,
+    command: &Command,
+) -> Result<Happened, NoMemory>
+    requires { is_built command.now ≡ true }
+    ensures noted { let asked : Asked = record { session = session; line = line; command = command.now } in
+        IfOk result (λ h. h ≡ noted_of (submitted false asked (Some client.old))) }
+    ensures becomes { let asked : Asked = record { session = session; line = line; command = command.now } in
+        OnOk result (Becomes (stands_of E.stands) (of_event.Submit session line command.now) (submitted false asked (Some client.old)) client.old client.new) }
+    ensures sound { IsSoundSession (stands_of E.stands) client.new }
+    ensures err { OnErr result (client.new ≡ client.old) }
+{
+    if client.free().is_none() {
+        return Ok(Happened::Nothing);
+    }
+    let instance = client.instance();
+    let work = Work::Plain(command.try_clone()?);
+    let slot = client.submit(alloc, line, work)?;
+    Ok(Happened::Began {
+        line,
+        instance,
+        slot,
+    })
+}

@@ -1,0 +1,112 @@
+//! The world, and its events.
+ghost use Rattle.std.specs.Prelude.{◌≡◌, IfOk, OnErr};
+ghost use Rattle.rbd_requests.specs.Session.{stands_of};
+ghost use Rattle.rbd_world.specs.Sound.{IsSoundWorld};
+ghost use Rattle.rbd_world.specs.Step.{AreOfOneClient, IsBuiltEvent, IsStep, IsUndone};
+ghost use Rattle.rbd_world.specs.World.{kind_in, session_in, site_in};
+
+use crate::begun::BegunLines;
+use crate::event::{Call, Event, Outcome};
+use crate::happen::happen;
+use crate::happened::{note, reserve};
+use crate::sites::Sites;
+use rbd_flat::Entry;
+use rbd_kinds::{NoMemory, OpKind, SessionNo, SiteId, Slot, TryClone};
+use rbd_machine::Machine;
+use rbd_requests::SessionRequest;
+use rbd_session::Session;
+use rbd_site::Done;
+use std::alloc::Global;
+use std::marker::Model;
+
+/// Both sites and all clients.
+///
+/// ```text
+/// step(event)
+///    │
+///    ├─ room for the call and for the history's entries
+///    ├─ submit: a request in the session's lowest free slot
+///    │  poll: one operation at one site, and the request goes on
+///    │  trim: one step of the store
+///    └─ the history has what was done, the calls the event and what came of it
+/// ```
+#[derive(Debug, Drop)]
+pub struct World<E: Machine + Drop> {
+    sites: Sites,
+    sessions: Vec<Session<SessionRequest<E>>>,
+    /// The lines that have a start in the history.
+    begun: BegunLines,
+    history: Vec<Entry>,
+    calls: Vec<Call>,
+}
+
+impl<E: Machine + Drop> Model for World<E> {
+    ghost use Rattle.rbd_requests.specs.declared.request.SessionRequest.{SessionRequest as Of};
+    ghost use Rattle.rbd_requests.specs.Session.{stands_of};
+    ghost use Rattle.rbd_world.specs.Sound.{IsKept};
+    ghost use Rattle.rbd_world.specs.World.{WorldView};
+
+    ghost Value = { WorldView (Of E) };
+
+    ghost view = { λ w. record { sites = w.sites; sessions = w.sessions.items; history = w.history.items; calls = w.calls.items } };
+
+    ghost invariant = { λ w. IsKept (stands_of E.stands) w.begun (record { sites = w.sites; sessions = w.sessions.items; history = w.history.items; calls = w.calls.items }) };
+}
+
+impl<E: Machine + Drop> World<E> {
+    /// One event. What it does and what comes of it is a function of the world (`happening`); refused memory, nothing
+    /// happened. An event that isn't built is ruled out, and so are changes of a second client, as long as no lock keeps
+    /// two apart.
+    pub fn step(&mut self, alloc: Global, event: &Event) -> Result<Outcome, NoMemory>
+        requires built { IsBuiltEvent event.now }
+        requires one_client { AreOfOneClient self.old.calls event.now }
+        ensures step { IfOk result (λ outcome. IsStep (stands_of E.stands) event.now self.old outcome self.new) }
+        ensures err { OnErr result (IsUndone (stands_of E.stands) self.old self.new) }
+        ensures sound { IsSoundWorld (stands_of E.stands) self.new }
+    {
+        let kept = event.try_clone()?;
+        reserve(&mut self.history, &mut self.calls)?;
+        let happened = happen(
+            alloc,
+            &mut self.sites,
+            &mut self.sessions,
+            &mut self.begun,
+            event,
+        )?;
+        let outcome = note(&mut self.history, &mut self.calls, kept, happened);
+        Ok(outcome)
+    }
+
+    /// What happened so far, in order.
+    pub fn history(&self) -> &[Entry]
+        ensures { result.now ≡ self.now.history }
+    {
+        self.history.as_slice()
+    }
+
+    /// The events so far, each with what came of it, in order.
+    pub fn calls(&self) -> &[Call]
+        ensures { result.now ≡ self.now.calls }
+    {
+        self.calls.as_slice()
+    }
+
+    /// The operations of a site, in order, numbered from 1.
+    pub fn operations(&self, site: SiteId) -> &[Done]
+        ensures { result.now ≡ (site_in site self.now.sites).log }
+    {
+        match site {
+            SiteId::A => self.sites.a.log(),
+            SiteId::B => self.sites.b.log(),
+        }
+    }
+
+    /// The site and the kind of the operation that the request in a slot of a session wants: `None`
+    /// exactly where there is no such session, its slot is free, or its request waits or is refused
+    /// before any operation. It takes no memory.
+    pub fn kind(&self, session: SessionNo, slot: Slot) -> Option<(SiteId, OpKind)>
+        ensures { result ≡ kind_in (stands_of E.stands) slot (session_in session self.now.sessions) }
+    {
+        self.sessions.get(session.0 as usize)?.kind(slot)
+    }
+}
