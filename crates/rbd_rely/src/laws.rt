@@ -1,12 +1,13 @@
 //! What requests may rely on, whatever the others do: each law is the contract of a function that
 //! does nothing. A law speaks of any records of a site, and of what is known there.
-ghost use Rattle.std.specs.Prelude.{◌≡◌, ℕ, [], IsSome, None, true};
+ghost use Rattle.std.specs.Prelude.{◌≡◌, ℕ, [], IsFalse, IsSome, None, true};
+ghost use Rattle.rbd_kinds.specs.declared.answer.Answer.{Answer};
 ghost use Rattle.rbd_kinds.specs.declared.id.Instance.{Instance};
 ghost use Rattle.rbd_kinds.specs.declared.id.SiteId.{SiteId as Site};
 ghost use Rattle.rbd_kinds.specs.declared.operation.Op.{Op};
 ghost use Rattle.rbd_flat.specs.Flat.{Flat};
 ghost use Rattle.rbd_machine.specs.Answers.{CanGive};
-ghost use Rattle.rbd_machine.specs.Knowledge.{Knowledge, nothing_known, learned, passed};
+ghost use Rattle.rbd_machine.specs.Knowledge.{Knowledge, nothing_known, learned, passed, same_site};
 ghost use Rattle.rbd_machine.specs.Permits.{Permits};
 ghost use Rattle.rbd_machine.specs.Wait.{Wait};
 ghost use Rattle.rbd_site.specs.InForm.{AreInForm};
@@ -47,6 +48,15 @@ pub fn answers_teach_what_is_true()
 /// What it may count on behind a wait is true.
 pub fn waits_teach_what_is_true()
     ensures { (site : Site) (r : Records) (k : Knowledge) (wait : Wait) → IsTrueAt site r k → IsTrueAt site r (passed k wait) }
+{}
+
+/// What a request learns at one site leaves true what it knows of the other, and leaves two requests
+/// beside each other there.
+pub fn sites_are_known_apart()
+    ensures truth { (site other : Site) (r : Records) (k : Knowledge) (op : Op) (answer : Answer)
+        → IsFalse (same_site site other) → IsTrueAt other r k → IsTrueAt other r (learned k site op answer) }
+    ensures beside { (site other : Site) (k j : Knowledge) (op : Op) (answer : Answer)
+        → IsFalse (same_site site other) → AreBeside other k j → AreBeside other (learned k site op answer) j }
 {}
 
 /// Two requests stay beside each other: whatever one of them learns by an operation that is

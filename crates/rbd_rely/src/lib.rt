@@ -41,7 +41,7 @@
 //!
 //! - what is known stays true under each operation that is permitted to another, who knows truly,
 //!   and under the store's trims;
-//! - what an answer and a wait teach is true;
+//! - what an answer and a wait teach is true, and says nothing of the other site;
 //! - what is permitted by true knowledge meets the site's condition, and gets an answer that its
 //!   operation can give;
 //! - where the records stand for a flat site, it has the effect there that `effect_of` tells, and

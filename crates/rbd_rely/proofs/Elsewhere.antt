@@ -1,0 +1,113 @@
+-- What is learned at one site says nothing of the other.
+use Rattle.std.proofs.Common.{◌≡◌, ℕ, ◌==◌, ◌&&◌, not, cond, Bool, true, false, List, [], ◌∷◌, map, filter, Option, Some, None, option_map, is_some, refl, sym, ap, ◌∙◌, subst}
+use Rattle.std.proofs.lemmas.Bool.{true≢false, and_parts}
+use Rattle.rbd_kinds.specs.declared.answer.Answer.{Answer}
+use Rattle.rbd_kinds.specs.declared.answer.Answer.TheVariants as answer
+use Rattle.rbd_kinds.specs.declared.directory_op.DirectoryOp.{DirectoryOp}
+use Rattle.rbd_kinds.specs.declared.directory_op.DirectoryOp.TheVariants as directory
+use Rattle.rbd_kinds.specs.declared.header.HeaderView.{HeaderView}
+use Rattle.rbd_kinds.specs.declared.header_op.HeaderOp.{HeaderOp}
+use Rattle.rbd_kinds.specs.declared.header_op.HeaderOp.TheVariants as header
+use Rattle.rbd_kinds.specs.declared.id.SiteId.{SiteId}
+use Rattle.rbd_kinds.specs.declared.id.SiteId.TheVariants as site
+use Rattle.rbd_kinds.specs.declared.operation.Op.{Op}
+use Rattle.rbd_kinds.specs.declared.operation.Op.TheVariants as op
+use Rattle.rbd_header.specs.Header.{with_snap, without_snap}
+use Rattle.rbd_machine.specs.Knowledge.{Knowledge, Own, Place, first_told, is_at, is_drawn, learned, learned_of_directory, learned_of_header, own_of, same_site, told_of, with_header}
+use Rattle.rbd_site.specs.Records.{Records}
+use Rattle.rbd_rely.specs.Beside.{AreBeside, AreShared, is_own_alone}
+use Rattle.rbd_rely.specs.Truth.{IsStill, IsTrueAt, IsWaiting, header_of_own}
+
+-- a site is one of two
+apart_sites : (s t there : SiteId) → same_site s t ≡ false → same_site there s ≡ true → same_site there t ≡ false
+apart_sites site.A site.A there differ here = absurd (true≢false differ)
+apart_sites site.B site.B there differ here = absurd (true≢false differ)
+apart_sites site.A site.B site.A differ here = refl
+apart_sites site.A site.B site.B differ here = absurd (true≢false (sym here))
+apart_sites site.B site.A site.A differ here = absurd (true≢false (sym here))
+apart_sites site.B site.A site.B differ here = refl
+
+-- the same is known of the images of a site
+pub record IsSameOf (t : SiteId) (k new : Knowledge) : Type 0 where
+  pub owns : (image : ℕ) → own_of new.owns t image ≡ own_of k.owns t image
+  pub drawn : (image : ℕ) → is_drawn new.drawn t image ≡ is_drawn k.drawn t image
+
+same_of : (t : SiteId) (k : Knowledge) → IsSameOf t k k
+same_of t k = record { owns = λ image. refl; drawn = λ image. refl }
+
+module _ (s t : SiteId) (differ : same_site s t ≡ false) where
+  not_at : (image i : ℕ) (there : SiteId) (place : ℕ) → is_at s image there place ≡ true → is_at t i there place ≡ false
+  not_at image i there place here =
+      ap (λ b. b && (place == i)) (apart_sites s t there differ (and_parts (same_site there s) (place == image) here).0)
+
+  told_owns : (image i : ℕ) (change : Option HeaderView → Option HeaderView) (owns : List Own) → own_of (map (told_of s image change) owns) t i ≡ own_of owns t i
+  told_owns image i change [] = refl
+  told_owns image i change (o ∷ owns) = by (is_at s image o.site o.image) refl (told_owns image i change owns)
+    where
+      rest : List Own
+      rest = map (told_of s image change) owns
+
+      by : (b : Bool) → is_at s image o.site o.image ≡ b → own_of rest t i ≡ own_of owns t i → own_of (told_of s image change o ∷ rest) t i ≡ own_of (o ∷ owns) t i
+      by true here more =
+          ap (λ b. own_of (cond b (with_header change o) o ∷ rest) t i) here
+          ∙ ap (λ b. cond b (Some (with_header change o)) (own_of rest t i)) (not_at image i o.site o.image here) ∙ more
+          ∙ sym (ap (λ b. cond b (Some o) (own_of owns t i)) (not_at image i o.site o.image here))
+      by false there more =
+          ap (λ b. own_of (cond b (with_header change o) o ∷ rest) t i) there
+          ∙ ap (λ found. cond (is_at t i o.site o.image) (Some o) found) more
+
+  left_drawn : (image i : ℕ) (drawn : List Place) → is_drawn (filter (λ d. not (is_at s image d.site d.image)) drawn) t i ≡ is_drawn drawn t i
+  left_drawn image i [] = refl
+  left_drawn image i (d ∷ drawn) = by (is_at s image d.site d.image) refl (left_drawn image i drawn)
+    where
+      rest : List Place
+      rest = filter (λ d. not (is_at s image d.site d.image)) drawn
+
+      by : (b : Bool) → is_at s image d.site d.image ≡ b → is_drawn rest t i ≡ is_drawn drawn t i
+          → is_drawn (filter (λ d. not (is_at s image d.site d.image)) (d ∷ drawn)) t i ≡ is_drawn (d ∷ drawn) t i
+      by true here more =
+          ap (λ b. is_drawn (cond (not b) (d ∷ rest) rest) t i) here ∙ more
+          ∙ sym (ap (λ b. cond b true (is_drawn drawn t i)) (not_at image i d.site d.image here))
+      by false there more =
+          ap (λ b. is_drawn (cond (not b) (d ∷ rest) rest) t i) there
+          ∙ ap (λ found. cond (is_at t i d.site d.image) true found) more
+
+  told_same : (k : Knowledge) (image : ℕ) (change : Option HeaderView → Option HeaderView) → IsSameOf t k (record k { owns = map (told_of s image change) k.owns })
+  told_same k image change = record { owns = λ i. told_owns image i change k.owns; drawn = λ i. refl }
+
+  directory_same : (k : Knowledge) (o : DirectoryOp) (a : Answer) → IsSameOf t k (learned_of_directory k s o a)
+  directory_same k (directory.Add name) (answer.Id image) = record {
+    owns = λ i. refl;
+    drawn = λ i. ap (λ b. cond (b && (image == i)) true (is_drawn k.drawn t i)) differ;
+  }
+  directory_same k _ _ = same_of t k
+
+  header_same : (k : Knowledge) (image : ℕ) (o : HeaderOp) (a : Answer) → IsSameOf t k (learned_of_header k s image o a)
+  header_same k image header.Get (answer.Header h) = told_same k image (first_told h)
+  header_same k image (header.Create view) answer.Done = record { owns = λ i. refl; drawn = λ i. left_drawn image i k.drawn }
+  header_same k image (header.SnapAdd name) (answer.Snap snap) = told_same k image (option_map (with_snap name))
+  header_same k image (header.SnapRemove snap) answer.Done = told_same k image (option_map (without_snap snap))
+  header_same k image _ _ = same_of t k
+
+  learned_same : (k : Knowledge) (o : Op) (a : Answer) → IsSameOf t k (learned k s o a)
+  learned_same k (op.Directory o) a = directory_same k o a
+  learned_same k (op.Header image o) a = header_same k image o a
+  learned_same k _ a = same_of t k
+
+  pub true_elsewhere : (r : Records) (k : Knowledge) (o : Op) (a : Answer) → IsTrueAt t r k → IsTrueAt t r (learned k s o a)
+  true_elsewhere r k o a holds =
+      let same = learned_same k o a in
+      record {
+        owned = λ image. subst (λ own. IsStill (header_of_own own) (r.headers image)) (sym (same.owns image)) (holds.owned image);
+        drawn = λ image drawn. holds.drawn image (sym (same.drawn image) ∙ drawn);
+      }
+
+  pub beside_elsewhere : (k j : Knowledge) (o : Op) (a : Answer) → AreBeside t k j → AreBeside t (learned k s o a) j
+  beside_elsewhere k j o a beside =
+      let same = learned_same k o a in
+      record {
+        shared = λ image mine others.
+            let both = beside.shared image (ap (λ own. is_some (header_of_own own)) (sym (same.owns image)) ∙ mine) others in
+            record { one = ap is_own_alone (same.owns image) ∙ both.one; other = both.other };
+        apart = λ image drawn. beside.apart image (sym (same.drawn image) ∙ drawn);
+      }
