@@ -157,7 +157,7 @@ module _ (e : Option Extent) (k : Knowledge) (c : Course) (t : IsTied k c) where
 -- ---- waits
 
 module _ (k : Knowledge) (c : Course) (t : IsTied k c) (site : SiteId) (image : ℕ) where
-  waiting : Own
+  abbrev waiting : Own
   waiting = record { site = site; image = image; alone = k.alone; header = None }
 
   -- the image whose lock it waits for is that of its line
