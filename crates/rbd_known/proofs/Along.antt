@@ -1,7 +1,7 @@
 -- What a request knows goes with its place, whatever it is answered and waits for.
-use Rattle.std.proofs.Common.{◌≡◌, ℕ, ◌&&◌, cond, Bool, true, false, List, [], ◌∷◌, Option, Some, None, option_map, refl, sym, ap, ◌∙◌, subst}
-use Rattle.std.specs.Prelude.{IsSome, is_some}
-use Rattle.std.proofs.lemmas.Bool.{true≢false, and_parts}
+use Rattle.std.proofs.Common.{◌≡◌, ℕ, ◌&&◌, cond, Bool, true, false, Option, Some, None, option_map, refl, sym, ap, ◌∙◌, subst}
+use Rattle.std.specs.Prelude.{IsSome}
+use Rattle.std.proofs.lemmas.Bool.{true≢false}
 use Rattle.rbd_course.specs.Course.{Course, Place, answered, waited, noted, looked, past, is_own_at, is_waiting, held_stage}
 use Rattle.rbd_course.specs.Course as course
 use Rattle.rbd_course.specs.Orderly.{IsInLine, MayWait}
@@ -71,7 +71,7 @@ module _ (site : SiteId) (image : ℕ) (o : Own) where
     past = λ some. refl;
   }
 
-  -- a look that isn't its own tells nothing of the image, where it isn't past its own already
+  -- another look tells of the image only where it is past its own
   seen_in : (s : SiteId) (i : ℕ) (change : Option HeaderView → Option HeaderView) (place : Option Place) → is_own_at s i place ≡ false → is_at site image o.site o.image ≡ true
       → OwnsIn site image o place → OwnsIn site image (told_of s i change o) place
   seen_in s i change None other there owns = owns

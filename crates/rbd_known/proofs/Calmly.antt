@@ -1,5 +1,5 @@
 -- The plans of looks, of listings and of `create` wait for nothing, step by step.
-use Rattle.std.proofs.Common.{◌≡◌, ◌⊎◌, inl, inr, ℕ, ◌||◌, List, [], ◌∷◌, ◌++◌, replicate, Bool, true, false, cond, eqb, Option, Some, None, refl, sym, ap, ◌∙◌, subst}
+use Rattle.std.proofs.Common.{◌≡◌, ◌⊎◌, inl, inr, ℕ, ◌||◌, List, [], ◌∷◌, ◌++◌, replicate, Bool, true, false, cond, eqb, Option, Some, None, sym, subst}
 use Rattle.std.proofs.lemmas.Bool.{true≢false}
 use Rattle.rbd_kinds.specs.declared.answer.Answer.{Answer}
 use Rattle.rbd_kinds.specs.declared.answer.Answer.TheVariants as answer

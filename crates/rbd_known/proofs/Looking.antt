@@ -1,12 +1,11 @@
 -- Who may go on may look, whatever another one knows.
 use Rattle.std.proofs.Common.{◌≡◌, ◌≢◌, inl, inr, ℕ, ◌&&◌, ◌||◌, not, Bool, true, false, List, Option, Some, None, refl, sym, ap, ◌∙◌, subst}
-use Rattle.std.specs.Prelude.{IsSome, is_some}
+use Rattle.std.specs.Prelude.{IsSome}
 use Rattle.std.specs.Option.{option_map}
 use Rattle.std.proofs.lemmas.Bool.{true≢false}
-use Rattle.rbd_course.specs.Course.{Course, Place, is_waiting}
+use Rattle.rbd_course.specs.Course.{is_waiting}
 use Rattle.rbd_course.specs.declared.stage.Stage.{Stage}
 use Rattle.rbd_course.specs.declared.stage.Stage.TheVariants as stage
-use Rattle.rbd_kinds.specs.declared.header_op.HeaderOp.{HeaderOp}
 use Rattle.rbd_kinds.specs.declared.header_op.HeaderOp.TheVariants as header
 use Rattle.rbd_kinds.specs.declared.id.SiteId.{SiteId}
 use Rattle.rbd_kinds.specs.declared.operation.Op.{Op}
@@ -21,7 +20,6 @@ use Rattle.rbd_rely.specs.Truth.{header_of_own}
 use Rattle.rbd_rely.proofs.Learned.{place_of}
 use Rattle.rbd_session.specs.declared.running.Running.{Running}
 use Rattle.rbd_session.specs.Advance.{track_of}
-use Rattle.rbd_session.specs.Lines.{LinesView, lines_of}
 use Rattle.rbd_session.specs.OnTrack.{IsSomewhere}
 use Rattle.rbd_session.specs.Session.{SessionView, IsSoundSession, running_at}
 use Rattle.rbd_session.specs.Track.{Track, Lines, line_in, course_of}
@@ -29,7 +27,7 @@ use Rattle.rbd_session.specs.Waits.{waits, awaits_line, awaits_turn, is_at_own}
 use Rattle.rbd_session.proofs.Sound.{no_some}
 use Rattle.rbd_session.proofs.Way.{nowhere_course, place_there}
 use Rattle.rbd_known.specs.Knowing.{KnowsIn, AllKnow}
-use Rattle.rbd_known.specs.Tied.{IsTied, OwnsAt, OwnsIn, has_just_joined}
+use Rattle.rbd_known.specs.Tied.{OwnsIn, has_just_joined}
 use Rattle.rbd_known.proofs.Behind.{knows_there}
 
 -- ---- in one line

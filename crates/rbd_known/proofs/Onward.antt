@@ -1,5 +1,5 @@
 -- Up to its next operation a request is lawful by what it knows there, and goes with its place.
-use Rattle.std.proofs.Common.{◌≡◌, inl, inr, ℕ, Bool, true, false, List, [], Option, Some, None, refl, sym, ap, ◌∙◌, subst}
+use Rattle.std.proofs.Common.{◌≡◌, inl, inr, ℕ, Bool, true, false, [], Option, Some, None, refl, sym, ◌∙◌, subst}
 use Rattle.rbd_course.specs.Course.{behind, waited, noted}
 use Rattle.rbd_course.specs.Orderly.{BeginsWith, IsInLine, MayWait}
 use Rattle.rbd_kinds.specs.declared.id.SiteId.{SiteId}
@@ -28,7 +28,7 @@ use Rattle.rbd_known.proofs.Along.{answered_tied, waited_tied, noted_tied}
 -- ---- what it may do
 
 module _ (labels : Label → Plan) (at : Label → Knowledge) (lawful_there : (label : Label) → IsLawful at (at label) (labels label)) where
-  way_lawful : (plan : Plan) (k : Knowledge) → IsLawful at k plan → IsLawful at (known_at_operation k plan) (at_operation labels plan)
+  pub way_lawful : (plan : Plan) (k : Knowledge) → IsLawful at k plan → IsLawful at (known_at_operation k plan) (at_operation labels plan)
   way_lawful (Ask site why op next) k lawful = lawful
   way_lawful (Await w next) k lawful = way_lawful next (passed k w) lawful
   way_lawful (Note site image event next) k lawful = way_lawful next k lawful

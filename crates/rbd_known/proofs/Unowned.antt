@@ -1,5 +1,5 @@
 -- Who waits for nothing owns nothing.
-use Rattle.std.proofs.Common.{◌≡◌, ℕ, Bool, true, false, List, [], ◌∷◌, Option, Some, None, option_map, refl, sym, ap, ◌∙◌, subst}
+use Rattle.std.proofs.Common.{◌≡◌, ℕ, true, false, Option, option_map, sym, ap, ◌∙◌}
 use Rattle.std.specs.Prelude.{is_some}
 use Rattle.std.proofs.lemmas.Bool.{true≢false}
 use Rattle.rbd_kinds.specs.declared.answer.Answer.{Answer}
@@ -16,11 +16,11 @@ use Rattle.rbd_kinds.specs.declared.operation.Op.{Op}
 use Rattle.rbd_kinds.specs.declared.operation.Op.TheVariants as op
 use Rattle.rbd_header.specs.Header.{with_snap, without_snap}
 use Rattle.rbd_machine.specs.Answers.{CanBeFed}
-use Rattle.rbd_machine.specs.Knowledge.{Knowledge, own_of, told_of, header_told, first_told, learned, learned_of_directory, learned_of_header}
+use Rattle.rbd_machine.specs.Knowledge.{Knowledge, is_drawn, told_of, header_told, first_told, learned, learned_of_directory, learned_of_header}
 use Rattle.rbd_machine.specs.Label.{Label}
 use Rattle.rbd_machine.specs.Path.{at_operation}
 use Rattle.rbd_machine.specs.Plan.{Plan, Ask, Await, Note, Return, Goto, plan_after}
-use Rattle.rbd_rely.specs.Beside.{MayLook}
+use Rattle.rbd_rely.specs.Beside.{AreBeside, MayLook}
 use Rattle.rbd_rely.specs.Truth.{header_of_own}
 use Rattle.rbd_known.specs.Calm.{IsCalm, OwnsNothing}
 use Rattle.rbd_known.specs.Knowing.{known_at_operation, known_behind}
@@ -83,7 +83,13 @@ module _ (labels : Label → Plan) (there : (label : Label) → IsCalm (labels l
   calm_stays (Return reply) f calm can = absurd can
   calm_stays (Goto label) f calm can = absurd can
 
--- ---- looks
+-- ---- beside others
+
+pub calm_beside : (site : SiteId) (k j : Knowledge) → OwnsNothing k → ((image : ℕ) → is_drawn k.drawn site image ≡ true → is_drawn j.drawn site image ≡ false) → AreBeside site k j
+calm_beside site k j none apart = record {
+  shared = λ image mine others. absurd (true≢false (sym mine ∙ ap (λ q. is_some (header_of_own q)) (none site image)));
+  apart = apart;
+}
 
 pub calm_looks : (site : SiteId) (k j : Knowledge) (o : Op) → OwnsNothing k → MayLook site k j o
 calm_looks site k j (op.Header image header.Get) none = λ some told. absurd (true≢false (sym some ∙ ap is_some (none site image)))
