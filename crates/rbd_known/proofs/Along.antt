@@ -29,7 +29,7 @@ use Rattle.rbd_known.proofs.Owned.{meets, at_through, own_there, own_told, from_
 
 -- ---- stages
 
-pub past_else : (s : Stage) → has_just_joined s ≡ false → is_waiting s ≡ false → is_past s ≡ true
+past_else : (s : Stage) → has_just_joined s ≡ false → is_waiting s ≡ false → is_past s ≡ true
 past_else stage.Joined joined waits = absurd (true≢false joined)
 past_else stage.Waiting joined waits = absurd (true≢false waits)
 past_else stage.Past joined waits = refl

@@ -1,6 +1,6 @@
 -- The plans of looks, of listings and of `create` wait for nothing, step by step.
-use Rattle.std.proofs.Common.{◌≡◌, ◌⊎◌, inl, inr, ℕ, ◌||◌, List, [], ◌∷◌, ◌++◌, replicate, Bool, true, false, cond, eqb, Option, Some, None, sym, subst}
-use Rattle.std.proofs.lemmas.Bool.{true≢false}
+use Rattle.std.proofs.Common.{◌≡◌, ◌⊎◌, inl, inr, ℕ, List, [], ◌∷◌, ◌++◌, replicate, Bool, true, false, cond, eqb, Option, Some, None, sym, ◌∙◌, subst}
+use Rattle.std.proofs.lemmas.Bool.{true≢false, or_parts}
 use Rattle.rbd_kinds.specs.declared.answer.Answer.{Answer}
 use Rattle.rbd_kinds.specs.declared.answer.Answer.TheVariants as answer
 use Rattle.rbd_kinds.specs.declared.command.Command.{Command}
@@ -140,18 +140,9 @@ calm_listing site _ = tt
 from_plan : (plan : Plan) (s : Standing) → s ≡ without_labels plan → IsCalm plan → IsCalmRequest s
 from_plan plan s is calm = subst IsCalmRequest (sym is) (record { plan = calm; labels = λ label. tt })
 
-no_write : (a b : Bool) → (a || b) ≡ false → a ≡ true → ⊥
-no_write true b none is = true≢false none
-no_write false b none is = true≢false (sym is)
-
-no_snap : (a b : Bool) → (a || b) ≡ false → b ≡ true → ⊥
-no_snap true b none is = true≢false none
-no_snap false true none is = true≢false none
-no_snap false false none is = true≢false (sym is)
-
 pub look_is_calm : (home : SiteId) (c : Command) (s : Standing) → is_change c ≡ false → IsPlanFor home c s → IsCalmRequest s
-look_is_calm home c s none (Writes is at_plan) = absurd (no_write (is_write c) (is_snap c) none is)
+look_is_calm home c s none (Writes is at_plan) = absurd (true≢false (sym is ∙ (or_parts (is_write c) (is_snap c) none).0))
 look_is_calm home c s none (Reads is) = calm_read home c s is
 look_is_calm home c s none (Creates is at_plan) = from_plan s.plan s at_plan (calm_create home c s.plan is)
 look_is_calm home c s none (Lists is at_plan) = from_plan (listing_plan home c) s at_plan (calm_listing home c)
-look_is_calm home c s none (Snaps is at_plan) = absurd (no_snap (is_write c) (is_snap c) none is)
+look_is_calm home c s none (Snaps is at_plan) = absurd (true≢false (sym is ∙ (or_parts (is_write c) (is_snap c) none).1))

@@ -1,8 +1,8 @@
 -- Who may go on may look, whatever another one knows.
-use Rattle.std.proofs.Common.{◌≡◌, ◌≢◌, inl, inr, ℕ, ◌&&◌, ◌||◌, not, Bool, true, false, List, Option, Some, None, refl, sym, ap, ◌∙◌, subst}
+use Rattle.std.proofs.Common.{◌≡◌, ◌≢◌, inl, inr, ℕ, ◌&&◌, not, Bool, true, false, List, Option, Some, None, refl, sym, ap, ◌∙◌, subst}
 use Rattle.std.specs.Prelude.{IsSome}
 use Rattle.std.specs.Option.{option_map}
-use Rattle.std.proofs.lemmas.Bool.{true≢false}
+use Rattle.std.proofs.lemmas.Bool.{true≢false, or_parts}
 use Rattle.rbd_course.specs.Course.{is_waiting}
 use Rattle.rbd_course.specs.declared.stage.Stage.{Stage}
 use Rattle.rbd_course.specs.declared.stage.Stage.TheVariants as stage
@@ -24,6 +24,7 @@ use Rattle.rbd_session.specs.OnTrack.{IsSomewhere}
 use Rattle.rbd_session.specs.Session.{SessionView, IsSoundSession, running_at}
 use Rattle.rbd_session.specs.Track.{Track, Lines, line_in, course_of}
 use Rattle.rbd_session.specs.Waits.{waits, awaits_line, awaits_turn, is_at_own}
+use Rattle.rbd_session.proofs.Members.{at_own_slot}
 use Rattle.rbd_session.proofs.Sound.{no_some}
 use Rattle.rbd_session.proofs.Way.{nowhere_course, place_there}
 use Rattle.rbd_known.specs.Knowing.{KnowsIn, AllKnow}
@@ -41,9 +42,6 @@ both_past line one other fair here there differ past behind = by one.alone refl
     by false is = refl
     by true is = absurd (true≢false (sym behind ∙ alone_past line one other fair here there differ is past))
 
-at_slot : (line : List Member) (slot : ℕ) (m : Member) → member_of slot line ≡ Some m → member_of m.slot line ≡ Some m
-at_slot line slot m is = subst (λ n. member_of n line ≡ Some m) (sym (found_at line slot m is)) is
-
 apart_slots : (line : List Member) (slot other : ℕ) (m n : Member) → slot ≢ other → member_of slot line ≡ Some m → member_of other line ≡ Some n → m.slot ≢ n.slot
 apart_slots line slot other m n differ here there same = differ (sym (found_at line slot m here) ∙ same ∙ found_at line other n there)
 
@@ -51,8 +49,8 @@ both_shared : (line : List Member) (slot other : ℕ) (m n : Member) → IsFairL
     → is_past m.stage ≡ true → is_past n.stage ≡ true → (m.alone ≡ false) × (n.alone ≡ false)
 both_shared line slot other m n fair differ here there past behind =
     let apart = apart_slots line slot other m n differ here there in (
-      both_past line m n fair (at_slot line slot m here) (at_slot line other n there) apart past behind,
-      both_past line n m fair (at_slot line other n there) (at_slot line slot m here) (λ same. apart (sym same)) behind past,
+      both_past line m n fair (at_own_slot slot line m here) (at_own_slot other line n there) apart past behind,
+      both_past line n m fair (at_own_slot other line n there) (at_own_slot slot line m here) (λ same. apart (sym same)) behind past,
     )
 
 -- one that may pass is as one that is past
@@ -67,7 +65,7 @@ may_shared line slot other m n fair differ here there may behind =
 -- ---- where they are
 
 -- who owns an image is a member of its line
-pub record IsMemberFor (slot : ℕ) (site : SiteId) (image : ℕ) (o : Own) (t : Track) : Type 0 where
+record IsMemberFor (slot : ℕ) (site : SiteId) (image : ℕ) (o : Own) (t : Track) : Type 0 where
   pub member : Member
   pub found : member_of slot (t.lines site image) ≡ Some member
   pub line : line_in t.place t.lines ≡ t.lines site image
@@ -96,10 +94,6 @@ owner_there slot site image o t (inr (p, m, there)) owns =
 
 -- ---- who doesn't wait
 
-or_false : (a b : Bool) → (a || b) ≡ false → a ≡ false
-or_false true b is = is
-or_false false b is = refl
-
 may_of : (own may : Bool) → own ≡ true → (own && not may) ≡ false → may ≡ true
 may_of true true is waits = refl
 may_of true false is waits = absurd (true≢false waits)
@@ -113,9 +107,9 @@ module _ (slot other : ℕ) (site : SiteId) (image : ℕ) (o p : Own) (t u : Tra
   may : is_waiting one.member.stage ≡ true → may_pass slot (t.lines site image) ≡ true
   may waiting =
       sym (ap (may_pass slot) one.line)
-      ∙ may_of (is_at_own (course_of slot t).place) (may_pass slot (line_in t.place t.lines)) (ap is_at_own one.place ∙ waiting) (or_false (awaits_line slot t) (awaits_turn slot t) goes)
+      ∙ may_of (is_at_own (course_of slot t).place) (may_pass slot (line_in t.place t.lines)) (ap is_at_own one.place ∙ waiting) (or_parts (awaits_line slot t) (awaits_turn slot t) goes).0
 
-  pub are_shared : is_past two.member.stage ≡ true → (o.alone ≡ false) × (p.alone ≡ false)
+  are_shared : is_past two.member.stage ≡ true → (o.alone ≡ false) × (p.alone ≡ false)
   are_shared past = let shared = by one.member.stage refl in (one.alone ∙ shared.0, two.alone ∙ shared.1)
     where
       by : (s : Stage) → one.member.stage ≡ s → (one.member.alone ≡ false) × (two.member.alone ≡ false)
