@@ -1,0 +1,9 @@
+pub mod Along
+pub mod Behind
+pub mod Calmly
+pub mod Little
+pub mod Looking
+pub mod Newcomers
+pub mod Onward
+pub mod Owned
+pub mod Unowned

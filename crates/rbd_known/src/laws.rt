@@ -1,6 +1,6 @@
 //! What the requests of a session know, and that they may count on it: each law is the contract of
 //! a function that does nothing.
-ghost use Rattle.std.specs.Prelude.{◌≡◌, ◌≢◌, ℕ, false, None, Some, Option};
+ghost use Rattle.std.specs.Prelude.{◌≡◌, ◌≢◌, ℕ, false, true, Some, Option};
 ghost use Rattle.rbd_kinds.specs.declared.answer.Answer.{Answer};
 ghost use Rattle.rbd_kinds.specs.declared.command.Command.{Command};
 ghost use Rattle.rbd_kinds.specs.declared.id.SiteId.{SiteId as Site};
@@ -8,10 +8,10 @@ ghost use Rattle.rbd_kinds.specs.declared.machine.Fed.{Fed};
 ghost use Rattle.rbd_kinds.specs.declared.operation.Op.{Op};
 ghost use Rattle.rbd_kinds.specs.declared.reply.Reply.{Reply};
 ghost use Rattle.rbd_machine.specs.Answers.{CanBeFed};
-ghost use Rattle.rbd_machine.specs.Knowledge.{Knowledge, nothing_known};
+ghost use Rattle.rbd_machine.specs.Knowledge.{Knowledge, nothing_known, is_drawn};
 ghost use Rattle.rbd_machine.specs.Label.{Label};
+ghost use Rattle.rbd_machine.specs.Lawful.{IsLawful};
 ghost use Rattle.rbd_machine.specs.Path.{at_operation};
-ghost use Rattle.rbd_machine.specs.Permits.{Permits};
 ghost use Rattle.rbd_machine.specs.Plan.{Plan, Ask, Standing, plan_after};
 ghost use Rattle.rbd_machine.specs.declared.reason.Reason.{Reason};
 ghost use Rattle.rbd_rely.specs.Beside.{AreBeside, MayLook};
@@ -36,8 +36,8 @@ pub fn newcomers_know_nothing<R: Request>()
         → KnowsBy R.stands slot r lines nothing_known }
 {}
 
-/// A request that is fed knows what the answer taught it and what it waited for then, and each other
-/// request of the session knows what it did.
+/// A request that is fed knows what the answer taught it and what it waited for then, and each
+/// other request of the session knows what it did.
 pub fn knowledge_goes_with_the_line<R: Request>()
     ensures { (s t : SessionView R) (slot : ℕ) (r : Running R) (f : Fed) (result : Option Reply) (knows : ℕ → Knowledge)
         → IsSoundSession R.stands s → IsSoundSession R.stands t → running_at slot s ≡ Some r → CanBeFed (R.stands r.request).plan f
@@ -64,12 +64,14 @@ pub fn who_may_go_on_may_look<R: Request>()
 /// What a request knows at its next operation is lawful for it to go by, and is true and beside
 /// another's as it was before the waits.
 pub fn waits_change_little()
+    ensures lawful { (labels : Label → Plan) (known_at : Label → Knowledge) → ((label : Label) → IsLawful known_at (known_at label) (labels label))
+        → (k : Knowledge) (plan : Plan) → IsLawful known_at k plan → IsLawful known_at (known_at_operation k plan) (at_operation labels plan) }
     ensures truth { (site : Site) (r : Records) (k : Knowledge) (plan : Plan) → IsTrueAt site r k → IsTrueAt site r (known_at_operation k plan) }
     ensures beside { (site : Site) (k j : Knowledge) (plan : Plan) → AreBeside site k j → AreBeside site (known_at_operation k plan) j }
 {}
 
-/// A request that waits for nothing owns nothing, and so is beside each other one that drew no id of
-/// its; it may look at whatever it looks at, and each other one may, beside it.
+/// A request that waits for nothing owns nothing, and so is beside each other one that drew no id
+/// of its; it may look at whatever it looks at, and each other one may, beside it.
 pub fn calm_requests_own_nothing()
     ensures first { OwnsNothing nothing_known }
     ensures fed { (labels : Label → Plan) (k : Knowledge) (plan : Plan) (f : Fed)
@@ -78,6 +80,8 @@ pub fn calm_requests_own_nothing()
     ensures stays { (labels : Label → Plan) (plan : Plan) (f : Fed)
         → IsCalmRequest (record { labels = labels; plan = plan }) → CanBeFed plan f
         → IsCalmRequest (record { labels = labels; plan = at_operation labels (plan_after plan f) }) }
+    ensures beside { (site : Site) (k j : Knowledge) → OwnsNothing k
+        → ((image : ℕ) → is_drawn k.drawn site image ≡ true → is_drawn j.drawn site image ≡ false) → AreBeside site k j }
     ensures looks { (site : Site) (k j : Knowledge) (op : Op) → OwnsNothing k → MayLook site k j op }
     ensures looked_beside { (site : Site) (k j : Knowledge) (op : Op) → OwnsNothing j → MayLook site k j op }
 {}

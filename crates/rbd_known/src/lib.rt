@@ -1,4 +1,5 @@
-//! What the requests of a session know: definitions, laws on them, and no code that a program calls.
+//! What the requests of a session know: definitions, laws on them, and no code that a program
+//! calls.
 //!
 //! A request's knowledge (`rbd_machine`) says what it may do, and by `rbd_rely` it stays true at a
 //! site as long as two requests are beside each other. This crate ties it to the line that the
@@ -17,8 +18,8 @@
 //!
 //! - A request owns no image but that of its line, alone exactly where it joined alone. It knows a
 //!   header of it only past its own look.
-//! - So a request that may go on to its own look finds nobody beside it that knows the header and is
-//!   alone, and is alone itself only where nobody knows it.
+//! - So a request that may go on to its own look finds nobody beside it that knows the header and
+//!   is alone, and is alone itself only where nobody knows it.
 //! - A request that waits for nothing (a look, a listing, a `create`) owns nothing.
 //!
 //! # Contracts
@@ -26,7 +27,7 @@
 //! | file | what it says |
 //! |---|---|
 //! | `specs/Tied.antt` | how knowledge goes with the place in a line (`IsTied`) |
-//! | `specs/Knowing.antt` | what the slots of a session know (`AllKnow`), and what they know once one was fed (`knows_after`) |
+//! | `specs/Knowing.antt` | what the slots know (`AllKnow`), and once one was fed (`knows_after`) |
 //! | `specs/Calm.antt` | requests that wait for nothing |
 //!
 //! [`laws`] says that a session's calls keep this, that who may go on may look (`MayLook` of

@@ -1,0 +1,220 @@
+-- What a request knows goes with its place, whatever it is answered and waits for.
+use Rattle.std.proofs.Common.{◌≡◌, ℕ, ◌&&◌, cond, Bool, true, false, Option, Some, None, option_map, refl, sym, ap, ◌∙◌, subst}
+use Rattle.std.specs.Prelude.{IsSome}
+use Rattle.std.proofs.lemmas.Bool.{true≢false}
+use Rattle.rbd_course.specs.Course.{Course, Place, answered, waited, noted, looked, past, is_own_at, is_waiting, held_stage}
+use Rattle.rbd_course.specs.Course as course
+use Rattle.rbd_course.specs.Orderly.{IsInLine, MayWait}
+use Rattle.rbd_course.specs.declared.stage.Stage.{Stage}
+use Rattle.rbd_course.specs.declared.stage.Stage.TheVariants as stage
+use Rattle.rbd_kinds.specs.declared.answer.Answer.{Answer}
+use Rattle.rbd_kinds.specs.declared.answer.Answer.TheVariants as answer
+use Rattle.rbd_kinds.specs.declared.directory_op.DirectoryOp.{DirectoryOp}
+use Rattle.rbd_kinds.specs.declared.directory_op.DirectoryOp.TheVariants as directory
+use Rattle.rbd_kinds.specs.declared.header.HeaderView.{HeaderView}
+use Rattle.rbd_kinds.specs.declared.header_op.HeaderOp.{HeaderOp}
+use Rattle.rbd_kinds.specs.declared.header_op.HeaderOp.TheVariants as header
+use Rattle.rbd_kinds.specs.declared.id.SiteId.{SiteId}
+use Rattle.rbd_kinds.specs.declared.layout.Extent.{Extent}
+use Rattle.rbd_kinds.specs.declared.operation.Op.{Op}
+use Rattle.rbd_kinds.specs.declared.operation.Op.TheVariants as op
+use Rattle.rbd_header.specs.Header.{with_snap, without_snap}
+use Rattle.rbd_line.specs.Line.{is_past}
+use Rattle.rbd_machine.specs.Knowledge.{Knowledge, Own, own_of, is_at, told_of, with_header, header_told, first_told, learned, learned_of_directory, learned_of_header, passed, held, left}
+use Rattle.rbd_machine.specs.Wait.{Wait}
+use Rattle.rbd_machine.specs.Wait as wait
+use Rattle.rbd_session.proofs.Sound.{no_some, some_same}
+use Rattle.rbd_known.specs.Tied.{IsTied, OwnsAt, OwnsIn, has_just_joined}
+use Rattle.rbd_known.proofs.Owned.{meets, at_through, own_there, own_told, from_told, left_before}
+
+-- ---- stages
+
+past_else : (s : Stage) → has_just_joined s ≡ false → is_waiting s ≡ false → is_past s ≡ true
+past_else stage.Joined joined waits = absurd (true≢false joined)
+past_else stage.Waiting joined waits = absurd (true≢false waits)
+past_else stage.Past joined waits = refl
+
+held_waits : (s : Stage) → has_just_joined (held_stage s) ≡ false
+held_waits stage.Joined = refl
+held_waits stage.Waiting = refl
+held_waits stage.Past = refl
+
+held_past : (s : Stage) → is_past s ≡ true → is_past (held_stage s) ≡ true
+held_past stage.Joined is = is
+held_past stage.Waiting is = is
+held_past stage.Past is = is
+
+-- ---- what it is told of the image that it owns
+
+told_alone : (change : Option HeaderView → Option HeaderView) (o : Own) (b : Bool) → (cond b (with_header change o) o).alone ≡ o.alone
+told_alone change o true = refl
+told_alone change o false = refl
+
+module _ (site : SiteId) (image : ℕ) (o : Own) where
+  -- an edit of a header that it knows
+  edited_in : (s : SiteId) (i : ℕ) (change : Option HeaderView → Option HeaderView) → ((h : Option HeaderView) → IsSome (change h) → IsSome h)
+      → (place : Option Place) → OwnsIn site image o place → OwnsIn site image (told_of s i change o) place
+  edited_in s i change keeps None owns = owns
+  edited_in s i change keeps (Some p) owns = by (is_at s i o.site o.image)
+    where
+      by : (b : Bool) → OwnsAt site image (cond b (with_header change o) o) p
+      by true = record { there = owns.there; alone = owns.alone; waits = owns.waits; past = λ some. owns.past (keeps o.header some) }
+      by false = owns
+
+  -- at its own look it is past it
+  looked_in : (s : SiteId) (i : ℕ) (change : Option HeaderView → Option HeaderView) (place : Option Place) → OwnsIn site image o place → OwnsIn site image (told_of s i change o) (past place)
+  looked_in s i change None owns = owns
+  looked_in s i change (Some p) owns = record {
+    there = owns.there;
+    alone = told_alone change o (is_at s i o.site o.image) ∙ owns.alone;
+    waits = refl;
+    past = λ some. refl;
+  }
+
+  -- another look tells of the image only where it is past its own
+  seen_in : (s : SiteId) (i : ℕ) (change : Option HeaderView → Option HeaderView) (place : Option Place) → is_own_at s i place ≡ false → is_at site image o.site o.image ≡ true
+      → OwnsIn site image o place → OwnsIn site image (told_of s i change o) place
+  seen_in s i change None other there owns = owns
+  seen_in s i change (Some p) other there owns = by (is_at s i o.site o.image) refl
+    where
+      not_waiting : is_at s i p.site p.image ≡ true → is_waiting p.stage ≡ false
+      not_waiting here = sym (ap (λ b. b && is_waiting p.stage) here) ∙ other
+
+      by : (b : Bool) → is_at s i o.site o.image ≡ b → OwnsAt site image (cond b (with_header change o) o) p
+      by false elsewhere = owns
+      by true here =
+          let at_place : is_at s i p.site p.image ≡ true =
+          at_through s site p.site i image p.image (meets s site o.site i image o.image here there) owns.there in
+          record {
+            there = owns.there;
+            alone = owns.alone;
+            waits = owns.waits;
+            past = λ some. past_else p.stage owns.waits (not_waiting at_place);
+          }
+
+-- ---- answers
+
+of_edit : (edit : HeaderView → HeaderView) (h : Option HeaderView) → IsSome (option_map edit h) → IsSome h
+of_edit edit None some = some
+of_edit edit (Some h) some = refl
+
+past_alone : (k : Knowledge) (place : Option Place) (p : Place) → ((q : Place) → place ≡ Some q → k.alone ≡ q.alone) → past place ≡ Some p → k.alone ≡ p.alone
+past_alone k None p alone is = absurd (no_some p is)
+past_alone k (Some q) p alone is = alone q refl ∙ ap (λ (x : Place). x.alone) (some_same (record q { stage = stage.Past }) p is)
+
+module _ (e : Option Extent) (k : Knowledge) (c : Course) (t : IsTied k c) where
+  -- it owns the images that it owned before, each as it was told of it
+  told_owns : (s : SiteId) (i : ℕ) (change : Option HeaderView → Option HeaderView) (place : Option Place)
+      → ((site : SiteId) (image : ℕ) (o : Own) → own_of k.owns site image ≡ Some o → OwnsIn site image (told_of s i change o) place)
+      → (site : SiteId) (image : ℕ) (o : Own) → own_of (header_told s i change k).owns site image ≡ Some o → OwnsIn site image o place
+  told_owns s i change place each site image o is =
+      from_told (told_of s i change) (own_of k.owns site image) o (λ told. OwnsIn site image told place) (sym (own_told s site i image change k.owns) ∙ is) (each site image)
+
+  edited_tied : (s : SiteId) (i : ℕ) (edit : HeaderView → HeaderView) → IsTied (header_told s i (option_map edit) k) c
+  edited_tied s i edit = record {
+    owns = told_owns s i (option_map edit) c.place (λ site image o is. edited_in site image o s i (option_map edit) (of_edit edit) c.place (t.owns site image o is));
+    alone = t.alone;
+  }
+
+  looked_tied : (s : SiteId) (i : ℕ) (h : HeaderView) → IsTied (header_told s i (first_told h) k) (looked e h c)
+  looked_tied s i h = record {
+    owns = told_owns s i (first_told h) (past c.place) (λ site image o is. looked_in site image o s i (first_told h) c.place (t.owns site image o is));
+    alone = λ p is. past_alone k c.place p t.alone is;
+  }
+
+  seen_tied : (s : SiteId) (i : ℕ) (h : HeaderView) → is_own_at s i c.place ≡ false → IsTied (header_told s i (first_told h) k) c
+  seen_tied s i h other = record {
+    owns = told_owns s i (first_told h) c.place
+        (λ site image o is. seen_in site image o s i (first_told h) c.place other (own_there k.owns site image o is) (t.owns site image o is));
+    alone = t.alone;
+  }
+
+  got_tied : (s : SiteId) (i : ℕ) (h : HeaderView) (b : Bool) → is_own_at s i c.place ≡ b → IsTied (header_told s i (first_told h) k) (cond b (looked e h c) c)
+  got_tied s i h true own = looked_tied s i h
+  got_tied s i h false other = seen_tied s i h other
+
+  header_tied : (s : SiteId) (i : ℕ) (o : HeaderOp) (a : Answer) → IsTied (learned_of_header k s i o a) (answered e c s (op.Header i o) a)
+  header_tied s i header.Get (answer.Header h) = got_tied s i h (is_own_at s i c.place) refl
+  header_tied s i (header.Create view) answer.Done = record { owns = t.owns; alone = t.alone }
+  header_tied s i (header.SnapAdd name) (answer.Snap snap) = edited_tied s i (with_snap name)
+  header_tied s i (header.SnapRemove snap) answer.Done = edited_tied s i (without_snap snap)
+  header_tied s i header.Get _ = t
+  header_tied s i (header.Create view) _ = t
+  header_tied s i (header.SnapAdd name) _ = t
+  header_tied s i (header.SnapRemove snap) _ = t
+  header_tied s i _ a = t
+
+  directory_tied : (s : SiteId) (o : DirectoryOp) (a : Answer) → IsTied (learned_of_directory k s o a) c
+  directory_tied s (directory.Add name) (answer.Id image) = record { owns = t.owns; alone = t.alone }
+  directory_tied s (directory.Add name) _ = t
+  directory_tied s _ a = t
+
+  pub answered_tied : (s : SiteId) (o : Op) (a : Answer) → IsTied (learned k s o a) (answered e c s o a)
+  answered_tied s (op.Directory o) a = directory_tied s o a
+  answered_tied s (op.Header i o) a = header_tied s i o a
+  answered_tied s _ a = t
+
+-- ---- waits
+
+module _ (k : Knowledge) (c : Course) (t : IsTied k c) (site : SiteId) (image : ℕ) where
+  abbrev waiting : Own
+  waiting = record { site = site; image = image; alone = k.alone; header = None }
+
+  -- the image whose lock it waits for is that of its line
+  waiting_in : (s : SiteId) (i : ℕ) → is_at s i site image ≡ true → (place : Option Place) → c.place ≡ place → IsInLine site image place → OwnsIn s i waiting (course.held place)
+  waiting_in s i here None is in_line = in_line
+  waiting_in s i here (Some p) is in_line = record {
+    there = at_through s site p.site i image p.image here in_line;
+    alone = t.alone p is;
+    waits = held_waits p.stage;
+    past = λ some. absurd (true≢false (sym some));
+  }
+
+  still_in : (s : SiteId) (i : ℕ) (o : Own) (place : Option Place) → OwnsIn s i o place → OwnsIn s i o (course.held place)
+  still_in s i o None owns = owns
+  still_in s i o (Some p) owns = record {
+    there = owns.there;
+    alone = owns.alone;
+    waits = held_waits p.stage;
+    past = λ some. held_past p.stage (owns.past some);
+  }
+
+  held_owns : IsInLine site image c.place → (s : SiteId) (i : ℕ) (o : Own) → own_of (held k site image) s i ≡ Some o → OwnsIn s i o (course.held c.place)
+  held_owns in_line s i o is = by (is_at s i site image) refl is
+    where
+      by : (b : Bool) → is_at s i site image ≡ b → cond b (Some waiting) (own_of (left site image k.owns) s i) ≡ Some o → OwnsIn s i o (course.held c.place)
+      by true here found = subst (λ x. OwnsIn s i x (course.held c.place)) (some_same waiting o found) (waiting_in s i here c.place refl in_line)
+      by false other found = still_in s i o c.place (t.owns s i o (left_before site s image i k.owns o found).0)
+
+  held_alone : (place : Option Place) (p : Place) → c.place ≡ place → course.held place ≡ Some p → k.alone ≡ p.alone
+  held_alone None p at is = absurd (no_some p is)
+  held_alone (Some q) p at is = t.alone q at ∙ ap (λ (x : Place). x.alone) (some_same (record q { stage = held_stage q.stage }) p is)
+
+  -- who leaves its line owns nothing any more
+  none_else : (s : SiteId) (i : ℕ) (o : Own) (place : Option Place) → IsInLine site image place → OwnsIn s i o place → is_at s i site image ≡ false → ⊥
+  none_else s i o None in_line owns other = in_line
+  none_else s i o (Some p) in_line owns other = true≢false (sym (meets s site p.site i image p.image owns.there in_line) ∙ other)
+
+  left_owns : IsInLine site image c.place → (s : SiteId) (i : ℕ) (o : Own) → own_of (left site image k.owns) s i ≡ Some o → ⊥
+  left_owns in_line s i o is =
+      let before = left_before site s image i k.owns o is in
+      none_else s i o c.place in_line (t.owns s i o before.0) before.1
+
+pub waited_tied : (fresh : Bool) (k : Knowledge) (c : Course) (w : Wait) → MayWait fresh c w → IsTied k c → IsTied (passed k w) (waited c w)
+waited_tied fresh k c (wait.Join site image alone) may t = record {
+  owns = λ s i o is. absurd (subst (OwnsIn s i o) may.1 (t.owns s i o is));
+  alone = λ p is. ap (λ (x : Place). x.alone) (some_same (record { site = site; image = image; alone = alone; stage = stage.Joined }) p is);
+}
+waited_tied fresh k c (wait.Hold site image) may t = record {
+  owns = held_owns k c t site image may;
+  alone = λ p is. held_alone k c t site image c.place p refl is;
+}
+waited_tied fresh k c (wait.Turn object) may t = record { owns = t.owns; alone = t.alone }
+waited_tied fresh k c (wait.Applied site image) may t = record { owns = t.owns; alone = t.alone }
+waited_tied fresh k c (wait.Leave site image) may t = record {
+  owns = λ s i o is. absurd (left_owns k c t site image may s i o is);
+  alone = λ p is. absurd (no_some p is);
+}
+
+pub noted_tied : (k : Knowledge) (c : Course) → IsTied k c → IsTied k (noted c)
+noted_tied k c t = record { owns = t.owns; alone = t.alone }

@@ -1,0 +1,148 @@
+-- The plans of looks, of listings and of `create` wait for nothing, step by step.
+use Rattle.std.proofs.Common.{◌≡◌, ◌⊎◌, inl, inr, ℕ, List, [], ◌∷◌, ◌++◌, replicate, Bool, true, false, cond, eqb, Option, Some, None, sym, ◌∙◌, subst}
+use Rattle.std.proofs.lemmas.Bool.{true≢false, or_parts}
+use Rattle.rbd_kinds.specs.declared.answer.Answer.{Answer}
+use Rattle.rbd_kinds.specs.declared.answer.Answer.TheVariants as answer
+use Rattle.rbd_kinds.specs.declared.command.Command.{Command}
+use Rattle.rbd_kinds.specs.declared.command.Command.TheVariants as command
+use Rattle.rbd_kinds.specs.declared.command.Shape.{Shape}
+use Rattle.rbd_kinds.specs.declared.header.HeaderView.{HeaderView}
+use Rattle.rbd_kinds.specs.declared.id.SiteId.{SiteId}
+use Rattle.rbd_kinds.specs.declared.layout.Extent.{Extent}
+use Rattle.rbd_kinds.specs.declared.layout.Part.{Part}
+use Rattle.rbd_kinds.specs.declared.refusal.Refusal.{Refusal}
+use Rattle.rbd_kinds.specs.declared.reply.Reply.{Reply}
+use Rattle.rbd_kinds.specs.declared.reply.Reply.TheVariants as reply
+use Rattle.rbd_kinds.specs.Parts.{parts_len}
+use Rattle.rbd_layout.specs.Asked.{layout_of, KeepsLimits}
+use Rattle.rbd_layout.specs.Pieces.{pieces_of}
+use Rattle.rbd_layout.specs.declared.types.Piece.{Piece}
+use Rattle.rbd_header.specs.Header.{new_header, view_of}
+use Rattle.rbd_header.specs.declared.view.View.{View}
+use Rattle.rbd_machine.specs.Label as label
+use Rattle.rbd_machine.specs.Plan.{Plan, Return, Goto, Standing, without_labels}
+use Rattle.rbd_machine.specs.Steps.{unless, not_there, on_id, on_header, on_done}
+use Rattle.rbd_meaning.specs.Listings.{shown_snaps}
+use Rattle.rbd_meaning.specs.Range.{out_of_range}
+use Rattle.rbd_piece.specs.Gather.{gather, on_bytes}
+use Rattle.rbd_request.specs.Read.{IsReadOf, pass, looking, reading, viewing, gathering, closing, on_closing}
+use Rattle.rbd_request.specs.Seen.{Seen, seen_at, shown}
+use Rattle.rbd_request.specs.Write.{is_write}
+use Rattle.rbd_admin.specs.Create.{IsCreate, IsCreatePlan, on_drawn, making, drawing}
+use Rattle.rbd_admin.specs.Listing.{on_names, showing, show_header, listing_plan}
+use Rattle.rbd_admin.specs.Snap.{is_snap}
+use Rattle.rbd_admin.proofs.Decided.{limits_or_not}
+use Rattle.rbd_requests.specs.Served.{IsPlanFor, Writes, Reads, Creates, Lists, Snaps}
+use Rattle.rbd_known.specs.Calm.{IsCalm, IsCalmRequest, is_change}
+
+-- ---- steps
+
+calm_not_there : (a : Answer) → IsCalm (not_there a)
+calm_not_there answer.Fenced = tt
+calm_not_there _ = tt
+
+calm_on_id : (next : ℕ → Plan) → ((image : ℕ) → IsCalm (next image)) → (a : Answer) → IsCalm (on_id next a)
+calm_on_id next calm (answer.Id image) = calm image
+calm_on_id next calm a = calm_not_there a
+
+calm_on_header : (next : HeaderView → Plan) → ((h : HeaderView) → IsCalm (next h)) → (a : Answer) → IsCalm (on_header next a)
+calm_on_header next calm (answer.Header h) = calm h
+calm_on_header next calm a = calm_not_there a
+
+calm_on_done : (next : Plan) → IsCalm next → (a : Answer) → IsCalm (on_done next a)
+calm_on_done next calm answer.Done = calm
+calm_on_done next calm a = calm_not_there a
+
+calm_unless : (r : Option Refusal) (next : Plan) → IsCalm next → IsCalm (unless r next)
+calm_unless None next calm = calm
+calm_unless (Some r) next calm = tt
+
+-- ---- read
+
+calm_on_bytes : (parts : List Part) (next : List ℕ → Plan) → ((bytes : List ℕ) → IsCalm (next bytes)) → (a : Answer) → IsCalm (on_bytes parts next a)
+calm_on_bytes parts next calm (answer.Bytes bytes) = calm bytes
+calm_on_bytes parts next calm answer.Absent = calm (replicate (parts_len parts) 0)
+calm_on_bytes parts next calm a = calm_not_there a
+
+calm_gather : (pieces : List Piece) (site : SiteId) (image : ℕ) (snap : Option ℕ) (read : List ℕ) (next : List ℕ → Plan) → ((bytes : List ℕ) → IsCalm (next bytes))
+    → IsCalm (gather site image snap pieces read next)
+calm_gather [] site image snap read next calm = calm read
+calm_gather (p ∷ pieces) site image snap read next calm = λ a.
+    calm_on_bytes p.parts (λ bytes. gather site image snap pieces (read ++ bytes) next) (λ bytes. calm_gather pieces site image snap (read ++ bytes) next calm) a
+
+calm_closing : (seen : Seen) (read : List ℕ) (a : Answer) → IsCalm (on_closing seen read a)
+calm_closing seen read (answer.Header h) = go (eqb h.generation seen.generation)
+  where
+    go : (b : Bool) → IsCalm (cond b (Return (reply.Bytes (shown seen read))) (Goto label.Begin))
+    go true = tt
+    go false = tt
+calm_closing seen read answer.Absent = tt
+calm_closing seen read a = calm_not_there a
+
+calm_viewing : (site : SiteId) (image : ℕ) (h : HeaderView) (extent : Extent) (view : Option View) → IsCalm (viewing site image h extent view)
+calm_viewing site image h extent None = tt
+calm_viewing site image h extent (Some view) =
+    calm_unless (out_of_range extent view.size) (gathering site image h extent view)
+    (calm_gather (pieces_of h.layout extent) site image view.snap [] (closing site image (seen_at h extent)) (λ read a. calm_closing (seen_at h extent) read a))
+
+calm_pass : (site : SiteId) (name : List ℕ) (snap : Option (List ℕ)) (extent : Extent) → IsCalm (pass site name snap extent)
+calm_pass site name snap extent = λ found.
+    calm_on_id (looking site snap extent) (λ image.
+    calm_on_header (reading site snap extent image) (λ h. calm_viewing site image h extent (view_of h snap))) found
+
+calm_read : (site : SiteId) (c : Command) (s : Standing) → IsReadOf site c s → IsCalmRequest s
+calm_read site (command.Read image snap from len) s is =
+    let calm = calm_pass site image snap (record { at = from; len = len }) in
+    subst IsCalmRequest (sym is) (record { plan = calm; labels = λ label. calm })
+calm_read site _ s is = absurd is
+
+-- ---- create
+
+calm_on_drawn : (next : ℕ → Plan) → ((image : ℕ) → IsCalm (next image)) → (a : Answer) → IsCalm (on_drawn next a)
+calm_on_drawn next calm (answer.Id image) = calm image
+calm_on_drawn next calm answer.Exists = tt
+calm_on_drawn next calm answer.Full = tt
+calm_on_drawn next calm a = calm_not_there a
+
+calm_drawing : (site : SiteId) (name : List ℕ) (h : HeaderView) → IsCalm (drawing site name h)
+calm_drawing site name h = λ drawn. calm_on_drawn (making site h) (λ image a. calm_on_done (Return reply.Done) tt a) drawn
+
+calm_is_create : (site : SiteId) (name : List ℕ) (size : ℕ) (shape : Shape) (plan : Plan) → IsCreate site name size shape plan → IsCalm plan
+calm_is_create site name size shape plan is = go (limits_or_not (layout_of shape) size)
+  where
+    go : KeepsLimits (layout_of shape) size ⊎ (KeepsLimits (layout_of shape) size → ⊥) → IsCalm plan
+    go (inl keeps) = subst IsCalm (sym (is.within keeps)) (calm_drawing site name (new_header (layout_of shape) size))
+    go (inr fails) = subst IsCalm (sym (is.outside fails)) tt
+
+calm_create : (site : SiteId) (c : Command) (plan : Plan) → IsCreatePlan site c plan → IsCalm plan
+calm_create site (command.Create image size shape) plan is = calm_is_create site image size shape plan is
+calm_create site _ plan is = absurd is
+
+-- ---- ls, info, snap ls
+
+calm_on_names : (next : List (List ℕ) → Plan) → ((names : List (List ℕ)) → IsCalm (next names)) → (a : Answer) → IsCalm (on_names next a)
+calm_on_names next calm (answer.Names names) = calm names
+calm_on_names next calm a = calm_not_there a
+
+calm_show_header : (site : SiteId) (name : List ℕ) (shows : HeaderView → Reply) → IsCalm (show_header site name shows)
+calm_show_header site name shows = λ found.
+    calm_on_id (showing site shows) (λ image. calm_on_header (λ h. Return (shows h)) (λ h. tt)) found
+
+calm_listing : (site : SiteId) (c : Command) → IsCalm (listing_plan site c)
+calm_listing site command.List = λ a. calm_on_names (λ names. Return (reply.Names names)) (λ names. tt) a
+calm_listing site (command.Info image) = calm_show_header site image reply.Info
+calm_listing site (command.SnapList image) = calm_show_header site image shown_snaps
+calm_listing site _ = tt
+
+-- ---- all of them
+
+-- a request without labels waits for nothing where its plan doesn't
+from_plan : (plan : Plan) (s : Standing) → s ≡ without_labels plan → IsCalm plan → IsCalmRequest s
+from_plan plan s is calm = subst IsCalmRequest (sym is) (record { plan = calm; labels = λ label. tt })
+
+pub look_is_calm : (home : SiteId) (c : Command) (s : Standing) → is_change c ≡ false → IsPlanFor home c s → IsCalmRequest s
+look_is_calm home c s none (Writes is at_plan) = absurd (true≢false (sym is ∙ (or_parts (is_write c) (is_snap c) none).0))
+look_is_calm home c s none (Reads is) = calm_read home c s is
+look_is_calm home c s none (Creates is at_plan) = from_plan s.plan s at_plan (calm_create home c s.plan is)
+look_is_calm home c s none (Lists is at_plan) = from_plan (listing_plan home c) s at_plan (calm_listing home c)
+look_is_calm home c s none (Snaps is at_plan) = absurd (true≢false (sym is ∙ (or_parts (is_write c) (is_snap c) none).1))

@@ -1,0 +1,24 @@
+-- Waits make nothing known that is false, or that another one may not know beside.
+use Rattle.rbd_kinds.specs.declared.id.SiteId.{SiteId}
+use Rattle.rbd_machine.specs.Knowledge.{Knowledge, passed}
+use Rattle.rbd_machine.specs.Plan.{Plan, Ask, Await, Note, Return, Goto}
+use Rattle.rbd_rely.specs.Beside.{AreBeside}
+use Rattle.rbd_rely.specs.Truth.{IsTrueAt}
+use Rattle.rbd_rely.proofs.Learned.{waits_learned}
+use Rattle.rbd_rely.proofs.Together.{waited_beside}
+use Rattle.rbd_site.specs.Records.{Records}
+use Rattle.rbd_known.specs.Knowing.{known_at_operation}
+
+pub still_true : (site : SiteId) (r : Records) (plan : Plan) (k : Knowledge) → IsTrueAt site r k → IsTrueAt site r (known_at_operation k plan)
+still_true site r (Ask there why op next) k t = t
+still_true site r (Await w next) k t = still_true site r next (passed k w) (waits_learned site r k w t)
+still_true site r (Note there image event next) k t = still_true site r next k t
+still_true site r (Return reply) k t = t
+still_true site r (Goto label) k t = t
+
+pub still_beside : (site : SiteId) (j : Knowledge) (plan : Plan) (k : Knowledge) → AreBeside site k j → AreBeside site (known_at_operation k plan) j
+still_beside site j (Ask there why op next) k beside = beside
+still_beside site j (Await w next) k beside = still_beside site j next (passed k w) (waited_beside site k j beside w)
+still_beside site j (Note there image event next) k beside = still_beside site j next k beside
+still_beside site j (Return reply) k beside = beside
+still_beside site j (Goto label) k beside = beside
