@@ -93,7 +93,7 @@ unheard_more line h run u none silent = record {
 
 pub unheard : (homes : ℕ → SiteId) (line : ℕ) (run : List Happening) → IsRight homes run → asked_by line run ≡ None → IsUnheard line run
 unheard homes line [] right none = record { steps = refl; unanswered = refl }
-unheard homes line (h ∷ run) right none = by h right.1.0 (unheard homes line run right.1.1 before)
+unheard homes line (h ∷ run) (standing, due, right) none = by h due (unheard homes line run right before)
   where
     before : asked_by line run ≡ None
     before = asked_before line h (asked_by line run) none

@@ -70,7 +70,7 @@ IsRight homes (h ∷ run) = AreStanding (h ∷ run) × IsDue homes h run × IsRi
 -- done for its line; and where the command changes no image that is there, it waits for nothing.
 pub record IsUnderWay {R : Type 0} (stands : R → Standing) (home : SiteId) (session : ℕ) (run : List Happening) (k : Knowledge) (r : Running R) : Type 0 where
   pub begun : IsOpen r.line run
-  pub session : begun.asked.session ≡ session
+  pub mine : begun.asked.session ≡ session
   pub start : Standing
   pub plan : IsPlanFor home begun.asked.command start
   pub labels : (stands r.request).labels ≡ start.labels
@@ -82,7 +82,7 @@ pub record IsUnderWay {R : Type 0} (stands : R → Standing) (home : SiteId) (se
 -- a command that is refused before any operation
 pub record IsRefusedAtOnce (home : SiteId) (session : ℕ) (run : List Happening) (line : ℕ) (refusal : Refusal) : Type 0 where
   pub begun : IsOpen line run
-  pub session : begun.asked.session ≡ session
+  pub mine : begun.asked.session ≡ session
   pub start : Standing
   pub plan : IsPlanFor home begun.asked.command start
   pub ends : start.plan ≡ refused refusal
@@ -94,7 +94,7 @@ IsHeldRightly stands home session run k (Some (occupant.Refused line refusal)) =
 IsHeldRightly stands home session run k (Some (occupant.Running r)) = IsUnderWay stands home session run k r
 
 pub record IsSoundClient {R : Type 0} (stands : R → Standing) (home : SiteId) (session : ℕ) (run : List Happening) (knows : (slot : ℕ) → Knowledge) (c : SessionView R) : Type 0 where
-  pub home : c.home ≡ home
+  pub at_home : c.home ≡ home
   pub sound : IsSoundSession stands c
   pub know : AllKnow stands knows c
   pub held : (slot : ℕ) → IsHeldRightly stands home session run (knows slot) (held_in slot c.slots)
@@ -140,3 +140,14 @@ pub record IsSoundWorld {R : Type 0} (stands : R → Standing) (w : WorldView R)
 pub record IsKept {R : Type 0} (stands : R → Standing) (b : LinesBegun) (w : WorldView R) : Type 0 where
   pub sound : IsSoundWorld stands w
   pub lines : (line : ℕ) → has_line line b ≡ is_begun line w.history
+
+-- empty sites, sessions without requests, and nothing happened
+pub record IsNewClient {R : Type 0} (stands : R → Standing) (c : SessionView R) : Type 0 where
+  pub sound : IsSoundSession stands c
+  pub slots : (slot : ℕ) → held_in slot c.slots ≡ None
+
+pub record IsNewWorld {R : Type 0} (stands : R → Standing) (w : WorldView R) : Type 0 where
+  pub sites : (s : SiteId) → (site_in s w.sites).log ≡ []
+  pub clients : (session : ℕ) (c : SessionView R) → session_in session w.sessions ≡ Some c → IsNewClient stands c
+  pub history : w.history ≡ []
+  pub calls : w.calls ≡ []

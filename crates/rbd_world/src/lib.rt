@@ -5,6 +5,7 @@ mod begun;
 mod event;
 mod happen;
 mod happened;
+pub mod laws;
 mod operate;
 mod poll;
 mod sites;
@@ -15,5 +16,3 @@ mod world;
 pub use event::{Call, Event, Outcome};
 pub use world::World;
 
-#[test]
-fn nothing(rt: HostRuntime) {}
