@@ -1,3 +1,4 @@
 pub mod Beginning
 pub mod Runs
+pub mod Undone
 pub mod Walks
