@@ -1,3 +1,6 @@
+pub mod Beginning
 pub mod Runs
 pub mod BothSites
+pub mod Undone
 pub mod Walks
+pub mod Wanted
