@@ -1,6 +1,9 @@
 pub mod Beginning
+pub mod Newcomers
+pub mod OneSession
 pub mod Runs
 pub mod BothSites
+pub mod Stepping
 pub mod Undone
 pub mod Walks
 pub mod Wanted
