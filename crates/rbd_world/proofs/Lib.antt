@@ -1,2 +1,5 @@
+pub mod Carried
+pub mod Quiet
+pub mod Rest
 pub mod Runs
 pub mod Walks
