@@ -1,6 +1,9 @@
+pub mod AtSites
 pub mod Carried
 pub mod Changed
+pub mod Clients
 pub mod Newcomer
+pub mod Parentless
 pub mod Quiet
 pub mod Refusal
 pub mod Rest
