@@ -1,3 +1,4 @@
+pub mod Answered
 pub mod AtSites
 pub mod Carried
 pub mod Changed
