@@ -4,9 +4,11 @@ pub mod Carried
 pub mod Changed
 pub mod Clients
 pub mod Newcomer
+pub mod Operated
 pub mod Parentless
 pub mod Quiet
 pub mod Refusal
 pub mod Rest
 pub mod Runs
+pub mod Steps
 pub mod Walks
