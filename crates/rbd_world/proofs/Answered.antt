@@ -1,6 +1,6 @@
 -- The request that was polled: it is under way at its next operation, or its reply is meant.
-use Rattle.std.proofs.Common.{◌≡◌, ◌≢◌, ℕ, ◌==◌, ◌||◌, cond, Bool, true, false, List, [], ◌∷◌, ◌++◌, Option, Some, None, refl, sym, ap, ◌∙◌, subst}
-use Rattle.std.proofs.lemmas.Bool.{true≢false, eq-eqb}
+use Rattle.std.proofs.Common.{◌≡◌, ℕ, cond, List, [], ◌∷◌, ◌++◌, Option, Some, None, refl, sym, ap, ◌∙◌, subst}
+use Rattle.std.proofs.lemmas.Bool.{eq-eqb}
 use Rattle.rbd_flat.specs.declared.effect.Effect.{Effect}
 use Rattle.rbd_kinds.specs.declared.answer.Answer.{Answer}
 use Rattle.rbd_kinds.specs.declared.id.Instance.{Instance}
@@ -8,7 +8,7 @@ use Rattle.rbd_kinds.specs.declared.id.SiteId.{SiteId}
 use Rattle.rbd_kinds.specs.declared.machine.Fed.TheVariants as fed
 use Rattle.rbd_kinds.specs.declared.operation.Op.{Op}
 use Rattle.rbd_kinds.specs.declared.reply.Reply.{Reply}
-use Rattle.rbd_known.specs.Calm.{IsCalmRequest, OwnsNothing, is_change}
+use Rattle.rbd_known.specs.Calm.{IsCalmRequest}
 use Rattle.rbd_known.specs.Knowing.{known_behind, unless_ended}
 use Rattle.rbd_known.proofs.Unowned.{calm_fed, calm_stays}
 use Rattle.rbd_machine.specs.Answers.{CanBeFed, CanGive}
@@ -28,7 +28,7 @@ use Rattle.rbd_session.specs.Lines.{LinesView}
 use Rattle.rbd_session.specs.Session.{ComesToIn, script_line}
 use Rattle.rbd_session.specs.Track.{Track}
 use Rattle.rbd_session.proofs.Sound.{no_some, some_same}
-use Rattle.rbd_world.specs.Run.{Happening, Did, Operation, asked_by, replies_to, step_of, steps_of}
+use Rattle.rbd_world.specs.Run.{Happening, Did, Operation, asked_by, steps_of}
 use Rattle.rbd_world.specs.Sound.{IsDue, IsHeldRightly, IsReplyMeant, IsUnderWay, has_reply}
 use Rattle.rbd_world.specs.Step.{reply_at}
 use Rattle.rbd_world.proofs.Walks.{IsLed, given_more, led_on}

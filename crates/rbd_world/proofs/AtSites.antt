@@ -1,5 +1,5 @@
 -- What an operation that is permitted does to both sites: they stand, and what is known stays true.
-use Rattle.std.proofs.Common.{◌≡◌, ◌≢◌, ◌⊎◌, inl, inr, ℕ, ◌+◌, cond, Bool, true, false, List, [], ◌∷◌, length, is_some, Option, Some, None, refl, sym, ap, ◌∙◌, subst}
+use Rattle.std.proofs.Common.{◌≡◌, ◌≢◌, ℕ, cond, Bool, true, false, [], ◌∷◌, length, Option, Some, None, refl, sym, ap, ◌∙◌, subst}
 use Rattle.std.proofs.lemmas.Bool.{true≢false}
 use Rattle.rbd_flat.specs.Flat.{Flat}
 use Rattle.rbd_kinds.specs.declared.answer.Answer.{Answer}
@@ -11,7 +11,7 @@ use Rattle.rbd_kinds.specs.declared.reply.Reply.{Reply}
 use Rattle.rbd_known.specs.Knowing.{known_at_operation, unless_ended}
 use Rattle.rbd_known.proofs.Little.{still_true, still_beside}
 use Rattle.rbd_machine.specs.Answers.{CanGive}
-use Rattle.rbd_machine.specs.Knowledge.{Knowledge, is_drawn, learned, nothing_known, own_of, same_site}
+use Rattle.rbd_machine.specs.Knowledge.{Knowledge, is_drawn, learned, nothing_known, same_site}
 use Rattle.rbd_machine.specs.Permits.{Permits}
 use Rattle.rbd_machine.specs.Plan.{Plan, Standing}
 use Rattle.rbd_rely.specs.Beside.{AreBeside, MayLook}
@@ -24,7 +24,6 @@ use Rattle.rbd_rely.proofs.Together.{learned_beside}
 use Rattle.rbd_site.specs.Records.{Records}
 use Rattle.rbd_site.specs.Step.{after, answer_to}
 use Rattle.rbd_stands.specs.Site.{StandsFor}
-use Rattle.rbd_world.specs.declared.sites.Sites.{Sites}
 use Rattle.rbd_world.specs.Run.{Happening, Did, flat_after, records_after}
 use Rattle.rbd_world.specs.Sound.{AreStanding, IsSoundWorld}
 use Rattle.rbd_world.specs.Step.{DoesAtSites, operation_at}

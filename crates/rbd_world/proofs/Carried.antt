@@ -1,7 +1,5 @@
 -- What has to be shown of a happening: calls, history, logs and records go with any.
-use Rattle.std.proofs.Common.{◌≡◌, ◌≢◌, ◌⊎◌, ℕ, ◌==◌, ◌||◌, nat_lt, cond, Bool, true, false, List, [], ◌∷◌, ◌++◌, length, ◌+◌, is_some, Option, Some, None, refl, sym, ap, ◌∙◌, subst}
-use Rattle.std.specs.List.{list_any}
-use Rattle.rbd_flat.specs.declared.entry.Entry.{Entry}
+use Rattle.std.proofs.Common.{◌≡◌, ◌≢◌, ◌⊎◌, ℕ, ◌||◌, nat_lt, cond, Bool, true, false, ◌∷◌, ◌++◌, length, ◌+◌, is_some, Option, Some, None, refl, ap, ◌∙◌}
 use Rattle.rbd_kinds.specs.declared.command.Command.{Command}
 use Rattle.rbd_kinds.specs.declared.id.Instance.{Instance}
 use Rattle.rbd_kinds.specs.declared.id.SiteId.{SiteId}
@@ -19,9 +17,9 @@ use Rattle.rbd_site.specs.Log.{SiteLog}
 use Rattle.rbd_world.specs.declared.event.Event.{Event}
 use Rattle.rbd_world.specs.declared.event.Event.TheVariants as event
 use Rattle.rbd_world.specs.declared.sites.Sites.{Sites}
-use Rattle.rbd_world.specs.Run.{Asked, Happening, Nothing, Waited, Began, Did, Refused, Trimmed, IsOfEvent, entries_of, lines_at, records_behind}
-use Rattle.rbd_world.specs.Sound.{AreApart, AreStanding, IsDue, IsRight, IsSoundClient, IsSoundWorld}
-use Rattle.rbd_world.specs.Step.{Does, DoesAtSites, call_of, done_by, happening, is_begun, polled, polled_in, submitted, trimmed_at}
+use Rattle.rbd_world.specs.Run.{Happening, Nothing, Waited, Began, Trimmed, IsOfEvent, entries_of, lines_at, records_behind}
+use Rattle.rbd_world.specs.Sound.{AreApart, AreStanding, IsDue, IsSoundClient, IsSoundWorld}
+use Rattle.rbd_world.specs.Step.{Does, DoesAtSites, call_of, done_by, happening, is_begun, polled, polled_in, submitted}
 use Rattle.rbd_world.specs.World.{WorldView, records_in, session_in, site_in}
 
 -- ---- it is the event's

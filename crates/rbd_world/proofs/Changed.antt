@@ -1,5 +1,5 @@
 -- Where one slot of one session changes: the other slots, and the other sessions, stay.
-use Rattle.std.proofs.Common.{◌≡◌, ◌≢◌, ◌⊎◌, inl, inr, ℕ, ◌==◌, Bool, true, false, List, [], ◌∷◌, Option, Some, None, refl, sym, ap, ◌∙◌, subst}
+use Rattle.std.proofs.Common.{◌≡◌, ◌≢◌, ◌⊎◌, inl, inr, ℕ, ◌==◌, Bool, true, false, List, ◌∷◌, Option, Some, None, refl, sym, ap, ◌∙◌, subst}
 use Rattle.std.proofs.lemmas.Bool.{true≢false, eq-eqb, eqb-true}
 use Rattle.rbd_kinds.specs.declared.id.SiteId.{SiteId}
 use Rattle.rbd_known.specs.Knowing.{AllKnow, KnowsIn}
@@ -92,7 +92,7 @@ module _ {R : Type 0} (stands : R → Standing) where
     abbrev pub IsQuietElsewhere : Type 0
     IsQuietElsewhere = (m x line : ℕ) → IsElsewhere session slot m x → line_at m x old.sessions ≡ Some line → IsQuiet line h
 
-    pub line_in_old : (x : ℕ) → line_at session x old.sessions ≡ script_line (held_in x c.slots)
+    line_in_old : (x : ℕ) → line_at session x old.sessions ≡ script_line (held_in x c.slots)
     line_in_old x = ap (λ o. script_line (held_of x o)) there
 
     pub line_in_new : (x : ℕ) → line_at session x new.sessions ≡ script_line (held_in x d.slots)

@@ -1,17 +1,15 @@
 -- A session begins a command whose line is new: its request stands where the command's plan begins.
-use Rattle.std.proofs.Common.{◌≡◌, ◌≢◌, ◌⊎◌, inl, inr, ℕ, ◌==◌, cond, Bool, true, false, is_some, List, [], ◌∷◌, ◌++◌, Option, Some, None, refl, sym, ap, ◌∙◌, subst}
+use Rattle.std.proofs.Common.{◌≡◌, ◌≢◌, ◌⊎◌, inl, inr, ℕ, cond, true, false, is_some, [], ◌∷◌, ◌++◌, Option, Some, None, refl, sym, ap, ◌∙◌, subst}
 use Rattle.std.proofs.lemmas.Bool.{true≢false, eq-eqb}
 use Rattle.rbd_kinds.specs.declared.command.Command.{Command}
 use Rattle.rbd_kinds.specs.declared.id.SiteId.{SiteId}
-use Rattle.rbd_kinds.specs.declared.refusal.Refusal.{Refusal}
 use Rattle.rbd_known.specs.Calm.{OwnsNothing}
-use Rattle.rbd_known.specs.Knowing.{AllKnow, KnowsIn}
+use Rattle.rbd_known.specs.Knowing.{KnowsIn}
 use Rattle.rbd_known.proofs.Calmly.{look_is_calm}
 use Rattle.rbd_known.proofs.Newcomers.{newcomer_knows}
-use Rattle.rbd_machine.specs.Knowledge.{Knowledge, nothing_known}
+use Rattle.rbd_machine.specs.Knowledge.{nothing_known}
 use Rattle.rbd_machine.specs.Plan.{Standing}
 use Rattle.rbd_machine.specs.Refused.{AreGiven}
-use Rattle.rbd_machine.specs.Steps.{refused}
 use Rattle.rbd_rely.specs.Truth.{IsTrueAt, IsParentless}
 use Rattle.rbd_requests.specs.CommandsLawful.{command_is_lawful}
 use Rattle.rbd_requests.specs.Served.{IsPlanFor, is_built}
@@ -19,17 +17,16 @@ use Rattle.rbd_requests.specs.Touched.{extent_of}
 use Rattle.rbd_requests.proofs.OnePlan.{has_one_plan}
 use Rattle.rbd_session.specs.declared.running.Occupant.{Occupant}
 use Rattle.rbd_session.specs.declared.running.Occupant.TheVariants as occupant
-use Rattle.rbd_session.specs.declared.running.Running.{Running}
 use Rattle.rbd_session.specs.Lines.{LinesView}
-use Rattle.rbd_session.specs.Session.{SessionView, BeginsAt, IsNewcomer, held_in, running_in, script_line}
+use Rattle.rbd_session.specs.Session.{SessionView, IsNewcomer, held_in, running_in, script_line}
 use Rattle.rbd_session.proofs.Sound.{no_some, some_same}
 use Rattle.rbd_world.specs.declared.event.Event.TheVariants as event
-use Rattle.rbd_world.specs.Run.{Asked, Happening, Began, asked_by, history_of, steps_of}
-use Rattle.rbd_world.specs.Sound.{AreApart, IsHeldRightly, IsOpen, IsRefusedAtOnce, IsSoundClient, IsSoundWorld, IsUnderWay, has_reply, line_at}
+use Rattle.rbd_world.specs.Run.{Asked, Happening, Began, asked_by, steps_of}
+use Rattle.rbd_world.specs.Sound.{AreApart, IsHeldRightly, IsSoundWorld, has_reply, line_at}
 use Rattle.rbd_world.specs.Step.{Begins, Does, DoesAtSites, IsSoundIf, is_begun}
-use Rattle.rbd_world.specs.World.{WorldView, records_in, session_in}
+use Rattle.rbd_world.specs.World.{WorldView, session_in}
 use Rattle.rbd_world.proofs.Carried.{Carries}
-use Rattle.rbd_world.proofs.Changed.{HasBecome, IsElsewhere, all_but, client_of, clients_of, has_become, here_or_elsewhere, line_elsewhere, line_in_new, nobody_of, open_there}
+use Rattle.rbd_world.proofs.Changed.{IsElsewhere, all_but, client_of, clients_of, has_become, here_or_elsewhere, line_elsewhere, line_in_new, nobody_of, open_there}
 use Rattle.rbd_world.proofs.Quiet.{lines_differ, quiet_began}
 use Rattle.rbd_world.proofs.Rest.{where_standing}
 use Rattle.rbd_world.proofs.Runs.{IsUnheard, begun_is_asked, unheard}

@@ -1,12 +1,12 @@
 -- A poll that has one operation done keeps a world sound.
-use Rattle.std.proofs.Common.{◌≡◌, ◌≢◌, ◌⊎◌, inl, inr, ℕ, ◌==◌, cond, Bool, true, false, List, [], ◌∷◌, Option, Some, None, refl, sym, ap, ◌∙◌, subst}
-use Rattle.std.proofs.lemmas.Bool.{true≢false, eq-eqb}
+use Rattle.std.proofs.Common.{◌≡◌, ◌≢◌, ◌⊎◌, inl, inr, ℕ, ◌==◌, cond, false, ◌∷◌, Option, Some, refl, sym, ap, ◌∙◌, subst}
+use Rattle.std.proofs.lemmas.Bool.{eq-eqb}
 use Rattle.rbd_kinds.specs.declared.answer.Answer.{Answer}
 use Rattle.rbd_kinds.specs.declared.id.SiteId.{SiteId}
 use Rattle.rbd_kinds.specs.declared.machine.Fed.TheVariants as fed
 use Rattle.rbd_kinds.specs.declared.operation.Op.{Op}
 use Rattle.rbd_kinds.specs.declared.reply.Reply.{Reply}
-use Rattle.rbd_known.specs.Knowing.{AllKnow, KnowsBy, known_behind, knows_after, unless_ended}
+use Rattle.rbd_known.specs.Knowing.{AllKnow, known_behind, knows_after, unless_ended}
 use Rattle.rbd_known.proofs.Behind.{fed_know, knows_there}
 use Rattle.rbd_machine.specs.Answers.{CanBeFed, CanGive}
 use Rattle.rbd_machine.specs.Knowledge.{Knowledge}
@@ -23,7 +23,6 @@ use Rattle.rbd_session.specs.Advance.{track_of}
 use Rattle.rbd_session.specs.Session.{SessionView, ComesToIn, OfRunning, held_in, running_at, running_in, script_line}
 use Rattle.rbd_session.specs.Waits.{waits}
 use Rattle.rbd_site.specs.declared.done.DoneOp.TheVariants as done
-use Rattle.rbd_site.specs.Log.{SiteLog}
 use Rattle.rbd_site.specs.Step.{answer_to}
 use Rattle.rbd_stands.specs.Effect.{effect_of}
 use Rattle.rbd_world.specs.declared.event.Event.TheVariants as event

@@ -1,5 +1,5 @@
 -- No image gets a parent by an operation that is permitted.
-use Rattle.std.proofs.Common.{◌≡◌, ℕ, ◌==◌, cond, Bool, true, false, is_some, Option, Some, None, refl, sym, ap, ◌∙◌, subst}
+use Rattle.std.proofs.Common.{◌≡◌, ℕ, ◌==◌, cond, Bool, true, false, is_some, Option, Some, None, refl, subst}
 use Rattle.rbd_header.specs.Header.{is_full, snap_in, with_snap, without_snap}
 use Rattle.rbd_kinds.specs.declared.header.HeaderView.{HeaderView}
 use Rattle.rbd_kinds.specs.declared.header_op.HeaderOp.{HeaderOp}
@@ -12,7 +12,7 @@ use Rattle.rbd_kinds.specs.Header.{snap_named}
 use Rattle.rbd_machine.specs.Knowledge.{Knowledge}
 use Rattle.rbd_machine.specs.Permits.{Permits, PermitsOnHeader}
 use Rattle.rbd_rely.specs.Truth.{IsParentless}
-use Rattle.rbd_session.proofs.Sound.{no_some, some_same}
+use Rattle.rbd_session.proofs.Sound.{some_same}
 use Rattle.rbd_site.specs.HeaderStep.{header_after, where_made}
 use Rattle.rbd_site.specs.Records.{Records}
 use Rattle.rbd_site.specs.Step.{after}

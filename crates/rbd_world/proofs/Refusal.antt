@@ -1,22 +1,21 @@
--- A poll of a request that is refused before any operation: its reply is meant, and its slot is free.
-use Rattle.std.proofs.Common.{◌≡◌, ◌≢◌, ℕ, List, [], ◌∷◌, ◌++◌, Option, Some, None, refl, sym, ap, ◌∙◌, subst}
-use Rattle.rbd_kinds.specs.declared.id.SiteId.{SiteId}
+-- A poll of a request that is refused before any operation: its reply is meant, and its slot free.
+use Rattle.std.proofs.Common.{◌≡◌, ℕ, [], ◌∷◌, ◌++◌, Some, refl, sym, ap, ◌∙◌, subst}
 use Rattle.rbd_kinds.specs.declared.refusal.Refusal.{Refusal}
 use Rattle.rbd_kinds.specs.declared.reply.Reply.TheVariants as reply
-use Rattle.rbd_known.specs.Knowing.{AllKnow, KnowsIn}
-use Rattle.rbd_machine.specs.Knowledge.{Knowledge, nothing_known}
+use Rattle.rbd_known.specs.Knowing.{KnowsIn}
+use Rattle.rbd_machine.specs.Knowledge.{nothing_known}
 use Rattle.rbd_machine.specs.Plan.{Standing}
 use Rattle.rbd_meaning.specs.Meant.{IsMeantBy}
 use Rattle.rbd_rely.specs.Truth.{IsTrueAt, IsParentless}
 use Rattle.rbd_requests.specs.CommandsMeant.{command_is_meant}
 use Rattle.rbd_session.specs.declared.running.Occupant.TheVariants as occupant
-use Rattle.rbd_session.specs.Session.{SessionView, IsSoundSession, held_in, running_in, script_line}
+use Rattle.rbd_session.specs.Session.{SessionView, held_in, running_in, script_line}
 use Rattle.rbd_session.proofs.Sound.{no_some}
 use Rattle.rbd_world.specs.declared.event.Event.TheVariants as event
 use Rattle.rbd_world.specs.Run.{Happening, Refused, steps_of}
-use Rattle.rbd_world.specs.Sound.{IsHeldRightly, IsRefusedAtOnce, IsReplyMeant, IsSoundClient, IsSoundWorld, line_at}
+use Rattle.rbd_world.specs.Sound.{IsHeldRightly, IsRefusedAtOnce, IsReplyMeant, IsSoundWorld, line_at}
 use Rattle.rbd_world.specs.Step.{Does, DoesAtSites, IsSoundIf, Serves}
-use Rattle.rbd_world.specs.World.{WorldView, records_in, session_in}
+use Rattle.rbd_world.specs.World.{WorldView, session_in}
 use Rattle.rbd_world.proofs.Carried.{Carries}
 use Rattle.rbd_world.proofs.Changed.{HasBecome, IsElsewhere, all_but, apart_of, client_of, clients_of, has_become, line_apart, nobody_of}
 use Rattle.rbd_world.proofs.Quiet.{quiet_refused}

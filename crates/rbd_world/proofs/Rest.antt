@@ -1,19 +1,17 @@
 -- Where no session changes: nothing happened, a request waits, or the store trimmed an object.
 use Rattle.std.proofs.Common.{◌≡◌, ℕ, Bool, true, false, cond, List, [], ◌∷◌, Option, Some, None, refl, sym, ap, ◌∙◌, subst}
-use Rattle.rbd_flat.specs.Flat.{Flat}
 use Rattle.rbd_kinds.specs.declared.id.SiteId.{SiteId}
 use Rattle.rbd_machine.specs.Knowledge.{same_site}
 use Rattle.rbd_machine.specs.Plan.{Standing}
 use Rattle.rbd_rely.specs.Truth.{IsTrueAt, IsParentless}
 use Rattle.rbd_rely.proofs.Kept.{trims_keep}
-use Rattle.rbd_session.specs.Session.{SessionView, held_in, script_line}
+use Rattle.rbd_session.specs.Session.{SessionView, script_line}
 use Rattle.rbd_site.specs.Log.{trimmed}
-use Rattle.rbd_site.specs.Records.{Records}
 use Rattle.rbd_stands.specs.Site.{StandsFor}
 use Rattle.rbd_stands.proofs.StoreSteps.{trim_stands}
 use Rattle.rbd_world.specs.declared.event.Event.{Event}
-use Rattle.rbd_world.specs.Run.{Happening, Nothing, Waited, Trimmed, records_after, records_behind, flat_after}
-use Rattle.rbd_world.specs.Sound.{AreStanding, IsDue, IsRight, IsSoundClient, IsSoundWorld, held_of, line_at}
+use Rattle.rbd_world.specs.Run.{Happening, Nothing, Waited, Trimmed, records_after, flat_after}
+use Rattle.rbd_world.specs.Sound.{AreStanding, IsDue, IsRight, IsSoundWorld, held_of, line_at}
 use Rattle.rbd_world.specs.Step.{Becomes, BecomesOf, Does, DoesAtSites, names_session}
 use Rattle.rbd_world.specs.World.{WorldView, records_in, session_in}
 use Rattle.rbd_world.proofs.Carried.{Carries}

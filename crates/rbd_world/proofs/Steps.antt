@@ -1,9 +1,8 @@
 -- Whatever event comes, a sound world stays sound: by what the event does.
-use Rattle.std.proofs.Common.{◌≡◌, ℕ, ◌||◌, nat_lt, cond, Bool, true, false, is_some, Option, Some, None, refl, ap}
+use Rattle.std.proofs.Common.{◌≡◌, ℕ, ◌||◌, nat_lt, cond, Bool, true, false, is_some, Option, Some, None, refl}
 use Rattle.std.proofs.lemmas.Bool.{or_parts}
 use Rattle.rbd_kinds.specs.declared.command.Command.{Command}
 use Rattle.rbd_kinds.specs.declared.id.SiteId.{SiteId}
-use Rattle.rbd_kinds.specs.declared.reply.Reply.TheVariants as reply
 use Rattle.rbd_machine.specs.Knowledge.{Knowledge}
 use Rattle.rbd_machine.specs.Plan.{Plan, Ask, Await, Note, Return, Goto, Standing}
 use Rattle.rbd_requests.specs.Served.{is_built}
@@ -15,7 +14,7 @@ use Rattle.rbd_session.specs.Session.{SessionView, held_in}
 use Rattle.rbd_session.specs.Waits.{waits}
 use Rattle.rbd_world.specs.declared.event.Event.{Event}
 use Rattle.rbd_world.specs.declared.event.Event.TheVariants as event
-use Rattle.rbd_world.specs.Run.{Asked, Happening, Nothing, Waited, Began, Refused, Trimmed}
+use Rattle.rbd_world.specs.Run.{Asked, Happening, Nothing, Waited, Began, Trimmed}
 use Rattle.rbd_world.specs.Sound.{IsSoundWorld}
 use Rattle.rbd_world.specs.Step.{AreOfOneClient, Does, DoesAtSites, IsBuiltEvent, IsSoundIf, done_by, happening, is_begun, next_number, polled, polled_in, submitted, trimmed_at}
 use Rattle.rbd_world.specs.World.{WorldView, records_in, session_in, site_in}
