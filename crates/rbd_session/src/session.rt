@@ -155,6 +155,7 @@ impl<R: Request> Session<R> {
     pub fn ready(&mut self, alloc: Global, slot: Slot, fed: &Fed) -> Result<(), NoMemory>
         requires { OfRunning (IsAnswered R.stands slot self.old.lines fed.now) (held_in slot self.old.slots) }
         ensures alike { IsAlike R.stands self.old self.new }
+        ensures others { (other : ℕ) → other ≢ slot → held_in other self.new.slots ≡ held_in other self.old.slots }
         ensures ready { OnOk result (IsReadied R.stands R.is_ready slot fed.now self.new) }
         ensures sound { IsSoundSession R.stands self.new }
     {

@@ -1,5 +1,7 @@
 pub mod Answered
 pub mod AtSites
+pub mod Beginning
+pub mod BothSites
 pub mod Carried
 pub mod Changed
 pub mod Clients
@@ -11,4 +13,6 @@ pub mod Refusal
 pub mod Rest
 pub mod Runs
 pub mod Steps
+pub mod Undone
 pub mod Walks
+pub mod Wanted

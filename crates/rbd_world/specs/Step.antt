@@ -99,9 +99,11 @@ submitted begun asked (Some s) = if begun || nat_lt 64 s.lowest then Nothing els
 
 -- ---- the store
 
+abbrev pub trimmed_of : SiteLog → SiteId → (image object : ℕ) → Happening
+trimmed_of at_site s image object = if is_some ((records_of at_site).objects image object) then Trimmed s (next_number at_site) image object else Nothing
+
 abbrev pub trimmed_at : Sites → SiteId → (image object : ℕ) → Happening
-trimmed_at sites s image object =
-    if is_some ((records_in s sites).objects image object) then Trimmed s (next_number (site_in s sites)) image object else Nothing
+trimmed_at sites s image object = trimmed_of (site_in s sites) s image object
 
 -- ---- any event
 
@@ -200,7 +202,13 @@ module _ {R : Type 0} (stands : R → Standing) where
 
 -- ---- on its parts
 
--- what it does to the sites, and what holds of them again
+-- what it does to one site, and what holds of it again
+pub record DoesAt (s : SiteId) (h : Happening) (old new : SiteLog) : Type 0 where
+  pub site : new ≡ with_lines (lines_at s h) old
+  pub records : records_of new ≡ records_behind s (records_of old) h
+  pub form : AreInForm (records_of old) (length old.log) → AreInForm (records_of new) (length new.log)
+
+-- so to both sites
 pub record DoesAtSites (h : Happening) (old new : Sites) : Type 0 where
   pub sites : (s : SiteId) → site_in s new ≡ with_lines (lines_at s h) (site_in s old)
   pub records : (s : SiteId) → records_in s new ≡ records_behind s (records_in s old) h

@@ -11,7 +11,10 @@ pub enum Event {
         command: Command,
     },
     /// The request in a slot of a session does the operation that it wants.
-    Poll { session: SessionNo, slot: Slot },
+    Poll {
+        session: SessionNo,
+        slot: Slot,
+    },
     /// The store trims an object of an image.
     Trim {
         site: SiteId,

@@ -1,5 +1,5 @@
 //! What is noted of an event.
-ghost use Rattle.std.specs.Prelude.{◌≡◌, ◌+◌, ◌≤◌, ◌∷◌, ◌++◌, [], is_some, OnOk};
+ghost use Rattle.std.specs.Prelude.{◌≡◌, ◌+◌, ◌≤◌, ◌∷◌, ◌++◌, [], OnOk};
 ghost use Rattle.std.specs.Vec.{vec_len, vec_capacity};
 ghost use Rattle.rbd_world.specs.Run.{entry_by, reply_entries};
 ghost use Rattle.rbd_world.specs.Noted.{entries_noted, has_begun, outcome_noted};
@@ -43,6 +43,35 @@ impl Happened {
             _ => false,
         }
     }
+
+    /// What came of the event.
+    fn outcome(&self) -> Outcome
+        ensures { result ≡ outcome_noted self.now }
+    {
+        match self {
+            Happened::Nothing => Outcome::Nothing,
+            Happened::Waited => Outcome::Waits,
+            Happened::Began { slot, .. } => Outcome::Submitted(*slot),
+            Happened::Did {
+                site,
+                number,
+                reply,
+                ..
+            } => Outcome::Step {
+                site: *site,
+                number: *number,
+                waiting: false,
+                replied: reply.is_some(),
+            },
+            Happened::Refused { home, .. } => Outcome::Step {
+                site: *home,
+                number: 0,
+                waiting: false,
+                replied: true,
+            },
+            Happened::Trimmed => Outcome::Stored,
+        }
+    }
 }
 
 /// Makes room for all that one event adds.
@@ -57,34 +86,35 @@ pub fn reserve(history: &mut Vec<Entry>, calls: &mut Vec<Call>) -> Result<(), No
 }
 
 /// Notes what an event did, where there is room. It takes no memory.
-pub fn note(history: &mut Vec<Entry>, calls: &mut Vec<Call>, event: Event, happened: Happened) -> Outcome
+pub fn note(
+    history: &mut Vec<Entry>,
+    calls: &mut Vec<Call>,
+    event: Event,
+    happened: Happened,
+) -> Outcome
     requires history { vec_len history.old + 2 ≤ vec_capacity history.old }
     requires calls { vec_len calls.old + 1 ≤ vec_capacity calls.old }
     ensures history { history.new.items ≡ history.old.items ++ entries_noted happened }
     ensures calls { calls.new.items ≡ calls.old.items ++ record { event = event; outcome = outcome_noted happened } ∷ [] }
     ensures outcome { result ≡ outcome_noted happened }
 {
-    let outcome = note_in(history, happened);
-    calls.push_reserved(Call { event, outcome });
+    let outcome = happened.outcome();
+    calls.push_reserved(Call {
+        event,
+        outcome: happened.outcome(),
+    });
+    push_entries(history, happened);
     outcome
 }
 
-/// Notes it in the history, and tells what came of it.
-fn note_in(history: &mut Vec<Entry>, happened: Happened) -> Outcome
+/// Notes it in the history.
+fn push_entries(history: &mut Vec<Entry>, happened: Happened)
     requires { vec_len history.old + 2 ≤ vec_capacity history.old }
-    ensures history { history.new.items ≡ history.old.items ++ entries_noted happened }
-    ensures outcome { result ≡ outcome_noted happened }
+    ensures { history.new.items ≡ history.old.items ++ entries_noted happened }
 {
     match happened {
-        Happened::Nothing => Outcome::Nothing,
-        Happened::Waited => Outcome::Waits,
-        Happened::Began {
-            line,
-            instance,
-            slot,
-        } => {
+        Happened::Began { line, instance, .. } => {
             history.push_reserved(Entry::Start { line, instance });
-            Outcome::Submitted(slot)
         }
         Happened::Did {
             line,
@@ -94,24 +124,12 @@ fn note_in(history: &mut Vec<Entry>, happened: Happened) -> Outcome
             reply,
         } => {
             history.push_reserved(entry(line, site, number, effect));
-            let replied = note_reply(history, line, reply);
-            Outcome::Step {
-                site,
-                number,
-                waiting: false,
-                replied,
-            }
+            push_reply(history, line, reply);
         }
-        Happened::Refused { home, line, reply } => {
+        Happened::Refused { line, reply, .. } => {
             history.push_reserved(Entry::Reply { line, reply });
-            Outcome::Step {
-                site: home,
-                number: 0,
-                waiting: false,
-                replied: true,
-            }
         }
-        Happened::Trimmed => Outcome::Stored,
+        _ => {}
     }
 }
 
@@ -135,17 +153,12 @@ fn entry(line: u32, site: SiteId, number: u64, effect: Option<Effect>) -> Entry
     }
 }
 
-/// Notes a reply, where there is one, and tells whether there is.
-fn note_reply(history: &mut Vec<Entry>, line: u32, reply: Option<Reply>) -> bool
+/// Notes a reply, where there is one.
+fn push_reply(history: &mut Vec<Entry>, line: u32, reply: Option<Reply>)
     requires { vec_len history.old + 1 ≤ vec_capacity history.old }
-    ensures history { history.new.items ≡ history.old.items ++ reply_entries line reply }
-    ensures replied { result ≡ is_some reply }
+    ensures { history.new.items ≡ history.old.items ++ reply_entries line reply }
 {
-    match reply {
-        Some(reply) => {
-            history.push_reserved(Entry::Reply { line, reply });
-            true
-        }
-        None => false,
+    if let Some(reply) = reply {
+        history.push_reserved(Entry::Reply { line, reply });
     }
 }

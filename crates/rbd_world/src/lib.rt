@@ -15,4 +15,3 @@ mod world;
 
 pub use event::{Call, Event, Outcome};
 pub use world::World;
-

@@ -6,20 +6,23 @@
 //!   what the site     │        └ one operation, or nothing at all
 //!   would answer      └ all memory that the answer needs
 //! ```
-ghost use Rattle.std.specs.Prelude.{◌≡◌, Some, IfOk, OnErr};
+ghost use Rattle.std.specs.Prelude.{◌≡◌, Some, IfOk, IfSome, OnErr};
+ghost use Rattle.rbd_kinds.specs.Form.{IsHeaderInForm};
 ghost use Rattle.rbd_machine.specs.Answers.{CanGive};
 ghost use Rattle.rbd_session.specs.Session.{IsAlike, IsSoundSession, op_at};
 ghost use Rattle.rbd_site.specs.Log.{records_of};
 ghost use Rattle.rbd_site.specs.Step.{MayDo, answer_to};
 ghost use Rattle.rbd_site.specs.declared.done.DoneOp.TheVariants as of_done;
 ghost use Rattle.rbd_stands.specs.Effect.{effect_of as effect_there};
-ghost use Rattle.rbd_world.specs.Operate.{IsOperated, image_of_op};
+ghost use Rattle.rbd_world.specs.Operate.{IsOperated, header_in, image_of_op, nobody};
 
 use crate::happened::Happened;
 use rbd_course::Request;
 use rbd_effect::effect_of;
 use rbd_flat::Effect;
-use rbd_kinds::{Answer, Fed, HeaderOp, ImageId, Instance, NoMemory, Op, SessionNo, SiteId, Slot};
+use rbd_kinds::{
+    Answer, Fed, HeaderOp, HeaderView, ImageId, Instance, NoMemory, Op, SessionNo, SiteId, Slot,
+};
 use rbd_session::Session;
 use rbd_site::Site;
 use std::alloc::Global;
@@ -43,13 +46,12 @@ pub fn operate<R: Request>(
     ensures alike { OnErr result (IsAlike R.stands client.old client.new) }
     ensures sound { IsSoundSession R.stands client.new }
 {
-    let instance = client.instance();
-    let answer = at.answer(instance, &op)?;
+    let answer = at.answer(client.instance(), &op)?;
     let effect = effect_now(alloc, at, &op, &answer)?;
     let number = at.log().len() as u64 + 1;
     let fed = Fed::Answer(answer);
     client.ready(alloc, slot, &fed)?;
-    at.apply(instance, op)?;
+    at.apply(client.instance(), op)?;
     let reply = client.feed(slot, &fed);
     Ok(Happened::Did {
         line,
@@ -70,7 +72,10 @@ fn effect_now(
     ensures { IfOk result (λ effect. effect ≡ effect_there (records_of at.now) (of_done.Op op.now) answer.now) }
 {
     match image_of(op) {
-        Some(image) => effect_of_image(alloc, at, image, op, answer),
+        Some(image) => {
+            let header = header_at(at, image)?;
+            effect_of(alloc, op, answer, header.as_ref())
+        }
         None => effect_of(alloc, op, answer, None),
     }
 }
@@ -86,25 +91,34 @@ fn image_of(op: &Op) -> Option<ImageId>
     }
 }
 
-/// The effect of an operation on a header or on a data object of an image.
-fn effect_of_image(
-    alloc: Global,
-    at: &Site,
-    image: ImageId,
-    op: &Op,
-    answer: &Answer,
-) -> Result<Option<Effect>, NoMemory>
-    requires { image_of_op op.now ≡ Some image }
-    ensures { IfOk result (λ effect. effect ≡ effect_there (records_of at.now) (of_done.Op op.now) answer.now) }
+/// The header of an image, where it is there.
+fn header_at(at: &Site, image: ImageId) -> Result<Option<HeaderView>, NoMemory>
+    ensures header { IfOk result (λ header. header ≡ (records_of at.now).headers image) }
+    ensures form { IfOk result (λ header. IfSome header IsHeaderInForm) }
 {
-    let look = Op::Header {
-        image,
-        op: HeaderOp::Get,
-    };
-    let told = at.answer(NOBODY, &look)?;
-    match &told {
-        Answer::Header(header) => effect_of(alloc, op, answer, Some(header)),
-        _ => effect_of(alloc, op, answer, None),
+    // (the log tells that each header is in form)
+    let _form = at.log();
+    let op = HeaderOp::Get;
+    let answer = look(at, Op::Header { image, op })?;
+    Ok(told_header(answer))
+}
+
+/// What anybody would be answered. It takes the operation by value, so that no caller has to let it
+/// go.
+fn look(at: &Site, op: Op) -> Result<Answer, NoMemory>
+    requires { MayDo (records_of at.now) op }
+    ensures { IfOk result (λ answer. answer ≡ answer_to (records_of at.now) nobody op) }
+{
+    at.answer(NOBODY, &op)
+}
+
+/// The header that an answer tells.
+fn told_header(answer: Answer) -> Option<HeaderView>
+    ensures { result ≡ header_in answer }
+{
+    match answer {
+        Answer::Header(header) => Some(header),
+        _ => None,
     }
 }
 

@@ -1,6 +1,6 @@
 //! The store's own step.
 ghost use Rattle.std.specs.Prelude.{◌≡◌, IfOk, OnOk, OnErr};
-ghost use Rattle.rbd_world.specs.Step.{AreSameSites, DoesAtSites, noted_of, trimmed_at};
+ghost use Rattle.rbd_world.specs.Step.{AreSameSites, DoesAt, DoesAtSites, noted_of, trimmed_at, trimmed_of};
 
 use crate::happened::Happened;
 use crate::sites::Sites;
@@ -19,13 +19,25 @@ pub fn trim(
     ensures sites { OnOk result (DoesAtSites (trimmed_at sites.old site image object) sites.old sites.new) }
     ensures err { OnErr result (AreSameSites sites.old sites.new) }
 {
-    let is_trimmed = match site {
-        SiteId::A => sites.a.trim(image, object)?,
-        SiteId::B => sites.b.trim(image, object)?,
-    };
-    if is_trimmed {
-        Ok(Happened::Trimmed)
-    } else {
-        Ok(Happened::Nothing)
+    match site {
+        SiteId::A => trim_at(&mut sites.a, site, image, object),
+        SiteId::B => trim_at(&mut sites.b, site, image, object),
     }
+}
+
+/// The same at one site.
+fn trim_at(
+    at: &mut Site,
+    site: SiteId,
+    image: ImageId,
+    object: u64,
+) -> Result<Happened, NoMemory>
+    ensures noted { IfOk result (λ h. h ≡ noted_of (trimmed_of at.old site image object)) }
+    ensures done { OnOk result (DoesAt site (trimmed_of at.old site image object) at.old at.new) }
+    ensures err { OnErr result (at.new ≡ at.old) }
+{
+    if at.trim(image, object)? {
+        return Ok(Happened::Trimmed);
+    }
+    Ok(Happened::Nothing)
 }
