@@ -21,20 +21,17 @@ use Rattle.rbd_rely.proofs.Elsewhere.{true_elsewhere, beside_elsewhere}
 use Rattle.rbd_rely.proofs.Kept.{others_keep}
 use Rattle.rbd_rely.proofs.Learned.{own_learned}
 use Rattle.rbd_rely.proofs.Together.{learned_beside}
-use Rattle.rbd_site.specs.Records.{Records}
 use Rattle.rbd_site.specs.Step.{after, answer_to}
 use Rattle.rbd_stands.specs.Site.{StandsFor}
 use Rattle.rbd_world.specs.Run.{Happening, Did, flat_after, records_after}
 use Rattle.rbd_world.specs.Sound.{AreStanding, IsSoundWorld}
 use Rattle.rbd_world.specs.Step.{DoesAtSites, operation_at}
 use Rattle.rbd_world.specs.World.{WorldView, records_in, site_in}
+use Rattle.rbd_world.proofs.Beginning.{nothing_is_beside, nothing_is_true}
+use Rattle.rbd_world.proofs.BothSites.{same_site_itself}
 use Rattle.rbd_world.proofs.Changed.{IsElsewhere}
 use Rattle.rbd_world.proofs.Parentless.{parentless_on}
 use Rattle.rbd_world.proofs.Rest.{where_standing}
-
-same_itself : (s : SiteId) → same_site s s ≡ true
-same_itself site.A = refl
-same_itself site.B = refl
 
 -- a site is this one or the other
 at_either : (s : SiteId) (P : SiteId → Type 0) → P s → ((t : SiteId) → same_site s t ≡ false → P t) → (t : SiteId) → P t
@@ -48,15 +45,6 @@ at_either site.B P here other site.B = here
 unless_over : (P : Knowledge → Type 0) (result : Option Reply) (k : Knowledge) → P nothing_known → P k → P (unless_ended result k)
 unless_over P None k nothing goes = goes
 unless_over P (Some reply) k nothing goes = nothing
-
-nothing_false : (t : SiteId) (r : Records) → IsTrueAt t r nothing_known
-nothing_false t r = record { owned = λ image. tt; drawn = λ image is. absurd (true≢false (sym is)) }
-
-nothing_beside : (t : SiteId) (j : Knowledge) → AreBeside t nothing_known j
-nothing_beside t j = record {
-  shared = λ image mine others. absurd (true≢false (sym mine));
-  apart = λ image is. absurd (true≢false (sym is));
-}
 
 pub beside_mutual : (t : SiteId) (k j : Knowledge) → AreBeside t k j → AreBeside t j k
 beside_mutual t k j beside = record {
@@ -81,7 +69,7 @@ module _ {R : Type 0} (stands : R → Standing) (old new : WorldView R) (w : IsS
   know = w.knows session slot
 
   here_now : records_in s new.sites ≡ after (records_in s old.sites) who o
-  here_now = at_sites.records s ∙ ap (λ b. cond b (after (records_in s old.sites) who o) (records_in s old.sites)) (same_itself s)
+  here_now = at_sites.records s ∙ ap (λ b. cond b (after (records_in s old.sites) who o) (records_in s old.sites)) (same_site_itself s)
 
   elsewhere_now : (t : SiteId) → same_site s t ≡ false → records_in t new.sites ≡ records_in t old.sites
   elsewhere_now t differ = at_sites.records t ∙ ap (λ b. cond b (after (records_in t old.sites) who o) (records_in t old.sites)) differ
@@ -102,7 +90,7 @@ module _ {R : Type 0} (stands : R → Standing) (old new : WorldView R) (w : IsS
 
       here : StandsFor [] (records_after s (does_it ∷ w.run)) (flat_after s (does_it ∷ w.run))
       here =
-          subst (λ b. StandsFor [] (cond b (after (records_after s w.run) who o) (records_after s w.run)) (cond b effect_there (flat_after s w.run))) (sym (same_itself s))
+          subst (λ b. StandsFor [] (cond b (after (records_after s w.run) who o) (records_after s w.run)) (cond b effect_there (flat_after s w.run))) (sym (same_site_itself s))
           (subst (λ r. StandsFor [] (after r who o) effect_there) (w.records s)
           (has_its_effect s (records_in s old.sites) (flat_after s w.run) know who (length (site_in s old.sites).log) (stands_in s) (w.form s) (w.parentless s) (w.truth session slot s) o permits))
 
@@ -137,7 +125,7 @@ module _ {R : Type 0} (stands : R → Standing) (old new : WorldView R) (w : IsS
 
     pub own_true : (t : SiteId) → IsTrueAt t (records_in t new.sites) learns
     own_true t =
-        unless_over (IsTrueAt t (records_in t new.sites)) result (known_at_operation (learned know s o answered) to) (nothing_false t (records_in t new.sites))
+        unless_over (IsTrueAt t (records_in t new.sites)) result (known_at_operation (learned know s o answered) to) (nothing_is_true t (records_in t new.sites))
         (still_true t (records_in t new.sites) to (learned know s o answered) (told t))
       where
         told : (t : SiteId) → IsTrueAt t (records_in t new.sites) (learned know s o answered)
@@ -149,7 +137,7 @@ module _ {R : Type 0} (stands : R → Standing) (old new : WorldView R) (w : IsS
 
     pub own_beside : (m x : ℕ) → IsElsewhere session slot m x → MayLook s know (w.knows m x) o → (t : SiteId) → AreBeside t learns (w.knows m x)
     own_beside m x where_else may t =
-        unless_over (λ k. AreBeside t k (w.knows m x)) result (known_at_operation (learned know s o answered) to) (nothing_beside t (w.knows m x))
+        unless_over (λ k. AreBeside t k (w.knows m x)) result (known_at_operation (learned know s o answered) to) (nothing_is_beside t (w.knows m x))
         (still_beside t (w.knows m x) to (learned know s o answered) (told t))
       where
         were : (t : SiteId) → AreBeside t know (w.knows m x)
