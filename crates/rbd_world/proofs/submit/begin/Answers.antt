@@ -1,6 +1,6 @@
 use Rattle.std.proofs.Common.{◌≡◌, false, rules}
 use Rattle.std.specs.Prelude.{nat_lt}
-use Rattle.rbd_world.proofs.Newcomers.{begins}
+use Rattle.rbd_world.proofs.Submitted.{begins}
 use Rattle.rbd_world.proofs.submit.begin.Goals as goal
 
 pub returns-clause-becomes : goal.returns-clause-becomes
