@@ -49,11 +49,14 @@
 //! for want of memory.
 #![tactic(auto)]
 
+mod ends;
+mod found;
 mod guard;
 pub mod laws;
-mod lines;
 mod link;
-mod tables;
+mod places;
+mod slab;
+mod standing;
 mod ticket;
 
 pub use guard::Guard;
