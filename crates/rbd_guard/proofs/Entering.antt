@@ -6,7 +6,7 @@ use Rattle.std.proofs.lemmas.Bool.{eq-eqb, ne_eqb, eqb-true, cond-true, cond-fal
 use Rattle.rbd_guard.specs.declared.link.Link.{Link}
 use Rattle.rbd_guard.specs.declared.link.Ends.{Ends}
 use Rattle.rbd_guard.specs.Order.{is_in, walked}
-use Rattle.rbd_guard.specs.Links.{link, AreLines, with_after, longer}
+use Rattle.rbd_guard.specs.Links.{link, AreLines, with_after, with_before, longer}
 use Rattle.rbd_guard.specs.Tickets.{numbers, key_at}
 use Rattle.rbd_guard.proofs.Linking.{some_is, none_isnt, HasLink, in_linked, back_in}
 use Rattle.rbd_guard.proofs.Pushed.{AreLinesOf, pushed, pushed_key}
@@ -19,6 +19,17 @@ map_cond f false x y = refl
 pub after_same : (links others : ℕ → Option Link) (at after : Option ℕ) (m : ℕ) → others m ≡ links m → with_after others at after m ≡ with_after links at after m
 after_same links others None after m same = same
 after_same links others (Some a) after m same = ap (λ o. cond (eqb a m) (option_map (λ (l : Link). link l.key l.before after) o) o) same
+
+-- a new link gets the place before it
+pub put_before : (one links : ℕ → Option Link) (key n : ℕ) (before : Option ℕ) (m : ℕ) → one m ≡ cond (eqb n m) (Some (link key None None)) (links m)
+    → with_before one (Some n) before m ≡ cond (eqb n m) (Some (link key before None)) (links m)
+put_before one links key n before m is =
+    by (eqb n m) (one m) is
+  where
+    by : (b : Bool) (o : Option Link) → o ≡ cond b (Some (link key None None)) (links m)
+        → cond b (option_map (λ (l : Link). link l.key before l.after) o) o ≡ cond b (Some (link key before None)) (links m)
+    by true o e = ap (λ o. option_map (λ (l : Link). link l.key before l.after) o) e
+    by false o e = e
 
 module _ (links one others : ℕ → Option Link) (ends other_ends : ℕ → Ends) (number other_number place other_place : ℕ → Option ℕ) (key n t : ℕ)
     (lines : AreLines links ends) (are : AreKnown number place) (have : (p : ℕ) (l : Link) → links p ≡ Some l → HasNumber number p)

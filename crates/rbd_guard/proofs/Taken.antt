@@ -5,21 +5,21 @@ use Rattle.std.specs.Option.{option_map}
 use Rattle.std.proofs.lemmas.Bool.{cond-true, cond-false, cases_Bool}
 use Rattle.rbd_guard.specs.declared.link.Ends.{Ends}
 use Rattle.rbd_guard.specs.declared.link.Place.{Place}
-use Rattle.rbd_guard.specs.Links.{link, with_after, longer}
+use Rattle.rbd_guard.specs.Links.{link, with_after, with_before, longer}
 use Rattle.rbd_guard.specs.Slab.{used_at, number_at, queue_link, list_link, entering}
 use Rattle.rbd_guard.specs.Tickets.{Tickets, ends_at, key_at, place_of, queue, list, object_of, request_of}
 use Rattle.rbd_guard.specs.Held.{AreHeld}
 use Rattle.rbd_guard.proofs.Linking.{some_is}
 use Rattle.rbd_guard.proofs.Numbered.{AreKnown}
-use Rattle.rbd_guard.proofs.Entering.{map_cond, entered_sound, entered_line, entered_key, entered_known}
+use Rattle.rbd_guard.proofs.Entering.{map_cond, put_before, entered_sound, entered_line, entered_key, entered_known}
 use Rattle.rbd_guard.proofs.Holding.{queue_is, list_is, object_is, request_is, queue_has, list_has, are_known}
 
 -- what entering does to the slab and the tables: a place is taken, and linked behind the last ones
 pub record IsEntered (old new : Tickets) (one two : List Place) (at object request : ℕ) : Type 0 where
   pub free : used_at old.slots at ≡ None
-  pub put : (p : ℕ) → used_at one p ≡ cond (eqb at p) (Some (entering old.drawn object (ends_at old.queues object) request (ends_at old.lists request))) (used_at old.slots p)
-  pub queue : (p : ℕ) → queue_link new.slots p ≡ with_after (queue_link one) (ends_at old.queues object).last (Some at) p
-  pub list : (p : ℕ) → list_link new.slots p ≡ with_after (list_link two) (ends_at old.lists request).last (Some at) p
+  pub put : (p : ℕ) → used_at one p ≡ cond (eqb at p) (Some (entering old.drawn object request)) (used_at old.slots p)
+  pub queue : (p : ℕ) → queue_link new.slots p ≡ with_after (with_before (queue_link one) (Some at) (ends_at old.queues object).last) (ends_at old.queues object).last (Some at) p
+  pub list : (p : ℕ) → list_link new.slots p ≡ with_after (with_before (list_link two) (Some at) (ends_at old.lists request).last) (ends_at old.lists request).last (Some at) p
   pub kept : (p : ℕ) → list_link two p ≡ list_link one p
   pub number : (p : ℕ) → number_at new.slots p ≡ number_at one p
   pub queues : (k : ℕ) → ends_at new.queues k ≡ cond (eqb object k) (longer (ends_at old.queues object) at) (ends_at old.queues k)
@@ -44,11 +44,17 @@ pub no_object : (g : Tickets) → AreHeld g → object_of g.drawn g ≡ None
 no_object g held = object_is g g.drawn ∙ ap (λ p. key_at (queue_link g.slots) p) (no_place g held)
 
 module _ (old new : Tickets) (one two : List Place) (at object request : ℕ) (held : AreHeld old) (e : IsEntered old new one two at object request) where
-  queue_put : (p : ℕ) → queue_link one p ≡ cond (eqb at p) (Some (link object (ends_at old.queues object).last None)) (queue_link old.slots p)
-  queue_put p = ap (λ o. option_map (λ (p : Place). p.queue) o) (e.put p) ∙ map_cond (λ (p : Place). p.queue) (eqb at p) _ (used_at old.slots p)
+  queue_put : (p : ℕ) → with_before (queue_link one) (Some at) (ends_at old.queues object).last p
+      ≡ cond (eqb at p) (Some (link object (ends_at old.queues object).last None)) (queue_link old.slots p)
+  queue_put p =
+      put_before (queue_link one) (queue_link old.slots) object at (ends_at old.queues object).last p
+      (ap (λ o. option_map (λ (p : Place). p.queue) o) (e.put p) ∙ map_cond (λ (p : Place). p.queue) (eqb at p) _ (used_at old.slots p))
 
-  list_put : (p : ℕ) → list_link two p ≡ cond (eqb at p) (Some (link request (ends_at old.lists request).last None)) (list_link old.slots p)
-  list_put p = e.kept p ∙ ap (λ o. option_map (λ (p : Place). p.list) o) (e.put p) ∙ map_cond (λ (p : Place). p.list) (eqb at p) _ (used_at old.slots p)
+  list_put : (p : ℕ) → with_before (list_link two) (Some at) (ends_at old.lists request).last p
+      ≡ cond (eqb at p) (Some (link request (ends_at old.lists request).last None)) (list_link old.slots p)
+  list_put p =
+      put_before (list_link two) (list_link old.slots) request at (ends_at old.lists request).last p
+      (e.kept p ∙ ap (λ o. option_map (λ (p : Place). p.list) o) (e.put p) ∙ map_cond (λ (p : Place). p.list) (eqb at p) _ (used_at old.slots p))
 
   number_put : (p : ℕ) → number_at new.slots p ≡ cond (eqb at p) (Some old.drawn) (number_at old.slots p)
   number_put p = e.number p ∙ ap (λ o. option_map (λ (p : Place). p.number) o) (e.put p) ∙ map_cond (λ (p : Place). p.number) (eqb at p) _ (used_at old.slots p)
@@ -78,10 +84,10 @@ module _ (old new : Tickets) (one two : List Place) (at object request : ℕ) (h
   pub entered_held : AreHeld new
   entered_held =
       record {
-        queues = entered_sound (queue_link old.slots) (queue_link one) (queue_link new.slots) (ends_at old.queues) (ends_at new.queues)
+        queues = entered_sound (queue_link old.slots) (with_before (queue_link one) (Some at) (ends_at old.queues object).last) (queue_link new.slots) (ends_at old.queues) (ends_at new.queues)
             (number_at old.slots) (number_at new.slots) (λ t. place_of t old) (λ t. place_of t new) object at old.drawn held.queues (are_known old held) (queue_has old.slots)
             no_queue no_number queue_put e.queue e.queues number_put e.places;
-        lists = entered_sound (list_link old.slots) (list_link two) (list_link new.slots) (ends_at old.lists) (ends_at new.lists)
+        lists = entered_sound (list_link old.slots) (with_before (list_link two) (Some at) (ends_at old.lists request).last) (list_link new.slots) (ends_at old.lists) (ends_at new.lists)
             (number_at old.slots) (number_at new.slots) (λ t. place_of t old) (λ t. place_of t new) request at old.drawn held.lists (are_known old held) (list_has old.slots)
             no_list no_number list_put e.list e.lists number_put e.places;
         found = known.found;
@@ -95,7 +101,7 @@ module _ (old new : Tickets) (one two : List Place) (at object request : ℕ) (h
   pub entered_queue : (o : ℕ) → queue o new ≡ cond (eqb object o) (queue o old ++ old.drawn ∷ []) (queue o old)
   entered_queue o =
       queue_is new o
-      ∙ entered_line (queue_link old.slots) (queue_link one) (queue_link new.slots) (ends_at old.queues) (ends_at new.queues)
+      ∙ entered_line (queue_link old.slots) (with_before (queue_link one) (Some at) (ends_at old.queues object).last) (queue_link new.slots) (ends_at old.queues) (ends_at new.queues)
       (number_at old.slots) (number_at new.slots) (λ t. place_of t old) (λ t. place_of t new) object at old.drawn held.queues (are_known old held) (queue_has old.slots)
       no_queue no_number queue_put e.queue e.queues number_put e.places o
       ∙ sym (ap (λ ts. cond (eqb object o) (ts ++ old.drawn ∷ []) ts) (queue_is old o))
@@ -103,7 +109,7 @@ module _ (old new : Tickets) (one two : List Place) (at object request : ℕ) (h
   pub entered_list : (r : ℕ) → list r new ≡ cond (eqb request r) (list r old ++ old.drawn ∷ []) (list r old)
   entered_list r =
       list_is new r
-      ∙ entered_line (list_link old.slots) (list_link two) (list_link new.slots) (ends_at old.lists) (ends_at new.lists)
+      ∙ entered_line (list_link old.slots) (with_before (list_link two) (Some at) (ends_at old.lists request).last) (list_link new.slots) (ends_at old.lists) (ends_at new.lists)
       (number_at old.slots) (number_at new.slots) (λ t. place_of t old) (λ t. place_of t new) request at old.drawn held.lists (are_known old held) (list_has old.slots)
       no_list no_number list_put e.list e.lists number_put e.places r
       ∙ sym (ap (λ ts. cond (eqb request r) (ts ++ old.drawn ∷ []) ts) (list_is old r))
@@ -111,7 +117,7 @@ module _ (old new : Tickets) (one two : List Place) (at object request : ℕ) (h
   pub entered_object : (t : ℕ) → object_of t new ≡ cond (eqb old.drawn t) (Some object) (object_of t old)
   entered_object t =
       object_is new t
-      ∙ entered_key (queue_link old.slots) (queue_link one) (queue_link new.slots) (ends_at old.queues) (ends_at new.queues)
+      ∙ entered_key (queue_link old.slots) (with_before (queue_link one) (Some at) (ends_at old.queues object).last) (queue_link new.slots) (ends_at old.queues) (ends_at new.queues)
       (number_at old.slots) (number_at new.slots) (λ t. place_of t old) (λ t. place_of t new) object at old.drawn held.queues (are_known old held) (queue_has old.slots)
       no_queue no_number queue_put e.queue e.queues number_put e.places t
       ∙ sym (ap (λ k. cond (eqb old.drawn t) (Some object) k) (object_is old t))
@@ -119,7 +125,7 @@ module _ (old new : Tickets) (one two : List Place) (at object request : ℕ) (h
   pub entered_request : (t : ℕ) → request_of t new ≡ cond (eqb old.drawn t) (Some request) (request_of t old)
   entered_request t =
       request_is new t
-      ∙ entered_key (list_link old.slots) (list_link two) (list_link new.slots) (ends_at old.lists) (ends_at new.lists)
+      ∙ entered_key (list_link old.slots) (with_before (list_link two) (Some at) (ends_at old.lists request).last) (list_link new.slots) (ends_at old.lists) (ends_at new.lists)
       (number_at old.slots) (number_at new.slots) (λ t. place_of t old) (λ t. place_of t new) request at old.drawn held.lists (are_known old held) (list_has old.slots)
       no_list no_number list_put e.list e.lists number_put e.places t
       ∙ sym (ap (λ k. cond (eqb old.drawn t) (Some request) k) (request_is old t))

@@ -2,7 +2,6 @@
 use Rattle.std.specs.Prelude.{◌≡◌, ℕ, zero, suc, true, cond, length, List, [], ◌∷◌, Option, Some, None, option_map, IsTrue}
 use Rattle.std.specs.List.{slice_get}
 use Rattle.rbd_guard.specs.declared.link.Link.{Link}
-use Rattle.rbd_guard.specs.declared.link.Ends.{Ends}
 use Rattle.rbd_guard.specs.declared.link.Place.{Place}
 use Rattle.rbd_guard.specs.Order.{is_in, AreApart}
 use Rattle.rbd_guard.specs.Links.{front, link}
@@ -34,14 +33,14 @@ abbrev pub number_or_none : (number : ℕ → Option ℕ) → (at : Option ℕ) 
 number_or_none number None = None
 number_or_none number (Some at) = number at
 
--- what stands at the place of a ticket that goes last into a queue and a list with these ends
-abbrev pub entering : (number object : ℕ) → (queue : Ends) → (request : ℕ) → (list : Ends) → Place
-entering number object queue request list =
+-- what stands at the place of a ticket that isn't linked with others yet
+abbrev pub entering : (number object request : ℕ) → Place
+entering number object request =
     record {
       used = true;
       number = number;
-      queue = link object queue.last None;
-      list = link request list.last None;
+      queue = link object None None;
+      list = link request None None;
       free = None;
     }
 

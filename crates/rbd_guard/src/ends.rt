@@ -1,7 +1,7 @@
 //! The ends of lines, in a table by the line's key. No change takes memory, where there is room.
-ghost use Rattle.std.specs.Prelude.{◌≡◌, ℕ, ◌+◌, ◌-◌, ◌<◌, ◌≤◌, ◌^◌, None, Some, IsSome, cond, nat_eq};
+ghost use Rattle.std.specs.Prelude.{◌≡◌, ℕ, ◌+◌, ◌-◌, ◌<◌, ◌≤◌, ◌^◌, None, Some, cond, nat_eq};
 ghost use Rattle.std.specs.HashMap.{get, spare};
-ghost use Rattle.rbd_guard.specs.Order.{ends_or};
+ghost use Rattle.rbd_guard.specs.Order.{no_ends, ends_or};
 ghost use Rattle.rbd_guard.specs.Links.{longer, shorter, or_none, or_else, unless};
 
 use crate::link::{Ends, Link};
@@ -63,28 +63,53 @@ fn unless(neighbour: Option<usize>, other: Option<usize>, kept: Option<usize>) -
     }
 }
 
-/// Gives a line its ends.
-pub fn add_ends(table: &mut HashMap<u64, Ends>, key: u64, ends: Ends)
-    requires { 0 < spare table.old }
-    ensures ends { (k : ℕ) → ends_or (get nat_eq table.new k) ≡ cond (nat_eq key k) ends (ends_or (get nat_eq table.old k)) }
+/// Puts a place last into the line under a key, and answers the one that was last there.
+pub fn lengthen(table: &mut HashMap<u64, Ends>, key: u64, place: usize) -> Option<usize>
+    requires room { 0 < spare table.old }
+    requires count { (ends_or (get nat_eq table.old key)).count < 2 ^ 64 - 1 }
+    ensures last { result ≡ (ends_or (get nat_eq table.old key)).last }
+    ensures ends { (k : ℕ) → ends_or (get nat_eq table.new k)
+        ≡ cond (nat_eq key k) (longer (ends_or (get nat_eq table.old key)) place) (ends_or (get nat_eq table.old k)) }
     ensures room { spare table.old ≤ spare table.new + 1 }
 {
+    let Some(held) = table.get_mut(&key) else {
+        add_ends(table, key, place);
+        return None;
+    };
+    let last = held.last;
+    *held = longer(*held, place);
+    last
+}
+
+/// Gives a line its ends, where nobody stood yet.
+fn add_ends(table: &mut HashMap<u64, Ends>, key: u64, place: usize)
+    requires { 0 < spare table.old }
+    ensures ends { (k : ℕ) → get nat_eq table.new k ≡ cond (nat_eq key k) (Some (longer no_ends place)) (get nat_eq table.old k) }
+    ensures room { spare table.old ≤ spare table.new + 1 }
+{
+    let ends = Ends {
+        first: Some(place),
+        last: Some(place),
+        count: 1,
+    };
     let added: Result<_, _> = table.insert(key, ends);
     added.unwrap();
 }
 
-/// Changes the ends of a line, and keeps none of a line in which nobody stands.
-pub fn set_ends(table: &mut HashMap<u64, Ends>, key: u64, ends: Ends)
-    requires { IsSome (get nat_eq table.old key) }
-    ensures ends { (k : ℕ) → ends_or (get nat_eq table.new k) ≡ cond (nat_eq key k) (or_none ends) (ends_or (get nat_eq table.old k)) }
+/// Takes a place that has this link out of its line. No ends are kept of a line in which nobody
+/// stands.
+pub fn shorten(table: &mut HashMap<u64, Ends>, link: Link)
+    requires { 0 < (ends_or (get nat_eq table.old link.key)).count }
+    ensures ends { (k : ℕ) → ends_or (get nat_eq table.new k)
+        ≡ cond (nat_eq link.key k) (or_none (shorter (ends_or (get nat_eq table.old link.key)) link)) (ends_or (get nat_eq table.old k)) }
     ensures room { spare table.old ≤ spare table.new }
 {
-    if ends.count == 0 {
-        table.remove(&key);
-        return;
-    }
-    let Some(held) = table.get_mut(&key) else {
+    let Some(held) = table.get_mut(&link.key) else {
         return;
     };
-    *held = ends;
+    if held.count > 1 {
+        *held = shorter(*held, link);
+        return;
+    }
+    table.remove(&link.key);
 }

@@ -2,6 +2,7 @@ ghost use Rattle.std.specs.Prelude.{◌≡◌, ℕ, ◌+◌, ◌<◌, ◌≤◌,
 ghost use Rattle.std.specs.HashMap.{get, spare};
 ghost use Rattle.rbd_guard.specs.Order.{is_in, without};
 ghost use Rattle.rbd_guard.specs.Tickets.{queue, list, object_of, request_of, without_all, AreSame, IsSoundGuard};
+ghost use Rattle.rbd_guard.specs.Links.{link};
 ghost use Rattle.rbd_guard.specs.Slab.{number_at, number_or_none, entering};
 
 use crate::ends::ends_of;
@@ -134,13 +135,9 @@ impl Guard {
         ensures sound { IsSoundGuard self.new }
     {
         let number = self.drawn;
-        let queue = ends_of(&self.queues, object);
-        let list = ends_of(&self.lists, request);
-        let at = self
-            .slab
-            .enter(entering(number, object, queue, request, list));
-        enter_queue(&mut self.slab, &mut self.queues, object, queue, at);
-        enter_list(&mut self.slab, &mut self.lists, request, list, at);
+        let at = self.slab.enter(entering(number, object, request));
+        enter_queue(&mut self.slab, &mut self.queues, object, at);
+        enter_list(&mut self.slab, &mut self.lists, request, at);
         add_place(&mut self.places, number, at);
         self.drawn = number + 1;
         Ticket { number }
@@ -226,24 +223,26 @@ fn reserve_all(
     Ok(())
 }
 
-/// What stands at the place of a ticket that goes last into a queue and a list with these ends.
-fn entering(number: u64, object: u64, queue: Ends, request: u64, list: Ends) -> Place
-    ensures { result ≡ entering number object queue request list }
+/// What stands at the place of a ticket that isn't linked with others yet.
+fn entering(number: u64, object: u64, request: u64) -> Place
+    ensures { result ≡ entering number object request }
 {
     Place {
         used: true,
         number,
-        queue: Link {
-            key: object,
-            before: queue.last,
-            after: None,
-        },
-        list: Link {
-            key: request,
-            before: list.last,
-            after: None,
-        },
+        queue: alone(object),
+        list: alone(request),
         free: None,
+    }
+}
+
+fn alone(key: u64) -> Link
+    ensures { result ≡ link key None None }
+{
+    Link {
+        key,
+        before: None,
+        after: None,
     }
 }
 

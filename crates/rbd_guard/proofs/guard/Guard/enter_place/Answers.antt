@@ -1,8 +1,6 @@
 use Rattle.std.proofs.Common.{ℕ, ◌+◌, ◌-◌, ◌<◌, ◌^◌, ◌++◌, [], ◌∷◌, Some, cond, nat_eq, refl, sym, ap, ◌∙◌, arith}
-use Rattle.rbd_guard.specs.declared.link.Ends.{Ends}
-use Rattle.rbd_guard.specs.Links.{with_after, longer}
-use Rattle.rbd_guard.specs.Slab.{used_at, queue_link, list_link, entering}
-use Rattle.rbd_guard.specs.Tickets.{Tickets, queue, list, object_of, request_of, ends_at}
+use Rattle.rbd_guard.specs.Slab.{used_at}
+use Rattle.rbd_guard.specs.Tickets.{Tickets, queue, list, object_of, request_of}
 use Rattle.rbd_guard.specs.contracts.guard.Guard.{the_view}
 use Rattle.rbd_guard.proofs.Holding.{again, sound}
 use Rattle.rbd_guard.proofs.Taken.{IsEntered, entered_held, entered_queue, entered_list, entered_object, entered_request, no_object}
@@ -22,21 +20,13 @@ entered : (c : goal.After-self-1) (room : ℕ)
 entered c room =
     record {
       free = c.enter-at.ensures.free;
-      put = λ p. c.enter-at.ensures.places p
-          ∙ ap (λ t. cond (nat_eq c.enter-at.result p) (Some t) (used_at c.self.inside.slab.places p))
-          (c.entering.ensures
-          ∙ ap (λ e. entering c.self.inside.drawn c.args.object e c.args.request c.ends_of-list.result) c.ends_of-queue.ensures
-          ∙ ap (λ e. entering c.self.inside.drawn c.args.object (ends_at c.self.inside.queues.entries c.args.object) c.args.request e) c.ends_of-list.ensures);
-      queue = λ p. c.enter_list.ensures.queue p ∙ c.enter_queue.ensures.queue p
-          ∙ ap (λ (e : Ends). with_after (queue_link c.enter-at.new.self.places) e.last (Some c.enter-at.result) p) c.ends_of-queue.ensures;
-      list = λ p. c.enter_list.ensures.list p
-          ∙ ap (λ (e : Ends). with_after (list_link c.enter_queue.new.slab.places) e.last (Some c.enter-at.result) p) c.ends_of-list.ensures;
+      put = λ p. c.enter-at.ensures.places p ∙ ap (λ t. cond (nat_eq c.enter-at.result p) (Some t) (used_at c.self.inside.slab.places p)) c.entering.ensures;
+      queue = λ p. c.enter_list.ensures.queue p ∙ c.enter_queue.ensures.queue p;
+      list = c.enter_list.ensures.list;
       kept = c.enter_queue.ensures.list;
       number = λ p. c.enter_list.ensures.number p ∙ c.enter_queue.ensures.number p;
-      queues = λ k. c.enter_queue.ensures.ends k
-          ∙ ap (λ e. cond (nat_eq c.args.object k) (longer e c.enter-at.result) (ends_at c.self.inside.queues.entries k)) c.ends_of-queue.ensures;
-      lists = λ k. c.enter_list.ensures.ends k
-          ∙ ap (λ e. cond (nat_eq c.args.request k) (longer e c.enter-at.result) (ends_at c.self.inside.lists.entries k)) c.ends_of-list.ensures;
+      queues = c.enter_queue.ensures.ends;
+      lists = c.enter_list.ensures.ends;
       places = c.add_place.ensures.places;
       drawn = refl;
       below = below;
