@@ -209,16 +209,3 @@ put_used false place o used = refl
 pub put_used_free : (b : Bool) (place : Place) (o : Option Place) → place.used ≡ true → if_free (cond b (Some place) o) ≡ cond b None (if_free o)
 put_used_free true place o used = cond-true place.used _ _ used
 put_used_free false place o used = refl
-
-pub put_free : (b : Bool) (place : Place) (o : Option Place) → place.used ≡ false → if_free (cond b (Some place) o) ≡ cond b (Some place.free) (if_free o)
-put_free true place o free = cond-false place.used _ _ free
-put_free false place o free = refl
-
--- a used place becomes free, and names the one that was the first
-pub freed : (places others : List Place) (head : Option ℕ) (size at : ℕ) (old place : Place) → AreFree places head size
-    → used_at places at ≡ Some old → place.used ≡ false → place.free ≡ head
-    → ((p : ℕ) → slice_get others p ≡ cond (eqb at p) (Some place) (slice_get places p)) → AreFree others (Some at) (size + 1)
-freed places others head size at old place are was free names changed =
-    more_free places head size are others at (ap is_some was)
-    (λ p. ap if_free (changed p) ∙ put_free (eqb at p) place (slice_get places p) free
-    ∙ ap (λ next. cond (eqb at p) (Some next) (free_at places p)) names)

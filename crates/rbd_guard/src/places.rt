@@ -41,6 +41,21 @@ pub fn put(places: &mut Vec<Place>, at: usize, place: Place)
     places[at] = place;
 }
 
+/// A place becomes free, and names another free one.
+pub fn set_free(places: &mut Vec<Place>, at: usize, next: Option<usize>)
+    requires { at < length places.old.items }
+    ensures used { (p : ℕ) → used_at places.new.items p ≡ cond (at == p) None (used_at places.old.items p) }
+    ensures free { (p : ℕ) → free_at places.new.items p ≡ cond (at == p) (Some next) (free_at places.old.items p) }
+    ensures len { vec_len places.new ≡ vec_len places.old }
+    ensures capacity { vec_capacity places.new ≡ vec_capacity places.old }
+{
+    let Some(place) = places.get_mut(at) else {
+        return;
+    };
+    place.used = false;
+    place.free = next;
+}
+
 /// Links a place, where a ticket stands, with the one after it in its object's queue.
 pub fn link_queue_after(places: &mut Vec<Place>, at: Option<usize>, after: Option<usize>)
     ensures queue { (p : ℕ) → queue_link places.new.items p ≡ with_after (queue_link places.old.items) at after p }

@@ -6,7 +6,7 @@ ghost use Rattle.rbd_guard.specs.Slab.{used_at, number_at, queue_link, list_link
 use crate::link::Place;
 use crate::places::{
     link_list_after, link_list_before, link_queue_after, link_queue_before, next_free, place_at,
-    put,
+    put, set_free,
 };
 use rbd_kinds::NoMemory;
 use std::alloc::Global;
@@ -95,12 +95,7 @@ impl Slab {
         ensures room { self.old.room ≤ self.new.room }
     {
         let place = place_at(&self.places, at).unwrap();
-        let free = Place {
-            used: false,
-            free: self.free,
-            ..place
-        };
-        put(&mut self.places, at, free);
+        set_free(&mut self.places, at, self.free);
         self.free = Some(at);
         self.count += 1;
         place
