@@ -133,6 +133,18 @@ module _ (places : List Place) (head : Option ℕ) (size : ℕ) (are : AreFree p
       by [] e = refl
       by (p ∷ chain) e = absurd (none_isnt p e)
 
+  -- where the list of free places is empty, no place is free
+  pub all_used : head ≡ None → (p : ℕ) → is_some (free_at places p) ≡ true → ⊥
+  all_used none p free = by (free_at places p) refl free
+    where
+      no : (chain : List ℕ) → None ≡ front chain None → is_in p chain ≡ true → ⊥
+      no [] e h = true≢false (sym h)
+      no (q ∷ chain) e h = none_isnt q e
+
+      by : (o : Option (Option ℕ)) → free_at places p ≡ o → is_some o ≡ true → ⊥
+      by None e some = true≢false (sym some)
+      by (Some next) e some = no (walk_free (free_at places) size head) (sym none ∙ are.first) (are.all p next e)
+
   module _ (others : List Place) where
     pub same_free : ((p : ℕ) → free_at others p ≡ free_at places p) → AreFree others head size
     same_free same =

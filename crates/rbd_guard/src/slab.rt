@@ -1,7 +1,7 @@
 //! The places of tickets, as one slab.
-ghost use Rattle.std.specs.Prelude.{◌≡◌, ℕ, ◌+◌, ◌<◌, ◌≤◌, ◌==◌, [], cond, true, None, Some, IsSome, IsOk, OnOk};
+ghost use Rattle.std.specs.Prelude.{◌≡◌, ℕ, ◌+◌, ◌<◌, ◌≤◌, ◌==◌, [], cond, true, length, None, Some, IsSome, IsOk, OnOk};
 ghost use Rattle.rbd_guard.specs.Links.{with_after, with_before};
-ghost use Rattle.rbd_guard.specs.Slab.{used_at, number_at, queue_link, list_link};
+ghost use Rattle.rbd_guard.specs.Slab.{used_at, free_at, number_at, queue_link, list_link};
 
 use crate::link::Place;
 use crate::places::{
@@ -68,12 +68,14 @@ impl Slab {
         }
     }
 
-    /// Takes a free place for a ticket: one whose ticket left, if there is one. It takes no memory.
+    /// Takes a place for a ticket: a free one, if there is one, and else one more. It takes no
+    /// memory.
     pub fn enter(&mut self, ticket: Place) -> usize
         requires room { 0 < self.old.room }
         requires used { ticket.used ≡ true }
         ensures free { used_at self.old.places result ≡ None }
         ensures places { (p : ℕ) → used_at self.new.places p ≡ cond (result == p) (Some ticket) (used_at self.old.places p) }
+        ensures reused { (p : ℕ) → IsSome (free_at self.old.places p) → length self.new.places ≡ length self.old.places }
         ensures room { self.old.room ≤ self.new.room + 1 }
     {
         let Some(at) = self.free else {
