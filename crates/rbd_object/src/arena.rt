@@ -1,5 +1,5 @@
 //! The pages that the contents of an object share.
-ghost use Rattle.std.specs.Prelude.{◌≡◌, ◌≢◌, ℕ, ◌+◌, ◌-◌, ◌<◌, ◌≤◌, [], length, slice_index, if◌then◌else◌, IfOk, IfSome, OnOk, OnErr};
+ghost use Rattle.std.specs.Prelude.{◌≡◌, ◌≢◌, ℕ, ◌+◌, ◌-◌, ◌<◌, ◌≤◌, [], length, slice_index, if◌then◌else◌, IfOk, IfSome, OnOk, OnErr, IsTrue};
 ghost use Rattle.rbd_object.specs.Contents.{is_within, window};
 ghost use Rattle.rbd_object.specs.Sheets.{Changed, sheet_at, count_at, bytes_at, in_use, released};
 ghost use Rattle.rbd_object.specs.declared.page.TheConstants.{PAGE};
@@ -65,6 +65,15 @@ impl Arena {
         ensures { result ≡ count_at self.now index }
     {
         self.pages[index as usize].count()
+    }
+
+    /// Whether one place names a page, and its bytes are there.
+    pub fn is_own(&self, index: u32) -> bool
+        requires { 0 < count_at self.now index }
+        ensures alone { IsTrue result → count_at self.now index ≡ 1 }
+        ensures stored { IsTrue result → length (bytes_at self.now index) ≡ PAGE }
+    {
+        self.pages[index as usize].is_own()
     }
 
     /// A page of zeros that one place names.

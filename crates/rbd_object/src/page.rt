@@ -1,5 +1,5 @@
 //! One page of an arena.
-ghost use Rattle.std.specs.Prelude.{◌≡◌, ◌≢◌, ℕ, ◌+◌, ◌-◌, ◌<◌, ◌≤◌, [], length, slice_index, if◌then◌else◌, IfOk, OnOk, OnErr};
+ghost use Rattle.std.specs.Prelude.{◌≡◌, ◌≢◌, ℕ, ◌+◌, ◌-◌, ◌<◌, ◌≤◌, [], length, slice_index, if◌then◌else◌, IfOk, OnOk, OnErr, IsTrue};
 ghost use Rattle.rbd_object.specs.Contents.{is_within, window};
 ghost use Rattle.rbd_object.specs.Sheets.{Sheet};
 
@@ -48,6 +48,17 @@ impl Page {
         ensures { result ≡ self.now.count }
     {
         self.count
+    }
+
+    /// Whether one place names it, and its bytes are there.
+    pub fn is_own(&self) -> bool
+        ensures alone { IsTrue result → self.now.count ≡ 1 }
+        ensures stored { IsTrue result → length self.now.bytes ≡ PAGE }
+    {
+        if self.count != 1 {
+            return false;
+        }
+        !self.bytes.is_empty()
     }
 
     /// The free page after this one, where this one is free.
