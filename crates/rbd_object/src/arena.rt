@@ -167,12 +167,7 @@ impl Arena {
         ensures bytes { bytes_at self.new index ≡ bytes_at self.old index }
         ensures err { OnErr result (self.new ≡ self.old) }
     {
-        let page = &mut self.pages[index as usize];
-        let Some(count) = page.count().checked_add(1) else {
-            return Err(NoMemory);
-        };
-        page.set_count(count);
-        Ok(())
+        self.pages[index as usize].hold()
     }
 
     /// One place less names a page, which is free where that was the last one.

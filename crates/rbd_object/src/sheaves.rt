@@ -113,12 +113,7 @@ impl Sheaves {
         ensures sheets { self.new.sheets ≡ self.old.sheets }
         ensures err { OnErr result (self.new ≡ self.old) }
     {
-        let sheaf = &mut self.sheaves[index as usize];
-        let Some(count) = sheaf.count().checked_add(1) else {
-            return Err(NoMemory);
-        };
-        sheaf.set_count(count);
-        Ok(())
+        self.sheaves[index as usize].hold()
     }
 
     /// One place less names a sheaf. Where that was the last one, it is free, and names its pages
