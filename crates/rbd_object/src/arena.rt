@@ -50,6 +50,13 @@ impl Arena {
         self.used
     }
 
+    /// How many places there are, free ones among them.
+    pub fn places(&self) -> usize
+        ensures { result ≡ length self.now }
+    {
+        self.pages.len()
+    }
+
     /// Takes the memory for so many more pages at once, those aside that free ones have.
     pub fn reserve(&mut self, more: usize) -> Result<(), NoMemory>
         ensures { self.new ≡ self.old }

@@ -56,6 +56,21 @@ impl Sheaves {
         self.arena.used()
     }
 
+    /// How many places for sheaves there are, free ones among them.
+    pub fn places(&self) -> usize
+        ensures places { result ≡ length self.now.sheaves }
+        ensures stocked { AreStocked self.now }
+    {
+        self.sheaves.len()
+    }
+
+    /// How many places for pages there are, free ones among them.
+    pub fn page_places(&self) -> usize
+        ensures { result ≡ length self.now.sheets }
+    {
+        self.arena.places()
+    }
+
     /// Takes the memory for so many more pages at once, those aside that free ones have.
     pub fn reserve(&mut self, more: usize) -> Result<(), NoMemory>
         ensures { self.new ≡ self.old }
