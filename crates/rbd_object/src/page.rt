@@ -81,7 +81,7 @@ impl Page {
     }
 
     /// The count as it was before it went round to 0.
-    // Not inline: else each place is looked at before it is counted, and not only afterwards.
+    // Not inline: else each count is looked at before it is stored, three instructions more.
     #[cold]
     #[inline(never)]
     fn refuse(&mut self) -> Result<(), NoMemory>

@@ -1,7 +1,7 @@
-use Rattle.std.proofs.Common.{◌∙◌, ap, length, refl, sym, subst, arith}
+use Rattle.std.proofs.Common.{◌∙◌, ap, length, sym, arith}
 use Rattle.rbd_object.specs.Sheets.{Sheet, bytes_at, count_at}
 use Rattle.rbd_object.proofs.PagingLemmas.{counted_at}
-use Rattle.rbd_object.proofs.SheavesLemmas.{count_of_read, listed_there, page_at_found, page_there, sheaf_read}
+use Rattle.rbd_object.proofs.SheavesLemmas.{listed_there, page_at_found, page_there, sheaf_read}
 use Rattle.rbd_object.proofs.bytes.own_page.Goals as goal
 
 pub bounds-sheaves-list : goal.bounds-sheaves-list

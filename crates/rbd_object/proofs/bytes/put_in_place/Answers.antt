@@ -1,4 +1,4 @@
-use Rattle.std.proofs.Common.{◌∙◌, ◌<◌, ◌≡◌, ap, drop, get_or, length, min, refl, rules, subst, sym, take, arith}
+use Rattle.std.proofs.Common.{◌∙◌, ◌<◌, ap, get_or, length, rules}
 use Rattle.rbd_object.specs.Sheaves.{pages_in}
 use Rattle.rbd_object.specs.Sheets.{bytes_at}
 use Rattle.rbd_object.proofs.PagingLemmas.{counted_at}
