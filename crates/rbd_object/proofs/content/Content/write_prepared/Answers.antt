@@ -4,8 +4,8 @@ use Rattle.rbd_object.specs.Shared.{Listed}
 use Rattle.rbd_object.specs.Sheaves.{IsOwn, IsPrepared, pages_in}
 use Rattle.rbd_object.specs.Sheets.{in_use}
 use Rattle.rbd_object.proofs.SharedLemmas.{overwritten_none, length-bytes_in, written_at, written_used}
-use Rattle.rbd_object.proofs.content.Content.write.Goals.{else-is_empty-via-then-is_empty+else-at-self, else-is_empty-via-else-is_empty}
-use Rattle.rbd_object.proofs.content.Content.write.Goals as goal
+use Rattle.rbd_object.proofs.content.Content.write_prepared.Goals.{else-is_empty-via-then-is_empty+else-at-self, else-is_empty-via-else-is_empty}
+use Rattle.rbd_object.proofs.content.Content.write_prepared.Goals as goal
 
 pub returns-then-at-self-clause-ok : goal.returns-then-at-self-clause-ok
 returns-then-at-self-clause-ok c =
