@@ -116,10 +116,9 @@ module _ {R : Type 0} (stands : R → Standing) where
           (subst (IsWalk way.start.labels way.start.plan led.feds (steps_of r.line run ++ step ∷ [])) plan_there led.walk);
       given = subst AreGiven (sym steps_there) given;
       calm = λ looks.
-          let calm = way.calm looks in
-          (
+          let calm = way.calm looks in (
             subst IsCalmRequest (sym on.stand)
-            (record { plan = calm_stays (stands r.request).labels calm.0.labels (stands r.request).plan (fed.Answer a) calm.0.plan can_fed; labels = calm.0.labels }),
+                (record { plan = calm_stays (stands r.request).labels calm.0.labels (stands r.request).plan (fed.Answer a) calm.0.plan can_fed; labels = calm.0.labels }),
             calm_fed know (stands r.request).plan (fed.Answer a) calm.0.plan can_fed calm.1,
           );
     }

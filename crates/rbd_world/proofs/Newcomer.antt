@@ -155,12 +155,12 @@ module _ {R : Type 0} (stands : R → Standing) (old new : WorldView R) (w : IsS
     begun_carries at_sites sound =
         let quiet = λ (m x other : ℕ) (where_else : IsElsewhere session c.lowest m x) (is : line_at m x old.sessions ≡ Some other). quiet_began other is_asked c.instance c.lowest (lines_differ line other (differs m x other is)) in
         let all =
-            all_but stands (w.knows session) c.lowest c d begins.slots begins.lines (w.clients session c there).know
-            (knows_in d.lines (held_in c.lowest d.slots) is_new) in
+        all_but stands (w.knows session) c.lowest c d begins.slots begins.lines (w.clients session c there).know
+        (knows_in d.lines (held_in c.lowest d.slots) is_new) in
         let own =
-            client_of stands old new w does_begin session c.lowest c d there after others begins.slots (w.knows session) quiet
-            (subst (IsSoundIf stands) after (sound session)) begins.client all (λ x differ. refl)
-            (holds_rightly (held_in c.lowest d.slots) is_new) in
+        client_of stands old new w does_begin session c.lowest c d there after others begins.slots (w.knows session) quiet
+        (subst (IsSoundIf stands) after (sound session)) begins.client all (λ x differ. refl)
+        (holds_rightly (held_in c.lowest d.slots) is_new) in
         record {
           standing = where_standing w.homes w.run w.right;
           due = unasked;

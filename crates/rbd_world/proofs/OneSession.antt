@@ -111,5 +111,5 @@ pub get_none : {X : Type 0} (xs : List X) (count at : ℕ) → count ≡ length 
 get_none {X} xs count at is past = by (slice_get_cases xs at).1
   where
     by : ((x : X) × (at < length xs) × (slice_get xs at ≡ Some x) × (get_or xs at x ≡ x)) ⊎ ((length xs ≤ at) × (slice_get xs at ≡ None)) → slice_get xs at ≡ None
-    by (inl there) = absurd (past (subst (λ n. at < n) (sym is) there.1.0))
-    by (inr none) = none.1
+    by (inl (x, within, found, e)) = absurd (past (subst (λ n. at < n) (sym is) within))
+    by (inr (behind, none)) = none

@@ -50,15 +50,15 @@ module _ {R : Type 0} (stands : R → Standing) (old new : WorldView R) (w : IsS
           let d : SessionView R = become.after in
           let serves : Serves stands slot c d = become.becomes in
           let quiet = λ (m x other : ℕ) (where_else : IsElsewhere session slot m x) (is : line_at m x old.sessions ≡ Some other).
-              quiet_refused other c.home line (reply.Refused refusal)
-              (line_apart stands old new w does_refuse session slot c d there become.there become.others serves.slots line (ap script_line holds) m x other where_else is) in
+          quiet_refused other c.home line (reply.Refused refusal)
+          (line_apart stands old new w does_refuse session slot c d there become.there become.others serves.slots line (ap script_line holds) m x other where_else is) in
           let all =
-              all_but stands (w.knows session) slot c d serves.slots serves.lines (w.clients session c there).know
-              (subst (λ o. KnowsIn stands slot (running_in o) d.lines (w.knows session slot)) (sym serves.held) knows_nothing) in
+          all_but stands (w.knows session) slot c d serves.slots serves.lines (w.clients session c there).know
+          (subst (λ o. KnowsIn stands slot (running_in o) d.lines (w.knows session slot)) (sym serves.held) knows_nothing) in
           let own =
-              client_of stands old new w does_refuse session slot c d there become.there become.others serves.slots (w.knows session) quiet
-              (subst (IsSoundIf stands) become.there (sound session)) serves.client all (λ x differ. refl)
-              (subst (IsHeldRightly stands (w.homes session) session (does_refuse ∷ w.run) (w.knows session slot)) (sym serves.held) tt) in
+          client_of stands old new w does_refuse session slot c d there become.there become.others serves.slots (w.knows session) quiet
+          (subst (IsSoundIf stands) become.there (sound session)) serves.client all (λ x differ. refl)
+          (subst (IsHeldRightly stands (w.homes session) session (does_refuse ∷ w.run) (w.knows session slot)) (sym serves.held) tt) in
           record {
             standing = where_standing w.homes w.run w.right;
             due = refusal_meant;
