@@ -5,8 +5,8 @@ pub mod BothSites
 pub mod Carried
 pub mod Changed
 pub mod Clients
+pub mod FirstClients
 pub mod Newcomer
-pub mod OneSession
 pub mod Operated
 pub mod Parentless
 pub mod Quiet
@@ -16,6 +16,7 @@ pub mod Runs
 pub mod Stepping
 pub mod Steps
 pub mod Submitted
+pub mod Submitting
 pub mod Undone
 pub mod Walks
 pub mod Wanted

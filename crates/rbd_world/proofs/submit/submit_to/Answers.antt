@@ -4,7 +4,7 @@ use Rattle.std.proofs.lemmas.Bool.{true≢false}
 use Rattle.std.proofs.lemmas.Option.{slice_get_read}
 use Rattle.rbd_requests.specs.Session.{stands_of}
 use Rattle.rbd_world.specs.World.{session_in}
-use Rattle.rbd_world.proofs.OneSession.{get_none, set_unless, submitted_nothing, submitted_to, submitted_to_none}
+use Rattle.rbd_world.proofs.Submitting.{get_none, set_unless, submitted_nothing, submitted_to, submitted_to_none}
 use Rattle.rbd_world.proofs.submit.submit_to.Goals as goal
 
 there : (g : _) (c : goal.After-sessions-in-Some-1 g) → slice_get c.args.sessions.now.items c.session.inside.0 ≡ Some c.in-Some.client.now
