@@ -6,3 +6,6 @@ pub mod Results
 pub mod Undone
 pub mod Walks
 pub mod Wanted
+pub mod FedAlike
+pub mod Wanting
+pub mod Logged
