@@ -59,6 +59,10 @@ done_at s h old new here none same = both_sites h old new (λ q. by q (this_or_o
 pub nothing_done : (q : SiteId) → IsNothingAt q Nothing
 nothing_done q = record { lines = refl; records = λ r. refl }
 
+-- what leaves both sites does nothing to them
+pub left_sites : (h : Happening) (sites : Sites) → ((q : SiteId) → IsNothingAt q h) → DoesAtSites h sites sites
+left_sites h sites none = both_sites h sites sites (λ q. left_at q h (site_in q sites) (site_in q sites) (none q) refl)
+
 -- ---- a trim
 
 trimmed_nothing : (b : Bool) (s q : SiteId) (number image object : ℕ) → same_site s q ≡ false → IsNothingAt q (cond b (Trimmed s number image object) Nothing)

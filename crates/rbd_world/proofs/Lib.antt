@@ -5,13 +5,17 @@ pub mod BothSites
 pub mod Carried
 pub mod Changed
 pub mod Clients
+pub mod FedAlike
 pub mod FirstClients
+pub mod Logged
 pub mod Newcomer
+pub mod OneSession
 pub mod Operated
 pub mod Parentless
 pub mod Quiet
 pub mod Refusal
 pub mod Rest
+pub mod Results
 pub mod Runs
 pub mod Stepping
 pub mod Steps
@@ -20,3 +24,4 @@ pub mod Submitting
 pub mod Undone
 pub mod Walks
 pub mod Wanted
+pub mod Wanting

@@ -38,6 +38,7 @@ pub fn operate<R: Request>(
     site: SiteId,
     op: Op,
 ) -> Result<Happened, NoMemory>
+    requires sound { IsSoundSession R.stands client.old }
     requires wants { op_at R.stands slot client.old ≡ Some (site, op) }
     requires may { MayDo (records_of at.old) op }
     requires gives { CanGive op (answer_to (records_of at.old) client.old.instance op) }

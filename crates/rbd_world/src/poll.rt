@@ -74,6 +74,7 @@ fn go_on<R: Request>(
     site: SiteId,
     op: Op,
 ) -> Result<Happened, NoMemory>
+    requires sound { IsSoundSession R.stands client.old }
     requires wants { op_at R.stands slot client.old ≡ Some (site, op) }
     requires permitted { IsPermitted sites.old client.old.instance site op }
     ensures done { IfOk result (IsOperatedAt R.stands slot line site op sites.old sites.new client.old client.new) }
