@@ -1,5 +1,4 @@
 -- What is done at one site is done to both, as nothing is to the other.
-use Rattle.std.specs.Prelude.{OnOk, Result, Ok, Err}
 use Rattle.std.proofs.Common.{◌≡◌, ◌⊎◌, inl, inr, ℕ, Bool, true, false, cond, List, [], ◌∷◌, ◌++◌, length, length-append, is_some, refl, sym, ap, ◌∙◌, subst}
 use Rattle.std.proofs.lemmas.List.{append-nil}
 use Rattle.rbd_kinds.specs.declared.id.SiteId.{SiteId}
@@ -118,8 +117,3 @@ pub trimmed_in_b : (s : SiteId) → s ≡ site.B → (old : Sites) (new : SiteLo
 trimmed_in_b s is old new image object =
     subst (λ s. DoesAt s (trimmed_of old.b s image object) old.b new → DoesAtSites (trimmed_at old s image object) old (record old { b = new })) (sym is)
     (trimmed_at_b old new image object)
-
--- what is left of a call that may be refused memory
-pub on_ok : {T E P Q : Type 0} (r : Result T E) → (P → Q) → OnOk r P → OnOk r Q
-on_ok (Ok x) f p = f p
-on_ok (Err e) f p = tt

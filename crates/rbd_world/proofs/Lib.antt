@@ -12,6 +12,7 @@ pub mod Newcomer
 pub mod OneSession
 pub mod Operated
 pub mod Parentless
+pub mod Parts
 pub mod Quiet
 pub mod Refusal
 pub mod Rest
