@@ -9,3 +9,4 @@ pub mod Wanted
 pub mod FedAlike
 pub mod Wanting
 pub mod Logged
+pub mod Polling
