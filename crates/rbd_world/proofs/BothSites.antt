@@ -1,5 +1,5 @@
 -- What is done at one site is done to both, as nothing is to the other.
-use Rattle.std.proofs.Common.{◌≡◌, ◌⊎◌, inl, inr, ℕ, Bool, true, false, cond, List, [], ◌∷◌, ◌++◌, length, is_some, refl, sym, ap, ◌∙◌, subst}
+use Rattle.std.proofs.Common.{◌≡◌, ◌⊎◌, inl, inr, ℕ, Bool, true, false, cond, [], ◌∷◌, length, is_some, refl, sym, ap, ◌∙◌, subst}
 use Rattle.std.proofs.lemmas.List.{append-nil}
 use Rattle.rbd_kinds.specs.declared.id.SiteId.{SiteId}
 use Rattle.rbd_kinds.specs.declared.id.SiteId.TheVariants as site
@@ -8,9 +8,9 @@ use Rattle.rbd_site.specs.InForm.{AreInForm}
 use Rattle.rbd_site.specs.Log.{SiteLog, records_of, trimmed, trim_line}
 use Rattle.rbd_site.specs.Records.{Records}
 use Rattle.rbd_world.specs.declared.sites.Sites.{Sites}
-use Rattle.rbd_world.specs.Run.{Happening, Nothing, Did, Trimmed, lines_at, records_behind}
-use Rattle.rbd_world.specs.Step.{AreSameSites, DoesAt, DoesAtSites, next_number, trimmed_at, trimmed_of, with_lines}
-use Rattle.rbd_world.specs.World.{records_in, site_in}
+use Rattle.rbd_world.specs.Run.{Happening, Nothing, Trimmed, lines_at, records_behind}
+use Rattle.rbd_world.specs.Step.{DoesAt, DoesAtSites, next_number, trimmed_at, trimmed_of, with_lines}
+use Rattle.rbd_world.specs.World.{site_in}
 
 -- a site is this one or the other
 pub this_or_other : (s q : SiteId) → (q ≡ s) ⊎ (same_site s q ≡ false)

@@ -1,5 +1,5 @@
 -- A poll whose operation was done did what the request's plan says, and nothing at the other site.
-use Rattle.std.proofs.Common.{◌≡◌, ℕ, cond, Bool, true, false, List, [], ◌∷◌, Option, Some, None, refl, sym, ap, ◌∙◌, subst}
+use Rattle.std.proofs.Common.{◌≡◌, ℕ, cond, false, [], ◌∷◌, Option, Some, None, refl, sym, ap, ◌∙◌, subst}
 use Rattle.rbd_flat.specs.declared.effect.Effect.{Effect}
 use Rattle.rbd_kinds.specs.declared.answer.Answer.{Answer}
 use Rattle.rbd_kinds.specs.declared.id.SiteId.{SiteId}
@@ -19,7 +19,7 @@ use Rattle.rbd_session.specs.Lines.{LinesView}
 use Rattle.rbd_session.specs.Session.{SessionView, ComesToIn, IsFed, OfRunning, held_in, op_at, refusal_in, reply_of, script_line}
 use Rattle.rbd_session.specs.Track.{Track}
 use Rattle.rbd_session.proofs.Sound.{no_some, some_same}
-use Rattle.rbd_site.specs.Log.{SiteLog, line_of}
+use Rattle.rbd_site.specs.Log.{line_of}
 use Rattle.rbd_site.specs.Step.{after, answer_to}
 use Rattle.rbd_world.specs.declared.event.Event.TheVariants as event
 use Rattle.rbd_world.specs.declared.happened.Happened.{Happened}

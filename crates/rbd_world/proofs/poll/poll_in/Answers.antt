@@ -1,8 +1,7 @@
-use Rattle.std.proofs.Common.{rules, ◌≡◌, ℕ, Some, IfOk, OnOk, refl, sym, ap, ◌∙◌, subst}
-use Rattle.rbd_session.specs.Session.{SessionView, held_in, op_at}
-use Rattle.rbd_world.specs.declared.event.Event.TheVariants as event
+use Rattle.std.proofs.Common.{rules, ◌≡◌, Some, IfOk, sym, ap, ◌∙◌, subst}
+use Rattle.rbd_session.specs.Session.{held_in, op_at}
 use Rattle.rbd_world.specs.Operate.{IsOperatedAt}
-use Rattle.rbd_world.specs.Step.{Becomes, DoesAtSites, noted_of, polled_in}
+use Rattle.rbd_world.specs.Step.{polled_in}
 use Rattle.rbd_world.proofs.Polling.{IsPolled, polled_so, refused_sites}
 use Rattle.rbd_world.proofs.Results.{if_ok_then}
 use Rattle.rbd_world.proofs.poll.poll_in.Goals as goal
