@@ -9,9 +9,9 @@ use Rattle.rbd_site.specs.Log.{SiteLog, records_of, trimmed, trim_line}
 use Rattle.rbd_site.specs.Records.{Records}
 use Rattle.rbd_site.proofs.TrimLemmas.{form_trimmed}
 use Rattle.rbd_world.specs.declared.sites.Sites.{Sites}
-use Rattle.rbd_world.specs.Run.{Happening, Nothing, Did, Trimmed, lines_at, records_behind}
-use Rattle.rbd_world.specs.Step.{AreSameSites, DoesAt, DoesAtSites, next_number, trimmed_at, trimmed_of, with_lines}
-use Rattle.rbd_world.specs.World.{records_in, site_in}
+use Rattle.rbd_world.specs.Run.{Happening, Nothing, Trimmed, lines_at, records_behind}
+use Rattle.rbd_world.specs.Step.{DoesAt, DoesAtSites, next_number, trimmed_at, trimmed_of, with_lines}
+use Rattle.rbd_world.specs.World.{site_in}
 
 -- a site is this one or the other
 pub this_or_other : (s q : SiteId) → (q ≡ s) ⊎ (same_site s q ≡ false)

@@ -1,14 +1,12 @@
 -- What comes of a session that was made ready comes of it as it was before.
-use Rattle.std.proofs.Common.{◌≡◌, ◌≢◌, ℕ, true, [], Option, Some, None, refl, sym, ap, ◌∙◌, subst}
+use Rattle.std.proofs.Common.{◌≡◌, ℕ, true, [], Option, Some, None, sym, ap, ◌∙◌, subst}
 use Rattle.std.proofs.lemmas.Bool.{true≢false}
 use Rattle.std.specs.Prelude.{IsSome, is_some}
 use Rattle.rbd_kinds.specs.declared.answer.Answer.{Answer}
-use Rattle.rbd_kinds.specs.declared.id.SiteId.{SiteId}
 use Rattle.rbd_kinds.specs.declared.layout.Extent.{Extent}
 use Rattle.rbd_kinds.specs.declared.machine.Fed.{Fed}
 use Rattle.rbd_kinds.specs.declared.machine.Fed.TheVariants as fed
 use Rattle.rbd_kinds.specs.declared.reply.Reply.{Reply}
-use Rattle.rbd_line.specs.Line.{member_of}
 use Rattle.rbd_machine.specs.Label.{Label}
 use Rattle.rbd_machine.specs.Path.{at_operation}
 use Rattle.rbd_machine.specs.Plan.{Plan, Ask, Await, Note, Return, Goto, Standing, plan_after}
@@ -21,7 +19,7 @@ use Rattle.rbd_session.specs.OnTrack.{LeavesOthers, IsOnTrack}
 use Rattle.rbd_session.specs.Session.{SessionView, IsAlike, IsAlikeIn, IsFed, ComesToIn, OfRunning, held_in, running_in}
 use Rattle.rbd_session.specs.Track.{Track, run}
 use Rattle.rbd_session.proofs.Sound.{no_some}
-use Rattle.rbd_world.specs.Step.{AreSlotsBut, Goes, IsSameClient}
+use Rattle.rbd_world.specs.Step.{AreSlotsBut, Goes}
 
 module _ {R : Type 0} (stands : R → Standing) where
   -- ---- a request goes on from where it stood

@@ -13,6 +13,7 @@ pub mod OneSession
 pub mod Operated
 pub mod Parentless
 pub mod Parts
+pub mod Polling
 pub mod Quiet
 pub mod Refusal
 pub mod Rest

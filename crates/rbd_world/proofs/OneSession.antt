@@ -1,7 +1,7 @@
 -- What becomes of the session that an event names becomes of all, as the others stay.
-use Rattle.std.proofs.Common.{◌≡◌, ◌≢◌, ℕ, Bool, zero, suc, ◌==◌, ◌<◌, true, false, List, [], ◌∷◌, length, Option, Some, None, slice_get, slice_set, refl, sym, ap, ◌∙◌, subst, arith}
+use Rattle.std.proofs.Common.{◌≡◌, ◌≢◌, ℕ, Bool, zero, suc, ◌==◌, ◌<◌, ◌≤◌, true, false, List, [], ◌∷◌, length, Option, Some, None, slice_get, slice_index_or, slice_set, refl, sym, ap, ◌∙◌, subst, arith}
 use Rattle.std.proofs.lemmas.Bool.{true≢false, eqb-true, eq-eqb}
-use Rattle.std.proofs.lemmas.Option.{slice_get_within}
+use Rattle.std.proofs.lemmas.Option.{slice_get_past, slice_get_read, slice_get_within}
 use Rattle.rbd_machine.specs.Plan.{Standing}
 use Rattle.rbd_session.specs.declared.running.Occupant.{Occupant}
 use Rattle.rbd_session.specs.declared.running.Occupant.TheVariants as occupant
@@ -29,6 +29,13 @@ get_other (y ∷ xs) (suc i) (suc j) x apart = get_other xs i j x (λ e. apart (
 -- the session there is the new one, and the others are as they were
 pub session_set : {R : Type 0} (n : ℕ) (xs : List (SessionView R)) (old new : SessionView R) → session_in n xs ≡ Some old → session_in n (slice_set xs n new) ≡ Some new
 session_set n xs old new is = get_set xs n new (slice_get_within xs n old is)
+
+-- what `get_mut` lends is the session at its number, and what it doesn't lend isn't there
+pub lent_session : {R : Type 0} (n at : ℕ) (xs : List (SessionView R)) (lent : SessionView R) → at ≡ n → at < length xs → lent ≡ slice_index_or xs at lent → session_in n xs ≡ Some lent
+lent_session n at xs lent same within is = ap (λ k. session_in k xs) (sym same) ∙ slice_get_read xs (length xs) at lent refl within is
+
+pub no_session : {R : Type 0} (n at : ℕ) (xs : List (SessionView R)) → at ≡ n → length xs ≤ at → session_in n xs ≡ None
+no_session n at xs same past = ap (λ k. session_in k xs) (sym same) ∙ slice_get_past xs at past
 
 -- it names this number, and no other
 abbrev pub NamesOne : Event → (n : ℕ) → Type 0

@@ -1,61 +1,61 @@
-use Rattle.std.proofs.Common.{◌≡◌, length, IfOk, OnOk, slice_set, Some, None, sym, ap, ◌∙◌, refl, subst}
-use Rattle.std.proofs.lemmas.Option.{slice_get_past, slice_get_read}
+use Rattle.std.proofs.Common.{◌≡◌, IfOk, OnOk, slice_set, Some, None, refl, sym, ap, subst}
 use Rattle.rbd_world.specs.Step.{DoesAtSites, DoesToSessions, noted_of, polled}
 use Rattle.rbd_world.specs.World.{session_in}
-use Rattle.rbd_world.proofs.BothSites.{left_sites, nothing_done}
-use Rattle.rbd_world.proofs.OneSession.{does_to_one, does_to_none, leaves_one}
-use Rattle.rbd_world.proofs.Results.{on_ok_then, on_err_then}
 use Rattle.rbd_world.specs.declared.event.Event.TheVariants as of_event
+use Rattle.rbd_world.proofs.BothSites.{left_sites, nothing_done}
+use Rattle.rbd_world.proofs.OneSession.{does_to_one, does_to_none, leaves_one, lent_session, no_session}
+use Rattle.rbd_world.proofs.Results.{on_ok_then, on_err_then}
 use Rattle.rbd_world.proofs.poll.poll.Goals as goal
 
-found : (g : _) (c : goal.After-poll_in-arg-1 g) → session_in c.args.session c.args.sessions.now.items ≡ Some c.in-Some.client.now
-found g c =
-    ap (λ k. session_in k c.args.sessions.now.items) (sym c.session.view_is)
-    ∙ slice_get_read c.args.sessions.now.items (length c.args.sessions.now.items) c.session.inside.0 c.in-Some.client.now refl c.in-Some.ensures.item.3.0 c.in-Some.ensures.value
-
 pub poll_in-requires : goal.poll_in-requires
-poll_in-requires g c = c.requires c.in-Some.client.now (found g c)
+poll_in-requires g c =
+    c.requires c.in-Some.client.now
+    (lent_session c.args.session c.session.inside.0 c.args.sessions.now.items c.in-Some.client.now c.session.view_is c.in-Some.ensures.item.3.0 c.in-Some.ensures.value)
 
-found_then : (g : _) (c : goal.After-sessions-in-Some-1 g) → session_in c.args.session c.args.sessions.now.items ≡ Some c.in-Some.client.now
-found_then g c =
-    ap (λ k. session_in k c.args.sessions.now.items) (sym c.session.view_is)
-    ∙ slice_get_read c.args.sessions.now.items (length c.args.sessions.now.items) c.session.inside.0 c.in-Some.client.now refl c.in-Some.ensures.item.3.0 c.in-Some.ensures.value
+found : (g : _) (c : goal.After-sessions-in-Some-1 g) → session_in c.args.session c.args.sessions.now.items ≡ Some c.in-Some.client.now
+found g c =
+    lent_session c.args.session c.session.inside.0 c.args.sessions.now.items c.in-Some.client.now c.session.view_is c.in-Some.ensures.item.3.0 c.in-Some.ensures.value
 
 pub returns-in-Some-clause-noted : goal.returns-in-Some-clause-noted
 returns-in-Some-clause-noted g c =
-    subst (λ o. IfOk c.poll_in.result (λ h. h ≡ noted_of (polled g.R.Machine.stands c.args.sites.now c.args.slot o))) (sym (found_then g c)) c.poll_in.ensures.noted
+    subst (λ o. IfOk c.poll_in.result (λ h. h ≡ noted_of (polled g.R.Machine.stands c.args.sites.now c.args.slot o))) (sym (found g c)) c.poll_in.ensures.noted
 
 pub returns-in-Some-clause-sites : goal.returns-in-Some-clause-sites
 returns-in-Some-clause-sites g c =
-    subst (λ o. OnOk c.poll_in.result (DoesAtSites (polled g.R.Machine.stands c.args.sites.now c.args.slot o) c.args.sites.now c.poll_in.new.sites)) (sym (found_then g c)) c.poll_in.ensures.sites
+    subst (λ o. OnOk c.poll_in.result (DoesAtSites (polled g.R.Machine.stands c.args.sites.now c.args.slot o) c.args.sites.now c.poll_in.new.sites)) (sym (found g c))
+    c.poll_in.ensures.sites
 
 pub returns-in-Some-clause-sessions : goal.returns-in-Some-clause-sessions
 returns-in-Some-clause-sessions g c =
-    let polls = polled g.R.Machine.stands c.args.sites.now c.args.slot (Some c.in-Some.client.now) in
-    subst (λ o. OnOk c.poll_in.result (DoesToSessions g.R.Machine.stands (of_event.Poll c.args.session c.args.slot) (polled g.R.Machine.stands c.args.sites.now c.args.slot o) c.args.sessions.now.items (slice_set c.args.sessions.now.items c.session.inside.0 c.poll_in.new.client)))
-    (sym (found_then g c))
+    let e = of_event.Poll c.args.session c.args.slot in
+    let xs = c.args.sessions.now.items in
+    let behind = slice_set xs c.session.inside.0 c.poll_in.new.client in
+    subst (λ o. OnOk c.poll_in.result (DoesToSessions g.R.Machine.stands e (polled g.R.Machine.stands c.args.sites.now c.args.slot o) xs behind)) (sym (found g c))
     (on_ok_then c.poll_in.result (λ becomes.
-        does_to_one g.R.Machine.stands (of_event.Poll c.args.session c.args.slot) polls c.args.session c.session.inside.0 c.args.sessions.now.items
-        c.in-Some.client.now c.poll_in.new.client (λ n. refl) c.session.view_is (found_then g c) (becomes 0) c.poll_in.ensures.sound)
+        does_to_one g.R.Machine.stands e (polled g.R.Machine.stands c.args.sites.now c.args.slot (Some c.in-Some.client.now)) c.args.session c.session.inside.0 xs
+        c.in-Some.client.now c.poll_in.new.client (λ n. refl) c.session.view_is (found g c) (becomes 0) c.poll_in.ensures.sound)
     c.poll_in.ensures.becomes)
 
 pub returns-in-Some-clause-alike : goal.returns-in-Some-clause-alike
 returns-in-Some-clause-alike g c =
-    on_err_then c.poll_in.result
-    (λ alike. leaves_one g.R.Machine.stands c.args.session c.session.inside.0 c.args.sessions.now.items c.in-Some.client.now c.poll_in.new.client c.session.view_is (found_then g c) alike c.poll_in.ensures.sound)
+    on_err_then c.poll_in.result (λ alike.
+        leaves_one g.R.Machine.stands c.args.session c.session.inside.0 c.args.sessions.now.items c.in-Some.client.now c.poll_in.new.client c.session.view_is (found g c)
+        alike c.poll_in.ensures.sound)
     c.poll_in.ensures.alike
 
 none : (g : _) (c : goal.After-sessions-in-None-2-1 g) → session_in c.args.session c.args.sessions.now.items ≡ None
-none g c = ap (λ k. session_in k c.args.sessions.now.items) (sym c.session.view_is) ∙ slice_get_past c.args.sessions.now.items c.session.inside.0 c.in-None.ensures.item.3
+none g c = no_session c.args.session c.session.inside.0 c.args.sessions.now.items c.session.view_is c.in-None.ensures.item.3
 
 pub returns-in-None-clause-noted : goal.returns-in-None-clause-noted
 returns-in-None-clause-noted g c = sym (ap (λ o. noted_of (polled g.R.Machine.stands c.args.sites.now c.args.slot o)) (none g c))
 
 pub returns-in-None-clause-sites : goal.returns-in-None-clause-sites
 returns-in-None-clause-sites g c =
-    subst (λ o. DoesAtSites (polled g.R.Machine.stands c.args.sites.now c.args.slot o) c.args.sites.now c.args.sites.now) (sym (none g c)) (left_sites _ c.args.sites.now nothing_done)
+    subst (λ o. DoesAtSites (polled g.R.Machine.stands c.args.sites.now c.args.slot o) c.args.sites.now c.args.sites.now) (sym (none g c))
+    (left_sites _ c.args.sites.now nothing_done)
 
 pub returns-in-None-clause-sessions : goal.returns-in-None-clause-sessions
 returns-in-None-clause-sessions g c =
-    does_to_none g.R.Machine.stands (of_event.Poll c.args.session c.args.slot) (polled g.R.Machine.stands c.args.sites.now c.args.slot (session_in c.args.session c.args.sessions.now.items))
-    c.args.session c.args.sessions.now.items (λ n. refl) (none g c)
+    does_to_none g.R.Machine.stands (of_event.Poll c.args.session c.args.slot)
+    (polled g.R.Machine.stands c.args.sites.now c.args.slot (session_in c.args.session c.args.sessions.now.items)) c.args.session c.args.sessions.now.items (λ n. refl)
+    (none g c)
