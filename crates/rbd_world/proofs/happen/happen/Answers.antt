@@ -1,28 +1,37 @@
-use Rattle.std.proofs.Common.{rules, ◌≡◌, ℕ, Some, IfOk, OnOk, OnErr, ◌+◌, ◌-◌, ◌*◌, ◌<◌, ◌≤◌, length, ◌/◌, ◌%◌, Bool, true, false, nat_eq, nat_lt, List, [], ◌∷◌, ◌++◌, slice_index_or, slice_set, bit_and, bit_or, Fits, w8, w32, w64, Bor, MutBor}
-use Rattle.rbd_requests.specs.declared.request.SessionRequest.{SessionRequest as Of}
+use Rattle.std.proofs.Common.{sym, subst, ap, ◌∙◌, List}
+use Rattle.std.specs.Prelude.{IfOk, OnOk}
+use Rattle.rbd_requests.specs.declared.request.SessionRequest.{SessionRequest}
 use Rattle.rbd_requests.specs.Session.{stands_of}
 use Rattle.rbd_session.specs.Session.{SessionView}
+use Rattle.rbd_world.specs.declared.event.Event.{Event}
 use Rattle.rbd_world.specs.Begun.{has_line}
-use Rattle.rbd_world.specs.Step.{DoesToParts, IsBuiltEvent, LeavesParts, WantsWhatItMay, happens, noted_of}
-use Rattle.rbd_world.specs.World.{session_in}
+use Rattle.rbd_world.specs.Step.{DoesToParts, happens, noted_of}
+use Rattle.rbd_world.proofs.Parts.{poll_does, submission_does, trim_does}
 use Rattle.rbd_world.proofs.happen.happen.Goals as goal
 
--- src/happen.rt:43:42
 pub poll-requires : goal.poll-requires
 poll-requires g c = ?
 
--- src/happen.rt:24:1
 pub returns-in-Submit-clause-noted : goal.returns-in-Submit-clause-noted
 returns-in-Submit-clause-noted g c = ?
 
--- src/happen.rt:24:1
 pub returns-in-Submit-clause-parts : goal.returns-in-Submit-clause-parts
-returns-in-Submit-clause-parts g c = ?
+returns-in-Submit-clause-parts g c =
+    subst (λ (e : Event). OnOk c.submit.result (DoesToParts (stands_of g.E.Machine.stands) e (happens (stands_of g.E.Machine.stands) e (λ l. has_line l c.args.begun.now) c.args.sites.now c.args.sessions.now.items)
+    c.args.sites.now c.args.sites.now c.args.sessions.now.items c.submit.new.sessions.items c.args.begun.now c.submit.new.begun)) (sym c.in-Submit.is)
+    (submission_does (stands_of g.E.Machine.stands) c.submit.result c.in-Submit.session.now c.in-Submit.line.now c.in-Submit.command.now c.args.sites.now c.args.sessions.now.items c.submit.new.sessions.items c.args.begun.now c.submit.new.begun
+    c.submit.ensures.sessions c.submit.ensures.begun)
 
--- src/happen.rt:24:1
 pub returns-in-Poll-clause-parts : goal.returns-in-Poll-clause-parts
-returns-in-Poll-clause-parts g c = ?
+returns-in-Poll-clause-parts g c =
+    subst (λ (e : Event). OnOk c.poll.result (DoesToParts (stands_of g.E.Machine.stands) e (happens (stands_of g.E.Machine.stands) e (λ l. has_line l c.args.begun.now) c.args.sites.now c.args.sessions.now.items)
+    c.args.sites.now c.poll.new.sites c.args.sessions.now.items c.poll.new.sessions.items c.args.begun.now c.args.begun.now)) (sym c.in-Poll.is)
+    (poll_does (stands_of g.E.Machine.stands) c.poll.result c.in-Poll.session.now c.in-Poll.slot.now c.args.sites.now c.poll.new.sites c.args.sessions.now.items c.poll.new.sessions.items c.args.begun.now
+    c.poll.ensures.sites c.poll.ensures.sessions)
 
--- src/happen.rt:24:1
 pub returns-in-Trim-clause-parts : goal.returns-in-Trim-clause-parts
-returns-in-Trim-clause-parts g c = ?
+returns-in-Trim-clause-parts g c =
+    subst (λ (e : Event). OnOk c.trim.result (DoesToParts (stands_of g.E.Machine.stands) e (happens (stands_of g.E.Machine.stands) e (λ l. has_line l c.args.begun.now) c.args.sites.now c.args.sessions.now.items)
+    c.args.sites.now c.trim.new.sites c.args.sessions.now.items c.args.sessions.now.items c.args.begun.now c.args.begun.now)) (sym c.in-Trim.is)
+    (trim_does (stands_of g.E.Machine.stands) c.trim.result c.in-Trim.site.now c.in-Trim.image.now c.in-Trim.object.now c.args.sites.now c.trim.new.sites c.args.sessions.now.items c.args.begun.now
+    c.trim.ensures.sites)
