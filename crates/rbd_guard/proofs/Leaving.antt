@@ -2,21 +2,13 @@
 use Rattle.std.proofs.Common.{◌≡◌, ℕ, suc, ◌+◌, ◌<◌, ◌≤◌, Bool, true, false, cond, not, ◌||◌, eqb, List, [], ◌∷◌, ◌++◌, length, Option, Some, None, refl, sym, ap, subst, ◌∙◌, inl, inr, true≢false, arith}
 use Rattle.std.specs.Prelude.{◌⊎◌}
 use Rattle.std.specs.List.{slice_get}
-use Rattle.std.specs.Option.{is_some, IfSome}
 use Rattle.std.proofs.lemmas.Bool.{cond-true, eq-eqb, ne_eqb, eqb-true, eqb-false, cond-false, cases_Bool}
-use Rattle.rbd_guard.specs.Order.{Tables, line, key_of, is_in, without, AreApart, IsInOrder}
+use Rattle.rbd_guard.specs.Order.{is_in, without, AreApart}
 use Rattle.rbd_guard.specs.Tickets.{Tickets, queue, list, object_of, request_of, without_all, is_ahead, IsSoundGuard}
 use Rattle.rbd_guard.proofs.Apart.{tail_in, head_in, in_right, absent, others}
 use Rattle.rbd_guard.proofs.Linking.{some_is, none_isnt}
 
 -- ---- the first of a line
-
-first_holds : (P : ℕ → Type 0) (r : Option ℕ) (xs : List ℕ) → ((n : ℕ) → is_in n xs ≡ true → P n) → r ≡ slice_get xs 0 → IfSome r P
-first_holds P r [] holds is = subst (λ o. IfSome o P) (sym is) tt
-first_holds P r (x ∷ xs) holds is = subst (λ o. IfSome o P) (sym is) (holds x (head_in x xs))
-
-pub first_found : (t : Tables) (key : ℕ) (r : Option ℕ) → IsInOrder t → r ≡ slice_get (line key t) 0 → IfSome r (λ n. key_of n t ≡ Some key)
-first_found t key r order is = first_holds (λ n. key_of n t ≡ Some key) r (line key t) (λ n here. order.stands n key here) is
 
 -- a list that has a first
 pub record Begins (n : ℕ) (xs : List ℕ) : Type 0 where
@@ -40,32 +32,6 @@ without_shorter n (x ∷ xs) = by (eqb x n) (without_shorter n xs)
     by : (b : Bool) → length (without n xs) ≤ length xs → length (cond (not b) (x ∷ without n xs) (without n xs)) ≤ suc (length xs)
     by true rest = omega (arith, rest)
     by false rest = omega (arith, rest)
-
-some_without : (b : Bool) (o p : Option ℕ) → is_some o ≡ is_some p → is_some (cond b None o) ≡ is_some (cond b None p)
-some_without true o p same = refl
-some_without false o p same = same
-
-some_still : (b : Bool) (o : Option ℕ) → is_some (cond b None o) ≡ true → is_some o ≡ true
-some_still true o some = absurd (true≢false (sym some))
-some_still false o some = some
-
-pub sound_without : (g : Tickets) (queues lists : Tables) (n room : ℕ) → IsSoundGuard g → IsInOrder queues → IsInOrder lists
-    → ((k : ℕ) → line k queues ≡ without n (line k g.queues)) → ((k : ℕ) → line k lists ≡ without n (line k g.lists))
-    → ((t : ℕ) → key_of t queues ≡ cond (eqb n t) None (key_of t g.queues)) → ((t : ℕ) → key_of t lists ≡ cond (eqb n t) None (key_of t g.lists))
-    → IsSoundGuard (record { queues = queues; lists = lists; drawn = g.drawn; reserved = room })
-sound_without g queues lists n room sound queues_order lists_order queue_is list_is object_is request_is =
-    record {
-      queues = queues_order;
-      lists = lists_order;
-      both = λ t. ap is_some (object_is t) ∙ some_without (eqb n t) (key_of t g.queues) (key_of t g.lists) (sound.both t) ∙ sym (ap is_some (request_is t));
-      drawn = λ t some. sound.drawn t (some_still (eqb n t) (key_of t g.queues) (sym (ap is_some (object_is t)) ∙ some));
-      queue_fits = λ k. fits (line k g.queues) (line k queues) (queue_is k) (sound.queue_fits k);
-      list_fits = λ k. fits (line k g.lists) (line k lists) (list_is k) (sound.list_fits k);
-      fits = sound.fits;
-    }
-  where
-    fits : (old new : List ℕ) → new ≡ without n old → length old ≤ g.drawn → length new ≤ g.drawn
-    fits old new is enough = (let less = without_shorter n old in let same = ap length is in omega (arith, less, same, enough))
 
 -- ---- several leave
 

@@ -1,6 +1,13 @@
 pub mod Apart
+pub mod Chained
 pub mod Leaving
+pub mod Emptying
+pub mod Entering
+pub mod Freed
+pub mod Holding
 pub mod Linking
-pub mod Ordered
+pub mod Numbered
 pub mod Pushed
 pub mod Removed
+pub mod Staying
+pub mod Taken

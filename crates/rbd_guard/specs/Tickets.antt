@@ -1,30 +1,52 @@
 -- The tickets of a session's requests: each object's queue, and each request's list.
-use Rattle.std.specs.Prelude.{◌≡◌, ℕ, ◌==◌, ◌<◌, ◌≤◌, ◌^◌, cond, not, Bool, false, List, [], ◌∷◌, Option, IsSome, is_some, length}
+use Rattle.std.specs.Prelude.{◌≡◌, ℕ, ◌==◌, nat_eq, ◌<◌, ◌≤◌, ◌^◌, cond, not, Bool, false, List, [], ◌∷◌, Option, None, Some, IsSome, is_some, option_map, unwrap_or, map, length}
 use Rattle.std.specs.List.{filter}
-use Rattle.rbd_guard.specs.Order.{Tables, line, key_of, is_in, IsInOrder}
+use Rattle.std.specs.Map.{lookup}
+use Rattle.rbd_guard.specs.declared.link.Link.{Link}
+use Rattle.rbd_guard.specs.declared.link.Ends.{Ends}
+use Rattle.rbd_guard.specs.declared.link.Place.{Place}
+use Rattle.rbd_guard.specs.Order.{is_in, IsInOrder, ends_or, walked}
+use Rattle.rbd_guard.specs.Slab.{queue_link, list_link, number_at}
 
--- what a guard holds: the queues of objects and the lists of requests, as tables that contracts
--- read by the words below alone, how many tickets were ever given, and for how many more there is
--- room
+-- what a guard holds: the places of tickets, where each ticket's number is found, the ends of each
+-- queue and of each list, how many tickets were ever given, and for how many more there is room.
+-- Contracts read it by the words below alone
 pub record Tickets : Type 0 where
-  pub queues : Tables
-  pub lists : Tables
+  pub slots : List Place
+  pub places : List (ℕ × ℕ)
+  pub queues : List (ℕ × Ends)
+  pub lists : List (ℕ × Ends)
   pub drawn : ℕ
   pub reserved : ℕ
 
--- the tickets that are in at an object, and those of a request, earliest first
-abbrev pub queue : (object : ℕ) → Tickets → List ℕ
-queue object g = line object g.queues
+abbrev pub ends_at : List (ℕ × Ends) → (key : ℕ) → Ends
+ends_at ends key = ends_or (lookup (nat_eq key) ends)
 
-abbrev pub list : (request : ℕ) → Tickets → List ℕ
-list request g = line request g.lists
+-- the numbers of the tickets at some places
+abbrev pub numbers : (number : ℕ → Option ℕ) → List ℕ → List ℕ
+numbers number places = map (λ p. unwrap_or (number p) 0) places
+
+-- the key of the link at the place where a ticket is found
+abbrev pub key_at : (links : ℕ → Option Link) → Option ℕ → Option ℕ
+key_at links None = None
+key_at links (Some p) = option_map (λ (l : Link). l.key) (links p)
+
+-- the tickets that are in at an object, and those of a request, earliest first
+unfoldable pub queue : (object : ℕ) → Tickets → List ℕ
+queue object g = numbers (number_at g.slots) (walked (queue_link g.slots) (ends_at g.queues object))
+
+unfoldable pub list : (request : ℕ) → Tickets → List ℕ
+list request g = numbers (number_at g.slots) (walked (list_link g.slots) (ends_at g.lists request))
+
+abbrev pub place_of : (ticket : ℕ) → Tickets → Option ℕ
+place_of ticket g = lookup (nat_eq ticket) g.places
 
 -- the object and the request that a ticket which is in belongs to: none of one that isn't in
-abbrev pub object_of : (ticket : ℕ) → Tickets → Option ℕ
-object_of ticket g = key_of ticket g.queues
+unfoldable pub object_of : (ticket : ℕ) → Tickets → Option ℕ
+object_of ticket g = key_at (queue_link g.slots) (place_of ticket g)
 
-abbrev pub request_of : (ticket : ℕ) → Tickets → Option ℕ
-request_of ticket g = key_of ticket g.lists
+unfoldable pub request_of : (ticket : ℕ) → Tickets → Option ℕ
+request_of ticket g = key_at (list_link g.slots) (place_of ticket g)
 
 -- the others, in their order
 abbrev pub without_all : (gone : List ℕ) → List ℕ → List ℕ
@@ -48,8 +70,8 @@ pub record AreSame (old new : Tickets) : Type 0 where
 -- request alone; who has an object has a request; and each ticket that is in has a number that was
 -- drawn
 pub record IsSoundGuard (g : Tickets) : Type 0 where
-  pub queues : IsInOrder g.queues
-  pub lists : IsInOrder g.lists
+  pub queues : IsInOrder (λ object. queue object g) (λ ticket. object_of ticket g)
+  pub lists : IsInOrder (λ request. list request g) (λ ticket. request_of ticket g)
   pub both : (ticket : ℕ) → is_some (object_of ticket g) ≡ is_some (request_of ticket g)
   pub drawn : (ticket : ℕ) → IsSome (object_of ticket g) → ticket < g.drawn
   pub queue_fits : (object : ℕ) → length (queue object g) ≤ g.drawn

@@ -1,11 +1,19 @@
-ghost use Rattle.std.specs.Prelude.{◌≡◌, ℕ, ◌+◌, ◌<◌, ◌≤◌, ◌==◌, [], ◌∷◌, ◌++◌, None, Some, cond, length, slice_get, IsSome, IsNone, IsOk, IfOk, IfSome, OnOk, OnErr};
-ghost use Rattle.rbd_guard.specs.Order.{is_in, without, AreSameLines};
+ghost use Rattle.std.specs.Prelude.{◌≡◌, ℕ, ◌+◌, ◌<◌, ◌≤◌, ◌==◌, [], ◌∷◌, ◌++◌, None, Some, cond, nat_eq, length, slice_get, IsSome, IsNone, IsOk, IfOk, IfSome, OnOk, OnErr};
+ghost use Rattle.std.specs.HashMap.{get, spare};
+ghost use Rattle.rbd_guard.specs.Order.{is_in, without};
 ghost use Rattle.rbd_guard.specs.Tickets.{queue, list, object_of, request_of, without_all, AreSame, IsSoundGuard};
+ghost use Rattle.rbd_guard.specs.Links.{link};
+ghost use Rattle.rbd_guard.specs.Slab.{number_at, number_or_none, entering};
 
-use crate::lines::Lines;
+use crate::ends::ends_of;
+use crate::found::{add_place, take_place};
+use crate::link::{Ends, Link, Place};
+use crate::slab::Slab;
+use crate::standing::{enter_list, enter_queue, leave_list, leave_queue};
 use crate::ticket::Ticket;
 use rbd_kinds::NoMemory;
 use std::alloc::Global;
+use std::collections::HashMap;
 use std::marker::Model;
 
 /// The tickets of one session's requests. Contracts see each object's `queue` and each request's
@@ -13,23 +21,43 @@ use std::marker::Model;
 /// many tickets were `drawn`, and for how many more there is room.
 #[derive(Debug, Drop)]
 pub struct Guard {
-    /// The tickets of each object.
-    queues: Lines,
-    /// The tickets of each request.
-    lists: Lines,
+    /// The places of the tickets that are in.
+    slab: Slab,
+    /// The place of each ticket that is in, by its number.
+    places: HashMap<u64, usize>,
+    /// The ends of each object's queue that isn't empty.
+    queues: HashMap<u64, Ends>,
+    /// The ends of each request's list that isn't empty.
+    lists: HashMap<u64, Ends>,
     /// The number of the next ticket.
     drawn: u64,
 }
 
 impl Model for Guard {
     ghost use Rattle.std.specs.Prelude.{◌-◌, ◌^◌, min};
-    ghost use Rattle.rbd_guard.specs.Tickets.{Tickets, IsSoundGuard};
+    ghost use Rattle.std.specs.HashMap.{spare};
+    ghost use Rattle.rbd_guard.specs.Tickets.{Tickets};
+    ghost use Rattle.rbd_guard.specs.Held.{AreHeld};
 
     ghost Value = { Tickets };
 
-    ghost view = { λ g. record { queues = g.queues; lists = g.lists; drawn = g.drawn; reserved = min (min g.queues.room g.lists.room) (2 ^ 64 - 1 - g.drawn) } };
+    ghost view = { λ g. record {
+      slots = g.slab.places;
+      places = g.places.entries;
+      queues = g.queues.entries;
+      lists = g.lists.entries;
+      drawn = g.drawn;
+      reserved = min (min (min g.slab.room (spare g.places)) (min (spare g.queues) (spare g.lists))) (2 ^ 64 - 1 - g.drawn);
+    } };
 
-    ghost invariant = { λ g. IsSoundGuard (record { queues = g.queues; lists = g.lists; drawn = g.drawn; reserved = 0 }) };
+    ghost invariant = { λ g. AreHeld (record {
+      slots = g.slab.places;
+      places = g.places.entries;
+      queues = g.queues.entries;
+      lists = g.lists.entries;
+      drawn = g.drawn;
+      reserved = 0;
+    }) };
 }
 
 impl Guard {
@@ -43,8 +71,10 @@ impl Guard {
         ensures sound { IsSoundGuard result }
     {
         Guard {
-            queues: Lines::new(alloc),
-            lists: Lines::new(alloc),
+            slab: Slab::new(alloc),
+            places: HashMap::new(alloc),
+            queues: HashMap::new(alloc),
+            lists: HashMap::new(alloc),
             drawn: 0,
         }
     }
@@ -61,7 +91,9 @@ impl Guard {
         if u64::MAX - self.drawn < more as u64 {
             return Err(NoMemory);
         }
-        reserve_both(&mut self.queues, &mut self.lists, more as usize)
+        let more = more as usize;
+        self.slab.reserve(more)?;
+        reserve_all(&mut self.places, &mut self.queues, &mut self.lists, more)
     }
 
     /// Gives a request a ticket for an object: the last in the object's queue, and the last in the
@@ -86,11 +118,29 @@ impl Guard {
         ensures sound { IsSoundGuard self.new }
     {
         self.reserve(1)?;
+        Ok(self.enter_place(request as u64, object))
+    }
+
+    /// The same where room is reserved. A place that is free is taken again.
+    fn enter_place(&mut self, request: u64, object: u64) -> Ticket
+        requires { 0 < self.old.reserved }
+        ensures queue { (o : ℕ) → queue o self.new ≡ cond (object == o) (queue o self.old ++ result ∷ []) (queue o self.old) }
+        ensures list { (r : ℕ) → list r self.new ≡ cond (request == r) (list r self.old ++ result ∷ []) (list r self.old) }
+        ensures object { (t : ℕ) → object_of t self.new ≡ cond (result == t) (Some object) (object_of t self.old) }
+        ensures request { (t : ℕ) → request_of t self.new ≡ cond (result == t) (Some request) (request_of t self.old) }
+        ensures number { result ≡ self.old.drawn }
+        ensures drawn { self.new.drawn ≡ self.old.drawn + 1 }
+        ensures fresh { object_of result self.old ≡ None }
+        ensures reserved { self.old.reserved ≤ self.new.reserved + 1 }
+        ensures sound { IsSoundGuard self.new }
+    {
         let number = self.drawn;
-        self.queues.push(object, number);
-        self.lists.push(request as u64, number);
+        let at = self.slab.enter(entering(number, object, request));
+        enter_queue(&mut self.slab, &mut self.queues, object, at);
+        enter_list(&mut self.slab, &mut self.lists, request, at);
+        add_place(&mut self.places, number, at);
         self.drawn = number + 1;
-        Ok(Ticket { number })
+        Ticket { number }
     }
 
     /// The ticket that entered an object's queue earliest and hasn't left. `None` exactly where the
@@ -100,7 +150,7 @@ impl Guard {
         ensures object { IfSome result (λ ticket. object_of ticket self.now ≡ Some object) }
         ensures sound { IsSoundGuard self.now }
     {
-        ticket_of(self.queues.first(object))
+        ticket_at(&self.slab, ends_of(&self.queues, object).first)
     }
 
     /// The ticket of a request that entered earliest and hasn't left. `None` exactly where its list
@@ -110,7 +160,7 @@ impl Guard {
         ensures request { IfSome result (λ ticket. request_of ticket self.now ≡ Some request) }
         ensures sound { IsSoundGuard self.now }
     {
-        ticket_of(self.lists.first(request as u64))
+        ticket_at(&self.slab, ends_of(&self.lists, request as u64).first)
     }
 
     /// Takes a ticket that is in away. Every other order stays. It takes no memory.
@@ -124,8 +174,10 @@ impl Guard {
         ensures reserved { self.old.reserved ≤ self.new.reserved }
         ensures sound { IsSoundGuard self.new }
     {
-        self.queues.remove(ticket.number);
-        self.lists.remove(ticket.number);
+        let at = take_place(&mut self.places, ticket.number);
+        let left = self.slab.leave(at);
+        leave_queue(&mut self.slab, &mut self.queues, left.queue);
+        leave_list(&mut self.slab, &mut self.lists, left.list);
     }
 
     /// Takes away all tickets of a request, and answers how many. Every other order stays. It takes
@@ -142,7 +194,7 @@ impl Guard {
         ensures reserved { self.old.reserved ≤ self.new.reserved }
         ensures sound { IsSoundGuard self.new }
     {
-        let count = self.lists.count(request as u64);
+        let count = ends_of(&self.lists, request as u64).count;
         while let Some(ticket) = self.next_of(request) {
             self.leave(ticket);
         }
@@ -150,24 +202,54 @@ impl Guard {
     }
 }
 
-fn reserve_both(queues: &mut Lines, lists: &mut Lines, more: usize) -> Result<(), NoMemory>
-    ensures queues { AreSameLines queues.old queues.new }
-    ensures lists { AreSameLines lists.old lists.new }
-    ensures ok { OnOk result ((more ≤ queues.new.room) × (more ≤ lists.new.room)) }
-    ensures succeeds { more ≤ queues.old.room → more ≤ lists.old.room → IsOk result }
-    ensures room_of_queues { queues.old.room ≤ queues.new.room }
-    ensures room_of_lists { lists.old.room ≤ lists.new.room }
+fn reserve_all(
+    places: &mut HashMap<u64, usize>,
+    queues: &mut HashMap<u64, Ends>,
+    lists: &mut HashMap<u64, Ends>,
+    more: usize,
+) -> Result<(), NoMemory>
+    ensures places { (n : ℕ) → get nat_eq places.new n ≡ get nat_eq places.old n }
+    ensures queues { (k : ℕ) → get nat_eq queues.new k ≡ get nat_eq queues.old k }
+    ensures lists { (k : ℕ) → get nat_eq lists.new k ≡ get nat_eq lists.old k }
+    ensures ok { OnOk result ((more ≤ spare places.new) × ((more ≤ spare queues.new) × (more ≤ spare lists.new))) }
+    ensures succeeds { more ≤ spare places.old → more ≤ spare queues.old → more ≤ spare lists.old → IsOk result }
+    ensures room_of_places { spare places.old ≤ spare places.new }
+    ensures room_of_queues { spare queues.old ≤ spare queues.new }
+    ensures room_of_lists { spare lists.old ≤ spare lists.new }
 {
+    places.reserve(more)?;
     queues.reserve(more)?;
     lists.reserve(more)?;
     Ok(())
 }
 
-fn ticket_of(number: Option<u64>) -> Option<Ticket>
-    ensures { result ≡ number }
+/// What stands at the place of a ticket that isn't linked with others yet.
+fn entering(number: u64, object: u64, request: u64) -> Place
+    ensures { result ≡ entering number object request }
 {
-    match number {
-        Some(number) => Some(Ticket { number }),
-        None => None,
+    Place {
+        used: true,
+        number,
+        queue: alone(object),
+        list: alone(request),
+        free: None,
     }
+}
+
+fn alone(key: u64) -> Link
+    ensures { result ≡ link key None None }
+{
+    Link {
+        key,
+        before: None,
+        after: None,
+    }
+}
+
+/// The ticket at a place.
+fn ticket_at(slab: &Slab, at: Option<usize>) -> Option<Ticket>
+    ensures { result ≡ number_or_none (number_at slab.now.places) at }
+{
+    let number = slab.number(at?)?;
+    Some(Ticket { number })
 }

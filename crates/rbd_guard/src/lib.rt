@@ -33,27 +33,38 @@
 //!
 //! # Cost
 //!
-//! `enter`, `first`, `next_of` and `leave` look up a few entries of hash tables (whose seed is
-//! fixed), and so cost the same on average however many tickets are in. `leave_all` costs as much
-//! as its tickets do one by one. Only `reserve` and `enter` take memory, and `enter` none where
-//! room is reserved. Growing the tables moves what is in. `scripts/guard-cost` measures each call.
+//! `enter`, `first`, `next_of` and `leave` look up the ends of one queue and of one list, and where
+//! a ticket's number is, in hash tables (whose seed is fixed). The rest is a few places by index.
+//! So they cost the same on average however many tickets are in. `leave_all` costs as much as its
+//! tickets do one by one. Only `reserve` and `enter` take memory, and `enter` none where room is
+//! reserved. Growing moves what is in. `scripts/guard-cost` measures each call.
 //!
 //! # How it works
 //!
-//! A ticket is linked with the one before it and the one after it in the queue of its object, and
-//! the same in the list of its request. The links of all queues are one hash table by ticket, and a
-//! second has the first and the last ticket of each queue that isn't empty; the lists have two such
-//! tables of their own (`lines`). A ticket's links go with it, and their room is used again. The
-//! type keeps that both directions of each link agree, that a queue read from its first is all of
-//! it, and that each link stands in one. Where numbers are used up, `reserve` and `enter` answer as
-//! for want of memory.
+//! Each ticket that is in stands at a place of one slab (`slab`), a vector whose places are named
+//! by index. A place holds the ticket's number, and is linked with the places before and after it
+//! in the queue of its object, and the same in the list of its request. Free places are linked
+//! through the slab too. One whose ticket left is taken again by a later `enter`, so the slab is
+//! only as long as the most tickets that were ever in at a time.
+//!
+//! Beside the slab there are three hash tables: the first and the last place of each queue that
+//! isn't empty, the same of each list, and the place of each number that is in. A ticket is copied,
+//! and is seen as its number, so it can't carry a place that contracts don't see.
+//!
+//! The type keeps that both directions of each link agree, that a queue read from its first place
+//! is all of it, and that each place in use stands in one queue and in one list. A free place
+//! stands in neither, and the list of free places has each of them once. Where numbers are used up,
+//! `reserve` and `enter` answer as for want of memory.
 #![tactic(auto)]
 
+mod ends;
+mod found;
 mod guard;
 pub mod laws;
-mod lines;
 mod link;
-mod tables;
+mod places;
+mod slab;
+mod standing;
 mod ticket;
 
 pub use guard::Guard;

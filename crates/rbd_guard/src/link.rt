@@ -1,15 +1,27 @@
-/// Where a number stands in its line: the line's key, and the numbers before and after it.
+/// Where a ticket stands in its object's queue, or in its request's list: the object or the
+/// request, and the places of the tickets before and after it.
 #[derive(Clone, Copy, Debug)]
 pub struct Link {
     pub key: u64,
-    pub before: Option<u64>,
-    pub after: Option<u64>,
+    pub before: Option<usize>,
+    pub after: Option<usize>,
 }
 
-/// A line's first and last number, and how many stand in it.
+/// The places of the first and the last ticket of a queue or a list, and how many stand in it.
 #[derive(Clone, Copy, Debug)]
 pub struct Ends {
-    pub first: Option<u64>,
-    pub last: Option<u64>,
+    pub first: Option<usize>,
+    pub last: Option<usize>,
     pub count: u64,
+}
+
+/// A place of the slab: a ticket's number, and where it stands. Where the place is free, nothing
+/// but `free` counts, which is the next free place.
+#[derive(Clone, Copy, Debug)]
+pub struct Place {
+    pub used: bool,
+    pub number: u64,
+    pub queue: Link,
+    pub list: Link,
+    pub free: Option<usize>,
 }

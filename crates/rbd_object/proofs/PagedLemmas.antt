@@ -430,6 +430,11 @@ unused : (sheets : List Sheet) → ((x : ℕ) → count_at sheets x ≡ 0) → i
 unused [] none = refl
 unused (t ∷ sheets) none = let first = none 0 in let rest = unused sheets (λ x. none (suc x)) in omega arith
 
+-- pages are named in sheaves
+pub sheaf_of_pages : (sheaves sheets : List Sheet) → AreStocked (record { sheaves = sheaves; sheets = sheets }) → 0 < in_use sheets → 0 < length sheaves
+sheaf_of_pages [] sheets stocked some = let none = unused sheets (λ x. stocked.counts x) in omega arith
+sheaf_of_pages (s ∷ sheaves) sheets stocked some = omega arith
+
 pub pages_none : (a : Stock) (head : Option Listed) (seq : ℕ) (versions : List Stored) (o : Mapped)
     → value_of (bytes_of a head) seq (map (kept_in a) versions) ≡ o → AreStocked a → IsPaged a head seq versions
     → ((snap : Option ℕ) (bytes : List ℕ) → view (looked o) snap ≡ Some bytes → bytes ≡ []) → in_use a.sheets ≡ 0

@@ -6,12 +6,12 @@ use Rattle.std.proofs.lemmas.List.FromFn.{fill_by_all, length-map-range_with_len
 use Rattle.rbd_object.specs.Sheets.{Sheet, count_at, bytes_at}
 use Rattle.rbd_object.specs.Contents.{is_within, overwritten, window, zeroed}
 use Rattle.rbd_object.specs.Paging.{occurs, byte_at, pages_for, AreApart, AreCounted, IsWritten, IsZeroed}
-use Rattle.rbd_object.specs.Sheaves.{AreFull, AreStocked, Exchanged, IsOwn, IsPrepared, IsSame, Stock, pages_in, sheaves_for}
+use Rattle.rbd_object.specs.Sheaves.{AreFull, AreStocked, Exchanged, IsOnOwn, IsOwn, IsPrepared, IsSame, Stock, pages_in, sheaves_for}
 use Rattle.rbd_object.specs.Shared.{Listed, IsContent, bytes_in, pages_on, touched}
 use Rattle.rbd_object.proofs.ContentsLemmas.{overwritten-same, length_overwritten, get_or-overwritten_any, length-zeroed, get_or-zeroed}
 use Rattle.rbd_object.proofs.PagingLemmas.{bytes_on_within, bytes_on_past, framed_byte}
-use Rattle.rbd_object.proofs.SheavesLemmas.{length-both, occurs-append}
-use Rattle.rbd_object.proofs.ListsLemmas.{changed_exchanged, counted_exchanged, exchanged_trans, framed_full, framed_list, full_take, long_take, pages_in-take}
+use Rattle.rbd_object.proofs.SheavesLemmas.{flat_most, length-both, occurs-append}
+use Rattle.rbd_object.proofs.ListsLemmas.{changed_exchanged, counted_exchanged, exchanged_trans, framed_full, framed_list, full_take, list_prepared_refl, long_take, pages_in-take}
 
 -- the bytes of a content are those of its pages, also past the last one
 pub byte_of : (stock : Stock) (c : Listed) (i : ℕ) → IsContent stock c → get_or (bytes_in stock c) i 0 ≡ byte_at stock.sheets (pages_on stock c) i
@@ -163,6 +163,24 @@ written_at a b c old new at bytes content stocked prepared grown long own e writ
     × (IsContent (record { sheaves = xs; sheets = c.sheets }) new
     × (bytes_in (record { sheaves = xs; sheets = c.sheets }) new ≡ overwritten (bytes_in a old) at bytes))) (sym e)
     (written_content a b c.sheets old new at bytes content stocked prepared grown long own written len within)
+
+-- a write on one page that can take it as it is
+pub written_in_place : (a c : Stock) (old new : Listed) (at : ℕ) (bytes : List ℕ) → IsContent a old → AreStocked a
+    → IsOnOwn a old.sheaves at (length bytes) → c.sheaves ≡ a.sheaves → IsWritten (pages_in a.sheaves old.sheaves) at bytes a.sheets c.sheets
+    → new.sheaves ≡ old.sheaves → new.len ≡ max old.len (at + length bytes) → at + length bytes ≤ 33554432
+    → Exchanged a old.sheaves c new.sheaves × (IsContent c new × (bytes_in c new ≡ overwritten (bytes_in a old) at bytes))
+written_in_place a c old new at bytes content stocked on e written same len within =
+    let most = flat_most a.sheaves old.sheaves content.full in
+    let there = (on.own 0).page.there in
+    let fits = on.fits in
+    let some = on.some in
+    written_at a a c old new at bytes content stocked
+    (subst (λ xs. IsPrepared a old.sheaves a xs) (sym same) (list_prepared_refl a old.sheaves content.apart content.full))
+    (ap length same ∙ (let held : length old.sheaves ≡ max (length old.sheaves) (sheaves_for (pages_for (at + length bytes))) = omega arith in held))
+    (subst (λ xs. pages_for (at + length bytes) ≤ length (pages_in a.sheaves xs)) (sym same) (omega arith))
+    (λ j below. subst (λ xs. IsOwn a xs ((at + j) / 4096) (get_or bytes j 0)) (sym same)
+    (subst (λ k. IsOwn a old.sheaves k (get_or bytes j 0)) (let here : at / 4096 ≡ (at + j) / 4096 = omega arith in here) (on.own (get_or bytes j 0))))
+    e (subst (λ xs. IsWritten (pages_in a.sheaves xs) at bytes a.sheets c.sheets) (sym same) written) len within
 
 -- what a write may add
 pub written_used : (old new len at n : ℕ) → (0 < n) ⊎ (len < at)

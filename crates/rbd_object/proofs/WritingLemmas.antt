@@ -1,7 +1,7 @@
 -- The loops that write bytes on a list's pages, and make them zero.
 use Rattle.std.proofs.Common.{◌≡◌, ◌≢◌, ℕ, ◌+◌, ◌-◌, ◌/◌, ◌%◌, ◌<◌, ◌≤◌, false, cond, List, length, get_or, take, drop, min, length-drop, length-take, refl, sym, ap, ◌∙◌, subst, inl, inr, arith}
 use Rattle.std.proofs.lemmas.Bool.{cases_lt}
-use Rattle.std.proofs.lemmas.List.{get_or_past, get_or-drop, get_or-take, places}
+use Rattle.std.proofs.lemmas.List.{get_or_past, get_or-drop, get_or-take, places, take_all}
 use Rattle.rbd_object.specs.Sheets.{Sheet, Changed, sheet_at, count_at, bytes_at}
 use Rattle.rbd_object.specs.Contents.{is_within}
 use Rattle.rbd_object.specs.Paging.{byte_at, AreCounted, IsReady, IsChanged, IsWritten, IsZeroed}
@@ -139,6 +139,22 @@ writing_more_at pages at bytes old next rest a b count front back p e w counted 
     (subst (λ x. Changed x a b) e change) (subst (λ x. count_at b x ≡ count_at a x) e counts)
     (subst (λ x. length (bytes_at b x) ≡ length (bytes_at a x)) e lengths)
     (λ j. subst (λ x. get_or (bytes_at b x) j 0 ≡ cond (is_within (next % 4096) (length front) j) (get_or front (j - next % 4096) 0) (get_or (bytes_at a x) j 0)) e (is j))
+
+-- a write that one page takes whole
+pub written_on_one : (pages : List ℕ) (at : ℕ) (bytes : List ℕ) (a b : List Sheet) (p : ℕ) → p ≡ get_or pages (at / 4096) 0
+    → ((byte : ℕ) → IsReady a pages (at / 4096) byte) → AreCounted a pages → 0 < length bytes → length bytes ≤ 4096 - at % 4096
+    → at + length bytes ≤ 33554432
+    → Changed p a b → count_at b p ≡ count_at a p → length (bytes_at b p) ≡ length (bytes_at a p)
+    → ((j : ℕ) → get_or (bytes_at b p) j 0
+    ≡ cond (is_within (at % 4096) (length bytes) j) (get_or bytes (j - at % 4096) 0) (get_or (bytes_at a p) j 0))
+    → IsWritten pages at bytes a b
+written_on_one pages at bytes a b p e ready counted some fits within change counts lengths is =
+    writing_done pages at bytes a (at + length bytes) (drop (length bytes) bytes) b
+    (writing_more_at pages at bytes a at bytes a b (length bytes) bytes (drop (length bytes) bytes) p e
+    (writing_begun pages at bytes a
+    (λ j below. subst (λ k. IsReady a pages k (get_or bytes j 0)) (let same : at / 4096 ≡ (at + j) / 4096 = omega arith in same) (ready (get_or bytes j 0))) within)
+    counted some (omega arith) (sym (take_all (length bytes) bytes (omega arith))) refl change counts lengths is)
+    (length-drop (length bytes) bytes ∙ omega arith)
 
 pub zeroing_begun : (pages : List ℕ) (at len : ℕ) (a : List Sheet)
     → ((j : ℕ) → j < len → IsReady a pages ((at + j) / 4096) 0) → at + len ≤ 33554432 → IsZeroing pages at len a at len a

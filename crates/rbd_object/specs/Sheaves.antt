@@ -1,7 +1,8 @@
 -- Sheaves of pages, as contracts see them.
-use Rattle.std.specs.Prelude.{◌≡◌, ℕ, ◌+◌, ◌-◌, ◌/◌, ◌<◌, ◌≤◌, List, [], ◌∷◌, ◌++◌, length, slice_index}
+use Rattle.std.specs.Prelude.{◌≡◌, ℕ, ◌+◌, ◌-◌, ◌/◌, ◌%◌, ◌<◌, ◌≤◌, List, [], ◌∷◌, ◌++◌, length, slice_index}
 use Rattle.rbd_object.specs.Sheets.{Sheet, count_at, bytes_at}
 use Rattle.rbd_object.specs.Paging.{occurs, bytes_on, AreApart, IsReady}
+use Rattle.rbd_object.specs.declared.page.TheConstants.{PAGE}
 use Rattle.rbd_object.specs.declared.sheaf.TheConstants.{SHEAF}
 
 -- The sheaves that contents share, each with its pages in place of bytes, and the pages that
@@ -49,6 +50,12 @@ pub record Exchanged (old : Stock) (list : List ℕ) (new : Stock) (after : List
 pub record IsOwn (stock : Stock) (list : List ℕ) (k byte : ℕ) : Type 0 where
   pub sheaf : count_at stock.sheaves (slice_index list (k / SHEAF)) ≡ 1
   pub page : IsReady stock.sheets (pages_in stock.sheaves list) k byte
+
+-- `len` bytes from byte `at` on lie on one page, which can take them as it is
+pub record IsOnOwn (stock : Stock) (list : List ℕ) (at len : ℕ) : Type 0 where
+  pub some : 0 < len
+  pub fits : at % PAGE + len ≤ PAGE
+  pub own : (byte : ℕ) → IsOwn stock list (at / PAGE) byte
 
 -- Sheaves and pages were copied or added, and each byte is the same.
 pub record IsPrepared (old : Stock) (list : List ℕ) (new : Stock) (after : List ℕ) : Type 0 where

@@ -1,5 +1,5 @@
 //! The pages that the contents of an object share.
-ghost use Rattle.std.specs.Prelude.{◌≡◌, ◌≢◌, ℕ, ◌+◌, ◌-◌, ◌<◌, ◌≤◌, [], length, slice_index, if◌then◌else◌, IfOk, IfSome, OnOk, OnErr};
+ghost use Rattle.std.specs.Prelude.{◌≡◌, ◌≢◌, ℕ, ◌+◌, ◌-◌, ◌<◌, ◌≤◌, [], length, slice_index, if◌then◌else◌, IfOk, IfSome, OnOk, OnErr, IsTrue};
 ghost use Rattle.rbd_object.specs.Contents.{is_within, window};
 ghost use Rattle.rbd_object.specs.Sheets.{Changed, sheet_at, count_at, bytes_at, in_use, released};
 ghost use Rattle.rbd_object.specs.declared.page.TheConstants.{PAGE};
@@ -50,6 +50,13 @@ impl Arena {
         self.used
     }
 
+    /// How many places there are, free ones among them.
+    pub fn places(&self) -> usize
+        ensures { result ≡ length self.now }
+    {
+        self.pages.len()
+    }
+
     /// Takes the memory for so many more pages at once, those aside that free ones have.
     pub fn reserve(&mut self, more: usize) -> Result<(), NoMemory>
         ensures { self.new ≡ self.old }
@@ -65,6 +72,15 @@ impl Arena {
         ensures { result ≡ count_at self.now index }
     {
         self.pages[index as usize].count()
+    }
+
+    /// Whether one place names a page, and its bytes are there.
+    pub fn is_own(&self, index: u32) -> bool
+        requires { 0 < count_at self.now index }
+        ensures alone { IsTrue result → count_at self.now index ≡ 1 }
+        ensures stored { IsTrue result → length (bytes_at self.now index) ≡ PAGE }
+    {
+        self.pages[index as usize].is_own()
     }
 
     /// A page of zeros that one place names.
@@ -158,12 +174,7 @@ impl Arena {
         ensures bytes { bytes_at self.new index ≡ bytes_at self.old index }
         ensures err { OnErr result (self.new ≡ self.old) }
     {
-        let page = &mut self.pages[index as usize];
-        let Some(count) = page.count().checked_add(1) else {
-            return Err(NoMemory);
-        };
-        page.set_count(count);
-        Ok(())
+        self.pages[index as usize].hold()
     }
 
     /// One place less names a page, which is free where that was the last one.

@@ -1,8 +1,8 @@
 //! The bytes of a list of sheaves, on the pages that these name.
-ghost use Rattle.std.specs.Prelude.{◌≡◌, ℕ, ◌+◌, ◌/◌, ◌<◌, ◌≤◌, length, slice_index, IfSome, None};
+ghost use Rattle.std.specs.Prelude.{◌≡◌, ℕ, ◌+◌, ◌/◌, ◌<◌, ◌≤◌, length, slice_index, IfSome, None, IsTrue, false};
 ghost use Rattle.rbd_object.specs.Contents.{window};
 ghost use Rattle.rbd_object.specs.Paging.{AreCounted, IsReady, IsWritten, IsZeroed, byte_at, bytes_on};
-ghost use Rattle.rbd_object.specs.Sheaves.{AreFull, pages_in};
+ghost use Rattle.rbd_object.specs.Sheaves.{AreFull, IsOnOwn, IsOwn, pages_in};
 ghost use Rattle.rbd_object.specs.declared.page.TheConstants.{PAGE};
 ghost use Rattle.rbd_object.specs.declared.content.TheConstants.{LARGEST_OBJECT};
 
@@ -18,6 +18,64 @@ fn page_at(list: &[u32], sheaves: &[Sheaf], k: usize) -> u32
     ensures { result ≡ slice_index (pages_in sheaves.now list.now) k }
 {
     sheaves[list[k / SHEAF] as usize].page(k % SHEAF)
+}
+
+/// The page at place `k` of the list's pages, if it can be changed as it is: its bytes are there,
+/// and it is this list's alone, as its sheaf is.
+fn own_page(list: &[u32], sheaves: &[Sheaf], arena: &Arena, k: usize) -> Option<u32>
+    requires sheaves { AreCounted sheaves.now list.now }
+    requires full { AreFull sheaves.now list.now }
+    requires counted { AreCounted arena.now (pages_in sheaves.now list.now) }
+    ensures page { IfSome result (λ page. page ≡ slice_index (pages_in sheaves.now list.now) k) }
+    ensures own { IfSome result (λ _. (byte : ℕ) → IsOwn (record { sheaves = sheaves.now; sheets = arena.now }) list.now k byte) }
+{
+    if k / SHEAF >= list.len() {
+        return None;
+    }
+    let sheaf = &sheaves[list[k / SHEAF] as usize];
+    if sheaf.count() != 1 {
+        return None;
+    }
+    if k % SHEAF >= sheaf.len() {
+        return None;
+    }
+    let page = sheaf.page(k % SHEAF);
+    if !arena.is_own(page) {
+        return None;
+    }
+    Some(page)
+}
+
+/// Writes bytes from byte `at` on, where they lie on one page that can be changed as it is. Else it
+/// is false, and nothing changes.
+pub fn put_in_place(
+    list: &[u32],
+    sheaves: &[Sheaf],
+    arena: &mut Arena,
+    at: usize,
+    bytes: &[u8],
+) -> bool
+    requires sheaves { AreCounted sheaves.now list.now }
+    requires full { AreFull sheaves.now list.now }
+    requires counted { AreCounted arena.old (pages_in sheaves.now list.now) }
+    requires within { at + length bytes.now ≤ LARGEST_OBJECT }
+    ensures own { IsTrue result → IsOnOwn (record { sheaves = sheaves.now; sheets = arena.old }) list.now at (length bytes.now) }
+    ensures written { IsTrue result → IsWritten (pages_in sheaves.now list.now) at bytes.now arena.old arena.new }
+    ensures same { result ≡ false → arena.new ≡ arena.old }
+{
+    if bytes.is_empty() {
+        return false;
+    }
+    if bytes.len() > PAGE - at % PAGE {
+        return false;
+    }
+    match own_page(list, sheaves, arena, at / PAGE) {
+        Some(page) => {
+            arena.put(page, at % PAGE, bytes);
+            true
+        }
+        None => false,
+    }
 }
 
 /// Writes bytes from byte `at` on.

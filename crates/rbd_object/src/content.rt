@@ -1,5 +1,5 @@
 //! The bytes of a head or of a version.
-ghost use Rattle.std.specs.Prelude.{◌≡◌, ℕ, ◌+◌, ◌/◌, ◌≤◌, ◌<◌, [], ◌++◌, List, length, min, max, slice_index, IfOk, OnOk, OnErr};
+ghost use Rattle.std.specs.Prelude.{◌≡◌, ℕ, ◌+◌, ◌/◌, ◌≤◌, ◌<◌, [], ◌++◌, List, length, min, max, slice_index, IfOk, OnOk, OnErr, IsTrue, false};
 ghost use Rattle.rbd_object.specs.Contents.{window, overwritten, zeroed};
 ghost use Rattle.rbd_object.specs.Paging.{AreCounted, pages_for};
 ghost use Rattle.rbd_object.specs.Parts.{parts_of};
@@ -126,6 +126,51 @@ impl Content {
 
     /// Writes bytes from offset `at` on. Where that is past the end, there are zeros between.
     pub fn write(&mut self, sheaves: &mut Sheaves, at: u64, bytes: &[u8]) -> Result<(), NoMemory>
+        requires within { at + length bytes.now ≤ LARGEST_OBJECT }
+        requires counted { AreCounted sheaves.old.sheaves self.old.sheaves }
+        requires content { IsContent sheaves.old self.old }
+        ensures exchanged { Exchanged sheaves.old self.old.sheaves sheaves.new self.new.sheaves }
+        ensures content { IsContent sheaves.new self.new }
+        ensures ok { OnOk result (bytes_in sheaves.new self.new ≡ overwritten (bytes_in sheaves.old self.old) at bytes.now) }
+        ensures err { OnErr result (bytes_in sheaves.new self.new ≡ bytes_in sheaves.old self.old) }
+        ensures used { in_use sheaves.new.sheets ≤ in_use sheaves.old.sheets + touched (min self.old.len at) (at + length bytes.now) }
+    {
+        if self.write_in_place(sheaves, at, bytes) {
+            return Ok(());
+        }
+        self.write_prepared(sheaves, at, bytes)
+    }
+
+    /// Writes bytes as `write` does, where they lie on one page that can be changed as it is. Else
+    /// it is false, and nothing changes.
+    fn write_in_place(&mut self, sheaves: &mut Sheaves, at: u64, bytes: &[u8]) -> bool
+        requires within { at + length bytes.now ≤ LARGEST_OBJECT }
+        requires counted { AreCounted sheaves.old.sheaves self.old.sheaves }
+        requires content { IsContent sheaves.old self.old }
+        ensures exchanged { Exchanged sheaves.old self.old.sheaves sheaves.new self.new.sheaves }
+        ensures content { IsContent sheaves.new self.new }
+        ensures done { IsTrue result → bytes_in sheaves.new self.new ≡ overwritten (bytes_in sheaves.old self.old) at bytes.now }
+        ensures same { result ≡ false → self.new ≡ self.old }
+        ensures sheaves { result ≡ false → sheaves.new ≡ sheaves.old }
+        ensures used { in_use sheaves.new.sheets ≡ in_use sheaves.old.sheets }
+    {
+        let end = at as usize + bytes.len();
+        if !sheaves.put_in_place(self.list.as_slice(), at as usize, bytes) {
+            return false;
+        }
+        self.len = self.len.max(end);
+        true
+    }
+
+    /// Writes bytes as `write` does, and makes their pages ready beforehand.
+    // Not inline: it would push this rarer work into every write.
+    #[inline(never)]
+    fn write_prepared(
+        &mut self,
+        sheaves: &mut Sheaves,
+        at: u64,
+        bytes: &[u8],
+    ) -> Result<(), NoMemory>
         requires within { at + length bytes.now ≤ LARGEST_OBJECT }
         requires counted { AreCounted sheaves.old.sheaves self.old.sheaves }
         requires content { IsContent sheaves.old self.old }

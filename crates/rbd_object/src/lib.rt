@@ -44,21 +44,24 @@
 //!
 //! Contents lie on pages of 4,096 bytes, and their pages in *sheaves* of 128. A write costs the
 //! bytes that it writes, and an index and an entry for each page that is new; the memory for the
-//! entries is taken in one step. A page of zeros has no bytes: they are taken at the first one that
-//! isn't zero. The first change after a snapshot adds an index and a count for each sheaf of the
-//! object where the head stays in place (`write`, `zero`). The first change in a sheaf then adds an
-//! index and a count for each of its pages, and the first one on a page copies it. Where the head
-//! is replaced (`write_full`, `empty`, `remove`) the old one moves into the version. A change of
-//! several parts costs as much each time, since the head is held beside it until the last part is
-//! done; that of one part doesn't. A context whose number isn't above `seq` costs nothing. A read
-//! copies into the caller's buffer alone; that of a snapshot looks through the versions first,
-//! newest first. A trim looks at each snapshot that something is kept for, and at the sheaves of
-//! what it drops, and at the pages of those that no other content names.
+//! entries is taken in one step. One that lies on one page that is the head's alone goes there at
+//! once. A page of zeros has no bytes: they are taken at the first one that isn't zero. The first
+//! change after a snapshot adds an index and a count for each sheaf of the object where the head
+//! stays in place (`write`, `zero`). The first change in a sheaf then adds an index and a count for
+//! each of its pages, and the first one on a page copies it. Where the head is replaced
+//! (`write_full`, `empty`, `remove`) the old one moves into the version. A change of several parts
+//! costs as much each time, since the head is held beside it until the last part is done; that of
+//! one part doesn't. A context whose number isn't above `seq` costs nothing. A read copies into the
+//! caller's buffer alone; that of a snapshot looks through the versions first, newest first. A trim
+//! looks at each snapshot that something is kept for, and at the sheaves of what it drops, and at
+//! the pages of those that no other content names.
 //!
 //! [`Object::pages`] is the number of pages that some content names, each counted once. What each
 //! call may add to it stands in the contracts of [`PagedObject`], which has the same calls and
 //! whose contracts see that number beside the object's value. [`Object`] is its front: its
-//! contracts know no pages.
+//! contracts know no pages. [`PagedObject::page_places`] and [`PagedObject::sheaf_places`] tell how
+//! many places there are for pages and sheaves. Free ones are taken again before there are more:
+//! tests show it, and no contract says so.
 //!
 //! # How it works
 //!
@@ -72,11 +75,12 @@
 //! newest first: contents that the head once had, and the snapshots that they are kept for. No
 //! version is left that no snapshot needs.
 //!
-//! A change of one part first makes its pages ready, which may be refused memory and shows nothing,
-//! and then changes them, which can't be. Refused, it drops the sheaves that it added; pages of
-//! zeros that it added to the last sheaf may stay there, behind the last byte, for the next change
-//! to take. Each step is stated for one list alone, of the pages of a sheaf or of the sheaves of a
-//! content: each count follows the list, and what others name too stays as it is.
+//! A write on one page that is ready is done there. Any other change of one part first makes its
+//! pages ready, which may be refused memory and shows nothing, and then changes them, which can't
+//! be. Refused, it drops the sheaves that it added; pages of zeros that it added to the last sheaf
+//! may stay there, behind the last byte, for the next change to take. Each step is stated for one
+//! list alone, of the pages of a sheaf or of the sheaves of a content: each count follows the list,
+//! and what others name too stays as it is.
 #![tactic(auto)]
 
 mod arena;

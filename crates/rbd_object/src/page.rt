@@ -1,5 +1,5 @@
 //! One page of an arena.
-ghost use Rattle.std.specs.Prelude.{◌≡◌, ◌≢◌, ℕ, ◌+◌, ◌-◌, ◌<◌, ◌≤◌, [], length, slice_index, if◌then◌else◌, IfOk, OnOk, OnErr};
+ghost use Rattle.std.specs.Prelude.{◌≡◌, ◌≢◌, ℕ, ◌+◌, ◌-◌, ◌<◌, ◌≤◌, [], length, slice_index, if◌then◌else◌, IfOk, OnOk, OnErr, IsErr, IsTrue};
 ghost use Rattle.rbd_object.specs.Contents.{is_within, window};
 ghost use Rattle.rbd_object.specs.Sheets.{Sheet};
 
@@ -50,12 +50,49 @@ impl Page {
         self.count
     }
 
+    /// Whether one place names it, and its bytes are there.
+    pub fn is_own(&self) -> bool
+        ensures alone { IsTrue result → self.now.count ≡ 1 }
+        ensures stored { IsTrue result → length self.now.bytes ≡ PAGE }
+    {
+        if self.count != 1 {
+            return false;
+        }
+        !self.bytes.is_empty()
+    }
+
     /// The free page after this one, where this one is free.
     pub fn next(&self) -> u32 {
         self.next
     }
 
-    /// A place more or less names it.
+    /// One place more names it. It is refused where the count would be too large.
+    pub fn hold(&mut self) -> Result<(), NoMemory>
+        ensures named { 0 < self.old.count → 0 < self.new.count }
+        ensures bytes { self.new.bytes ≡ self.old.bytes }
+        ensures ok { OnOk result (self.new ≡ record { count = self.old.count + 1; bytes = self.old.bytes }) }
+        ensures err { OnErr result (self.new ≡ self.old) }
+    {
+        self.count = self.count.wrapping_add(1);
+        if self.count == 0 {
+            return self.refuse();
+        }
+        Ok(())
+    }
+
+    /// The count as it was before it went round to 0.
+    // Not inline: else each count is looked at before it is stored, three instructions more.
+    #[cold]
+    #[inline(never)]
+    fn refuse(&mut self) -> Result<(), NoMemory>
+        ensures count { self.new ≡ record { count = 4294967295; bytes = self.old.bytes } }
+        ensures refused { IsErr result }
+    {
+        self.count = u32::MAX;
+        Err(NoMemory)
+    }
+
+    /// A place less names it.
     pub fn set_count(&mut self, count: u32)
         ensures { self.new ≡ record { count = count; bytes = self.old.bytes } }
     {

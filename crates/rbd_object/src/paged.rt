@@ -1,5 +1,5 @@
 //! The object on its pages: what it shows, and how many pages that takes.
-ghost use Rattle.std.specs.Prelude.{◌≡◌, ℕ, ◌+◌, ◌≤◌, ◌↔◌, [], List, length, max, min, Some, None, unwrap_or, option_map, option_copied, IsTrue, OnOk, OnErr, IfOk, IfSome, IsSome, IsNone, Option, Ok, false};
+ghost use Rattle.std.specs.Prelude.{◌≡◌, ℕ, ◌+◌, ◌<◌, ◌≤◌, ◌↔◌, [], List, length, max, min, Some, None, unwrap_or, option_map, option_copied, IsTrue, OnOk, OnErr, IfOk, IfSome, IsSome, IsNone, Option, Ok, false};
 ghost use Rattle.rbd_object.specs.Changes.{IsWithin, after, takes};
 ghost use Rattle.rbd_object.specs.Contents.{window, overwritten, zeroed};
 ghost use Rattle.rbd_object.specs.Versioned.{view, IsTidy};
@@ -65,6 +65,23 @@ impl PagedObject {
         ensures none { ((snap : Option ℕ) (bytes : List ℕ) → view (looked self.now.shown) snap ≡ Some bytes → bytes ≡ []) → result ≡ 0 }
     {
         u64::from(self.sheaves.used())
+    }
+
+    /// How many places for pages there are, free ones among them. These are taken again before
+    /// there are more, so that it is no more than were in use at a time: that is tested, and not
+    /// proved. It takes no memory.
+    pub fn page_places(&self) -> u64
+        ensures { self.now.pages ≤ result }
+    {
+        self.sheaves.page_places() as u64
+    }
+
+    /// How many places for sheaves of pages there are, free ones among them, as `page_places` tells
+    /// it of pages.
+    pub fn sheaf_places(&self) -> u64
+        ensures { 0 < self.now.pages → 0 < result }
+    {
+        self.sheaves.places() as u64
     }
 
     /// Whether the object is there: in the head (None), or in a snapshot. It takes no memory.

@@ -1,5 +1,5 @@
 //! One sheaf of pages.
-ghost use Rattle.std.specs.Prelude.{◌≡◌, ◌≢◌, ℕ, ◌+◌, ◌<◌, ◌≤◌, [], length, max, slice_index, IfOk, OnOk, OnErr, IsTrue};
+ghost use Rattle.std.specs.Prelude.{◌≡◌, ◌≢◌, ℕ, ◌+◌, ◌<◌, ◌≤◌, [], length, max, slice_index, IfOk, OnOk, OnErr, IsErr, IsTrue};
 ghost use Rattle.rbd_object.specs.Paging.{AreCounted, IsReady, Moved, Prepared};
 ghost use Rattle.rbd_object.specs.Sheets.{Sheet, bytes_at, count_at, in_use};
 
@@ -52,7 +52,33 @@ impl Sheaf {
         self.next
     }
 
-    /// A place more or less names it.
+    /// One place more names it. It is refused where the count would be too large.
+    pub fn hold(&mut self) -> Result<(), NoMemory>
+        ensures named { 0 < self.old.count → 0 < self.new.count }
+        ensures bytes { self.new.bytes ≡ self.old.bytes }
+        ensures ok { OnOk result (self.new ≡ record { count = self.old.count + 1; bytes = self.old.bytes }) }
+        ensures err { OnErr result (self.new ≡ self.old) }
+    {
+        self.count = self.count.wrapping_add(1);
+        if self.count == 0 {
+            return self.refuse();
+        }
+        Ok(())
+    }
+
+    /// The count as it was before it went round to 0.
+    // Not inline: else each count is looked at before it is stored, three instructions more.
+    #[cold]
+    #[inline(never)]
+    fn refuse(&mut self) -> Result<(), NoMemory>
+        ensures count { self.new ≡ record { count = 4294967295; bytes = self.old.bytes } }
+        ensures refused { IsErr result }
+    {
+        self.count = u32::MAX;
+        Err(NoMemory)
+    }
+
+    /// A place less names it.
     pub fn set_count(&mut self, count: u32)
         ensures { self.new ≡ record { count = count; bytes = self.old.bytes } }
     {

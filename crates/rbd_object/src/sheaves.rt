@@ -1,7 +1,7 @@
 //! The sheaves that the contents of an object share, and their pages.
-ghost use Rattle.std.specs.Prelude.{◌≡◌, ◌≢◌, ℕ, ◌+◌, ◌*◌, ◌/◌, ◌<◌, ◌≤◌, [], length, max, slice_index, IfOk, IfSome, OnOk, OnErr, IsTrue};
+ghost use Rattle.std.specs.Prelude.{◌≡◌, ◌≢◌, ℕ, ◌+◌, ◌*◌, ◌/◌, ◌<◌, ◌≤◌, [], length, max, slice_index, IfOk, IfSome, OnOk, OnErr, IsTrue, false};
 ghost use Rattle.rbd_object.specs.Paging.{AreApart, AreCounted, IsReady, IsWritten, IsZeroed, Prepared, byte_at, occurs};
-ghost use Rattle.rbd_object.specs.Sheaves.{AreFull, AreStocked, IsSame, named_in, pages_in};
+ghost use Rattle.rbd_object.specs.Sheaves.{AreFull, AreStocked, IsOnOwn, IsSame, named_in, pages_in};
 ghost use Rattle.std.specs.Vec.{vec_len, vec_capacity};
 ghost use Rattle.rbd_object.specs.Sheets.{Changed, bytes_at, count_at, in_use, released, sheet_at};
 ghost use Rattle.rbd_object.specs.declared.page.TheConstants.{PAGE};
@@ -54,6 +54,21 @@ impl Sheaves {
         ensures stocked { AreStocked self.now }
     {
         self.arena.used()
+    }
+
+    /// How many places for sheaves there are, free ones among them.
+    pub fn places(&self) -> usize
+        ensures places { result ≡ length self.now.sheaves }
+        ensures stocked { AreStocked self.now }
+    {
+        self.sheaves.len()
+    }
+
+    /// How many places for pages there are, free ones among them.
+    pub fn page_places(&self) -> usize
+        ensures { result ≡ length self.now.sheets }
+    {
+        self.arena.places()
     }
 
     /// Takes the memory for so many more pages at once, those aside that free ones have.
@@ -113,12 +128,7 @@ impl Sheaves {
         ensures sheets { self.new.sheets ≡ self.old.sheets }
         ensures err { OnErr result (self.new ≡ self.old) }
     {
-        let sheaf = &mut self.sheaves[index as usize];
-        let Some(count) = sheaf.count().checked_add(1) else {
-            return Err(NoMemory);
-        };
-        sheaf.set_count(count);
-        Ok(())
+        self.sheaves[index as usize].hold()
     }
 
     /// One place less names a sheaf. Where that was the last one, it is free, and names its pages
@@ -157,6 +167,22 @@ impl Sheaves {
         ensures stocked { AreStocked self.old }
     {
         self.sheaves[index as usize].prepare_page(&mut self.arena, k, stored)
+    }
+
+    /// Writes bytes from byte `at` of a list's pages on, where they lie on one page that can be
+    /// changed as it is. Else it is false, and nothing changes.
+    pub fn put_in_place(&mut self, list: &[u32], at: usize, bytes: &[u8]) -> bool
+        requires counted { AreCounted self.old.sheaves list.now }
+        requires apart { AreApart (pages_in self.old.sheaves list.now) }
+        requires full { AreFull self.old.sheaves list.now }
+        requires within { at + length bytes.now ≤ LARGEST_OBJECT }
+        ensures own { IsTrue result → IsOnOwn self.old list.now at (length bytes.now) }
+        ensures sheaves { self.new.sheaves ≡ self.old.sheaves }
+        ensures written { IsTrue result → IsWritten (pages_in self.old.sheaves list.now) at bytes.now self.old.sheets self.new.sheets }
+        ensures same { result ≡ false → self.new ≡ self.old }
+        ensures stocked { AreStocked self.old }
+    {
+        bytes::put_in_place(list, self.sheaves.as_slice(), &mut self.arena, at, bytes)
     }
 
     /// Writes bytes from byte `at` of a list's pages on.

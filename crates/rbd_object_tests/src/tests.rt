@@ -1,3 +1,4 @@
 mod frame;
 mod layout;
 mod object;
+mod places;

@@ -1,5 +1,5 @@
 -- What is done at one site is done to both, as nothing is to the other.
-use Rattle.std.proofs.Common.{◌≡◌, ◌⊎◌, inl, inr, ℕ, Bool, true, false, cond, [], ◌∷◌, length, is_some, refl, sym, ap, ◌∙◌, subst}
+use Rattle.std.proofs.Common.{◌≡◌, ◌⊎◌, inl, inr, ℕ, Bool, true, false, cond, List, [], ◌∷◌, ◌++◌, length, length-append, is_some, refl, sym, ap, ◌∙◌, subst}
 use Rattle.std.proofs.lemmas.List.{append-nil}
 use Rattle.rbd_kinds.specs.declared.id.SiteId.{SiteId}
 use Rattle.rbd_kinds.specs.declared.id.SiteId.TheVariants as site
@@ -7,6 +7,7 @@ use Rattle.rbd_machine.specs.Knowledge.{same_site}
 use Rattle.rbd_site.specs.InForm.{AreInForm}
 use Rattle.rbd_site.specs.Log.{SiteLog, records_of, trimmed, trim_line}
 use Rattle.rbd_site.specs.Records.{Records}
+use Rattle.rbd_site.proofs.TrimLemmas.{form_trimmed}
 use Rattle.rbd_world.specs.declared.sites.Sites.{Sites}
 use Rattle.rbd_world.specs.Run.{Happening, Nothing, Trimmed, lines_at, records_behind}
 use Rattle.rbd_world.specs.Step.{DoesAt, DoesAtSites, next_number, trimmed_at, trimmed_of, with_lines}
@@ -70,6 +71,19 @@ trimmed_nothing true s q number image object other = record {
 }
 trimmed_nothing false s q number image object other = nothing_done q
 
+pub trimmed_here : (s : SiteId) (old new : SiteLog) (image object : ℕ) → is_some ((records_of old).objects image object) ≡ true
+    → new ≡ with_lines (trim_line (next_number old) image object ∷ []) old → records_of new ≡ trimmed image object (records_of old)
+    → DoesAt s (trimmed_of old s image object) old new
+trimmed_here s old new image object there site records =
+    subst (λ b. DoesAt s (cond b (Trimmed s (next_number old) image object) Nothing) old new) (sym there) (record {
+      site = site ∙ sym (ap (λ c. with_lines (cond c (trim_line (next_number old) image object ∷ []) []) old) (same_site_itself s));
+      records = records ∙ sym (ap (λ c. cond c (trimmed image object (records_of old)) (records_of old)) (same_site_itself s));
+      form = λ form.
+          subst (λ (r : Records). AreInForm r (length new.log)) (sym records)
+          (subst (AreInForm (trimmed image object (records_of old))) (sym (ap (λ (s : SiteLog). length s.log) site ∙ length-append old.log (trim_line (next_number old) image object ∷ [])))
+          (form_trimmed image object (records_of old) (length old.log) form));
+    })
+
 pub trimmed_at_a : (old : Sites) (new : SiteLog) (image object : ℕ) → DoesAt site.A (trimmed_of old.a site.A image object) old.a new
     → DoesAtSites (trimmed_at old site.A image object) old (record old { a = new })
 trimmed_at_a old new image object here =
@@ -91,3 +105,15 @@ trimmed_at_b old new image object here =
     by : (q : SiteId) → same_site site.B q ≡ false → site_in q (record old { b = new }) ≡ site_in q old
     by site.A other = refl
     by site.B other = cc
+
+pub trimmed_in_a : (s : SiteId) → s ≡ site.A → (old : Sites) (new : SiteLog) (image object : ℕ) → DoesAt s (trimmed_of old.a s image object) old.a new
+    → DoesAtSites (trimmed_at old s image object) old (record old { a = new })
+trimmed_in_a s is old new image object =
+    subst (λ s. DoesAt s (trimmed_of old.a s image object) old.a new → DoesAtSites (trimmed_at old s image object) old (record old { a = new })) (sym is)
+    (trimmed_at_a old new image object)
+
+pub trimmed_in_b : (s : SiteId) → s ≡ site.B → (old : Sites) (new : SiteLog) (image object : ℕ) → DoesAt s (trimmed_of old.b s image object) old.b new
+    → DoesAtSites (trimmed_at old s image object) old (record old { b = new })
+trimmed_in_b s is old new image object =
+    subst (λ s. DoesAt s (trimmed_of old.b s image object) old.b new → DoesAtSites (trimmed_at old s image object) old (record old { b = new })) (sym is)
+    (trimmed_at_b old new image object)

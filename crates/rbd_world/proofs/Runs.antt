@@ -23,15 +23,15 @@ any_append test (x ∷ xs) ys = by (test x) (any_append test xs ys)
     by true rest = refl
     by false rest = rest
 
-or_false : (b : Bool) → (b || false) ≡ b
+pub or_false : (b : Bool) → (b || false) ≡ b
 or_false true = refl
 or_false false = refl
 
-no_start : (line : ℕ) (other : ℕ) (s : SiteId) (number : ℕ) (e : Option Effect) → is_start_of line (entry_by other s number e) ≡ false
+pub no_start : (line : ℕ) (other : ℕ) (s : SiteId) (number : ℕ) (e : Option Effect) → is_start_of line (entry_by other s number e) ≡ false
 no_start line other s number None = refl
 no_start line other s number (Some e) = refl
 
-replies_begin_nothing : (line other : ℕ) (reply : Option Reply) → is_begun line (reply_entries other reply) ≡ false
+pub replies_begin_nothing : (line other : ℕ) (reply : Option Reply) → is_begun line (reply_entries other reply) ≡ false
 replies_begin_nothing line other None = refl
 replies_begin_nothing line other (Some reply) = refl
 

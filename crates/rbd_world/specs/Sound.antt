@@ -1,6 +1,6 @@
 -- What holds of each world, whatever came: its run is right at every place, and what its requests
 -- know is true.
-use Rattle.std.specs.Prelude.{◌≡◌, ◌≢◌, ◌⊎◌, ℕ, ◌==◌, ◌||◌, Bool, true, false, List, [], ◌∷◌, length, Option, Some, None}
+use Rattle.std.specs.Prelude.{◌≡◌, ◌≢◌, ◌⊎◌, ℕ, ◌==◌, ◌||◌, Bool, true, false, List, [], ◌∷◌, length, slice_get, Option, Some, None}
 use Rattle.rbd_kinds.specs.declared.id.SiteId.{SiteId}
 use Rattle.rbd_kinds.specs.declared.machine.Fed.{Fed}
 use Rattle.rbd_kinds.specs.declared.refusal.Refusal.{Refusal}
@@ -136,6 +136,20 @@ pub record IsSoundWorld {R : Type 0} (stands : R → Standing) (w : WorldView R)
   pub truth : (session slot : ℕ) (s : SiteId) → IsTrueAt s (records_in s w.sites) (knows session slot)
   pub beside : (session slot other there : ℕ) → (session ≢ other) ⊎ (slot ≢ there) → (s : SiteId) → AreBeside s (knows session slot) (knows other there)
 
+-- a client in its first life, at a home
+pub record IsFirstClient {R : Type 0} (session : ℕ) (home : SiteId) (c : SessionView R) : Type 0 where
+  pub who : c.instance ≡ record { session = session; life = 0 }
+  pub at_home : c.home ≡ home
+
+abbrev pub FirstIn : {R : Type 0} → (session : ℕ) → Option SiteId → Option (SessionView R) → Type 0
+FirstIn session None None = Unit {0}
+FirstIn session (Some home) (Some c) = IsFirstClient session home c
+FirstIn session _ _ = ⊥
+
+-- one client for each home
+abbrev pub AreFirstClients : {R : Type 0} → (homes : List SiteId) → List (SessionView R) → Type 0
+AreFirstClients homes sessions = (session : ℕ) → FirstIn session (slice_get homes session) (session_in session sessions)
+
 -- a world beside its table of the lines that were begun
 pub record IsKept {R : Type 0} (stands : R → Standing) (b : LinesBegun) (w : WorldView R) : Type 0 where
   pub sound : IsSoundWorld stands w
@@ -146,8 +160,11 @@ pub record IsNewClient {R : Type 0} (stands : R → Standing) (c : SessionView R
   pub sound : IsSoundSession stands c
   pub slots : (slot : ℕ) → held_in slot c.slots ≡ None
 
+abbrev pub AreNewClients : {R : Type 0} → (stands : R → Standing) → List (SessionView R) → Type 0
+AreNewClients {R} stands sessions = (session : ℕ) (c : SessionView R) → session_in session sessions ≡ Some c → IsNewClient stands c
+
 pub record IsNewWorld {R : Type 0} (stands : R → Standing) (w : WorldView R) : Type 0 where
   pub sites : (s : SiteId) → (site_in s w.sites).log ≡ []
-  pub clients : (session : ℕ) (c : SessionView R) → session_in session w.sessions ≡ Some c → IsNewClient stands c
+  pub clients : AreNewClients stands w.sessions
   pub history : w.history ≡ []
   pub calls : w.calls ≡ []

@@ -3,7 +3,7 @@ ghost use Rattle.std.specs.Prelude.{◌≡◌, ℕ, [], length, Some, None};
 ghost use Rattle.rbd_kinds.specs.declared.id.SiteId.{SiteId as Which};
 ghost use Rattle.rbd_session.specs.Session.{SessionView, IsSoundSession, held_in};
 ghost use Rattle.rbd_world.specs.Sound.{IsNewWorld, IsSoundWorld};
-ghost use Rattle.rbd_world.specs.Step.{AreOfOneClient, Does, DoesAtSites, IsSoundIf, IsUndone, WantsWhatItMay, happening};
+ghost use Rattle.rbd_world.specs.Step.{AreOfOneClient, Does, DoesAtSites, IsBuiltEvent, IsSoundIf, IsUndone, WantsWhatItMay, happening};
 ghost use Rattle.rbd_world.specs.World.{WorldView, session_in};
 ghost use Rattle.rbd_world.specs.declared.event.Event.{Event};
 
@@ -16,7 +16,7 @@ pub fn worlds_begin_sound<R: Request>()
 
 /// Whatever event comes, a sound world stays sound.
 pub fn steps_keep_worlds_sound<R: Request>()
-    ensures { (e : Event) (old new : WorldView R) → IsSoundWorld R.stands old → AreOfOneClient old.calls e
+    ensures { (e : Event) (old new : WorldView R) → IsSoundWorld R.stands old → IsBuiltEvent e → AreOfOneClient old.calls e
         → Does R.stands e (happening R.stands e old) old new
         → DoesAtSites (happening R.stands e old) old.sites new.sites
         → ((session : ℕ) → IsSoundIf R.stands (session_in session new.sessions))

@@ -1,5 +1,5 @@
 //! A session begins a command.
-ghost use Rattle.std.specs.Prelude.{◌≡◌, ℕ, true, false, Some, IfOk, OnOk, OnErr};
+ghost use Rattle.std.specs.Prelude.{◌≡◌, ℕ, true, Some, IfOk, OnOk, OnErr};
 ghost use Rattle.rbd_requests.specs.Served.{is_built};
 ghost use Rattle.rbd_requests.specs.Session.{stands_of};
 ghost use Rattle.rbd_session.specs.Session.{IsSoundSession};
@@ -40,35 +40,34 @@ pub fn submit<E: Machine + Drop>(
     ensures err { OnErr result (sessions.new.items ≡ sessions.old.items) }
     ensures same { OnErr result ((l : ℕ) → has_line l begun.new ≡ has_line l begun.old) }
 {
-    if begun.has(line) {
-        return Ok(Happened::Nothing);
-    }
     begun.reserve()?;
-    let happened = submit_to(alloc, sessions, session, line, command)?;
+    let is_begun = begun.has(line);
+    let happened = submit_to(alloc, sessions, session, line, command, is_begun)?;
     if happened.has_begun() {
         begun.add(line, session);
     }
     Ok(happened)
 }
 
-/// The same, of a line that wasn't begun.
+/// The same, where it is known whether the line was begun before.
 fn submit_to<E: Machine + Drop>(
     alloc: Global,
     sessions: &mut Vec<Session<SessionRequest<E>>>,
     session: SessionNo,
     line: u32,
     command: &Command,
+    is_begun: bool,
 ) -> Result<Happened, NoMemory>
     requires { is_built command.now ≡ true }
     ensures noted { let asked : Asked = record { session = session; line = line; command = command.now } in
-        IfOk result (λ h. h ≡ noted_of (submitted false asked (session_in session sessions.old.items))) }
+        IfOk result (λ h. h ≡ noted_of (submitted is_begun asked (session_in session sessions.old.items))) }
     ensures sessions { let asked : Asked = record { session = session; line = line; command = command.now } in
-        let h = submitted false asked (session_in session sessions.old.items) in
+        let h = submitted is_begun asked (session_in session sessions.old.items) in
         OnOk result (DoesToSessions (stands_of E.stands) (of_event.Submit session line command.now) h sessions.old.items sessions.new.items) }
     ensures err { OnErr result (sessions.new.items ≡ sessions.old.items) }
 {
     match sessions.get_mut(session.0 as usize) {
-        Some(client) => begin(alloc, client, session, line, command),
+        Some(client) => begin(alloc, client, session, line, command, is_begun),
         None => Ok(Happened::Nothing),
     }
 }
@@ -80,16 +79,21 @@ fn begin<E: Machine + Drop>(
     session: SessionNo,
     line: u32,
     command: &Command,
+    is_begun: bool,
 ) -> Result<Happened, NoMemory>
     requires { is_built command.now ≡ true }
     ensures noted { let asked : Asked = record { session = session; line = line; command = command.now } in
-        IfOk result (λ h. h ≡ noted_of (submitted false asked (Some client.old))) }
+        IfOk result (λ h. h ≡ noted_of (submitted is_begun asked (Some client.old))) }
     ensures becomes { let asked : Asked = record { session = session; line = line; command = command.now } in
-        OnOk result (Becomes (stands_of E.stands) (of_event.Submit session line command.now) (submitted false asked (Some client.old)) client.old client.new) }
+        OnOk result (Becomes (stands_of E.stands) (of_event.Submit session line command.now) (submitted is_begun asked (Some client.old)) client.old client.new) }
     ensures sound { IsSoundSession (stands_of E.stands) client.new }
     ensures err { OnErr result (client.new ≡ client.old) }
 {
-    if client.free().is_none() {
+    let free = client.free();
+    if is_begun {
+        return Ok(Happened::Nothing);
+    }
+    if free.is_none() {
         return Ok(Happened::Nothing);
     }
     let instance = client.instance();

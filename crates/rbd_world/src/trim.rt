@@ -26,12 +26,7 @@ pub fn trim(
 }
 
 /// The same at one site.
-fn trim_at(
-    at: &mut Site,
-    site: SiteId,
-    image: ImageId,
-    object: u64,
-) -> Result<Happened, NoMemory>
+fn trim_at(at: &mut Site, site: SiteId, image: ImageId, object: u64) -> Result<Happened, NoMemory>
     ensures noted { IfOk result (λ h. h ≡ noted_of (trimmed_of at.old site image object)) }
     ensures done { OnOk result (DoesAt site (trimmed_of at.old site image object) at.old at.new) }
     ensures err { OnErr result (at.new ≡ at.old) }

@@ -1,7 +1,7 @@
 //! The world, and its events.
-ghost use Rattle.std.specs.Prelude.{◌≡◌, IfOk, OnErr};
+ghost use Rattle.std.specs.Prelude.{◌≡◌, ◌≤◌, length, IfOk, OnErr};
 ghost use Rattle.rbd_requests.specs.Session.{stands_of};
-ghost use Rattle.rbd_world.specs.Sound.{IsSoundWorld};
+ghost use Rattle.rbd_world.specs.Sound.{AreFirstClients, AreNewClients, IsNewWorld, IsSoundWorld};
 ghost use Rattle.rbd_world.specs.Step.{AreOfOneClient, IsBuiltEvent, IsStep, IsUndone};
 ghost use Rattle.rbd_world.specs.World.{kind_in, session_in, site_in};
 
@@ -10,8 +10,9 @@ use crate::event::{Call, Event, Outcome};
 use crate::happen::happen;
 use crate::happened::{note, reserve};
 use crate::sites::Sites;
+use rbd_course::Request;
 use rbd_flat::Entry;
-use rbd_kinds::{NoMemory, OpKind, SessionNo, SiteId, Slot, TryClone};
+use rbd_kinds::{Instance, NoMemory, OpKind, SessionNo, SiteId, Slot, TryClone};
 use rbd_machine::Machine;
 use rbd_requests::SessionRequest;
 use rbd_session::Session;
@@ -54,6 +55,25 @@ impl<E: Machine + Drop> Model for World<E> {
 }
 
 impl<E: Machine + Drop> World<E> {
+    /// A world of clients at these sites, at most 32, each in its first life. The sites are empty, and
+    /// nothing happened.
+    pub fn new(alloc: Global, homes: &[SiteId]) -> Result<Self, NoMemory>
+        requires { length homes.now ≤ 32 }
+        ensures new { IfOk result (IsNewWorld (stands_of E.stands)) }
+        ensures clients { IfOk result (λ w. AreFirstClients homes.now w.sessions) }
+        ensures sound { IfOk result (IsSoundWorld (stands_of E.stands)) }
+    {
+        let sites = Sites::new(alloc)?;
+        let sessions = first_sessions(alloc, homes)?;
+        Ok(World {
+            sites,
+            sessions,
+            begun: BegunLines::new(alloc),
+            history: Vec::new(alloc),
+            calls: Vec::new(alloc),
+        })
+    }
+
     /// One event. What it does and what comes of it is a function of the world (`happening`); refused memory, nothing
     /// happened. An event that isn't built is ruled out, and so are changes of a second client, as long as no lock keeps
     /// two apart.
@@ -109,4 +129,21 @@ impl<E: Machine + Drop> World<E> {
     {
         self.sessions.get(session.0 as usize)?.kind(slot)
     }
+}
+
+/// The first life of each client, at its home.
+fn first_sessions<R: Request>(alloc: Global, homes: &[SiteId]) -> Result<Vec<Session<R>>, NoMemory>
+    requires { length homes.now ≤ 32 }
+    ensures first { IfOk result (λ sessions. AreFirstClients homes.now sessions.items) }
+    ensures new { IfOk result (λ sessions. AreNewClients R.stands sessions.items) }
+{
+    let mut sessions = Vec::new(alloc);
+    for number in 0..homes.len() {
+        let instance = Instance {
+            session: SessionNo(number as u8),
+            life: 0,
+        };
+        sessions.push(Session::new(alloc, instance, homes[number])?)?;
+    }
+    Ok(sessions)
 }

@@ -1,5 +1,8 @@
-use Rattle.std.proofs.Common.{sym, ◌∙◌}
+use Rattle.std.proofs.Common.{length, ap, sym, ◌∙◌}
+use Rattle.rbd_guard.specs.declared.link.Ends.{Ends}
 use Rattle.rbd_guard.specs.Tickets.{list}
+use Rattle.rbd_guard.specs.contracts.guard.Guard.{the_view}
+use Rattle.rbd_guard.proofs.Holding.{again, list_count}
 use Rattle.rbd_guard.proofs.Leaving.{Begins, begins, is_empty, IsLeft, rest_shorter, one_more_left, HaveLeft, have_left}
 use Rattle.rbd_guard.proofs.guard.Guard.leave_all.Goals as goal
 
@@ -40,3 +43,9 @@ returns-clause-object c = (gone c).objects
 
 pub returns-clause-request : goal.returns-clause-request
 returns-clause-request c = (gone c).requests
+
+pub returns-clause-count : goal.returns-clause-count
+returns-clause-count c =
+    ap (λ (e : Ends). e.count) c.ends_of-count.ensures
+    ∙ list_count (the_view c.self.inside) (again _ _ c.self.invariant) c.args.request
+    ∙ ap (λ g. length (list c.args.request g)) c.self.view_is

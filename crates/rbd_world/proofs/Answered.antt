@@ -1,0 +1,149 @@
+-- The request that was polled: it is under way at its next operation, or its reply is meant.
+use Rattle.std.proofs.Common.{◌≡◌, ℕ, cond, List, [], ◌∷◌, ◌++◌, Option, Some, None, refl, sym, ap, ◌∙◌, subst}
+use Rattle.std.proofs.lemmas.Bool.{eq-eqb}
+use Rattle.rbd_flat.specs.declared.effect.Effect.{Effect}
+use Rattle.rbd_kinds.specs.declared.answer.Answer.{Answer}
+use Rattle.rbd_kinds.specs.declared.id.Instance.{Instance}
+use Rattle.rbd_kinds.specs.declared.id.SiteId.{SiteId}
+use Rattle.rbd_kinds.specs.declared.machine.Fed.TheVariants as fed
+use Rattle.rbd_kinds.specs.declared.operation.Op.{Op}
+use Rattle.rbd_kinds.specs.declared.reply.Reply.{Reply}
+use Rattle.rbd_known.specs.Calm.{IsCalmRequest}
+use Rattle.rbd_known.specs.Knowing.{known_behind, unless_ended}
+use Rattle.rbd_known.proofs.Unowned.{calm_fed, calm_stays}
+use Rattle.rbd_machine.specs.Answers.{CanBeFed, CanGive}
+use Rattle.rbd_machine.specs.Knowledge.{Knowledge}
+use Rattle.rbd_machine.specs.Label.{Label}
+use Rattle.rbd_machine.specs.Path.{Answered, IsWalk, at_operation}
+use Rattle.rbd_machine.specs.Plan.{Plan, Ask, Await, Note, Return, Goto, Standing, plan_after}
+use Rattle.rbd_machine.specs.Refused.{AreGiven}
+use Rattle.rbd_machine.specs.declared.reason.Reason.{Reason}
+use Rattle.rbd_meaning.specs.Meant.{IsMeantBy}
+use Rattle.rbd_requests.specs.CommandsMeant.{command_is_meant}
+use Rattle.rbd_session.specs.declared.running.Occupant.{Occupant}
+use Rattle.rbd_session.specs.declared.running.Occupant.TheVariants as occupant
+use Rattle.rbd_session.specs.declared.running.Running.{Running}
+use Rattle.rbd_session.specs.Advance.{ComesTo}
+use Rattle.rbd_session.specs.Lines.{LinesView}
+use Rattle.rbd_session.specs.Session.{ComesToIn, script_line}
+use Rattle.rbd_session.specs.Track.{Track}
+use Rattle.rbd_session.proofs.Sound.{no_some, some_same}
+use Rattle.rbd_world.specs.Run.{Happening, Did, Operation, asked_by, steps_of}
+use Rattle.rbd_world.specs.Sound.{IsDue, IsHeldRightly, IsReplyMeant, IsUnderWay, has_reply}
+use Rattle.rbd_world.specs.Step.{reply_at}
+use Rattle.rbd_world.proofs.Walks.{IsLed, given_more, led_on}
+
+module _ {R : Type 0} (stands : R → Standing) where
+  -- the same line, at the next operation
+  record WentOn (labels : Label → Plan) (plan : Plan) (r q : Running R) : Type 0 where
+    line : q.line ≡ r.line
+    stand : stands q.request ≡ record { labels = labels; plan = plan }
+
+  went_on : (slot : ℕ) (labels : Label → Plan) (plan : Plan) (t : Track) (result : Option Reply) (r q : Running R) (lines : LinesView) → result ≡ None
+      → ComesTo stands slot labels plan t result r q lines → WentOn labels plan r q
+  went_on slot labels (Return reply) t result r q lines none comes = absurd (no_some reply (sym none ∙ comes.reply))
+  went_on slot labels (Ask s why o next) t result r q lines none comes = record { line = comes.line; stand = comes.request }
+  went_on slot labels (Await w next) t result r q lines none comes = record { line = comes.line; stand = comes.request }
+  went_on slot labels (Note s image event next) t result r q lines none comes = record { line = comes.line; stand = comes.request }
+  went_on slot labels (Goto label) t result r q lines none comes = record { line = comes.line; stand = comes.request }
+
+  module _ (homes : ℕ → SiteId) (session slot : ℕ) (run : List Happening) (know : Knowledge) (r : Running R) (way : IsUnderWay stands (homes session) session run know r)
+      (s : SiteId) (why : Reason) (o : Op) (next : Answer → Plan) (asks : (stands r.request).plan ≡ Ask s why o next) (a : Answer) (can : CanGive o a)
+      (who : Instance) (number : ℕ) (effect : Option Effect) where
+    abbrev done : Operation
+    done = record { line = r.line; instance = who; site = s; number = number; op = o; answer = a; effect = effect }
+
+    abbrev step : Answered
+    step = record { site = s; op = o; answer = a }
+
+    -- its walk has one step more
+    steps_now : (result : Option Reply) → steps_of r.line (Did done result ∷ run) ≡ steps_of r.line run ++ step ∷ []
+    steps_now result = ap (λ b. steps_of r.line run ++ cond b (step ∷ []) []) (eq-eqb r.line r.line refl)
+
+    led : IsLed way.start.labels way.start.plan (steps_of r.line run ++ step ∷ []) (at_operation way.start.labels (next a))
+    led =
+        led_on way.start.labels way.start.plan (steps_of r.line run) s why o next a
+        (record { feds = way.feds; walk = subst (IsWalk way.start.labels way.start.plan way.feds (steps_of r.line run)) asks way.walk })
+
+    given : AreGiven (steps_of r.line run ++ step ∷ [])
+    given = given_more (steps_of r.line run) s o a way.given can
+
+    -- ---- it has ended
+
+    meant : (reply : Reply) → at_operation (stands r.request).labels (next a) ≡ Return reply → IsReplyMeant homes r.line reply run (Did done (Some reply) ∷ run)
+    meant reply ends = record {
+      begun = way.begun;
+      meant =
+          subst (λ i. IsMeantBy (homes i) way.begun.asked.command (steps_of r.line (Did done (Some reply) ∷ run)) reply) (sym way.mine)
+          (subst (λ steps. IsMeantBy (homes session) way.begun.asked.command steps reply) (sym (steps_now (Some reply)))
+          (command_is_meant (homes session) way.begun.asked.command way.start led.feds (steps_of r.line run ++ step ∷ []) reply way.plan given
+          (subst (IsWalk way.start.labels way.start.plan led.feds (steps_of r.line run ++ step ∷ [])) (ap (λ ls. at_operation ls (next a)) (sym way.labels) ∙ ends) led.walk)));
+    }
+
+    due_at : (p : Plan) → at_operation (stands r.request).labels (next a) ≡ p → IsDue homes (Did done (reply_at p)) run
+    due_at (Return reply) is = meant reply is
+    due_at (Ask there by wanted more) is = way.begun
+    due_at (Await wait more) is = way.begun
+    due_at (Note there image event more) is = way.begun
+    due_at (Goto label) is = way.begun
+
+    pub answer_due : IsDue homes (Did done (reply_at (at_operation (stands r.request).labels (next a)))) run
+    answer_due = due_at (at_operation (stands r.request).labels (next a)) refl
+
+    -- ---- it goes on
+
+    can_fed : CanBeFed (stands r.request).plan (fed.Answer a)
+    can_fed = subst (λ p. CanBeFed p (fed.Answer a)) (sym asks) can
+
+    abbrev to : Plan
+    to = at_operation (stands r.request).labels (plan_after (stands r.request).plan (fed.Answer a))
+
+    further : (q : Running R) → WentOn (stands r.request).labels to r q
+        → IsUnderWay stands (homes session) session (Did done None ∷ run) (known_behind know (stands r.request).plan (fed.Answer a)) q
+    further q on = record {
+      begun = record {
+        asked = way.begun.asked;
+        is = ap (λ l. asked_by l run) on.line ∙ way.begun.is;
+        unanswered = ap (λ l. has_reply l run) on.line ∙ way.begun.unanswered;
+      };
+      mine = way.mine;
+      start = way.start;
+      plan = way.plan;
+      labels = ap (λ (st : Standing). st.labels) on.stand ∙ way.labels;
+      feds = led.feds;
+      walk =
+          subst (λ steps. IsWalk way.start.labels way.start.plan led.feds steps (stands q.request).plan) (sym steps_there)
+          (subst (IsWalk way.start.labels way.start.plan led.feds (steps_of r.line run ++ step ∷ [])) plan_there led.walk);
+      given = subst AreGiven (sym steps_there) given;
+      calm = λ looks.
+          let calm = way.calm looks in (
+            subst IsCalmRequest (sym on.stand)
+                (record { plan = calm_stays (stands r.request).labels calm.0.labels (stands r.request).plan (fed.Answer a) calm.0.plan can_fed; labels = calm.0.labels }),
+            calm_fed know (stands r.request).plan (fed.Answer a) calm.0.plan can_fed calm.1,
+          );
+    }
+      where
+        steps_there : steps_of q.line (Did done None ∷ run) ≡ steps_of r.line run ++ step ∷ []
+        steps_there = ap (λ l. steps_of l (Did done None ∷ run)) on.line ∙ steps_now None
+
+        plan_there : at_operation way.start.labels (next a) ≡ (stands q.request).plan
+        plan_there =
+            ap (λ ls. at_operation ls (next a)) (sym way.labels)
+            ∙ sym (ap (λ p. at_operation (stands r.request).labels (plan_after p (fed.Answer a))) asks)
+            ∙ sym (ap (λ (st : Standing). st.plan) on.stand)
+
+    pub answer_held : (result : Option Reply) (before after : LinesView) (p : Option (Occupant R)) → ComesToIn stands slot before (fed.Answer a) result r p after
+        → IsHeldRightly stands (homes session) session (Did done result ∷ run) (unless_ended result (known_behind know (stands r.request).plan (fed.Answer a))) p
+    answer_held result before after None comes = tt
+    answer_held result before after (Some (occupant.Refused line refusal)) comes = absurd comes
+    answer_held (Some reply) before after (Some (occupant.Running q)) comes = absurd (no_some reply (sym comes.0))
+    answer_held None before after (Some (occupant.Running q)) comes = further q (went_on slot (stands r.request).labels to _ None r q after refl comes.1)
+
+    -- ---- its slot has its line, or none
+
+    pub answer_line : (result : Option Reply) (before after : LinesView) (p : Option (Occupant R)) → ComesToIn stands slot before (fed.Answer a) result r p after
+        → (line : ℕ) → script_line p ≡ Some line → r.line ≡ line
+    answer_line result before after None comes line is = absurd (no_some line is)
+    answer_line result before after (Some (occupant.Refused number refusal)) comes line is = absurd comes
+    answer_line result before after (Some (occupant.Running q)) comes line is =
+        let on = went_on slot (stands r.request).labels to _ result r q after comes.0 comes.1 in sym on.line ∙ some_same q.line line is

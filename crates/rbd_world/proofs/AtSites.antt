@@ -1,0 +1,150 @@
+-- What an operation that is permitted does to both sites: they stand, and what is known stays true.
+use Rattle.std.proofs.Common.{◌≡◌, ◌≢◌, ℕ, cond, Bool, true, false, [], ◌∷◌, length, Option, Some, None, refl, sym, ap, ◌∙◌, subst}
+use Rattle.std.proofs.lemmas.Bool.{true≢false}
+use Rattle.rbd_flat.specs.Flat.{Flat}
+use Rattle.rbd_kinds.specs.declared.answer.Answer.{Answer}
+use Rattle.rbd_kinds.specs.declared.id.Instance.{Instance}
+use Rattle.rbd_kinds.specs.declared.id.SiteId.{SiteId}
+use Rattle.rbd_kinds.specs.declared.id.SiteId.TheVariants as site
+use Rattle.rbd_kinds.specs.declared.operation.Op.{Op}
+use Rattle.rbd_kinds.specs.declared.reply.Reply.{Reply}
+use Rattle.rbd_known.specs.Knowing.{known_at_operation, unless_ended}
+use Rattle.rbd_known.proofs.Little.{still_true, still_beside}
+use Rattle.rbd_machine.specs.Answers.{CanGive}
+use Rattle.rbd_machine.specs.Knowledge.{Knowledge, is_drawn, learned, nothing_known, same_site}
+use Rattle.rbd_machine.specs.Permits.{Permits}
+use Rattle.rbd_machine.specs.Plan.{Plan, Standing}
+use Rattle.rbd_rely.specs.Beside.{AreBeside, MayLook}
+use Rattle.rbd_rely.specs.Truth.{IsTrueAt, IsParentless, changed_by}
+use Rattle.rbd_rely.proofs.Done.{gives_it, has_its_effect}
+use Rattle.rbd_rely.proofs.Elsewhere.{true_elsewhere, beside_elsewhere}
+use Rattle.rbd_rely.proofs.Kept.{others_keep}
+use Rattle.rbd_rely.proofs.Learned.{own_learned}
+use Rattle.rbd_rely.proofs.Together.{learned_beside}
+use Rattle.rbd_site.specs.Step.{after, answer_to}
+use Rattle.rbd_stands.specs.Site.{StandsFor}
+use Rattle.rbd_world.specs.Run.{Happening, Did, flat_after, records_after}
+use Rattle.rbd_world.specs.Sound.{AreStanding, IsSoundWorld}
+use Rattle.rbd_world.specs.Step.{DoesAtSites, operation_at}
+use Rattle.rbd_world.specs.World.{WorldView, records_in, site_in}
+use Rattle.rbd_world.proofs.Beginning.{nothing_is_beside, nothing_is_true}
+use Rattle.rbd_world.proofs.BothSites.{same_site_itself}
+use Rattle.rbd_world.proofs.Changed.{IsElsewhere}
+use Rattle.rbd_world.proofs.Parentless.{parentless_on}
+use Rattle.rbd_world.proofs.Rest.{where_standing}
+
+-- a site is this one or the other
+at_either : (s : SiteId) (P : SiteId → Type 0) → P s → ((t : SiteId) → same_site s t ≡ false → P t) → (t : SiteId) → P t
+at_either site.A P here other site.A = here
+at_either site.A P here other site.B = other site.B refl
+at_either site.B P here other site.A = other site.A refl
+at_either site.B P here other site.B = here
+
+-- ---- who has ended knows nothing
+
+unless_over : (P : Knowledge → Type 0) (result : Option Reply) (k : Knowledge) → P nothing_known → P k → P (unless_ended result k)
+unless_over P None k nothing goes = goes
+unless_over P (Some reply) k nothing goes = nothing
+
+pub beside_mutual : (t : SiteId) (k j : Knowledge) → AreBeside t k j → AreBeside t j k
+beside_mutual t k j beside = record {
+  shared = λ image mine others. let both = beside.shared image others mine in record { one = both.other; other = both.one };
+  apart = λ image drawn. by image drawn (is_drawn k.drawn t image) refl;
+}
+  where
+    by : (image : ℕ) → is_drawn j.drawn t image ≡ true → (b : Bool) → is_drawn k.drawn t image ≡ b → is_drawn k.drawn t image ≡ false
+    by image drawn true is = absurd (true≢false (sym drawn ∙ beside.apart image is))
+    by image drawn false is = is
+
+module _ {R : Type 0} (stands : R → Standing) (old new : WorldView R) (w : IsSoundWorld stands old) (session slot line : ℕ) (who : Instance) (s : SiteId) (o : Op) (result : Option Reply)
+    (permits : Permits (w.knows session slot) s o)
+    (at_sites : DoesAtSites (Did (operation_at (site_in s old.sites) who line s o) result) old.sites new.sites) where
+  abbrev pub does_it : Happening
+  does_it = Did (operation_at (site_in s old.sites) who line s o) result
+
+  abbrev pub answered : Answer
+  answered = answer_to (records_in s old.sites) who o
+
+  abbrev know : Knowledge
+  know = w.knows session slot
+
+  here_now : records_in s new.sites ≡ after (records_in s old.sites) who o
+  here_now = at_sites.records s ∙ ap (λ b. cond b (after (records_in s old.sites) who o) (records_in s old.sites)) (same_site_itself s)
+
+  elsewhere_now : (t : SiteId) → same_site s t ≡ false → records_in t new.sites ≡ records_in t old.sites
+  elsewhere_now t differ = at_sites.records t ∙ ap (λ b. cond b (after (records_in t old.sites) who o) (records_in t old.sites)) differ
+
+  -- ---- the sites
+
+  stood : (t : SiteId) → StandsFor [] (records_after t w.run) (flat_after t w.run)
+  stood = where_standing w.homes w.run w.right
+
+  stands_in : (t : SiteId) → StandsFor [] (records_in t old.sites) (flat_after t w.run)
+  stands_in t = subst (λ r. StandsFor [] r (flat_after t w.run)) (sym (w.records t)) (stood t)
+
+  pub stands_then : AreStanding (does_it ∷ w.run)
+  stands_then = at_either s (λ t. StandsFor [] (records_after t (does_it ∷ w.run)) (flat_after t (does_it ∷ w.run))) here other
+    where
+      effect_there : Flat
+      effect_there = changed_by (flat_after s w.run) (operation_at (site_in s old.sites) who line s o).effect
+
+      here : StandsFor [] (records_after s (does_it ∷ w.run)) (flat_after s (does_it ∷ w.run))
+      here =
+          subst (λ b. StandsFor [] (cond b (after (records_after s w.run) who o) (records_after s w.run)) (cond b effect_there (flat_after s w.run))) (sym (same_site_itself s))
+          (subst (λ r. StandsFor [] (after r who o) effect_there) (w.records s)
+          (has_its_effect s (records_in s old.sites) (flat_after s w.run) know who (length (site_in s old.sites).log) (stands_in s) (w.form s) (w.parentless s) (w.truth session slot s) o permits))
+
+      other : (t : SiteId) → same_site s t ≡ false → StandsFor [] (records_after t (does_it ∷ w.run)) (flat_after t (does_it ∷ w.run))
+      other t differ =
+          subst
+          (λ b. StandsFor [] (cond b (after (records_after t w.run) who o) (records_after t w.run))
+          (cond b (changed_by (flat_after t w.run) (operation_at (site_in s old.sites) who line s o).effect) (flat_after t w.run)))
+          (sym differ) (stood t)
+
+  pub parentless_then : (t : SiteId) → IsParentless (records_in t new.sites)
+  parentless_then =
+      at_either s (λ t. IsParentless (records_in t new.sites)) (subst IsParentless (sym here_now) (parentless_on s (records_in s old.sites) know who o (w.parentless s) permits))
+      (λ t differ. subst IsParentless (sym (elsewhere_now t differ)) (w.parentless t))
+
+  pub can_give : CanGive o answered
+  can_give = gives_it s (records_in s old.sites) know (length (site_in s old.sites).log) (w.form s) (w.truth session slot s) who o permits
+
+  -- ---- what is known
+
+  pub others_true : (m x : ℕ) → IsElsewhere session slot m x → (t : SiteId) → IsTrueAt t (records_in t new.sites) (w.knows m x)
+  others_true m x where_else =
+      at_either s (λ t. IsTrueAt t (records_in t new.sites) (w.knows m x))
+      (subst (λ r. IsTrueAt s r (w.knows m x)) (sym here_now)
+      (others_keep s (records_in s old.sites) (w.knows m x) know who o (w.truth m x s) (w.truth session slot s) (w.beside m x session slot where_else s) permits))
+      (λ t differ. subst (λ r. IsTrueAt t r (w.knows m x)) (sym (elsewhere_now t differ)) (w.truth m x t))
+
+  module _ (to : Plan) where
+    -- what it knows once it is past what it waits for
+    abbrev pub learns : Knowledge
+    learns = unless_ended result (known_at_operation (learned know s o answered) to)
+
+    pub own_true : (t : SiteId) → IsTrueAt t (records_in t new.sites) learns
+    own_true t =
+        unless_over (IsTrueAt t (records_in t new.sites)) result (known_at_operation (learned know s o answered) to) (nothing_is_true t (records_in t new.sites))
+        (still_true t (records_in t new.sites) to (learned know s o answered) (told t))
+      where
+        told : (t : SiteId) → IsTrueAt t (records_in t new.sites) (learned know s o answered)
+        told =
+            at_either s (λ t. IsTrueAt t (records_in t new.sites) (learned know s o answered))
+            (subst (λ r. IsTrueAt s r (learned know s o answered)) (sym here_now)
+            (own_learned s (records_in s old.sites) (flat_after s w.run) know who o (stands_in s) (w.truth session slot s) permits))
+            (λ t differ. subst (λ r. IsTrueAt t r (learned know s o answered)) (sym (elsewhere_now t differ)) (true_elsewhere s t differ (records_in t old.sites) know o answered (w.truth session slot t)))
+
+    pub own_beside : (m x : ℕ) → IsElsewhere session slot m x → MayLook s know (w.knows m x) o → (t : SiteId) → AreBeside t learns (w.knows m x)
+    own_beside m x where_else may t =
+        unless_over (λ k. AreBeside t k (w.knows m x)) result (known_at_operation (learned know s o answered) to) (nothing_is_beside t (w.knows m x))
+        (still_beside t (w.knows m x) to (learned know s o answered) (told t))
+      where
+        were : (t : SiteId) → AreBeside t know (w.knows m x)
+        were t = beside_mutual t (w.knows m x) know (w.beside m x session slot where_else t)
+
+        told : (t : SiteId) → AreBeside t (learned know s o answered) (w.knows m x)
+        told =
+            at_either s (λ t. AreBeside t (learned know s o answered) (w.knows m x))
+            (learned_beside s know (w.knows m x) (were s) (records_in s old.sites) who o (w.truth m x s) permits may)
+            (λ t differ. beside_elsewhere s t differ know (w.knows m x) o answered (were t))

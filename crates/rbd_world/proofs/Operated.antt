@@ -1,0 +1,187 @@
+-- A poll that has one operation done keeps a world sound.
+use Rattle.std.proofs.Common.{◌≡◌, ◌≢◌, ◌⊎◌, inl, inr, ℕ, ◌==◌, cond, false, ◌∷◌, Option, Some, refl, sym, ap, ◌∙◌, subst}
+use Rattle.std.proofs.lemmas.Bool.{eq-eqb}
+use Rattle.rbd_kinds.specs.declared.answer.Answer.{Answer}
+use Rattle.rbd_kinds.specs.declared.id.SiteId.{SiteId}
+use Rattle.rbd_kinds.specs.declared.machine.Fed.TheVariants as fed
+use Rattle.rbd_kinds.specs.declared.operation.Op.{Op}
+use Rattle.rbd_kinds.specs.declared.reply.Reply.{Reply}
+use Rattle.rbd_known.specs.Knowing.{AllKnow, known_behind, knows_after, unless_ended}
+use Rattle.rbd_known.proofs.Behind.{fed_know, knows_there}
+use Rattle.rbd_machine.specs.Answers.{CanBeFed, CanGive}
+use Rattle.rbd_machine.specs.Knowledge.{Knowledge}
+use Rattle.rbd_machine.specs.Lawful.{IsLawful}
+use Rattle.rbd_machine.specs.Path.{at_operation}
+use Rattle.rbd_machine.specs.Permits.{Permits}
+use Rattle.rbd_machine.specs.Plan.{Plan, Ask, Standing}
+use Rattle.rbd_machine.specs.declared.reason.Reason.{Reason}
+use Rattle.rbd_rely.specs.Beside.{AreBeside, MayLook}
+use Rattle.rbd_rely.specs.Truth.{IsTrueAt}
+use Rattle.rbd_session.specs.declared.running.Occupant.TheVariants as occupant
+use Rattle.rbd_session.specs.declared.running.Running.{Running}
+use Rattle.rbd_session.specs.Advance.{track_of}
+use Rattle.rbd_session.specs.Session.{SessionView, ComesToIn, OfRunning, held_in, running_at, running_in, script_line}
+use Rattle.rbd_session.specs.Waits.{waits}
+use Rattle.rbd_site.specs.declared.done.DoneOp.TheVariants as done
+use Rattle.rbd_site.specs.Step.{answer_to}
+use Rattle.rbd_stands.specs.Effect.{effect_of}
+use Rattle.rbd_world.specs.declared.event.Event.TheVariants as event
+use Rattle.rbd_world.specs.Run.{Happening, Did, Operation}
+use Rattle.rbd_world.specs.Sound.{IsHeldRightly, IsSoundClient, IsSoundWorld, IsUnderWay, line_at}
+use Rattle.rbd_world.specs.Step.{AreOfOneClient, Does, DoesAtSites, Goes, IsSoundIf, next_number, operation_at, reply_at}
+use Rattle.rbd_world.specs.World.{WorldView, records_in, session_in, site_in}
+use Rattle.rbd_world.proofs.Answered.{answer_due, answer_held, answer_line}
+use Rattle.rbd_world.proofs.AtSites.{beside_mutual, can_give, others_true, own_beside, own_true, parentless_then, stands_then}
+use Rattle.rbd_world.proofs.Carried.{Carries}
+use Rattle.rbd_world.proofs.Changed.{IsElsewhere, apart_of, client_of, clients_of, has_become, here_or_elsewhere, line_apart, nobody_of, same_or_other}
+use Rattle.rbd_world.proofs.Clients.{looks_beside}
+use Rattle.rbd_world.proofs.Quiet.{IsQuiet, lines_differ, quiet_did}
+
+module _ {R : Type 0} (stands : R → Standing) (old new : WorldView R) (w : IsSoundWorld stands old) (session slot : ℕ) (c : SessionView R) (there : session_in session old.sessions ≡ Some c)
+    (r : Running R) (holds : held_in slot c.slots ≡ Some (occupant.Running r)) (goes : waits slot (track_of r c.lines) ≡ false)
+    (s : SiteId) (why : Reason) (o : Op) (next : Answer → Plan) (asks : (stands r.request).plan ≡ Ask s why o next) where
+  abbrev a : Answer
+  a = answer_to (records_in s old.sites) c.instance o
+
+  abbrev result : Option Reply
+  result = reply_at (at_operation (stands r.request).labels (next a))
+
+  abbrev operation : Operation
+  operation = operation_at (site_in s old.sites) c.instance r.line s o
+
+  abbrev does_it : Happening
+  does_it = Did operation result
+
+  abbrev know : Knowledge
+  know = w.knows session slot
+
+  runs : running_at slot c ≡ Some r
+  runs = ap running_in holds
+
+  way : IsUnderWay stands (w.homes session) session w.run know r
+  way = subst (IsHeldRightly stands (w.homes session) session w.run know) holds ((w.clients session c there).held slot)
+
+  permits : Permits know s o
+  permits = let mine = knows_there stands c (w.knows session) slot r runs (w.clients session c there).know in (subst (IsLawful mine.known_at know) asks mine.lawful).0
+
+  -- ---- what is known then
+
+  abbrev pub knows_fed : (x : ℕ) → Knowledge
+  knows_fed = knows_after (w.knows session) slot result (stands r.request).plan (fed.Answer a)
+
+  abbrev pub knows_then : (m x : ℕ) → Knowledge
+  knows_then m x = cond (m == session) (knows_fed x) (w.knows m x)
+
+  abbrev learned_then : Knowledge
+  learned_then = unless_ended result (known_behind know (stands r.request).plan (fed.Answer a))
+
+  in_session : knows_then session ≡ knows_fed
+  in_session = ap (λ b x. cond b (knows_fed x) (w.knows session x)) (eq-eqb session session refl)
+
+  in_others : (m : ℕ) → m ≢ session → knows_then m ≡ w.knows m
+  in_others m differ = ap (λ b x. cond b (knows_fed x) (w.knows m x)) (lines_differ m session differ)
+
+  in_slot : knows_fed slot ≡ learned_then
+  in_slot = ap (λ b. cond b learned_then know) (eq-eqb slot slot refl)
+
+  in_other_slots : (x : ℕ) → x ≢ slot → knows_fed x ≡ w.knows session x
+  in_other_slots x differ = ap (λ b. cond b learned_then (w.knows session x)) (lines_differ x slot differ)
+
+  elsewhere : (m x : ℕ) → IsElsewhere session slot m x → knows_then m x ≡ w.knows m x
+  elsewhere m x where_else = by (same_or_other m session) where_else
+    where
+      by : (m ≡ session) ⊎ (m ≢ session) → IsElsewhere session slot m x → knows_then m x ≡ w.knows m x
+      by (inr differ) either = ap (λ (k : ℕ → Knowledge). k x) (in_others m differ)
+      by (inl same) (inl differ) = absurd (differ same)
+      by (inl same) (inr differ) =
+          subst (λ i. knows_then i x ≡ w.knows i x) (sym same) (ap (λ (k : ℕ → Knowledge). k x) in_session ∙ in_other_slots x differ)
+
+  here : knows_then session slot ≡ unless_ended result (known_behind know (Ask s why o next) (fed.Answer a))
+  here = ap (λ (k : ℕ → Knowledge). k slot) in_session ∙ in_slot ∙ ap (λ p. unless_ended result (known_behind know p (fed.Answer a))) asks
+
+  module _ (at_sites : DoesAtSites does_it old.sites new.sites) (one : AreOfOneClient old.calls (event.Poll session slot)) where
+    own_known : (m x : ℕ) → m ≡ session → x ≡ slot → knows_then m x ≡ unless_ended result (known_behind know (Ask s why o next) (fed.Answer a))
+    own_known m x same at = ap (λ i. knows_then i x) same ∙ ap (λ i. knows_then session i) at ∙ here
+
+    true_then : (m x : ℕ) (t : SiteId) → IsTrueAt t (records_in t new.sites) (knows_then m x)
+    true_then m x t = by (here_or_elsewhere session slot m x)
+      where
+        by : ((m ≡ session) × (x ≡ slot)) ⊎ IsElsewhere session slot m x → IsTrueAt t (records_in t new.sites) (knows_then m x)
+        by (inl (same, at)) =
+            subst (IsTrueAt t (records_in t new.sites)) (sym (own_known m x same at))
+            (own_true stands old new w session slot r.line c.instance s o result permits at_sites (next a) t)
+        by (inr where_else) =
+            subst (IsTrueAt t (records_in t new.sites)) (sym (elsewhere m x where_else))
+            (others_true stands old new w session slot r.line c.instance s o result permits at_sites m x where_else t)
+
+    may : (m x : ℕ) → IsElsewhere session slot m x → MayLook s know (w.knows m x) o
+    may m x where_else = looks_beside stands old w one.client one.before session slot c there r holds goes way s o m x where_else
+
+    own_beside_then : (m x y z : ℕ) → m ≡ session → x ≡ slot → IsElsewhere session slot y z → (t : SiteId) → AreBeside t (knows_then m x) (knows_then y z)
+    own_beside_then m x y z same at where_else t =
+        subst (λ k. AreBeside t k (knows_then y z)) (sym (own_known m x same at))
+        (subst (AreBeside t (unless_ended result (known_behind know (Ask s why o next) (fed.Answer a)))) (sym (elsewhere y z where_else))
+        (own_beside stands old new w session slot r.line c.instance s o result permits at_sites (next a) y z where_else (may y z where_else) t))
+
+    beside_then : (m x y z : ℕ) → (m ≢ y) ⊎ (x ≢ z) → (t : SiteId) → AreBeside t (knows_then m x) (knows_then y z)
+    beside_then m x y z apart t = by (here_or_elsewhere session slot m x) (here_or_elsewhere session slot y z) apart
+      where
+        by : ((m ≡ session) × (x ≡ slot)) ⊎ IsElsewhere session slot m x → ((y ≡ session) × (z ≡ slot)) ⊎ IsElsewhere session slot y z → (m ≢ y) ⊎ (x ≢ z)
+            → AreBeside t (knows_then m x) (knows_then y z)
+        by (inl (one, two)) (inl (three, four)) (inl differ) = absurd (differ (one ∙ sym three))
+        by (inl (one, two)) (inl (three, four)) (inr differ) = absurd (differ (two ∙ sym four))
+        by (inl (one, two)) (inr where_else) apart = own_beside_then m x y z one two where_else t
+        by (inr where_else) (inl (one, two)) apart = beside_mutual t (knows_then y z) (knows_then m x) (own_beside_then y z m x one two where_else t)
+        by (inr this) (inr that) apart =
+            subst (λ k. AreBeside t k (knows_then y z)) (sym (elsewhere m x this))
+            (subst (AreBeside t (w.knows m x)) (sym (elsewhere y z that)) (w.beside m x y z apart t))
+
+    -- ---- the world
+
+    can : CanGive o a
+    can = can_give stands old new w session slot r.line c.instance s o result permits at_sites
+
+    module _ (d : SessionView R) (after : session_in session new.sessions ≡ Some d) (others : (m : ℕ) → m ≢ session → session_in m new.sessions ≡ session_in m old.sessions)
+        (became : Goes stands slot a result c d) where
+      comes : ComesToIn stands slot c.lines (fed.Answer a) result r (held_in slot d.slots) d.lines
+      comes = subst (OfRunning (λ q. ComesToIn stands slot c.lines (fed.Answer a) result q (held_in slot d.slots) d.lines)) holds became.fed
+
+      quiet : (m x line : ℕ) → IsElsewhere session slot m x → line_at m x old.sessions ≡ Some line → IsQuiet line does_it
+      quiet m x line where_else is =
+          quiet_did line operation result
+          (line_apart stands old new w does_it session slot c d there after others became.slots r.line (ap script_line holds) m x line where_else is)
+
+      all_know : AllKnow stands knows_fed d
+      all_know =
+          let mine = w.clients session c there in
+          fed_know stands c d slot r (fed.Answer a) result (w.knows session) mine.sound runs (subst (λ p. CanBeFed p (fed.Answer a)) (sym asks) can) became.fed became.slots became.others mine.know
+
+      own : ((m : ℕ) → IsSoundIf stands (session_in m new.sessions)) → IsSoundClient stands (w.homes session) session (does_it ∷ w.run) (knows_then session) d
+      own sound =
+          subst (λ k. IsSoundClient stands (w.homes session) session (does_it ∷ w.run) k d) (sym in_session)
+          (client_of stands old new w does_it session slot c d there after others became.slots knows_fed quiet
+          (subst (IsSoundIf stands) after (sound session)) became.client all_know in_other_slots
+          (subst (λ k. IsHeldRightly stands (w.homes session) session (does_it ∷ w.run) k (held_in slot d.slots)) (sym in_slot)
+          (answer_held stands w.homes session slot w.run know r way s why o next asks a can c.instance (next_number (site_in s old.sites))
+          (effect_of (records_in s old.sites) (done.Op o) a) result c.lines d.lines (held_in slot d.slots) comes)))
+
+      goes_carries : ((m : ℕ) → IsSoundIf stands (session_in m new.sessions)) → Carries stands old new w does_it knows_then
+      goes_carries sound = record {
+        standing = stands_then stands old new w session slot r.line c.instance s o result permits at_sites;
+        due = answer_due stands w.homes session slot w.run know r way s why o next asks a can c.instance (next_number (site_in s old.sites)) (effect_of (records_in s old.sites) (done.Op o) a);
+        parentless = parentless_then stands old new w session slot r.line c.instance s o result permits at_sites;
+        clients = clients_of stands old new w does_it session slot c d there after others became.slots knows_then in_others quiet (own sound);
+        nobody = nobody_of stands old new w does_it session slot c d there after others became.slots knows_then in_others;
+        apart =
+            apart_of stands old new w does_it session slot c d there after others became.slots
+            (λ line is. ap script_line holds ∙ ap Some
+            (answer_line stands w.homes session slot w.run know r way s why o next asks a can c.instance (next_number (site_in s old.sites))
+            (effect_of (records_in s old.sites) (done.Op o) a) result c.lines d.lines (held_in slot d.slots) comes line is));
+        truth = true_then;
+        beside = beside_then;
+      }
+
+    pub did_keeps : Does stands (event.Poll session slot) does_it old new → ((m : ℕ) → IsSoundIf stands (session_in m new.sessions)) → Carries stands old new w does_it knows_then
+    did_keeps does sound =
+        let become = has_become stands (event.Poll session slot) does_it old new session c there (λ m. refl) does in
+        goes_carries become.after become.there become.others become.becomes sound

@@ -1,0 +1,96 @@
+-- Where no session changes: nothing happened, a request waits, or the store trimmed an object.
+use Rattle.std.proofs.Common.{◌≡◌, ℕ, Bool, true, false, cond, List, [], ◌∷◌, Option, Some, None, refl, sym, ap, ◌∙◌, subst}
+use Rattle.rbd_kinds.specs.declared.id.SiteId.{SiteId}
+use Rattle.rbd_machine.specs.Knowledge.{same_site}
+use Rattle.rbd_machine.specs.Plan.{Standing}
+use Rattle.rbd_rely.specs.Truth.{IsTrueAt, IsParentless}
+use Rattle.rbd_rely.proofs.Kept.{trims_keep}
+use Rattle.rbd_session.specs.Session.{SessionView, script_line}
+use Rattle.rbd_site.specs.Log.{trimmed}
+use Rattle.rbd_stands.specs.Site.{StandsFor}
+use Rattle.rbd_stands.proofs.StoreSteps.{trim_stands}
+use Rattle.rbd_world.specs.declared.event.Event.{Event}
+use Rattle.rbd_world.specs.Run.{Happening, Nothing, Waited, Trimmed, records_after, flat_after}
+use Rattle.rbd_world.specs.Sound.{AreStanding, IsDue, IsRight, IsSoundWorld, held_of, line_at}
+use Rattle.rbd_world.specs.Step.{Becomes, BecomesOf, Does, DoesAtSites, names_session}
+use Rattle.rbd_world.specs.World.{WorldView, records_in, session_in}
+use Rattle.rbd_world.proofs.Carried.{Carries}
+use Rattle.rbd_world.proofs.Quiet.{IsQuiet, client_on, quiet_nothing, quiet_waited, quiet_trimmed}
+
+-- the sites stand behind each run that is right
+pub where_standing : (homes : ℕ → SiteId) (run : List Happening) → IsRight homes run → AreStanding run
+where_standing homes [] right = right
+where_standing homes (h ∷ run) right = right.0
+
+module _ {R : Type 0} (stands : R → Standing) where
+  -- an event leaves the session that it names
+  abbrev pub Leaves : Event → Happening → Type 0
+  Leaves e h = (c d : SessionView R) → Becomes stands e h c d → d ≡ c
+
+  same_of : (e : Event) (h : Happening) (a b : Option (SessionView R)) → Leaves e h → BecomesOf stands e h a b → b ≡ a
+  same_of e h None b leaves is = is
+  same_of e h (Some c) None leaves is = absurd is
+  same_of e h (Some c) (Some d) leaves is = ap Some (leaves c d is)
+
+  module _ (old new : WorldView R) (w : IsSoundWorld stands old) where
+    -- it stayed as it was
+    abbrev pub AreSame : Type 0
+    AreSame = (session : ℕ) → session_in session new.sessions ≡ session_in session old.sessions
+
+    pub sessions_stay : (e : Event) (h : Happening) → Leaves e h → Does stands e h old new → AreSame
+    sessions_stay e h leaves does session = by (names_session e session) refl
+      where
+        by : (b : Bool) → names_session e session ≡ b → session_in session new.sessions ≡ session_in session old.sessions
+        by true is = same_of e h (session_in session old.sessions) (session_in session new.sessions) leaves (does.named session is)
+        by false is = does.others session is
+
+    rested : (h : Happening) → ((line : ℕ) → IsQuiet line h) → AreSame → AreStanding (h ∷ w.run) → IsDue w.homes h w.run
+        → ((s : SiteId) → IsParentless (records_in s new.sites)) → ((session slot : ℕ) (s : SiteId) → IsTrueAt s (records_in s new.sites) (w.knows session slot))
+        → Carries stands old new w h w.knows
+    rested h quiet same standing due parentless truth = record {
+      standing = standing;
+      due = due;
+      parentless = parentless;
+      clients = λ session c there.
+          client_on stands (w.homes session) session h w.run (w.knows session) c (λ slot line is. quiet line) (w.clients session c (sym (same session) ∙ there));
+      nobody = λ session none slot. w.nobody session (sym (same session) ∙ none) slot;
+      apart = λ line session slot other there one two. w.apart line session slot other there (sym (line_same session slot) ∙ one) (sym (line_same other there) ∙ two);
+      truth = truth;
+      beside = w.beside;
+    }
+      where
+        line_same : (session slot : ℕ) → line_at session slot new.sessions ≡ line_at session slot old.sessions
+        line_same session slot = ap (λ o. script_line (held_of slot o)) (same session)
+
+    pub nothing_keeps : (e : Event) → Leaves e Nothing → Does stands e Nothing old new → DoesAtSites Nothing old.sites new.sites → Carries stands old new w Nothing w.knows
+    nothing_keeps e leaves does at_sites =
+        rested Nothing quiet_nothing (sessions_stay e Nothing leaves does) (where_standing w.homes w.run w.right) tt
+        (λ s. subst IsParentless (sym (at_sites.records s)) (w.parentless s))
+        (λ session slot s. subst (λ r. IsTrueAt s r (w.knows session slot)) (sym (at_sites.records s)) (w.truth session slot s))
+
+    pub waited_keeps : (e : Event) → Leaves e Waited → Does stands e Waited old new → DoesAtSites Waited old.sites new.sites → Carries stands old new w Waited w.knows
+    waited_keeps e leaves does at_sites =
+        rested Waited quiet_waited (sessions_stay e Waited leaves does) (where_standing w.homes w.run w.right) tt
+        (λ s. subst IsParentless (sym (at_sites.records s)) (w.parentless s))
+        (λ session slot s. subst (λ r. IsTrueAt s r (w.knows session slot)) (sym (at_sites.records s)) (w.truth session slot s))
+
+    pub trimmed_keeps : (e : Event) (site : SiteId) (number image object : ℕ) → Leaves e (Trimmed site number image object) → Does stands e (Trimmed site number image object) old new
+        → DoesAtSites (Trimmed site number image object) old.sites new.sites → Carries stands old new w (Trimmed site number image object) w.knows
+    trimmed_keeps e site number image object leaves does at_sites =
+        rested (Trimmed site number image object) (λ line. quiet_trimmed line site number image object) (sessions_stay e (Trimmed site number image object) leaves does)
+        (λ s. stands_there s (same_site site s) (where_standing w.homes w.run w.right s)) tt
+        (λ s. subst IsParentless (sym (at_sites.records s)) (parentless_there s (same_site site s)))
+        (λ session slot s. subst (λ r. IsTrueAt s r (w.knows session slot)) (sym (at_sites.records s)) (true_there session slot s (same_site site s)))
+      where
+        stands_there : (s : SiteId) (b : Bool) → StandsFor [] (records_after s w.run) (flat_after s w.run)
+            → StandsFor [] (cond b (trimmed image object (records_after s w.run)) (records_after s w.run)) (flat_after s w.run)
+        stands_there s true stand = trim_stands [] (records_after s w.run) (flat_after s w.run) image object stand
+        stands_there s false stand = stand
+
+        parentless_there : (s : SiteId) (b : Bool) → IsParentless (cond b (trimmed image object (records_in s old.sites)) (records_in s old.sites))
+        parentless_there s true = w.parentless s
+        parentless_there s false = w.parentless s
+
+        true_there : (session slot : ℕ) (s : SiteId) (b : Bool) → IsTrueAt s (cond b (trimmed image object (records_in s old.sites)) (records_in s old.sites)) (w.knows session slot)
+        true_there session slot s true = trims_keep s (records_in s old.sites) (w.knows session slot) image object (w.truth session slot s)
+        true_there session slot s false = w.truth session slot s

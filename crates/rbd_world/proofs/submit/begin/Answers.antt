@@ -1,0 +1,10 @@
+use Rattle.std.proofs.Common.{◌≡◌, false, rules}
+use Rattle.std.specs.Prelude.{nat_lt}
+use Rattle.rbd_world.proofs.Submitted.{begins}
+use Rattle.rbd_world.proofs.submit.begin.Goals as goal
+
+pub returns-clause-becomes : goal.returns-clause-becomes
+returns-clause-becomes g c =
+    let room : nat_lt 64 c.args.client.now.lowest ≡ false = search rules in
+    begins g.E.Machine.stands c.args.session c.args.line c.args.command.now c.in_ok-try_clone.field-0 c.in_ok-try_clone.ensures c.args.is_begun c.if-is_begun.false c.args.client.now c.submit.new.self room c.in_ok-slot.ensures.held c.submit.ensures.others c.submit.ensures.lines
+    (record { instance = c.submit.ensures.who.0; home = c.submit.ensures.who.1 })
