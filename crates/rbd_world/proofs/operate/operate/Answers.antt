@@ -13,14 +13,14 @@ use Rattle.rbd_world.proofs.operate.operate.Goals as goal
 pub ready-requires : goal.ready-requires
 ready-requires g c =
     let answered : c.in_ok-answer.answer ≡ answer_to (records_of c.args.at.now) c.args.client.now.instance c.args.op =
-        c.in_ok-answer.ensures ∙ ap (λ me. answer_to (records_of c.args.at.now) me c.args.op) c.instance.ensures in
+    c.in_ok-answer.ensures ∙ ap (λ me. answer_to (records_of c.args.at.now) me c.args.op) c.instance.ensures in
     can_be_fed g.R.Machine.stands c.args.slot c.args.client.now c.args.site c.args.op c.in_ok-answer.answer c.requires.wants
     (subst (CanGive c.args.op) (sym answered) c.requires.gives)
 
 pub returns-clause-done : goal.returns-clause-done
 returns-clause-done g c =
     let answered : c.in_ok-answer.answer ≡ answer_to (records_of c.args.at.now) c.args.client.now.instance c.args.op =
-        c.in_ok-answer.ensures ∙ ap (λ me. answer_to (records_of c.args.at.now) me c.args.op) c.instance.ensures in
+    c.in_ok-answer.ensures ∙ ap (λ me. answer_to (records_of c.args.at.now) me c.args.op) c.instance.ensures in
     record {
       is_line = refl;
       is_site = refl;

@@ -32,15 +32,15 @@ returns-in-Some-clause-sessions g c =
     let behind = slice_set xs c.session.inside.0 c.poll_in.new.client in
     subst (λ o. OnOk c.poll_in.result (DoesToSessions g.R.Machine.stands e (polled g.R.Machine.stands c.args.sites.now c.args.slot o) xs behind)) (sym (found g c))
     (on_ok_then c.poll_in.result (λ becomes.
-        does_to_one g.R.Machine.stands e (polled g.R.Machine.stands c.args.sites.now c.args.slot (Some c.in-Some.client.now)) c.args.session c.session.inside.0 xs
-        c.in-Some.client.now c.poll_in.new.client (λ n. refl) c.session.view_is (found g c) (becomes 0) c.poll_in.ensures.sound)
+    does_to_one g.R.Machine.stands e (polled g.R.Machine.stands c.args.sites.now c.args.slot (Some c.in-Some.client.now)) c.args.session c.session.inside.0 xs
+    c.in-Some.client.now c.poll_in.new.client (λ n. refl) c.session.view_is (found g c) (becomes 0) c.poll_in.ensures.sound)
     c.poll_in.ensures.becomes)
 
 pub returns-in-Some-clause-alike : goal.returns-in-Some-clause-alike
 returns-in-Some-clause-alike g c =
     on_err_then c.poll_in.result (λ alike.
-        leaves_one g.R.Machine.stands c.args.session c.session.inside.0 c.args.sessions.now.items c.in-Some.client.now c.poll_in.new.client c.session.view_is (found g c)
-        alike c.poll_in.ensures.sound)
+    leaves_one g.R.Machine.stands c.args.session c.session.inside.0 c.args.sessions.now.items c.in-Some.client.now c.poll_in.new.client c.session.view_is (found g c)
+    alike c.poll_in.ensures.sound)
     c.poll_in.ensures.alike
 
 none : (g : _) (c : goal.After-sessions-in-None-2-1 g) → session_in c.args.session c.args.sessions.now.items ≡ None

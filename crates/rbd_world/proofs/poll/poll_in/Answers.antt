@@ -15,7 +15,7 @@ polled_there : (g : _) (c : goal.After-go_on g)
 polled_there g c =
     let stays : c.refuse.new.self ≡ c.args.client.now = search rules in
     let asks : op_at g.R.Machine.stands c.args.slot c.args.client.now ≡ Some (c.in-Some-2.site, c.in-Some-2.op) =
-        ap (op_at g.R.Machine.stands c.args.slot) (sym stays) ∙ sym c.in_ok-site.ensures.op ∙ c.in-Some-2.is in
+    ap (op_at g.R.Machine.stands c.args.slot) (sym stays) ∙ sym c.in_ok-site.ensures.op ∙ c.in-Some-2.is in
     if_ok_then (IsOperatedAt g.R.Machine.stands c.args.slot c.in-Some.line c.in-Some-2.site c.in-Some-2.op c.args.sites.now c.go_on.new.sites c.args.client.now c.go_on.new.client) _ c.go_on.result
     (λ h done. polled_so g.R.Machine.stands c.args.slot c.in-Some.line c.in-Some-2.site c.in-Some-2.op c.args.sites.now c.go_on.new.sites c.args.client.now c.go_on.new.client h
     c.in-Some.ensures.line asks done)
