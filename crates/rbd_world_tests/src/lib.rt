@@ -1,0 +1,25 @@
+//! Tests of a world, through its public calls: clients at two sites whose commands go on one
+//! operation at a time, in an order that each test chooses. They stand apart from the crate that
+//! they test, since a crate that has tests is proved twice: once as it is, and once with its tests.
+//!
+//! The commands are lines of one script (`script`), and a schedule says by its words what happens
+//! (`schedule`). A row has a schedule, what came of each event, and the replies (`rows`):
+//!
+//! ```text
+//! 3 1.1>end 1.1=none trim:1.0|slot1 a1 a2! nothing|3 ok
+//! │ │       │        │        │     │  │   └ the object 0 of image 1 isn't there
+//! │ │       │        │        │     └──┴ the operations 1 and 2 of site A; with the second it ends
+//! │ │       │        │        └ the line 3 has slot 1
+//! │ │       │        └ the store trims the object 0 of image 1
+//! │ │       └ it wants nothing, since nobody is in the slot
+//! │ └ slot 1 of the client c1 is polled until its request has its reply
+//! └ the client of line 3 begins its command
+//! ```
+//!
+//! What a row wants was worked out from the rules in prose: how many operations each command has
+//! (`rbd_request`, `rbd_admin`), who waits (`rbd_session`), and which bytes a flat list has at the
+//! moment at which it is looked at. The numbers of a site's operations are counted from 1.
+#![tactic(auto)]
+
+#[cfg(test)]
+mod tests;

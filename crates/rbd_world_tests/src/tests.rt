@@ -1,0 +1,11 @@
+mod drive;
+mod nothing;
+mod rows;
+mod schedule;
+mod script;
+mod sites;
+mod slots;
+mod snapshots;
+mod texts;
+mod waits;
+mod writes;

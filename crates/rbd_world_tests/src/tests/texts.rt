@@ -1,0 +1,191 @@
+//! What a world shows, as texts.
+use rbd_flat::{Cause, Entry};
+use rbd_kinds::{NoMemory, Reply, SiteId, Slot};
+use rbd_script::Declared;
+use rbd_site::Done;
+use rbd_text::{push_line, push_log, push_reply};
+use rbd_world::{Call, Outcome};
+use std::alloc::Global;
+
+/// Appends a word and a number.
+fn push_numbered(
+    alloc: Global,
+    text: &mut Vec<u8>,
+    word: &str,
+    number: u64,
+) -> Result<(), NoMemory> {
+    let told = format!(in alloc; "{word}{number}")?;
+    text.extend_from_slice(told.as_bytes())?;
+    Ok(())
+}
+
+fn letter(site: SiteId) -> &'static str {
+    match site {
+        SiteId::A => "a",
+        SiteId::B => "b",
+    }
+}
+
+fn push_step(
+    alloc: Global,
+    text: &mut Vec<u8>,
+    site: SiteId,
+    number: u64,
+    replied: bool,
+) -> Result<(), NoMemory> {
+    push_numbered(alloc, text, letter(site), number)?;
+    if replied {
+        text.push(b'!')?;
+    }
+    Ok(())
+}
+
+fn push_slot(alloc: Global, text: &mut Vec<u8>, slot: Slot) -> Result<(), NoMemory> {
+    push_numbered(alloc, text, "slot", u64::from(slot.0))
+}
+
+/// Appends what came of an event: `nothing`, `waits`, `slot1`, `a5`, with its reply `a5!`, or
+/// `stored`.
+fn push_outcome(alloc: Global, text: &mut Vec<u8>, outcome: &Outcome) -> Result<(), NoMemory> {
+    match outcome {
+        Outcome::Nothing => text.extend_from_slice(b"nothing")?,
+        Outcome::Submitted(slot) => push_slot(alloc, text, *slot)?,
+        Outcome::Waits => text.extend_from_slice(b"waits")?,
+        Outcome::Step {
+            site,
+            number,
+            waiting: _,
+            replied,
+        } => push_step(alloc, text, *site, *number, *replied)?,
+        Outcome::Stored => text.extend_from_slice(b"stored")?,
+    }
+    Ok(())
+}
+
+/// The words of a text, with one space between any two.
+fn spaced(alloc: Global, words: &str) -> Result<Vec<u8>, NoMemory> {
+    let mut text = Vec::new(alloc);
+    for word in words.split_whitespace() {
+        if !text.is_empty() {
+            text.push(b' ')?;
+        }
+        text.extend_from_slice(word.as_bytes())?;
+    }
+    Ok(text)
+}
+
+/// Whether this came of the calls, a word for each.
+pub fn outcomes_are(alloc: Global, calls: &[Call], want: &str) -> Result<bool, NoMemory> {
+    let mut text = Vec::new(alloc);
+    for call in calls {
+        if !text.is_empty() {
+            text.push(b' ')?;
+        }
+        push_outcome(alloc, &mut text, &call.outcome)?;
+    }
+    Ok(text.as_slice() == spaced(alloc, want)?.as_slice())
+}
+
+/// Appends a reply: done, bytes, names or a refusal. Of others only that there is one.
+fn push_plain(text: &mut Vec<u8>, reply: &Reply) -> Result<(), NoMemory> {
+    match reply {
+        Reply::Done => push_reply(text, &[], reply)?,
+        Reply::Bytes(_) => push_reply(text, &[], reply)?,
+        Reply::Names(_) => push_reply(text, &[], reply)?,
+        Reply::Refused(_) => push_reply(text, &[], reply)?,
+        _ => text.push(b'?')?,
+    }
+    Ok(())
+}
+
+/// Appends a reply behind its line, and a `;` between any two.
+fn push_answered(
+    alloc: Global,
+    text: &mut Vec<u8>,
+    line: u32,
+    reply: &Reply,
+) -> Result<(), NoMemory> {
+    let between = if text.is_empty() { "" } else { ";" };
+    push_numbered(alloc, text, between, u64::from(line))?;
+    text.push(b' ')?;
+    push_plain(text, reply)
+}
+
+/// Whether these are the replies of a history, in their order.
+pub fn replies_are(alloc: Global, history: &[Entry], want: &str) -> Result<bool, NoMemory> {
+    let mut text = Vec::new(alloc);
+    for entry in history {
+        if let Entry::Reply { line, reply } = entry {
+            push_answered(alloc, &mut text, *line, reply)?;
+        }
+    }
+    Ok(text.as_slice() == want.as_bytes())
+}
+
+/// Whether this is the text of a history, a line for each entry (`rbd_text`).
+pub fn history_is(
+    alloc: Global,
+    sessions: &[Declared],
+    history: &[Entry],
+    want: &str,
+) -> Result<bool, NoMemory> {
+    let mut text = Vec::new(alloc);
+    for (index, entry) in history.iter().enumerate() {
+        push_line(&mut text, sessions, index + 1, entry)?;
+    }
+    Ok(text.as_slice() == want.as_bytes())
+}
+
+/// Whether this is the text of a site's log, a line for each operation (`rbd_text`).
+pub fn log_is(
+    alloc: Global,
+    sessions: &[Declared],
+    site: SiteId,
+    log: &[Done],
+    want: &str,
+) -> Result<bool, NoMemory> {
+    let mut text = Vec::new(alloc);
+    push_log(&mut text, sessions, site, log)?;
+    Ok(text.as_slice() == want.as_bytes())
+}
+
+/// The operation of an entry: its line, its site and its number.
+fn operation(entry: &Entry) -> Option<(u32, SiteId, u64)> {
+    match entry {
+        Entry::Effect {
+            cause: Cause::Line(line),
+            site,
+            number,
+            effect: _,
+        } => Some((*line, *site, *number)),
+        Entry::Look {
+            cause: Cause::Line(line),
+            site,
+            number,
+        } => Some((*line, *site, *number)),
+        _ => None,
+    }
+}
+
+/// Whether a log has an operation of an instance with this number at this place.
+fn has_operation(log: &[Done], number: u64) -> bool {
+    match log.get((number as usize).wrapping_sub(1)) {
+        Some(done) => done.number == number && done.instance.is_some(),
+        None => false,
+    }
+}
+
+/// Whether each operation that a history tells stands in the log of its site under its number.
+pub fn numbers_are_of_logs(history: &[Entry], a: &[Done], b: &[Done]) -> bool {
+    for entry in history {
+        let is_there = match operation(entry) {
+            Some((_, SiteId::A, number)) => has_operation(a, number),
+            Some((_, SiteId::B, number)) => has_operation(b, number),
+            None => true,
+        };
+        if !is_there {
+            return false;
+        }
+    }
+    true
+}

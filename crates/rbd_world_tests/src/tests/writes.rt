@@ -1,0 +1,132 @@
+//! Writes over both objects, and reads beside them: a read shows of each object the bytes that
+//! there are at the moment at which it reads it.
+//!
+//! A write finds its image, looks at the header, looks again, and then writes each object: three
+//! operations and two. A read finds it, looks at the header, reads each object, and looks again.
+use super::rows::{goes_as, mixes_as, tells_as};
+use std::test::Fail;
+
+/// c1 has written two of the four bytes when c2 reads, which are the object 0's.
+const ONE_PIECE: &str = "3 1.1>end 5 1.1>data-write 1.1 6 2.1>end 1.1>end 10 2.1>end
+|slot1 a1 a2! slot1 a3 a4 a5 a6 slot1 a7 a8 a9 a10 a11! a12! slot1 a13 a14 a15 a16 a17!
+|3 ok;6 ok 11220000;5 ok;10 ok 11223344";
+
+const ONE_PIECE_HISTORY: &str = "h 1 start 3 c1.0
+h 2 effect 3 a1 name
+h 3 effect 3 a2 create
+h 4 reply 3
+h 5 start 5 c1.0
+h 6 look 5 a3
+h 7 look 5 a4
+h 8 look 5 a5
+h 9 effect 5 a6 piece
+h 10 start 6 c2.0
+h 11 look 6 a7
+h 12 look 6 a8
+h 13 look 6 a9
+h 14 look 6 a10
+h 15 look 6 a11
+h 16 reply 6
+h 17 effect 5 a12 piece
+h 18 reply 5
+h 19 start 10 c2.0
+h 20 look 10 a13
+h 21 look 10 a14
+h 22 look 10 a15
+h 23 look 10 a16
+h 24 look 10 a17
+h 25 reply 10
+";
+
+#[test]
+fn a_read_shows_one_piece_of_a_write(rt: HostRuntime) -> Result<(), Fail> {
+    tells_as(&rt, rt.alloc(), ONE_PIECE, ONE_PIECE_HISTORY)?;
+    Ok(())
+}
+
+/// Both writes are about to write the object 0, line 5 ahead of line 7, and both reads are about to
+/// read it.
+const FIFTH_AHEAD: &str = "3 1.1>end 5 7 1.1*3 1.2*3 6 10 2.1*2 2.2*2";
+
+/// The bytes 4094 to 4097 are at first 0000 0000, the first two of them the object 0's. Line 5
+/// makes them 1122 3344, object by object, and line 7 the two in the middle aa and bb: behind line
+/// 5 the object 0 has 11aa, and the object 1 bb44. A third poll of a read is its last look.
+const MIXED_BEHIND_FIFTH: &str =
+    "2.1*3 1.1*2 1.2*2 2.2*3|3 ok;6 ok 00000000;5 ok;7 ok;10 ok 11aabb44
+1.1 2.1 1.1 2.1*2 1.2 2.2 1.2 2.2*2|3 ok;5 ok;6 ok 11223344;7 ok;10 ok 11aabb44
+2.1 1.1 1.2 1.1 1.2 2.1*2 2.2*3|3 ok;5 ok;7 ok;6 ok 0000bb44;10 ok 11aabb44
+1.1 2.1 1.2 2.2 2.1 1.1 2.2 1.2 2.1 2.2|3 ok;5 ok;7 ok;6 ok 11220000;10 ok 11aa3344
+1.2 1.1 1.2*2 1.1 1.2 2.1*3 2.2*3|3 ok;5 ok;7 ok;6 ok 11aabb44;10 ok 11aabb44
+1.1 1.2 2.1 2.2*3 1.1 2.1*2 1.2|3 ok;10 ok 11aa0000;5 ok;6 ok 11aa3344;7 ok
+1.1*2 2.1*2 1.2*2 2.2*2 2.2 2.1|3 ok;5 ok;7 ok;10 ok 11aabb44;6 ok 11223344";
+
+#[test]
+fn reads_show_each_object_between_two_writes(rt: HostRuntime) -> Result<(), Fail> {
+    for row in MIXED_BEHIND_FIFTH.split('\n') {
+        mixes_as(&rt, rt.alloc(), FIFTH_AHEAD, row)?;
+    }
+    Ok(())
+}
+
+/// The same, with line 7 ahead of line 5.
+const SEVENTH_AHEAD: &str = "3 1.1>end 5 7 1.2*3 1.1*3 6 10 2.1*2 2.2*2";
+
+/// Line 7 makes the bytes 00aa bb00, object by object, and line 5 behind it 1122 3344.
+const MIXED_BEHIND_SEVENTH: &str =
+    "1.1 1.2 1.1 2.1 1.1 1.2 2.1 1.1 2.1 2.2*3|3 ok;7 ok;5 ok;6 ok 1122bb00;10 ok 11223344
+1.2 2.1 2.2 1.2 1.1 2.1 2.2 1.1 2.1 2.2|3 ok;7 ok;5 ok;6 ok 00aabb00;10 ok 00aabb00
+1.2 1.1 1.2 2.1*2 1.1 2.2*3 2.1|3 ok;7 ok;5 ok;10 ok 11223344;6 ok 1122bb00
+1.2*2 2.1 1.1 2.2 2.1 1.1 2.2 2.1 2.2|3 ok;7 ok;5 ok;6 ok 00aabb00;10 ok 11223344";
+
+#[test]
+fn writes_change_each_object_in_the_order_in_which_they_joined(
+    rt: HostRuntime,
+) -> Result<(), Fail> {
+    for row in MIXED_BEHIND_SEVENTH.split('\n') {
+        mixes_as(&rt, rt.alloc(), SEVENTH_AHEAD, row)?;
+    }
+    Ok(())
+}
+
+/// Line 7 waits at each object until line 5 has written it.
+const TURNS: &str = "3 1.1>end 5 7 1.1*3 1.2*3 1.2 1.2=none 1.1 1.2=data-write 1.2*2 1.1 1.2
+|slot1 a1 a2! slot1 slot2 a3 a4 a5 a6 a7 a8 waits a9 a10 waits a11! a12!
+|3 ok;5 ok;7 ok";
+
+const TURNS_HISTORY: &str = "h 1 start 3 c1.0
+h 2 effect 3 a1 name
+h 3 effect 3 a2 create
+h 4 reply 3
+h 5 start 5 c1.0
+h 6 start 7 c1.0
+h 7 look 5 a3
+h 8 look 5 a4
+h 9 look 5 a5
+h 10 look 7 a6
+h 11 look 7 a7
+h 12 look 7 a8
+h 13 effect 5 a9 piece
+h 14 effect 7 a10 piece
+h 15 effect 5 a11 piece
+h 16 reply 5
+h 17 effect 7 a12 piece
+h 18 reply 7
+";
+
+#[test]
+fn a_write_waits_for_its_turn_at_each_object(rt: HostRuntime) -> Result<(), Fail> {
+    tells_as(&rt, rt.alloc(), TURNS, TURNS_HISTORY)?;
+    Ok(())
+}
+
+/// Line 7 waits before its own look until line 5 has had its own, which is its second.
+const OWN_LOOKS: &str =
+    "3 1.1>end 5 7 1.1*2 1.2*2 1.2=none 1.2 1.1 1.2=header-get 1.2*2 1.1>end 1.2>end
+|slot1 a1 a2! slot1 slot2 a3 a4 a5 a6 waits a7 a8 waits a9 a10! a11 a12!
+|3 ok;5 ok;7 ok";
+
+#[test]
+fn a_write_looks_behind_the_own_look_of_the_one_ahead(rt: HostRuntime) -> Result<(), Fail> {
+    goes_as(&rt, rt.alloc(), OWN_LOOKS)?;
+    Ok(())
+}
