@@ -1,5 +1,5 @@
 -- Changes of images that are there, by the first client alone.
-use Rattle.std.specs.Prelude.{ℕ, ◌==◌, ◌||◌, Bool, true}
+use Rattle.std.specs.Prelude.{◌==◌, ◌||◌, not, Bool, true}
 use Rattle.rbd_kinds.specs.declared.command.Command.{Command}
 use Rattle.rbd_known.specs.Calm.{is_change}
 use Rattle.rbd_world.specs.declared.event.Call.{Call}
