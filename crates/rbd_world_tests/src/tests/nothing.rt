@@ -1,5 +1,5 @@
 //! Events of which nothing comes, and a refusal before any operation.
-use super::rows::{goes_as, keeps_as};
+use super::rows::{calls_as, goes_as, keeps_as};
 use std::test::Fail;
 
 /// No world has the clients c4 and c0. c1 has nothing in any slot, and no slot has the number 65.
@@ -61,5 +61,16 @@ const NO_IMAGE: &str = "22 2.1=dir-find 2.1 2.1=none|slot1 a1!|22 error 2 NoImag
 #[test]
 fn a_look_at_no_image_is_refused_by_its_first_operation(rt: HostRuntime) -> Result<(), Fail> {
     goes_as(&rt, rt.alloc(), NO_IMAGE)?;
+    Ok(())
+}
+
+/// Nothing comes of the polls of c4 and of slot 2, nor of line 21, and the first trim finds no
+/// object.
+#[test]
+fn the_calls_have_each_event_also_where_nothing_came(rt: HostRuntime) -> Result<(), Fail> {
+    let schedule = "3 4.1 1.1*2 1.2 trim:1.0 21 17 1.1=none 2.1>end 5 1.1>end trim:1.1";
+    let events =
+        "3:c1 4.1 1.1 1.1 1.2 trim:a1.0 21:c4 17:c2 2.1 5:c1 1.1 1.1 1.1 1.1 1.1 trim:a1.1";
+    calls_as(&rt, rt.alloc(), schedule, events)?;
     Ok(())
 }

@@ -14,7 +14,9 @@
 use super::drive::{Clients, holds, new_world};
 use super::schedule::{goes, play};
 use super::script::{SCRIPT, script};
-use super::texts::{history_is, log_is, numbers_are_of_logs, outcomes_are, replies_are};
+use super::texts::{
+    events_are, history_is, log_is, numbers_are_of_logs, outcomes_are, replies_are,
+};
 use rbd_kinds::{NoMemory, SiteId};
 use rbd_script::{Declared, Line};
 use std::alloc::Global;
@@ -106,6 +108,20 @@ pub fn keeps_as(
     goes_by(rt, alloc, &mut world, script.lines.as_slice(), row);
     tells(rt, alloc, &world, script.sessions.as_slice(), history);
     keeps(rt, alloc, &world, script.sessions.as_slice(), logs);
+    Ok(())
+}
+
+/// A new world goes by a schedule, and its calls then have these events.
+pub fn calls_as(
+    rt: &impl Abort,
+    alloc: Global,
+    schedule: &str,
+    events: &str,
+) -> Result<(), NoMemory> {
+    let script = script(rt, alloc, SCRIPT.as_bytes());
+    let mut world = new_world(alloc)?;
+    play(rt, alloc, &mut world, script.lines.as_slice(), schedule);
+    assert!(rt; holds(events_are(alloc, world.calls(), events)), "{events}");
     Ok(())
 }
 

@@ -1,10 +1,10 @@
 //! What a world shows, as texts.
 use rbd_flat::{Cause, Entry};
-use rbd_kinds::{NoMemory, Reply, SiteId, Slot};
+use rbd_kinds::{ImageId, NoMemory, Reply, SessionNo, SiteId, Slot};
 use rbd_script::Declared;
 use rbd_site::Done;
 use rbd_text::{push_line, push_log, push_reply};
-use rbd_world::{Call, Outcome};
+use rbd_world::{Call, Event, Outcome};
 use std::alloc::Global;
 
 /// Appends a word and a number.
@@ -82,6 +82,70 @@ pub fn outcomes_are(alloc: Global, calls: &[Call], want: &str) -> Result<bool, N
             text.push(b' ')?;
         }
         push_outcome(alloc, &mut text, &call.outcome)?;
+    }
+    Ok(text.as_slice() == spaced(alloc, want)?.as_slice())
+}
+
+fn push_polled(
+    alloc: Global,
+    text: &mut Vec<u8>,
+    session: SessionNo,
+    slot: Slot,
+) -> Result<(), NoMemory> {
+    let told = format!(in alloc; "{}.{}", u32::from(session.0) + 1, slot.0)?;
+    text.extend_from_slice(told.as_bytes())?;
+    Ok(())
+}
+
+fn push_begun(
+    alloc: Global,
+    text: &mut Vec<u8>,
+    session: SessionNo,
+    line: u32,
+) -> Result<(), NoMemory> {
+    let told = format!(in alloc; "{line}:c{}", u32::from(session.0) + 1)?;
+    text.extend_from_slice(told.as_bytes())?;
+    Ok(())
+}
+
+fn push_trimmed(
+    alloc: Global,
+    text: &mut Vec<u8>,
+    site: SiteId,
+    image: ImageId,
+    object: u64,
+) -> Result<(), NoMemory> {
+    let told = format!(in alloc; "trim:{}{}.{object}", letter(site), image.0)?;
+    text.extend_from_slice(told.as_bytes())?;
+    Ok(())
+}
+
+/// Appends an event: `3:c1`, `1.2` or `trim:a1.0`.
+fn push_event(alloc: Global, text: &mut Vec<u8>, event: &Event) -> Result<(), NoMemory> {
+    match event {
+        Event::Submit {
+            session,
+            line,
+            command: _,
+        } => push_begun(alloc, text, *session, *line)?,
+        Event::Poll { session, slot } => push_polled(alloc, text, *session, *slot)?,
+        Event::Trim {
+            site,
+            image,
+            object,
+        } => push_trimmed(alloc, text, *site, *image, *object)?,
+    }
+    Ok(())
+}
+
+/// Whether these are the events of the calls, a word for each.
+pub fn events_are(alloc: Global, calls: &[Call], want: &str) -> Result<bool, NoMemory> {
+    let mut text = Vec::new(alloc);
+    for call in calls {
+        if !text.is_empty() {
+            text.push(b' ')?;
+        }
+        push_event(alloc, &mut text, &call.event)?;
     }
     Ok(text.as_slice() == spaced(alloc, want)?.as_slice())
 }
