@@ -74,9 +74,9 @@ impl<E: Machine + Drop> World<E> {
         })
     }
 
-    /// One event. What it does and what comes of it is a function of the world (`happening`); refused memory, nothing
-    /// happened. An event that isn't built is ruled out, and so are changes of a second client, as long as no lock keeps
-    /// two apart.
+    /// One event. What it does, and what comes of it, is a function of the world (`happening`).
+    /// Refused memory, nothing happened. A command that isn't built is ruled out, and so is a change
+    /// by a second client, as long as no lock keeps two apart.
     pub fn step(&mut self, alloc: Global, event: &Event) -> Result<Outcome, NoMemory>
         requires built { IsBuiltEvent event.now }
         requires one_client { AreOfOneClient self.old.calls event.now }
