@@ -1,6 +1,6 @@
 -- What holds of each world, whatever came: its run is right at every place, and what its requests
 -- know is true.
-use Rattle.std.specs.Prelude.{◌≡◌, ◌≢◌, ◌⊎◌, ℕ, ◌==◌, ◌||◌, Bool, true, false, List, [], ◌∷◌, length, slice_get, Option, Some, None}
+use Rattle.std.specs.Prelude.{◌≡◌, ◌≢◌, ◌⊎◌, ℕ, ◌+◌, ◌==◌, ◌||◌, Bool, true, false, List, [], ◌∷◌, length, is_some, slice_get, Option, Some, None}
 use Rattle.rbd_kinds.specs.declared.id.SiteId.{SiteId}
 use Rattle.rbd_kinds.specs.declared.machine.Fed.{Fed}
 use Rattle.rbd_kinds.specs.declared.refusal.Refusal.{Refusal}
@@ -21,9 +21,12 @@ use Rattle.rbd_session.specs.declared.running.Occupant.TheVariants as occupant
 use Rattle.rbd_session.specs.declared.running.Running.{Running}
 use Rattle.rbd_session.specs.Session.{SessionView, IsSoundSession, held_in, script_line}
 use Rattle.rbd_site.specs.InForm.{AreInForm}
+use Rattle.rbd_site.specs.Step.{answer_to}
+use Rattle.rbd_site.specs.declared.done.DoneOp.TheVariants as done
+use Rattle.rbd_stands.specs.Effect.{effect_of}
 use Rattle.rbd_stands.specs.Site.{StandsFor}
 use Rattle.rbd_world.specs.Begun.{LinesBegun, has_line}
-use Rattle.rbd_world.specs.Run.{Asked, Happening, Began, Did, Refused, Trimmed, AreCalls, asked_by, flat_after, history_of, log_of, records_after, replies_to, steps_of}
+use Rattle.rbd_world.specs.Run.{Asked, Happening, Began, Did, Refused, Trimmed, Operation, AreCalls, asked_by, flat_after, history_of, log_of, records_after, replies_to, steps_of}
 use Rattle.rbd_world.specs.Step.{is_begun}
 use Rattle.rbd_world.specs.World.{WorldView, records_in, session_in, site_in}
 
@@ -46,13 +49,25 @@ pub record IsReplyMeant (homes : ℕ → SiteId) (line : ℕ) (reply : Reply) (b
   pub begun : IsOpen line before
   pub meant : IsMeantBy (homes begun.asked.session) begun.asked.command (steps_of line run) reply
 
--- A line is begun once; each operation for it comes behind its start and before its reply; and its
--- reply, which is one, is the command's.
+-- The operation has the number, the answer and the effect that its site has for it there.
+pub record IsDone (o : Operation) (before : List Happening) : Type 0 where
+  pub number : o.number ≡ length (log_of o.site before) + 1
+  pub answer : o.answer ≡ answer_to (records_after o.site before) o.instance o.op
+  pub effect : o.effect ≡ effect_of (records_after o.site before) (done.Op o.op) o.answer
+
+-- The store trimmed an object that was there.
+pub record IsTrimmed (s : SiteId) (number image object : ℕ) (before : List Happening) : Type 0 where
+  pub is_number : number ≡ length (log_of s before) + 1
+  pub there : is_some ((records_after s before).objects image object) ≡ true
+
+-- A line is begun once; each operation for it comes behind its start and before its reply, and is
+-- the one that its site does there; and its reply, which is one, is the command's.
 abbrev pub IsDue : (homes : ℕ → SiteId) → Happening → (before : List Happening) → Type 0
 IsDue homes (Began asked who slot) before = asked_by asked.line before ≡ None
-IsDue homes (Did o None) before = IsOpen o.line before
-IsDue homes (Did o (Some reply)) before = IsReplyMeant homes o.line reply before (Did o (Some reply) ∷ before)
+IsDue homes (Did o None) before = IsDone o before × IsOpen o.line before
+IsDue homes (Did o (Some reply)) before = IsDone o before × IsReplyMeant homes o.line reply before (Did o (Some reply) ∷ before)
 IsDue homes (Refused s line reply) before = IsReplyMeant homes line reply before (Refused s line reply ∷ before)
+IsDue homes (Trimmed s number image object) before = IsTrimmed s number image object before
 IsDue homes h before = Unit {0}
 
 -- both sites stand for their flat sites
