@@ -1,0 +1,5 @@
+pub mod Changed
+pub mod Listed
+pub mod Places
+pub mod Reads
+pub mod Replies
