@@ -83,6 +83,7 @@ pub mod laws;
 mod operate;
 mod poll;
 mod sites;
+mod step;
 mod submit;
 mod trim;
 mod world;

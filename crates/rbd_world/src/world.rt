@@ -7,12 +7,11 @@ ghost use Rattle.rbd_world.specs.World.{kind_in, session_in, site_in};
 
 use crate::begun::BegunLines;
 use crate::event::{Call, Event, Outcome};
-use crate::happen::happen;
-use crate::happened::{note, reserve};
 use crate::sites::Sites;
+use crate::step::step_parts;
 use rbd_course::Request;
 use rbd_flat::Entry;
-use rbd_kinds::{Instance, NoMemory, OpKind, SessionNo, SiteId, Slot, TryClone};
+use rbd_kinds::{Instance, NoMemory, OpKind, SessionNo, SiteId, Slot};
 use rbd_machine::Machine;
 use rbd_requests::SessionRequest;
 use rbd_session::Session;
@@ -84,16 +83,15 @@ impl<E: Machine + Drop> World<E> {
         ensures err { OnErr result (IsUndone (stands_of E.stands) self.old self.new) }
         ensures sound { IsSoundWorld (stands_of E.stands) self.new }
     {
-        let kept = event.try_clone()?;
-        reserve(&mut self.history, &mut self.calls)?;
-        let happened = happen(
+        let outcome = step_parts(
             alloc,
             &mut self.sites,
             &mut self.sessions,
             &mut self.begun,
+            &mut self.history,
+            &mut self.calls,
             event,
         )?;
-        let outcome = note(&mut self.history, &mut self.calls, kept, happened);
         Ok(outcome)
     }
 
