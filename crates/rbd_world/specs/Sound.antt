@@ -54,8 +54,8 @@ pub record IsReplyMeant (homes : ℕ → SiteId) (line : ℕ) (reply : Reply) (b
 abbrev pub first_life : (session : ℕ) → Instance
 first_life session = record { session = session; life = 0 }
 
--- The operation is of the session that began its line, and has the number, the answer and the effect
--- that its site has for it there.
+-- The operation is of the session that began its line, and has the number, the answer and the
+-- effect that its site has for it there.
 pub record IsDone (o : Operation) (before : List Happening) : Type 0 where
   pub whose : (asked : Asked) → asked_by o.line before ≡ Some asked → o.instance ≡ first_life asked.session
   pub number : o.number ≡ length (log_of o.site before) + 1
