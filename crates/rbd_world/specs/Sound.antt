@@ -1,6 +1,7 @@
 -- What holds of each world, whatever came: its run is right at every place, and what its requests
 -- know is true.
 use Rattle.std.specs.Prelude.{◌≡◌, ◌≢◌, ◌⊎◌, ℕ, ◌+◌, ◌==◌, ◌||◌, Bool, true, false, List, [], ◌∷◌, length, is_some, slice_get, Option, Some, None}
+use Rattle.rbd_kinds.specs.declared.command.Command.{Command}
 use Rattle.rbd_kinds.specs.declared.id.Instance.{Instance}
 use Rattle.rbd_kinds.specs.declared.id.SiteId.{SiteId}
 use Rattle.rbd_kinds.specs.declared.machine.Fed.{Fed}
@@ -9,9 +10,9 @@ use Rattle.rbd_kinds.specs.declared.reply.Reply.{Reply}
 use Rattle.rbd_known.specs.Calm.{IsCalmRequest, OwnsNothing, is_change}
 use Rattle.rbd_known.specs.Knowing.{AllKnow}
 use Rattle.rbd_machine.specs.Knowledge.{Knowledge, nothing_known}
-use Rattle.rbd_machine.specs.Path.{IsWalk}
+use Rattle.rbd_machine.specs.Path.{Answered, IsWalk}
 use Rattle.rbd_machine.specs.Permits.{Permits}
-use Rattle.rbd_machine.specs.Plan.{Standing}
+use Rattle.rbd_machine.specs.Plan.{Plan, Return, Standing}
 use Rattle.rbd_machine.specs.Refused.{AreGiven}
 use Rattle.rbd_machine.specs.Steps.{refused}
 use Rattle.rbd_meaning.specs.Meant.{IsMeantBy}
@@ -45,10 +46,19 @@ pub record IsOpen (line : ℕ) (run : List Happening) : Type 0 where
   pub is : asked_by line run ≡ Some asked
   pub unanswered : has_reply line run ≡ false
 
--- The reply is the command's, behind all operations that were done for its line, of a session with
--- this home.
+-- A walk of the command's plan leads there, by these operations.
+pub record IsLedTo (home : SiteId) (c : Command) (steps : List Answered) (last : Plan) : Type 0 where
+  pub start : Standing
+  pub plan : IsPlanFor home c start
+  pub feds : List Fed
+  pub walk : IsWalk start.labels start.plan feds steps last
+  pub given : AreGiven steps
+
+-- A walk of the command's plan ends with the reply, by all operations that were done for its line,
+-- of a session with this home; and the reply is the command's behind them.
 pub record IsReplyMeant (homes : ℕ → SiteId) (line : ℕ) (reply : Reply) (before run : List Happening) : Type 0 where
   pub begun : IsOpen line before
+  pub ended : IsLedTo (homes begun.asked.session) begun.asked.command (steps_of line run) (Return reply)
   pub meant : IsMeantBy (homes begun.asked.session) begun.asked.command (steps_of line run) reply
 
 -- a session's instance in its first life, which is its only one so far
