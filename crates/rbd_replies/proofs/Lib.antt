@@ -1,2 +1,4 @@
 pub mod PlacedRight
 pub mod Places
+pub mod PlacesTaken
+pub mod PlacesTold
