@@ -40,8 +40,9 @@ module _ {R : Type 0} (stands : R → Standing) where
   home_of None = site.A
   home_of (Some c) = c.home
 
-  new_client : (session : ℕ) (home : SiteId) (c : SessionView R) → c.home ≡ home → IsNewClient stands c → IsSoundClient stands home session [] (λ slot. nothing_known) c
+  new_client : (session : ℕ) (home : SiteId) (c : SessionView R) → c.home ≡ home → IsNewClient stands session c → IsSoundClient stands home session [] (λ slot. nothing_known) c
   new_client session home c at_home new = record {
+    who = new.who;
     at_home = at_home;
     sound = new.sound;
     know = λ slot. subst (λ o. KnowsIn stands slot (running_in o) c.lines nothing_known) (sym (new.slots slot)) refl;

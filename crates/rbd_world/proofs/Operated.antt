@@ -22,13 +22,14 @@ use Rattle.rbd_session.specs.declared.running.Running.{Running}
 use Rattle.rbd_session.specs.Advance.{track_of}
 use Rattle.rbd_session.specs.Session.{SessionView, ComesToIn, OfRunning, held_in, running_at, running_in, script_line}
 use Rattle.rbd_session.specs.Waits.{waits}
+use Rattle.rbd_session.proofs.Sound.{some_same}
 use Rattle.rbd_site.specs.declared.done.DoneOp.TheVariants as done
 use Rattle.rbd_site.specs.Records.{Records}
 use Rattle.rbd_site.specs.Step.{answer_to}
 use Rattle.rbd_stands.specs.Effect.{effect_of}
 use Rattle.rbd_world.specs.declared.event.Event.TheVariants as event
-use Rattle.rbd_world.specs.Run.{Happening, Did, Operation}
-use Rattle.rbd_world.specs.Sound.{IsDone, IsHeldRightly, IsSoundClient, IsSoundWorld, IsUnderWay, line_at}
+use Rattle.rbd_world.specs.Run.{Asked, Happening, Did, Operation, asked_by}
+use Rattle.rbd_world.specs.Sound.{IsDone, IsHeldRightly, IsSoundClient, IsSoundWorld, IsUnderWay, first_life, line_at}
 use Rattle.rbd_world.specs.Step.{AreOfOneClient, Does, DoesAtSites, Goes, IsSoundIf, next_number, operation_at, reply_at}
 use Rattle.rbd_world.specs.World.{WorldView, records_in, session_in, site_in}
 use Rattle.rbd_world.proofs.Answered.{answer_due, answer_held, answer_line}
@@ -65,9 +66,16 @@ module _ {R : Type 0} (stands : R → Standing) (old new : WorldView R) (w : IsS
   permits : Permits know s o
   permits = let mine = knows_there stands c (w.knows session) slot r runs (w.clients session c there).know in (subst (IsLawful mine.known_at know) asks mine.lawful).0
 
+  -- it is of the session that began its line
+  is_whose : (asked : Asked) → asked_by r.line w.run ≡ Some asked → c.instance ≡ first_life asked.session
+  is_whose asked is =
+      (w.clients session c there).who
+      ∙ ap first_life (sym way.mine ∙ ap (λ (x : Asked). x.session) (some_same way.begun.asked asked (sym way.begun.is ∙ is)))
+
   -- it is the one that its site does there
   is_done : IsDone operation w.run
   is_done = record {
+    whose = is_whose;
     number = ap (λ ds. length ds + 1) (w.logs s);
     answer = ap (λ (x : Records). answer_to x c.instance o) (w.records s);
     effect = ap (λ (x : Records). effect_of x (done.Op o) a) (w.records s);

@@ -1,6 +1,7 @@
 -- What holds of each world, whatever came: its run is right at every place, and what its requests
 -- know is true.
 use Rattle.std.specs.Prelude.{◌≡◌, ◌≢◌, ◌⊎◌, ℕ, ◌+◌, ◌==◌, ◌||◌, Bool, true, false, List, [], ◌∷◌, length, is_some, slice_get, Option, Some, None}
+use Rattle.rbd_kinds.specs.declared.id.Instance.{Instance}
 use Rattle.rbd_kinds.specs.declared.id.SiteId.{SiteId}
 use Rattle.rbd_kinds.specs.declared.machine.Fed.{Fed}
 use Rattle.rbd_kinds.specs.declared.refusal.Refusal.{Refusal}
@@ -49,8 +50,14 @@ pub record IsReplyMeant (homes : ℕ → SiteId) (line : ℕ) (reply : Reply) (b
   pub begun : IsOpen line before
   pub meant : IsMeantBy (homes begun.asked.session) begun.asked.command (steps_of line run) reply
 
--- The operation has the number, the answer and the effect that its site has for it there.
+-- a session's instance in its first life, which is its only one so far
+abbrev pub first_life : (session : ℕ) → Instance
+first_life session = record { session = session; life = 0 }
+
+-- The operation is of the session that began its line, and has the number, the answer and the
+-- effect that its site has for it there.
 pub record IsDone (o : Operation) (before : List Happening) : Type 0 where
+  pub whose : (asked : Asked) → asked_by o.line before ≡ Some asked → o.instance ≡ first_life asked.session
   pub number : o.number ≡ length (log_of o.site before) + 1
   pub answer : o.answer ≡ answer_to (records_after o.site before) o.instance o.op
   pub effect : o.effect ≡ effect_of (records_after o.site before) (done.Op o.op) o.answer
@@ -109,6 +116,7 @@ IsHeldRightly stands home session run k (Some (occupant.Refused line refusal)) =
 IsHeldRightly stands home session run k (Some (occupant.Running r)) = IsUnderWay stands home session run k r
 
 pub record IsSoundClient {R : Type 0} (stands : R → Standing) (home : SiteId) (session : ℕ) (run : List Happening) (knows : (slot : ℕ) → Knowledge) (c : SessionView R) : Type 0 where
+  pub who : c.instance ≡ first_life session
   pub at_home : c.home ≡ home
   pub sound : IsSoundSession stands c
   pub know : AllKnow stands knows c
@@ -153,7 +161,7 @@ pub record IsSoundWorld {R : Type 0} (stands : R → Standing) (w : WorldView R)
 
 -- a client in its first life, at a home
 pub record IsFirstClient {R : Type 0} (session : ℕ) (home : SiteId) (c : SessionView R) : Type 0 where
-  pub who : c.instance ≡ record { session = session; life = 0 }
+  pub who : c.instance ≡ first_life session
   pub at_home : c.home ≡ home
 
 abbrev pub FirstIn : {R : Type 0} → (session : ℕ) → Option SiteId → Option (SessionView R) → Type 0
@@ -170,13 +178,14 @@ pub record IsKept {R : Type 0} (stands : R → Standing) (b : LinesBegun) (w : W
   pub sound : IsSoundWorld stands w
   pub lines : (line : ℕ) → has_line line b ≡ is_begun line w.history
 
--- empty sites, sessions without requests, and nothing happened
-pub record IsNewClient {R : Type 0} (stands : R → Standing) (c : SessionView R) : Type 0 where
+-- empty sites, sessions in their first life without requests, and nothing happened
+pub record IsNewClient {R : Type 0} (stands : R → Standing) (session : ℕ) (c : SessionView R) : Type 0 where
+  pub who : c.instance ≡ first_life session
   pub sound : IsSoundSession stands c
   pub slots : (slot : ℕ) → held_in slot c.slots ≡ None
 
 abbrev pub AreNewClients : {R : Type 0} → (stands : R → Standing) → List (SessionView R) → Type 0
-AreNewClients {R} stands sessions = (session : ℕ) (c : SessionView R) → session_in session sessions ≡ Some c → IsNewClient stands c
+AreNewClients {R} stands sessions = (session : ℕ) (c : SessionView R) → session_in session sessions ≡ Some c → IsNewClient stands session c
 
 pub record IsNewWorld {R : Type 0} (stands : R → Standing) (w : WorldView R) : Type 0 where
   pub sites : (s : SiteId) → (site_in s w.sites).log ≡ []
