@@ -1,1 +1,2 @@
-
+pub mod PlacedRight
+pub mod Places

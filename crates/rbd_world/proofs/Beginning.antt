@@ -65,7 +65,7 @@ module _ {R : Type 0} (stands : R → Standing) where
     history = new.history;
     logs = new.sites;
     records = λ s. ap (after_all no_records) (new.sites s);
-    right = λ s. nothing_stands;
+    right = λ s. record { stands = nothing_stands; parentless = none_parentless; form = none_in_form };
     form = λ s. subst (λ log. AreInForm (after_all no_records log) (length log)) (sym (new.sites s)) none_in_form;
     parentless = λ s. subst (λ log. IsParentless (after_all no_records log)) (sym (new.sites s)) none_parentless;
     clients = λ session c is. new_client session (home_of (session_in session w.sessions)) c (sym (ap home_of is)) (new.clients session c is);

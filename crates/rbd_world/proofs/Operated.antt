@@ -79,6 +79,9 @@ module _ {R : Type 0} (stands : R → Standing) (old new : WorldView R) (w : IsS
     number = ap (λ ds. length ds + 1) (w.logs s);
     answer = ap (λ (x : Records). answer_to x c.instance o) (w.records s);
     effect = ap (λ (x : Records). effect_of x (done.Op o) a) (w.records s);
+    knows = know;
+    truth = subst (λ r. IsTrueAt s r know) (w.records s) (w.truth session slot s);
+    permits = permits;
   }
 
   -- ---- what is known then

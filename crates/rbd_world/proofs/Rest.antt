@@ -12,16 +12,16 @@ use Rattle.rbd_stands.specs.Site.{StandsFor}
 use Rattle.rbd_stands.proofs.StoreSteps.{trim_stands}
 use Rattle.rbd_world.specs.declared.event.Event.{Event}
 use Rattle.rbd_world.specs.Run.{Happening, Nothing, Waited, Trimmed, records_after, flat_after}
-use Rattle.rbd_world.specs.Sound.{AreStanding, IsDue, IsRight, IsSoundWorld, IsTrimmed, held_of, line_at}
+use Rattle.rbd_world.specs.Sound.{IsDue, IsRight, IsSoundWorld, IsTrimmed, held_of, line_at}
 use Rattle.rbd_world.specs.Step.{Becomes, BecomesOf, Does, DoesAtSites, names_session, next_number}
 use Rattle.rbd_world.specs.World.{WorldView, records_in, session_in, site_in}
-use Rattle.rbd_world.proofs.Carried.{Carries}
+use Rattle.rbd_world.proofs.Carried.{Carries, StandFlat}
 use Rattle.rbd_world.proofs.Quiet.{IsQuiet, client_on, quiet_nothing, quiet_waited, quiet_trimmed}
 
--- the sites stand behind each run that is right
-pub where_standing : (homes : ℕ → SiteId) (run : List Happening) → IsRight homes run → AreStanding run
-where_standing homes [] right = right
-where_standing homes (h ∷ run) right = right.0
+-- the sites stand for their flat sites behind each run that is right
+pub where_standing : (homes : ℕ → SiteId) (run : List Happening) → IsRight homes run → StandFlat run
+where_standing homes [] right s = (right s).stands
+where_standing homes (h ∷ run) right s = (right.0 s).stands
 
 module _ {R : Type 0} (stands : R → Standing) where
   -- an event leaves the session that it names
@@ -45,7 +45,7 @@ module _ {R : Type 0} (stands : R → Standing) where
         by true is = same_of e h (session_in session old.sessions) (session_in session new.sessions) leaves (does.named session is)
         by false is = does.others session is
 
-    rested : (h : Happening) → ((line : ℕ) → IsQuiet line h) → AreSame → AreStanding (h ∷ w.run) → IsDue w.homes h w.run
+    rested : (h : Happening) → ((line : ℕ) → IsQuiet line h) → AreSame → StandFlat (h ∷ w.run) → IsDue w.homes h w.run
         → ((s : SiteId) → IsParentless (records_in s new.sites)) → ((session slot : ℕ) (s : SiteId) → IsTrueAt s (records_in s new.sites) (w.knows session slot))
         → Carries stands old new w h w.knows
     rested h quiet same standing due parentless truth = record {

@@ -10,6 +10,7 @@ use Rattle.rbd_known.specs.Calm.{IsCalmRequest, OwnsNothing, is_change}
 use Rattle.rbd_known.specs.Knowing.{AllKnow}
 use Rattle.rbd_machine.specs.Knowledge.{Knowledge, nothing_known}
 use Rattle.rbd_machine.specs.Path.{IsWalk}
+use Rattle.rbd_machine.specs.Permits.{Permits}
 use Rattle.rbd_machine.specs.Plan.{Standing}
 use Rattle.rbd_machine.specs.Refused.{AreGiven}
 use Rattle.rbd_machine.specs.Steps.{refused}
@@ -54,13 +55,17 @@ pub record IsReplyMeant (homes : ℕ → SiteId) (line : ℕ) (reply : Reply) (b
 abbrev pub first_life : (session : ℕ) → Instance
 first_life session = record { session = session; life = 0 }
 
--- The operation is of the session that began its line, and has the number, the answer and the
--- effect that its site has for it there.
+-- The operation is of the session that began its line, has the number, the answer and the effect
+-- that its site has for it there, and was permitted to its request by what it knew, which was
+-- true.
 pub record IsDone (o : Operation) (before : List Happening) : Type 0 where
   pub whose : (asked : Asked) → asked_by o.line before ≡ Some asked → o.instance ≡ first_life asked.session
   pub number : o.number ≡ length (log_of o.site before) + 1
   pub answer : o.answer ≡ answer_to (records_after o.site before) o.instance o.op
   pub effect : o.effect ≡ effect_of (records_after o.site before) (done.Op o.op) o.answer
+  pub knows : Knowledge
+  pub truth : IsTrueAt o.site (records_after o.site before) knows
+  pub permits : Permits knows o.site o.op
 
 -- The store trimmed an object that was there.
 pub record IsTrimmed (s : SiteId) (number image object : ℕ) (before : List Happening) : Type 0 where
@@ -77,9 +82,15 @@ IsDue homes (Refused s line reply) before = IsReplyMeant homes line reply before
 IsDue homes (Trimmed s number image object) before = IsTrimmed s number image object before
 IsDue homes h before = Unit {0}
 
--- both sites stand for their flat sites
+-- The site stands for its flat site, no image has a parent, and headers are in form.
+pub record IsStanding (s : SiteId) (run : List Happening) : Type 0 where
+  pub stands : StandsFor [] (records_after s run) (flat_after s run)
+  pub parentless : IsParentless (records_after s run)
+  pub form : AreInForm (records_after s run) (length (log_of s run))
+
+-- both sites do
 abbrev pub AreStanding : List Happening → Type 0
-AreStanding run = (s : SiteId) → StandsFor [] (records_after s run) (flat_after s run)
+AreStanding run = (s : SiteId) → IsStanding s run
 
 -- so it is at each place of the run
 abbrev pub IsRight : (homes : ℕ → SiteId) → List Happening → Type 0
