@@ -1,2 +1,5 @@
 pub mod PlacedRight
 pub mod Places
+pub mod ReadLooks
+pub mod WritePieces
+pub mod WriteWhole
