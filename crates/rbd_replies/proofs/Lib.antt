@@ -4,4 +4,7 @@ pub mod PlacedRight
 pub mod Places
 pub mod PlacesTaken
 pub mod PlacesTold
+pub mod ReadLooks
 pub mod RefusalsNothing
+pub mod WritePieces
+pub mod WriteWhole
