@@ -6,5 +6,6 @@ pub mod PlacesTaken
 pub mod PlacesTold
 pub mod ReadLooks
 pub mod RefusalsNothing
+pub mod RepliesOf
 pub mod WritePieces
 pub mod WriteWhole
