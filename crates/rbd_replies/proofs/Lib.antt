@@ -1,4 +1,6 @@
 pub mod ChangesDone
+pub mod HomeReplies
+pub mod HomeSteps
 pub mod ListingsTold
 pub mod PlacedRight
 pub mod Places
