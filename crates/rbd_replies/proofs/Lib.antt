@@ -6,3 +6,7 @@ pub mod WriteWhole
 pub mod ReadParents
 pub mod ReadOrder
 pub mod ReadKept
+pub mod ReadNames
+pub mod ReadPiece
+pub mod ReadShown
+pub mod ReadPass
