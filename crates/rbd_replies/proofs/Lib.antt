@@ -11,3 +11,10 @@ pub mod RefusalsNothing
 pub mod RepliesOf
 pub mod WritePieces
 pub mod WriteWhole
+pub mod ReadParents
+pub mod ReadOrder
+pub mod ReadKept
+pub mod ReadNames
+pub mod ReadPiece
+pub mod ReadShown
+pub mod ReadPass

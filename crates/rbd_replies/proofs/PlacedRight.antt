@@ -34,7 +34,7 @@ pub standing_at : (homes : ℕ → SiteId) (run : List Happening) → IsRight ho
 standing_at homes [] right = right
 standing_at homes (h ∷ run) right = right.0
 
-done_of : (homes : ℕ → SiteId) (o : Operation) (reply : Option Reply) (run : List Happening) → IsDue homes (Did o reply) run → IsDone o run
+pub done_of : (homes : ℕ → SiteId) (o : Operation) (reply : Option Reply) (run : List Happening) → IsDue homes (Did o reply) run → IsDone o run
 done_of homes o None run due = due.0
 done_of homes o (Some reply) run due = due.0
 
