@@ -1,1 +1,20 @@
-
+pub mod ChangesDone
+pub mod HomeReplies
+pub mod HomeSteps
+pub mod ListingsTold
+pub mod PlacedRight
+pub mod Places
+pub mod PlacesTaken
+pub mod PlacesTold
+pub mod ReadKept
+pub mod ReadLooks
+pub mod ReadNames
+pub mod ReadOrder
+pub mod ReadParents
+pub mod ReadPass
+pub mod ReadPiece
+pub mod ReadShown
+pub mod RefusalsNothing
+pub mod RepliesOf
+pub mod WritePieces
+pub mod WriteWhole
