@@ -1,5 +1,5 @@
--- A read that shows bytes shows those of the flat view, each piece's at its place, between two looks
--- at one header.
+-- A read that shows bytes shows those of the flat view, each piece's at its place, between two
+-- looks at one header.
 use Rattle.std.proofs.Common.{◌≡◌, ℕ, ◌+◌, ◌≤◌, true, List, [], ◌∷◌, ◌++◌, map, Option, Some, None, unwrap_or, refl, sym, ap, ◌∙◌, subst, arith}
 use Rattle.std.specs.Prelude.{All}
 use Rattle.std.proofs.lemmas.Bool.Decides.{nat_tests}
