@@ -1,4 +1,5 @@
 pub mod Changed
+pub mod Home
 pub mod Listed
 pub mod Places
 pub mod Reads

@@ -5,6 +5,7 @@ ghost use Rattle.rbd_kinds.specs.declared.id.SiteId.{SiteId as Site};
 ghost use Rattle.rbd_kinds.specs.declared.reply.Reply.{Reply};
 ghost use Rattle.rbd_world.specs.Run.{Asked, Happening, Operation, Did, Refused, asked_by, step_of, steps_of};
 ghost use Rattle.rbd_world.specs.Sound.{IsRight};
+ghost use Rattle.rbd_replies.specs.Home.{AreDoneAt};
 ghost use Rattle.rbd_replies.specs.Places.{Placed, places_of};
 ghost use Rattle.rbd_replies.specs.Replies.{IsReplyOf};
 
@@ -23,4 +24,15 @@ pub fn replies_are_the_flat_machines()
     ensures refused { (homes : ℕ → Site) (run : List Happening) (s : Site) (line : ℕ) (reply : Reply) (asked : Asked)
         → IsRight homes (Refused s line reply ∷ run) → asked_by line run ≡ Some asked
         → IsReplyOf asked.command reply (places_of line (Refused s line reply ∷ run)) }
+{}
+
+/// The operations of a line that has its reply were done at the home of the session that began it:
+/// so the flat site at each of its places is that site's.
+pub fn replies_are_of_their_home()
+    ensures done { (homes : ℕ → Site) (run : List Happening) (o : Operation) (reply : Reply) (asked : Asked)
+        → IsRight homes (Did o (Some reply) ∷ run) → asked_by o.line run ≡ Some asked
+        → AreDoneAt (homes asked.session) (places_of o.line (Did o (Some reply) ∷ run)) }
+    ensures refused { (homes : ℕ → Site) (run : List Happening) (s : Site) (line : ℕ) (reply : Reply) (asked : Asked)
+        → IsRight homes (Refused s line reply ∷ run) → asked_by line run ≡ Some asked
+        → AreDoneAt (homes asked.session) (places_of line (Refused s line reply ∷ run)) }
 {}
