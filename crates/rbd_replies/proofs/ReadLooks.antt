@@ -1,5 +1,5 @@
 -- What a look tells at its place: the image that a name has, and a header; and it has no effect.
-use Rattle.std.proofs.Common.{◌≡◌, ℕ, true, List, [], ◌∷◌, map, Option, Some, None, refl, sym, ap, ◌∙◌, subst}
+use Rattle.std.proofs.Common.{◌≡◌, ℕ, true, List, [], ◌∷◌, map, Option, Some, None, refl, sym, ap, ◌∙◌}
 use Rattle.std.specs.FinMap as finmap
 use Rattle.rbd_flat.specs.Flat.{id_of, image_at}
 use Rattle.rbd_kinds.specs.declared.answer.Answer.{Answer}
@@ -18,7 +18,7 @@ use Rattle.rbd_site.specs.Step.{answer_to}
 use Rattle.rbd_stands.specs.Reading.{Tells}
 use Rattle.rbd_stands.proofs.NoEffect.{look_none}
 use Rattle.rbd_stands.proofs.Telling.{header_told}
-use Rattle.rbd_world.specs.Run.{records_after, flat_after}
+use Rattle.rbd_world.specs.Run.{records_after}
 use Rattle.rbd_replies.specs.Places.{Placed, effects_of, flat_at, with_effect}
 use Rattle.rbd_replies.proofs.PlacedRight.{IsPlacedRight}
 use Rattle.rbd_replies.proofs.Places.{step_at}

@@ -9,7 +9,6 @@ use Rattle.rbd_kinds.specs.declared.id.Instance.{Instance}
 use Rattle.rbd_kinds.specs.declared.id.SiteId.{SiteId}
 use Rattle.rbd_kinds.specs.declared.operation.Op.{Op}
 use Rattle.rbd_kinds.specs.declared.operation.Op.TheVariants as op
-use Rattle.rbd_kinds.specs.declared.reply.Reply.{Reply}
 use Rattle.rbd_kinds.specs.Header.{snap_named}
 use Rattle.rbd_machine.specs.Knowledge.{Knowledge, same_site}
 use Rattle.rbd_machine.specs.Permits.{Permits, PermitsOnHeader}
@@ -19,7 +18,7 @@ use Rattle.rbd_site.specs.Records.{Records}
 use Rattle.rbd_site.specs.Step.{after}
 use Rattle.rbd_stands.specs.View.{EachView, Shape}
 use Rattle.rbd_stands.proofs.Views.{each_added, each_removed}
-use Rattle.rbd_world.specs.Run.{Happening, Nothing, Waited, Began, Did, Refused, Trimmed, Operation, records_after, records_behind}
+use Rattle.rbd_world.specs.Run.{Happening, Nothing, Waited, Began, Did, Refused, Trimmed, records_after, records_behind}
 use Rattle.rbd_world.specs.Sound.{IsDone, IsDue, IsRight}
 use Rattle.rbd_replies.proofs.PlacedRight.{done_of}
 

@@ -1,6 +1,5 @@
 -- The last pass of a read shows the flat view's bytes.
-use Rattle.std.proofs.Common.{◌≡◌, ℕ, ◌+◌, ◌≤◌, List, [], ◌∷◌, ◌++◌, map, Option, Some, None, refl, sym, ap, ◌∙◌, subst}
-use Rattle.rbd_kinds.specs.declared.answer.Answer.TheVariants as answer
+use Rattle.std.proofs.Common.{◌≡◌, ℕ, List, [], ◌∷◌, ◌++◌, map, Option, Some, refl, sym, ap, ◌∙◌, subst}
 use Rattle.rbd_kinds.specs.declared.header.HeaderView.{HeaderView}
 use Rattle.rbd_kinds.specs.declared.id.SiteId.{SiteId}
 use Rattle.rbd_kinds.specs.declared.layout.Extent.{Extent}
@@ -13,7 +12,7 @@ use Rattle.rbd_meaning.specs.Reads.{AreRead, ShowsAtLast, ShowsBetween, bytes_re
 use Rattle.rbd_world.specs.Run.{records_after}
 use Rattle.rbd_replies.specs.Places.{Placed}
 use Rattle.rbd_replies.specs.Reads.{ShowsBytes}
-use Rattle.rbd_replies.proofs.PlacedRight.{ArePlacedRight, IsPlacedRight, right_back, right_front}
+use Rattle.rbd_replies.proofs.PlacedRight.{ArePlacedRight, right_back, right_front}
 use Rattle.rbd_replies.proofs.Places.{step_at}
 use Rattle.rbd_replies.proofs.ReadLooks.{begin_with, found_there, header_there, records_at}
 use Rattle.rbd_replies.proofs.ReadNames.{IsViewOf, shape_of_named}
@@ -21,6 +20,69 @@ use Rattle.rbd_replies.proofs.ReadOrder.{AreOrdered, ordered_back}
 use Rattle.rbd_replies.proofs.ReadParents.{views_alone}
 use Rattle.rbd_replies.proofs.ReadShown.{divide, nothing_left, pieces_shown, there_at, within_size}
 use Rattle.rbd_replies.proofs.WriteWhole.{range_fits}
+
+-- the places of a pass, at the end of all
+record PassPlaces (home : SiteId) (name : List ℕ) (image : ℕ) (h closing : HeaderView) (reads_of_it : List Answered) (places : List Placed) : Type 0 where
+  earlier : List Placed
+  one : Placed
+  two : Placed
+  reads : List Placed
+  last : Placed
+  are : places ≡ earlier ++ (one ∷ two ∷ (reads ++ last ∷ []))
+  one_is : step_at one ≡ found home name image
+  two_is : step_at two ≡ looked_at home image h
+  reads_are : map step_at reads ≡ reads_of_it
+  last_is : step_at last ≡ looked_at home image closing
+
+place_then : (p : Placed) (places rest others : List Placed) → places ≡ p ∷ rest → rest ≡ others → places ≡ p ∷ others
+place_then p places rest others are is = are ∙ ap (λ more. p ∷ more) is
+
+front_then : (front places back others : List Placed) → places ≡ front ++ back → back ≡ others → places ≡ front ++ others
+front_then front places back others are is = are ∙ ap (λ more. front ++ more) is
+
+-- the closing look is the last place
+record EndsWith (step : Answered) (steps : List Answered) (places : List Placed) : Type 0 where
+  front : List Placed
+  last : Placed
+  are : places ≡ front ++ last ∷ []
+  front_are : map step_at front ≡ steps
+  last_is : step_at last ≡ step
+
+end_with : (step : Answered) (steps : List Answered) (places : List Placed) → map step_at places ≡ steps ++ step ∷ [] → EndsWith step steps places
+end_with step steps places are =
+    let parts = divide steps (step ∷ []) places are in
+    let end = begin_with step [] parts.back parts.back_is in
+    record {
+      front = parts.front;
+      last = end.place;
+      are = front_then parts.front places parts.back (end.place ∷ []) parts.are (place_then end.place parts.back end.rest [] end.are (nothing_left end.rest end.others));
+      front_are = parts.front_is;
+      last_is = end.is;
+    }
+
+take_apart : (home : SiteId) (name : List ℕ) (image : ℕ) (h closing : HeaderView) (reads_of_it before : List Answered) (places : List Placed)
+    → map step_at places ≡ before ++ (found home name image ∷ looked_at home image h ∷ (reads_of_it ++ looked_at home image closing ∷ []))
+    → PassPlaces home name image h closing reads_of_it places
+take_apart home name image h closing reads_of_it before places are =
+    let parts = divide before (found home name image ∷ looked_at home image h ∷ (reads_of_it ++ looked_at home image closing ∷ [])) places are in
+    let first = begin_with (found home name image) (looked_at home image h ∷ (reads_of_it ++ looked_at home image closing ∷ [])) parts.back parts.back_is in
+    let second = begin_with (looked_at home image h) (reads_of_it ++ looked_at home image closing ∷ []) first.rest first.others in
+    let end = end_with (looked_at home image closing) reads_of_it second.rest second.others in
+    record {
+      earlier = parts.front;
+      one = first.place;
+      two = second.place;
+      reads = end.front;
+      last = end.last;
+      are =
+          front_then parts.front places parts.back (first.place ∷ second.place ∷ (end.front ++ end.last ∷ [])) parts.are
+          (place_then first.place parts.back first.rest (second.place ∷ (end.front ++ end.last ∷ [])) first.are
+          (place_then second.place first.rest second.rest (end.front ++ end.last ∷ []) second.are end.are));
+      one_is = first.is;
+      two_is = second.is;
+      reads_are = end.front_are;
+      last_is = end.last_is;
+    }
 
 module _ (homes : ℕ → SiteId) (home : SiteId) (name : List ℕ) (snap : Option (List ℕ)) (e : Extent) (bytes : List ℕ) where
   pass_shown : (earlier : List Placed) (one two last : Placed) (reads : List Placed) (steps : List Answered) (shows : ShowsBetween home name snap e steps bytes)
@@ -67,23 +129,18 @@ module _ (homes : ℕ → SiteId) (home : SiteId) (name : List ℕ) (snap : Opti
         shows = shows.shows ∙ ap (λ steps. bytes_of_extent h.layout e (bytes_read (pieces_of h.layout e) steps)) (sym reads_are);
       }
 
+  whole_shown : (places : List Placed) → ArePlacedRight homes places → AreOrdered places → (steps : List Answered) (shows : ShowsBetween home name snap e steps bytes)
+      → PassPlaces home name shows.pass.image shows.pass.first shows.closing shows.pass.reads places → ShowsBytes name snap e bytes places
+  whole_shown places right ordered steps shows at =
+      let pass = at.one ∷ at.two ∷ (at.reads ++ at.last ∷ []) in
+      subst (ShowsBytes name snap e bytes) (sym at.are)
+      (pass_shown at.earlier at.one at.two at.last at.reads steps shows
+      (right_back homes at.earlier pass (subst (ArePlacedRight homes) at.are right))
+      (ordered_back at.earlier pass (subst AreOrdered at.are ordered))
+      at.one_is at.two_is at.reads_are at.last_is)
+
   pub shows_at_places : (places : List Placed) → ArePlacedRight homes places → AreOrdered places → ShowsAtLast home name snap e (map step_at places) bytes → ShowsBytes name snap e bytes places
   shows_at_places places right ordered shows =
-      let pass = shows.shows.pass in
-      let closing = looked_at home pass.image shows.shows.closing in
-      let parts = divide (joined shows.passes) shows.pass places shows.are in
-      let one = begin_with (found home name pass.image) (looked_at home pass.image pass.first ∷ (pass.reads ++ closing ∷ [])) parts.back (parts.back_is ∙ pass.are) in
-      let two = begin_with (looked_at home pass.image pass.first) (pass.reads ++ closing ∷ []) one.rest one.others in
-      let middle = divide pass.reads (closing ∷ []) two.rest two.others in
-      let end = begin_with closing [] middle.back middle.back_is in
-      let back_is : parts.back ≡ one.place ∷ two.place ∷ (middle.front ++ end.place ∷ []) =
-      one.are ∙ ap (λ rest. one.place ∷ rest)
-      (two.are ∙ ap (λ rest. two.place ∷ rest)
-      (middle.are ∙ ap (λ rest. middle.front ++ rest)
-      (end.are ∙ ap (λ rest. end.place ∷ rest) (nothing_left end.rest end.others)))) in
-      let whole : places ≡ parts.front ++ (one.place ∷ two.place ∷ (middle.front ++ end.place ∷ [])) = parts.are ∙ ap (λ back. parts.front ++ back) back_is in
-      subst (ShowsBytes name snap e bytes) (sym whole)
-      (pass_shown parts.front one.place two.place end.place middle.front shows.pass shows.shows
-      (right_back homes parts.front (one.place ∷ two.place ∷ (middle.front ++ end.place ∷ [])) (subst (ArePlacedRight homes) whole right))
-      (ordered_back parts.front (one.place ∷ two.place ∷ (middle.front ++ end.place ∷ [])) (subst AreOrdered whole ordered))
-      one.is two.is middle.front_is end.is)
+      whole_shown places right ordered shows.pass shows.shows
+      (take_apart home name shows.shows.pass.image shows.shows.pass.first shows.shows.closing shows.shows.pass.reads (joined shows.passes) places
+      (shows.are ∙ ap (λ pass. joined shows.passes ++ pass) shows.shows.pass.are))

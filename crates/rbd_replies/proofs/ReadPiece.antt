@@ -1,11 +1,10 @@
 -- A piece that was read shows the flat view's bytes at its place; where the object is absent, these
 -- are zeros.
-use Rattle.std.proofs.Common.{◌≡◌, ℕ, suc, ◌+◌, ◌<◌, ◌≤◌, Bool, true, false, List, [], ◌∷◌, ◌++◌, length, get_or, map, replicate, Option, Some, None, is_some, unwrap_or, refl, sym, ap, ◌∙◌, subst, arith}
+use Rattle.std.proofs.Common.{◌≡◌, ℕ, suc, ◌+◌, ◌<◌, ◌≤◌, List, [], ◌∷◌, ◌++◌, get_or, replicate, Option, Some, None, unwrap_or, refl, sym, ap, ◌∙◌, subst, arith}
 use Rattle.std.specs.Prelude.{IsSome}
 use Rattle.std.proofs.lemmas.Bool.{false≢true}
 use Rattle.std.proofs.lemmas.List.{length-replicate, get_or-replicate, replicate-append-replicate}
 use Rattle.std.proofs.lemmas.List.FromFn.{fill_by_all}
-use Rattle.rbd_flat.specs.Flat.{image_at}
 use Rattle.rbd_kinds.specs.declared.answer.Answer.{Answer}
 use Rattle.rbd_kinds.specs.declared.answer.Answer.TheVariants as answer
 use Rattle.rbd_kinds.specs.declared.header.HeaderView.{HeaderView}
@@ -15,13 +14,11 @@ use Rattle.rbd_kinds.specs.declared.layout.Part.{Part}
 use Rattle.rbd_kinds.specs.Parts.{parts_len}
 use Rattle.rbd_layout.specs.declared.types.Piece.{Piece}
 use Rattle.rbd_machine.specs.Objects.{data_read}
-use Rattle.rbd_machine.specs.Path.{Answered}
 use Rattle.rbd_meaning.specs.Reads.{bytes_shown}
 use Rattle.rbd_object.specs.Contents.{window}
 use Rattle.rbd_stands.specs.Condition.{ArePartsBelow}
-use Rattle.rbd_stands.specs.Reading.{AreFlatBytes, AreInherited, IsAt, bytes_at_parts}
+use Rattle.rbd_stands.specs.Reading.{IsAt, bytes_at_parts}
 use Rattle.rbd_stands.specs.Shown.{IsInOverlap}
-use Rattle.rbd_stands.specs.View.{Shape, shape_of}
 use Rattle.rbd_stands.proofs.Telling.{absence_told, bytes_told}
 use Rattle.rbd_header.specs.declared.view.View.{View}
 use Rattle.rbd_replies.specs.Places.{Placed, flat_at}

@@ -1,42 +1,35 @@
--- A read that shows bytes shows those of the flat view, each piece's at its place, between two looks
--- at one header.
-use Rattle.std.proofs.Common.{◌≡◌, ℕ, ◌+◌, ◌≤◌, cond, Bool, true, false, List, [], ◌∷◌, ◌++◌, get_or, length, map, Option, Some, None, unwrap_or, refl, sym, ap, ◌∙◌, subst, arith}
+-- A read that shows bytes shows those of the flat view, each piece's at its place, between two
+-- looks at one header.
+use Rattle.std.proofs.Common.{◌≡◌, ℕ, ◌+◌, ◌≤◌, true, List, [], ◌∷◌, ◌++◌, map, Option, Some, None, unwrap_or, refl, sym, ap, ◌∙◌, subst, arith}
 use Rattle.std.specs.Prelude.{All}
 use Rattle.std.proofs.lemmas.Bool.Decides.{nat_tests}
 use Rattle.std.proofs.lemmas.List.Elements.{All-head, All-tail}
-use Rattle.rbd_kinds.specs.declared.answer.Answer.{Answer}
 use Rattle.rbd_kinds.specs.declared.answer.Answer.TheVariants as answer
 use Rattle.rbd_kinds.specs.declared.header.HeaderView.{HeaderView}
 use Rattle.rbd_kinds.specs.declared.header_op.HeaderOp.TheVariants as header
 use Rattle.rbd_kinds.specs.declared.id.Instance.{Instance}
 use Rattle.rbd_kinds.specs.declared.id.SiteId.{SiteId}
 use Rattle.rbd_kinds.specs.declared.layout.Extent.{Extent}
-use Rattle.rbd_kinds.specs.declared.layout.Layout.{Layout}
 use Rattle.rbd_kinds.specs.declared.operation.Op.TheVariants as op
 use Rattle.rbd_kinds.specs.Extents.{fits}
 use Rattle.rbd_header.specs.declared.view.View.{View}
-use Rattle.rbd_layout.specs.Pieces.{IsPartsOf, pieces_of}
+use Rattle.rbd_layout.specs.Pieces.{IsPartsOf}
 use Rattle.rbd_layout.specs.declared.types.Piece.{Piece}
-use Rattle.rbd_layout.proofs.Listed.{pieces_listed}
 use Rattle.rbd_layout.proofs.Within.{lies_in}
-use Rattle.rbd_machine.specs.Passes.{joined}
-use Rattle.rbd_machine.specs.Path.{Answered, found, looked_at}
-use Rattle.rbd_meaning.specs.Range.{out_of_range}
-use Rattle.rbd_meaning.specs.Reads.{AreRead, ShowsAtLast, ShowsBetween, bytes_read, bytes_shown}
+use Rattle.rbd_machine.specs.Path.{Answered, looked_at}
+use Rattle.rbd_meaning.specs.Reads.{AreRead, bytes_read, bytes_shown}
 use Rattle.rbd_site.specs.HeaderStep.{header_answer}
 use Rattle.rbd_stands.specs.Condition.{ArePartsBelow}
 use Rattle.rbd_world.specs.Run.{records_after}
 use Rattle.rbd_replies.specs.Places.{Placed}
-use Rattle.rbd_replies.specs.Reads.{ArePiecesAt, ShowsBytes}
-use Rattle.rbd_replies.proofs.PlacedRight.{ArePlacedRight, IsPlacedRight, right_back, right_front}
+use Rattle.rbd_replies.specs.Reads.{ArePiecesAt}
+use Rattle.rbd_replies.proofs.PlacedRight.{ArePlacedRight, IsPlacedRight}
 use Rattle.rbd_replies.proofs.Places.{step_at}
 use Rattle.rbd_replies.proofs.ReadKept.{header_between}
-use Rattle.rbd_replies.proofs.ReadLooks.{BeginWith, answered_there, begin_with, found_there, header_there, records_at}
-use Rattle.rbd_replies.proofs.ReadNames.{IsViewOf, shape_of_named}
-use Rattle.rbd_replies.proofs.ReadOrder.{AreBehind, AreOrdered, behind_last, ordered_back}
-use Rattle.rbd_replies.proofs.ReadParents.{views_alone}
+use Rattle.rbd_replies.proofs.ReadLooks.{answered_there, begin_with, records_at}
+use Rattle.rbd_replies.proofs.ReadNames.{IsViewOf}
+use Rattle.rbd_replies.proofs.ReadOrder.{AreBehind, AreOrdered, behind_last}
 use Rattle.rbd_replies.proofs.ReadPiece.{piece_shown}
-use Rattle.rbd_replies.proofs.WriteWhole.{range_fits}
 
 -- ---- lists of steps, taken apart
 

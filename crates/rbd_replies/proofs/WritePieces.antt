@@ -1,7 +1,6 @@
 -- Each piece that was written has its effect: the bytes go to the places of its parts.
-use Rattle.std.proofs.Common.{◌≡◌, ℕ, false, List, [], ◌∷◌, map, Option, Some, None, refl, sym, ap, ◌∙◌, subst, length}
+use Rattle.std.proofs.Common.{◌≡◌, ℕ, false, List, [], ◌∷◌, map, Some, refl, sym, ap, ◌∙◌, subst, length}
 use Rattle.std.proofs.lemmas.List.Elements.{All-weaker}
-use Rattle.rbd_flat.specs.declared.effect.Effect.TheVariants as effect
 use Rattle.rbd_header.specs.Header.{context_of}
 use Rattle.rbd_kinds.specs.declared.answer.Answer.TheVariants as answer
 use Rattle.rbd_kinds.specs.declared.header.HeaderView.{HeaderView}
@@ -17,7 +16,7 @@ use Rattle.rbd_rely.proofs.Done.{may_do}
 use Rattle.rbd_rely.proofs.Kept.{owned_there}
 use Rattle.rbd_site.specs.DataStep as step
 use Rattle.rbd_site.specs.declared.done.DoneOp.TheVariants as done
-use Rattle.rbd_stands.specs.Condition.{ArePartsBelow, IsPartBelow, extents_of}
+use Rattle.rbd_stands.specs.Condition.{ArePartsBelow, IsPartBelow}
 use Rattle.rbd_stands.specs.Effect.{effect_of, effect_of_op}
 use Rattle.rbd_stands.specs.Writing.{piece_effect, piece_effects}
 use Rattle.rbd_stands.proofs.EffectLemmas.{write_effect}
@@ -25,7 +24,7 @@ use Rattle.rbd_world.specs.Run.{log_of}
 use Rattle.rbd_replies.specs.Places.{Placed, effects_of, with_effect}
 use Rattle.rbd_replies.proofs.PlacedRight.{ArePlacedRight, IsPlacedRight}
 use Rattle.rbd_replies.proofs.Places.{step_at}
-use Rattle.rbd_replies.proofs.ReadLooks.{BeginWith, begin_with, records_at}
+use Rattle.rbd_replies.proofs.ReadLooks.{records_at}
 
 module _ (homes : ℕ → SiteId) (home : SiteId) (image : ℕ) (own : HeaderView) (from : ℕ) (bytes : List ℕ) where
   abbrev op_of : Piece → Op

@@ -1,9 +1,7 @@
 -- A write that is done wrote its pieces to the flat image, at their places, and nothing else.
-use Rattle.std.proofs.Common.{◌≡◌, ℕ, cond, Bool, true, false, List, [], ◌∷◌, map, Option, Some, None, refl, sym, ap, ◌∙◌, subst}
-use Rattle.rbd_kinds.specs.declared.header.HeaderView.{HeaderView}
+use Rattle.std.proofs.Common.{◌≡◌, ℕ, cond, Bool, true, false, List, [], ◌∷◌, map, Some, None, refl, ◌∙◌}
 use Rattle.rbd_kinds.specs.declared.id.SiteId.{SiteId}
 use Rattle.rbd_kinds.specs.declared.layout.Extent.{Extent}
-use Rattle.rbd_kinds.specs.declared.refusal.Refusal.{Refusal}
 use Rattle.rbd_kinds.specs.declared.refusal.Refusal.TheVariants as refusal
 use Rattle.rbd_kinds.specs.Extents.{fits}
 use Rattle.rbd_layout.specs.Pieces.{pieces_of}
@@ -11,12 +9,12 @@ use Rattle.rbd_machine.specs.Path.{found, looked_at}
 use Rattle.rbd_machine.specs.Steps.{non_primary}
 use Rattle.rbd_machine.proofs.Lawful.{or_else_none}
 use Rattle.rbd_meaning.specs.Range.{extent_at, out_of_range}
-use Rattle.rbd_meaning.specs.Writes.{WritesWhole, pieces_written, write_refuses}
-use Rattle.rbd_replies.specs.Changed.{FindsImage, Writes}
-use Rattle.rbd_replies.specs.Places.{Placed, effects_of}
+use Rattle.rbd_meaning.specs.Writes.{WritesWhole, pieces_written}
+use Rattle.rbd_replies.specs.Changed.{Writes}
+use Rattle.rbd_replies.specs.Places.{Placed}
 use Rattle.rbd_replies.proofs.PlacedRight.{ArePlacedRight}
 use Rattle.rbd_replies.proofs.Places.{step_at}
-use Rattle.rbd_replies.proofs.ReadLooks.{BeginWith, begin_with, effects_behind, found_there, header_there, looks_only}
+use Rattle.rbd_replies.proofs.ReadLooks.{effects_behind, found_there, header_there, looks_only}
 use Rattle.rbd_replies.proofs.WritePieces.{pieces_there}
 
 pub range_fits : (e : Extent) (size : ℕ) → out_of_range e size ≡ None → fits e size ≡ true
