@@ -18,6 +18,7 @@ use Rattle.rbd_kinds.specs.Header.{snap_named}
 use Rattle.rbd_header.specs.Header.{new_header}
 use Rattle.rbd_layout.specs.Asked.{layout_of}
 use Rattle.rbd_machine.specs.Path.{Answered, found, looked_at}
+use Rattle.rbd_meaning.proofs.Allowed.{may_take}
 use Rattle.rbd_meaning.specs.Creates.{Makes}
 use Rattle.rbd_meaning.specs.Snaps.{RemovesOne, TakesOne}
 use Rattle.rbd_stands.specs.Image.{SnapLine, line_of_flat, line_of_snap}
@@ -58,6 +59,23 @@ listed_flat None h snap listed tells is = absurd tells
 listed_flat (Some i) h snap listed tells is =
     let (gone, there, same) = listed_among (flat_snap_named i.snaps snap) (snap_named h.snaps snap) listed (tells.by_name snap) is in
     record { i = i; is = refl; gone = gone; listed = there; same = same }
+
+-- ---- a name that a header doesn't list the flat image hasn't
+
+record IsFreeThere (flat : Option FlatImage) (snap : List ℕ) : Type 0 where
+  i : FlatImage
+  is : flat ≡ Some i
+  free : flat_snap_named i.snaps snap ≡ None
+
+free_among : (o : Option FlatSnap) (p : Option SnapView) → option_map line_of_flat o ≡ option_map line_of_snap p → p ≡ None → o ≡ None
+free_among None p same is = refl
+free_among (Some s) None same is = absurd (cc)
+free_among (Some s) (Some other) same is = absurd (cc)
+
+free_flat : (flat : Option FlatImage) (h : HeaderView) (snap : List ℕ) → Tells h flat → snap_named h.snaps snap ≡ None → IsFreeThere flat snap
+free_flat None h snap tells is = absurd tells
+free_flat (Some i) h snap tells is =
+    record { i = i; is = refl; free = free_among (flat_snap_named i.snaps snap) (snap_named h.snaps snap) (tells.by_name snap) is }
 
 -- ---- the commands
 
@@ -131,8 +149,13 @@ module _ (homes : ℕ → SiteId) where
   snap_create_takes places right site name snap takes =
       let change = changes_at places right site name takes.image takes.first takes.own (header.SnapAdd snap) (answer.Snap takes.taken) (effect.Snap takes.image takes.taken snap) takes.are
           (λ p here is. effect_there homes p here.0 (on_header site takes.image (header.SnapAdd snap) (answer.Snap takes.taken)) is) in
+      let there = free_flat (image_at (flat_at change.finds.own) change.finds.image) change.finds.header snap change.finds.tells
+          (ap (λ (h : HeaderView). snap_named h.snaps snap) change.header_is ∙ (may_take snap takes.own takes.may).unlisted) in
       record {
         finds = change.finds;
+        flat = there.i;
+        is = there.is;
+        free = there.free;
         taken = takes.taken;
         effects = change.effects ∙ ap (λ image. effect.Snap image takes.taken snap ∷ []) (sym change.image_is);
       }

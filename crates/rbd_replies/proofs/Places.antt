@@ -1,8 +1,7 @@
 -- The operations of a line are its steps, each at its place.
-use Rattle.std.proofs.Common.{◌≡◌, ℕ, ◌==◌, cond, Bool, true, false, List, [], ◌∷◌, ◌++◌, map, refl, sym, ap, ◌∙◌}
-use Rattle.rbd_kinds.specs.declared.reply.Reply.{Reply}
+use Rattle.std.proofs.Common.{◌≡◌, ℕ, ◌==◌, cond, Bool, true, false, List, [], ◌∷◌, ◌++◌, map, refl, ap, ◌∙◌}
 use Rattle.rbd_machine.specs.Path.{Answered}
-use Rattle.rbd_world.specs.Run.{Happening, Nothing, Waited, Began, Did, Refused, Trimmed, Operation, step_of, steps_in, steps_of}
+use Rattle.rbd_world.specs.Run.{Happening, Nothing, Waited, Began, Did, Refused, Trimmed, step_of, steps_in, steps_of}
 use Rattle.rbd_replies.specs.Places.{Placed, places_in, places_of}
 
 abbrev pub step_at : Placed → Answered

@@ -1,5 +1,5 @@
 -- No steps are no places; and what the first of some places did comes before what the others did.
-use Rattle.std.proofs.Common.{◌≡◌, List, [], ◌∷◌, Option, Some, None, map, refl, ap}
+use Rattle.std.proofs.Common.{◌≡◌, List, [], ◌∷◌, Some, None, map, refl, ap}
 use Rattle.rbd_flat.specs.declared.effect.Effect.{Effect}
 use Rattle.rbd_replies.specs.Places.{Placed, effects_of, with_effect}
 use Rattle.rbd_replies.proofs.Places.{step_at}

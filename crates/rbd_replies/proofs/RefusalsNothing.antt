@@ -1,6 +1,5 @@
 -- Operations that changed nothing have no effect, so a refusal that comes early did nothing.
-use Rattle.std.proofs.Common.{◌≡◌, ◌⊎◌, inl, inr, ℕ, true, false, List, [], ◌∷◌, Option, Some, None, map, refl, sym, ap, ◌∙◌}
-use Rattle.rbd_flat.specs.declared.effect.Effect.{Effect}
+use Rattle.std.proofs.Common.{◌≡◌, ◌⊎◌, inl, inr, ℕ, true, List, [], ◌∷◌, Option, Some, None, map, refl, ◌∙◌}
 use Rattle.rbd_kinds.specs.declared.answer.Answer.{Answer}
 use Rattle.rbd_kinds.specs.declared.answer.Answer.TheVariants as answer
 use Rattle.rbd_kinds.specs.declared.children_op.ChildrenOp.TheVariants as child
@@ -9,15 +8,13 @@ use Rattle.rbd_kinds.specs.declared.directory_op.DirectoryOp.TheVariants as dire
 use Rattle.rbd_kinds.specs.declared.header.HeaderView.{HeaderView}
 use Rattle.rbd_kinds.specs.declared.header_op.HeaderOp.TheVariants as header
 use Rattle.rbd_kinds.specs.declared.id.SiteId.{SiteId}
-use Rattle.rbd_kinds.specs.declared.journal_op.JournalOp.TheVariants as journal
-use Rattle.rbd_kinds.specs.declared.map_op.MapOp.TheVariants as states
 use Rattle.rbd_kinds.specs.declared.operation.Op.{Op}
 use Rattle.rbd_kinds.specs.declared.operation.Op.TheVariants as op
 use Rattle.rbd_machine.specs.Refused.{only_looks}
 use Rattle.rbd_meaning.specs.Undone.{ChangeNothing, tells_undone}
 use Rattle.rbd_site.specs.Records.{Records}
 use Rattle.rbd_site.specs.declared.done.DoneOp.TheVariants as done
-use Rattle.rbd_stands.proofs.NoEffect.{look_none, refused_none}
+use Rattle.rbd_stands.proofs.NoEffect.{refused_none}
 use Rattle.rbd_stands.specs.Effect.{effect_of, effect_of_op, header_of}
 use Rattle.rbd_replies.proofs.PlacedRight.{ArePlacedRight}
 use Rattle.rbd_replies.proofs.Places.{step_at}

@@ -1,6 +1,6 @@
 -- A reply that is meant by the operations of its line says what the flat-copy machine has at their
 -- places: one line for each command.
-use Rattle.std.proofs.Common.{◌≡◌, ℕ, List, Some, map, replicate, sym, ap, subst, ◌∙◌}
+use Rattle.std.proofs.Common.{◌≡◌, ℕ, List, Some, map, replicate, sym, subst, ◌∙◌}
 use Rattle.std.proofs.lemmas.Option.{same_Some}
 use Rattle.rbd_kinds.specs.declared.command.Command.{Command}
 use Rattle.rbd_kinds.specs.declared.command.Command.TheVariants as command
@@ -9,7 +9,7 @@ use Rattle.rbd_kinds.specs.declared.reply.Reply.{Reply}
 use Rattle.rbd_kinds.specs.declared.reply.Reply.TheVariants as reply
 use Rattle.rbd_meaning.proofs.Undone.{meant_changes_nothing}
 use Rattle.rbd_meaning.specs.Meant.{IsMeantBy}
-use Rattle.rbd_world.specs.Run.{Asked, Happening, asked_by, steps_of}
+use Rattle.rbd_world.specs.Run.{Asked, Happening, asked_by}
 use Rattle.rbd_world.specs.Sound.{IsReplyMeant, IsRight}
 use Rattle.rbd_replies.proofs.ChangesDone.{create_creates, snap_create_takes, snap_remove_removes}
 use Rattle.rbd_replies.proofs.ListingsTold.{info_shows, lists_names, snaps_show}

@@ -43,6 +43,9 @@ pub record Writes (name : List ℕ) (at : ℕ) (bytes : List ℕ) (places : List
 -- A snapshot was taken, and nothing else done. At its own look the flat image had none of the name.
 pub record TakesSnap (name snap : List ℕ) (places : List Placed) : Type 0 where
   pub finds : FindsImage name places
+  pub flat : FlatImage
+  pub is : image_at (flat_at finds.own) finds.image ≡ Some flat
+  pub free : flat_snap_named flat.snaps snap ≡ None
   pub taken : ℕ
   pub effects : effects_of places ≡ effect.Snap finds.image taken snap ∷ []
 
