@@ -29,7 +29,7 @@ use Rattle.rbd_session.specs.Session.{ComesToIn, script_line}
 use Rattle.rbd_session.specs.Track.{Track}
 use Rattle.rbd_session.proofs.Sound.{no_some, some_same}
 use Rattle.rbd_world.specs.Run.{Happening, Did, Operation, asked_by, steps_of}
-use Rattle.rbd_world.specs.Sound.{IsDue, IsHeldRightly, IsReplyMeant, IsUnderWay, has_reply}
+use Rattle.rbd_world.specs.Sound.{IsDone, IsDue, IsHeldRightly, IsLedTo, IsReplyMeant, IsUnderWay, has_reply}
 use Rattle.rbd_world.specs.Step.{reply_at}
 use Rattle.rbd_world.proofs.Walks.{IsLed, given_more, led_on}
 
@@ -71,24 +71,30 @@ module _ {R : Type 0} (stands : R → Standing) where
     -- ---- it has ended
 
     meant : (reply : Reply) → at_operation (stands r.request).labels (next a) ≡ Return reply → IsReplyMeant homes r.line reply run (Did done (Some reply) ∷ run)
-    meant reply ends = record {
-      begun = way.begun;
-      meant =
-          subst (λ i. IsMeantBy (homes i) way.begun.asked.command (steps_of r.line (Did done (Some reply) ∷ run)) reply) (sym way.mine)
-          (subst (λ steps. IsMeantBy (homes session) way.begun.asked.command steps reply) (sym (steps_now (Some reply)))
-          (command_is_meant (homes session) way.begun.asked.command way.start led.feds (steps_of r.line run ++ step ∷ []) reply way.plan given
-          (subst (IsWalk way.start.labels way.start.plan led.feds (steps_of r.line run ++ step ∷ [])) (ap (λ ls. at_operation ls (next a)) (sym way.labels) ∙ ends) led.walk)));
-    }
+    meant reply ends =
+        let walk : IsWalk way.start.labels way.start.plan led.feds (steps_of r.line run ++ step ∷ []) (Return reply) =
+        subst (IsWalk way.start.labels way.start.plan led.feds (steps_of r.line run ++ step ∷ [])) (ap (λ ls. at_operation ls (next a)) (sym way.labels) ∙ ends) led.walk in
+        record {
+          begun = way.begun;
+          ended =
+              subst (λ i. IsLedTo (homes i) way.begun.asked.command (steps_of r.line (Did done (Some reply) ∷ run)) (Return reply)) (sym way.mine)
+              (subst (λ steps. IsLedTo (homes session) way.begun.asked.command steps (Return reply)) (sym (steps_now (Some reply)))
+              (record { start = way.start; plan = way.plan; feds = led.feds; walk = walk; given = given }));
+          meant =
+              subst (λ i. IsMeantBy (homes i) way.begun.asked.command (steps_of r.line (Did done (Some reply) ∷ run)) reply) (sym way.mine)
+              (subst (λ steps. IsMeantBy (homes session) way.begun.asked.command steps reply) (sym (steps_now (Some reply)))
+              (command_is_meant (homes session) way.begun.asked.command way.start led.feds (steps_of r.line run ++ step ∷ []) reply way.plan given walk));
+        }
 
-    due_at : (p : Plan) → at_operation (stands r.request).labels (next a) ≡ p → IsDue homes (Did done (reply_at p)) run
-    due_at (Return reply) is = meant reply is
-    due_at (Ask there by wanted more) is = way.begun
-    due_at (Await wait more) is = way.begun
-    due_at (Note there image event more) is = way.begun
-    due_at (Goto label) is = way.begun
+    due_at : IsDone done run → (p : Plan) → at_operation (stands r.request).labels (next a) ≡ p → IsDue homes (Did done (reply_at p)) run
+    due_at is_done (Return reply) is = (is_done, meant reply is)
+    due_at is_done (Ask there by wanted more) is = (is_done, way.begun)
+    due_at is_done (Await wait more) is = (is_done, way.begun)
+    due_at is_done (Note there image event more) is = (is_done, way.begun)
+    due_at is_done (Goto label) is = (is_done, way.begun)
 
-    pub answer_due : IsDue homes (Did done (reply_at (at_operation (stands r.request).labels (next a)))) run
-    answer_due = due_at (at_operation (stands r.request).labels (next a)) refl
+    pub answer_due : IsDone done run → IsDue homes (Did done (reply_at (at_operation (stands r.request).labels (next a)))) run
+    answer_due is_done = due_at is_done (at_operation (stands r.request).labels (next a)) refl
 
     -- ---- it goes on
 

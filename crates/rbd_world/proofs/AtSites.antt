@@ -24,11 +24,12 @@ use Rattle.rbd_rely.proofs.Together.{learned_beside}
 use Rattle.rbd_site.specs.Step.{after, answer_to}
 use Rattle.rbd_stands.specs.Site.{StandsFor}
 use Rattle.rbd_world.specs.Run.{Happening, Did, flat_after, records_after}
-use Rattle.rbd_world.specs.Sound.{AreStanding, IsSoundWorld}
+use Rattle.rbd_world.specs.Sound.{IsSoundWorld}
 use Rattle.rbd_world.specs.Step.{DoesAtSites, operation_at}
 use Rattle.rbd_world.specs.World.{WorldView, records_in, site_in}
 use Rattle.rbd_world.proofs.Beginning.{nothing_is_beside, nothing_is_true}
 use Rattle.rbd_world.proofs.BothSites.{same_site_itself}
+use Rattle.rbd_world.proofs.Carried.{StandFlat}
 use Rattle.rbd_world.proofs.Changed.{IsElsewhere}
 use Rattle.rbd_world.proofs.Parentless.{parentless_on}
 use Rattle.rbd_world.proofs.Rest.{where_standing}
@@ -82,7 +83,7 @@ module _ {R : Type 0} (stands : R → Standing) (old new : WorldView R) (w : IsS
   stands_in : (t : SiteId) → StandsFor [] (records_in t old.sites) (flat_after t w.run)
   stands_in t = subst (λ r. StandsFor [] r (flat_after t w.run)) (sym (w.records t)) (stood t)
 
-  pub stands_then : AreStanding (does_it ∷ w.run)
+  pub stands_then : StandFlat (does_it ∷ w.run)
   stands_then = at_either s (λ t. StandsFor [] (records_after t (does_it ∷ w.run)) (flat_after t (does_it ∷ w.run))) here other
     where
       effect_there : Flat

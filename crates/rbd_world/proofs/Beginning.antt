@@ -40,8 +40,9 @@ module _ {R : Type 0} (stands : R → Standing) where
   home_of None = site.A
   home_of (Some c) = c.home
 
-  new_client : (session : ℕ) (home : SiteId) (c : SessionView R) → c.home ≡ home → IsNewClient stands c → IsSoundClient stands home session [] (λ slot. nothing_known) c
+  new_client : (session : ℕ) (home : SiteId) (c : SessionView R) → c.home ≡ home → IsNewClient stands session c → IsSoundClient stands home session [] (λ slot. nothing_known) c
   new_client session home c at_home new = record {
+    who = new.who;
     at_home = at_home;
     sound = new.sound;
     know = λ slot. subst (λ o. KnowsIn stands slot (running_in o) c.lines nothing_known) (sym (new.slots slot)) refl;
@@ -64,7 +65,7 @@ module _ {R : Type 0} (stands : R → Standing) where
     history = new.history;
     logs = new.sites;
     records = λ s. ap (after_all no_records) (new.sites s);
-    right = λ s. nothing_stands;
+    right = λ s. record { stands = nothing_stands; parentless = none_parentless; form = none_in_form };
     form = λ s. subst (λ log. AreInForm (after_all no_records log) (length log)) (sym (new.sites s)) none_in_form;
     parentless = λ s. subst (λ log. IsParentless (after_all no_records log)) (sym (new.sites s)) none_parentless;
     clients = λ session c is. new_client session (home_of (session_in session w.sessions)) c (sym (ap home_of is)) (new.clients session c is);

@@ -1,5 +1,5 @@
 -- What has to be shown of a happening: calls, history, logs and records go with any.
-use Rattle.std.proofs.Common.{◌≡◌, ◌≢◌, ◌⊎◌, ℕ, ◌||◌, nat_lt, cond, Bool, true, false, ◌∷◌, ◌++◌, length, ◌+◌, is_some, Option, Some, None, refl, ap, ◌∙◌}
+use Rattle.std.proofs.Common.{◌≡◌, ◌≢◌, ◌⊎◌, ℕ, ◌||◌, nat_lt, cond, Bool, true, false, List, [], ◌∷◌, ◌++◌, length, ◌+◌, is_some, Option, Some, None, refl, ap, ◌∙◌, subst}
 use Rattle.rbd_kinds.specs.declared.command.Command.{Command}
 use Rattle.rbd_kinds.specs.declared.id.Instance.{Instance}
 use Rattle.rbd_kinds.specs.declared.id.SiteId.{SiteId}
@@ -13,14 +13,20 @@ use Rattle.rbd_session.specs.declared.running.Occupant.TheVariants as occupant
 use Rattle.rbd_session.specs.Advance.{track_of}
 use Rattle.rbd_session.specs.Session.{SessionView, held_in}
 use Rattle.rbd_session.specs.Waits.{waits}
+use Rattle.rbd_site.specs.InForm.{AreInForm}
 use Rattle.rbd_site.specs.Log.{SiteLog}
+use Rattle.rbd_stands.specs.Site.{StandsFor}
 use Rattle.rbd_world.specs.declared.event.Event.{Event}
 use Rattle.rbd_world.specs.declared.event.Event.TheVariants as event
 use Rattle.rbd_world.specs.declared.sites.Sites.{Sites}
-use Rattle.rbd_world.specs.Run.{Happening, Nothing, Waited, Began, Trimmed, IsOfEvent, entries_of, lines_at, records_behind}
-use Rattle.rbd_world.specs.Sound.{AreApart, AreStanding, IsDue, IsSoundClient, IsSoundWorld}
+use Rattle.rbd_world.specs.Run.{Happening, Nothing, Waited, Began, Trimmed, IsOfEvent, entries_of, flat_after, lines_at, log_of, records_after, records_behind}
+use Rattle.rbd_world.specs.Sound.{AreApart, IsDue, IsSoundClient, IsSoundWorld, IsStanding}
 use Rattle.rbd_world.specs.Step.{Does, DoesAtSites, call_of, done_by, happening, is_begun, polled, polled_in, submitted}
 use Rattle.rbd_world.specs.World.{WorldView, records_in, session_in, site_in}
+
+-- each site stands for its flat site
+abbrev pub StandFlat : List Happening → Type 0
+StandFlat run = (s : SiteId) → StandsFor [] (records_after s run) (flat_after s run)
 
 -- ---- it is the event's
 
@@ -66,7 +72,7 @@ module _ {R : Type 0} (stands : R → Standing) where
   -- ---- what has to be shown
 
   pub record Carries (old new : WorldView R) (w : IsSoundWorld stands old) (h : Happening) (knows : (session slot : ℕ) → Knowledge) : Type 0 where
-    pub standing : AreStanding (h ∷ w.run)
+    pub standing : StandFlat (h ∷ w.run)
     pub due : IsDue w.homes h w.run
     pub parentless : (s : SiteId) → IsParentless (records_in s new.sites)
     pub clients : (session : ℕ) (c : SessionView R) → session_in session new.sessions ≡ Some c → IsSoundClient stands (w.homes session) session (h ∷ w.run) (knows session) c
@@ -83,9 +89,9 @@ module _ {R : Type 0} (stands : R → Standing) where
     knows = knows;
     calls = (old.calls, record { last = call_of e h; are = does.calls; is = record { event = is_of; outcome = refl } }, w.calls);
     history = does.history ∙ ap (λ es. es ++ entries_of h) w.history;
-    logs = λ s. ap (λ (l : SiteLog). l.log) (does.sites s) ∙ ap (λ ds. ds ++ lines_at s h) (w.logs s);
-    records = λ s. at_sites.records s ∙ ap (λ r. records_behind s r h) (w.records s);
-    right = (carries.standing, carries.due, w.right);
+    logs = logs_now;
+    records = records_now;
+    right = (standing_now, carries.due, w.right);
     form = λ s. at_sites.form s (w.form s);
     parentless = carries.parentless;
     clients = carries.clients;
@@ -94,3 +100,18 @@ module _ {R : Type 0} (stands : R → Standing) where
     truth = carries.truth;
     beside = carries.beside;
   }
+    where
+      logs_now : (s : SiteId) → (site_in s new.sites).log ≡ log_of s (h ∷ w.run)
+      logs_now s = ap (λ (l : SiteLog). l.log) (does.sites s) ∙ ap (λ ds. ds ++ lines_at s h) (w.logs s)
+
+      records_now : (s : SiteId) → records_in s new.sites ≡ records_after s (h ∷ w.run)
+      records_now s = at_sites.records s ∙ ap (λ r. records_behind s r h) (w.records s)
+
+      standing_now : (s : SiteId) → IsStanding s (h ∷ w.run)
+      standing_now s = record {
+        stands = carries.standing s;
+        parentless = subst IsParentless (records_now s) (carries.parentless s);
+        form =
+            subst (λ ds. AreInForm (records_after s (h ∷ w.run)) (length ds)) (logs_now s)
+            (subst (λ r. AreInForm r (length (site_in s new.sites).log)) (records_now s) (at_sites.form s (w.form s)));
+      }

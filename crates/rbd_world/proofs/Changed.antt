@@ -135,6 +135,7 @@ module _ {R : Type 0} (stands : R → Standing) where
     client_of knows quiet sound client all same own =
         let before = w.clients session c there in
         record {
+          who = client.instance ∙ before.who;
           at_home = client.home ∙ before.at_home;
           sound = sound;
           know = all;

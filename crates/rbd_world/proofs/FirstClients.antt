@@ -25,7 +25,7 @@ found_in (z ∷ xs) x (suc k) y is = by (found_in xs x k y is)
 module _ {R : Type 0} (stands : R → Standing) (homes : List SiteId) where
   pub record IsAt (k : ℕ) (c : SessionView R) : Type 0 where
     pub first : (home : SiteId) → slice_get homes k ≡ Some home → IsFirstClient k home c
-    pub new : IsNewClient stands c
+    pub new : IsNewClient stands k c
 
   -- so many were made
   pub record AreMade (count : ℕ) (sessions : List (SessionView R)) : Type 0 where

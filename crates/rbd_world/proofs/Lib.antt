@@ -9,6 +9,7 @@ pub mod FedAlike
 pub mod FirstClients
 pub mod Logged
 pub mod Newcomer
+pub mod Noting
 pub mod OneSession
 pub mod Operated
 pub mod Parentless

@@ -1,5 +1,5 @@
 -- A poll that has one operation done keeps a world sound.
-use Rattle.std.proofs.Common.{◌≡◌, ◌≢◌, ◌⊎◌, inl, inr, ℕ, ◌==◌, cond, false, ◌∷◌, Option, Some, refl, sym, ap, ◌∙◌, subst}
+use Rattle.std.proofs.Common.{◌≡◌, ◌≢◌, ◌⊎◌, inl, inr, ℕ, ◌==◌, cond, false, ◌∷◌, length, ◌+◌, Option, Some, refl, sym, ap, ◌∙◌, subst}
 use Rattle.std.proofs.lemmas.Bool.{eq-eqb}
 use Rattle.rbd_kinds.specs.declared.answer.Answer.{Answer}
 use Rattle.rbd_kinds.specs.declared.id.SiteId.{SiteId}
@@ -22,12 +22,14 @@ use Rattle.rbd_session.specs.declared.running.Running.{Running}
 use Rattle.rbd_session.specs.Advance.{track_of}
 use Rattle.rbd_session.specs.Session.{SessionView, ComesToIn, OfRunning, held_in, running_at, running_in, script_line}
 use Rattle.rbd_session.specs.Waits.{waits}
+use Rattle.rbd_session.proofs.Sound.{some_same}
 use Rattle.rbd_site.specs.declared.done.DoneOp.TheVariants as done
+use Rattle.rbd_site.specs.Records.{Records}
 use Rattle.rbd_site.specs.Step.{answer_to}
 use Rattle.rbd_stands.specs.Effect.{effect_of}
 use Rattle.rbd_world.specs.declared.event.Event.TheVariants as event
-use Rattle.rbd_world.specs.Run.{Happening, Did, Operation}
-use Rattle.rbd_world.specs.Sound.{IsHeldRightly, IsSoundClient, IsSoundWorld, IsUnderWay, line_at}
+use Rattle.rbd_world.specs.Run.{Asked, Happening, Did, Operation, asked_by}
+use Rattle.rbd_world.specs.Sound.{IsDone, IsHeldRightly, IsSoundClient, IsSoundWorld, IsUnderWay, first_life, line_at}
 use Rattle.rbd_world.specs.Step.{AreOfOneClient, Does, DoesAtSites, Goes, IsSoundIf, next_number, operation_at, reply_at}
 use Rattle.rbd_world.specs.World.{WorldView, records_in, session_in, site_in}
 use Rattle.rbd_world.proofs.Answered.{answer_due, answer_held, answer_line}
@@ -63,6 +65,24 @@ module _ {R : Type 0} (stands : R → Standing) (old new : WorldView R) (w : IsS
 
   permits : Permits know s o
   permits = let mine = knows_there stands c (w.knows session) slot r runs (w.clients session c there).know in (subst (IsLawful mine.known_at know) asks mine.lawful).0
+
+  -- it is of the session that began its line
+  is_whose : (asked : Asked) → asked_by r.line w.run ≡ Some asked → c.instance ≡ first_life asked.session
+  is_whose asked is =
+      (w.clients session c there).who
+      ∙ ap first_life (sym way.mine ∙ ap (λ (x : Asked). x.session) (some_same way.begun.asked asked (sym way.begun.is ∙ is)))
+
+  -- it is the one that its site does there
+  is_done : IsDone operation w.run
+  is_done = record {
+    whose = is_whose;
+    number = ap (λ ds. length ds + 1) (w.logs s);
+    answer = ap (λ (x : Records). answer_to x c.instance o) (w.records s);
+    effect = ap (λ (x : Records). effect_of x (done.Op o) a) (w.records s);
+    knows = know;
+    truth = subst (λ r. IsTrueAt s r know) (w.records s) (w.truth session slot s);
+    permits = permits;
+  }
 
   -- ---- what is known then
 
@@ -168,7 +188,7 @@ module _ {R : Type 0} (stands : R → Standing) (old new : WorldView R) (w : IsS
       goes_carries : ((m : ℕ) → IsSoundIf stands (session_in m new.sessions)) → Carries stands old new w does_it knows_then
       goes_carries sound = record {
         standing = stands_then stands old new w session slot r.line c.instance s o result permits at_sites;
-        due = answer_due stands w.homes session slot w.run know r way s why o next asks a can c.instance (next_number (site_in s old.sites)) (effect_of (records_in s old.sites) (done.Op o) a);
+        due = answer_due stands w.homes session slot w.run know r way s why o next asks a can c.instance (next_number (site_in s old.sites)) (effect_of (records_in s old.sites) (done.Op o) a) is_done;
         parentless = parentless_then stands old new w session slot r.line c.instance s o result permits at_sites;
         clients = clients_of stands old new w does_it session slot c d there after others became.slots knows_then in_others quiet (own sound);
         nobody = nobody_of stands old new w does_it session slot c d there after others became.slots knows_then in_others;

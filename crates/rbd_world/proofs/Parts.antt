@@ -6,7 +6,9 @@ use Rattle.rbd_kinds.specs.declared.command.Command.{Command}
 use Rattle.rbd_kinds.specs.declared.id.Instance.{Instance}
 use Rattle.rbd_kinds.specs.declared.id.SiteId.{SiteId}
 use Rattle.rbd_kinds.specs.declared.answer.Answer.{Answer}
+use Rattle.rbd_kinds.specs.declared.reply.Reply.{Reply}
 use Rattle.rbd_machine.specs.Label.{Label}
+use Rattle.rbd_machine.specs.Path.{at_operation}
 use Rattle.rbd_machine.specs.Plan.{Plan, Ask, Await, Note, Return, Goto, Standing}
 use Rattle.rbd_session.specs.declared.running.Occupant.{Occupant}
 use Rattle.rbd_session.specs.declared.running.Occupant.TheVariants as occupant
@@ -17,8 +19,8 @@ use Rattle.rbd_world.specs.declared.event.Event.{Event}
 use Rattle.rbd_world.specs.declared.event.Event.TheVariants as event
 use Rattle.rbd_world.specs.declared.sites.Sites.{Sites}
 use Rattle.rbd_world.specs.Begun.{LinesBegun, has_line}
-use Rattle.rbd_world.specs.Run.{Asked, Happening, Nothing, Waited, Began, Did, Refused, Trimmed, entries_of}
-use Rattle.rbd_world.specs.Step.{AreSameSites, DoesAtSites, DoesToParts, DoesToSessions, LeavesParts, LeavesSessions, begun_behind, done_by, happens, is_begun, next_number, polled, polled_in, submitted, trimmed_at}
+use Rattle.rbd_world.specs.Run.{Asked, Happening, Nothing, Waited, Began, Did, Refused, Trimmed, Operation, entries_of, reply_entries}
+use Rattle.rbd_world.specs.Step.{AreSameSites, DoesAtSites, DoesToParts, DoesToSessions, LeavesParts, LeavesSessions, begun_behind, done_by, happens, is_begun, next_number, operation_at, polled, polled_in, reply_at, submitted, trimmed_at}
 use Rattle.rbd_world.specs.World.{records_in, session_in, site_in}
 use Rattle.rbd_world.proofs.BothSites.{IsNothingAt, both_sites, left_at}
 use Rattle.rbd_world.proofs.OneSession.{leaves_all}
@@ -30,7 +32,9 @@ BeginsNothing h = (line : ℕ) → is_begun line (entries_of h) ≡ false
 
 operation_begins_nothing : (sites : Sites) (who : Instance) (line : ℕ) (labels : Label → Plan) (plan : Plan) → BeginsNothing (done_by sites who line labels plan)
 operation_begins_nothing sites who n labels (Ask s why o next) line =
-    ap (λ b. b || is_begun line _) (no_start line n s _ _) ∙ replies_begin_nothing line n _
+    let done : Operation = operation_at (site_in s sites) who n s o in
+    let reply : Option Reply = reply_at (at_operation labels (next done.answer)) in
+    ap (λ b. b || is_begun line (reply_entries n reply)) (no_start line n s done.number done.effect) ∙ replies_begin_nothing line n reply
 operation_begins_nothing sites who n labels (Await w next) line = refl
 operation_begins_nothing sites who n labels (Note s image e next) line = refl
 operation_begins_nothing sites who n labels (Return reply) line = refl
@@ -76,9 +80,9 @@ module _ {R : Type 0} (stands : R → Standing) where
       → OnOk r (DoesToParts stands (event.Submit session line c) (happens stands (event.Submit session line c) (λ l. has_line l b) sites old) sites sites old new b after)
   submission_does (Err e) session line c sites old new b after sessions begun = tt
   submission_does (Ok x) session line c sites old new b after sessions begun =
-      let asked = record { session = session; line = line; command = c } in
+      let asked : Asked = record { session = session; line = line; command = c } in
       record {
-        sites = both_sites _ sites sites (λ q. left_at q _ (site_in q sites) (site_in q sites) (submission_at_no_site (has_line line b) asked (session_in session old) q) refl);
+        sites = both_sites (submitted (has_line line b) asked (session_in session old)) sites sites (λ q. left_at q (submitted (has_line line b) asked (session_in session old)) (site_in q sites) (site_in q sites) (submission_at_no_site (has_line line b) asked (session_in session old) q) refl);
         sessions = sessions;
         begun = begun;
       }

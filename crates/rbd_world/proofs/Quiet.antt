@@ -95,6 +95,7 @@ module _ {R : Type 0} (stands : R → Standing) (home : SiteId) (session : ℕ) 
   pub client_on : (knows : (slot : ℕ) → Knowledge) (c : SessionView R) → ((slot line : ℕ) → script_line (held_in slot c.slots) ≡ Some line → IsQuiet line h)
       → IsSoundClient stands home session run knows c → IsSoundClient stands home session (h ∷ run) knows c
   client_on knows c quiet sound = record {
+    who = sound.who;
     at_home = sound.at_home;
     sound = sound.sound;
     know = sound.know;

@@ -4,7 +4,7 @@ use Rattle.rbd_kinds.specs.declared.refusal.Refusal.{Refusal}
 use Rattle.rbd_kinds.specs.declared.reply.Reply.TheVariants as reply
 use Rattle.rbd_known.specs.Knowing.{KnowsIn}
 use Rattle.rbd_machine.specs.Knowledge.{nothing_known}
-use Rattle.rbd_machine.specs.Plan.{Standing}
+use Rattle.rbd_machine.specs.Plan.{Return, Standing}
 use Rattle.rbd_meaning.specs.Meant.{IsMeantBy}
 use Rattle.rbd_rely.specs.Truth.{IsTrueAt, IsParentless}
 use Rattle.rbd_requests.specs.CommandsMeant.{command_is_meant}
@@ -13,7 +13,7 @@ use Rattle.rbd_session.specs.Session.{SessionView, held_in, running_in, script_l
 use Rattle.rbd_session.proofs.Sound.{no_some}
 use Rattle.rbd_world.specs.declared.event.Event.TheVariants as event
 use Rattle.rbd_world.specs.Run.{Happening, Refused, steps_of}
-use Rattle.rbd_world.specs.Sound.{IsHeldRightly, IsRefusedAtOnce, IsReplyMeant, IsSoundWorld, line_at}
+use Rattle.rbd_world.specs.Sound.{IsHeldRightly, IsLedTo, IsRefusedAtOnce, IsReplyMeant, IsSoundWorld, line_at}
 use Rattle.rbd_world.specs.Step.{Does, DoesAtSites, IsSoundIf, Serves}
 use Rattle.rbd_world.specs.World.{WorldView, session_in}
 use Rattle.rbd_world.proofs.Carried.{Carries}
@@ -35,6 +35,10 @@ module _ {R : Type 0} (stands : R → Standing) (old new : WorldView R) (w : IsS
   refusal_meant : IsReplyMeant w.homes line (reply.Refused refusal) w.run (does_refuse ∷ w.run)
   refusal_meant = let at = refused_there in record {
     begun = at.begun;
+    ended =
+        subst (λ i. IsLedTo (w.homes i) at.begun.asked.command (steps_of line (does_refuse ∷ w.run)) (Return (reply.Refused refusal))) (sym at.mine)
+        (subst (λ steps. IsLedTo (w.homes session) at.begun.asked.command steps (Return (reply.Refused refusal))) (sym (ap (λ xs. xs ++ []) at.none))
+        (record { start = at.start; plan = at.plan; feds = []; walk = (refl, sym at.ends); given = tt }));
     meant =
         subst (λ i. IsMeantBy (w.homes i) at.begun.asked.command (steps_of line (does_refuse ∷ w.run)) (reply.Refused refusal)) (sym at.mine)
         (subst (λ steps. IsMeantBy (w.homes session) at.begun.asked.command steps (reply.Refused refusal)) (sym (ap (λ xs. xs ++ []) at.none))

@@ -1,5 +1,5 @@
 -- Where no session changes: nothing happened, a request waits, or the store trimmed an object.
-use Rattle.std.proofs.Common.{◌≡◌, ℕ, Bool, true, false, cond, List, [], ◌∷◌, Option, Some, None, refl, sym, ap, ◌∙◌, subst}
+use Rattle.std.proofs.Common.{◌≡◌, ℕ, Bool, true, false, cond, List, [], ◌∷◌, length, ◌+◌, is_some, Option, Some, None, refl, sym, ap, ◌∙◌, subst}
 use Rattle.rbd_kinds.specs.declared.id.SiteId.{SiteId}
 use Rattle.rbd_machine.specs.Knowledge.{same_site}
 use Rattle.rbd_machine.specs.Plan.{Standing}
@@ -7,20 +7,21 @@ use Rattle.rbd_rely.specs.Truth.{IsTrueAt, IsParentless}
 use Rattle.rbd_rely.proofs.Kept.{trims_keep}
 use Rattle.rbd_session.specs.Session.{SessionView, script_line}
 use Rattle.rbd_site.specs.Log.{trimmed}
+use Rattle.rbd_site.specs.Records.{Records}
 use Rattle.rbd_stands.specs.Site.{StandsFor}
 use Rattle.rbd_stands.proofs.StoreSteps.{trim_stands}
 use Rattle.rbd_world.specs.declared.event.Event.{Event}
 use Rattle.rbd_world.specs.Run.{Happening, Nothing, Waited, Trimmed, records_after, flat_after}
-use Rattle.rbd_world.specs.Sound.{AreStanding, IsDue, IsRight, IsSoundWorld, held_of, line_at}
-use Rattle.rbd_world.specs.Step.{Becomes, BecomesOf, Does, DoesAtSites, names_session}
-use Rattle.rbd_world.specs.World.{WorldView, records_in, session_in}
-use Rattle.rbd_world.proofs.Carried.{Carries}
+use Rattle.rbd_world.specs.Sound.{IsDue, IsRight, IsSoundWorld, IsTrimmed, held_of, line_at}
+use Rattle.rbd_world.specs.Step.{Becomes, BecomesOf, Does, DoesAtSites, names_session, next_number}
+use Rattle.rbd_world.specs.World.{WorldView, records_in, session_in, site_in}
+use Rattle.rbd_world.proofs.Carried.{Carries, StandFlat}
 use Rattle.rbd_world.proofs.Quiet.{IsQuiet, client_on, quiet_nothing, quiet_waited, quiet_trimmed}
 
--- the sites stand behind each run that is right
-pub where_standing : (homes : ℕ → SiteId) (run : List Happening) → IsRight homes run → AreStanding run
-where_standing homes [] right = right
-where_standing homes (h ∷ run) right = right.0
+-- the sites stand for their flat sites behind each run that is right
+pub where_standing : (homes : ℕ → SiteId) (run : List Happening) → IsRight homes run → StandFlat run
+where_standing homes [] right s = (right s).stands
+where_standing homes (h ∷ run) right s = (right.0 s).stands
 
 module _ {R : Type 0} (stands : R → Standing) where
   -- an event leaves the session that it names
@@ -44,7 +45,7 @@ module _ {R : Type 0} (stands : R → Standing) where
         by true is = same_of e h (session_in session old.sessions) (session_in session new.sessions) leaves (does.named session is)
         by false is = does.others session is
 
-    rested : (h : Happening) → ((line : ℕ) → IsQuiet line h) → AreSame → AreStanding (h ∷ w.run) → IsDue w.homes h w.run
+    rested : (h : Happening) → ((line : ℕ) → IsQuiet line h) → AreSame → StandFlat (h ∷ w.run) → IsDue w.homes h w.run
         → ((s : SiteId) → IsParentless (records_in s new.sites)) → ((session slot : ℕ) (s : SiteId) → IsTrueAt s (records_in s new.sites) (w.knows session slot))
         → Carries stands old new w h w.knows
     rested h quiet same standing due parentless truth = record {
@@ -74,11 +75,19 @@ module _ {R : Type 0} (stands : R → Standing) where
         (λ s. subst IsParentless (sym (at_sites.records s)) (w.parentless s))
         (λ session slot s. subst (λ r. IsTrueAt s r (w.knows session slot)) (sym (at_sites.records s)) (w.truth session slot s))
 
-    pub trimmed_keeps : (e : Event) (site : SiteId) (number image object : ℕ) → Leaves e (Trimmed site number image object) → Does stands e (Trimmed site number image object) old new
+    -- the store trims an object that is there
+    pub trim_due : (s : SiteId) (image object : ℕ) → is_some ((records_in s old.sites).objects image object) ≡ true
+        → IsTrimmed s (next_number (site_in s old.sites)) image object w.run
+    trim_due s image object there = record {
+      is_number = ap (λ ds. length ds + 1) (w.logs s);
+      there = sym (ap (λ (x : Records). is_some (x.objects image object)) (w.records s)) ∙ there;
+    }
+
+    pub trimmed_keeps : (e : Event) (site : SiteId) (number image object : ℕ) → IsTrimmed site number image object w.run → Leaves e (Trimmed site number image object) → Does stands e (Trimmed site number image object) old new
         → DoesAtSites (Trimmed site number image object) old.sites new.sites → Carries stands old new w (Trimmed site number image object) w.knows
-    trimmed_keeps e site number image object leaves does at_sites =
+    trimmed_keeps e site number image object due leaves does at_sites =
         rested (Trimmed site number image object) (λ line. quiet_trimmed line site number image object) (sessions_stay e (Trimmed site number image object) leaves does)
-        (λ s. stands_there s (same_site site s) (where_standing w.homes w.run w.right s)) tt
+        (λ s. stands_there s (same_site site s) (where_standing w.homes w.run w.right s)) due
         (λ s. subst IsParentless (sym (at_sites.records s)) (parentless_there s (same_site site s)))
         (λ session slot s. subst (λ r. IsTrueAt s r (w.knows session slot)) (sym (at_sites.records s)) (true_there session slot s (same_site site s)))
       where

@@ -103,9 +103,9 @@ unheard homes line (h ∷ run) (standing, due, right) none = by h due (unheard h
     by Waited due u = unheard_more line Waited run u refl refl
     by (Began asked who slot) due u = unheard_more line (Began asked who slot) run u refl refl
     by (Did o None) due u =
-        unheard_more line (Did o None) run u (ap (λ b. cond b (step_of o ∷ []) []) (other_line line o.line run before due)) refl
+        unheard_more line (Did o None) run u (ap (λ b. cond b (step_of o ∷ []) []) (other_line line o.line run before due.1)) refl
     by (Did o (Some reply)) due u =
-        let differ = other_line line o.line run before due.begun in
+        let differ = other_line line o.line run before due.1.begun in
         unheard_more line (Did o (Some reply)) run u (ap (λ b. cond b (step_of o ∷ []) []) differ) differ
     by (Refused s other reply) due u = unheard_more line (Refused s other reply) run u refl (other_line line other run before due.begun)
     by (Trimmed s number image object) due u = unheard_more line (Trimmed s number image object) run u refl refl

@@ -22,7 +22,7 @@ use Rattle.rbd_world.proofs.Carried.{Carries, carried, of_event}
 use Rattle.rbd_world.proofs.Newcomer.{began_keeps}
 use Rattle.rbd_world.proofs.Operated.{did_keeps, knows_then}
 use Rattle.rbd_world.proofs.Refusal.{refused_keeps}
-use Rattle.rbd_world.proofs.Rest.{nothing_keeps, trimmed_keeps, waited_keeps}
+use Rattle.rbd_world.proofs.Rest.{nothing_keeps, trim_due, trimmed_keeps, waited_keeps}
 
 module _ {R : Type 0} (stands : R → Standing) (old new : WorldView R) (w : IsSoundWorld stands old) (sound : (session : ℕ) → IsSoundIf stands (session_in session new.sessions)) where
   -- it keeps what has to be shown, by what is known then
@@ -86,14 +86,14 @@ module _ {R : Type 0} (stands : R → Standing) (old new : WorldView R) (w : IsS
     poll_of (Some c) there = held c there (held_in slot c.slots) refl
 
   trim : (s : SiteId) (image object : ℕ) → Keeps (event.Trim s image object) (trimmed_at old.sites s image object)
-  trim s image object = by (is_some ((records_in s old.sites).objects image object))
+  trim s image object = by (is_some ((records_in s old.sites).objects image object)) refl
     where
-      by : (b : Bool) → Keeps (event.Trim s image object) (cond b (Trimmed s (next_number (site_in s old.sites)) image object) Nothing)
-      by true does at_sites = record {
+      by : (b : Bool) → is_some ((records_in s old.sites).objects image object) ≡ b → Keeps (event.Trim s image object) (cond b (Trimmed s (next_number (site_in s old.sites)) image object) Nothing)
+      by true there does at_sites = record {
         knows = w.knows;
-        carries = trimmed_keeps stands old new w (event.Trim s image object) s (next_number (site_in s old.sites)) image object (λ c d is. is) does at_sites;
+        carries = trimmed_keeps stands old new w (event.Trim s image object) s (next_number (site_in s old.sites)) image object (trim_due stands old new w s image object there) (λ c d is. is) does at_sites;
       }
-      by false does at_sites = record { knows = w.knows; carries = nothing_keeps stands old new w (event.Trim s image object) (λ c d is. is) does at_sites }
+      by false there does at_sites = record { knows = w.knows; carries = nothing_keeps stands old new w (event.Trim s image object) (λ c d is. is) does at_sites }
 
   any : (e : Event) → IsBuiltEvent e → AreOfOneClient old.calls e → Keeps e (happening stands e old)
   any (event.Submit session line command) built one = submission session line command built (session_in session old.sessions) refl

@@ -65,6 +65,7 @@ module _ {R : Type 0} (stands : R → Standing) where
   alike_client : (home : SiteId) (session : ℕ) (run : List Happening) (knows : ℕ → Knowledge) (s t : SessionView R) → IsAlike stands s t → IsSoundSession stands t
       → IsSoundClient stands home session run knows s → IsSoundClient stands home session run knows t
   alike_client home session run knows s t alike sound client = record {
+    who = alike.instance ∙ client.who;
     at_home = alike.home ∙ client.at_home;
     sound = sound;
     know = alike_know stands s t knows alike client.know;

@@ -1,6 +1,8 @@
 -- What holds of each world, whatever came: its run is right at every place, and what its requests
 -- know is true.
-use Rattle.std.specs.Prelude.{◌≡◌, ◌≢◌, ◌⊎◌, ℕ, ◌==◌, ◌||◌, Bool, true, false, List, [], ◌∷◌, length, slice_get, Option, Some, None}
+use Rattle.std.specs.Prelude.{◌≡◌, ◌≢◌, ◌⊎◌, ℕ, ◌+◌, ◌==◌, ◌||◌, Bool, true, false, List, [], ◌∷◌, length, is_some, slice_get, Option, Some, None}
+use Rattle.rbd_kinds.specs.declared.command.Command.{Command}
+use Rattle.rbd_kinds.specs.declared.id.Instance.{Instance}
 use Rattle.rbd_kinds.specs.declared.id.SiteId.{SiteId}
 use Rattle.rbd_kinds.specs.declared.machine.Fed.{Fed}
 use Rattle.rbd_kinds.specs.declared.refusal.Refusal.{Refusal}
@@ -8,8 +10,9 @@ use Rattle.rbd_kinds.specs.declared.reply.Reply.{Reply}
 use Rattle.rbd_known.specs.Calm.{IsCalmRequest, OwnsNothing, is_change}
 use Rattle.rbd_known.specs.Knowing.{AllKnow}
 use Rattle.rbd_machine.specs.Knowledge.{Knowledge, nothing_known}
-use Rattle.rbd_machine.specs.Path.{IsWalk}
-use Rattle.rbd_machine.specs.Plan.{Standing}
+use Rattle.rbd_machine.specs.Path.{Answered, IsWalk}
+use Rattle.rbd_machine.specs.Permits.{Permits}
+use Rattle.rbd_machine.specs.Plan.{Plan, Return, Standing}
 use Rattle.rbd_machine.specs.Refused.{AreGiven}
 use Rattle.rbd_machine.specs.Steps.{refused}
 use Rattle.rbd_meaning.specs.Meant.{IsMeantBy}
@@ -21,9 +24,12 @@ use Rattle.rbd_session.specs.declared.running.Occupant.TheVariants as occupant
 use Rattle.rbd_session.specs.declared.running.Running.{Running}
 use Rattle.rbd_session.specs.Session.{SessionView, IsSoundSession, held_in, script_line}
 use Rattle.rbd_site.specs.InForm.{AreInForm}
+use Rattle.rbd_site.specs.Step.{answer_to}
+use Rattle.rbd_site.specs.declared.done.DoneOp.TheVariants as done
+use Rattle.rbd_stands.specs.Effect.{effect_of}
 use Rattle.rbd_stands.specs.Site.{StandsFor}
 use Rattle.rbd_world.specs.Begun.{LinesBegun, has_line}
-use Rattle.rbd_world.specs.Run.{Asked, Happening, Began, Did, Refused, Trimmed, AreCalls, asked_by, flat_after, history_of, log_of, records_after, replies_to, steps_of}
+use Rattle.rbd_world.specs.Run.{Asked, Happening, Began, Did, Refused, Trimmed, Operation, AreCalls, asked_by, flat_after, history_of, log_of, records_after, replies_to, steps_of}
 use Rattle.rbd_world.specs.Step.{is_begun}
 use Rattle.rbd_world.specs.World.{WorldView, records_in, session_in, site_in}
 
@@ -40,24 +46,61 @@ pub record IsOpen (line : ℕ) (run : List Happening) : Type 0 where
   pub is : asked_by line run ≡ Some asked
   pub unanswered : has_reply line run ≡ false
 
--- The reply is the command's, behind all operations that were done for its line, of a session with
--- this home.
+-- A walk of the command's plan leads there, by these operations.
+pub record IsLedTo (home : SiteId) (c : Command) (steps : List Answered) (last : Plan) : Type 0 where
+  pub start : Standing
+  pub plan : IsPlanFor home c start
+  pub feds : List Fed
+  pub walk : IsWalk start.labels start.plan feds steps last
+  pub given : AreGiven steps
+
+-- A walk of the command's plan ends with the reply, by all operations that were done for its line,
+-- of a session with this home; and the reply is the command's behind them.
 pub record IsReplyMeant (homes : ℕ → SiteId) (line : ℕ) (reply : Reply) (before run : List Happening) : Type 0 where
   pub begun : IsOpen line before
+  pub ended : IsLedTo (homes begun.asked.session) begun.asked.command (steps_of line run) (Return reply)
   pub meant : IsMeantBy (homes begun.asked.session) begun.asked.command (steps_of line run) reply
 
--- A line is begun once; each operation for it comes behind its start and before its reply; and its
--- reply, which is one, is the command's.
+-- a session's instance in its first life, which is its only one so far
+abbrev pub first_life : (session : ℕ) → Instance
+first_life session = record { session = session; life = 0 }
+
+-- The operation is of the session that began its line, has the number, the answer and the effect
+-- that its site has for it there, and was permitted to its request by what it knew, which was
+-- true.
+pub record IsDone (o : Operation) (before : List Happening) : Type 0 where
+  pub whose : (asked : Asked) → asked_by o.line before ≡ Some asked → o.instance ≡ first_life asked.session
+  pub number : o.number ≡ length (log_of o.site before) + 1
+  pub answer : o.answer ≡ answer_to (records_after o.site before) o.instance o.op
+  pub effect : o.effect ≡ effect_of (records_after o.site before) (done.Op o.op) o.answer
+  pub knows : Knowledge
+  pub truth : IsTrueAt o.site (records_after o.site before) knows
+  pub permits : Permits knows o.site o.op
+
+-- The store trimmed an object that was there.
+pub record IsTrimmed (s : SiteId) (number image object : ℕ) (before : List Happening) : Type 0 where
+  pub is_number : number ≡ length (log_of s before) + 1
+  pub there : is_some ((records_after s before).objects image object) ≡ true
+
+-- A line is begun once; each operation for it comes behind its start and before its reply, and is
+-- the one that its site does there; and its reply, which is one, is the command's.
 abbrev pub IsDue : (homes : ℕ → SiteId) → Happening → (before : List Happening) → Type 0
 IsDue homes (Began asked who slot) before = asked_by asked.line before ≡ None
-IsDue homes (Did o None) before = IsOpen o.line before
-IsDue homes (Did o (Some reply)) before = IsReplyMeant homes o.line reply before (Did o (Some reply) ∷ before)
+IsDue homes (Did o None) before = IsDone o before × IsOpen o.line before
+IsDue homes (Did o (Some reply)) before = IsDone o before × IsReplyMeant homes o.line reply before (Did o (Some reply) ∷ before)
 IsDue homes (Refused s line reply) before = IsReplyMeant homes line reply before (Refused s line reply ∷ before)
+IsDue homes (Trimmed s number image object) before = IsTrimmed s number image object before
 IsDue homes h before = Unit {0}
 
--- both sites stand for their flat sites
+-- The site stands for its flat site, no image has a parent, and headers are in form.
+pub record IsStanding (s : SiteId) (run : List Happening) : Type 0 where
+  pub stands : StandsFor [] (records_after s run) (flat_after s run)
+  pub parentless : IsParentless (records_after s run)
+  pub form : AreInForm (records_after s run) (length (log_of s run))
+
+-- both sites do
 abbrev pub AreStanding : List Happening → Type 0
-AreStanding run = (s : SiteId) → StandsFor [] (records_after s run) (flat_after s run)
+AreStanding run = (s : SiteId) → IsStanding s run
 
 -- so it is at each place of the run
 abbrev pub IsRight : (homes : ℕ → SiteId) → List Happening → Type 0
@@ -94,6 +137,7 @@ IsHeldRightly stands home session run k (Some (occupant.Refused line refusal)) =
 IsHeldRightly stands home session run k (Some (occupant.Running r)) = IsUnderWay stands home session run k r
 
 pub record IsSoundClient {R : Type 0} (stands : R → Standing) (home : SiteId) (session : ℕ) (run : List Happening) (knows : (slot : ℕ) → Knowledge) (c : SessionView R) : Type 0 where
+  pub who : c.instance ≡ first_life session
   pub at_home : c.home ≡ home
   pub sound : IsSoundSession stands c
   pub know : AllKnow stands knows c
@@ -138,7 +182,7 @@ pub record IsSoundWorld {R : Type 0} (stands : R → Standing) (w : WorldView R)
 
 -- a client in its first life, at a home
 pub record IsFirstClient {R : Type 0} (session : ℕ) (home : SiteId) (c : SessionView R) : Type 0 where
-  pub who : c.instance ≡ record { session = session; life = 0 }
+  pub who : c.instance ≡ first_life session
   pub at_home : c.home ≡ home
 
 abbrev pub FirstIn : {R : Type 0} → (session : ℕ) → Option SiteId → Option (SessionView R) → Type 0
@@ -155,13 +199,14 @@ pub record IsKept {R : Type 0} (stands : R → Standing) (b : LinesBegun) (w : W
   pub sound : IsSoundWorld stands w
   pub lines : (line : ℕ) → has_line line b ≡ is_begun line w.history
 
--- empty sites, sessions without requests, and nothing happened
-pub record IsNewClient {R : Type 0} (stands : R → Standing) (c : SessionView R) : Type 0 where
+-- empty sites, sessions in their first life without requests, and nothing happened
+pub record IsNewClient {R : Type 0} (stands : R → Standing) (session : ℕ) (c : SessionView R) : Type 0 where
+  pub who : c.instance ≡ first_life session
   pub sound : IsSoundSession stands c
   pub slots : (slot : ℕ) → held_in slot c.slots ≡ None
 
 abbrev pub AreNewClients : {R : Type 0} → (stands : R → Standing) → List (SessionView R) → Type 0
-AreNewClients {R} stands sessions = (session : ℕ) (c : SessionView R) → session_in session sessions ≡ Some c → IsNewClient stands c
+AreNewClients {R} stands sessions = (session : ℕ) (c : SessionView R) → session_in session sessions ≡ Some c → IsNewClient stands session c
 
 pub record IsNewWorld {R : Type 0} (stands : R → Standing) (w : WorldView R) : Type 0 where
   pub sites : (s : SiteId) → (site_in s w.sites).log ≡ []

@@ -269,6 +269,15 @@ module _ {R : Type 0} (stands : R → Standing) where
     pub sessions : LeavesSessions stands old new
     pub begun : (line : ℕ) → has_line line new_begun ≡ has_line line old_begun
 
+module _ {R : Type 0} (stands : R → Standing) where
+  -- A step of all parts: what it does to them, what history and calls have more, and its outcome.
+  pub record StepsParts (e : Event) (h : Happening) (old_sites new_sites : Sites) (old new : List (SessionView R)) (old_begun new_begun : LinesBegun)
+      (old_history new_history : List Entry) (old_calls new_calls : List Call) (result : Outcome) : Type 0 where
+    pub parts : DoesToParts stands e h old_sites new_sites old new old_begun new_begun
+    pub history : new_history ≡ old_history ++ entries_of h
+    pub calls : new_calls ≡ old_calls ++ call_of e h ∷ []
+    pub outcome : result ≡ outcome_of h
+
 -- ---- what is asked of an event
 
 -- the command of a submission is built

@@ -7,12 +7,11 @@ ghost use Rattle.rbd_world.specs.World.{kind_in, session_in, site_in};
 
 use crate::begun::BegunLines;
 use crate::event::{Call, Event, Outcome};
-use crate::happen::happen;
-use crate::happened::{note, reserve};
 use crate::sites::Sites;
+use crate::step::step_parts;
 use rbd_course::Request;
 use rbd_flat::Entry;
-use rbd_kinds::{Instance, NoMemory, OpKind, SessionNo, SiteId, Slot, TryClone};
+use rbd_kinds::{Instance, NoMemory, OpKind, SessionNo, SiteId, Slot};
 use rbd_machine::Machine;
 use rbd_requests::SessionRequest;
 use rbd_session::Session;
@@ -74,9 +73,9 @@ impl<E: Machine + Drop> World<E> {
         })
     }
 
-    /// One event. What it does and what comes of it is a function of the world (`happening`); refused memory, nothing
-    /// happened. An event that isn't built is ruled out, and so are changes of a second client, as long as no lock keeps
-    /// two apart.
+    /// One event. What it does, and what comes of it, is a function of the world (`happening`).
+    /// Refused memory, nothing happened. A command that isn't built is ruled out, and so is a change
+    /// by a second client, as long as no lock keeps two apart.
     pub fn step(&mut self, alloc: Global, event: &Event) -> Result<Outcome, NoMemory>
         requires built { IsBuiltEvent event.now }
         requires one_client { AreOfOneClient self.old.calls event.now }
@@ -84,16 +83,15 @@ impl<E: Machine + Drop> World<E> {
         ensures err { OnErr result (IsUndone (stands_of E.stands) self.old self.new) }
         ensures sound { IsSoundWorld (stands_of E.stands) self.new }
     {
-        let kept = event.try_clone()?;
-        reserve(&mut self.history, &mut self.calls)?;
-        let happened = happen(
+        let outcome = step_parts(
             alloc,
             &mut self.sites,
             &mut self.sessions,
             &mut self.begun,
+            &mut self.history,
+            &mut self.calls,
             event,
         )?;
-        let outcome = note(&mut self.history, &mut self.calls, kept, happened);
         Ok(outcome)
     }
 

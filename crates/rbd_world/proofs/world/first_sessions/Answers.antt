@@ -13,7 +13,7 @@ made_at g c = record {
     who = c.in_ok-new.ensures.who.0;
     at_home = c.in_ok-new.ensures.who.1 ∙ get_or_from_slice_get c.args.homes.now c.loop-number.number home site.A is;
   };
-  new = record { sound = c.in_ok-new.ensures.sound; slots = c.in_ok-new.ensures.slots };
+  new = record { who = c.in_ok-new.ensures.who.0; sound = c.in_ok-new.ensures.sound; slots = c.in_ok-new.ensures.slots };
 }
 
 pub loop-number-preserved : goal.loop-number-preserved

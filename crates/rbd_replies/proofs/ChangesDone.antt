@@ -1,0 +1,178 @@
+-- What `create`, `snap create` and `snap rm` did, and that they did nothing else.
+use Rattle.std.proofs.Common.{◌≡◌, ℕ, List, [], ◌∷◌, Option, Some, None, option_map, map, refl, sym, ap, ◌∙◌}
+use Rattle.rbd_flat.specs.Flat.{FlatImage, FlatSnap, image_at}
+use Rattle.rbd_flat.specs.declared.effect.Effect.{Effect}
+use Rattle.rbd_flat.specs.declared.effect.Effect.TheVariants as effect
+use Rattle.rbd_kinds.specs.declared.answer.Answer.{Answer}
+use Rattle.rbd_kinds.specs.declared.answer.Answer.TheVariants as answer
+use Rattle.rbd_kinds.specs.declared.command.Shape.{Shape}
+use Rattle.rbd_kinds.specs.declared.directory_op.DirectoryOp.TheVariants as directory
+use Rattle.rbd_kinds.specs.declared.header.HeaderView.{HeaderView}
+use Rattle.rbd_kinds.specs.declared.header.Role.TheVariants.{Plain}
+use Rattle.rbd_kinds.specs.declared.header.SnapView.{SnapView}
+use Rattle.rbd_kinds.specs.declared.header_op.HeaderOp.{HeaderOp}
+use Rattle.rbd_kinds.specs.declared.header_op.HeaderOp.TheVariants as header
+use Rattle.rbd_kinds.specs.declared.id.SiteId.{SiteId}
+use Rattle.rbd_kinds.specs.declared.operation.Op.TheVariants as op
+use Rattle.rbd_kinds.specs.Header.{snap_named}
+use Rattle.rbd_header.specs.Header.{new_header}
+use Rattle.rbd_layout.specs.Asked.{layout_of}
+use Rattle.rbd_machine.specs.Path.{Answered, found, looked_at}
+use Rattle.rbd_meaning.proofs.Allowed.{may_take}
+use Rattle.rbd_meaning.specs.Creates.{Makes}
+use Rattle.rbd_meaning.specs.Snaps.{RemovesOne, TakesOne}
+use Rattle.rbd_stands.specs.Image.{SnapLine, line_of_flat, line_of_snap}
+use Rattle.rbd_stands.specs.Reading.{Tells, flat_snap_named}
+use Rattle.rbd_replies.proofs.PlacedRight.{ArePlacedRight}
+use Rattle.rbd_replies.proofs.Places.{step_at}
+use Rattle.rbd_replies.proofs.PlacesTaken.{change_first, none_taken, silent_first}
+use Rattle.rbd_replies.proofs.PlacesTold.{effect_there, finding_is_silent, found_there, free_there, header_there, looking_is_silent}
+use Rattle.rbd_replies.specs.Changed.{Creates, FindsImage, RemovesSnap, TakesSnap}
+use Rattle.rbd_replies.specs.Places.{Placed, effects_of, flat_at}
+
+-- an operation on a header, with its answer
+abbrev on_header : SiteId → (image : ℕ) → HeaderOp → Answer → Answered
+on_header site image o a = record { site = site; op = op.Header image o; answer = a }
+
+-- ---- the snapshot that a header lists is the flat image's
+
+record IsListedThere (flat : Option FlatImage) (snap : List ℕ) (id : ℕ) : Type 0 where
+  i : FlatImage
+  is : flat ≡ Some i
+  gone : FlatSnap
+  listed : flat_snap_named i.snaps snap ≡ Some gone
+  same : id ≡ gone.id
+
+listed_among : (o : Option FlatSnap) (p : Option SnapView) (listed : SnapView) → option_map line_of_flat o ≡ option_map line_of_snap p → p ≡ Some listed
+    → (gone : FlatSnap) × (o ≡ Some gone) × (listed.id ≡ gone.id)
+listed_among None None listed same is = absurd (cc)
+listed_among None (Some s) listed same is = absurd (cc)
+listed_among (Some gone) None listed same is = absurd (cc)
+listed_among (Some gone) (Some s) listed same is =
+    let that : s ≡ listed = cc in
+    let line : line_of_flat gone ≡ line_of_snap s = cc in
+    (gone, refl, ap (λ (v : SnapView). v.id) (sym that) ∙ ap (λ (l : SnapLine). l.id) (sym line))
+
+listed_flat : (flat : Option FlatImage) (h : HeaderView) (snap : List ℕ) (listed : SnapView) → Tells h flat → snap_named h.snaps snap ≡ Some listed
+    → IsListedThere flat snap listed.id
+listed_flat None h snap listed tells is = absurd tells
+listed_flat (Some i) h snap listed tells is =
+    let (gone, there, same) = listed_among (flat_snap_named i.snaps snap) (snap_named h.snaps snap) listed (tells.by_name snap) is in
+    record { i = i; is = refl; gone = gone; listed = there; same = same }
+
+-- ---- a name that a header doesn't list the flat image hasn't
+
+record IsFreeThere (flat : Option FlatImage) (snap : List ℕ) : Type 0 where
+  i : FlatImage
+  is : flat ≡ Some i
+  free : flat_snap_named i.snaps snap ≡ None
+
+free_among : (o : Option FlatSnap) (p : Option SnapView) → option_map line_of_flat o ≡ option_map line_of_snap p → p ≡ None → o ≡ None
+free_among None p same is = refl
+free_among (Some s) None same is = absurd (cc)
+free_among (Some s) (Some other) same is = absurd (cc)
+
+free_flat : (flat : Option FlatImage) (h : HeaderView) (snap : List ℕ) → Tells h flat → snap_named h.snaps snap ≡ None → IsFreeThere flat snap
+free_flat None h snap tells is = absurd tells
+free_flat (Some i) h snap tells is =
+    record { i = i; is = refl; free = free_among (flat_snap_named i.snaps snap) (snap_named h.snaps snap) (tells.by_name snap) is }
+
+-- ---- the commands
+
+module _ (homes : ℕ → SiteId) where
+  creates_at : (places : List Placed) → ArePlacedRight homes places → (site : SiteId) (name : List ℕ) (size image : ℕ) (shape : Shape)
+      → map step_at places
+          ≡ record { site = site; op = op.Directory (directory.Add name); answer = answer.Id image }
+          ∷ on_header site image (header.Create (new_header (layout_of shape) size)) answer.Done ∷ []
+      → Creates name size places
+  creates_at [] right site name size image shape are = absurd (cc)
+  creates_at (p ∷ []) right site name size image shape are = absurd (cc)
+  creates_at (p ∷ q ∷ places) (here, (there, right)) site name size image shape are = record {
+    first = p;
+    second = q;
+    are = ap (λ rest. p ∷ q ∷ rest) none;
+    image = image;
+    free = free_there homes p here site name image cc;
+    effects =
+        change_first p (q ∷ places) _ (effect_there homes p here (record { site = site; op = op.Directory (directory.Add name); answer = answer.Id image }) cc)
+        ∙ ap (λ rest. effect.Name name image ∷ rest)
+          (change_first q places (effect.Create image size Plain) (effect_there homes q there (on_header site image (header.Create (new_header (layout_of shape) size)) answer.Done) cc)
+          ∙ ap (λ rest. effect.Create image size Plain ∷ effects_of rest) none);
+  }
+    where
+      none : places ≡ []
+      none = none_taken places cc
+
+  pub create_creates : (places : List Placed) → ArePlacedRight homes places → (site : SiteId) (name : List ℕ) (size : ℕ) (shape : Shape)
+      → Makes site name size shape (map step_at places) → Creates name size places
+  create_creates places right site name size shape makes = creates_at places right site name size makes.made.image shape makes.made.are
+
+  -- a change of a header behind two looks
+  record ChangesOne (site : SiteId) (name : List ℕ) (image : ℕ) (h : HeaderView) (e : Effect) (places : List Placed) : Type 0 where
+    finds : FindsImage name places
+    image_is : finds.image ≡ image
+    header_is : finds.header ≡ h
+    effects : effects_of places ≡ e ∷ []
+
+  changes_at : (places : List Placed) → ArePlacedRight homes places → (site : SiteId) (name : List ℕ) (image : ℕ) (first own : HeaderView) (o : HeaderOp) (a : Answer) (e : Effect)
+      → map step_at places ≡ found site name image ∷ looked_at site image first ∷ looked_at site image own ∷ on_header site image o a ∷ []
+      → ((p : Placed) → ArePlacedRight homes (p ∷ []) → step_at p ≡ on_header site image o a → p.done.effect ≡ Some e)
+      → ChangesOne site name image own e places
+  changes_at [] right site name image first own o a e are does = absurd (cc)
+  changes_at (p ∷ []) right site name image first own o a e are does = absurd (cc)
+  changes_at (p ∷ q ∷ []) right site name image first own o a e are does = absurd (cc)
+  changes_at (p ∷ q ∷ s ∷ []) right site name image first own o a e are does = absurd (cc)
+  changes_at (p ∷ q ∷ s ∷ t ∷ places) (here, (there, (look, (last, right)))) site name image first own o a e are does = record {
+    finds = record {
+      found = p;
+      first = q;
+      own = s;
+      rest = t ∷ places;
+      are = refl;
+      image = image;
+      named = found_there homes p here site name image cc;
+      header = own;
+      tells = header_there homes s look site image own cc;
+    };
+    image_is = refl;
+    header_is = refl;
+    effects =
+        silent_first p (q ∷ s ∷ t ∷ places) (finding_is_silent homes p here site name image cc)
+        ∙ silent_first q (s ∷ t ∷ places) (looking_is_silent homes q there site image first cc)
+        ∙ silent_first s (t ∷ places) (looking_is_silent homes s look site image own cc)
+        ∙ change_first t places e (does t (last, tt) cc)
+        ∙ ap (λ rest. e ∷ effects_of rest) (none_taken places cc);
+  }
+
+  pub snap_create_takes : (places : List Placed) → ArePlacedRight homes places → (site : SiteId) (name snap : List ℕ)
+      → TakesOne site name snap (map step_at places) → TakesSnap name snap places
+  snap_create_takes places right site name snap takes =
+      let change = changes_at places right site name takes.image takes.first takes.own (header.SnapAdd snap) (answer.Snap takes.taken) (effect.Snap takes.image takes.taken snap) takes.are
+          (λ p here is. effect_there homes p here.0 (on_header site takes.image (header.SnapAdd snap) (answer.Snap takes.taken)) is) in
+      let there = free_flat (image_at (flat_at change.finds.own) change.finds.image) change.finds.header snap change.finds.tells
+          (ap (λ (h : HeaderView). snap_named h.snaps snap) change.header_is ∙ (may_take snap takes.own takes.may).unlisted) in
+      record {
+        finds = change.finds;
+        flat = there.i;
+        is = there.is;
+        free = there.free;
+        taken = takes.taken;
+        effects = change.effects ∙ ap (λ image. effect.Snap image takes.taken snap ∷ []) (sym change.image_is);
+      }
+
+  pub snap_remove_removes : (places : List Placed) → ArePlacedRight homes places → (site : SiteId) (name snap : List ℕ)
+      → RemovesOne site name snap (map step_at places) → RemovesSnap name snap places
+  snap_remove_removes places right site name snap removes =
+      let change = changes_at places right site name removes.image removes.first removes.own (header.SnapRemove removes.listed.id) answer.Done
+          (effect.Unsnap removes.image removes.listed.id) removes.are
+          (λ p here is. effect_there homes p here.0 (on_header site removes.image (header.SnapRemove removes.listed.id) answer.Done) is) in
+      let there = listed_flat (image_at (flat_at change.finds.own) change.finds.image) change.finds.header snap removes.listed change.finds.tells
+          (ap (λ (h : HeaderView). snap_named h.snaps snap) change.header_is ∙ removes.is_listed) in
+      record {
+        finds = change.finds;
+        flat = there.i;
+        is = there.is;
+        gone = there.gone;
+        listed = there.listed;
+        effects = change.effects ∙ ap (λ image. effect.Unsnap image removes.listed.id ∷ []) (sym change.image_is) ∙ ap (λ id. effect.Unsnap change.finds.image id ∷ []) there.same;
+      }

@@ -1,0 +1,95 @@
+-- No view of an image has a parent, at no place of a run that is right: neither head nor snapshot.
+use Rattle.std.proofs.Common.{◌≡◌, ℕ, ◌==◌, cond, Bool, true, false, List, [], ◌∷◌, is_some, Option, Some, None, refl, sym, ap, ◌∙◌, subst}
+use Rattle.std.proofs.lemmas.Option.{none-some, same_Some}
+use Rattle.rbd_header.specs.Header.{is_full, snap_in, with_snap, without_snap}
+use Rattle.rbd_kinds.specs.declared.header.HeaderView.{HeaderView}
+use Rattle.rbd_kinds.specs.declared.header_op.HeaderOp.{HeaderOp}
+use Rattle.rbd_kinds.specs.declared.header_op.HeaderOp.TheVariants as header
+use Rattle.rbd_kinds.specs.declared.id.Instance.{Instance}
+use Rattle.rbd_kinds.specs.declared.id.SiteId.{SiteId}
+use Rattle.rbd_kinds.specs.declared.operation.Op.{Op}
+use Rattle.rbd_kinds.specs.declared.operation.Op.TheVariants as op
+use Rattle.rbd_kinds.specs.Header.{snap_named}
+use Rattle.rbd_machine.specs.Knowledge.{Knowledge, same_site}
+use Rattle.rbd_machine.specs.Permits.{Permits, PermitsOnHeader}
+use Rattle.rbd_site.specs.HeaderStep.{header_after, where_made}
+use Rattle.rbd_site.specs.Log.{trimmed}
+use Rattle.rbd_site.specs.Records.{Records}
+use Rattle.rbd_site.specs.Step.{after}
+use Rattle.rbd_stands.specs.View.{EachView, Shape}
+use Rattle.rbd_stands.proofs.Views.{each_added, each_removed}
+use Rattle.rbd_world.specs.Run.{Happening, Nothing, Waited, Began, Did, Refused, Trimmed, records_after, records_behind}
+use Rattle.rbd_world.specs.Sound.{IsDone, IsDue, IsRight}
+use Rattle.rbd_replies.proofs.PlacedRight.{done_of}
+
+abbrev pub HasNoParent : Option ℕ → Shape → Type 0
+HasNoParent v shape = shape.parent ≡ None
+
+-- no view of a header, if there is one, has a parent
+abbrev pub AreViewsAlone : Option HeaderView → Type 0
+AreViewsAlone there = (h : HeaderView) → there ≡ Some h → EachView h HasNoParent
+
+alone : (v : HeaderView) → EachView v HasNoParent → AreViewsAlone (Some v)
+alone v none h is = subst (λ (x : HeaderView). EachView x HasNoParent) (same_Some v h is) none
+
+module _ (k : Knowledge) (s : SiteId) (me : Instance) (image : ℕ) where
+  views_then : (o : HeaderOp) → PermitsOnHeader k s image o → (there : Option HeaderView) → AreViewsAlone there → AreViewsAlone (header_after me there o)
+  views_then header.Get permits None was = was
+  views_then header.Get permits (Some v) was = was
+  views_then (header.Create view) permits None was = alone view (record {
+    head = permits.no_parent;
+    snap = λ t u is. absurd (none-some u (sym (ap (λ snaps. snap_in snaps t) permits.new.snaps) ∙ is));
+  })
+  views_then (header.Create view) permits (Some v) was = was
+  views_then (header.SnapAdd name) permits None was = was
+  views_then (header.SnapAdd name) permits (Some v) was = by (is_some (snap_named v.snaps name)) (is_full v)
+    where
+      by : (listed full : Bool) → AreViewsAlone (Some (where_made listed full (with_snap name v) v))
+      by true full = was
+      by false true = was
+      by false false = alone (with_snap name v) (each_added {P = HasNoParent} {Q = HasNoParent} name v (λ none. none) (λ t u is none. none) (λ none. none) (was v refl))
+  views_then (header.SnapRemove snap) permits None was = was
+  views_then (header.SnapRemove snap) permits (Some v) was = by (is_some (snap_in v.snaps snap))
+    where
+      by : (b : Bool) → AreViewsAlone (Some (cond b (without_snap snap v) v))
+      by true = alone (without_snap snap v) (each_removed {P = HasNoParent} {Q = HasNoParent} snap v (λ none. none) (λ t u is other none. none) (was v refl))
+      by false = was
+  views_then _ permits there was = elim permits [ ]
+
+views_on : (s : SiteId) (r : Records) (k : Knowledge) (me : Instance) (o : Op) → ((image : ℕ) → AreViewsAlone (r.headers image)) → Permits k s o
+    → (image : ℕ) → AreViewsAlone ((after r me o).headers image)
+views_on s r k me (op.Directory o) was permits = was
+views_on s r k me (op.Data image number o) was permits = was
+views_on s r k me (op.Header image o) was permits = λ i. by i (i == image)
+  where
+    by : (i : ℕ) (b : Bool) → AreViewsAlone (cond b (header_after me (r.headers image) o) (r.headers i))
+    by i true = views_then k s me image o permits (r.headers image) (was image)
+    by i false = was i
+views_on s r k me _ was permits = elim permits [ ]
+
+module _ (homes : ℕ → SiteId) (s : SiteId) where
+  abbrev AreAloneIn : Records → Type 0
+  AreAloneIn r = (image : ℕ) → AreViewsAlone (r.headers image)
+
+  views_behind : (h : Happening) (run : List Happening) → IsDue homes h run → AreAloneIn (records_after s run) → AreAloneIn (records_behind s (records_after s run) h)
+  views_behind Nothing run due was = was
+  views_behind Waited run due was = was
+  views_behind (Began asked who slot) run due was = was
+  views_behind (Refused t line reply) run due was = was
+  views_behind (Did o reply) run due was = by (same_site o.site s)
+    where
+      is : IsDone o run
+      is = done_of homes o reply run due
+
+      by : (b : Bool) → AreAloneIn (cond b (after (records_after s run) o.instance o.op) (records_after s run))
+      by true = views_on o.site (records_after s run) is.knows o.instance o.op was is.permits
+      by false = was
+  views_behind (Trimmed t number image object) run due was = by (same_site t s)
+    where
+      by : (b : Bool) → AreAloneIn (cond b (trimmed image object (records_after s run)) (records_after s run))
+      by true = was
+      by false = was
+
+  pub views_alone : (run : List Happening) → IsRight homes run → AreAloneIn (records_after s run)
+  views_alone [] right = λ image h is. absurd (none-some h is)
+  views_alone (h ∷ run) right = views_behind h run right.1 (views_alone run right.2)

@@ -1,0 +1,99 @@
+-- A read that shows bytes shows those of the flat view, each piece's at its place, between two
+-- looks at one header.
+use Rattle.std.proofs.Common.{◌≡◌, ℕ, ◌+◌, ◌≤◌, true, List, [], ◌∷◌, ◌++◌, map, Option, Some, None, unwrap_or, refl, sym, ap, ◌∙◌, subst, arith}
+use Rattle.std.specs.Prelude.{All}
+use Rattle.std.proofs.lemmas.Bool.Decides.{nat_tests}
+use Rattle.std.proofs.lemmas.List.Elements.{All-head, All-tail}
+use Rattle.rbd_kinds.specs.declared.answer.Answer.TheVariants as answer
+use Rattle.rbd_kinds.specs.declared.header.HeaderView.{HeaderView}
+use Rattle.rbd_kinds.specs.declared.header_op.HeaderOp.TheVariants as header
+use Rattle.rbd_kinds.specs.declared.id.Instance.{Instance}
+use Rattle.rbd_kinds.specs.declared.id.SiteId.{SiteId}
+use Rattle.rbd_kinds.specs.declared.layout.Extent.{Extent}
+use Rattle.rbd_kinds.specs.declared.operation.Op.TheVariants as op
+use Rattle.rbd_kinds.specs.Extents.{fits}
+use Rattle.rbd_header.specs.declared.view.View.{View}
+use Rattle.rbd_layout.specs.Pieces.{IsPartsOf}
+use Rattle.rbd_layout.specs.declared.types.Piece.{Piece}
+use Rattle.rbd_layout.proofs.Within.{lies_in}
+use Rattle.rbd_machine.specs.Path.{Answered, looked_at}
+use Rattle.rbd_meaning.specs.Reads.{AreRead, bytes_read, bytes_shown}
+use Rattle.rbd_site.specs.HeaderStep.{header_answer}
+use Rattle.rbd_stands.specs.Condition.{ArePartsBelow}
+use Rattle.rbd_world.specs.Run.{records_after}
+use Rattle.rbd_replies.specs.Places.{Placed}
+use Rattle.rbd_replies.specs.Reads.{ArePiecesAt}
+use Rattle.rbd_replies.proofs.PlacedRight.{ArePlacedRight, IsPlacedRight}
+use Rattle.rbd_replies.proofs.Places.{step_at}
+use Rattle.rbd_replies.proofs.ReadKept.{header_between}
+use Rattle.rbd_replies.proofs.ReadLooks.{answered_there, begin_with, records_at}
+use Rattle.rbd_replies.proofs.ReadNames.{IsViewOf}
+use Rattle.rbd_replies.proofs.ReadOrder.{AreBehind, AreOrdered, behind_last}
+use Rattle.rbd_replies.proofs.ReadPiece.{piece_shown}
+
+-- ---- lists of steps, taken apart
+
+pub record Divides (front_steps back_steps : List Answered) (places : List Placed) : Type 0 where
+  pub front : List Placed
+  pub back : List Placed
+  pub are : places ≡ front ++ back
+  pub front_is : map step_at front ≡ front_steps
+  pub back_is : map step_at back ≡ back_steps
+
+pub divide : (some others : List Answered) (places : List Placed) → map step_at places ≡ some ++ others → Divides some others places
+divide [] others places are = record { front = []; back = places; are = refl; front_is = refl; back_is = are }
+divide (step ∷ some) others places are =
+    let first = begin_with step (some ++ others) places are in
+    let more = divide some others first.rest first.others in
+    record {
+      front = first.place ∷ more.front;
+      back = more.back;
+      are = first.are ∙ ap (λ rest. first.place ∷ rest) more.are;
+      front_is = ap (λ s. s ∷ map step_at more.front) first.is ∙ ap (λ rest. step ∷ rest) more.front_is;
+      back_is = more.back_is;
+    }
+
+pub nothing_left : (places : List Placed) → map step_at places ≡ [] → places ≡ []
+nothing_left [] are = refl
+nothing_left (p ∷ places) are = cc
+
+-- ---- a look tells the header that is there
+
+got : (me : Instance) (there : Option HeaderView) (h : HeaderView) → header_answer me there header.Get ≡ answer.Header h → there ≡ Some h
+got me None h answered = cc
+got me (Some other) h answered = cc
+
+pub there_at : (homes : ℕ → SiteId) (p : Placed) (right : IsPlacedRight homes p) (home : SiteId) (image : ℕ) (h : HeaderView) → step_at p ≡ looked_at home image h → (records_at p).headers image ≡ Some h
+there_at homes p right home image h is =
+    got p.done.instance ((records_at p).headers image) h (answered_there homes p right home (op.Header image header.Get) (answer.Header h) is)
+
+-- ---- the pieces lie within the view
+
+pub within_size : (e : Extent) (size : ℕ) → fits e size ≡ true → e.at + e.len ≤ size
+within_size e size is = grind (arith, nat_tests)
+
+parts_within : (h : HeaderView) (e : Extent) (size object : ℕ) (piece : Piece) → e.at + e.len ≤ size → IsPartsOf h.layout e piece.object piece.parts → ArePartsBelow h size piece.object piece.parts
+parts_within h e size object piece within are =
+    λ k d below.
+    let lies = lies_in h.layout e piece.object piece.parts are k d below in
+    let ends = lies.before in
+    record { part = are.each k d below; below = omega arith }
+
+-- ---- piece by piece
+
+module _ (homes : ℕ → SiteId) (home : SiteId) (image : ℕ) (h : HeaderView) (e : Extent) (view : View) (viewed : IsViewOf h view) (within : e.at + e.len ≤ view.size) (first last : Placed)
+    (first_home : first.done.site ≡ home) (last_home : last.done.site ≡ home) (last_right : IsPlacedRight homes last) (new : HeaderView)
+    (was : (records_after home first.before).headers image ≡ Some h) (is : (records_after home last.before).headers image ≡ Some new) (generation : new.generation ≡ h.generation) where
+  pub pieces_shown : (pieces : List Piece) (places : List Placed) → All (λ (p : Piece). IsPartsOf h.layout e p.object p.parts) pieces → ArePlacedRight homes places
+      → AreBehind first (places ++ last ∷ []) → AreOrdered (places ++ last ∷ []) → AreRead home image view.snap pieces (map step_at places)
+      → ArePiecesAt image view.snap pieces (bytes_read pieces (map step_at places)) places
+  pieces_shown [] [] parts right behind ordered read = refl
+  pieces_shown [] (p ∷ places) parts right behind ordered read = elim read [ ]
+  pieces_shown (piece ∷ pieces) [] parts right behind ordered read = elim read [ ]
+  pieces_shown (piece ∷ pieces) (p ∷ places) parts right behind ordered read =
+      let there : (records_after home p.before).headers image ≡ Some h =
+      header_between homes home image last.before p.before first.before (behind_last p last places ordered.0) behind.0 last_right.right right.0.right h new was is generation in
+      let here : (records_at p).headers image ≡ Some h = subst (λ s. (records_after s p.before).headers image ≡ Some h) (sym read.0) there in
+      let shown = piece_shown homes home image h view viewed p piece right.0 here (parts_within h e view.size piece.object piece within (All-head (λ (q : Piece). IsPartsOf h.layout e q.object q.parts) piece pieces parts)) read.1 read.2 in
+      (unwrap_or (bytes_shown piece.parts p.done.answer) [], bytes_read pieces (map step_at places), refl, shown,
+      pieces_shown pieces places (All-tail (λ (q : Piece). IsPartsOf h.layout e q.object q.parts) piece pieces parts) right.1 behind.1 ordered.1 read.3)

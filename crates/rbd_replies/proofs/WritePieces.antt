@@ -1,0 +1,58 @@
+-- Each piece that was written has its effect: the bytes go to the places of its parts.
+use Rattle.std.proofs.Common.{◌≡◌, ℕ, false, List, [], ◌∷◌, map, Some, refl, sym, ap, ◌∙◌, subst, length}
+use Rattle.std.proofs.lemmas.List.Elements.{All-weaker}
+use Rattle.rbd_header.specs.Header.{context_of}
+use Rattle.rbd_kinds.specs.declared.answer.Answer.TheVariants as answer
+use Rattle.rbd_kinds.specs.declared.header.HeaderView.{HeaderView}
+use Rattle.rbd_kinds.specs.declared.id.SiteId.{SiteId}
+use Rattle.rbd_kinds.specs.declared.operation.Op.{Op}
+use Rattle.rbd_layout.specs.declared.types.Piece.{Piece}
+use Rattle.rbd_machine.specs.Objects.{data_write}
+use Rattle.rbd_machine.specs.Path.{Answered}
+use Rattle.rbd_machine.specs.Permits.{LiesBelow, MayWrite, OwnsBy, Permits}
+use Rattle.rbd_meaning.specs.Writes.{piece_written, pieces_written}
+use Rattle.rbd_object.specs.Parts.{bytes_for}
+use Rattle.rbd_rely.proofs.Done.{may_do}
+use Rattle.rbd_rely.proofs.Kept.{owned_there}
+use Rattle.rbd_site.specs.DataStep as step
+use Rattle.rbd_site.specs.declared.done.DoneOp.TheVariants as done
+use Rattle.rbd_stands.specs.Condition.{ArePartsBelow, IsPartBelow}
+use Rattle.rbd_stands.specs.Effect.{effect_of, effect_of_op}
+use Rattle.rbd_stands.specs.Writing.{piece_effect, piece_effects}
+use Rattle.rbd_stands.proofs.EffectLemmas.{write_effect}
+use Rattle.rbd_world.specs.Run.{log_of}
+use Rattle.rbd_replies.specs.Places.{Placed, effects_of, with_effect}
+use Rattle.rbd_replies.proofs.PlacedRight.{ArePlacedRight, IsPlacedRight}
+use Rattle.rbd_replies.proofs.Places.{step_at}
+use Rattle.rbd_replies.proofs.ReadLooks.{records_at}
+
+module _ (homes : ℕ → SiteId) (home : SiteId) (image : ℕ) (own : HeaderView) (from : ℕ) (bytes : List ℕ) where
+  abbrev op_of : Piece → Op
+  op_of piece = data_write image (context_of own) piece (bytes_for piece.parts from bytes)
+
+  piece_there : (p : Placed) (piece : Piece) → IsPlacedRight homes p → step_at p ≡ piece_written home image own from bytes piece
+      → p.done.effect ≡ Some (piece_effect image from bytes piece)
+  piece_there p piece right is =
+      let most = length (log_of p.done.site p.before) in
+      let owns : OwnsBy right.is.knows p.done.site image (MayWrite right.is.knows.turn piece.object (context_of own) piece.parts (bytes_for piece.parts from bytes)) =
+      subst (λ (s : Answered). Permits right.is.knows p.done.site s.op) is right.is.permits in
+      let there = owned_there p.done.site (records_at p) right.is.knows image _ right.is.truth owns in
+      let v = there.view in
+      let may : step.MayWrite piece.parts (bytes_for piece.parts from bytes) =
+      may_do p.done.site (records_at p) right.is.knows most right.standing.form right.is.truth (op_of piece) owns in
+      let lie : ArePartsBelow v v.size piece.object piece.parts =
+      subst (λ w. ArePartsBelow w w.size piece.object piece.parts) (sym there.same)
+      (All-weaker (LiesBelow owns.header piece.object) (IsPartBelow (record owns.header { owner = v.owner }) owns.header.size piece.object) (λ q lies. record { part = lies.part; below = lies.below }) piece.parts owns.meets.within) in
+      right.is.effect
+      ∙ ap (λ (s : Answered). effect_of (records_at p) (done.Op s.op) s.answer) is
+      ∙ ap (λ h. effect_of_op h (op_of piece) answer.Done) there.is
+      ∙ write_effect v image piece.object (context_of own) false piece.parts (bytes_for piece.parts from bytes) (right.standing.form.form image v there.is).layout lie may
+
+  pub pieces_there : (pieces : List Piece) (places : List Placed) → ArePlacedRight homes places → map step_at places ≡ pieces_written home image own from bytes pieces
+      → effects_of places ≡ piece_effects image from bytes pieces
+  pieces_there [] [] right are = refl
+  pieces_there [] (p ∷ places) right are = cc
+  pieces_there (piece ∷ pieces) [] right are = cc
+  pieces_there (piece ∷ pieces) (p ∷ places) right are =
+      ap (λ e. with_effect e (effects_of places)) (piece_there p piece right.0 cc)
+      ∙ ap (λ rest. piece_effect image from bytes piece ∷ rest) (pieces_there pieces places right.1 cc)

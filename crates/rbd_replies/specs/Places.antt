@@ -1,0 +1,32 @@
+-- The operations of a line, each at its place in the run.
+use Rattle.std.specs.Prelude.{ℕ, ◌==◌, if◌then◌else◌, List, [], ◌∷◌, ◌++◌, Option, Some, None}
+use Rattle.rbd_flat.specs.Flat.{Flat}
+use Rattle.rbd_flat.specs.declared.effect.Effect.{Effect}
+use Rattle.rbd_world.specs.Run.{Happening, Did, Operation, flat_after}
+
+-- an operation, and what was done before it, the latest first
+pub record Placed : Type 0 where
+  pub before : List Happening
+  pub done : Operation
+
+abbrev pub places_in : (line : ℕ) → Happening → (before : List Happening) → List Placed
+places_in line (Did o reply) before = if o.line == line then record { before = before; done = o } ∷ [] else []
+places_in line h before = []
+
+-- in their order
+abbrev pub places_of : (line : ℕ) → List Happening → List Placed
+places_of line [] = []
+places_of line (h ∷ run) = places_of line run ++ places_in line h run
+
+-- the flat site there, of the effects of all that was done before
+abbrev pub flat_at : Placed → Flat
+flat_at p = flat_after p.done.site p.before
+
+abbrev pub with_effect : Option Effect → List Effect → List Effect
+with_effect None effects = effects
+with_effect (Some e) effects = e ∷ effects
+
+-- what they did to the flat site, in order
+abbrev pub effects_of : List Placed → List Effect
+effects_of [] = []
+effects_of (p ∷ places) = with_effect p.done.effect (effects_of places)

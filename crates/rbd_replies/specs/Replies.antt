@@ -1,0 +1,27 @@
+-- What a reply says of the flat-copy machine, at its place in the one history.
+use Rattle.std.specs.Prelude.{◌≡◌, List, [], replicate}
+use Rattle.rbd_kinds.specs.declared.command.Command.{Command}
+use Rattle.rbd_kinds.specs.declared.command.Command.TheVariants as command
+use Rattle.rbd_kinds.specs.declared.reply.Reply.{Reply}
+use Rattle.rbd_kinds.specs.declared.reply.Reply.TheVariants as reply
+use Rattle.rbd_meaning.specs.Undone.{ComesLate}
+use Rattle.rbd_replies.specs.Changed.{Creates, RemovesSnap, TakesSnap, Writes}
+use Rattle.rbd_replies.specs.Listed.{ListsNames, ShowsImage, ShowsSnaps}
+use Rattle.rbd_replies.specs.Places.{Placed, effects_of}
+use Rattle.rbd_replies.specs.Reads.{ShowsBytes}
+
+-- A command that is done, or shows something, did so by the flat-copy machine. One that is refused
+-- did nothing to it, unless the refusal may come when a part was done, as the fence's may; what
+-- refused it is said by its last answer (`IsMeantBy` of `rbd_meaning`).
+abbrev pub IsReplyOf : Command → Reply → List Placed → Type 0
+IsReplyOf c (reply.Refused x) places = (ComesLate c x → ⊥) → effects_of places ≡ []
+IsReplyOf (command.Create image size shape) reply.Done places = Creates image size places
+IsReplyOf (command.Write image at bytes) reply.Done places = Writes image at bytes places
+IsReplyOf (command.Fill image at len byte) reply.Done places = Writes image at (replicate len byte) places
+IsReplyOf (command.SnapCreate image snap) reply.Done places = TakesSnap image snap places
+IsReplyOf (command.SnapRemove image snap) reply.Done places = RemovesSnap image snap places
+IsReplyOf (command.Read image snap at len) (reply.Bytes bytes) places = ShowsBytes image snap (record { at = at; len = len }) bytes places
+IsReplyOf command.List (reply.Names names) places = ListsNames names places
+IsReplyOf (command.Info image) (reply.Info h) places = ShowsImage image h places
+IsReplyOf (command.SnapList image) (reply.Snaps snaps) places = ShowsSnaps image snaps places
+IsReplyOf c r places = ⊥

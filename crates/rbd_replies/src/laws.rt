@@ -1,0 +1,38 @@
+//! What replies say of the flat-copy machine: each law is the contract of a function that does
+//! nothing.
+ghost use Rattle.std.specs.Prelude.{◌≡◌, ℕ, ◌∷◌, List, Some, map};
+ghost use Rattle.rbd_kinds.specs.declared.id.SiteId.{SiteId as Site};
+ghost use Rattle.rbd_kinds.specs.declared.reply.Reply.{Reply};
+ghost use Rattle.rbd_world.specs.Run.{Asked, Happening, Operation, Did, Refused, asked_by, step_of, steps_of};
+ghost use Rattle.rbd_world.specs.Sound.{IsRight};
+ghost use Rattle.rbd_replies.specs.Home.{AreDoneAt};
+ghost use Rattle.rbd_replies.specs.Places.{Placed, places_of};
+ghost use Rattle.rbd_replies.specs.Replies.{IsReplyOf};
+
+/// The operations of a line stand at their places, in their order.
+pub fn operations_have_places()
+    ensures { (line : ℕ) (run : List Happening) → map (λ (p : Placed). step_of p.done) (places_of line run) ≡ steps_of line run }
+{}
+
+/// Each reply is the flat-copy machine's, at its place in the history: what a command did, and what
+/// it shows, is what that machine has at the places of its operations. It is so at every place of a
+/// run that is right, as that of each world is (`IsSoundWorld`).
+pub fn replies_are_the_flat_machines()
+    ensures done { (homes : ℕ → Site) (run : List Happening) (o : Operation) (reply : Reply) (asked : Asked)
+        → IsRight homes (Did o (Some reply) ∷ run) → asked_by o.line run ≡ Some asked
+        → IsReplyOf asked.command reply (places_of o.line (Did o (Some reply) ∷ run)) }
+    ensures refused { (homes : ℕ → Site) (run : List Happening) (s : Site) (line : ℕ) (reply : Reply) (asked : Asked)
+        → IsRight homes (Refused s line reply ∷ run) → asked_by line run ≡ Some asked
+        → IsReplyOf asked.command reply (places_of line (Refused s line reply ∷ run)) }
+{}
+
+/// The operations of a line that has its reply were done at the home of the session that began it:
+/// so the flat site at each of its places is that site's.
+pub fn replies_are_of_their_home()
+    ensures done { (homes : ℕ → Site) (run : List Happening) (o : Operation) (reply : Reply) (asked : Asked)
+        → IsRight homes (Did o (Some reply) ∷ run) → asked_by o.line run ≡ Some asked
+        → AreDoneAt (homes asked.session) (places_of o.line (Did o (Some reply) ∷ run)) }
+    ensures refused { (homes : ℕ → Site) (run : List Happening) (s : Site) (line : ℕ) (reply : Reply) (asked : Asked)
+        → IsRight homes (Refused s line reply ∷ run) → asked_by line run ≡ Some asked
+        → AreDoneAt (homes asked.session) (places_of line (Refused s line reply ∷ run)) }
+{}

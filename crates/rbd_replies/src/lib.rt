@@ -1,0 +1,52 @@
+//! What replies say: each is the flat-copy machine's, at its place in the one history. Definitions
+//! and laws on the runs of `rbd_world`, and no code that a program calls.
+//!
+//! ```text
+//! the run                       the flat site, byte 4,094 on    what the replies of lines 5 and 6 say
+//! write 5: dir-find, two looks  00 00 | 00 00
+//! read 6:  dir-find, a look     00 00 | 00 00
+//! write 5: data-write object 0  11 22 | 00 00
+//! read 6:  data-read object 0   11 22 | 00 00                   its first piece is 11 22, as here
+//! read 6:  data-read object 1   11 22 | 00 00                   its second is 00 00, as here
+//! read 6:  a look               11 22 | 00 00                   the header is the first look's: 11 22 00 00
+//! write 5: data-write object 1  11 22 | 33 44                   done: its two pieces, and nothing else
+//! ```
+//!
+//! # Rules
+//!
+//! A line's operations stand at *places* of the run, each with the flat site of all effects before.
+//!
+//! | reply | what it says |
+//! |---|---|
+//! | `create` done | the name was free at its first place; its effects are the name and a new image of zeros |
+//! | `write`, `fill` done | its effects are its pieces, one for each object of its extent, in order, in the image that the name had; they lie within the size at its own look |
+//! | `snap create`, `snap rm` done | its one effect is the snapshot taken, or the removal of the one that the flat image had under the name at its own look |
+//! | `ls` | all names of the flat site at its place |
+//! | `info`, `snap ls` | size, role and snapshots of the flat image at the place of its look |
+//! | `read` | in its last pass each piece's bytes are the flat view's at the place where that piece was read; the header at both ends of the pass has one generation |
+//! | any refused | no effect at all, unless it is refused by the fence when a part was done; what refuses it is said of its last answer by `rbd_meaning` |
+//!
+//! # Contracts
+//!
+//! | file | what it says |
+//! |---|---|
+//! | `specs/Places.antt` | the places of a line's operations, the flat site there, and their effects |
+//! | `specs/Home.antt` | that they were done at one site |
+//! | `specs/Changed.antt` | what changes did |
+//! | `specs/Listed.antt` | what listings show |
+//! | `specs/Reads.antt` | what a read shows |
+//! | `specs/Replies.antt` | all of it, by command and reply (`IsReplyOf`) |
+//!
+//! [`laws`] says it of each reply of each run that is right (`IsRight` of `rbd_world`), as that of
+//! every world is: at its own place, whatever comes later.
+//!
+//! # How it works
+//!
+//! `rbd_meaning` says of a reply which operations its line did and what they were answered; the run
+//! says that each answer is that of the records there, and that these stand for the flat site. So
+//! each row above is a law of `rbd_stands` at one place or several. For a read the header is the
+//! same at all places of the pass, since a header that is there stays, its generation never falls,
+//! and what leaves the generation leaves the header, but for its owner.
+#![tactic(auto)]
+
+pub mod laws;
