@@ -7,7 +7,6 @@ pub mod Places
 pub mod PlacesTaken
 pub mod PlacesTold
 pub mod ReadKept
-pub mod ReadLooks
 pub mod ReadNames
 pub mod ReadOrder
 pub mod ReadParents
@@ -16,5 +15,6 @@ pub mod ReadPiece
 pub mod ReadShown
 pub mod RefusalsNothing
 pub mod RepliesOf
+pub mod ShownNothing
 pub mod WritePieces
 pub mod WriteWhole

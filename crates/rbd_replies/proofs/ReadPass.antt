@@ -14,11 +14,12 @@ use Rattle.rbd_replies.specs.Places.{Placed}
 use Rattle.rbd_replies.specs.Reads.{ShowsBytes}
 use Rattle.rbd_replies.proofs.PlacedRight.{ArePlacedRight, right_back, right_front}
 use Rattle.rbd_replies.proofs.Places.{step_at}
-use Rattle.rbd_replies.proofs.ReadLooks.{begin_with, found_there, header_there, records_at}
+use Rattle.rbd_replies.proofs.PlacesTaken.{begin_with, none_taken}
+use Rattle.rbd_replies.proofs.PlacesTold.{found_there, header_there, records_at}
 use Rattle.rbd_replies.proofs.ReadNames.{IsViewOf, shape_of_named}
 use Rattle.rbd_replies.proofs.ReadOrder.{AreOrdered, ordered_back}
 use Rattle.rbd_replies.proofs.ReadParents.{views_alone}
-use Rattle.rbd_replies.proofs.ReadShown.{divide, nothing_left, pieces_shown, there_at, within_size}
+use Rattle.rbd_replies.proofs.ReadShown.{divide, pieces_shown, there_at, within_size}
 use Rattle.rbd_replies.proofs.WriteWhole.{range_fits}
 
 -- the places of a pass, at the end of all
@@ -55,7 +56,7 @@ end_with step steps places are =
     record {
       front = parts.front;
       last = end.place;
-      are = front_then parts.front places parts.back (end.place ∷ []) parts.are (place_then end.place parts.back end.rest [] end.are (nothing_left end.rest end.others));
+      are = front_then parts.front places parts.back (end.place ∷ []) parts.are (place_then end.place parts.back end.rest [] end.are (none_taken end.rest end.others));
       front_are = parts.front_is;
       last_is = end.is;
     }
@@ -120,6 +121,7 @@ module _ (homes : ℕ → SiteId) (home : SiteId) (name : List ℕ) (snap : Opti
         generation = shows.same;
         view = view;
         viewed = shows.pass.viewed;
+        within = range_fits e view.size shows.pass.fits;
         read = bytes_read (pieces_of h.layout e) (map step_at reads);
         pieces =
             pieces_shown homes home image h e view viewed (within_size e view.size (range_fits e view.size shows.pass.fits)) two last two_home last_home last_right shows.closing

@@ -25,7 +25,7 @@ use Rattle.rbd_replies.specs.Places.{Placed, flat_at}
 use Rattle.rbd_replies.specs.Reads.{IsPieceAt}
 use Rattle.rbd_replies.proofs.PlacedRight.{IsPlacedRight}
 use Rattle.rbd_replies.proofs.Places.{step_at}
-use Rattle.rbd_replies.proofs.ReadLooks.{answered_there, records_at}
+use Rattle.rbd_replies.proofs.PlacesTold.{answer_there, records_at}
 use Rattle.rbd_replies.proofs.ReadNames.{IsViewOf}
 
 -- ---- zeros
@@ -63,10 +63,10 @@ module _ (homes : ℕ → SiteId) (home : SiteId) (image : ℕ) (h : HeaderView)
       by : (a : Answer) → p.done.answer ≡ a → IsSome (bytes_shown piece.parts a) → IsPieceAt image view.snap piece (unwrap_or (bytes_shown piece.parts a) []) p
       by (answer.Bytes bytes) answered some =
           let told = bytes_told [] (records_at p) (flat_at p) p.done.instance image piece.object h view.snap viewed.shape piece.parts bytes right.standing.stands is viewed.is lie
-          (answered_there homes p right p.done.site (data_read image view.snap piece) (answer.Bytes bytes) (λ i. record { site = p.done.site; op = op_is i; answer = answered i })) in
+          (answer_there homes p right (record { site = p.done.site; op = data_read image view.snap piece; answer = answer.Bytes bytes }) (λ i. record { site = p.done.site; op = op_is i; answer = answered i })) in
           record { flat = told.flat; is = told.is; same = told.same }
       by answer.Absent answered some =
           let told = absence_told [] (records_at p) (flat_at p) p.done.instance image piece.object h view.snap viewed.shape piece.parts right.standing.stands is viewed.is lie
-          (answered_there homes p right p.done.site (data_read image view.snap piece) answer.Absent (λ i. record { site = p.done.site; op = op_is i; answer = answered i })) in
+          (answer_there homes p right (record { site = p.done.site; op = data_read image view.snap piece; answer = answer.Absent }) (λ i. record { site = p.done.site; op = op_is i; answer = answered i })) in
           record { flat = told.flat; is = told.is; same = zeros_at_parts piece.parts told.flat (λ x there. told.zeros x there (not_covered viewed.shape.parent x viewed.no_parent)) }
       by _ answered some = absurd (false≢true some)

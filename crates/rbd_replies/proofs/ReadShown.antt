@@ -10,7 +10,6 @@ use Rattle.rbd_kinds.specs.declared.header_op.HeaderOp.TheVariants as header
 use Rattle.rbd_kinds.specs.declared.id.Instance.{Instance}
 use Rattle.rbd_kinds.specs.declared.id.SiteId.{SiteId}
 use Rattle.rbd_kinds.specs.declared.layout.Extent.{Extent}
-use Rattle.rbd_kinds.specs.declared.operation.Op.TheVariants as op
 use Rattle.rbd_kinds.specs.Extents.{fits}
 use Rattle.rbd_header.specs.declared.view.View.{View}
 use Rattle.rbd_layout.specs.Pieces.{IsPartsOf}
@@ -26,7 +25,8 @@ use Rattle.rbd_replies.specs.Reads.{ArePiecesAt}
 use Rattle.rbd_replies.proofs.PlacedRight.{ArePlacedRight, IsPlacedRight}
 use Rattle.rbd_replies.proofs.Places.{step_at}
 use Rattle.rbd_replies.proofs.ReadKept.{header_between}
-use Rattle.rbd_replies.proofs.ReadLooks.{answered_there, begin_with, records_at}
+use Rattle.rbd_replies.proofs.PlacesTaken.{begin_with}
+use Rattle.rbd_replies.proofs.PlacesTold.{answer_there, records_at}
 use Rattle.rbd_replies.proofs.ReadNames.{IsViewOf}
 use Rattle.rbd_replies.proofs.ReadOrder.{AreBehind, AreOrdered, behind_last}
 use Rattle.rbd_replies.proofs.ReadPiece.{piece_shown}
@@ -53,10 +53,6 @@ divide (step ∷ some) others places are =
       back_is = more.back_is;
     }
 
-pub nothing_left : (places : List Placed) → map step_at places ≡ [] → places ≡ []
-nothing_left [] are = refl
-nothing_left (p ∷ places) are = cc
-
 -- ---- a look tells the header that is there
 
 got : (me : Instance) (there : Option HeaderView) (h : HeaderView) → header_answer me there header.Get ≡ answer.Header h → there ≡ Some h
@@ -65,7 +61,7 @@ got me (Some other) h answered = cc
 
 pub there_at : (homes : ℕ → SiteId) (p : Placed) (right : IsPlacedRight homes p) (home : SiteId) (image : ℕ) (h : HeaderView) → step_at p ≡ looked_at home image h → (records_at p).headers image ≡ Some h
 there_at homes p right home image h is =
-    got p.done.instance ((records_at p).headers image) h (answered_there homes p right home (op.Header image header.Get) (answer.Header h) is)
+    got p.done.instance ((records_at p).headers image) h (answer_there homes p right (looked_at home image h) is)
 
 -- ---- the pieces lie within the view
 

@@ -24,7 +24,7 @@ use Rattle.rbd_world.specs.Run.{log_of}
 use Rattle.rbd_replies.specs.Places.{Placed, effects_of, with_effect}
 use Rattle.rbd_replies.proofs.PlacedRight.{ArePlacedRight, IsPlacedRight}
 use Rattle.rbd_replies.proofs.Places.{step_at}
-use Rattle.rbd_replies.proofs.ReadLooks.{records_at}
+use Rattle.rbd_replies.proofs.PlacesTold.{records_at}
 
 module _ (homes : ℕ → SiteId) (home : SiteId) (image : ℕ) (own : HeaderView) (from : ℕ) (bytes : List ℕ) where
   abbrev op_of : Piece → Op

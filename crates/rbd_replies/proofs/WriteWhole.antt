@@ -14,7 +14,8 @@ use Rattle.rbd_replies.specs.Changed.{Writes}
 use Rattle.rbd_replies.specs.Places.{Placed}
 use Rattle.rbd_replies.proofs.PlacedRight.{ArePlacedRight}
 use Rattle.rbd_replies.proofs.Places.{step_at}
-use Rattle.rbd_replies.proofs.ReadLooks.{effects_behind, found_there, header_there, looks_only}
+use Rattle.rbd_replies.proofs.PlacesTaken.{silent_first}
+use Rattle.rbd_replies.proofs.PlacesTold.{finding_is_silent, found_there, header_there, looking_is_silent}
 use Rattle.rbd_replies.proofs.WritePieces.{pieces_there}
 
 pub range_fits : (e : Extent) (size : ℕ) → out_of_range e size ≡ None → fits e size ≡ true
@@ -49,8 +50,8 @@ writes_at_places homes home name at bytes (one ∷ two ∷ three ∷ rest) (righ
       };
       within = range_fits (extent_at at bytes) whole.own.size (or_else_none (non_primary whole.own.role) (out_of_range (extent_at at bytes) whole.own.size) whole.may);
       effects =
-          effects_behind one (two ∷ three ∷ rest) (looks_only homes one right (found home name whole.image) is_one refl)
-          ∙ effects_behind two (three ∷ rest) (looks_only homes two also (looked_at home whole.image whole.first) is_two refl)
-          ∙ effects_behind three rest (looks_only homes three third (looked_at home whole.image whole.own) is_three refl)
+          silent_first one (two ∷ three ∷ rest) (finding_is_silent homes one right home name whole.image is_one)
+          ∙ silent_first two (three ∷ rest) (looking_is_silent homes two also home whole.image whole.first is_two)
+          ∙ silent_first three rest (looking_is_silent homes three third home whole.image whole.own is_three)
           ∙ pieces_there homes home whole.image whole.own at bytes (pieces_of whole.own.layout (extent_at at bytes)) rest others pieces;
     }

@@ -1,9 +1,10 @@
 -- What a read shows: piece by piece the flat view's bytes, each at the place where it was read.
-use Rattle.std.specs.Prelude.{◌≡◌, ℕ, List, [], ◌∷◌, ◌++◌, Option, Some}
+use Rattle.std.specs.Prelude.{◌≡◌, ℕ, true, List, [], ◌∷◌, ◌++◌, Option, Some}
 use Rattle.rbd_flat.specs.Flat.{id_of, image_at}
 use Rattle.rbd_flat.specs.Read.{view_at}
 use Rattle.rbd_header.specs.Header.{view_of}
 use Rattle.rbd_header.specs.declared.view.View.{View}
+use Rattle.rbd_kinds.specs.Extents.{fits}
 use Rattle.rbd_kinds.specs.declared.header.HeaderView.{HeaderView}
 use Rattle.rbd_kinds.specs.declared.layout.Extent.{Extent}
 use Rattle.rbd_layout.specs.Pieces.{pieces_of}
@@ -27,7 +28,8 @@ ArePiecesAt image snap _ bytes _ = ⊥
 
 -- However often it began again, its last pass found the image by its name, looked at the header,
 -- which tells the flat image there, read each piece of the extent, and looked again: the header had
--- the generation that it had. The reply's bytes are those of the pieces.
+-- the generation that it had. The extent lies within the view, and the reply's bytes are those of
+-- the pieces.
 pub record ShowsBytes (name : List ℕ) (snap : Option (List ℕ)) (e : Extent) (bytes : List ℕ) (places : List Placed) : Type 0 where
   pub earlier : List Placed
   pub found : Placed
@@ -44,6 +46,7 @@ pub record ShowsBytes (name : List ℕ) (snap : Option (List ℕ)) (e : Extent) 
   pub generation : again.generation ≡ header.generation
   pub view : View
   pub viewed : view_of header snap ≡ Some view
+  pub within : fits e view.size ≡ true
   pub read : List ℕ
   pub pieces : ArePiecesAt image view.snap (pieces_of header.layout e) read reads
   pub shows : bytes ≡ bytes_of_extent header.layout e read

@@ -1,5 +1,5 @@
 -- What a reply says of the flat-copy machine, at its place in the one history.
-use Rattle.std.specs.Prelude.{◌≡◌, List, [], replicate}
+use Rattle.std.specs.Prelude.{◌≡◌, Bool, true, false, List, [], replicate}
 use Rattle.rbd_kinds.specs.declared.command.Command.{Command}
 use Rattle.rbd_kinds.specs.declared.command.Command.TheVariants as command
 use Rattle.rbd_kinds.specs.declared.reply.Reply.{Reply}
@@ -25,3 +25,11 @@ IsReplyOf command.List (reply.Names names) places = ListsNames names places
 IsReplyOf (command.Info image) (reply.Info h) places = ShowsImage image h places
 IsReplyOf (command.SnapList image) (reply.Snaps snaps) places = ShowsSnaps image snaps places
 IsReplyOf c r places = ⊥
+
+-- what only shows
+abbrev pub only_shows : Command → Bool
+only_shows (command.Read image snap at len) = true
+only_shows command.List = true
+only_shows (command.Info image) = true
+only_shows (command.SnapList image) = true
+only_shows _ = false

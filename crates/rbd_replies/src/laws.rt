@@ -1,13 +1,13 @@
 //! What replies say of the flat-copy machine: each law is the contract of a function that does
 //! nothing.
-ghost use Rattle.std.specs.Prelude.{◌≡◌, ℕ, ◌∷◌, List, Some, map};
+ghost use Rattle.std.specs.Prelude.{◌≡◌, ℕ, true, [], ◌∷◌, List, Some, map};
 ghost use Rattle.rbd_kinds.specs.declared.id.SiteId.{SiteId as Site};
 ghost use Rattle.rbd_kinds.specs.declared.reply.Reply.{Reply};
 ghost use Rattle.rbd_world.specs.Run.{Asked, Happening, Operation, Did, Refused, asked_by, step_of, steps_of};
 ghost use Rattle.rbd_world.specs.Sound.{IsRight};
 ghost use Rattle.rbd_replies.specs.Home.{AreDoneAt};
-ghost use Rattle.rbd_replies.specs.Places.{Placed, places_of};
-ghost use Rattle.rbd_replies.specs.Replies.{IsReplyOf};
+ghost use Rattle.rbd_replies.specs.Places.{Placed, effects_of, places_of};
+ghost use Rattle.rbd_replies.specs.Replies.{IsReplyOf, only_shows};
 
 /// The operations of a line stand at their places, in their order.
 pub fn operations_have_places()
@@ -24,6 +24,17 @@ pub fn replies_are_the_flat_machines()
     ensures refused { (homes : ℕ → Site) (run : List Happening) (s : Site) (line : ℕ) (reply : Reply) (asked : Asked)
         → IsRight homes (Refused s line reply ∷ run) → asked_by line run ≡ Some asked
         → IsReplyOf asked.command reply (places_of line (Refused s line reply ∷ run)) }
+{}
+
+/// A command that only shows, as `read`, `ls`, `info` and `snap ls` do, changes nothing of the flat
+/// site, whatever its reply is.
+pub fn what_only_shows_changes_nothing()
+    ensures done { (homes : ℕ → Site) (run : List Happening) (o : Operation) (reply : Reply) (asked : Asked)
+        → IsRight homes (Did o (Some reply) ∷ run) → asked_by o.line run ≡ Some asked → only_shows asked.command ≡ true
+        → effects_of (places_of o.line (Did o (Some reply) ∷ run)) ≡ [] }
+    ensures refused { (homes : ℕ → Site) (run : List Happening) (s : Site) (line : ℕ) (reply : Reply) (asked : Asked)
+        → IsRight homes (Refused s line reply ∷ run) → asked_by line run ≡ Some asked → only_shows asked.command ≡ true
+        → effects_of (places_of line (Refused s line reply ∷ run)) ≡ [] }
 {}
 
 /// The operations of a line that has its reply were done at the home of the session that began it:
