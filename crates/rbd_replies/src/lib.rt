@@ -23,7 +23,8 @@
 //! | `snap create`, `snap rm` done | its one effect is the snapshot taken, or the removal of the one that the flat image had under the name at its own look |
 //! | `ls` | all names of the flat site at its place |
 //! | `info`, `snap ls` | size, role and snapshots of the flat image at the place of its look |
-//! | `read` | in its last pass each piece's bytes are the flat view's at the place where that piece was read; the header at both ends of the pass has one generation |
+//! | `read` | in its last pass each piece's bytes are the flat view's at the place where that piece was read; the extent lies within the view, and the header at both ends of the pass has one generation |
+//! | any to a command that only shows | no effect at all |
 //! | any refused | no effect at all, unless it is refused by the fence when a part was done; what refuses it is said of its last answer by `rbd_meaning` |
 //!
 //! # Contracts
