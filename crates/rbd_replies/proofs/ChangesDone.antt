@@ -82,8 +82,8 @@ free_flat (Some i) h snap tells is =
 module _ (homes : ℕ → SiteId) where
   creates_at : (places : List Placed) → ArePlacedRight homes places → (site : SiteId) (name : List ℕ) (size image : ℕ) (shape : Shape)
       → map step_at places
-          ≡ record { site = site; op = op.Directory (directory.Add name); answer = answer.Id image }
-          ∷ on_header site image (header.Create (new_header (layout_of shape) size)) answer.Done ∷ []
+      ≡ record { site = site; op = op.Directory (directory.Add name); answer = answer.Id image }
+      ∷ on_header site image (header.Create (new_header (layout_of shape) size)) answer.Done ∷ []
       → Creates name size places
   creates_at [] right site name size image shape are = absurd (cc)
   creates_at (p ∷ []) right site name size image shape are = absurd (cc)
@@ -96,8 +96,8 @@ module _ (homes : ℕ → SiteId) where
     effects =
         change_first p (q ∷ places) _ (effect_there homes p here (record { site = site; op = op.Directory (directory.Add name); answer = answer.Id image }) cc)
         ∙ ap (λ rest. effect.Name name image ∷ rest)
-          (change_first q places (effect.Create image size Plain) (effect_there homes q there (on_header site image (header.Create (new_header (layout_of shape) size)) answer.Done) cc)
-          ∙ ap (λ rest. effect.Create image size Plain ∷ effects_of rest) none);
+        (change_first q places (effect.Create image size Plain) (effect_there homes q there (on_header site image (header.Create (new_header (layout_of shape) size)) answer.Done) cc)
+        ∙ ap (λ rest. effect.Create image size Plain ∷ effects_of rest) none);
   }
     where
       none : places ≡ []
@@ -148,9 +148,9 @@ module _ (homes : ℕ → SiteId) where
       → TakesOne site name snap (map step_at places) → TakesSnap name snap places
   snap_create_takes places right site name snap takes =
       let change = changes_at places right site name takes.image takes.first takes.own (header.SnapAdd snap) (answer.Snap takes.taken) (effect.Snap takes.image takes.taken snap) takes.are
-          (λ p here is. effect_there homes p here.0 (on_header site takes.image (header.SnapAdd snap) (answer.Snap takes.taken)) is) in
+      (λ p here is. effect_there homes p here.0 (on_header site takes.image (header.SnapAdd snap) (answer.Snap takes.taken)) is) in
       let there = free_flat (image_at (flat_at change.finds.own) change.finds.image) change.finds.header snap change.finds.tells
-          (ap (λ (h : HeaderView). snap_named h.snaps snap) change.header_is ∙ (may_take snap takes.own takes.may).unlisted) in
+      (ap (λ (h : HeaderView). snap_named h.snaps snap) change.header_is ∙ (may_take snap takes.own takes.may).unlisted) in
       record {
         finds = change.finds;
         flat = there.i;
@@ -164,10 +164,10 @@ module _ (homes : ℕ → SiteId) where
       → RemovesOne site name snap (map step_at places) → RemovesSnap name snap places
   snap_remove_removes places right site name snap removes =
       let change = changes_at places right site name removes.image removes.first removes.own (header.SnapRemove removes.listed.id) answer.Done
-          (effect.Unsnap removes.image removes.listed.id) removes.are
-          (λ p here is. effect_there homes p here.0 (on_header site removes.image (header.SnapRemove removes.listed.id) answer.Done) is) in
+      (effect.Unsnap removes.image removes.listed.id) removes.are
+      (λ p here is. effect_there homes p here.0 (on_header site removes.image (header.SnapRemove removes.listed.id) answer.Done) is) in
       let there = listed_flat (image_at (flat_at change.finds.own) change.finds.image) change.finds.header snap removes.listed change.finds.tells
-          (ap (λ (h : HeaderView). snap_named h.snaps snap) change.header_is ∙ removes.is_listed) in
+      (ap (λ (h : HeaderView). snap_named h.snaps snap) change.header_is ∙ removes.is_listed) in
       record {
         finds = change.finds;
         flat = there.i;

@@ -90,6 +90,10 @@ module _ (homes : ℕ → SiteId) (home : SiteId) (image : ℕ) (h : HeaderView)
       let there : (records_after home p.before).headers image ≡ Some h =
       header_between homes home image last.before p.before first.before (behind_last p last places ordered.0) behind.0 last_right.right right.0.right h new was is generation in
       let here : (records_at p).headers image ≡ Some h = subst (λ s. (records_after s p.before).headers image ≡ Some h) (sym read.0) there in
-      let shown = piece_shown homes home image h view viewed p piece right.0 here (parts_within h e view.size piece.object piece within (All-head (λ (q : Piece). IsPartsOf h.layout e q.object q.parts) piece pieces parts)) read.1 read.2 in
-      (unwrap_or (bytes_shown piece.parts p.done.answer) [], bytes_read pieces (map step_at places), refl, shown,
-      pieces_shown pieces places (All-tail (λ (q : Piece). IsPartsOf h.layout e q.object q.parts) piece pieces parts) right.1 behind.1 ordered.1 read.3)
+      let shown = piece_shown homes home image h view viewed p piece right.0 here (parts_within h e view.size piece.object piece within (All-head (λ (q : Piece). IsPartsOf h.layout e q.object q.parts) piece pieces parts)) read.1 read.2 in (
+        unwrap_or (bytes_shown piece.parts p.done.answer) [],
+        bytes_read pieces (map step_at places),
+        refl,
+        shown,
+        pieces_shown pieces places (All-tail (λ (q : Piece). IsPartsOf h.layout e q.object q.parts) piece pieces parts) right.1 behind.1 ordered.1 read.3,
+      )
