@@ -16,5 +16,6 @@ pub mod ReadShown
 pub mod RefusalsNothing
 pub mod RepliesOf
 pub mod ShownNothing
+pub mod Worlds
 pub mod WritePieces
 pub mod WriteWhole

@@ -4,3 +4,4 @@ pub mod Listed
 pub mod Places
 pub mod Reads
 pub mod Replies
+pub mod Worlds

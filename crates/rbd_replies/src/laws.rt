@@ -1,13 +1,18 @@
 //! What replies say of the flat-copy machine: each law is the contract of a function that does
 //! nothing.
-ghost use Rattle.std.specs.Prelude.{◌≡◌, ℕ, true, [], ◌∷◌, List, Some, map};
+ghost use Rattle.std.specs.Prelude.{◌≡◌, ℕ, true, [], ◌∷◌, ◌++◌, List, All, Some, map};
 ghost use Rattle.rbd_kinds.specs.declared.id.SiteId.{SiteId as Site};
 ghost use Rattle.rbd_kinds.specs.declared.reply.Reply.{Reply};
 ghost use Rattle.rbd_world.specs.Run.{Asked, Happening, Operation, Did, Refused, asked_by, step_of, steps_of};
-ghost use Rattle.rbd_world.specs.Sound.{IsRight};
+ghost use Rattle.rbd_world.specs.Sound.{IsRight, IsSoundWorld};
+ghost use Rattle.rbd_world.specs.World.{WorldView};
+ghost use Rattle.rbd_world.specs.declared.event.Call.{Call};
 ghost use Rattle.rbd_replies.specs.Home.{AreDoneAt};
 ghost use Rattle.rbd_replies.specs.Places.{Placed, effects_of, places_of};
 ghost use Rattle.rbd_replies.specs.Replies.{IsReplyOf, only_shows};
+ghost use Rattle.rbd_replies.specs.Worlds.{AreSteps, BeginsWith, IsToldIn};
+
+use rbd_course::Request;
 
 /// The operations of a line stand at their places, in their order.
 pub fn operations_have_places()
@@ -46,4 +51,17 @@ pub fn replies_are_of_their_home()
     ensures refused { (homes : ℕ → Site) (run : List Happening) (s : Site) (line : ℕ) (reply : Reply) (asked : Asked)
         → IsRight homes (Refused s line reply ∷ run) → asked_by line run ≡ Some asked
         → AreDoneAt (homes asked.session) (places_of line (Refused s line reply ∷ run)) }
+{}
+
+/// Each reply in the history of a world, whatever events came, is the one of its line's command: it
+/// says what the flat-copy machine has at its place in the one history.
+pub fn replies_of_worlds_are_the_flat_machines<R: Request>()
+    ensures { (w : WorldView R) (sound : IsSoundWorld R.stands w) → All (IsToldIn sound.run) w.history }
+{}
+
+/// The calls are the events that came, each with its outcome, one after another; and what the
+/// history has stays as it is.
+pub fn events_are_told_one_by_one<R: Request>()
+    ensures calls { (calls : List Call) (old new : WorldView R) → AreSteps R.stands calls old new → new.calls ≡ old.calls ++ calls }
+    ensures history { (calls : List Call) (old new : WorldView R) → AreSteps R.stands calls old new → BeginsWith old.history new.history }
 {}
