@@ -37,6 +37,7 @@
 //! | `specs/Listed.antt` | what listings show |
 //! | `specs/Reads.antt` | what a read shows |
 //! | `specs/Replies.antt` | all of it, by command and reply (`IsReplyOf`) |
+//! | `specs/Worlds.antt` | so it is with each reply in a world's history; and that worlds go on by events |
 //!
 //! [`laws`] says it of each reply of each run that is right (`IsRight` of `rbd_world`), as that of
 //! every world is: at its own place, whatever comes later.
