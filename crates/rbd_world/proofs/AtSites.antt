@@ -1,5 +1,5 @@
 -- What an operation that is permitted does to both sites: they stand, and what is known stays true.
-use Rattle.std.proofs.Common.{◌≡◌, ◌≢◌, ℕ, cond, Bool, true, false, [], ◌∷◌, length, Option, Some, None, refl, sym, ap, ◌∙◌, subst}
+use Rattle.std.proofs.Common.{◌≡◌, ℕ, cond, Bool, true, false, [], ◌∷◌, length, Option, Some, None, refl, sym, ap, ◌∙◌, subst}
 use Rattle.std.proofs.lemmas.Bool.{true≢false}
 use Rattle.rbd_flat.specs.Flat.{Flat}
 use Rattle.rbd_kinds.specs.declared.answer.Answer.{Answer}

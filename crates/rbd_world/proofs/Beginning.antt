@@ -16,6 +16,7 @@ use Rattle.rbd_site.specs.Records.{Records, no_records}
 use Rattle.rbd_stands.proofs.Nothing.{nothing_stands}
 use Rattle.rbd_world.specs.Sound.{IsHeldRightly, IsNewClient, IsNewWorld, IsSoundClient, IsSoundWorld, held_of, line_at}
 use Rattle.rbd_world.specs.World.{WorldView, session_in}
+use Rattle.rbd_world.proofs.OrderedWorld.{none_in_order}
 
 -- ---- who knows nothing
 
@@ -71,6 +72,9 @@ module _ {R : Type 0} (stands : R → Standing) where
     clients = λ session c is. new_client session (home_of (session_in session w.sessions)) c (sym (ap home_of is)) (new.clients session c is);
     nobody = λ session none slot. refl;
     apart = λ line session slot other there is also. absurd (no_some line (sym (no_line w session slot new) ∙ is));
+    slots = λ line begun. absurd (no_some begun.asked begun.is);
     truth = λ session slot s. nothing_is_true s _;
     beside = λ session slot other there differ s. nothing_is_beside s nothing_known;
+    order = tt;
+    in_order = λ session c is. none_in_order stands (home_of (session_in session w.sessions)) session [] c (λ x. ap running_in ((new.clients session c is).slots x));
   }

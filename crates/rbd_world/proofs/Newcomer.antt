@@ -1,6 +1,6 @@
 -- A session begins a command whose line is new: its request stands where the command's plan begins.
-use Rattle.std.proofs.Common.{◌≡◌, ◌≢◌, ◌⊎◌, inl, inr, ℕ, cond, true, false, is_some, [], ◌∷◌, ◌++◌, Option, Some, None, refl, sym, ap, ◌∙◌, subst}
-use Rattle.std.proofs.lemmas.Bool.{true≢false, eq-eqb}
+use Rattle.std.proofs.Common.{◌≡◌, ◌≢◌, ◌⊎◌, inl, inr, ℕ, ◌==◌, Bool, cond, true, false, is_some, [], ◌∷◌, ◌++◌, Option, Some, None, refl, sym, ap, ◌∙◌, subst}
+use Rattle.std.proofs.lemmas.Bool.{true≢false, eq-eqb, eqb-true}
 use Rattle.rbd_kinds.specs.declared.command.Command.{Command}
 use Rattle.rbd_kinds.specs.declared.id.SiteId.{SiteId}
 use Rattle.rbd_known.specs.Calm.{OwnsNothing}
@@ -21,14 +21,18 @@ use Rattle.rbd_session.specs.Lines.{LinesView}
 use Rattle.rbd_session.specs.Session.{SessionView, IsNewcomer, held_in, running_in, script_line}
 use Rattle.rbd_session.proofs.Sound.{no_some, some_same}
 use Rattle.rbd_world.specs.declared.event.Event.TheVariants as event
+use Rattle.rbd_world.specs.Order.{IsInOrder}
 use Rattle.rbd_world.specs.Run.{Asked, Happening, Began, asked_by, steps_of}
-use Rattle.rbd_world.specs.Sound.{AreApart, IsHeldRightly, IsSoundWorld, has_reply, line_at}
+use Rattle.rbd_world.specs.Sound.{AreApart, IsHeldRightly, IsInSlot, IsOpen, IsSoundWorld, has_reply, line_at}
 use Rattle.rbd_world.specs.Step.{Begins, Does, DoesAtSites, IsSoundIf, is_begun}
 use Rattle.rbd_world.specs.World.{WorldView, session_in}
 use Rattle.rbd_world.proofs.Carried.{Carries}
 use Rattle.rbd_world.proofs.Changed.{IsElsewhere, all_but, client_of, clients_of, has_become, here_or_elsewhere, line_elsewhere, line_in_new, nobody_of, open_there}
+use Rattle.rbd_world.proofs.OneMoreWrite.{begun_order}
+use Rattle.rbd_world.proofs.OrderedWorld.{freed_order, order_beside, orders_of}
 use Rattle.rbd_world.proofs.Quiet.{lines_differ, quiet_began}
 use Rattle.rbd_world.proofs.Rest.{where_standing}
+use Rattle.rbd_world.proofs.Slots.{in_this_slot, open_back, other_slots}
 use Rattle.rbd_world.proofs.Runs.{IsUnheard, begun_is_asked, unheard}
 
 none_of : {T : Type 0} (o : Option T) → is_some o ≡ false → o ≡ None
@@ -151,6 +155,29 @@ module _ {R : Type 0} (stands : R → Standing) (old new : WorldView R) (w : IsS
         by (inr where_else) (inl at) = absurd (differs m x l (elsewhere m x where_else one) (here o y at two))
         by (inr this) (inr that) = w.apart l m x o y (elsewhere m x this one) (elsewhere o y that two)
 
+    line_now : (o : Option (Occupant R)) → IsNew o → script_line o ≡ Some line
+    line_now None is = absurd is
+    line_now (Some (occupant.Refused number refusal)) is = ap Some is.0
+    line_now (Some (occupant.Running r)) is = ap Some is.is_line
+
+    slots_then : (l : ℕ) → IsOpen l (does_begin ∷ w.run) → (b : Bool) → (line == l) ≡ b → IsInSlot l new.sessions
+    slots_then l now true own =
+        in_this_slot stands old new w does_begin session c.lowest c d there after others begins.slots l
+        (line_now (held_in c.lowest d.slots) is_new ∙ ap Some (eqb-true line l own))
+    slots_then l now false other =
+        other_slots stands old new w does_begin session c.lowest c d there after others begins.slots l
+        (λ is. no_some l (sym (ap script_line (w.clients session c there).sound.lowest.free) ∙ is))
+        (open_back l does_begin w.run (quiet_began l is_asked c.instance c.lowest other) now)
+
+    order_then : (o : Option (Occupant R)) → held_in c.lowest d.slots ≡ o → IsNew o → IsInOrder stands home session (does_begin ∷ w.run) c → IsInOrder stands home session (does_begin ∷ w.run) d
+    order_then None at is keeps = absurd is
+    order_then (Some (occupant.Refused number refusal)) at is keeps =
+        freed_order stands home session (does_begin ∷ w.run) c.lowest c d begins.slots begins.lines (ap running_in at) keeps
+    order_then (Some (occupant.Running r)) at is keeps =
+        let client = w.clients session c there in
+        begun_order stands home session c.lowest line command (does_begin ∷ w.run) c d r client.sound (ap running_in client.sound.lowest.free) (ap running_in at) is
+        begins.slots begins.lines no_steps is_asked asked_now refl keeps
+
     begun_carries : DoesAtSites does_begin old.sites new.sites → ((m : ℕ) → IsSoundIf stands (session_in m new.sessions)) → Carries stands old new w does_begin w.knows
     begun_carries at_sites sound =
         let quiet = λ (m x other : ℕ) (where_else : IsElsewhere session c.lowest m x) (is : line_at m x old.sessions ≡ Some other). quiet_began other is_asked c.instance c.lowest (lines_differ line other (differs m x other is)) in
@@ -168,8 +195,14 @@ module _ {R : Type 0} (stands : R → Standing) (old new : WorldView R) (w : IsS
           clients = clients_of stands old new w does_begin session c.lowest c d there after others begins.slots w.knows (λ m differ. refl) quiet own;
           nobody = nobody_of stands old new w does_begin session c.lowest c d there after others begins.slots w.knows (λ m differ. refl);
           apart = begun_apart;
+          slots = λ l now. slots_then l now (line == l) refl;
           truth = λ m x s. subst (λ r. IsTrueAt s r (w.knows m x)) (sym (at_sites.records s)) (w.truth m x s);
           beside = w.beside;
+          turn = tt;
+          in_order =
+              orders_of stands old new w does_begin unasked session c.lowest c there quiet d after others (λ m differ other writer. refl)
+              (order_then (held_in c.lowest d.slots) refl is_new
+              (order_beside stands old new w does_begin unasked session c.lowest c there quiet (ap running_in (w.clients session c there).sound.lowest.free) (λ other writer. refl)));
         }
 
   pub began_keeps : Does stands (event.Submit session line command) does_begin old new → DoesAtSites does_begin old.sites new.sites

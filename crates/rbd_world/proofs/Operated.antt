@@ -1,6 +1,6 @@
 -- A poll that has one operation done keeps a world sound.
-use Rattle.std.proofs.Common.{◌≡◌, ◌≢◌, ◌⊎◌, inl, inr, ℕ, ◌==◌, cond, false, ◌∷◌, length, ◌+◌, Option, Some, refl, sym, ap, ◌∙◌, subst}
-use Rattle.std.proofs.lemmas.Bool.{eq-eqb}
+use Rattle.std.proofs.Common.{◌≡◌, ◌≢◌, ◌⊎◌, inl, inr, ℕ, ◌==◌, Bool, cond, true, false, [], ◌∷◌, length, ◌+◌, Option, Some, None, refl, sym, ap, ◌∙◌, subst}
+use Rattle.std.proofs.lemmas.Bool.{true≢false, eq-eqb, eqb-true}
 use Rattle.rbd_kinds.specs.declared.answer.Answer.{Answer}
 use Rattle.rbd_kinds.specs.declared.id.SiteId.{SiteId}
 use Rattle.rbd_kinds.specs.declared.machine.Fed.TheVariants as fed
@@ -28,8 +28,9 @@ use Rattle.rbd_site.specs.Records.{Records}
 use Rattle.rbd_site.specs.Step.{answer_to}
 use Rattle.rbd_stands.specs.Effect.{effect_of}
 use Rattle.rbd_world.specs.declared.event.Event.TheVariants as event
-use Rattle.rbd_world.specs.Run.{Asked, Happening, Did, Operation, asked_by}
-use Rattle.rbd_world.specs.Sound.{IsDone, IsHeldRightly, IsSoundClient, IsSoundWorld, IsUnderWay, first_life, line_at}
+use Rattle.rbd_world.specs.Order.{IsInOrder, IsWriterOf}
+use Rattle.rbd_world.specs.Run.{Asked, Happening, Did, Operation, asked_by, replies_to, step_of, steps_in}
+use Rattle.rbd_world.specs.Sound.{IsDone, IsDue, IsHeldRightly, IsInSlot, IsOpen, IsSoundClient, IsSoundWorld, IsUnderWay, first_life, held_of, line_at}
 use Rattle.rbd_world.specs.Step.{AreOfOneClient, Does, DoesAtSites, Goes, IsSoundIf, next_number, operation_at, reply_at}
 use Rattle.rbd_world.specs.World.{WorldView, records_in, session_in, site_in}
 use Rattle.rbd_world.proofs.Answered.{answer_due, answer_held, answer_line}
@@ -37,7 +38,11 @@ use Rattle.rbd_world.proofs.AtSites.{beside_mutual, can_give, others_true, own_b
 use Rattle.rbd_world.proofs.Carried.{Carries}
 use Rattle.rbd_world.proofs.Changed.{IsElsewhere, apart_of, client_of, clients_of, has_become, here_or_elsewhere, line_apart, nobody_of, same_or_other}
 use Rattle.rbd_world.proofs.Clients.{looks_beside}
+use Rattle.rbd_world.proofs.InOrder.{came, line_stays}
+use Rattle.rbd_world.proofs.Ordered.{did_order, in_turn}
+use Rattle.rbd_world.proofs.OrderedWorld.{orders_of, running_line}
 use Rattle.rbd_world.proofs.Quiet.{IsQuiet, lines_differ, quiet_did}
+use Rattle.rbd_world.proofs.Slots.{in_this_slot, not_open, open_back, other_slots}
 
 module _ {R : Type 0} (stands : R → Standing) (old new : WorldView R) (w : IsSoundWorld stands old) (session slot : ℕ) (c : SessionView R) (there : session_in session old.sessions ≡ Some c)
     (r : Running R) (holds : held_in slot c.slots ≡ Some (occupant.Running r)) (goes : waits slot (track_of r c.lines) ≡ false)
@@ -185,10 +190,49 @@ module _ {R : Type 0} (stands : R → Standing) (old new : WorldView R) (w : IsS
           (answer_held stands w.homes session slot w.run know r way s why o next asks a can c.instance (next_number (site_in s old.sites))
           (effect_of (records_in s old.sites) (done.Op o) a) result c.lines d.lines (held_in slot d.slots) comes)))
 
+      due_now : IsDue w.homes does_it w.run
+      due_now =
+          answer_due stands w.homes session slot w.run know r way s why o next asks a can c.instance (next_number (site_in s old.sites))
+          (effect_of (records_in s old.sites) (done.Op o) a) is_done
+
+      mine : IsSoundClient stands (w.homes session) session w.run (w.knows session) c
+      mine = w.clients session c there
+
+      in_order_there : IsInOrder stands (w.homes session) session w.run c
+      in_order_there = w.in_order session c there
+
+      is_mine : (asked : Asked) → asked_by r.line w.run ≡ Some asked → asked.session ≡ session
+      is_mine asked is = sym (ap (λ (x : Asked). x.session) (some_same way.begun.asked asked (sym way.begun.is ∙ is))) ∙ way.mine
+
+      lines_apart : (x : ℕ) (q : Running R) → x ≢ slot → running_at x c ≡ Some q → (r.line == q.line) ≡ false
+      lines_apart x q differ is =
+          line_apart stands old new w does_it session slot c d there after others became.slots r.line (ap script_line holds) session x q.line (inr differ)
+          (ap (λ v. script_line (held_of x v)) there ∙ running_line stands (held_in x c.slots) q is)
+
+      -- no other session's write has a step
+      foreign : (m : ℕ) → m ≢ session → (other : ℕ) → IsWriterOf m other (does_it ∷ w.run) → steps_in other does_it ≡ []
+      foreign m differ other writer =
+          ap (λ b. cond b (step_of operation ∷ []) [])
+          (lines_differ r.line other (λ same. differ (sym writer.mine ∙ is_mine writer.asked (ap (λ l. asked_by l w.run) same ∙ writer.is))))
+
+      -- its line stays in its slot, unless it has its reply
+      slots_then : (l : ℕ) → IsOpen l (does_it ∷ w.run) → (b : Bool) → (r.line == l) ≡ b → IsInSlot l new.sessions
+      slots_then l now true own =
+          in_this_slot stands old new w does_it session slot c d there after others became.slots l
+          (line_stays stands slot c.lines (fed.Answer a) result r (held_in slot d.slots) d.lines comes (unreplied result refl) ∙ ap Some (eqb-true r.line l own))
+        where
+          unreplied : (x : Option Reply) → result ≡ x → result ≡ None
+          unreplied None is = is
+          unreplied (Some reply) is = absurd (not_open l does_it w.run (ap (λ x. replies_to l (Did operation x)) is ∙ own) now)
+      slots_then l now false other =
+          other_slots stands old new w does_it session slot c d there after others became.slots l
+          (λ is. true≢false (sym (eq-eqb r.line l (some_same r.line l (sym (ap script_line holds) ∙ is))) ∙ other))
+          (open_back l does_it w.run (quiet_did l operation result other) now)
+
       goes_carries : ((m : ℕ) → IsSoundIf stands (session_in m new.sessions)) → Carries stands old new w does_it knows_then
       goes_carries sound = record {
         standing = stands_then stands old new w session slot r.line c.instance s o result permits at_sites;
-        due = answer_due stands w.homes session slot w.run know r way s why o next asks a can c.instance (next_number (site_in s old.sites)) (effect_of (records_in s old.sites) (done.Op o) a) is_done;
+        due = due_now;
         parentless = parentless_then stands old new w session slot r.line c.instance s o result permits at_sites;
         clients = clients_of stands old new w does_it session slot c d there after others became.slots knows_then in_others quiet (own sound);
         nobody = nobody_of stands old new w does_it session slot c d there after others became.slots knows_then in_others;
@@ -197,8 +241,15 @@ module _ {R : Type 0} (stands : R → Standing) (old new : WorldView R) (w : IsS
             (λ line is. ap script_line holds ∙ ap Some
             (answer_line stands w.homes session slot w.run know r way s why o next asks a can c.instance (next_number (site_in s old.sites))
             (effect_of (records_in s old.sites) (done.Op o) a) result c.lines d.lines (held_in slot d.slots) comes line is));
+        slots = λ l now. slots_then l now (r.line == l) refl;
         truth = true_then;
         beside = beside_then;
+        turn = in_turn stands w.homes (w.homes session) session slot w.run c d r runs mine.sound goes s why o next asks a result c.instance (next_number (site_in s old.sites)) (effect_of (records_in s old.sites) (done.Op o) a) w.order in_order_there is_mine;
+        in_order =
+            orders_of stands old new w does_it due_now session slot c there quiet d after others foreign
+            (did_order stands w.homes (w.homes session) session slot w.run c d r runs mine.sound goes s why o next asks a result c.instance (next_number (site_in s old.sites))
+            (effect_of (records_in s old.sites) (done.Op o) a) w.order in_order_there became.others became.slots lines_apart due_now w.right
+            (came stands slot c d r s why o next a result asks (held_in slot d.slots) refl comes));
       }
 
     pub did_keeps : Does stands (event.Poll session slot) does_it old new → ((m : ℕ) → IsSoundIf stands (session_in m new.sessions)) → Carries stands old new w does_it knows_then

@@ -1,11 +1,10 @@
 -- What an event does to the sites, the sessions and the table of lines, for each kind of event.
-use Rattle.std.proofs.Common.{◌≡◌, ℕ, ◌||◌, Bool, true, false, cond, List, [], ◌∷◌, is_some, Option, Some, None, OnErr, OnOk, Result, Ok, Err, refl, sym, ap, ◌∙◌, subst}
+use Rattle.std.proofs.Common.{◌≡◌, ℕ, ◌||◌, Bool, true, false, cond, List, is_some, Option, Some, None, OnErr, OnOk, Result, Ok, Err, refl, sym, ap, ◌∙◌, subst}
 use Rattle.std.specs.Prelude.{nat_lt}
 use Rattle.std.proofs.lemmas.Bool.{true≢false}
 use Rattle.rbd_kinds.specs.declared.command.Command.{Command}
 use Rattle.rbd_kinds.specs.declared.id.Instance.{Instance}
 use Rattle.rbd_kinds.specs.declared.id.SiteId.{SiteId}
-use Rattle.rbd_kinds.specs.declared.answer.Answer.{Answer}
 use Rattle.rbd_kinds.specs.declared.reply.Reply.{Reply}
 use Rattle.rbd_machine.specs.Label.{Label}
 use Rattle.rbd_machine.specs.Path.{at_operation}
@@ -15,11 +14,10 @@ use Rattle.rbd_session.specs.declared.running.Occupant.TheVariants as occupant
 use Rattle.rbd_session.specs.Advance.{track_of}
 use Rattle.rbd_session.specs.Session.{SessionView, held_in}
 use Rattle.rbd_session.specs.Waits.{waits}
-use Rattle.rbd_world.specs.declared.event.Event.{Event}
 use Rattle.rbd_world.specs.declared.event.Event.TheVariants as event
 use Rattle.rbd_world.specs.declared.sites.Sites.{Sites}
 use Rattle.rbd_world.specs.Begun.{LinesBegun, has_line}
-use Rattle.rbd_world.specs.Run.{Asked, Happening, Nothing, Waited, Began, Did, Refused, Trimmed, Operation, entries_of, reply_entries}
+use Rattle.rbd_world.specs.Run.{Asked, Happening, Nothing, Waited, Began, Trimmed, Operation, entries_of, reply_entries}
 use Rattle.rbd_world.specs.Step.{AreSameSites, DoesAtSites, DoesToParts, DoesToSessions, LeavesParts, LeavesSessions, begun_behind, done_by, happens, is_begun, next_number, operation_at, polled, polled_in, reply_at, submitted, trimmed_at}
 use Rattle.rbd_world.specs.World.{records_in, session_in, site_in}
 use Rattle.rbd_world.proofs.BothSites.{IsNothingAt, both_sites, left_at}

@@ -1,5 +1,6 @@
 -- A poll of a request that is refused before any operation: its reply is meant, and its slot free.
-use Rattle.std.proofs.Common.{◌≡◌, ℕ, [], ◌∷◌, ◌++◌, Some, refl, sym, ap, ◌∙◌, subst}
+use Rattle.std.proofs.Common.{◌≡◌, ◌≢◌, ℕ, ◌==◌, Bool, true, false, [], ◌∷◌, ◌++◌, Some, refl, sym, ap, ◌∙◌, subst}
+use Rattle.std.proofs.lemmas.Bool.{true≢false, eq-eqb}
 use Rattle.rbd_kinds.specs.declared.refusal.Refusal.{Refusal}
 use Rattle.rbd_kinds.specs.declared.reply.Reply.TheVariants as reply
 use Rattle.rbd_known.specs.Knowing.{KnowsIn}
@@ -10,15 +11,17 @@ use Rattle.rbd_rely.specs.Truth.{IsTrueAt, IsParentless}
 use Rattle.rbd_requests.specs.CommandsMeant.{command_is_meant}
 use Rattle.rbd_session.specs.declared.running.Occupant.TheVariants as occupant
 use Rattle.rbd_session.specs.Session.{SessionView, held_in, running_in, script_line}
-use Rattle.rbd_session.proofs.Sound.{no_some}
+use Rattle.rbd_session.proofs.Sound.{no_some, some_same}
 use Rattle.rbd_world.specs.declared.event.Event.TheVariants as event
 use Rattle.rbd_world.specs.Run.{Happening, Refused, steps_of}
-use Rattle.rbd_world.specs.Sound.{IsHeldRightly, IsLedTo, IsRefusedAtOnce, IsReplyMeant, IsSoundWorld, line_at}
-use Rattle.rbd_world.specs.Step.{Does, DoesAtSites, IsSoundIf, Serves}
+use Rattle.rbd_world.specs.Sound.{IsHeldRightly, IsInSlot, IsLedTo, IsOpen, IsRefusedAtOnce, IsReplyMeant, IsSoundWorld, line_at}
+use Rattle.rbd_world.specs.Step.{AreSlotsBut, Does, DoesAtSites, IsSoundIf, Serves}
 use Rattle.rbd_world.specs.World.{WorldView, session_in}
 use Rattle.rbd_world.proofs.Carried.{Carries}
 use Rattle.rbd_world.proofs.Changed.{HasBecome, IsElsewhere, all_but, apart_of, client_of, clients_of, has_become, line_apart, nobody_of}
+use Rattle.rbd_world.proofs.OrderedWorld.{freed_order, order_beside, orders_of}
 use Rattle.rbd_world.proofs.Quiet.{quiet_refused}
+use Rattle.rbd_world.proofs.Slots.{not_open, open_back, other_slots}
 use Rattle.rbd_world.proofs.Rest.{where_standing}
 
 module _ {R : Type 0} (stands : R → Standing) (old new : WorldView R) (w : IsSoundWorld stands old) (session slot : ℕ) (c : SessionView R) (there : session_in session old.sessions ≡ Some c)
@@ -49,6 +52,14 @@ module _ {R : Type 0} (stands : R → Standing) (old new : WorldView R) (w : IsS
       → ((m : ℕ) → IsSoundIf stands (session_in m new.sessions)) → Carries stands old new w does_refuse w.knows
   refused_keeps does at_sites sound = by (has_become stands (event.Poll session slot) does_refuse old new session c there (λ m. refl) does)
     where
+      slots_then : (d : SessionView R) → session_in session new.sessions ≡ Some d → ((m : ℕ) → m ≢ session → session_in m new.sessions ≡ session_in m old.sessions) → AreSlotsBut slot c d
+          → (l : ℕ) → IsOpen l (does_refuse ∷ w.run) → (b : Bool) → (line == l) ≡ b → IsInSlot l new.sessions
+      slots_then d after others slots l begun true own = absurd (not_open l does_refuse w.run own begun)
+      slots_then d after others slots l begun false other =
+          other_slots stands old new w does_refuse session slot c d there after others slots l
+          (λ is. true≢false (sym (eq-eqb line l (some_same line l (sym (ap script_line holds) ∙ is))) ∙ other))
+          (open_back l does_refuse w.run (quiet_refused l c.home line (reply.Refused refusal) other) begun)
+
       by : HasBecome stands (event.Poll session slot) does_refuse old new session c → Carries stands old new w does_refuse w.knows
       by become =
           let d : SessionView R = become.after in
@@ -72,6 +83,12 @@ module _ {R : Type 0} (stands : R → Standing) (old new : WorldView R) (w : IsS
             apart =
                 apart_of stands old new w does_refuse session slot c d there become.there become.others serves.slots
                 (λ l is. absurd (no_some l (sym (ap script_line serves.held) ∙ is)));
+            slots = λ l begun. slots_then d become.there become.others serves.slots l begun (line == l) refl;
             truth = λ m x s. subst (λ r. IsTrueAt s r (w.knows m x)) (sym (at_sites.records s)) (w.truth m x s);
             beside = w.beside;
+            turn = tt;
+            in_order =
+                orders_of stands old new w does_refuse refusal_meant session slot c there quiet d become.there become.others (λ m differ other writer. refl)
+                (freed_order stands (w.homes session) session (does_refuse ∷ w.run) slot c d serves.slots serves.lines (ap running_in serves.held)
+                (order_beside stands old new w does_refuse refusal_meant session slot c there quiet (ap running_in holds) (λ other writer. refl)));
           }

@@ -11,12 +11,15 @@ use Rattle.rbd_site.specs.Records.{Records}
 use Rattle.rbd_stands.specs.Site.{StandsFor}
 use Rattle.rbd_stands.proofs.StoreSteps.{trim_stands}
 use Rattle.rbd_world.specs.declared.event.Event.{Event}
+use Rattle.rbd_world.specs.Order.{IsInTurn}
 use Rattle.rbd_world.specs.Run.{Happening, Nothing, Waited, Trimmed, records_after, flat_after}
 use Rattle.rbd_world.specs.Sound.{IsDue, IsRight, IsSoundWorld, IsTrimmed, held_of, line_at}
 use Rattle.rbd_world.specs.Step.{Becomes, BecomesOf, Does, DoesAtSites, names_session, next_number}
 use Rattle.rbd_world.specs.World.{WorldView, records_in, session_in, site_in}
 use Rattle.rbd_world.proofs.Carried.{Carries, StandFlat}
+use Rattle.rbd_world.proofs.OrderedWorld.{order_on}
 use Rattle.rbd_world.proofs.Quiet.{IsQuiet, client_on, quiet_nothing, quiet_waited, quiet_trimmed}
+use Rattle.rbd_world.proofs.Slots.{open_back, same_slots}
 
 -- the sites stand for their flat sites behind each run that is right
 pub where_standing : (homes : ℕ → SiteId) (run : List Happening) → IsRight homes run → StandFlat run
@@ -45,10 +48,10 @@ module _ {R : Type 0} (stands : R → Standing) where
         by true is = same_of e h (session_in session old.sessions) (session_in session new.sessions) leaves (does.named session is)
         by false is = does.others session is
 
-    rested : (h : Happening) → ((line : ℕ) → IsQuiet line h) → AreSame → StandFlat (h ∷ w.run) → IsDue w.homes h w.run
+    rested : (h : Happening) → ((line : ℕ) → IsQuiet line h) → AreSame → StandFlat (h ∷ w.run) → IsDue w.homes h w.run → IsInTurn h w.run
         → ((s : SiteId) → IsParentless (records_in s new.sites)) → ((session slot : ℕ) (s : SiteId) → IsTrueAt s (records_in s new.sites) (w.knows session slot))
         → Carries stands old new w h w.knows
-    rested h quiet same standing due parentless truth = record {
+    rested h quiet same standing due turn parentless truth = record {
       standing = standing;
       due = due;
       parentless = parentless;
@@ -56,8 +59,12 @@ module _ {R : Type 0} (stands : R → Standing) where
           client_on stands (w.homes session) session h w.run (w.knows session) c (λ slot line is. quiet line) (w.clients session c (sym (same session) ∙ there));
       nobody = λ session none slot. w.nobody session (sym (same session) ∙ none) slot;
       apart = λ line session slot other there one two. w.apart line session slot other there (sym (line_same session slot) ∙ one) (sym (line_same other there) ∙ two);
+      slots = λ line begun. same_slots old.sessions new.sessions line_same line (w.slots line (open_back line h w.run (quiet line) begun));
       truth = truth;
       beside = w.beside;
+      turn = turn;
+      in_order = λ session c there.
+          order_on stands old new w h due session c (sym (same session) ∙ there) (λ slot line is. quiet line) (λ other writer. (quiet other).steps);
     }
       where
         line_same : (session slot : ℕ) → line_at session slot new.sessions ≡ line_at session slot old.sessions
@@ -65,13 +72,13 @@ module _ {R : Type 0} (stands : R → Standing) where
 
     pub nothing_keeps : (e : Event) → Leaves e Nothing → Does stands e Nothing old new → DoesAtSites Nothing old.sites new.sites → Carries stands old new w Nothing w.knows
     nothing_keeps e leaves does at_sites =
-        rested Nothing quiet_nothing (sessions_stay e Nothing leaves does) (where_standing w.homes w.run w.right) tt
+        rested Nothing quiet_nothing (sessions_stay e Nothing leaves does) (where_standing w.homes w.run w.right) tt tt
         (λ s. subst IsParentless (sym (at_sites.records s)) (w.parentless s))
         (λ session slot s. subst (λ r. IsTrueAt s r (w.knows session slot)) (sym (at_sites.records s)) (w.truth session slot s))
 
     pub waited_keeps : (e : Event) → Leaves e Waited → Does stands e Waited old new → DoesAtSites Waited old.sites new.sites → Carries stands old new w Waited w.knows
     waited_keeps e leaves does at_sites =
-        rested Waited quiet_waited (sessions_stay e Waited leaves does) (where_standing w.homes w.run w.right) tt
+        rested Waited quiet_waited (sessions_stay e Waited leaves does) (where_standing w.homes w.run w.right) tt tt
         (λ s. subst IsParentless (sym (at_sites.records s)) (w.parentless s))
         (λ session slot s. subst (λ r. IsTrueAt s r (w.knows session slot)) (sym (at_sites.records s)) (w.truth session slot s))
 
@@ -87,7 +94,7 @@ module _ {R : Type 0} (stands : R → Standing) where
         → DoesAtSites (Trimmed site number image object) old.sites new.sites → Carries stands old new w (Trimmed site number image object) w.knows
     trimmed_keeps e site number image object due leaves does at_sites =
         rested (Trimmed site number image object) (λ line. quiet_trimmed line site number image object) (sessions_stay e (Trimmed site number image object) leaves does)
-        (λ s. stands_there s (same_site site s) (where_standing w.homes w.run w.right s)) due
+        (λ s. stands_there s (same_site site s) (where_standing w.homes w.run w.right s)) due tt
         (λ s. subst IsParentless (sym (at_sites.records s)) (parentless_there s (same_site site s)))
         (λ session slot s. subst (λ r. IsTrueAt s r (w.knows session slot)) (sym (at_sites.records s)) (true_there session slot s (same_site site s)))
       where

@@ -1,16 +1,13 @@
 -- What a run tells of a line, one happening after another.
-use Rattle.std.proofs.Common.{◌≡◌, ◌≢◌, ℕ, ◌==◌, ◌||◌, cond, Bool, true, false, List, [], ◌∷◌, ◌++◌, is_some, Option, Some, None, refl, sym, ap, ◌∙◌, subst}
+use Rattle.std.proofs.Common.{◌≡◌, ℕ, ◌==◌, ◌||◌, cond, Bool, true, false, List, [], ◌∷◌, ◌++◌, is_some, Option, Some, None, refl, sym, ap, ◌∙◌}
 use Rattle.std.specs.List.{list_any}
-use Rattle.std.proofs.lemmas.Bool.{true≢false, eq-eqb, eqb-true}
+use Rattle.std.proofs.lemmas.Bool.{eqb-true}
 use Rattle.std.proofs.lemmas.Option.{none-some}
 use Rattle.rbd_flat.specs.declared.effect.Effect.{Effect}
-use Rattle.rbd_flat.specs.declared.entry.Entry.{Entry}
-use Rattle.rbd_kinds.specs.declared.id.Instance.{Instance}
 use Rattle.rbd_kinds.specs.declared.id.SiteId.{SiteId}
 use Rattle.rbd_kinds.specs.declared.reply.Reply.{Reply}
-use Rattle.rbd_machine.specs.Path.{Answered}
-use Rattle.rbd_world.specs.Run.{Asked, Happening, Nothing, Waited, Began, Did, Refused, Trimmed, Operation, asked_by, entries_of, entry_by, entry_of, history_of, or_asked, replies_to, reply_entries, step_of, steps_in, steps_of}
-use Rattle.rbd_world.specs.Sound.{IsDue, IsOpen, IsReplyMeant, IsRight, has_reply}
+use Rattle.rbd_world.specs.Run.{Asked, Happening, Nothing, Waited, Began, Did, Refused, Trimmed, asked_by, entries_of, entry_by, history_of, or_asked, replies_to, reply_entries, step_of, steps_in, steps_of}
+use Rattle.rbd_world.specs.Sound.{IsDue, IsOpen, IsRight, has_reply}
 use Rattle.rbd_world.specs.Step.{is_begun, is_start_of}
 
 -- ---- lines that were begun

@@ -1,5 +1,5 @@
 -- A command that begins, as the session tells it and as the world does.
-use Rattle.std.proofs.Common.{◌≡◌, ◌≢◌, ◌||◌, ℕ, Bool, true, false, cond, Option, Some, None, refl, sym, ap, ◌∙◌, subst}
+use Rattle.std.proofs.Common.{◌≡◌, ◌||◌, ℕ, Bool, false, cond, Option, Some, None, sym, ap, ◌∙◌, subst}
 use Rattle.std.specs.Prelude.{nat_lt}
 use Rattle.rbd_kinds.specs.declared.command.Command.{Command}
 use Rattle.rbd_kinds.specs.declared.id.SiteId.{SiteId}
@@ -13,8 +13,8 @@ use Rattle.rbd_session.specs.declared.running.Occupant.{Occupant}
 use Rattle.rbd_session.specs.declared.running.Occupant.TheVariants as occupant
 use Rattle.rbd_session.specs.Session.{IsNewcomer, SessionView, held_in}
 use Rattle.rbd_world.specs.declared.event.Event.TheVariants as event
-use Rattle.rbd_world.specs.Run.{Asked, Nothing, Began}
-use Rattle.rbd_world.specs.Step.{AreSlotsBut, Becomes, Begins, IsSameClient}
+use Rattle.rbd_world.specs.Run.{Nothing, Began}
+use Rattle.rbd_world.specs.Step.{AreSlotsBut, Becomes, IsSameClient}
 
 module _ {E : Type 0} (extra : E → Standing) where
   -- a command's work stands where its plan begins, and changes its extent

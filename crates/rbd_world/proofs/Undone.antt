@@ -20,6 +20,8 @@ use Rattle.rbd_world.specs.Run.{Happening, AreCalls, asked_by, log_of, records_a
 use Rattle.rbd_world.specs.Sound.{IsHeldRightly, IsSoundClient, IsSoundWorld, IsUnderWay, has_reply, held_of, line_at}
 use Rattle.rbd_world.specs.Step.{IsAlikeOf, IsSoundIf, IsUndone}
 use Rattle.rbd_world.specs.World.{WorldView, records_in, session_in, site_in}
+use Rattle.rbd_world.proofs.OrderedWorld.{alike_order_if}
+use Rattle.rbd_world.proofs.Slots.{same_slots}
 
 module _ {R : Type 0} (stands : R → Standing) where
   -- ---- a slot
@@ -109,8 +111,12 @@ module _ {R : Type 0} (stands : R → Standing) where
     nobody = λ session none. w.nobody session (same_none (session_in session old.sessions) (session_in session new.sessions) (undone.sessions session) none);
     apart = λ line session slot other there is also.
         w.apart line session slot other there (sym (line_was session slot) ∙ is) (sym (line_was other there) ∙ also);
+    slots = λ line begun. same_slots old.sessions new.sessions line_was line (w.slots line begun);
     truth = subst (λ (sites : Sites). (session slot : ℕ) (s : SiteId) → IsTrueAt s (records_in s sites) (w.knows session slot)) (sym undone.sites) w.truth;
     beside = w.beside;
+    order = w.order;
+    in_order = λ session.
+        alike_order_if stands (w.homes session) session w.run (session_in session old.sessions) (session_in session new.sessions) (undone.sessions session) (w.in_order session);
   }
     where
       line_was : (session slot : ℕ) → line_at session slot new.sessions ≡ line_at session slot old.sessions

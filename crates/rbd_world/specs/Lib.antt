@@ -1,6 +1,8 @@
 pub mod Begun
+pub mod InLine
 pub mod Noted
 pub mod Operate
+pub mod Order
 pub mod Run
 pub mod Sound
 pub mod Step

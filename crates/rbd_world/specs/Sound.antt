@@ -1,6 +1,6 @@
 -- What holds of each world, whatever came: its run is right at every place, and what its requests
 -- know is true.
-use Rattle.std.specs.Prelude.{◌≡◌, ◌≢◌, ◌⊎◌, ℕ, ◌+◌, ◌==◌, ◌||◌, Bool, true, false, List, [], ◌∷◌, length, is_some, slice_get, Option, Some, None}
+use Rattle.std.specs.Prelude.{◌≡◌, ◌≢◌, ◌⊎◌, ℕ, ◌+◌, ◌||◌, Bool, true, false, List, [], ◌∷◌, length, is_some, slice_get, Option, Some, None}
 use Rattle.rbd_kinds.specs.declared.command.Command.{Command}
 use Rattle.rbd_kinds.specs.declared.id.Instance.{Instance}
 use Rattle.rbd_kinds.specs.declared.id.SiteId.{SiteId}
@@ -29,6 +29,7 @@ use Rattle.rbd_site.specs.declared.done.DoneOp.TheVariants as done
 use Rattle.rbd_stands.specs.Effect.{effect_of}
 use Rattle.rbd_stands.specs.Site.{StandsFor}
 use Rattle.rbd_world.specs.Begun.{LinesBegun, has_line}
+use Rattle.rbd_world.specs.Order.{IsInOrder, KeepsOrder}
 use Rattle.rbd_world.specs.Run.{Asked, Happening, Began, Did, Refused, Trimmed, Operation, AreCalls, asked_by, flat_after, history_of, log_of, records_after, replies_to, steps_of}
 use Rattle.rbd_world.specs.Step.{is_begun}
 use Rattle.rbd_world.specs.World.{WorldView, records_in, session_in, site_in}
@@ -158,6 +159,16 @@ abbrev pub AreApart : {R : Type 0} → List (SessionView R) → Type 0
 AreApart sessions = (line session slot other there : ℕ) → line_at session slot sessions ≡ Some line → line_at other there sessions ≡ Some line
     → (session ≡ other) × (slot ≡ there)
 
+-- the line is in a slot of a session
+pub record IsInSlot {R : Type 0} (line : ℕ) (sessions : List (SessionView R)) : Type 0 where
+  pub session : ℕ
+  pub slot : ℕ
+  pub is : line_at session slot sessions ≡ Some line
+
+-- so is each that was begun and has no reply yet
+abbrev pub AreInSlots : {R : Type 0} → List Happening → List (SessionView R) → Type 0
+AreInSlots run sessions = (line : ℕ) → IsOpen line run → IsInSlot line sessions
+
 pub record IsSoundWorld {R : Type 0} (stands : R → Standing) (w : WorldView R) : Type 0 where
   -- what was done, the home of each session, and what the request in each slot knows
   pub run : List Happening
@@ -176,9 +187,13 @@ pub record IsSoundWorld {R : Type 0} (stands : R → Standing) (w : WorldView R)
   pub clients : (session : ℕ) (c : SessionView R) → session_in session w.sessions ≡ Some c → IsSoundClient stands (homes session) session run (knows session) c
   pub nobody : (session : ℕ) → session_in session w.sessions ≡ None → (slot : ℕ) → knows session slot ≡ nothing_known
   pub apart : AreApart w.sessions
+  pub slots : AreInSlots run w.sessions
   -- what is known is true, and no two requests are in each other's way
   pub truth : (session slot : ℕ) (s : SiteId) → IsTrueAt s (records_in s w.sites) (knows session slot)
   pub beside : (session slot other there : ℕ) → (session ≢ other) ⊎ (slot ≢ there) → (s : SiteId) → AreBeside s (knows session slot) (knows other there)
+  -- the writes of each session change an image in the order in which they found it
+  pub order : KeepsOrder run
+  pub in_order : (session : ℕ) (c : SessionView R) → session_in session w.sessions ≡ Some c → IsInOrder stands (homes session) session run c
 
 -- a client in its first life, at a home
 pub record IsFirstClient {R : Type 0} (session : ℕ) (home : SiteId) (c : SessionView R) : Type 0 where

@@ -5,7 +5,7 @@ use Rattle.rbd_kinds.specs.declared.id.SiteId.{SiteId}
 use Rattle.rbd_kinds.specs.declared.id.SiteId.TheVariants as site
 use Rattle.rbd_kinds.specs.declared.operation_kind.OpKind.{OpKind}
 use Rattle.rbd_machine.specs.Plan.{Standing}
-use Rattle.rbd_session.specs.Session.{SessionView, kind_at}
+use Rattle.rbd_session.specs.Session.{SessionView, free_slot, kind_at}
 use Rattle.rbd_site.specs.Log.{SiteLog, records_of}
 use Rattle.rbd_site.specs.Records.{Records}
 use Rattle.rbd_world.specs.declared.event.Call.{Call}
@@ -29,6 +29,11 @@ records_in s sites = records_of (site_in s sites)
 
 abbrev pub session_in : {R : Type 0} → (session : ℕ) → List (SessionView R) → Option (SessionView R)
 session_in session sessions = slice_get sessions session
+
+-- the lowest free slot of a session that is there
+abbrev pub free_in : {R : Type 0} → Option (SessionView R) → Option ℕ
+free_in None = None
+free_in (Some c) = free_slot c.lowest
 
 -- the kind of the operation that a slot's request wants, where it may go on
 abbrev pub kind_in : {R : Type 0} → (stands : R → Standing) → (slot : ℕ) → Option (SessionView R) → Option (SiteId × OpKind)

@@ -43,6 +43,8 @@
 //! | `specs/Run.antt` | a *run*: what the calls did, one after another; its history, its logs, its records and flat sites at each place, and the operations of a line |
 //! | `specs/Step.antt` | what an event does (`happening`, `IsStep`), what a step that is refused memory leaves (`IsUndone`), and what is asked of an event |
 //! | `specs/Sound.antt` | what holds of each world (`IsSoundWorld`) |
+//! | `specs/Order.antt` | the order in which the writes of one session change an image (`KeepsOrder`), and where they stand meanwhile |
+//! | `specs/InLine.antt` | how a write goes through the line of its image |
 //! | `specs/Operate.antt` | one operation at a site, and its session |
 //!
 //! Each world is sound, whatever events came (`IsSoundWorld`, a clause of each step):
@@ -54,12 +56,14 @@
 //!   the answer and the effect that its site has for it there, and its reply, which is one, is the
 //!   command's behind all of its operations (`IsMeantBy` of `rbd_meaning`);
 //! - the request in a slot stands where a walk of its command's plan led it, by just the operations
-//!   that were done for its line;
+//!   that were done for its line; and each line that has no reply yet is in a slot;
 //! - what each request knows is true at its site, and no two are in each other's way. So the
-//!   operation that it wants, where it doesn't wait, may be done.
+//!   operation that it wants, where it doesn't wait, may be done;
+//! - of two writes or fills of one session, the one that found an image first writes each of its
+//!   objects first, however their operations are mixed.
 //!
 //! [`laws`] has these as laws over any sessions: a world begins sound, and each event, and each
-//! refusal of memory, leaves it so.
+//! refusal of memory, leaves it so; and that order as a law on whole runs.
 //!
 //! # Cost
 //!

@@ -1,9 +1,9 @@
 //! The world, and its events.
 ghost use Rattle.std.specs.Prelude.{◌≡◌, ◌≤◌, length, IfOk, OnErr};
 ghost use Rattle.rbd_requests.specs.Session.{stands_of};
-ghost use Rattle.rbd_world.specs.Sound.{AreFirstClients, AreNewClients, IsNewWorld, IsSoundWorld};
-ghost use Rattle.rbd_world.specs.Step.{AreOfOneClient, IsBuiltEvent, IsStep, IsUndone};
-ghost use Rattle.rbd_world.specs.World.{kind_in, session_in, site_in};
+ghost use Rattle.rbd_world.specs.Sound.{AreFirstClients, AreNewClients, IsNewWorld, IsSoundWorld, line_at};
+ghost use Rattle.rbd_world.specs.Step.{AreOfOneClient, IsBuiltEvent, IsStep, IsUndone, is_begun};
+ghost use Rattle.rbd_world.specs.World.{free_in, kind_in, session_in, site_in};
 
 use crate::begun::BegunLines;
 use crate::event::{Call, Event, Outcome};
@@ -117,6 +117,29 @@ impl<E: Machine + Drop> World<E> {
             SiteId::A => self.sites.a.log(),
             SiteId::B => self.sites.b.log(),
         }
+    }
+
+    /// Whether a session has begun the command of a line. It takes no memory.
+    pub fn has_begun(&self, line: u32) -> bool
+        ensures begun { result ≡ is_begun line self.now.history }
+    {
+        self.begun.has(line)
+    }
+
+    /// The lowest free slot of a session: `None` exactly where there is no such session, or 64 are
+    /// held. It takes no memory.
+    pub fn free(&self, session: SessionNo) -> Option<Slot>
+        ensures free { result ≡ free_in (session_in session self.now.sessions) }
+    {
+        self.sessions.get(session.0 as usize)?.free()
+    }
+
+    /// The line whose command is in a slot of a session: `None` exactly where there is no such
+    /// session, or the slot is free. It takes no memory.
+    pub fn line(&self, session: SessionNo, slot: Slot) -> Option<u32>
+        ensures line { result ≡ line_at session slot self.now.sessions }
+    {
+        self.sessions.get(session.0 as usize)?.line(slot)
     }
 
     /// The site and the kind of the operation that the request in a slot of a session wants: `None`

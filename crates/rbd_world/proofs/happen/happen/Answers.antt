@@ -1,8 +1,6 @@
 use Rattle.std.proofs.Common.{◌≡◌, sym, subst}
 use Rattle.std.specs.Prelude.{IfOk, OnOk}
-use Rattle.rbd_requests.specs.declared.request.SessionRequest.{SessionRequest}
 use Rattle.rbd_requests.specs.Session.{stands_of}
-use Rattle.rbd_session.specs.Session.{SessionView}
 use Rattle.rbd_world.specs.declared.event.Event.{Event}
 use Rattle.rbd_world.specs.Begun.{has_line}
 use Rattle.rbd_world.specs.Step.{DoesToParts, happens, noted_of}

@@ -1,6 +1,5 @@
-use Rattle.std.proofs.Common.{sym, subst, ap, ◌∙◌}
+use Rattle.std.proofs.Common.{sym, ap, ◌∙◌}
 use Rattle.rbd_requests.specs.Session.{stands_of}
-use Rattle.rbd_world.specs.Sound.{IsKept, IsNewWorld, IsSoundWorld}
 use Rattle.rbd_world.specs.Step.{is_begun}
 use Rattle.rbd_world.proofs.Beginning.{new_world_is_sound}
 use Rattle.rbd_world.proofs.world.World.new.Goals as goal

@@ -1,8 +1,7 @@
 use Rattle.std.proofs.Common.{sym, subst}
 use Rattle.rbd_requests.specs.declared.request.SessionRequest.{SessionRequest}
 use Rattle.rbd_requests.specs.Session.{stands_of}
-use Rattle.rbd_world.specs.Sound.{IsKept, IsSoundWorld}
-use Rattle.rbd_world.specs.Step.{AreOfOneClient, IsStep, IsUndone}
+use Rattle.rbd_world.specs.Step.{AreOfOneClient, IsUndone}
 use Rattle.rbd_world.specs.World.{WorldView}
 use Rattle.rbd_site.proofs.OneChange.{on_err_always}
 use Rattle.rbd_world.proofs.Stepping.{kept_sound, sound_again, undone, undone_kept, undone_sound}

@@ -1,0 +1,122 @@
+-- The order in which the writes of one session change an image: of two, the one that found the image
+-- first writes each of its objects first.
+use Rattle.std.specs.Prelude.{◌≡◌, ◌⊎◌, ℕ, ◌==◌, ◌&&◌, ◌||◌, not, Bool, true, false, List, [], ◌∷◌, Some, None, IsSome}
+use Rattle.rbd_kinds.specs.declared.answer.Answer.{Answer}
+use Rattle.rbd_kinds.specs.declared.answer.Answer.TheVariants as answer
+use Rattle.rbd_kinds.specs.declared.command.Command.{Command}
+use Rattle.rbd_kinds.specs.declared.data_op.DataOp.TheVariants as data_op
+use Rattle.rbd_kinds.specs.declared.directory_op.DirectoryOp.TheVariants as directory
+use Rattle.rbd_kinds.specs.declared.id.SiteId.{SiteId}
+use Rattle.rbd_kinds.specs.declared.operation.Op.{Op}
+use Rattle.rbd_kinds.specs.declared.operation.Op.TheVariants as op
+use Rattle.rbd_line.specs.Line.{ahead, is_member}
+use Rattle.rbd_machine.specs.Knowledge.{same_site}
+use Rattle.rbd_machine.specs.Plan.{Goto, Standing, without_labels}
+use Rattle.rbd_request.specs.Write.{is_write, write_plan}
+use Rattle.rbd_requests.specs.Touched.{extent_of}
+use Rattle.rbd_session.specs.declared.running.Running.{Running}
+use Rattle.rbd_session.specs.Lines.{lines_of}
+use Rattle.rbd_session.specs.Session.{SessionView, running_at}
+use Rattle.rbd_session.specs.Track.{image_at}
+use Rattle.rbd_world.specs.InLine.{IsPastWithout, KeepsTo}
+use Rattle.rbd_world.specs.Run.{Asked, Happening, Did, asked_by}
+
+-- ---- what a line has done
+
+-- the look-up of a name was answered by this image
+abbrev pub tells_image : (image : ℕ) → Op → Answer → Bool
+tells_image image (op.Directory (directory.Find name)) (answer.Id found) = found == image
+tells_image image o a = false
+
+-- bytes are written to an object of an image
+abbrev pub writes_object : (image number : ℕ) → Op → Bool
+writes_object image number (op.Data i n (data_op.Write context must parts bytes)) = i == image && n == number
+writes_object image number o = false
+
+abbrev pub finds_in : (line : ℕ) → SiteId → (image : ℕ) → Happening → Bool
+finds_in line s image (Did o reply) = o.line == line && (same_site o.site s && tells_image image o.op o.answer)
+finds_in line s image h = false
+
+abbrev pub writes_in : (line : ℕ) → SiteId → (image number : ℕ) → Happening → Bool
+writes_in line s image number (Did o reply) = o.line == line && (same_site o.site s && writes_object image number o.op)
+writes_in line s image number h = false
+
+-- the line has found the image by its name
+abbrev pub has_found : (line : ℕ) → SiteId → (image : ℕ) → List Happening → Bool
+has_found line s image [] = false
+has_found line s image (h ∷ run) = finds_in line s image h || has_found line s image run
+
+-- the line has written the object
+abbrev pub has_written : (line : ℕ) → SiteId → (image number : ℕ) → List Happening → Bool
+has_written line s image number [] = false
+has_written line s image number (h ∷ run) = writes_in line s image number h || has_written line s image number run
+
+-- One line had found the image when the other hadn't.
+abbrev pub found_before : (one other : ℕ) → SiteId → (image : ℕ) → List Happening → Bool
+found_before one other s image [] = false
+found_before one other s image (h ∷ run) = (has_found one s image (h ∷ run) && not (has_found other s image (h ∷ run))) || found_before one other s image run
+
+-- ---- the order
+
+-- the line is a write or a fill of the session
+pub record IsWriterOf (session line : ℕ) (run : List Happening) : Type 0 where
+  pub asked : Asked
+  pub is : asked_by line run ≡ Some asked
+  pub mine : asked.session ≡ session
+  pub writes : IsSome (extent_of asked.command)
+
+-- The line has found the image, and no other write of its session that found it later has written
+-- the object.
+pub record IsFirstToWrite (session line : ℕ) (s : SiteId) (image number : ℕ) (run : List Happening) : Type 0 where
+  pub found : has_found line s image run ≡ true
+  pub first : (other : ℕ) → IsWriterOf session other run → found_before line other s image run ≡ true → has_written other s image number run ≡ false
+
+-- so it is where a write or a fill writes an object
+abbrev pub IsInTurn : Happening → (before : List Happening) → Type 0
+IsInTurn (Did o reply) before =
+    (session image number : ℕ) → IsWriterOf session o.line before → writes_object image number o.op ≡ true → IsFirstToWrite session o.line o.site image number before
+IsInTurn h before = Unit {0}
+
+-- at each place of the run
+abbrev pub KeepsOrder : List Happening → Type 0
+KeepsOrder [] = Unit {0}
+KeepsOrder (h ∷ run) = IsInTurn h run × KeepsOrder run
+
+-- Where the one line writes the object, the other hasn't written it yet: so each write of the object
+-- by the one comes before each by the other.
+abbrev pub WritesFirst : (one other : ℕ) → SiteId → (image number : ℕ) → List Happening → Type 0
+WritesFirst one other s image number [] = Unit {0}
+WritesFirst one other s image number (h ∷ run) =
+    (writes_in one s image number h ≡ true → has_written other s image number run ≡ false) × WritesFirst one other s image number run
+
+-- ---- where the writes of a session stand
+
+-- It has found no image yet, and is in no line.
+pub record IsBeforeFinding {R : Type 0} (stands : R → Standing) (home : SiteId) (run : List Happening) (r : Running R) : Type 0 where
+  pub command : Command
+  pub is : is_write command ≡ true
+  pub stand : stands r.request ≡ without_labels (write_plan home command)
+  pub place : r.place ≡ None
+  pub unfound : (s : SiteId) (image : ℕ) → has_found r.line s image run ≡ false
+
+-- It has found its image, and no other, and is in its line.
+pub record IsBehindFinding {R : Type 0} (stands : R → Standing) (run : List Happening) (r : Running R) : Type 0 where
+  pub site : SiteId
+  pub image : ℕ
+  pub place : r.place ≡ Some (image_at site image)
+  pub found : has_found r.line site image run ≡ true
+  pub only : (s : SiteId) (i : ℕ) → has_found r.line s i run ≡ true → (s ≡ site) × (i ≡ image)
+  pub labels : (stands r.request).labels ≡ Goto
+  pub keeps : KeepsTo site image r.turn (stands r.request).plan
+
+-- Of the writes in a line, who found the image earlier stands ahead; and where another that found it
+-- later has written an object, whether it has ended or not, this one has no ticket for it.
+pub record IsInOrder {R : Type 0} (stands : R → Standing) (home : SiteId) (session : ℕ) (run : List Happening) (c : SessionView R) : Type 0 where
+  pub extents : (x : ℕ) (r : Running R) → running_at x c ≡ Some r → (asked : Asked) → asked_by r.line run ≡ Some asked → r.extent ≡ extent_of asked.command
+  pub comes : (x : ℕ) (r : Running R) → running_at x c ≡ Some r → IsSome r.extent → (IsBeforeFinding stands home run r) ⊎ (IsBehindFinding stands run r)
+  pub in_line : (x y : ℕ) (r q : Running R) → running_at x c ≡ Some r → running_at y c ≡ Some q → IsSome r.extent → IsSome q.extent
+      → (s : SiteId) (image : ℕ) → found_before r.line q.line s image run ≡ true
+      → is_member y (lines_of c.lines s image) ≡ true → is_member x (ahead y (lines_of c.lines s image)) ≡ true
+  pub past : (x : ℕ) (r : Running R) → running_at x c ≡ Some r → IsSome r.extent → (other : ℕ) → IsWriterOf session other run
+      → (s : SiteId) (image number : ℕ) → found_before r.line other s image run ≡ true → has_written other s image number run ≡ true
+      → IsPastWithout x number (lines_of c.lines s image)
