@@ -1,7 +1,10 @@
 pub mod ChangesDone
+pub mod HeadersShown
 pub mod HomeReplies
 pub mod HomeSteps
+pub mod LineBounds
 pub mod ListingsTold
+pub mod PassBounds
 pub mod PlacedRight
 pub mod Places
 pub mod PlacesTaken

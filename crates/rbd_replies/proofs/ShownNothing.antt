@@ -1,5 +1,5 @@
 -- What only shows only looks, so it has no effect.
-use Rattle.std.proofs.Common.{◌≡◌, ℕ, inl, List, [], ◌∷◌, ◌++◌, true, Option, Some, map, refl, ap, sym, subst, ◌∙◌}
+use Rattle.std.proofs.Common.{◌≡◌, ℕ, inl, List, [], ◌∷◌, ◌++◌, true, Option, Some, refl, ap, sym, subst, ◌∙◌}
 use Rattle.std.proofs.lemmas.Option.{same_Some}
 use Rattle.rbd_kinds.specs.declared.answer.Answer.{Answer}
 use Rattle.rbd_kinds.specs.declared.command.Command.{Command}
@@ -19,7 +19,7 @@ use Rattle.rbd_meaning.specs.Undone.{ChangeNothing}
 use Rattle.rbd_world.specs.Run.{Asked, Happening, asked_by, steps_of}
 use Rattle.rbd_world.specs.Sound.{IsReplyMeant, IsRight}
 use Rattle.rbd_replies.proofs.PlacedRight.{places_right}
-use Rattle.rbd_replies.proofs.Places.{step_at, steps_at_places}
+use Rattle.rbd_replies.proofs.Places.{steps_at_places}
 use Rattle.rbd_replies.proofs.RefusalsNothing.{nothing_at_places}
 use Rattle.rbd_replies.specs.Places.{effects_of, places_of}
 use Rattle.rbd_replies.specs.Replies.{only_shows}

@@ -1,5 +1,5 @@
 -- What changes that are done did: their effects, in order, in the one history.
-use Rattle.std.specs.Prelude.{◌≡◌, ℕ, true, List, [], ◌∷◌, Option, Some, None}
+use Rattle.std.specs.Prelude.{◌≡◌, ℕ, true, List, [], ◌∷◌, Some, None}
 use Rattle.rbd_flat.specs.Flat.{FlatImage, FlatSnap, id_of, image_at}
 use Rattle.rbd_flat.specs.declared.effect.Effect.TheVariants as effect
 use Rattle.rbd_kinds.specs.declared.header.HeaderView.{HeaderView}

@@ -1,7 +1,9 @@
+pub mod Bounds
 pub mod Changed
 pub mod Home
 pub mod Listed
 pub mod Places
 pub mod Reads
 pub mod Replies
+pub mod Shown
 pub mod Worlds

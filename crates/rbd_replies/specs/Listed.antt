@@ -1,5 +1,5 @@
 -- What listings show: names, a header, snapshots, as the flat site has them at a place.
-use Rattle.std.specs.Prelude.{◌≡◌, ℕ, List, [], ◌∷◌, Option, Some}
+use Rattle.std.specs.Prelude.{◌≡◌, ℕ, List, [], ◌∷◌, Some}
 use Rattle.std.specs.FinMap as finmap
 use Rattle.rbd_flat.specs.Flat.{id_of, image_at}
 use Rattle.rbd_kinds.specs.declared.header.HeaderView.{HeaderView}

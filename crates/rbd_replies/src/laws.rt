@@ -3,13 +3,16 @@
 ghost use Rattle.std.specs.Prelude.{◌≡◌, ℕ, true, [], ◌∷◌, ◌++◌, List, All, Some, map};
 ghost use Rattle.rbd_kinds.specs.declared.id.SiteId.{SiteId as Site};
 ghost use Rattle.rbd_kinds.specs.declared.reply.Reply.{Reply};
+ghost use Rattle.rbd_requests.specs.Touched.{HasAtMost, bound_of, touched_by};
 ghost use Rattle.rbd_world.specs.Run.{Asked, Happening, Operation, Did, Refused, asked_by, step_of, steps_of};
-ghost use Rattle.rbd_world.specs.Sound.{IsRight, IsSoundWorld};
+ghost use Rattle.rbd_world.specs.Sound.{IsRight, IsSoundWorld, has_reply, line_at};
 ghost use Rattle.rbd_world.specs.World.{WorldView};
 ghost use Rattle.rbd_world.specs.declared.event.Call.{Call};
+ghost use Rattle.rbd_replies.specs.Bounds.{KeepsBound};
 ghost use Rattle.rbd_replies.specs.Home.{AreDoneAt};
 ghost use Rattle.rbd_replies.specs.Places.{Placed, effects_of, places_of};
 ghost use Rattle.rbd_replies.specs.Replies.{IsReplyOf, only_shows};
+ghost use Rattle.rbd_replies.specs.Shown.{AreHeadersInForm};
 ghost use Rattle.rbd_replies.specs.Worlds.{AreSteps, BeginsWith, IsToldIn};
 
 use rbd_course::Request;
@@ -53,10 +56,33 @@ pub fn replies_are_of_their_home()
         → AreDoneAt (homes asked.session) (places_of line (Refused s line reply ∷ run)) }
 {}
 
+/// A line that was begun has no more operations than its command's bound (`bound_of` of
+/// `rbd_requests`), by the number of pieces that its extent has at most: in all when it has its
+/// reply, and so far at any time before. A read has so many at most in each of its passes, and began
+/// again only where its closing look was told a header of another generation, or none. Who waits has
+/// none: each operation is a poll's whose outcome is `Step`.
+pub fn lines_keep_their_bounds<R: Request>()
+    ensures replied { (homes : ℕ → Site) (run : List Happening) (line : ℕ) (asked : Asked) (most : ℕ)
+        → IsRight homes run → asked_by line run ≡ Some asked → has_reply line run ≡ true → HasAtMost most (touched_by asked.command)
+        → KeepsBound (homes asked.session) asked.command (bound_of asked.command most) (steps_of line run) }
+    ensures under_way { (w : WorldView R) (sound : IsSoundWorld R.stands w) (session slot line : ℕ) (asked : Asked) (most : ℕ)
+        → line_at session slot w.sessions ≡ Some line → asked_by line sound.run ≡ Some asked → HasAtMost most (touched_by asked.command)
+        → KeepsBound (sound.homes asked.session) asked.command (bound_of asked.command most) (steps_of line sound.run) }
+    ensures begun { (w : WorldView R) (sound : IsSoundWorld R.stands w) (line : ℕ) (asked : Asked) (most : ℕ)
+        → asked_by line sound.run ≡ Some asked → HasAtMost most (touched_by asked.command)
+        → KeepsBound (sound.homes asked.session) asked.command (bound_of asked.command most) (steps_of line sound.run) }
+{}
+
 /// Each reply in the history of a world, whatever events came, is the one of its line's command: it
 /// says what the flat-copy machine has at its place in the one history.
 pub fn replies_of_worlds_are_the_flat_machines<R: Request>()
     ensures { (w : WorldView R) (sound : IsSoundWorld R.stands w) → All (IsToldIn sound.run) w.history }
+{}
+
+/// Each header that a reply in the history of a world shows is in form, whatever events came: its
+/// layout keeps the limits, and its size is below 2^63.
+pub fn shown_headers_are_in_form<R: Request>()
+    ensures { (w : WorldView R) (sound : IsSoundWorld R.stands w) → AreHeadersInForm w.history }
 {}
 
 /// The calls are the events that came, each with its outcome, one after another; and what the

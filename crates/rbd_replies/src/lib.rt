@@ -38,6 +38,8 @@
 //! | `specs/Reads.antt` | what a read shows |
 //! | `specs/Replies.antt` | all of it, by command and reply (`IsReplyOf`) |
 //! | `specs/Worlds.antt` | so it is with each reply in a world's history; and that worlds go on by events |
+//! | `specs/Shown.antt` | that the headers which replies of a history show are in form |
+//! | `specs/Bounds.antt` | how many operations a line has at most, so far and in all |
 //!
 //! [`laws`] says it of each reply of each run that is right (`IsRight` of `rbd_world`), as that of
 //! every world is: at its own place, whatever comes later.
