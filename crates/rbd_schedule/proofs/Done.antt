@@ -1,0 +1,38 @@
+-- Deeds, one more after another.
+use Rattle.std.proofs.Common.{◌≡◌, ℕ, zero, suc, ◌+◌, ◌<◌, ◌≤◌, ◌⊎◌, inl, inr, refl, subst, arith}
+use Rattle.std.proofs.lemmas.Bool.{cases_lt}
+use Rattle.rbd_schedule.specs.Deeds.{Deeds}
+
+pub none_done : {S : Type 0} (deed : ℕ → S → S → Type 0) (s : S) → Deeds deed 0 s s
+unfolding Deeds
+none_done deed s = refl
+
+pub one_more : {S : Type 0} (deed : ℕ → S → S → Type 0) (n : ℕ) (old between new : S) → Deeds deed n old between → deed n between new → Deeds deed (n + 1) old new
+unfolding Deeds
+one_more {S} deed n old between new before it = let next : suc n ≡ n + 1 = omega arith in subst (λ m. Deeds deed m old new) next (go before it)
+  where
+    go : Deeds deed n old between → deed n between new → Deeds deed (suc n) old new
+    go before it = (between, before, it)
+
+-- deeds of which each is one of the others are those
+pub others_done : {S : Type 0} (deed other : ℕ → S → S → Type 0) → ((n : ℕ) (old new : S) → deed n old new → other n old new)
+    → (n : ℕ) (old new : S) → Deeds deed n old new → Deeds other n old new
+unfolding Deeds
+others_done deed other each zero old new done = done
+others_done deed other each (suc n) old new (between, before, it) = (between, others_done deed other each n old between before, each n between new it)
+
+-- what holds of all numbers below one, and of it, holds of all below the next
+pub one_more_idle : (P : ℕ → Type 0) (n : ℕ) → ((s : ℕ) → s < n → P s) → P n → (s : ℕ) → s < n + 1 → P s
+one_more_idle P n each it s below = by (cases_lt s n)
+  where
+    by : (s < n) ⊎ (n ≤ s) → P s
+    by (inl less) = each s less
+    by (inr past) = let same : n ≡ s = omega (arith, below, past) in subst P same it
+
+-- what holds of all numbers below one, and of those from it on
+pub all_idle : (P : ℕ → Type 0) (n : ℕ) → ((s : ℕ) → s < n → P s) → (s : ℕ) → (n ≤ s → P s) → P s
+all_idle P n each s past = by (cases_lt s n)
+  where
+    by : (s < n) ⊎ (n ≤ s) → P s
+    by (inl less) = each s less
+    by (inr more) = past more

@@ -1,0 +1,79 @@
+-- What each step keeps, a play keeps.
+use Rattle.std.proofs.Common.{◌≡◌, ℕ, zero, suc, ◌+◌, Bool, true, false, List, length, take, refl, sym, subst}
+use Rattle.rbd_machine.specs.Plan.{Standing}
+use Rattle.rbd_script.specs.declared.script.Said.{Said}
+use Rattle.rbd_script.specs.declared.script.Said.TheVariants as said
+use Rattle.rbd_script.specs.declared.script.Script.{Script}
+use Rattle.rbd_world.specs.declared.event.Event.{Event}
+use Rattle.rbd_world.specs.declared.event.Event.TheVariants as event
+use Rattle.rbd_world.specs.declared.event.Outcome.{Outcome}
+use Rattle.rbd_world.specs.Step.{IsStep}
+use Rattle.rbd_world.specs.World.{WorldView}
+use Rattle.rbd_schedule.specs.declared.given.Given.{Given}
+use Rattle.rbd_schedule.specs.Deeds.{Deeds}
+use Rattle.rbd_schedule.specs.Given.{commands_of, given_in}
+use Rattle.rbd_schedule.specs.Schedule.{Calm, Comes, Pace, Plays, PlaysLine, PlaysScript, Polls, PollsBefore, PollsIn, PollsUntil, PollsWhere, Round, RoundsOn, Settles, Starts, StartsAll, Turn, closing_rounds, is_held}
+
+-- what each of the deeds keeps, all keep
+pub kept_by_deeds : {S : Type 0} (P : S → Type 0) (deed : ℕ → S → S → Type 0) → ((k : ℕ) (old new : S) → deed k old new → P old → P new) → (n : ℕ) (old new : S) → Deeds deed n old new → P old → P new
+unfolding Deeds
+kept_by_deeds P deed each zero old new done is = subst P (sym done) is
+kept_by_deeds P deed each (suc n) old new (between, before, it) is = each n between new it (kept_by_deeds P deed each n old between before is)
+
+module _ {R : Type 0} (stands : R → Standing) (P : WorldView R → Type 0) (step : (e : Event) (result : Outcome) (old new : WorldView R) → IsStep stands e old result new → P old → P new) where
+  module _ (given : (session : ℕ) → List Given) where
+    kept_by_start : (k : ℕ) (old new : WorldView R) → Starts stands given old new → P old → P new
+    kept_by_start k old new starts is = step starts.submits.command.submission starts.submits.result old new starts.submits.step is
+
+    kept_by_starts : (old new : WorldView R) → StartsAll stands given old new → P old → P new
+    kept_by_starts old new starts is = kept_by_deeds P (λ k. Starts stands given) kept_by_start starts.count old new starts.starts is
+
+    kept_by_coming : (e : Event) (result : Outcome) (old new : WorldView R) → Comes stands given e result old new → P old → P new
+    kept_by_coming e result old new comes is = kept_by_starts comes.between new comes.starts (step e result old comes.between comes.step is)
+
+    kept_by_poll : (session slot : ℕ) (old new : WorldView R) → Polls stands given session slot old new → P old → P new
+    kept_by_poll session slot old new polls is = kept_by_coming (event.Poll session slot) polls.result old new polls.comes is
+
+    kept_in_round : (session slot : ℕ) (old new : Pace R) → PollsIn stands given session slot old new → P old.world → P new.world
+    kept_in_round session slot old new polls is = kept_by_coming (event.Poll session slot) polls.result old.world new.world polls.comes is
+
+    kept_where : (held : Bool) (session slot : ℕ) (old new : Pace R) → PollsWhere stands given held session slot old new → P old.world → P new.world
+    kept_where true session slot old new polls is = kept_in_round session slot old new polls is
+    kept_where false session slot old new same is = subst (λ (p : Pace R). P p.world) (sym same) is
+
+    kept_by_turn : (session : ℕ) (old new : Pace R) → Turn stands given session old new → P old.world → P new.world
+    kept_by_turn session old new turn is =
+        kept_by_deeds (λ (p : Pace R). P p.world) (λ k. PollsWhere stands given (is_held session (k + 1) turn.point.world) session (k + 1))
+        (λ k. kept_where (is_held session (k + 1) turn.point.world) session (k + 1)) 64 turn.point new turn.held
+        (kept_in_round session 0 old turn.point turn.slot_0 is)
+
+    kept_by_round : (sessions : ℕ) (went_on : Bool) (old new : WorldView R) → Round stands given sessions went_on old new → P old → P new
+    kept_by_round sessions went_on old new round is =
+        kept_by_deeds (λ (p : Pace R). P p.world) (Turn stands given) kept_by_turn sessions (record { world = old; went_on = false }) (record { world = new; went_on = went_on }) round is
+
+    kept_by_rounds : (sessions k : ℕ) (old new : Calm R) → RoundsOn stands given sessions old new → P old.world → P new.world
+    kept_by_rounds sessions k old new on is = kept_by_round sessions on.went_on old.world new.world on.round is
+
+    kept_by_settle : (sessions rounds : ℕ) (old new : WorldView R) → Settles stands given sessions rounds old new → P old → P new
+    kept_by_settle sessions rounds old new settles is =
+        kept_by_deeds (λ (c : Calm R). P c.world) (λ k. RoundsOn stands given sessions) (kept_by_rounds sessions) settles.count (record { world = old; idle = 0 }) (record { world = new; idle = settles.idle }) settles.on is
+
+    kept_by_line : (sessions : ℕ) (s : Said) (old new : WorldView R) → Plays stands given sessions s old new → P old → P new
+    kept_by_line sessions (said.Command session beside command) old new plays is = kept_by_starts old new plays is
+    kept_by_line sessions (said.Poll session slot times) old new plays is = kept_by_deeds P (λ k. Polls stands given session slot) (λ k. kept_by_poll session slot) times old new plays is
+    kept_by_line sessions (said.Until session slot kind) old new plays is =
+        kept_by_deeds P (λ k. PollsBefore stands given session slot kind) (λ k a b before. kept_by_poll session slot a b before.polls) plays.count old new plays.polls is
+    kept_by_line sessions (said.Settle rounds) old new plays is = kept_by_settle sessions rounds old new plays is
+    kept_by_line sessions (said.Deliver number) old new plays is = absurd plays
+    kept_by_line sessions (said.Lose number) old new plays is = absurd plays
+    kept_by_line sessions (said.Expire session site image) old new plays is = absurd plays
+    kept_by_line sessions (said.Stop session) old new plays is = absurd plays
+    kept_by_line sessions (said.Restart session) old new plays is = absurd plays
+    kept_by_line sessions (said.Late session slot) old new plays is = absurd plays
+    kept_by_line sessions (said.Trim site image object) old new plays is = kept_by_coming (event.Trim site image object) plays.0 old new plays.1 is
+
+  -- so a play keeps it
+  pub kept_by_play : (script : Script) (old new : WorldView R) → PlaysScript stands script old new → P old → P new
+  kept_by_play script old new plays is =
+      kept_by_settle (given_in script.lines) (length script.sessions) (closing_rounds (length (commands_of script.lines))) plays.between new plays.closing
+      (kept_by_deeds P (PlaysLine stands script) (λ k a b line. kept_by_line (given_in (take (k + 1) script.lines)) (length script.sessions) line.line.said a b line.plays) (length script.lines) old plays.between plays.lines is)

@@ -1,0 +1,15 @@
+pub mod Ascending
+pub mod Done
+pub mod Earliest
+pub mod Entries
+pub mod Keeping
+pub mod Left
+pub mod Queues
+pub mod Goes
+pub mod Going
+pub mod Lines
+pub mod Polled
+pub mod Kept
+pub mod Idle
+pub mod Ended
+pub mod Answered

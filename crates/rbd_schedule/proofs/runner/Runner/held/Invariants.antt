@@ -1,0 +1,10 @@
+use Rattle.std.proofs.Common.{◌≡◌, ℕ, ◌<◌, ◌+◌, Some, length, slice_get}
+use Rattle.rbd_schedule.specs.Schedule.{is_held}
+use Rattle.rbd_schedule.proofs.runner.Runner.held.Given as goal
+
+-- the slots so far were looked at
+abbrev pub invariant-loop-k : goal.invariant-loop-k
+invariant-loop-k g l = record {
+  count : length l.held ≡ 64;
+  held : (j : ℕ) → j < l.k → slice_get l.held j ≡ Some (is_held l.fn.session (j + 1) l.fn.self.world);
+}

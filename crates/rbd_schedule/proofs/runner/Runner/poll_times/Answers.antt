@@ -1,0 +1,34 @@
+use Rattle.std.proofs.Common.{◌≡◌, subst, arith}
+use Rattle.rbd_requests.specs.Session.{stands_of}
+use Rattle.rbd_schedule.specs.Deeds.{Deeds}
+use Rattle.rbd_schedule.specs.Playing.{given_to}
+use Rattle.rbd_schedule.specs.Schedule.{Polls}
+use Rattle.rbd_schedule.proofs.Done.{none_done, one_more}
+use Rattle.rbd_schedule.proofs.Goes.{goes_same, goes_then, has_changer}
+use Rattle.rbd_schedule.proofs.runner.Runner.poll_times.Goals as goal
+
+pub loop-init : goal.loop-init
+loop-init g c = record {
+  goes = goes_same c.args.self.now;
+  polls = none_done (λ k. Polls (stands_of g.E.Machine.stands) (given_to c.args.self.now) c.args.session c.args.slot) c.args.self.now.world;
+}
+
+pub poll-requires : goal.poll-requires
+poll-requires g c = has_changer c.args.self.now c.loop.self c.requires c.loop.invariant.goes
+
+pub loop-preserved : goal.loop-preserved
+loop-preserved g c = record {
+  goes = goes_then c.args.self.now c.loop.self c.poll.new.self c.loop.invariant.goes c.in_ok-poll.ensures.goes;
+  polls = one_more (λ k. Polls (stands_of g.E.Machine.stands) (given_to c.args.self.now) c.args.session c.args.slot) c.loop.counter c.args.self.now.world c.loop.self.world c.poll.new.self.world
+      c.loop.invariant.polls
+      (subst (λ given. Polls (stands_of g.E.Machine.stands) given c.args.session c.args.slot c.loop.self.world c.poll.new.self.world) c.loop.invariant.goes.given
+      (record { result = c.in_ok-poll.field-0; comes = c.in_ok-poll.ensures.comes }));
+}
+
+pub returns-clause-polls : goal.returns-clause-polls
+returns-clause-polls g c =
+    let all : c.loop.counter ≡ c.args.times = omega (arith, c.loop-test.false, c.loop.auto.counter-end) in
+    subst (λ n. Deeds (λ k. Polls (stands_of g.E.Machine.stands) (given_to c.args.self.now) c.args.session c.args.slot) n c.args.self.now.world c.loop.self.world) all c.loop.invariant.polls
+
+pub returns-clause-goes : goal.returns-clause-goes
+returns-clause-goes g c = c.loop.invariant.goes

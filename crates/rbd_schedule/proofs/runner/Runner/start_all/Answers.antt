@@ -1,0 +1,42 @@
+use Rattle.std.proofs.Common.{◌+◌, sym, subst}
+use Rattle.rbd_requests.specs.Session.{stands_of}
+use Rattle.rbd_schedule.specs.Deeds.{Deeds}
+use Rattle.rbd_schedule.specs.Playing.{StartsWhere, given_to}
+use Rattle.rbd_schedule.specs.Schedule.{Starts}
+use Rattle.rbd_schedule.proofs.Done.{none_done, one_more}
+use Rattle.rbd_schedule.proofs.Goes.{goes_same, goes_then, has_changer, left_again, quiet_again, starts_one}
+use Rattle.rbd_schedule.proofs.runner.Runner.start_all.Goals as goal
+
+pub loop-init : goal.loop-init
+loop-init g c = record { goes = goes_same c.args.self.now; count = 0; starts = none_done (λ k. Starts (stands_of g.E.Machine.stands) (given_to c.args.self.now)) c.args.self.now.world }
+
+pub start_next-requires : goal.start_next-requires
+start_next-requires g c = has_changer c.args.self.now c.loop.self c.requires c.loop.invariant.goes
+
+pub loop-smaller : goal.loop-smaller
+loop-smaller g c =
+    left_again c.loop.self c.start_next.new.self c.in_ok-start_next.ensures.goes
+    (starts_one (stands_of g.E.Machine.stands) c.loop.self (has_changer c.args.self.now c.loop.self c.requires c.loop.invariant.goes) c.start_next.new.self.world
+    (subst (λ b. StartsWhere (stands_of g.E.Machine.stands) (given_to c.loop.self) b c.loop.self.world c.start_next.new.self.world) c.if-branch.true c.in_ok-start_next.ensures.starts))
+
+pub loop-preserved : goal.loop-preserved
+loop-preserved g c = record {
+  goes = goes_then c.args.self.now c.loop.self c.start_next.new.self c.loop.invariant.goes c.in_ok-start_next.ensures.goes;
+  count = c.loop.invariant.count + 1;
+  starts = one_more (λ k. Starts (stands_of g.E.Machine.stands) (given_to c.args.self.now)) c.loop.invariant.count c.args.self.now.world c.loop.self.world c.start_next.new.self.world c.loop.invariant.starts
+      (subst (λ given. Starts (stands_of g.E.Machine.stands) given c.loop.self.world c.start_next.new.self.world) c.loop.invariant.goes.given
+      (subst (λ b. StartsWhere (stands_of g.E.Machine.stands) (given_to c.loop.self) b c.loop.self.world c.start_next.new.self.world) c.if-branch.true c.in_ok-start_next.ensures.starts));
+}
+
+pub returns-clause-starts : goal.returns-clause-starts
+returns-clause-starts g c =
+    let none = subst (λ b. StartsWhere (stands_of g.E.Machine.stands) (given_to c.loop.self) b c.loop.self.world c.start_next.new.self.world) c.if-branch.false c.in_ok-start_next.ensures.starts in
+    let stands = stands_of g.E.Machine.stands in
+    record {
+      count = c.loop.invariant.count;
+      starts = subst (λ w. Deeds (λ k. Starts stands (given_to c.args.self.now)) c.loop.invariant.count c.args.self.now.world w) (sym none.0) c.loop.invariant.starts;
+      quiet = quiet_again (given_to c.loop.self) (given_to c.args.self.now) c.loop.self.world c.start_next.new.self.world c.loop.invariant.goes.given none.0 none.1;
+    }
+
+pub returns-clause-goes : goal.returns-clause-goes
+returns-clause-goes g c = goes_then c.args.self.now c.loop.self c.start_next.new.self c.loop.invariant.goes c.in_ok-start_next.ensures.goes

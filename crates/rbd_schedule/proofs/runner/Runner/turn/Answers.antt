@@ -1,0 +1,48 @@
+use Rattle.std.proofs.Common.{◌≡◌, ◌+◌, subst, arith}
+use Rattle.std.proofs.lemmas.Option.{get_or_from_slice_get}
+use Rattle.rbd_requests.specs.Session.{stands_of}
+use Rattle.rbd_schedule.specs.Deeds.{Deeds}
+use Rattle.rbd_schedule.specs.Playing.{given_to}
+use Rattle.rbd_schedule.specs.Schedule.{PollsWhere, is_held}
+use Rattle.rbd_schedule.proofs.Done.{none_done, one_more}
+use Rattle.rbd_schedule.proofs.Goes.{goes_then, has_changer}
+use Rattle.rbd_schedule.proofs.Polled.{polls_so}
+use Rattle.rbd_schedule.proofs.runner.Runner.turn.Goals as goal
+
+pub loop-k-init : goal.loop-k-init
+loop-k-init g c = record {
+  goes = c.in_ok-went_on.ensures.goes;
+  polls = none_done (λ k. PollsWhere (stands_of g.E.Machine.stands) (given_to c.args.self.now) (is_held c.args.session (k + 1) c.poll_in.new.self.world) c.args.session (k + 1))
+      (record { world = c.poll_in.new.self.world; went_on = c.in_ok-went_on.went_on });
+}
+
+pub poll_held-requires : goal.poll_held-requires
+poll_held-requires g c = has_changer c.args.self.now c.loop-k.self c.requires c.loop-k.invariant.goes
+
+pub loop-k-preserved : goal.loop-k-preserved
+loop-k-preserved g c = record {
+  goes = goes_then c.args.self.now c.loop-k.self c.poll_held.new.self c.loop-k.invariant.goes c.in_ok-went_on-2.ensures.goes;
+  polls = one_more (λ k. PollsWhere (stands_of g.E.Machine.stands) (given_to c.args.self.now) (is_held c.args.session (k + 1) c.poll_in.new.self.world) c.args.session (k + 1)) c.loop-k.k
+      (record { world = c.poll_in.new.self.world; went_on = c.in_ok-went_on.went_on }) (record { world = c.loop-k.self.world; went_on = c.loop-k.went_on })
+      (record { world = c.poll_held.new.self.world; went_on = c.in_ok-went_on-2.went_on }) c.loop-k.invariant.polls
+      (polls_so (stands_of g.E.Machine.stands) (given_to c.args.self.now) (given_to c.loop-k.self) (is_held c.args.session (c.loop-k.k + 1) c.poll_in.new.self.world) _ c.args.session (c.loop-k.k + 1)
+      (record { world = c.loop-k.self.world; went_on = c.loop-k.went_on }) (record { world = c.poll_held.new.self.world; went_on = c.in_ok-went_on-2.went_on })
+      c.loop-k.invariant.goes.given
+      (get_or_from_slice_get c.held-held.result c.loop-k.k (is_held c.args.session (c.loop-k.k + 1) c.poll_in.new.self.world) _ (c.held-held.ensures c.loop-k.k c.loop-k-test.true))
+      c.in_ok-went_on-2.ensures.polls);
+}
+
+pub returns-clause-turn : goal.returns-clause-turn
+returns-clause-turn g c =
+    let all : c.loop-k.k ≡ 64 = omega (arith, c.loop-k-test.false, c.loop-k.auto.k-end) in
+    record {
+      point = record { world = c.poll_in.new.self.world; went_on = c.in_ok-went_on.went_on };
+      slot_0 = c.in_ok-went_on.ensures.polls;
+      held = subst
+          (λ n. Deeds (λ k. PollsWhere (stands_of g.E.Machine.stands) (given_to c.args.self.now) (is_held c.args.session (k + 1) c.poll_in.new.self.world) c.args.session (k + 1)) n
+          (record { world = c.poll_in.new.self.world; went_on = c.in_ok-went_on.went_on }) (record { world = c.loop-k.self.world; went_on = c.loop-k.went_on }))
+          all c.loop-k.invariant.polls;
+    }
+
+pub returns-clause-goes : goal.returns-clause-goes
+returns-clause-goes g c = c.loop-k.invariant.goes

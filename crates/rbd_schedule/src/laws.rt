@@ -1,0 +1,34 @@
+//! What holds of each script that was read, of each session, and of each play: each law is the
+//! contract of a function that does nothing.
+ghost use Rattle.std.specs.Prelude.{◌≡◌, ◌⊎◌, ℕ, ◌≤◌, Bool, List, length, Ok, Some};
+ghost use Rattle.rbd_script.specs.Reading.{reading};
+ghost use Rattle.rbd_script.specs.declared.script.Script.{Script};
+ghost use Rattle.rbd_session.specs.Session.{SessionView, IsSoundSession, held_in};
+ghost use Rattle.rbd_session.specs.declared.running.Occupant.{Occupant};
+ghost use Rattle.rbd_world.specs.World.{WorldView};
+ghost use Rattle.rbd_schedule.specs.Ends.{AreAnswered, IsSpent};
+ghost use Rattle.rbd_schedule.specs.Going.{MayGo};
+ghost use Rattle.rbd_schedule.specs.InOrder.{AreDeclared, AreInOrder};
+ghost use Rattle.rbd_schedule.specs.Playing.{IsPlay, IsPlayable};
+
+use rbd_course::Request;
+
+/// The numbers of a script's lines begin at 1 or later and ascend, so no two lines have the same;
+/// whom a line names is declared; and there are at most 32 sessions.
+pub fn scripts_are_in_order()
+    ensures lines { (threads : Bool) (bytes : List ℕ) (s : Script) → reading threads bytes ≡ Ok s → AreInOrder s.lines }
+    ensures declared { (threads : Bool) (bytes : List ℕ) (s : Script) → reading threads bytes ≡ Ok s → AreDeclared (length s.sessions) s.lines }
+    ensures sessions { (threads : Bool) (bytes : List ℕ) (s : Script) → reading threads bytes ≡ Ok s → length s.sessions ≤ 32 }
+{}
+
+/// In a session with a request some request may go on: what waits, waits for another of its
+/// session, and who is first in a line never waits.
+pub fn somebody_goes_on<R: Request>()
+    ensures { (s : SessionView R) (slot : ℕ) (o : Occupant R) → IsSoundSession R.stands s → held_in slot s.slots ≡ Some o → MayGo s }
+{}
+
+/// At the end of a play each command has its reply; or all the rounds that close a script were
+/// played, `2^60` for each command and once more, and never were eight in a row idle.
+pub fn plays_end_with_replies<R: Request>()
+    ensures { (script : Script) (w : WorldView R) → IsPlayable script → (play : IsPlay R.stands script w) → AreAnswered script w.history ⊎ IsSpent R.stands script w play }
+{}

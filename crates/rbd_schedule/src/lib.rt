@@ -1,0 +1,74 @@
+//! The schedule of a script: which event comes next, and a play of it on a world.
+//!
+//! ```text
+//! let world: World<CreateRequest> = play(alloc, &script)?;   // a script that `rbd_script` read
+//! world.history()                                            // what happened, in order
+//! world.calls()                                              // the events, each with what came of it
+//! ```
+//!
+//! ```text
+//! client c1 a
+//! client c2 a
+//! c1 create d 8192 object 4096
+//! @settle 8                        c1's create is done
+//! c1 write d 4094 11111111         begun, in slot 1 of c1
+//! @poll c1 1 4                     dir-find, two looks, and the piece in object 0
+//! c2 read d 4094 4                 begun, in slot 1 of c2
+//! @settle 8                        rounds: c1 writes object 1, while c2 reads; each has its reply
+//! ```
+//!
+//! # Rules
+//!
+//! - When a line with a command is reached, its session is given the command. Behind each line and
+//!   each event all commands that may start are submitted, one after another: that of the first
+//!   session, in the order of declaration, which has one, and of its commands the earliest. One may
+//!   start where its session has a free slot, and either it has `&`, or each earlier command of its
+//!   session has its reply.
+//! - `@poll` polls a slot so many times. `@until` looks before each poll, and polls until the slot
+//!   wants the operation of that word, 4,096 times at most.
+//! - `@settle` plays rounds. In a round each session has its turn, in the order of declaration: its
+//!   slot 0 is polled, and then each slot that is held at this point, in ascending order. A round in
+//!   which no request went on is idle, and eight of these in a row end it.
+//! - Behind the last line come `2^60 * (commands + 1)` rounds more, or as many as it takes until eight
+//!   in a row are idle.
+//!
+//! # Contracts
+//!
+//! | file | what it says |
+//! |---|---|
+//! | `specs/Given.antt` | the commands that lines give to sessions |
+//! | `specs/Starts.antt` | which of them may start (`to_start`), and that none may (`IsQuiet`) |
+//! | `specs/Schedule.antt` | the schedule, as a relation on worlds: an event and what starts behind it, polls, turns, rounds, lines, a script (`PlaysScript`) |
+//! | `specs/Deeds.antt` | deeds, one after another |
+//! | `specs/Playing.antt` | which scripts are played (`IsPlayable`), and what a play is (`IsPlay`); and what the runner keeps |
+//! | `specs/InOrder.antt` | what holds of the lines of each script that was read |
+//! | `specs/Going.antt` | whether a request of a session may go on (`MayGo`) |
+//! | `specs/Ends.antt` | that each command has its reply at the end (`AreAnswered`), or all closing rounds were played (`IsSpent`) |
+//!
+//! [`play`] answers with a world to which the script's schedule led, from a new one on: each of its
+//! calls is the event that the rules name behind the calls before it. [`laws`] says of each script
+//! that was read that its lines ascend and name declared sessions; of each session with a request
+//! that one of its requests may go on; and so of each play that at its end each command has its
+//! reply, or all the closing rounds were played.
+//!
+//! # Cost
+//!
+//! An event costs its step in the world (`rbd_world`), and behind it a look at each session's queue:
+//! two look-ups by number. A command is passed by in its queue once, so all looks together cost as
+//! much as there are commands. A turn looks at all 64 slots of its session, whatever it holds.
+//!
+//! # How it works
+//!
+//! Beside the world the runner has a queue of commands for each session, and the lines that have
+//! their reply. A queue has two places that only go on: all commands before the one are over, and
+//! none before the other stands beside the others and wasn't begun.
+#![tactic(auto)]
+
+mod given;
+pub mod laws;
+mod queue;
+mod rounds;
+mod runner;
+mod script;
+
+pub use script::play;

@@ -1,0 +1,135 @@
+//! The commands that a session was given, and which of them starts next.
+//!
+//! ```text
+//!         0      front          next                    commands.len()
+//!         │ over   │              │                         │
+//!         └────────┴──────────────┴─────────────────────────┘
+//!                  the earliest that isn't over
+//!                                 the earliest with `&` that wasn't begun
+//! ```
+//!
+//! Both places only go on, so that all looks together cost as much as there are commands.
+ghost use Rattle.std.specs.Prelude.{◌≡◌, ℕ, ◌+◌, ◌<◌, ◌≤◌, ◌∷◌, ◌++◌, [], Bool, true, false, All, length, take, get_or, slice_get, Some, OnOk, IfSome};
+ghost use Rattle.rbd_schedule.specs.declared.given.Given.{Given as Commanded};
+ghost use Rattle.rbd_world.specs.Step.{is_begun};
+ghost use Rattle.rbd_schedule.specs.Playing.{IsQueue, at_place, is_beside, is_over as over, has_line};
+ghost use Rattle.rbd_schedule.specs.Starts.{earliest as earliest_of};
+
+use crate::given::Given;
+use rbd_kinds::NoMemory;
+use rbd_machine::Machine;
+use rbd_world::World;
+use std::alloc::Global;
+use std::collections::HashSet;
+
+/// The commands of a session, in the order of the script.
+#[derive(Debug, Drop)]
+pub struct Queue {
+    pub commands: Vec<Given>,
+    /// All before it are begun and answered.
+    front: usize,
+    /// None before it stands beside the others and wasn't begun.
+    next: usize,
+}
+
+impl Queue {
+    /// No commands. It takes no memory.
+    pub fn new(alloc: Global) -> Self
+        ensures commands { result.commands.items ≡ [] }
+        ensures front { result.front ≡ 0 }
+        ensures next { result.next ≡ 0 }
+    {
+        Queue {
+            commands: Vec::new(alloc),
+            front: 0,
+            next: 0,
+        }
+    }
+
+    /// A command is given to the session.
+    pub fn push(&mut self, given: Given) -> Result<(), NoMemory>
+        ensures commands { OnOk result (self.new.commands.items ≡ self.old.commands.items ++ given ∷ []) }
+        ensures front { self.new.front ≡ self.old.front }
+        ensures next { self.new.next ≡ self.old.next }
+    {
+        self.commands.push(given)?;
+        Ok(())
+    }
+
+    /// The place of the earliest command that may start, where the session has a free slot.
+    pub fn earliest<E: Machine + Drop>(
+        &mut self,
+        world: &World<E>,
+        answered: &HashSet<u32>,
+    ) -> Option<usize>
+        requires { IsQueue (λ line. is_begun line world.now.history) (λ line. has_line line answered.now) self.old }
+        ensures earliest { at_place self.old.commands.items result ≡ earliest_of (λ line. is_begun line world.now.history) (λ line. has_line line answered.now) true self.old.commands.items }
+        ensures place { IfSome result (λ place. place < length self.old.commands.items) }
+        ensures queue { IsQueue (λ line. is_begun line world.now.history) (λ line. has_line line answered.now) self.new }
+        ensures commands { self.new.commands ≡ self.old.commands }
+    {
+        self.front = first_open(self.commands.as_slice(), self.front, world, answered);
+        let first = self.commands.get(self.front)?;
+        if !world.has_begun(first.line) {
+            return Some(self.front);
+        }
+        self.next = first_beside(self.commands.as_slice(), self.next, world);
+        if self.next < self.commands.len() {
+            Some(self.next)
+        } else {
+            None
+        }
+    }
+}
+
+/// The first place from this one on whose command isn't over, and the end where there is none.
+fn first_open<E: Machine + Drop>(
+    commands: &[Given],
+    from: usize,
+    world: &World<E>,
+    answered: &HashSet<u32>,
+) -> usize
+    requires from { from ≤ length commands.now }
+    requires over { All (λ c. over (λ line. is_begun line world.now.history) (λ line. has_line line answered.now) c ≡ true) (take from commands.now) }
+    ensures end { result ≤ length commands.now }
+    ensures over { All (λ c. over (λ line. is_begun line world.now.history) (λ line. has_line line answered.now) c ≡ true) (take result commands.now) }
+    ensures open { (c : Commanded) → slice_get commands.now result ≡ Some c → over (λ line. is_begun line world.now.history) (λ line. has_line line answered.now) c ≡ false }
+{
+    for place in from..commands.len() {
+        if !is_over(&commands[place], world, answered) {
+            return place;
+        }
+    }
+    commands.len()
+}
+
+/// Whether a command is begun and answered.
+fn is_over<E: Machine + Drop>(given: &Given, world: &World<E>, answered: &HashSet<u32>) -> bool
+    ensures { result ≡ over (λ line. is_begun line world.now.history) (λ line. has_line line answered.now) given.now }
+{
+    world.has_begun(given.line) && answered.contains(&given.line)
+}
+
+/// The first place from this one on whose command stands beside the others and wasn't begun, and the
+/// end where there is none.
+fn first_beside<E: Machine + Drop>(commands: &[Given], from: usize, world: &World<E>) -> usize
+    requires from { from ≤ length commands.now }
+    requires begun { All (λ c. is_beside (λ line. is_begun line world.now.history) c ≡ false) (take from commands.now) }
+    ensures end { result ≤ length commands.now }
+    ensures begun { All (λ c. is_beside (λ line. is_begun line world.now.history) c ≡ false) (take result commands.now) }
+    ensures beside { (c : Commanded) → slice_get commands.now result ≡ Some c → is_beside (λ line. is_begun line world.now.history) c ≡ true }
+{
+    for place in from..commands.len() {
+        if may_start_beside(&commands[place], world) {
+            return place;
+        }
+    }
+    commands.len()
+}
+
+/// Whether a command stands beside the others and wasn't begun.
+fn may_start_beside<E: Machine + Drop>(given: &Given, world: &World<E>) -> bool
+    ensures { result ≡ is_beside (λ line. is_begun line world.now.history) given.now }
+{
+    given.beside && !world.has_begun(given.line)
+}

@@ -1,0 +1,137 @@
+//! Rounds, in which all that can go on does.
+//!
+//! ```text
+//! settle    round, round, .. ── as many as asked, or until eight in a row were idle
+//! round     turn of session 0, turn of session 1, ..
+//! turn      slot 0, and then each slot that is held at this point
+//! ```
+ghost use Rattle.std.specs.Prelude.{◌≡◌, ℕ, ◌+◌, ◌<◌, ◌≤◌, ◌||◌, if◌then◌else◌, length, is_some, slice_get, Some, IfOk, OnOk};
+ghost use Rattle.rbd_requests.specs.declared.request.SessionRequest.{SessionRequest as Of};
+ghost use Rattle.rbd_requests.specs.Session.{stands_of};
+ghost use Rattle.rbd_schedule.specs.Playing.{GoesOn, HasChanger, given_to};
+ghost use Rattle.rbd_schedule.specs.Schedule.{Pace, PollsIn, PollsWhere, Round, Settles, Turn, goes_on as goes_on_by, is_held};
+
+use crate::runner::Runner;
+use rbd_kinds::{NoMemory, SessionNo, Slot};
+use rbd_machine::Machine;
+use rbd_world::Outcome;
+use std::alloc::Global;
+
+/// So many rounds that are idle in a row end a settle.
+const MOST_IDLE: u8 = 8;
+
+impl<E: Machine + Drop> Runner<E> {
+    /// So many rounds, or as many as it takes until eight are idle in a row.
+    pub fn settle(&mut self, alloc: Global, rounds: u128) -> Result<(), NoMemory>
+        requires { HasChanger self.old }
+        ensures settles { OnOk result (Settles (stands_of E.stands) (given_to self.old) (length self.old.queues.items) rounds self.old.world self.new.world) }
+        ensures goes { OnOk result (GoesOn (stands_of E.stands) self.old self.new) }
+    {
+        let mut left = rounds;
+        let mut idle = 0;
+        while left > 0 && idle < MOST_IDLE {
+            let went_on = self.round(alloc)?;
+            idle = idle_after(went_on, idle);
+            left -= 1;
+        }
+        Ok(())
+    }
+
+    /// A round: whether a request went on in it.
+    fn round(&mut self, alloc: Global) -> Result<bool, NoMemory>
+        requires { HasChanger self.old }
+        ensures round { IfOk result (λ went_on. Round (stands_of E.stands) (given_to self.old) (length self.old.queues.items) went_on self.old.world self.new.world) }
+        ensures goes { OnOk result (GoesOn (stands_of E.stands) self.old self.new) }
+    {
+        let mut went_on = false;
+        for session in 0..self.sessions() {
+            went_on = self.turn(alloc, SessionNo(session as u8), went_on)?;
+        }
+        Ok(went_on)
+    }
+
+    /// The turn of a session: slot 0, and then each slot that is held at this point.
+    fn turn(&mut self, alloc: Global, session: SessionNo, went_on: bool) -> Result<bool, NoMemory>
+        requires { HasChanger self.old }
+        ensures turn { IfOk result (λ went_on'. Turn (stands_of E.stands) (given_to self.old) session (record { world = self.old.world; went_on = went_on }) (record { world = self.new.world; went_on = went_on' })) }
+        ensures goes { OnOk result (GoesOn (stands_of E.stands) self.old self.new) }
+    {
+        let mut went_on = self.poll_in(alloc, session, Slot(0), went_on)?;
+        let held = self.held(session);
+        for k in 0..64 {
+            went_on = self.poll_held(alloc, session, Slot(k as u8 + 1), held[k], went_on)?;
+        }
+        Ok(went_on)
+    }
+
+    /// A poll in a round where the slot is held: whether a request went on in the round so far.
+    fn poll_held(
+        &mut self,
+        alloc: Global,
+        session: SessionNo,
+        slot: Slot,
+        held: bool,
+        went_on: bool,
+    ) -> Result<bool, NoMemory>
+        requires { HasChanger self.old }
+        ensures polls { IfOk result (λ went_on'. PollsWhere (stands_of E.stands) (given_to self.old) held session slot (record { world = self.old.world; went_on = went_on }) (record { world = self.new.world; went_on = went_on' })) }
+        ensures goes { OnOk result (GoesOn (stands_of E.stands) self.old self.new) }
+    {
+        if held {
+            self.poll_in(alloc, session, slot, went_on)
+        } else {
+            Ok(went_on)
+        }
+    }
+
+    /// A poll in a round: whether a request went on in the round so far.
+    fn poll_in(
+        &mut self,
+        alloc: Global,
+        session: SessionNo,
+        slot: Slot,
+        went_on: bool,
+    ) -> Result<bool, NoMemory>
+        requires { HasChanger self.old }
+        ensures polls { IfOk result (λ went_on'. PollsIn (stands_of E.stands) (given_to self.old) session slot (record { world = self.old.world; went_on = went_on }) (record { world = self.new.world; went_on = went_on' })) }
+        ensures goes { OnOk result (GoesOn (stands_of E.stands) self.old self.new) }
+    {
+        let outcome = self.poll(alloc, session, slot)?;
+        Ok(went_on || goes_on(outcome))
+    }
+
+    /// Which slots of a session are held: those from 1 on.
+    fn held(&self, session: SessionNo) -> [bool; 64]
+        ensures { (k : ℕ) → k < 64 → slice_get result k ≡ Some (is_held session (k + 1) self.now.world) }
+    {
+        let mut held = [false; 64];
+        for k in 0..64 {
+            held[k] = self.world.line(session, Slot(k as u8 + 1)).is_some();
+        }
+        held
+    }
+}
+
+/// How many rounds were idle in a row, behind one more.
+fn idle_after(went_on: bool, idle: u8) -> u8
+    requires { idle < 8 }
+    ensures idle { result ≡ (if went_on then 0 else idle + 1) }
+    ensures few { result ≤ 8 }
+{
+    if went_on { 0 } else { idle + 1 }
+}
+
+/// Whether a request went on: a step, and none that only asks again for a lock.
+fn goes_on(outcome: Outcome) -> bool
+    ensures { result ≡ goes_on_by outcome }
+{
+    match outcome {
+        Outcome::Step {
+            site: _,
+            number: _,
+            waiting,
+            replied: _,
+        } => !waiting,
+        _ => false,
+    }
+}

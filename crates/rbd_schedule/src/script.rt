@@ -1,0 +1,146 @@
+//! Plays a script.
+ghost use Rattle.std.specs.Prelude.{◌≡◌, ℕ, ◌↔◌, length, IsTrue, IfOk, OnOk};
+ghost use Rattle.rbd_requests.specs.declared.request.SessionRequest.{SessionRequest as Of};
+ghost use Rattle.rbd_requests.specs.Session.{stands_of};
+ghost use Rattle.rbd_schedule.specs.Deeds.{Deeds};
+ghost use Rattle.rbd_schedule.specs.Given.{commands_of, given_by};
+ghost use Rattle.rbd_schedule.specs.Playing.{GoesOn, HasChanger, IsPlay, IsPlayable, IsPlayedBySome, given_to};
+ghost use Rattle.rbd_schedule.specs.Schedule.{Plays, Polls, PollsUntil, Wants, closing_rounds as rounds_for};
+
+use crate::runner::Runner;
+use rbd_kinds::{NoMemory, OpKind, SessionNo, Slot};
+use rbd_machine::Machine;
+use rbd_script::{Line, Said, Script};
+use rbd_world::World;
+use std::alloc::Global;
+
+/// How many polls an `@until` makes at most.
+const MOST_POLLS: u32 = 4096;
+
+/// How many rounds close a script for each of its commands, and once more: more than any machine
+/// makes.
+const CLOSING_ROUNDS: u128 = 1 << 60;
+
+/// Plays a script by its schedule, from a new world on to the end. It takes memory for the script's
+/// commands once more, and for what happens in the world.
+pub fn play<E: Machine + Drop>(alloc: Global, script: &Script) -> Result<World<E>, NoMemory>
+    requires { IsPlayable script.now }
+    ensures { IfOk result (IsPlay (stands_of E.stands) script.now) }
+{
+    let mut runner = Runner::new(alloc, script.sessions.as_slice())?;
+    for line in script.lines.as_slice() {
+        runner.give(line)?;
+        runner.play_line(alloc, &line.said)?;
+    }
+    runner.settle(alloc, closing_rounds(script.lines.as_slice()))?;
+    Ok(runner.into_world())
+}
+
+impl<E: Machine + Drop> Runner<E> {
+    /// What a line does when it is reached.
+    fn play_line(&mut self, alloc: Global, said: &Said) -> Result<(), NoMemory>
+        requires changer { HasChanger self.old }
+        requires played { IsPlayedBySome said.now }
+        ensures plays { OnOk result (Plays (stands_of E.stands) (given_to self.old) (length self.old.queues.items) said.now self.old.world self.new.world) }
+        ensures goes { OnOk result (GoesOn (stands_of E.stands) self.old self.new) }
+    {
+        match said {
+            Said::Command {
+                session: _,
+                beside: _,
+                command: _,
+            } => self.start_all(alloc),
+            Said::Poll {
+                session,
+                slot,
+                times,
+            } => self.poll_times(alloc, *session, *slot, *times),
+            Said::Until {
+                session,
+                slot,
+                kind,
+            } => self.poll_until(alloc, *session, *slot, *kind),
+            Said::Settle(rounds) => self.settle(alloc, rounds.get() as u128),
+            Said::Trim {
+                site,
+                image,
+                object,
+            } => self.trim(alloc, *site, *image, object.get()),
+            _ => Ok(()),
+        }
+    }
+
+    /// So many polls of a slot.
+    fn poll_times(
+        &mut self,
+        alloc: Global,
+        session: SessionNo,
+        slot: Slot,
+        times: u32,
+    ) -> Result<(), NoMemory>
+        requires { HasChanger self.old }
+        ensures polls { OnOk result (Deeds (λ k. Polls (stands_of E.stands) (given_to self.old) session slot) times self.old.world self.new.world) }
+        ensures goes { OnOk result (GoesOn (stands_of E.stands) self.old self.new) }
+    {
+        for _ in 0..times {
+            self.poll(alloc, session, slot)?;
+        }
+        Ok(())
+    }
+
+    /// Polls of a slot until it wants an operation of the kind, 4,096 at most.
+    fn poll_until(
+        &mut self,
+        alloc: Global,
+        session: SessionNo,
+        slot: Slot,
+        kind: OpKind,
+    ) -> Result<(), NoMemory>
+        requires { HasChanger self.old }
+        ensures polls { OnOk result (PollsUntil (stands_of E.stands) (given_to self.old) session slot kind self.old.world self.new.world) }
+        ensures goes { OnOk result (GoesOn (stands_of E.stands) self.old self.new) }
+    {
+        for _ in 0..MOST_POLLS {
+            if self.wants(session, slot, kind) {
+                return Ok(());
+            }
+            self.poll(alloc, session, slot)?;
+        }
+        Ok(())
+    }
+
+    /// Whether a slot wants an operation of the kind.
+    fn wants(&self, session: SessionNo, slot: Slot, kind: OpKind) -> bool
+        ensures { IsTrue result ↔ Wants (stands_of E.stands) session slot kind self.now.world }
+    {
+        match self.world.kind(session, slot) {
+            Some((_, wanted)) => wanted == kind,
+            None => false,
+        }
+    }
+}
+
+/// The rounds that close a script.
+fn closing_rounds(lines: &[Line]) -> u128
+    ensures { result ≡ rounds_for (length (commands_of lines.now)) }
+{
+    let mut commands = 0u64;
+    for line in lines {
+        commands += given(&line.said);
+    }
+    CLOSING_ROUNDS * (commands as u128 + 1)
+}
+
+/// How many commands a line gives: one, or none.
+fn given(said: &Said) -> u64
+    ensures { result ≡ length (given_by 0 said.now) }
+{
+    match said {
+        Said::Command {
+            session: _,
+            beside: _,
+            command: _,
+        } => 1,
+        _ => 0,
+    }
+}
