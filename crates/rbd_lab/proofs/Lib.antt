@@ -1,4 +1,5 @@
-mod Taken
-mod WordLists
+mod Built
 mod Shown
-mod Lines
+mod Taken
+mod Told
+mod WordLists

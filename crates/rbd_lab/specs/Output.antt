@@ -1,57 +1,43 @@
 -- What is printed of a script.
-use Rattle.std.specs.Prelude.{◌≡◌, ℕ, List, []}
-use Rattle.rbd_kinds.specs.declared.id.Instance.{Instance}
-use Rattle.rbd_kinds.specs.declared.id.SiteId.{SiteId}
-use Rattle.rbd_kinds.specs.declared.id.SiteId.TheVariants.{A, B}
+use Rattle.std.specs.Prelude.{◌≡◌, ◌⊎◌, ℕ, List, All}
+use Rattle.rbd_admin.specs.Create.{rest_of_create}
+use Rattle.rbd_admin.specs.declared.create.CreateRequest.{CreateRequest}
 use Rattle.rbd_flat.specs.declared.entry.Entry.{Entry}
+use Rattle.rbd_kinds.specs.declared.id.SiteId.TheVariants.{A, B}
+use Rattle.rbd_machine.specs.Plan.{Standing, without_labels}
+use Rattle.rbd_replies.specs.Worlds.{IsToldIn}
+use Rattle.rbd_requests.specs.Session.{stands_of}
+use Rattle.rbd_requests.specs.declared.request.SessionRequest.{SessionRequest}
+use Rattle.rbd_schedule.specs.Ends.{AreAnswered, IsSpent}
+use Rattle.rbd_schedule.specs.Playing.{IsPlay}
 use Rattle.rbd_script.specs.declared.script.Script.{Script}
 use Rattle.rbd_site.specs.declared.done.Done.{Done}
-use Rattle.rbd_site.specs.Log.{AreAnswered, AreNumbered}
-use Rattle.rbd_site.specs.Records.{no_records}
-use Rattle.rbd_solo.specs.Story.{Played, IsPlayed}
 use Rattle.rbd_text.specs.Text.{replies_text, trace_text}
-use Rattle.rbd_lab.specs.Script.{commands_of, home_of}
+use Rattle.rbd_world.specs.World.{WorldView, site_in}
 use Rattle.rbd_lab.specs.declared.mode.Mode.{Mode}
 use Rattle.rbd_lab.specs.declared.mode.Mode.TheVariants.{Replies, Trace}
 
--- the first life of the one session
-abbrev pub first_life : Instance
-first_life = record { session = 0; life = 0 }
+-- the requests of the program's sessions, and where each stands
+abbrev pub Requests : Type 0
+Requests = SessionRequest CreateRequest
 
--- a log as that of site a, or of site b, where it is the other's
-abbrev pub on_a : SiteId → List Done → List Done
-on_a A log = log
-on_a B log = []
-
-abbrev pub on_b : SiteId → List Done → List Done
-on_b A log = []
-on_b B log = log
-
--- the log of a site, where it is the one that was played on
-abbrev pub log_at : SiteId → Played → List Done
-log_at A p = on_a p.site.id p.site.log
-log_at B p = on_b p.site.id p.site.log
+abbrev pub stands : Requests → Standing
+stands = stands_of (λ (r : CreateRequest). without_labels (rest_of_create r))
 
 -- the replies alone, or the history and the logs before them
 abbrev pub told_text : Mode → Script → (history : List Entry) → (a b : List Done) → List ℕ
 told_text Replies script history a b = replies_text script history a b
 told_text Trace script history a b = trace_text script history a b
 
-abbrev pub text_of : Mode → Script → Played → List ℕ
-text_of mode script p = told_text mode script p.history (log_at A p) (log_at B p)
+abbrev pub text_of : Mode → Script → WorldView Requests → List ℕ
+text_of mode script w = told_text mode script w.history (site_in A w.sites).log (site_in B w.sites).log
 
--- The script's commands were played by its session at its home: the history is theirs (each request
--- with its operations, its reply and its effects over the flat site before it), and the log has
--- these operations, each with the answer of the records that the earlier ones left.
-pub record IsPlay (script : Script) (p : Played) : Type 0 where
-  pub played : IsPlayed p (commands_of script.lines)
-  pub home : p.site.id ≡ home_of script.sessions
-  pub me : p.me ≡ first_life
-  pub answered : AreAnswered no_records p.site.log
-  pub numbered : AreNumbered 1 p.site.log
-
--- the text tells such a play
+-- The text tells a world that the script's schedule led to, from a new one on: its history, its logs
+-- and its replies. Each reply in this history is the flat-copy machine's, at its place. Each command
+-- has its reply, unless all the rounds that close a script were played, more than any machine plays.
 pub record IsTold (mode : Mode) (script : Script) (text : List ℕ) : Type 0 where
-  pub play : Played
-  pub is : IsPlay script play
-  pub tells : text ≡ text_of mode script play
+  pub world : WorldView Requests
+  pub play : IsPlay stands script world
+  pub replies : All (IsToldIn play.sound.run) world.history
+  pub ends : AreAnswered script world.history ⊎ IsSpent stands script world play
+  pub tells : text ≡ text_of mode script world

@@ -9,25 +9,34 @@
 //! ```
 //!
 //! The script is read from the standard input to its end and judged as a whole: one that has a
-//! faulty line, or a form that isn't built yet, plays nothing. Its commands are then answered in
-//! order, each by single operations on single objects of a site, and the replies are printed at the
-//! end, all of them or, where the output fails, a first part. With `--trace` the history and the
-//! operation logs come before the replies.
+//! faulty line, or a form that isn't built yet, plays nothing. Its sessions then do their commands
+//! by single operations on single objects of two sites, in the order that the script says. The
+//! replies are printed at the end, all of them or, where the output fails, a first part. With
+//! `--trace` the history and the operation logs come before the replies.
 //!
 //! ```text
-//! Source -> read_to -> read -> judged -> Solo::play, line by line -> replies, trace -> write_all -> Sink
-//!           bytes      script            history, log                text
+//! Source -> read_to -> read -> judged -> play -> replies, trace -> write_all -> Sink
+//!           bytes      script            world            text
 //! ```
 //!
-//! [`run::run_alone`] has the contract: what is printed tells a history whose replies are the
-//! flat-copy machine's. Reading and printing take time in proportion to the text; a command's work
-//! grows with the objects that it touches and the logarithm of their number, not with the image's
-//! size or with what was done before. The script, the objects, history, logs and the output lie in
-//! memory at the same time.
+//! [`run::run_alone`] has the contract: what is printed tells a world to which the script's
+//! schedule led, and each reply in its history is the flat-copy machine's. Reading and printing
+//! take time in proportion to the text; a command's work grows with the objects that it touches and
+//! the logarithm of their number, not with the image's size or with what was done before. The
+//! script, the objects, history, logs, events and the output lie in memory at the same time.
 #![tactic(auto)]
 
+ghost use Rattle.std.specs.Prelude.{◌≡◌, ◌≢◌, [], drop, Ok, IfOk, IfErr};
+ghost use Rattle.std.specs.Result.{IsErr, IsOkAnd};
+ghost use Rattle.std.specs.IoError.{error_kind};
+ghost use Rattle.std.specs.declared.io.ErrorKind.TheVariants.{OutOfMemory};
+ghost use Rattle.std.specs.Process.{exit_status};
+ghost use Rattle.rbd_lab.specs.Run.{code_of};
+
 use rbd_edge::{StdSink, StdSource};
+use rbd_kinds::NoMemory;
 use run::Status;
+use std::alloc::Global;
 use std::io::ErrorKind;
 use std::process::ExitCode;
 use std::rt::Env;
@@ -42,22 +51,47 @@ mod tests;
 
 /// The words of the command line without the program's name.
 fn words(rt: &(impl Env + AllocGlobal)) -> io::Result<Vec<String>> {
-    let mut words = Vec::new(rt.alloc());
-    for word in env::args(rt)?.skip(1) {
-        words.push(word)?;
+    let all: Vec<String> = env::args(rt)?.collect(rt.alloc())?;
+    Ok(without_first(all))
+}
+
+/// All words but the first.
+fn without_first(mut words: Vec<String>) -> Vec<String>
+    ensures { result.items ≡ drop 1 words.items }
+{
+    if !words.is_empty() {
+        words.remove(0);
     }
-    Ok(words)
+    words
+}
+
+/// The exit status of a run that ended so.
+fn exit(status: Status) -> ExitCode
+    ensures { exit_status result ≡ code_of status }
+{
+    ExitCode::from(status.code())
+}
+
+/// The words that are judged. Where they couldn't be told, as where one isn't UTF-8, there are none:
+/// so they aren't understood. `NoMemory` exactly where it was memory that they wanted.
+fn understood(alloc: Global, words: io::Result<Vec<String>>) -> Result<Vec<String>, NoMemory>
+    ensures told { IfOk words (λ told. result ≡ Ok told) }
+    ensures no_memory { IfErr words (λ error. error_kind error ≡ OutOfMemory → IsErr result) }
+    ensures others { IfErr words (λ error. error_kind error ≢ OutOfMemory → IsOkAnd result (λ none. none.items ≡ [])) }
+{
+    match words {
+        Ok(words) => Ok(words),
+        Err(error) if error.kind() == ErrorKind::OutOfMemory => Err(NoMemory),
+        Err(_) => Ok(Vec::new(alloc)),
+    }
 }
 
 fn main(rt: HostRuntime) -> ExitCode {
     let alloc = rt.alloc();
     let mut source = StdSource::new(rt.reader());
     let mut sink = StdSink::new(io::writer(&rt));
-    let status = match words(&rt) {
+    exit(match understood(alloc, words(&rt)) {
         Ok(words) => run::run(&rt, alloc, words.as_slice(), &mut source, &mut sink),
-        Err(error) if error.kind() == ErrorKind::OutOfMemory => Status::NoMemory,
-        // A word that isn't UTF-8 is a word that isn't understood.
-        Err(_) => run::run(&rt, alloc, &[], &mut source, &mut sink),
-    };
-    ExitCode::from(status.code())
+        Err(NoMemory) => Status::NoMemory,
+    })
 }

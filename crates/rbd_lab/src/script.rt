@@ -1,23 +1,25 @@
 //! Which bytes are played.
 ghost use Rattle.std.specs.Prelude.{◌≡◌, None, Ok, Err, IfOk, IfErr};
 ghost use Rattle.rbd_script.specs.Fault.{AtLine};
+ghost use Rattle.rbd_known.specs.Calm.{is_change as changes_image};
+ghost use Rattle.rbd_schedule.specs.Playing.{IsPlayable};
 ghost use Rattle.rbd_lab.specs.Script as told;
 
 use itoa::Buffer;
-use rbd_kinds::NoMemory;
-use rbd_script::{Declared, Line, LineCause, LineFault, Said, Script, ScriptFault, read};
-use rbd_solo::is_built;
+use rbd_kinds::{Command, NoMemory, SessionNo};
+use rbd_requests::is_built;
+use rbd_script::{Line, LineCause, LineFault, Said, Script, ScriptFault, read};
 use std::alloc::Global;
 
 /// The script that the bytes are, or the first fault of a line. Where the grammar has none, the
 /// first line with a form that isn't built yet is an unknown word.
 pub fn judged(alloc: Global, bytes: &[u8]) -> Result<Script, ScriptFault>
     ensures script { IfOk result (λ script. told.judged bytes.now ≡ Ok script) }
-    ensures built { IfOk result (λ script. told.first_unbuilt script ≡ None) }
+    ensures built { IfOk result IsPlayable }
     ensures fault { IfErr result (AtLine (λ fault. told.judged bytes.now ≡ Err fault)) }
 {
     let script = read(alloc, bytes, false)?;
-    match first_unbuilt(&script) {
+    match first_unbuilt(script.lines.as_slice()) {
         None => Ok(script),
         Some(line) => Err(ScriptFault::Line(LineFault {
             line,
@@ -26,58 +28,74 @@ pub fn judged(alloc: Global, bytes: &[u8]) -> Result<Script, ScriptFault>
     }
 }
 
-/// The first line with a form that isn't built yet, by its number from 1.
-fn first_unbuilt(script: &Script) -> Option<u32>
-    ensures { result ≡ told.first_unbuilt script.now }
+/// The first line with a form that isn't built yet, by its number from 1. As long as no lock keeps
+/// two sessions apart, a change by a second session is such a form: the session that is the first
+/// to change an image is the only one.
+fn first_unbuilt(lines: &[Line]) -> Option<u32>
+    ensures { result ≡ told.unbuilt_line None lines.now }
 {
-    earlier(
-        second_session(script.sessions.as_slice()),
-        unbuilt_line(script.lines.as_slice()),
-    )
-}
-
-/// One session is built: the line that declares a second one.
-fn second_session(sessions: &[Declared]) -> Option<u32>
-    ensures { result ≡ told.second_session sessions.now }
-{
-    match sessions {
-        [_, second, ..] => Some(second.line),
-        _ => None,
-    }
-}
-
-fn unbuilt_line(lines: &[Line]) -> Option<u32>
-    ensures { result ≡ told.unbuilt_line lines.now }
-{
+    let mut changer = None;
     for line in lines {
-        if !is_said(&line.said) {
+        if !is_said(&line.said, &changer) {
             return Some(line.number);
         }
+        changer = changer_with(&line.said, &changer);
     }
     None
 }
 
-/// Whether what a line says is built.
-fn is_said(said: &Said) -> bool
-    ensures { result ≡ told.is_said said.now }
+/// Whether what a line says is built, where this session made the changes so far.
+fn is_said(said: &Said, changer: &Option<SessionNo>) -> bool
+    ensures { result ≡ told.is_said changer.now said.now }
 {
     match said {
         Said::Command {
-            session: _,
-            beside,
+            session,
+            beside: _,
             command,
-        } => !*beside && is_built(command),
+        } => is_built(command) && (!is_change(command) || is_only(session, changer)),
+        Said::Poll { .. } => true,
+        Said::Until { .. } => true,
+        Said::Settle(_) => true,
+        Said::Trim { .. } => true,
         _ => false,
     }
 }
 
-fn earlier(a: Option<u32>, b: Option<u32>) -> Option<u32>
-    ensures { result ≡ told.earlier a b }
+/// Whether no other session made changes.
+fn is_only(session: &SessionNo, changer: &Option<SessionNo>) -> bool
+    ensures { result ≡ told.is_only session.now changer.now }
 {
-    match (a, b) {
-        (Some(a), Some(b)) => Some(a.min(b)),
-        (Some(a), None) => Some(a),
-        (None, b) => b,
+    match changer {
+        Some(other) => session == other,
+        None => true,
+    }
+}
+
+/// The session that makes the changes, with this line.
+fn changer_with(said: &Said, changer: &Option<SessionNo>) -> Option<SessionNo>
+    ensures { result ≡ told.changer_with said.now changer.now }
+{
+    match said {
+        Said::Command {
+            session,
+            beside: _,
+            command,
+        } if is_change(command) => Some(*session),
+        _ => *changer,
+    }
+}
+
+/// Whether a command changes an image that is there.
+fn is_change(command: &Command) -> bool
+    ensures { result ≡ changes_image command.now }
+{
+    match command {
+        Command::Write { .. } => true,
+        Command::Fill { .. } => true,
+        Command::SnapCreate { .. } => true,
+        Command::SnapRemove { .. } => true,
+        _ => false,
     }
 }
 

@@ -22,6 +22,83 @@ const SNAPSHOTS: &str =
 const SNAPSHOT_REPLIES: &str =
     "2 c1 ok\n3 c1 ok\n4 c1 ok\n5 c1 ok\n6 c1 ok\n7 c1 ok 1100\n8 c1 ok 3300\n9 c1 error 17 SnapExists\n10 c1 error 2 NoSnap\n11 c1 ok\n12 c1 ok 33\n13 c1 ok d\n";
 
+/// The third poll is that of `ls`, so it comes before the other client has made its image.
+const NEXT: &str =
+    "client c2 a\nclient c1 a\nc1 create d 4096 object 4096\nc1 ls\n@poll c1 1 3\nc2 create e 4096 object 4096\n";
+
+const NEXT_REPLIES: &str = "3 c1 ok\n4 c1 ok d\n6 c2 ok\n";
+
+/// The `ls` with `&` comes between the two operations of the `create`, and before the `info`.
+const PASSED: &str = "client c1 a\nc1 create d 4096 object 4096\nc1 info d\n& c1 ls\n";
+
+const PASSED_REPLIES: &str =
+    "4 c1 ok d\n2 c1 ok\n3 c1 ok size 4096 objects 1 layout 4096/4096/1 snaps 0 parent none lock none role none\n";
+
+/// The last `ls` waits for the read with `&`.
+const BESIDE: &str =
+    "client c1 a\nc1 create d 8192 object 4096\n@settle 100\n& c1 read d 4095 2\nc1 ls\n";
+
+const BESIDE_REPLIES: &str = "2 c1 ok\n4 c1 ok 0000\n5 c1 ok d\n";
+
+/// A round is one operation of the `create`, so the first `info` finds no header.
+const ONE_ROUND: &str =
+    "client c1 a\nclient c2 a\nc1 create d 4096 object 4096\n@settle 1\nc2 info d\n@poll c2 1 2\n@settle 1\nc2 info d\n";
+
+const ONE_ROUND_REPLIES: &str =
+    "5 c2 error 2 NoImage\n3 c1 ok\n8 c2 ok size 4096 objects 1 layout 4096/4096/1 snaps 0 parent none lock none role none\n";
+
+/// The first `ls` comes before the name is added, and the second before the header is made.
+const HALF_MADE: &str =
+    "client c1 a\nclient c2 a\nc1 create d 4096 object 4096\n@until c1 1 dir-add\nc2 ls\n@poll c2 1\n@until c1 1 header-create\nc2 ls\n@poll c2 1\n";
+
+const HALF_MADE_REPLIES: &str = "5 c2 ok\n8 c2 ok d\n3 c1 ok\n";
+
+/// A read between the two pieces of a write.
+const ONE_PIECE: &str =
+    "client c1 a\nclient c2 a\nc1 create d 8192 object 4096\n@settle 1000\nc1 write d 4094 11223344\nc2 read d 4094 4\n@until c1 1 data-write\n@poll c1 1\n@poll c2 1 5\nc2 read d 4094 4\n";
+
+const ONE_PIECE_REPLIES: &str = "3 c1 ok\n6 c2 ok 11220000\n5 c1 ok\n10 c2 ok 11223344\n";
+
+/// The second write looks the name up first, so the first one writes after it.
+const LOOKED_UP_FIRST: &str =
+    "client c1 a\nc1 create d 4096 object 4096\n@settle 100\nc1 write d 0 11\n& c1 write d 0 22\n@poll c1 2\nc1 read d 0 1\n";
+
+const LOOKED_UP_FIRST_REPLIES: &str = "2 c1 ok\n5 c1 ok\n4 c1 ok\n7 c1 ok 11\n";
+
+/// The snapshot waits for the write before it, and the write behind it for the snapshot.
+const ALONE: &str =
+    "client c1 a\nc1 create d 8192 object 4096\n@settle 100\nc1 write d 4095 1111\n& c1 snap create d@s\n& c1 write d 4095 2222\nc1 read d@s 4095 2\nc1 read d 4095 2\n";
+
+const ALONE_REPLIES: &str = "2 c1 ok\n4 c1 ok\n5 c1 ok\n6 c1 ok\n7 c1 ok 1111\n8 c1 ok 2222\n";
+
+/// What `fill`, `info` and `snap ls` are refused.
+const SHOWN: &str =
+    "client c1 a\nc1 fill d 0 1 aa\nc1 info d\nc1 snap ls d\nc1 create d 4096 object 4096\nc1 fill d 0 0 aa\nc1 fill d 4096 0 aa\nc1 fill d 0 4097 aa\nc1 fill d 4095 2 aa\nc1 fill d 4095 1 aa\nc1 read d 4094 2\n";
+
+const SHOWN_REPLIES: &str =
+    "2 c1 error 2 NoImage\n3 c1 error 2 NoImage\n4 c1 error 2 NoImage\n5 c1 ok\n6 c1 error 22 BadRange\n7 c1 error 22 BadRange\n8 c1 error 22 BadRange\n9 c1 error 22 BadRange\n10 c1 ok\n11 c1 ok 00aa\n";
+
+/// A snapshot is taken between the two looks of a read at the header.
+const AGAIN: &str =
+    "client c1 a\nclient c2 a\nc1 create d 4096 object 4096\nc1 write d 0 11\n@settle 100\nc2 read d 0 1\n@poll c2 1 3\nc1 snap create d@s\nc1 write d 0 22\n@poll c1 1 8\n@poll c2 1\n";
+
+const AGAIN_TRACE: &str =
+    "h 1 start 3 c1.0\nh 2 effect 3 a1 name\nh 3 effect 3 a2 create\nh 4 reply 3\nh 5 start 4 c1.0\nh 6 look 4 a3\nh 7 look 4 a4\nh 8 look 4 a5\nh 9 effect 4 a6 piece\nh 10 reply 4\nh 11 start 6 c2.0\nh 12 look 6 a7\nh 13 look 6 a8\nh 14 look 6 a9\nh 15 start 8 c1.0\nh 16 look 8 a10\nh 17 look 8 a11\nh 18 look 8 a12\nh 19 effect 8 a13 snap\nh 20 reply 8\nh 21 start 9 c1.0\nh 22 look 9 a14\nh 23 look 9 a15\nh 24 look 9 a16\nh 25 effect 9 a17 piece\nh 26 reply 9\nh 27 look 6 a18\nh 28 look 6 a19\nh 29 look 6 a20\nh 30 look 6 a21\nh 31 look 6 a22\nh 32 reply 6\no a1 c1.0 dir-add rbd_directory id\no a2 c1.0 header-create rbd_header.1 done\no a3 c1.0 dir-find rbd_directory id\no a4 c1.0 header-get rbd_header.1 header\no a5 c1.0 header-get rbd_header.1 header\no a6 c1.0 data-write rbd_data.1.0000000000000000 done\no a7 c2.0 dir-find rbd_directory id\no a8 c2.0 header-get rbd_header.1 header\no a9 c2.0 data-read rbd_data.1.0000000000000000 bytes\no a10 c1.0 dir-find rbd_directory id\no a11 c1.0 header-get rbd_header.1 header\no a12 c1.0 header-get rbd_header.1 header\no a13 c1.0 header-snap-add rbd_header.1 snap\no a14 c1.0 dir-find rbd_directory id\no a15 c1.0 header-get rbd_header.1 header\no a16 c1.0 header-get rbd_header.1 header\no a17 c1.0 data-write rbd_data.1.0000000000000000 done\no a18 c2.0 header-get rbd_header.1 header\no a19 c2.0 dir-find rbd_directory id\no a20 c2.0 header-get rbd_header.1 header\no a21 c2.0 data-read rbd_data.1.0000000000000000 bytes\no a22 c2.0 header-get rbd_header.1 header\n3 c1 ok\n4 c1 ok\n8 c1 ok\n9 c1 ok\n6 c2 ok 22\n";
+
+/// Each site has its own images and log.
+const SITES: &str =
+    "client c1 a\nclient c2 b\nc1 create d 4096 object 4096\nc2 create d 8192 object 4096\nc1 info d\nc2 info d\n";
+
+const SITES_TRACE: &str =
+    "h 1 start 3 c1.0\nh 2 start 4 c2.0\nh 3 effect 3 a1 name\nh 4 effect 4 b1 name\nh 5 effect 3 a2 create\nh 6 reply 3\nh 7 start 5 c1.0\nh 8 effect 4 b2 create\nh 9 reply 4\nh 10 start 6 c2.0\nh 11 look 5 a3\nh 12 look 6 b3\nh 13 look 5 a4\nh 14 reply 5\nh 15 look 6 b4\nh 16 reply 6\no a1 c1.0 dir-add rbd_directory id\no a2 c1.0 header-create rbd_header.1 done\no a3 c1.0 dir-find rbd_directory id\no a4 c1.0 header-get rbd_header.1 header\no b1 c2.0 dir-add rbd_directory id\no b2 c2.0 header-create rbd_header.1 done\no b3 c2.0 dir-find rbd_directory id\no b4 c2.0 header-get rbd_header.1 header\n3 c1 ok\n4 c2 ok\n5 c1 ok size 4096 objects 1 layout 4096/4096/1 snaps 0 parent none lock none role none\n6 c2 ok size 8192 objects 2 layout 4096/4096/1 snaps 0 parent none lock none role none\n";
+
+/// The store trims the one object that is there.
+const TRIMMED: &str =
+    "client c1 a\nc1 create d 8192 object 4096\nc1 write d 0 11\nc1 snap create d@s\nc1 write d 0 22\nc1 snap rm d@s\n@settle 100\n@trim a 1 0\n@trim a 1 1\n@trim b 1 0\n@trim a 2 0\nc1 read d 0 1\n";
+
+const TRIMMED_TRACE: &str =
+    "h 1 start 2 c1.0\nh 2 effect 2 a1 name\nh 3 effect 2 a2 create\nh 4 reply 2\nh 5 start 3 c1.0\nh 6 look 3 a3\nh 7 look 3 a4\nh 8 look 3 a5\nh 9 effect 3 a6 piece\nh 10 reply 3\nh 11 start 4 c1.0\nh 12 look 4 a7\nh 13 look 4 a8\nh 14 look 4 a9\nh 15 effect 4 a10 snap\nh 16 reply 4\nh 17 start 5 c1.0\nh 18 look 5 a11\nh 19 look 5 a12\nh 20 look 5 a13\nh 21 effect 5 a14 piece\nh 22 reply 5\nh 23 start 6 c1.0\nh 24 look 6 a15\nh 25 look 6 a16\nh 26 look 6 a17\nh 27 effect 6 a18 unsnap\nh 28 reply 6\nh 29 start 12 c1.0\nh 30 look 12 a20\nh 31 look 12 a21\nh 32 look 12 a22\nh 33 look 12 a23\nh 34 reply 12\no a1 c1.0 dir-add rbd_directory id\no a2 c1.0 header-create rbd_header.1 done\no a3 c1.0 dir-find rbd_directory id\no a4 c1.0 header-get rbd_header.1 header\no a5 c1.0 header-get rbd_header.1 header\no a6 c1.0 data-write rbd_data.1.0000000000000000 done\no a7 c1.0 dir-find rbd_directory id\no a8 c1.0 header-get rbd_header.1 header\no a9 c1.0 header-get rbd_header.1 header\no a10 c1.0 header-snap-add rbd_header.1 snap\no a11 c1.0 dir-find rbd_directory id\no a12 c1.0 header-get rbd_header.1 header\no a13 c1.0 header-get rbd_header.1 header\no a14 c1.0 data-write rbd_data.1.0000000000000000 done\no a15 c1.0 dir-find rbd_directory id\no a16 c1.0 header-get rbd_header.1 header\no a17 c1.0 header-get rbd_header.1 header\no a18 c1.0 header-snap-remove rbd_header.1 done\no a19 store trim rbd_data.1.0000000000000000 done\no a20 c1.0 dir-find rbd_directory id\no a21 c1.0 header-get rbd_header.1 header\no a22 c1.0 data-read rbd_data.1.0000000000000000 bytes\no a23 c1.0 header-get rbd_header.1 header\n2 c1 ok\n3 c1 ok\n4 c1 ok\n5 c1 ok\n6 c1 ok\n12 c1 ok 22\n";
+
 const TRACE: &str =
     "h 1 start 2 c1.0\nh 2 effect 2 a1 name\nh 3 effect 2 a2 create\nh 4 reply 2\no a1 c1.0 dir-add rbd_directory id\no a2 c1.0 header-create rbd_header.1 done\n2 c1 ok\n";
 
@@ -108,28 +185,103 @@ fn the_first_fault_is_told(rt: HostRuntime) -> Result<(), Fail> {
 #[test]
 fn a_form_that_isnt_built_is_an_unknown_word(rt: HostRuntime) -> Result<(), Fail> {
     for (script, told) in [
-        ("client c1 a\nclient c2 b\n", "line 2: unknown word\n"),
-        ("client c1 a\nc1 ls\n& c1 ls\n", "line 3: unknown word\n"),
+        ("client c1 a\nc1 rm disk\n", "line 2: unknown word\n"),
+        ("client c1 a\n@deliver 1\n", "line 2: unknown word\n"),
+        ("client c1 a\nc1 ls\n@stop c1\n", "line 3: unknown word\n"),
         (
-            "client c1 a\nc1 info disk\nclient c2 b\n",
-            "line 2: unknown word\n",
-        ),
-        (
-            "client c1 a\nclient c2 b\nc1 info disk\n",
+            "client c1 a\n@late c1 1\nc1 flatten disk\n",
             "line 2: unknown word\n",
         ),
         (
             "client c1 a\nc1 create disk 1 journal\n",
             "line 2: unknown word\n",
         ),
-        ("client c1 a\n@settle 1\n", "line 2: unknown word\n"),
         (
-            "client c1 a\nc1 info disk\nc1 read disk 00 1\n",
+            "client c1 a\nc1 rm disk\nc1 read disk 00 1\n",
             "line 3: bad number\n",
         ),
     ] {
         let (status, sink) = printed(rt.alloc(), "run", script)?;
         assert_eq!(rt; status, Status::BadLine, "{script}");
+        assert_eq!(rt; sink.held(), told.as_bytes(), "{script}");
+    }
+    Ok(())
+}
+
+#[test]
+fn a_second_session_that_changes_is_an_unknown_word(rt: HostRuntime) -> Result<(), Fail> {
+    for (script, told) in [
+        (
+            "client c1 a\nclient c2 b\nc1 write d 0 11\nc2 write d 0 22\n",
+            "line 4: unknown word\n",
+        ),
+        (
+            "client c1 a\nclient c2 a\nc2 snap create d@s\nc1 fill d 0 1 11\n",
+            "line 4: unknown word\n",
+        ),
+        (
+            "client c1 a\nclient c2 a\nc1 snap rm d@s\nc2 create d 1\nc2 ls\nc2 snap create d@s\n",
+            "line 6: unknown word\n",
+        ),
+    ] {
+        let (status, sink) = printed(rt.alloc(), "run", script)?;
+        assert_eq!(rt; status, Status::BadLine, "{script}");
+        assert_eq!(rt; sink.held(), told.as_bytes(), "{script}");
+    }
+    Ok(())
+}
+
+#[test]
+fn commands_start_when_they_may(rt: HostRuntime) -> Result<(), Fail> {
+    for (script, replies) in [
+        (NEXT, NEXT_REPLIES),
+        (PASSED, PASSED_REPLIES),
+        (BESIDE, BESIDE_REPLIES),
+    ] {
+        let (status, sink) = printed(rt.alloc(), "run", script)?;
+        assert_eq!(rt; status, Status::Done, "{script}");
+        assert_eq!(rt; sink.held(), replies.as_bytes(), "{script}");
+    }
+    Ok(())
+}
+
+#[test]
+fn requests_go_on_as_the_schedule_says(rt: HostRuntime) -> Result<(), Fail> {
+    for (script, replies) in [
+        (ONE_ROUND, ONE_ROUND_REPLIES),
+        (HALF_MADE, HALF_MADE_REPLIES),
+        (ONE_PIECE, ONE_PIECE_REPLIES),
+    ] {
+        let (status, sink) = printed(rt.alloc(), "run", script)?;
+        assert_eq!(rt; status, Status::Done, "{script}");
+        assert_eq!(rt; sink.held(), replies.as_bytes(), "{script}");
+    }
+    Ok(())
+}
+
+#[test]
+fn changes_go_in_line(rt: HostRuntime) -> Result<(), Fail> {
+    for (script, replies) in [
+        (LOOKED_UP_FIRST, LOOKED_UP_FIRST_REPLIES),
+        (ALONE, ALONE_REPLIES),
+        (SHOWN, SHOWN_REPLIES),
+    ] {
+        let (status, sink) = printed(rt.alloc(), "run", script)?;
+        assert_eq!(rt; status, Status::Done, "{script}");
+        assert_eq!(rt; sink.held(), replies.as_bytes(), "{script}");
+    }
+    Ok(())
+}
+
+#[test]
+fn a_trace_tells_who_did_what(rt: HostRuntime) -> Result<(), Fail> {
+    for (script, told) in [
+        (AGAIN, AGAIN_TRACE),
+        (SITES, SITES_TRACE),
+        (TRIMMED, TRIMMED_TRACE),
+    ] {
+        let (status, sink) = printed(rt.alloc(), "run --trace", script)?;
+        assert_eq!(rt; status, Status::Done, "{script}");
         assert_eq!(rt; sink.held(), told.as_bytes(), "{script}");
     }
     Ok(())

@@ -1,5 +1,0 @@
-pub mod Meaning
-pub mod History
-pub mod Built
-pub mod Steps
-pub mod Story
