@@ -1,2 +1,4 @@
 pub mod Numbers
+pub mod Oldest
+pub mod Receivers
 pub mod Removal

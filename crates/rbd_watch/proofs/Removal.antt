@@ -8,7 +8,7 @@ use Rattle.std.proofs.lemmas.Map.Keys.{IsDistinct-head, IsDistinct-tail}
 use Rattle.rbd_kinds.specs.declared.id.Instance.{Instance}
 use Rattle.rbd_watch.specs.Watching.{same, without}
 
-same_equal : (a b : Instance) → same a b ≡ true → a ≡ b
+pub same_equal : (a b : Instance) → same a b ≡ true → a ≡ b
 same_equal a b h = by (eqb_tells a.session b.session) (eqb_tells a.life b.life)
   where
     by : (((a.session == b.session) ≡ true) × (a.session ≡ b.session)) ⊎ (((a.session == b.session) ≡ false) × (a.session ≢ b.session))

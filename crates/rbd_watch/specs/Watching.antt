@@ -1,5 +1,5 @@
 -- Who watches an image's header, in order of registration.
-use Rattle.std.specs.Prelude.{ℕ, Bool, not, ◌&&◌, ◌==◌, List, [], ◌∷◌, ◌++◌, if◌then◌else◌}
+use Rattle.std.specs.Prelude.{ℕ, Bool, not, ◌&&◌, ◌==◌, List, [], ◌∷◌, ◌++◌, if◌then◌else◌, Option, Some, None, nat_le}
 use Rattle.std.specs.List.{filter, list_any}
 use Rattle.rbd_kinds.specs.declared.id.Instance.{Instance}
 
@@ -21,3 +21,14 @@ without instance watchers = filter (λ w. not (same instance w)) watchers
 -- whether an instance of another session watches
 abbrev pub other_watches : (session : ℕ) → List Instance → Bool
 other_watches session watchers = list_any (λ w. not (w.session == session)) watchers
+
+-- of two instances, the one that began earlier
+abbrev pub older : Option Instance → Option Instance → Option Instance
+older None other = other
+older (Some one) None = Some one
+older (Some one) (Some other) = if nat_le one.life other.life then Some one else Some other
+
+-- the oldest instance of a session that watches
+abbrev pub oldest_of : (session : ℕ) → (watchers : List Instance) → Option Instance
+oldest_of session [] = None
+oldest_of session (w ∷ watchers) = older (if w.session == session then Some w else None) (oldest_of session watchers)

@@ -1,10 +1,12 @@
-//! What a post means for a reader: each law is the contract of a function that does nothing.
-ghost use Rattle.std.specs.Prelude.{◌≡◌, ℕ, ◌+◌, ◌≤◌, List, ◌++◌, length, Some, slice_get};
+//! What a post means for a reader, and whom the watchers name: each law is the contract of a
+//! function that does nothing.
+ghost use Rattle.std.specs.Prelude.{◌≡◌, ◌≢◌, ◌↔◌, ℕ, ◌+◌, ◌≤◌, List, ◌++◌, length, Some, None, slice_get, IsTrue, IsFalse};
 ghost use Rattle.rbd_kinds.specs.declared.id.Instance.{Instance};
 ghost use Rattle.rbd_kinds.specs.declared.id.SiteId.{SiteId};
 ghost use Rattle.rbd_kinds.specs.declared.notice.Notice.{Notice};
 ghost use Rattle.rbd_kinds.specs.declared.notice.NoticeKind.{NoticeKind};
 ghost use Rattle.rbd_watch.specs.Posting.{AreNumberedFrom, notices, numbered};
+ghost use Rattle.rbd_watch.specs.Watching.{oldest_of, watches, without};
 
 /// A notice stays for good: after a post each older number shows the same notice.
 pub fn notices_stay()
@@ -24,4 +26,27 @@ pub fn receivers_find_their_notices()
 pub fn one_notice_for_each()
     ensures { (number image : ℕ) (site : SiteId) (from : Instance) (receivers : List Instance) (kind : NoticeKind)
         → length (notices number site image from receivers kind) ≡ length receivers }
+{}
+
+/// A sender isn't among the receivers of its notice. Each other instance is exactly if it watches.
+pub fn the_sender_gets_no_notice()
+    ensures sender { (sender : Instance) (watchers : List Instance) → IsFalse (watches sender (without sender watchers)) }
+
+    ensures others { (sender other : Instance) (watchers : List Instance)
+        → other ≢ sender → watches other (without sender watchers) ≡ watches other watchers }
+{}
+
+/// The oldest instance of a session that watches is one of that session, it watches, and no other
+/// one of that session that watches has less life. There is none exactly where none of the session
+/// watches.
+pub fn the_oldest_watches()
+    ensures watching { (session : ℕ) (watchers : List Instance) (oldest : Instance)
+        → oldest_of session watchers ≡ Some oldest → IsTrue (watches oldest watchers) × (oldest.session ≡ session) }
+
+    ensures least { (session : ℕ) (watchers : List Instance) (oldest other : Instance)
+        → oldest_of session watchers ≡ Some oldest → IsTrue (watches other watchers) → other.session ≡ session
+        → oldest.life ≤ other.life }
+
+    ensures none { (session : ℕ) (watchers : List Instance)
+        → (oldest_of session watchers ≡ None) ↔ ((instance : Instance) → IsTrue (watches instance watchers) → instance.session ≢ session) }
 {}

@@ -6,6 +6,8 @@
 //! watchers.watch(second)?;
 //! watchers.watch(first)?;                  // it keeps its place
 //! watchers.list()?                         // first, second
+//! watchers.receivers(first)?               // second
+//! watchers.oldest(session)                 // the first of this session's lives that watches
 //!
 //! let mut mail = Mail::new(alloc);
 //! mail.post(site, image, first, &[second], &NoticeKind::RequestLock)?;
@@ -16,6 +18,9 @@
 //!
 //! - Watchers stand in order of registration. To watch again changes nothing, and to end a watch
 //!   leaves the others in their order.
+//! - A notice goes to the watchers but its sender, in their order (own; in Ceph a notify also
+//!   reaches a watch of its sender).
+//! - Where several lives of a session watch, the oldest is the one with the least life.
 //! - A post makes one notice for each receiver, in their order. Notices are numbered from 1 without
 //!   gaps, and one numbering serves both sites, so a number alone says which is meant. A refused
 //!   post makes none.
@@ -25,14 +30,16 @@
 //! # Contracts
 //!
 //! Contracts see [`Watchers`] as the list of instances, without repetition, and [`Mail`] as the
-//! list of its notices, oldest first. [`laws`] says what a post means for a reader.
+//! list of its notices, oldest first. [`laws`] says what a post means for a reader, that a sender
+//! isn't among its receivers, and that the oldest watch of a session is one of its watches.
 //!
 //! # Cost
 //!
 //! `watch` is a look-up by hash. `unwatch` also moves the watchers behind, `list` copies all, and
-//! `others` looks at those up to the one that it finds. A post costs the notices that it makes,
-//! however many stand already, but for the moves of a vector that grows. `get` is an index. Only
-//! `watch`, `list` and `post` take memory.
+//! `others` looks at those up to the one that it finds. `receivers` is one copy of all, from which
+//! the sender is taken, and `oldest` looks at all. A post costs the notices that it makes, however
+//! many stand already, but for the moves of a vector that grows. `get` is an index. Only `watch`,
+//! `list`, `receivers` and `post` take memory.
 //!
 //! # How it works
 //!

@@ -43,6 +43,60 @@ fn watchers_keep_their_order(rt: HostRuntime) -> Result<(), Fail> {
     keep_order(&rt, &mut watchers)
 }
 
+/// Whether a notice of the sender goes to these, in this order.
+fn reaches(watchers: &Watchers, sender: Instance, wanted: &[Instance]) -> Result<bool, NoMemory> {
+    let receivers = watchers.receivers(sender)?;
+    Ok(receivers.as_slice() == wanted)
+}
+
+/// Two senders that watch, and one of which only an older life does.
+fn reach_others(rt: &impl Abort, watchers: &mut Watchers) -> Result<(), Fail> {
+    watch_all(watchers)?;
+    assert!(rt; reaches(watchers, instance(1, 0), &[instance(3, 0), instance(3, 1)])?);
+    assert!(rt; reaches(watchers, instance(3, 0), &[instance(1, 0), instance(3, 1)])?);
+    assert!(rt;
+        reaches(
+            watchers,
+            instance(1, 1),
+            &[instance(3, 0), instance(1, 0), instance(3, 1)]
+        )?
+    );
+    Ok(())
+}
+
+#[test]
+fn a_notice_reaches_the_others(rt: HostRuntime) -> Result<(), Fail> {
+    let mut watchers = Watchers::new(rt.alloc());
+    assert!(rt; reaches(&watchers, instance(1, 0), &[])?);
+    reach_others(&rt, &mut watchers)
+}
+
+/// Three lives of a session watch, of which the oldest registered neither first nor last.
+fn watch_lives(watchers: &mut Watchers) -> Result<(), Fail> {
+    watchers.watch(instance(2, 5))?;
+    watchers.watch(instance(4, 0))?;
+    watchers.watch(instance(2, 3))?;
+    watchers.watch(instance(2, 9))?;
+    Ok(())
+}
+
+fn name_the_oldest(rt: &impl Abort, watchers: &mut Watchers) -> Result<(), Fail> {
+    watch_lives(watchers)?;
+    assert!(rt; watchers.oldest(SessionNo(2)) == Some(instance(2, 3)));
+    assert!(rt; watchers.oldest(SessionNo(4)) == Some(instance(4, 0)));
+    assert!(rt; watchers.oldest(SessionNo(3)).is_none());
+    assert!(rt; watchers.unwatch(instance(2, 3)));
+    assert!(rt; watchers.oldest(SessionNo(2)) == Some(instance(2, 5)));
+    Ok(())
+}
+
+#[test]
+fn the_oldest_life_is_named(rt: HostRuntime) -> Result<(), Fail> {
+    let mut watchers = Watchers::new(rt.alloc());
+    assert!(rt; watchers.oldest(SessionNo(2)).is_none());
+    name_the_oldest(&rt, &mut watchers)
+}
+
 /// Posts a notice to two instances.
 fn post(mail: &mut Mail, kind: NoticeKind) -> Result<(), Fail> {
     let to = [instance(2, 0), instance(1, 4)];
