@@ -45,7 +45,7 @@ use Rattle.rbd_site.specs.HeaderStep.{header_answer}
 use Rattle.rbd_site.specs.InForm.{AreInForm}
 use Rattle.rbd_site.specs.Laws.{is_look, is_change}
 use Rattle.rbd_site.specs.Records.{Records, object_at}
-use Rattle.rbd_site.specs.Step.{MayDo, after, answer_to}
+use Rattle.rbd_site.specs.Step.{MayDo, MayServe, is_fenced, after, answer_to, answer_served}
 use Rattle.rbd_site.specs.declared.done.DoneOp.TheVariants as done
 use Rattle.rbd_site.proofs.GenerationLemmas.{looked_at}
 use Rattle.rbd_site.proofs.StepLemmas.{refused}
@@ -60,6 +60,7 @@ use Rattle.rbd_stands.proofs.EditSteps.{unnamed}
 use Rattle.rbd_stands.proofs.EffectLemmas.{write_effect}
 use Rattle.rbd_stands.proofs.ImageSteps.{create_stands, snap_stands, unsnap_stands}
 use Rattle.rbd_stands.proofs.NoEffect.{look_none, refused_none}
+use Rattle.rbd_stands.proofs.Served.{fenced_answer, free_answer, where_either}
 use Rattle.rbd_rely.specs.Truth.{IsTrueAt, IsParentless, changed_by}
 use Rattle.rbd_rely.proofs.Kept.{owned_there}
 use Rattle.rbd_rely.proofs.Learned.{takes, removes}
@@ -86,6 +87,15 @@ len_of_parts (p ∷ parts) bytes =
     ∙ ap (λ n. n + length (parts_of parts bytes)) (length-window bytes p.offset p.len)
     ∙ ap (λ n. p.len + n) (len_of_parts parts bytes)
 
+-- each of them can be answered fenced
+fence_given : (k : Knowledge) (site : SiteId) (o : Op) → Permits k site o → CanGive o answer.Fenced
+fence_given k site (op.Directory o) permits = record { word = refl; form = tt }
+fence_given k site (op.Header image header.Get) permits = record { word = refl; form = tt }
+fence_given k site (op.Header image o) permits = record { word = refl; form = tt }
+fence_given k site (op.Data image number (object.Read snap parts)) permits = record { word = refl; form = tt }
+fence_given k site (op.Data image number o) permits = record { word = refl; form = tt }
+fence_given k site _ permits = elim permits [ ]
+
 module _ (site : SiteId) (r : Records) (k : Knowledge) (most : ℕ) (form : AreInForm r most) (t : IsTrueAt site r k) where
   may_write : (image number : ℕ) (context : SnapContext) (parts : List Part) (bytes : List ℕ) → OwnsBy k site image (MayWrite k.turn number context parts bytes) → step.MayWrite parts bytes
   may_write image number context parts bytes owns =
@@ -93,21 +103,24 @@ module _ (site : SiteId) (r : Records) (k : Knowledge) (most : ℕ) (form : AreI
       let laid : IsLayout owns.header.layout = same_layout owns.header there.view there.same (form.form image there.view there.is).layout in
       record { within = within owns.header number parts laid owns.meets.within; long = owns.meets.long }
 
-  pub may_do : (o : Op) → Permits k site o → MayDo r o
-  may_do (op.Directory o) permits = tt
-  may_do (op.Header image header.Get) permits = tt
-  may_do (op.Header image (header.Create view)) permits = permits.new
-  may_do (op.Header image (header.SnapAdd name)) permits = tt
-  may_do (op.Header image (header.SnapRemove snap)) permits = tt
-  may_do (op.Header image _) permits = elim permits [ ]
-  may_do (op.Data image number (object.Read snap parts)) permits = tt
-  may_do (op.Data image number (object.Write context must parts bytes)) permits = may_write image number context parts bytes permits
-  may_do (op.Data image number _) permits = elim permits [ ]
-  may_do _ permits = elim permits [ ]
+  may_serve : (o : Op) → Permits k site o → MayServe r o
+  may_serve (op.Directory o) permits = tt
+  may_serve (op.Header image header.Get) permits = tt
+  may_serve (op.Header image (header.Create view)) permits = permits.new
+  may_serve (op.Header image (header.SnapAdd name)) permits = tt
+  may_serve (op.Header image (header.SnapRemove snap)) permits = tt
+  may_serve (op.Header image _) permits = elim permits [ ]
+  may_serve (op.Data image number (object.Read snap parts)) permits = tt
+  may_serve (op.Data image number (object.Write context must parts bytes)) permits = may_write image number context parts bytes permits
+  may_serve (op.Data image number _) permits = elim permits [ ]
+  may_serve _ permits = elim permits [ ]
+
+  pub may_do : (me : Instance) (o : Op) → Permits k site o → MayDo r me o
+  may_do me o permits = λ free. may_serve o permits
 
   -- ---- its answer
 
-  directory_gives_it : (me : Instance) (o : DirectoryOp) → PermitsOnDirectory o → CanGive (op.Directory o) (answer_to r me (op.Directory o))
+  directory_gives_it : (me : Instance) (o : DirectoryOp) → PermitsOnDirectory o → CanGive (op.Directory o) (answer_served r me (op.Directory o))
   directory_gives_it me (directory.Find name) permits = record { word = by (id_of r.directory name); form = tt }
     where
       by : (held : Option ℕ) → gives (op.Directory (directory.Find name)) (image_found held) ≡ true
@@ -122,21 +135,21 @@ module _ (site : SiteId) (r : Records) (k : Knowledge) (most : ℕ) (form : AreI
       by None false = refl
   directory_gives_it me _ permits = elim permits [ ]
 
-  header_gives_it : (me : Instance) (image : ℕ) (o : HeaderOp) → PermitsOnHeader k site image o → CanGive (op.Header image o) (answer_to r me (op.Header image o))
+  header_gives_it : (me : Instance) (image : ℕ) (o : HeaderOp) → PermitsOnHeader k site image o → CanGive (op.Header image o) (answer_served r me (op.Header image o))
   header_gives_it me image header.Get permits = by (r.headers image) refl
     where
-      by : (there : Option HeaderView) → r.headers image ≡ there → CanGive (op.Header image header.Get) (header_answer me there header.Get)
+      by : (there : Option HeaderView) → r.headers image ≡ there → CanGive (op.Header image header.Get) (header_answer me there (r.watchers image) header.Get)
       by None is = record { word = refl; form = tt }
       by (Some h) is = record { word = refl; form = form.form image h is }
   header_gives_it me image (header.Create view) permits =
-      subst (λ there. CanGive (op.Header image (header.Create view)) (header_answer me there (header.Create view))) (sym (t.drawn image permits.drawn).header) (record { word = refl; form = tt })
+      subst (λ there. CanGive (op.Header image (header.Create view)) (header_answer me there (r.watchers image) (header.Create view))) (sym (t.drawn image permits.drawn).header) (record { word = refl; form = tt })
   header_gives_it me image (header.SnapAdd name) permits =
       subst (CanGive (op.Header image (header.SnapAdd name))) (sym (takes site r k me t image name permits).answered) (record { word = refl; form = tt })
   header_gives_it me image (header.SnapRemove snap) permits =
       subst (CanGive (op.Header image (header.SnapRemove snap))) (sym (removes site r k me t image snap permits).answered) (record { word = refl; form = tt })
   header_gives_it me image _ permits = elim permits [ ]
 
-  object_gives_it : (me : Instance) (image number : ℕ) (o : DataOp) → PermitsOnObject k site image number o → CanGive (op.Data image number o) (answer_to r me (op.Data image number o))
+  object_gives_it : (me : Instance) (image number : ℕ) (o : DataOp) → PermitsOnObject k site image number o → CanGive (op.Data image number o) (answer_served r me (op.Data image number o))
   object_gives_it me image number (object.Read snap parts) permits = by (view (looked (object_at r image number)) snap)
     where
       by : (content : Option (List ℕ)) → CanGive (op.Data image number (object.Read snap parts)) (parts_read parts content)
@@ -150,11 +163,14 @@ module _ (site : SiteId) (r : Records) (k : Knowledge) (most : ℕ) (form : AreI
       by false there = record { word = refl; form = tt }
   object_gives_it me image number _ permits = elim permits [ ]
 
+  served_gives_it : (me : Instance) (o : Op) → Permits k site o → CanGive o (answer_served r me o)
+  served_gives_it me (op.Directory o) permits = directory_gives_it me o permits
+  served_gives_it me (op.Header image o) permits = header_gives_it me image o permits
+  served_gives_it me (op.Data image number o) permits = object_gives_it me image number o permits
+  served_gives_it me _ permits = elim permits [ ]
+
   pub gives_it : (me : Instance) (o : Op) → Permits k site o → CanGive o (answer_to r me o)
-  gives_it me (op.Directory o) permits = directory_gives_it me o permits
-  gives_it me (op.Header image o) permits = header_gives_it me image o permits
-  gives_it me (op.Data image number o) permits = object_gives_it me image number o permits
-  gives_it me _ permits = elim permits [ ]
+  gives_it me o permits = where_either (λ a s. CanGive o a) r me o (fence_given k site o permits) (served_gives_it me o permits)
 
 -- ---- its effect
 
@@ -174,6 +190,14 @@ module _ (site : SiteId) (r : Records) (f : Flat) (k : Knowledge) (me : Instance
       effects o a None answered (refused_none r o a unchanged)
       (subst (λ s. StandsFor [] s f) (sym (refused r me o (ap is_change answered ∙ unchanged))) stands)
 
+  -- A fenced instance has none, so it is enough that what is served has its effect.
+  where_free : (o : Op) → (answer_to r me o ≡ answer_served r me o → HasItsEffect o) → HasItsEffect o
+  where_free o served = go (is_fenced r me) refl
+    where
+      go : (b : Bool) → is_fenced r me ≡ b → HasItsEffect o
+      go true fenced = refused_effect o answer.Fenced (fenced_answer r me o fenced) refl
+      go false free = served (sym (free_answer r me o free))
+
   add_effect : (name : List ℕ) (held : Option ℕ) (full : Bool) → answer_to r me (op.Directory (directory.Add name)) ≡ name_added held full (r.directory.drawn + 1) → HasItsEffect (op.Directory (directory.Add name))
   add_effect name (Some image) full answered = refused_effect (op.Directory (directory.Add name)) answer.Exists answered refl
   add_effect name None true answered = refused_effect (op.Directory (directory.Add name)) answer.Full answered refl
@@ -184,7 +208,7 @@ module _ (site : SiteId) (r : Records) (f : Flat) (k : Knowledge) (me : Instance
   directory_effect : (o : DirectoryOp) → PermitsOnDirectory o → HasItsEffect (op.Directory o)
   directory_effect (directory.Find name) permits = look_effect (op.Directory (directory.Find name)) refl
   directory_effect directory.List permits = look_effect (op.Directory directory.List) refl
-  directory_effect (directory.Add name) permits = add_effect name (id_of r.directory name) (listing.is_full r.directory) refl
+  directory_effect (directory.Add name) permits = where_free (op.Directory (directory.Add name)) (add_effect name (id_of r.directory name) (listing.is_full r.directory))
   directory_effect _ permits = elim permits [ ]
 
   -- an image without a header isn't there
@@ -198,36 +222,37 @@ module _ (site : SiteId) (r : Records) (f : Flat) (k : Knowledge) (me : Instance
 
   header_effect : (image : ℕ) (o : HeaderOp) → PermitsOnHeader k site image o → HasItsEffect (op.Header image o)
   header_effect image header.Get permits = look_effect (op.Header image header.Get) refl
-  header_effect image (header.Create view) permits =
+  header_effect image (header.Create view) permits = where_free (op.Header image (header.Create view)) (λ free.
       let waiting = t.drawn image permits.drawn in
-      let answered : answer_to r me (op.Header image (header.Create view)) ≡ answer.Done = ap (λ h. header_answer me h (header.Create view)) waiting.header in
+      let answered : answer_to r me (op.Header image (header.Create view)) ≡ answer.Done = free ∙ ap (λ h. header_answer me h (r.watchers image) (header.Create view)) waiting.header in
       effects (op.Header image (header.Create view)) answer.Done (Some (effect.Create image view.size view.role)) answered
       (ap (λ parent. Some (effect_of_making image view.size view.role parent)) permits.no_parent)
-      (create_stands [] r f me image view stands waiting.drawn (record { header = waiting.header; flat = no_image image waiting.header; blank = waiting.blank }) permits.new permits.no_parent answered)
-  header_effect image (header.SnapAdd name) permits =
+      (create_stands [] r f me image view stands waiting.drawn (record { header = waiting.header; flat = no_image image waiting.header; blank = waiting.blank }) permits.new permits.no_parent answered))
+  header_effect image (header.SnapAdd name) permits = where_free (op.Header image (header.SnapAdd name)) (λ free.
       let edits = takes site r k me t image name permits in
       let snap = (owned_there site r k image _ t permits).view.snap_seq + 1 in
-      effects (op.Header image (header.SnapAdd name)) (answer.Snap snap) (Some (effect.Snap image snap name)) edits.answered refl
-      (snap_stands [] r f me image snap name stands edits.answered)
-  header_effect image (header.SnapRemove snap) permits =
+      effects (op.Header image (header.SnapAdd name)) (answer.Snap snap) (Some (effect.Snap image snap name)) (free ∙ edits.answered) refl
+      (snap_stands [] r f me image snap name stands (free ∙ edits.answered)))
+  header_effect image (header.SnapRemove snap) permits = where_free (op.Header image (header.SnapRemove snap)) (λ free.
       let there = owned_there site r k image _ t permits in
       let edits = removes site r k me t image snap permits in
       let may = permits.meets.1 in
-      effects (op.Header image (header.SnapRemove snap)) answer.Done (Some (effect.Unsnap image snap)) edits.answered refl
+      effects (op.Header image (header.SnapRemove snap)) answer.Done (Some (effect.Unsnap image snap)) (free ∙ edits.answered) refl
       (unsnap_stands [] r f me image snap stands
       (unnamed [] r f image snap there.view may.view stands there.is (ap (λ (h : HeaderView). snap_in h.snaps snap) there.same ∙ may.listed) may.unprotected)
-      edits.answered)
+      (free ∙ edits.answered)))
   header_effect image _ permits = elim permits [ ]
 
   write_effects : (image number : ℕ) (context : SnapContext) (must : Bool) (parts : List Part) (bytes : List ℕ) → OwnsBy k site image (MayWrite k.turn number context parts bytes)
+      → answer_to r me (op.Data image number (object.Write context must parts bytes)) ≡ answer_served r me (op.Data image number (object.Write context must parts bytes))
       → (found : Bool) → finds must (object_at r image number) ≡ found → HasItsEffect (op.Data image number (object.Write context must parts bytes))
-  write_effects image number context must parts bytes owns false lacks =
-      refused_effect (op.Data image number (object.Write context must parts bytes)) answer.Absent (ap done_where lacks) refl
-  write_effects image number context must parts bytes owns true has =
+  write_effects image number context must parts bytes owns free false lacks =
+      refused_effect (op.Data image number (object.Write context must parts bytes)) answer.Absent (free ∙ ap done_where lacks) refl
+  write_effects image number context must parts bytes owns free true has =
       let there = owned_there site r k image _ t owns in
       let v = there.view in
       let may = may_write site r k most form t image number context parts bytes owns in
-      let answered : answer_to r me (op.Data image number (object.Write context must parts bytes)) ≡ answer.Done = ap done_where has in
+      let answered : answer_to r me (op.Data image number (object.Write context must parts bytes)) ≡ answer.Done = free ∙ ap done_where has in
       let parts_lie : ArePartsBelow v v.size number parts =
       subst (λ w. ArePartsBelow w w.size number parts) (sym there.same)
       (All-weaker (LiesBelow owns.header number) (IsPartBelow (record owns.header { owner = v.owner }) owns.header.size number) (λ p lies. record { part = lies.part; below = lies.below }) parts owns.meets.within) in
@@ -243,6 +268,7 @@ module _ (site : SiteId) (r : Records) (f : Flat) (k : Knowledge) (me : Instance
   has_its_effect (op.Directory o) permits = directory_effect o permits
   has_its_effect (op.Header image o) permits = header_effect image o permits
   has_its_effect (op.Data image number (object.Read snap parts)) permits = look_effect (op.Data image number (object.Read snap parts)) refl
-  has_its_effect (op.Data image number (object.Write context must parts bytes)) permits = write_effects image number context must parts bytes permits (finds must (object_at r image number)) refl
+  has_its_effect (op.Data image number (object.Write context must parts bytes)) permits =
+      where_free (op.Data image number (object.Write context must parts bytes)) (λ free. write_effects image number context must parts bytes permits free (finds must (object_at r image number)) refl)
   has_its_effect (op.Data image number _) permits = elim permits [ ]
   has_its_effect _ permits = elim permits [ ]

@@ -19,13 +19,14 @@ use Rattle.rbd_machine.specs.Knowledge.{Knowledge, is_drawn}
 use Rattle.rbd_machine.specs.Permits.{Permits, PermitsOnHeader, PermitsOnObject, OwnsBy}
 use Rattle.rbd_site.specs.HeaderStep.{header_after}
 use Rattle.rbd_site.specs.Laws.{is_look}
-use Rattle.rbd_site.specs.Log.{live_in, trimmed}
+use Rattle.rbd_site.specs.Log.{expired, live_in, trimmed}
 use Rattle.rbd_site.specs.Records.{Records, put, or_blank, object_at}
-use Rattle.rbd_site.specs.Step.{after}
+use Rattle.rbd_site.specs.Step.{after, after_served}
+use Rattle.rbd_site.proofs.StepLemmas.{where_fenced}
 use Rattle.rbd_site.proofs.GenerationLemmas.{looked_at}
 use Rattle.rbd_stands.specs.Site.{IsUntouched}
 use Rattle.rbd_stands.specs.Unseen.{is_about}
-use Rattle.rbd_stands.proofs.EditSteps.{untouched_stays, drawn_stays}
+use Rattle.rbd_stands.proofs.EditSteps.{untouched_served, drawn_served}
 use Rattle.rbd_stands.proofs.StoreSteps.{blank_trimmed}
 use Rattle.rbd_flat.specs.Flat.{no_images}
 use Rattle.rbd_rely.specs.Beside.{AreBeside, is_own_alone}
@@ -92,22 +93,28 @@ module _ (site : SiteId) (r : Records) (k j : Knowledge) (you : Instance) (t : I
   header_kept image (header.SnapRemove snap) permits = alone_beside site k j image _ beside permits (header_after you (r.headers image) (header.SnapRemove snap))
   header_kept image _ permits = elim permits [ ]
 
-  owned_kept : (o : Op) → Permits j site o → (image : ℕ) → IsStill (known_header k site image) ((after r you o).headers image)
-  owned_kept (op.Directory o) permits image = t.owned image
-  owned_kept (op.Data other number o) permits image = t.owned image
-  owned_kept (op.Header other o) permits image = go (image == other) refl
+  owned_served : (o : Op) → Permits j site o → (image : ℕ) → IsStill (known_header k site image) ((after_served r you o).headers image)
+  owned_served (op.Directory o) permits image = t.owned image
+  owned_served (op.Data other number o) permits image = t.owned image
+  owned_served (op.Header other o) permits image = go (image == other) refl
     where
       go : (b : Bool) → (image == other) ≡ b → IsStill (known_header k site image) (cond b (header_after you (r.headers other) o) (r.headers image))
       go true same = subst (λ i. IsStill (known_header k site i) (header_after you (r.headers other) o)) (sym (eqb-true image other same)) (header_kept other o permits)
       go false differ = t.owned image
-  owned_kept _ permits image = elim permits [ ]
+  owned_served _ permits image = elim permits [ ]
+
+  owned_kept : (o : Op) → Permits j site o → (image : ℕ) → IsStill (known_header k site image) ((after r you o).headers image)
+  owned_kept o permits image = where_fenced (λ s. IsStill (known_header k site image) (s.headers image)) r you o (t.owned image) (owned_served o permits image)
 
 -- an id that waits still does, where the operation isn't about it
-pub waits_on : (r : Records) (you : Instance) (o : Op) (image : ℕ) → is_about image o ≡ false → IsWaiting r image → IsWaiting (after r you o) image
-waits_on r you o image other w =
+pub waits_served : (r : Records) (you : Instance) (o : Op) (image : ℕ) → is_about image o ≡ false → IsWaiting r image → IsWaiting (after_served r you o) image
+waits_served r you o image other w =
     let untouched : IsUntouched r no_images image = record { header = w.header; flat = finmap.get-empty nat_cmp image; blank = w.blank } in
-    let stays = untouched_stays r no_images no_images you o image untouched other refl in
-    record { drawn = drawn_stays r you o image w.drawn; header = stays.header; blank = stays.blank }
+    let stays = untouched_served r no_images no_images you o image untouched other refl in
+    record { drawn = drawn_served r you o image w.drawn; header = stays.header; blank = stays.blank }
+
+waits_on : (r : Records) (you : Instance) (o : Op) (image : ℕ) → is_about image o ≡ false → IsWaiting r image → IsWaiting (after r you o) image
+waits_on r you o image other w = where_fenced (λ s. IsWaiting s image) r you o w (waits_served r you o image other w)
 
 waits_behind_look : (r : Records) (you : Instance) (o : Op) (image : ℕ) → is_look o ≡ true → IsWaiting r image → IsWaiting (after r you o) image
 waits_behind_look r you o image look w = subst (λ s. IsWaiting s image) (sym (looked_at r you o look)) w
@@ -181,3 +188,9 @@ trim_waits r other number image w = record {
 
 pub trims_keep : (site : SiteId) (r : Records) (k : Knowledge) (image number : ℕ) → IsTrueAt site r k → IsTrueAt site (trimmed image number r) k
 trims_keep site r k image number t = record { owned = t.owned; drawn = λ i drawn. trim_waits r image number i (t.drawn i drawn) }
+
+pub expiries_keep : (site : SiteId) (r : Records) (k : Knowledge) (image : ℕ) (i : Instance) → IsTrueAt site r k → IsTrueAt site (expired image i r) k
+expiries_keep site r k image i t = record {
+  owned = t.owned;
+  drawn = λ n drawn. let w = t.drawn n drawn in record { drawn = w.drawn; header = w.header; blank = w.blank };
+}

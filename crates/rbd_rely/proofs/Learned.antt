@@ -28,12 +28,14 @@ use Rattle.rbd_site.specs.DirectoryStep.{name_added, where_added}
 use Rattle.rbd_site.specs.HeaderStep.{header_after, header_answer, snap_added, where_made}
 use Rattle.rbd_site.specs.Found.{done_where}
 use Rattle.rbd_site.specs.Records.{Records, with_directory}
-use Rattle.rbd_site.specs.Step.{after, answer_to}
+use Rattle.rbd_site.specs.Step.{after, after_served, answer_to, answer_served}
+use Rattle.rbd_site.proofs.StepLemmas.{where_fenced}
 use Rattle.rbd_site.proofs.GenerationLemmas.{looked_at}
 use Rattle.rbd_stands.specs.Site.{StandsFor}
 use Rattle.rbd_stands.proofs.ObjectSteps.{put_there, put_elsewhere}
+use Rattle.rbd_stands.proofs.Served.{where_either}
 use Rattle.rbd_rely.specs.Truth.{IsTrueAt, IsStill, IsWaiting, header_of_own, known_header}
-use Rattle.rbd_rely.proofs.Kept.{owned_there, unknown_of_none, owned_is_other, waits_on, waits_object, other_than}
+use Rattle.rbd_rely.proofs.Kept.{owned_there, unknown_of_none, owned_is_other, waits_served, waits_object, other_than}
 
 -- ---- where
 
@@ -123,7 +125,7 @@ module _ (site : SiteId) (r : Records) (f : Flat) (k : Knowledge) (stands : Stan
   added_true name None false = drawn_true name
 
   directory_learned : (me : Instance) (o : DirectoryOp) → PermitsOnDirectory o
-      → IsTrueAt site (after r me (op.Directory o)) (learned_of_directory k site o (answer_to r me (op.Directory o)))
+      → IsTrueAt site (after_served r me (op.Directory o)) (learned_of_directory k site o (answer_served r me (op.Directory o)))
   directory_learned me (directory.Find name) permits = t
   directory_learned me directory.List permits = t
   directory_learned me (directory.Add name) permits = added_true name (id_of r.directory name) (listing.is_full r.directory)
@@ -151,12 +153,12 @@ drawn_left site image i (d ∷ drawn) is = by (is_at site image d.site d.image) 
 
 module _ (site : SiteId) (r : Records) (k : Knowledge) (me : Instance) (t : IsTrueAt site r k) where
   abbrev pub doing : (image : ℕ) → HeaderOp → Records
-  doing image o = after r me (op.Header image o)
+  doing image o = after_served r me (op.Header image o)
 
   elsewhere : (image : ℕ) (o : HeaderOp) (i : ℕ) → i ≢ image → (doing image o).headers i ≡ r.headers i
   elsewhere image o i differ = put_elsewhere r.headers image (header_after me (r.headers image) o) i differ
 
-  got : (image : ℕ) (there : Option HeaderView) → r.headers image ≡ there → IsTrueAt site r (learned_of_header k site image header.Get (header_answer me there header.Get))
+  got : (image : ℕ) (there : Option HeaderView) → r.headers image ≡ there → IsTrueAt site r (learned_of_header k site image header.Get (header_answer me there (r.watchers image) header.Get))
   got image None is = t
   got image (Some h) is = told_true site r r k t image (first_told h) (λ i differ. refl) (by (own_of k.owns site image) refl) t.drawn
     where
@@ -181,7 +183,7 @@ module _ (site : SiteId) (r : Records) (k : Knowledge) (me : Instance) (t : IsTr
           subst (IsStill (known_header k site i)) (sym (elsewhere image (header.Create view) i (λ e. true≢false (sym (eq-eqb i image e) ∙ other)))) (t.owned i)
 
       waits : (i : ℕ) → (is_drawn k.drawn site i ≡ true) × (i ≢ image) → IsWaiting (doing image (header.Create view)) i
-      waits i left = waits_on r me (op.Header image (header.Create view)) i (other_than image i (λ e. left.1 (sym e))) (t.drawn i left.0)
+      waits i left = waits_served r me (op.Header image (header.Create view)) i (other_than image i (λ e. left.1 (sym e))) (t.drawn i left.0)
 
   -- a change of the header by the one who owns it
   edited : (image : ℕ) (o : HeaderOp) (condition : (alone : Bool) → HeaderView → Type 0) (owns : OwnsBy k site image condition) (edit : HeaderView → HeaderView)
@@ -193,13 +195,13 @@ module _ (site : SiteId) (r : Records) (k : Knowledge) (me : Instance) (t : IsTr
       (subst (λ q. IsStill (header_changed (option_map edit) q) ((doing image o).headers image)) (sym owns.is)
       (subst (IsStill (Some (edit owns.header))) (sym (put_there r.headers image (header_after me (r.headers image) o) ∙ is))
       (ap edit same ∙ keeps owns.header v.owner ∙ ap (λ w. record (edit owns.header) { owner = w }) (sym owner))))
-      (λ i drawn. waits_on r me (op.Header image o) i (owned_is_other site r k image i condition t owns (t.drawn i drawn)) (t.drawn i drawn))
+      (λ i drawn. waits_served r me (op.Header image o) i (owned_is_other site r k image i condition t owns (t.drawn i drawn)) (t.drawn i drawn))
 
   -- ---- snapshots
 
   -- what becomes of a header and what is answered, where it is changed
   pub record Edits (image : ℕ) (o : HeaderOp) (edit : HeaderView → HeaderView) (v : HeaderView) (a : Answer) : Type 0 where
-    pub answered : header_answer me (r.headers image) o ≡ a
+    pub answered : header_answer me (r.headers image) (r.watchers image) o ≡ a
     pub is : header_after me (r.headers image) o ≡ Some (edit v)
 
   pub takes : (image : ℕ) (name : List ℕ) (owns : OwnsAlone k site image (MayTake name))
@@ -210,7 +212,7 @@ module _ (site : SiteId) (r : Records) (k : Knowledge) (me : Instance) (t : IsTr
       ap (λ (h : HeaderView). is_some (snap_named h.snaps name)) there.same ∙ ap is_some owns.meets.1.unlisted in
       let room : is_full there.view ≡ false = ap is_full there.same ∙ owns.meets.1.has_room in
       record {
-        answered = ap (λ h. header_answer me h (header.SnapAdd name)) there.is
+        answered = ap (λ h. header_answer me h (r.watchers image) (header.SnapAdd name)) there.is
             ∙ ap (λ listed. snap_added listed (is_full there.view) (there.view.snap_seq + 1)) unlisted
             ∙ ap (λ full. snap_added false full (there.view.snap_seq + 1)) room;
         is = ap (λ h. header_after me h (header.SnapAdd name)) there.is
@@ -225,12 +227,12 @@ module _ (site : SiteId) (r : Records) (k : Knowledge) (me : Instance) (t : IsTr
       let listed : is_some (snap_in there.view.snaps snap) ≡ true =
       ap (λ (h : HeaderView). is_some (snap_in h.snaps snap)) there.same ∙ ap is_some owns.meets.1.listed in
       record {
-        answered = ap (λ h. header_answer me h (header.SnapRemove snap)) there.is ∙ ap done_where listed;
+        answered = ap (λ h. header_answer me h (r.watchers image) (header.SnapRemove snap)) there.is ∙ ap done_where listed;
         is = ap (λ h. header_after me h (header.SnapRemove snap)) there.is ∙ ap (λ b. Some (cond b (without_snap snap there.view) there.view)) listed;
       }
 
   taken : (image : ℕ) (name : List ℕ) → OwnsAlone k site image (MayTake name)
-      → IsTrueAt site (doing image (header.SnapAdd name)) (learned_of_header k site image (header.SnapAdd name) (header_answer me (r.headers image) (header.SnapAdd name)))
+      → IsTrueAt site (doing image (header.SnapAdd name)) (learned_of_header k site image (header.SnapAdd name) (header_answer me (r.headers image) (r.watchers image) (header.SnapAdd name)))
   taken image name owns =
       let there = owned_there site r k image _ t owns in
       let edits = takes image name owns in
@@ -238,33 +240,50 @@ module _ (site : SiteId) (r : Records) (k : Knowledge) (me : Instance) (t : IsTr
       (edited image (header.SnapAdd name) _ owns (with_snap name) (λ h owner. refl) there.view there.same refl edits.is)
 
   removed : (image snap : ℕ) → OwnsAlone k site image (MayRemove snap)
-      → IsTrueAt site (doing image (header.SnapRemove snap)) (learned_of_header k site image (header.SnapRemove snap) (header_answer me (r.headers image) (header.SnapRemove snap)))
+      → IsTrueAt site (doing image (header.SnapRemove snap)) (learned_of_header k site image (header.SnapRemove snap) (header_answer me (r.headers image) (r.watchers image) (header.SnapRemove snap)))
   removed image snap owns =
       let there = owned_there site r k image _ t owns in
       let edits = removes image snap owns in
       subst (λ a. IsTrueAt site (doing image (header.SnapRemove snap)) (learned_of_header k site image (header.SnapRemove snap) a)) (sym edits.answered)
       (edited image (header.SnapRemove snap) _ owns (without_snap snap) (λ h owner. refl) there.view there.same refl edits.is)
 
+  abbrev HeaderTeaches : (image : ℕ) → HeaderOp → Answer → Records → Type 0
+  HeaderTeaches image o a s = IsTrueAt site s (learned_of_header k site image o a)
+
   header_learned : (image : ℕ) (o : HeaderOp) → PermitsOnHeader k site image o
-      → IsTrueAt site (doing image o) (learned_of_header k site image o (header_answer me (r.headers image) o))
+      → HeaderTeaches image o (answer_to r me (op.Header image o)) (after r me (op.Header image o))
   header_learned image header.Get permits =
-      subst (λ s. IsTrueAt site s (learned_of_header k site image header.Get (header_answer me (r.headers image) header.Get))) (sym (looked_at r me (op.Header image header.Get) refl))
-      (got image (r.headers image) refl)
+      subst (HeaderTeaches image header.Get (answer_to r me (op.Header image header.Get))) (sym (looked_at r me (op.Header image header.Get) refl))
+      (where_either (λ a s. HeaderTeaches image header.Get a r) r me (op.Header image header.Get) t (got image (r.headers image) refl))
   header_learned image (header.Create view) permits =
-      subst (λ h. IsTrueAt site (doing image (header.Create view)) (learned_of_header k site image (header.Create view) (header_answer me h (header.Create view)))) (sym (t.drawn image permits.drawn).header)
-      (made image view permits)
-  header_learned image (header.SnapAdd name) permits = taken image name permits
-  header_learned image (header.SnapRemove snap) permits = removed image snap permits
+      where_either (HeaderTeaches image (header.Create view)) r me (op.Header image (header.Create view)) t
+      (subst (λ h. HeaderTeaches image (header.Create view) (header_answer me h (r.watchers image) (header.Create view)) (doing image (header.Create view))) (sym (t.drawn image permits.drawn).header)
+      (made image view permits))
+  header_learned image (header.SnapAdd name) permits = where_either (HeaderTeaches image (header.SnapAdd name)) r me (op.Header image (header.SnapAdd name)) t (taken image name permits)
+  header_learned image (header.SnapRemove snap) permits = where_either (HeaderTeaches image (header.SnapRemove snap)) r me (op.Header image (header.SnapRemove snap)) t (removed image snap permits)
   header_learned image _ permits = elim permits [ ]
 
 -- ---- all operations
 
+-- a fenced answer teaches nothing
+pub learned_of_fence : (k : Knowledge) (site : SiteId) (o : Op) → learned k site o answer.Fenced ≡ k
+learned_of_fence k site (op.Directory (directory.Add name)) = refl
+learned_of_fence k site (op.Directory o) = refl
+learned_of_fence k site (op.Header image header.Get) = refl
+learned_of_fence k site (op.Header image (header.Create view)) = refl
+learned_of_fence k site (op.Header image (header.SnapAdd name)) = refl
+learned_of_fence k site (op.Header image (header.SnapRemove snap)) = refl
+learned_of_fence k site (op.Header image o) = refl
+learned_of_fence k site o = refl
+
 pub own_learned : (site : SiteId) (r : Records) (f : Flat) (k : Knowledge) (me : Instance) (o : Op) → StandsFor [] r f → IsTrueAt site r k → Permits k site o
     → IsTrueAt site (after r me o) (learned k site o (answer_to r me o))
-own_learned site r f k me (op.Directory o) stands t permits = directory_learned site r f k stands t me o permits
+own_learned site r f k me (op.Directory o) stands t permits =
+    where_either (λ a s. IsTrueAt site s (learned k site (op.Directory o) a)) r me (op.Directory o)
+    (subst (IsTrueAt site r) (sym (learned_of_fence k site (op.Directory o))) t) (directory_learned site r f k stands t me o permits)
 own_learned site r f k me (op.Header image o) stands t permits = header_learned site r k me t image o permits
 own_learned site r f k me (op.Data image number o) stands t permits = record {
-  owned = t.owned;
+  owned = λ i. where_fenced (λ s. IsStill (known_header k site i) (s.headers i)) r me (op.Data image number o) (t.owned i) (t.owned i);
   drawn = λ i drawn. waits_object site r k me t i (t.drawn i drawn) image number o permits;
 }
 own_learned site r f k me _ stands t permits = elim permits [ ]

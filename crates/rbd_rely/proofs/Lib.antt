@@ -3,3 +3,4 @@ pub mod Elsewhere
 pub mod Kept
 pub mod Learned
 pub mod Together
+pub mod Parents

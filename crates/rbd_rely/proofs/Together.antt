@@ -23,6 +23,7 @@ use Rattle.rbd_registry.specs.Directory as listing
 use Rattle.rbd_site.specs.DirectoryStep.{name_added}
 use Rattle.rbd_site.specs.Records.{Records}
 use Rattle.rbd_site.specs.Step.{answer_to}
+use Rattle.rbd_stands.proofs.Served.{where_either}
 use Rattle.rbd_rely.specs.Beside.{AreBeside, AreShared, MayLook, is_own_alone, is_alone_on}
 use Rattle.rbd_rely.specs.Truth.{IsTrueAt, header_of_own, known_header}
 use Rattle.rbd_rely.proofs.Learned.{header_changed, told_here, told_there, drawn_left, left_here, left_there, place_of}
@@ -117,7 +118,9 @@ module _ (site : SiteId) (k j : Knowledge) (beside : AreBeside site k j) where
   directory_beside : (r : Records) (me : Instance) (o : DirectoryOp) → IsTrueAt site r j → PermitsOnDirectory o → AreBeside site (learned_of_directory k site o (answer_to r me (op.Directory o))) j
   directory_beside r me (directory.Find name) u permits = beside
   directory_beside r me directory.List u permits = beside
-  directory_beside r me (directory.Add name) u permits = by (id_of r.directory name) (listing.is_full r.directory)
+  directory_beside r me (directory.Add name) u permits =
+      where_either (λ a s. AreBeside site (learned_of_directory k site (directory.Add name) a) j) r me (op.Directory (directory.Add name)) beside
+      (by (id_of r.directory name) (listing.is_full r.directory))
     where
       by : (held : Option ℕ) (full : Bool) → AreBeside site (learned_of_directory k site (directory.Add name) (name_added held full (r.directory.drawn + 1))) j
       by (Some image) full = beside

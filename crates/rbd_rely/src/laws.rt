@@ -2,6 +2,7 @@
 //! does nothing. A law speaks of any records of a site, and of what is known there.
 ghost use Rattle.std.specs.Prelude.{◌≡◌, ℕ, [], IsFalse, IsSome, None, true};
 ghost use Rattle.rbd_kinds.specs.declared.answer.Answer.{Answer};
+ghost use Rattle.rbd_kinds.specs.declared.answer.Answer.TheVariants as answered;
 ghost use Rattle.rbd_kinds.specs.declared.id.Instance.{Instance};
 ghost use Rattle.rbd_kinds.specs.declared.id.SiteId.{SiteId as Site};
 ghost use Rattle.rbd_kinds.specs.declared.operation.Op.{Op};
@@ -11,7 +12,7 @@ ghost use Rattle.rbd_machine.specs.Knowledge.{Knowledge, nothing_known, learned,
 ghost use Rattle.rbd_machine.specs.Permits.{Permits};
 ghost use Rattle.rbd_machine.specs.Wait.{Wait};
 ghost use Rattle.rbd_site.specs.InForm.{AreInForm};
-ghost use Rattle.rbd_site.specs.Log.{trimmed};
+ghost use Rattle.rbd_site.specs.Log.{expired, trimmed};
 ghost use Rattle.rbd_site.specs.Records.{Records, no_records};
 ghost use Rattle.rbd_site.specs.Step.{MayDo, answer_to, after};
 ghost use Rattle.rbd_site.specs.declared.done.DoneOp.TheVariants as done;
@@ -38,11 +39,21 @@ pub fn trims_keep_what_is_known()
     ensures { (site : Site) (r : Records) (k : Knowledge) (image number : ℕ) → IsTrueAt site r k → IsTrueAt site (trimmed image number r) k }
 {}
 
+/// So does the end of a watch.
+pub fn expiries_keep_what_is_known()
+    ensures { (site : Site) (r : Records) (k : Knowledge) (image : ℕ) (i : Instance) → IsTrueAt site r k → IsTrueAt site (expired image i r) k }
+{}
+
 /// What a request learns by an operation that is permitted to it is true behind this operation.
 pub fn answers_teach_what_is_true()
     ensures { (site : Site) (r : Records) (f : Flat) (k : Knowledge) (me : Instance) (op : Op)
         → StandsFor [] r f → IsTrueAt site r k → Permits k site op
         → IsTrueAt site (after r me op) (learned k site op (answer_to r me op)) }
+{}
+
+/// Who is fenced learns nothing.
+pub fn fences_teach_nothing()
+    ensures { (site : Site) (k : Knowledge) (op : Op) → learned k site op answered.Fenced ≡ k }
 {}
 
 /// What it may count on behind a wait is true.
@@ -72,10 +83,10 @@ pub fn requests_stay_beside()
 {}
 
 /// What is permitted by true knowledge meets the site's condition, and its answer is one that the
-/// operation can give.
+/// operation can give: it may be that of a fence.
 pub fn what_is_permitted_may_be_done()
-    ensures may { (site : Site) (r : Records) (k : Knowledge) (op : Op) (most : ℕ)
-        → AreInForm r most → IsTrueAt site r k → Permits k site op → MayDo r op }
+    ensures may { (site : Site) (r : Records) (k : Knowledge) (me : Instance) (op : Op) (most : ℕ)
+        → AreInForm r most → IsTrueAt site r k → Permits k site op → MayDo r me op }
     ensures gives { (site : Site) (r : Records) (k : Knowledge) (me : Instance) (op : Op) (most : ℕ)
         → AreInForm r most → IsTrueAt site r k → Permits k site op → CanGive op (answer_to r me op) }
 {}
@@ -93,4 +104,5 @@ pub fn images_stay_parentless()
     ensures first { IsParentless no_records }
     ensures operation { (site : Site) (r : Records) (k : Knowledge) (you : Instance) (op : Op) → IsParentless r → Permits k site op → IsParentless (after r you op) }
     ensures trim { (r : Records) (image number : ℕ) → IsParentless r → IsParentless (trimmed image number r) }
+    ensures expiry { (r : Records) (image : ℕ) (i : Instance) → IsParentless r → IsParentless (expired image i r) }
 {}

@@ -40,8 +40,9 @@
 //! [`laws`] says, of any records:
 //!
 //! - what is known stays true under each operation that is permitted to another, who knows truly,
-//!   and under the store's trims;
-//! - what an answer and a wait teach is true, and says nothing of the other site;
+//!   and under the store's trims and ends of watches;
+//! - what an answer and a wait teach is true, and says nothing of the other site; an instance that
+//!   is fenced learns nothing, and changes nothing;
 //! - what is permitted by true knowledge meets the site's condition, and gets an answer that its
 //!   operation can give;
 //! - where the records stand for a flat site, it has the effect there that `effect_of` tells, and

@@ -1,5 +1,6 @@
 -- What an operation at a place that is right tells of the flat site there, and its effect.
-use Rattle.std.proofs.Common.{◌≡◌, ℕ, ◌+◌, Bool, List, [], Option, Some, None, refl, sym, ap, ◌∙◌}
+use Rattle.std.proofs.Common.{◌≡◌, ℕ, ◌+◌, cond, Bool, true, false, List, [], Option, Some, None, refl, sym, ap, ◌∙◌}
+use Rattle.std.specs.Prelude.{IsFalse}
 use Rattle.std.specs.FinMap as finmap
 use Rattle.rbd_kinds.specs.declared.answer.Answer.TheVariants as answer
 use Rattle.rbd_kinds.specs.declared.directory_op.DirectoryOp.TheVariants as directory
@@ -12,8 +13,9 @@ use Rattle.rbd_meaning.specs.Listings.{listed}
 use Rattle.rbd_registry.specs.Directory.{is_full}
 use Rattle.rbd_site.specs.DirectoryStep.{image_found, name_added}
 use Rattle.rbd_site.specs.Records.{Records}
-use Rattle.rbd_site.specs.Step.{answer_to}
+use Rattle.rbd_site.specs.Step.{answer_to, answer_served, is_fenced}
 use Rattle.rbd_site.specs.declared.done.DoneOp.TheVariants as done
+use Rattle.rbd_stands.proofs.Served.{free_answer, is_served}
 use Rattle.rbd_stands.proofs.Telling.{header_told}
 use Rattle.rbd_stands.specs.Effect.{effect_of}
 use Rattle.rbd_stands.specs.Reading.{Tells}
@@ -34,6 +36,17 @@ module _ (homes : ℕ → SiteId) (p : Placed) (right : IsPlacedRight homes p) (
       ap (λ (s : Answered). answer_to (records_at p) p.done.instance s.op) (sym is)
       ∙ sym right.is.answer ∙ ap (λ (s : Answered). s.answer) is
 
+  -- who is answered anything but `fenced` isn't, and was served
+  pub unfenced_there : is_served step.answer ≡ true → IsFalse (is_fenced (records_at p) p.done.instance)
+  unfenced_there free = by (is_fenced (records_at p) p.done.instance) answer_there
+    where
+      by : (b : Bool) → cond b answer.Fenced (answer_served (records_at p) p.done.instance step.op) ≡ step.answer → b ≡ false
+      by true answered = sym free ∙ sym (ap is_served answered)
+      by false answered = refl
+
+  pub served_there : is_served step.answer ≡ true → answer_served (records_at p) p.done.instance step.op ≡ step.answer
+  served_there free = free_answer (records_at p) p.done.instance step.op (unfenced_there free) ∙ answer_there
+
   pub effect_there : p.done.effect ≡ effect_of (records_at p) (done.Op step.op) step.answer
   effect_there = right.is.effect ∙ ap (λ (s : Answered). effect_of (records_at p) (done.Op s.op) s.answer) is
 
@@ -52,13 +65,13 @@ pub found_there : (homes : ℕ → SiteId) (p : Placed) → IsPlacedRight homes 
     → id_of (flat_at p) name ≡ Some image
 found_there homes p right site name image is =
     image_of_found (id_of (flat_at p) name) image
-    (ap (λ names. image_found (finmap.get names name)) (sym right.standing.stands.names) ∙ answer_there homes p right (found site name image) is)
+    (ap (λ names. image_found (finmap.get names name)) (sym right.standing.stands.names) ∙ served_there homes p right (found site name image) is refl)
 
 -- all names are the flat site's there
 pub listed_there : (homes : ℕ → SiteId) (p : Placed) → IsPlacedRight homes p → (site : SiteId) (names : List (List ℕ)) → step_at p ≡ listed site names
     → names ≡ finmap.keys (flat_at p).names
 listed_there homes p right site names is =
-    let told : answer.Names (finmap.keys (records_at p).directory.names) ≡ answer.Names names = answer_there homes p right (listed site names) is in
+    let told : answer.Names (finmap.keys (records_at p).directory.names) ≡ answer.Names names = served_there homes p right (listed site names) is refl in
     let same : finmap.keys (records_at p).directory.names ≡ names = cc in
     sym same ∙ ap finmap.keys right.standing.stands.names
 
@@ -69,7 +82,7 @@ pub free_there : (homes : ℕ → SiteId) (p : Placed) → IsPlacedRight homes p
 free_there homes p right site name image is =
     free_where_added (id_of (flat_at p) name) (is_full (records_at p).directory) ((records_at p).directory.drawn + 1) image
     (ap (λ names. name_added (finmap.get names name) (is_full (records_at p).directory) ((records_at p).directory.drawn + 1)) (sym right.standing.stands.names)
-    ∙ answer_there homes p right (record { site = site; op = op.Directory (directory.Add name); answer = answer.Id image }) is)
+    ∙ served_there homes p right (record { site = site; op = op.Directory (directory.Add name); answer = answer.Id image }) is refl)
 
 -- ---- a header
 

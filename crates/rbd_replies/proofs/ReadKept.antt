@@ -15,8 +15,9 @@ use Rattle.rbd_site.specs.HeaderStep.{header_after}
 use Rattle.rbd_site.specs.Laws.{is_on_lock}
 use Rattle.rbd_site.specs.Log.{trimmed}
 use Rattle.rbd_site.specs.Records.{Records}
-use Rattle.rbd_site.specs.Step.{after}
+use Rattle.rbd_site.specs.Step.{after, after_served}
 use Rattle.rbd_site.proofs.GenerationLemmas.{generation_lasts, generation_same}
+use Rattle.rbd_site.proofs.StepLemmas.{where_fenced}
 use Rattle.rbd_world.specs.Run.{Happening, Nothing, Waited, Began, Did, Refused, Trimmed, records_after, records_behind}
 use Rattle.rbd_world.specs.Sound.{IsDone, IsDue, IsRight}
 use Rattle.rbd_replies.proofs.PlacedRight.{done_of}
@@ -54,17 +55,22 @@ no_lock k s (op.Header image _) permits = elim permits [ ]
 no_lock k s (op.Data image number o) permits = refl
 no_lock k s _ permits = elim permits [ ]
 
-here_after : (s : SiteId) (r : Records) (k : Knowledge) (me : Instance) (o : Op) → Permits k s o → (image : ℕ) (old : HeaderView) → r.headers image ≡ Some old
-    → IsHere ((after r me o).headers image)
-here_after s r k me (op.Directory o) permits image old is = record { view = old; is = is }
-here_after s r k me (op.Data other number o) permits image old is = record { view = old; is = is }
-here_after s r k me (op.Header other o) permits image old is = by (image == other) refl
+here_served : (s : SiteId) (r : Records) (k : Knowledge) (me : Instance) (o : Op) → Permits k s o → (image : ℕ) (old : HeaderView) → r.headers image ≡ Some old
+    → IsHere ((after_served r me o).headers image)
+here_served s r k me (op.Directory o) permits image old is = record { view = old; is = is }
+here_served s r k me (op.Data other number o) permits image old is = record { view = old; is = is }
+here_served s r k me (op.Header other o) permits image old is = by (image == other) refl
   where
     by : (b : Bool) → (image == other) ≡ b → IsHere (cond b (header_after me (r.headers other) o) (r.headers image))
     by true e =
         subst (λ there. IsHere (header_after me there o)) (sym is ∙ ap r.headers (eqb-true image other e)) (stays_here k s me other o permits old)
     by false e = record { view = old; is = is }
-here_after s r k me _ permits image old is = elim permits [ ]
+here_served s r k me _ permits image old is = elim permits [ ]
+
+here_after : (s : SiteId) (r : Records) (k : Knowledge) (me : Instance) (o : Op) → Permits k s o → (image : ℕ) (old : HeaderView) → r.headers image ≡ Some old
+    → IsHere ((after r me o).headers image)
+here_after s r k me o permits image old is =
+    where_fenced (λ then. IsHere (then.headers image)) r me o (record { view = old; is = is }) (here_served s r k me o permits image old is)
 
 kept_on : (s : SiteId) (r : Records) (k : Knowledge) (me : Instance) (o : Op) → Permits k s o → (image : ℕ) (old : HeaderView) → r.headers image ≡ Some old
     → IsKept old ((after r me o).headers image)

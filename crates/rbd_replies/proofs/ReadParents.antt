@@ -15,7 +15,8 @@ use Rattle.rbd_machine.specs.Permits.{Permits, PermitsOnHeader}
 use Rattle.rbd_site.specs.HeaderStep.{header_after, where_made}
 use Rattle.rbd_site.specs.Log.{trimmed}
 use Rattle.rbd_site.specs.Records.{Records}
-use Rattle.rbd_site.specs.Step.{after}
+use Rattle.rbd_site.specs.Step.{after, after_served}
+use Rattle.rbd_site.proofs.StepLemmas.{where_fenced}
 use Rattle.rbd_stands.specs.View.{EachView, Shape}
 use Rattle.rbd_stands.proofs.Views.{each_added, each_removed}
 use Rattle.rbd_world.specs.Run.{Happening, Nothing, Waited, Began, Did, Refused, Trimmed, records_after, records_behind}
@@ -56,21 +57,23 @@ module _ (k : Knowledge) (s : SiteId) (me : Instance) (image : ℕ) where
       by false = was
   views_then _ permits there was = elim permits [ ]
 
-views_on : (s : SiteId) (r : Records) (k : Knowledge) (me : Instance) (o : Op) → ((image : ℕ) → AreViewsAlone (r.headers image)) → Permits k s o
-    → (image : ℕ) → AreViewsAlone ((after r me o).headers image)
-views_on s r k me (op.Directory o) was permits = was
-views_on s r k me (op.Data image number o) was permits = was
-views_on s r k me (op.Header image o) was permits = λ i. by i (i == image)
+abbrev AreAloneIn : Records → Type 0
+AreAloneIn r = (image : ℕ) → AreViewsAlone (r.headers image)
+
+views_served : (s : SiteId) (r : Records) (k : Knowledge) (me : Instance) (o : Op) → AreAloneIn r → Permits k s o → AreAloneIn (after_served r me o)
+views_served s r k me (op.Directory o) was permits = was
+views_served s r k me (op.Data image number o) was permits = was
+views_served s r k me (op.Header image o) was permits = λ i. by i (i == image)
   where
     by : (i : ℕ) (b : Bool) → AreViewsAlone (cond b (header_after me (r.headers image) o) (r.headers i))
     by i true = views_then k s me image o permits (r.headers image) (was image)
     by i false = was i
-views_on s r k me _ was permits = elim permits [ ]
+views_served s r k me _ was permits = elim permits [ ]
+
+views_on : (s : SiteId) (r : Records) (k : Knowledge) (me : Instance) (o : Op) → AreAloneIn r → Permits k s o → AreAloneIn (after r me o)
+views_on s r k me o was permits = where_fenced AreAloneIn r me o was (views_served s r k me o was permits)
 
 module _ (homes : ℕ → SiteId) (s : SiteId) where
-  abbrev AreAloneIn : Records → Type 0
-  AreAloneIn r = (image : ℕ) → AreViewsAlone (r.headers image)
-
   views_behind : (h : Happening) (run : List Happening) → IsDue homes h run → AreAloneIn (records_after s run) → AreAloneIn (records_behind s (records_after s run) h)
   views_behind Nothing run due was = was
   views_behind Waited run due was = was

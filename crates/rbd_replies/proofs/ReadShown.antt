@@ -26,7 +26,7 @@ use Rattle.rbd_replies.proofs.PlacedRight.{ArePlacedRight, IsPlacedRight}
 use Rattle.rbd_replies.proofs.Places.{step_at}
 use Rattle.rbd_replies.proofs.ReadKept.{header_between}
 use Rattle.rbd_replies.proofs.PlacesTaken.{begin_with}
-use Rattle.rbd_replies.proofs.PlacesTold.{answer_there, records_at}
+use Rattle.rbd_replies.proofs.PlacesTold.{records_at, served_there}
 use Rattle.rbd_replies.proofs.ReadNames.{IsViewOf}
 use Rattle.rbd_replies.proofs.ReadOrder.{AreBehind, AreOrdered, behind_last}
 use Rattle.rbd_replies.proofs.ReadPiece.{piece_shown}
@@ -55,13 +55,13 @@ divide (step ∷ some) others places are =
 
 -- ---- a look tells the header that is there
 
-got : (me : Instance) (there : Option HeaderView) (h : HeaderView) → header_answer me there header.Get ≡ answer.Header h → there ≡ Some h
-got me None h answered = cc
-got me (Some other) h answered = cc
+got : (me : Instance) (there : Option HeaderView) (watchers : List Instance) (h : HeaderView) → header_answer me there watchers header.Get ≡ answer.Header h → there ≡ Some h
+got me None watchers h answered = cc
+got me (Some other) watchers h answered = cc
 
 pub there_at : (homes : ℕ → SiteId) (p : Placed) (right : IsPlacedRight homes p) (home : SiteId) (image : ℕ) (h : HeaderView) → step_at p ≡ looked_at home image h → (records_at p).headers image ≡ Some h
 there_at homes p right home image h is =
-    got p.done.instance ((records_at p).headers image) h (answer_there homes p right (looked_at home image h) is)
+    got p.done.instance ((records_at p).headers image) ((records_at p).watchers image) h (served_there homes p right (looked_at home image h) is refl)
 
 -- ---- the pieces lie within the view
 

@@ -24,7 +24,7 @@ use Rattle.rbd_world.specs.Run.{log_of}
 use Rattle.rbd_replies.specs.Places.{Placed, effects_of, with_effect}
 use Rattle.rbd_replies.proofs.PlacedRight.{ArePlacedRight, IsPlacedRight}
 use Rattle.rbd_replies.proofs.Places.{step_at}
-use Rattle.rbd_replies.proofs.PlacesTold.{records_at}
+use Rattle.rbd_replies.proofs.PlacesTold.{records_at, unfenced_there}
 
 module _ (homes : ℕ → SiteId) (home : SiteId) (image : ℕ) (own : HeaderView) (from : ℕ) (bytes : List ℕ) where
   abbrev op_of : Piece → Op
@@ -39,7 +39,8 @@ module _ (homes : ℕ → SiteId) (home : SiteId) (image : ℕ) (own : HeaderVie
       let there = owned_there p.done.site (records_at p) right.is.knows image _ right.is.truth owns in
       let v = there.view in
       let may : step.MayWrite piece.parts (bytes_for piece.parts from bytes) =
-      may_do p.done.site (records_at p) right.is.knows most right.standing.form right.is.truth (op_of piece) owns in
+      may_do p.done.site (records_at p) right.is.knows most right.standing.form right.is.truth p.done.instance (op_of piece) owns
+      (unfenced_there homes p right (piece_written home image own from bytes piece) is refl) in
       let lie : ArePartsBelow v v.size piece.object piece.parts =
       subst (λ w. ArePartsBelow w w.size piece.object piece.parts) (sym there.same)
       (All-weaker (LiesBelow owns.header piece.object) (IsPartBelow (record owns.header { owner = v.owner }) owns.header.size piece.object) (λ q lies. record { part = lies.part; below = lies.below }) piece.parts owns.meets.within) in

@@ -9,6 +9,7 @@ use Rattle.rbd_kinds.specs.declared.header.HeaderView.{HeaderView}
 use Rattle.rbd_kinds.specs.declared.header_op.HeaderOp.{HeaderOp}
 use Rattle.rbd_kinds.specs.declared.header_op.HeaderOp.TheVariants as head
 use Rattle.rbd_kinds.specs.declared.id.Instance.{Instance}
+use Rattle.rbd_kinds.specs.declared.notice.NoticeKind.{NoticeKind}
 use Rattle.rbd_kinds.specs.declared.operation.Op.{Op}
 use Rattle.rbd_kinds.specs.declared.operation.Op.TheVariants as on
 use Rattle.rbd_kinds.specs.declared.layout.Part.{Part}
@@ -19,10 +20,11 @@ use Rattle.rbd_object.specs.Versioned.{view}
 use Rattle.rbd_site.specs.DataStep.{parts_read, where_object_done}
 use Rattle.rbd_site.specs.HeaderStep.{header_after, there_after, is_owner, where_made}
 use Rattle.rbd_site.specs.Laws.{is_look, is_on_header, is_on_lock}
-use Rattle.rbd_site.specs.Records.{Records, or_blank}
-use Rattle.rbd_site.specs.Step.{after}
-use Rattle.rbd_site.proofs.StepLemmas.{other_header}
-use Rattle.rbd_site.proofs.TrimLemmas.{with_header_same, with_object_same}
+use Rattle.rbd_site.specs.Records.{Records, or_blank, with_watchers}
+use Rattle.rbd_site.specs.Step.{after, after_served}
+use Rattle.rbd_site.specs.WatchStep.{watchers_after}
+use Rattle.rbd_site.proofs.StepLemmas.{served_header, where_fenced}
+use Rattle.rbd_site.proofs.TrimLemmas.{with_header_same, with_object_same, with_watchers_same}
 
 -- ---- looks
 
@@ -30,20 +32,53 @@ header_got : (me : Instance) (o : Option HeaderView) → header_after me o head.
 header_got me None = refl
 header_got me (Some h) = refl
 
+watchers_got : (me : Instance) (o : Option HeaderView) (w : List Instance) → watchers_after me o w head.Get ≡ w
+watchers_got me None w = refl
+watchers_got me (Some h) w = refl
+
+header_asked : (me : Instance) (o : Option HeaderView) → header_after me o head.WatchersGet ≡ o
+header_asked me None = refl
+header_asked me (Some h) = refl
+
+watchers_asked : (me : Instance) (o : Option HeaderView) (w : List Instance) → watchers_after me o w head.WatchersGet ≡ w
+watchers_asked me None w = refl
+watchers_asked me (Some h) w = refl
+
+header_told : (me : Instance) (kind : NoticeKind) (o : Option HeaderView) → header_after me o (head.Notify kind) ≡ o
+header_told me kind None = refl
+header_told me kind (Some h) = refl
+
+watchers_told : (me : Instance) (kind : NoticeKind) (o : Option HeaderView) (w : List Instance) → watchers_after me o w (head.Notify kind) ≡ w
+watchers_told me kind None w = refl
+watchers_told me kind (Some h) w = refl
+
 object_read : (parts : List Part) (content : Option (List ℕ)) (changed : Mapped) (old : Option Mapped) → where_object_done (parts_read parts content) changed old ≡ old
 object_read parts None changed old = refl
 object_read parts (Some bytes) changed old = refl
 
-pub looked_at : (r : Records) (me : Instance) (op : Op) → IsTrue (is_look op) → after r me op ≡ r
-looked_at r me (on.Directory (dir.Find name)) look = refl
-looked_at r me (on.Directory dir.List) look = refl
-looked_at r me (on.Children (child.List parent snap)) look = refl
-looked_at r me (on.Header image head.Get) look =
-    with_header_same image (header_after me (r.headers image) head.Get) r (header_got me (r.headers image))
-looked_at r me (on.Data image number (data_op.Read snap parts)) look =
+look_served : (r : Records) (me : Instance) (op : Op) → IsTrue (is_look op) → after_served r me op ≡ r
+look_served r me (on.Directory (dir.Find name)) look = refl
+look_served r me (on.Directory dir.List) look = refl
+look_served r me (on.Children (child.List parent snap)) look = refl
+look_served r me (on.Header image head.Get) look =
+    let w = watchers_after me (r.headers image) (r.watchers image) head.Get in
+    with_header_same image (header_after me (r.headers image) head.Get) (with_watchers image w r) (header_got me (r.headers image))
+    ∙ with_watchers_same image w r (watchers_got me (r.headers image) (r.watchers image))
+look_served r me (on.Header image head.WatchersGet) look =
+    let w = watchers_after me (r.headers image) (r.watchers image) head.WatchersGet in
+    with_header_same image (header_after me (r.headers image) head.WatchersGet) (with_watchers image w r) (header_asked me (r.headers image))
+    ∙ with_watchers_same image w r (watchers_asked me (r.headers image) (r.watchers image))
+look_served r me (on.Header image (head.Notify kind)) look =
+    let w = watchers_after me (r.headers image) (r.watchers image) (head.Notify kind) in
+    with_header_same image (header_after me (r.headers image) (head.Notify kind)) (with_watchers image w r) (header_told me kind (r.headers image))
+    ∙ with_watchers_same image w r (watchers_told me kind (r.headers image) (r.watchers image))
+look_served r me (on.Data image number (data_op.Read snap parts)) look =
     with_object_same image number (where_object_done (parts_read parts (view (looked (or_blank (r.objects image number))) snap)) (or_blank (r.objects image number)) (r.objects image number)) r
     (object_read parts (view (looked (or_blank (r.objects image number))) snap) (or_blank (r.objects image number)) (r.objects image number))
-looked_at r me op look = absurd (true≢false (sym look))
+look_served r me op look = absurd (true≢false (sym look))
+
+pub looked_at : (r : Records) (me : Instance) (op : Op) → IsTrue (is_look op) → after r me op ≡ r
+looked_at r me op look = where_fenced (λ s. s ≡ r) r me op refl (look_served r me op look)
 
 -- ---- generations
 
@@ -104,21 +139,27 @@ follows me h head.WatchersGet new e = told h new e (unchanged false h)
 follows me h (head.Notify kind) new e = told h new e (unchanged false h)
 
 at_other : (lock : Bool) (r : Records) (me : Instance) (op : Op) (i : ℕ) (old new : HeaderView) → IsFalse (is_on_header i op)
-    → r.headers i ≡ Some old → (after r me op).headers i ≡ Some new → Follows lock old new
-at_other lock r me op i old new other was is = told old new (sym was ∙ sym (other_header r me op i other) ∙ is) (unchanged lock old)
+    → r.headers i ≡ Some old → (after_served r me op).headers i ≡ Some new → Follows lock old new
+at_other lock r me op i old new other was is = told old new (sym was ∙ sym (served_header r me op i other) ∙ is) (unchanged lock old)
 
-followed : (r : Records) (me : Instance) (op : Op) (i : ℕ) (old new : HeaderView) → r.headers i ≡ Some old → (after r me op).headers i ≡ Some new → Follows (is_on_lock op) old new
-followed r me (on.Header image o) i old new was is = go (eqb i image) refl
+follows_served : (r : Records) (me : Instance) (op : Op) (i : ℕ) (old new : HeaderView) → r.headers i ≡ Some old → (after_served r me op).headers i ≡ Some new → Follows (is_on_lock op) old new
+follows_served r me (on.Header image o) i old new was is = go (eqb i image) refl
   where
     go : (b : Bool) → eqb i image ≡ b → Follows (is_on_lock (on.Header image o)) old new
     go false apart = at_other (is_on_lock (on.Header image o)) r me (on.Header image o) i old new apart was is
     go true at =
         let there : r.headers image ≡ Some old = ap r.headers (sym (eqb-true i image at)) ∙ was in
         of_any image old new o (follows me old o new (ap (λ x. header_after me x o) (sym there) ∙ sym (ap (λ b. cond b (header_after me (r.headers image) o) (r.headers i)) at) ∙ is))
-followed r me (on.Directory o) i old new was is = at_other false r me (on.Directory o) i old new refl was is
-followed r me (on.Children o) i old new was is = at_other false r me (on.Children o) i old new refl was is
-followed r me (on.Data image number o) i old new was is = at_other false r me (on.Data image number o) i old new refl was is
-followed r me op i old new was is = at_other (is_on_lock op) r me op i old new refl was is
+follows_served r me (on.Directory o) i old new was is = at_other false r me (on.Directory o) i old new refl was is
+follows_served r me (on.Children o) i old new was is = at_other false r me (on.Children o) i old new refl was is
+follows_served r me (on.BlockAdd instance) i old new was is = at_other false r me (on.BlockAdd instance) i old new refl was is
+follows_served r me (on.Data image number o) i old new was is = at_other false r me (on.Data image number o) i old new refl was is
+follows_served r me op i old new was is = at_other (is_on_lock op) r me op i old new refl was is
+
+followed : (r : Records) (me : Instance) (op : Op) (i : ℕ) (old new : HeaderView) → r.headers i ≡ Some old → (after r me op).headers i ≡ Some new → Follows (is_on_lock op) old new
+followed r me op i old new was =
+    where_fenced (λ s. s.headers i ≡ Some new → Follows (is_on_lock op) old new) r me op
+    (λ is. told old new (sym was ∙ is) (unchanged (is_on_lock op) old)) (follows_served r me op i old new was)
 
 pub generation_lasts : (r : Records) (me : Instance) (op : Op) (i : ℕ) (old new : HeaderView) → r.headers i ≡ Some old → (after r me op).headers i ≡ Some new → old.generation ≤ new.generation
 generation_lasts r me op i old new was is = (followed r me op i old new was is).lasts

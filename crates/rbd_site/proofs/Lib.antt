@@ -1,3 +1,4 @@
+pub mod FenceLemmas
 pub mod GenerationLemmas
 pub mod FormLemmas
 pub mod HeaderLemmas
@@ -7,3 +8,4 @@ pub mod SnapLists
 pub mod SnapshotLemmas
 pub mod StepLemmas
 pub mod TrimLemmas
+pub mod WatchLemmas

@@ -4,6 +4,7 @@ use Rattle.rbd_site.specs.declared.done.Done.{Done}
 use Rattle.rbd_site.specs.Records.{Records, no_records}
 use Rattle.rbd_site.specs.Log.{after_op, after_all, IsAnswer, AreAnswered, AreNumbered, IsSoundLog}
 use Rattle.rbd_site.specs.InForm.{AreInForm}
+use Rattle.rbd_site.proofs.FormLemmas.{form_at_first}
 
 pub after_all-more : (r : Records) (log : List Done) (d : Done) → after_all r (log ++ d ∷ []) ≡ after_op (after_all r log) d.instance d.op
 after_all-more r [] d = refl
@@ -30,4 +31,4 @@ sound_more r new log d sound is answer number form = record {
 
 pub sound_at_first : (r : Records) (log : List Done) → r ≡ no_records → log ≡ [] → IsSoundLog r log
 sound_at_first r log none empty =
-    rw (none, empty) (record { kept = refl; answered = tt; numbered = tt; form = record { form = λ i h is. cc; generation = λ i h is. cc } })
+    rw (none, empty) (record { kept = refl; answered = tt; numbered = tt; form = form_at_first })

@@ -21,7 +21,7 @@ is_eq-then Greater b = refl
 eqb_swapped : (a b : ℕ) → eqb a b ≡ eqb b a
 eqb_swapped a b = grind arith
 
-is_eq-nat_cmp : (a b : ℕ) → is_eq (nat_cmp a b) ≡ eqb b a
+pub is_eq-nat_cmp : (a b : ℕ) → is_eq (nat_cmp a b) ≡ eqb b a
 is_eq-nat_cmp a b = unsigned_tied a b ∙ eqb_swapped a b
 
 -- the key of an object is the key of one object

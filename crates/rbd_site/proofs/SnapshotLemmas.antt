@@ -15,7 +15,8 @@ use Rattle.rbd_object.proofs.MappedLemmas.{looked-mapped_change}
 use Rattle.rbd_object.proofs.StepLemmas.{view-after_steps}
 use Rattle.rbd_site.specs.DataStep.{blank_answer, data_change, where_object_done, data_after}
 use Rattle.rbd_site.specs.Records.{Records, or_blank, object_at, put}
-use Rattle.rbd_site.specs.Step.{after}
+use Rattle.rbd_site.specs.Step.{after, after_served}
+use Rattle.rbd_site.proofs.StepLemmas.{where_fenced}
 
 change_stays : (c : SnapContext) (new : Option (List ℕ)) (o : Mapped) (snap : ℕ) → snap ≤ o.seq
     → view (looked (mapped_change c new o)) (Some snap) ≡ view (looked o) (Some snap)
@@ -38,9 +39,9 @@ data_stays o op snap below = go (blank_answer (or_blank o) op)
     go answer.Done = changed_stays (or_blank o) op snap below
     go a = refl
 
-pub snapshots_stay : (r : Records) (me : Instance) (op : Op) (image number snap : ℕ) → snap ≤ (object_at r image number).seq
-    → view (looked (object_at (after r me op) image number)) (Some snap) ≡ view (looked (object_at r image number)) (Some snap)
-snapshots_stay r me (on.Data image number op) i n snap below = go (eqb i image) refl
+served_stay : (r : Records) (me : Instance) (op : Op) (image number snap : ℕ) → snap ≤ (object_at r image number).seq
+    → view (looked (object_at (after_served r me op) image number)) (Some snap) ≡ view (looked (object_at r image number)) (Some snap)
+served_stay r me (on.Data image number op) i n snap below = go (eqb i image) refl
   where
     changed : Option Mapped
     changed = data_after (r.objects image number) op
@@ -60,4 +61,10 @@ snapshots_stay r me (on.Data image number op) i n snap below = go (eqb i image) 
     go : (s : Bool) → eqb i image ≡ s → shown (cond s (put (r.objects image) number changed) (r.objects i) n) ≡ shown (r.objects i n)
     go true a = at_number (eqb n number) (eqb-true i image a) refl
     go false a = refl
-snapshots_stay r me op i n snap below = refl
+served_stay r me op i n snap below = refl
+
+pub snapshots_stay : (r : Records) (me : Instance) (op : Op) (image number snap : ℕ) → snap ≤ (object_at r image number).seq
+    → view (looked (object_at (after r me op) image number)) (Some snap) ≡ view (looked (object_at r image number)) (Some snap)
+snapshots_stay r me op image number snap below =
+    where_fenced (λ s. view (looked (object_at s image number)) (Some snap) ≡ view (looked (object_at r image number)) (Some snap)) r me op refl
+    (served_stay r me op image number snap below)

@@ -1,5 +1,5 @@
 -- What one operation leaves as it is.
-use Rattle.std.proofs.Common.{◌≡◌, ℕ, Bool, true, false, cond, eqb, ◌&&◌, Option, Some, None, is_some, refl, sym, ap, ◌∙◌}
+use Rattle.std.proofs.Common.{◌≡◌, ℕ, Bool, true, false, cond, eqb, ◌&&◌, List, Option, Some, None, is_some, refl, sym, ap, ◌∙◌}
 use Rattle.std.specs.Prelude.{◌+◌, IsFalse}
 use Rattle.std.proofs.lemmas.Bool.{eqb-true}
 use Rattle.rbd_kinds.specs.declared.answer.Answer.{Answer}
@@ -25,24 +25,54 @@ use Rattle.rbd_site.specs.Found.{done_where}
 use Rattle.rbd_site.specs.DataStep.{blank_answer, data_change, where_object_done, data_after}
 use Rattle.rbd_site.specs.DirectoryStep.{directory_answer, directory_after, name_added, name_changed, where_added, where_done}
 use Rattle.rbd_site.specs.HeaderStep.{header_answer, header_after, is_owner, lock_taken, snap_added, where_made}
-use Rattle.rbd_site.specs.Laws.{is_change, is_on_children, is_on_directory, is_on_header, is_on_object}
-use Rattle.rbd_site.specs.Records.{Records, or_blank, put, with_children, with_directory}
-use Rattle.rbd_site.specs.Step.{answer_to, after}
-use Rattle.rbd_site.proofs.TrimLemmas.{with_header_same, with_object_same}
+use Rattle.rbd_site.specs.Laws.{is_block_add, is_change, is_on_children, is_on_directory, is_on_header, is_on_object}
+use Rattle.rbd_site.specs.Records.{Records, or_blank, put, with_children, with_directory, with_watchers}
+use Rattle.rbd_site.specs.Step.{is_fenced, answer_to, answer_served, after, after_served}
+use Rattle.rbd_site.specs.WatchStep.{there_watched, watchers_after}
+use Rattle.rbd_site.proofs.TrimLemmas.{with_header_same, with_object_same, with_watchers_same}
+
+-- A fenced instance leaves the records, so what holds of them and after what is served holds after
+-- an operation.
+pub where_fenced : (P : Records → Type 0) (r : Records) (me : Instance) (op : Op) → P r → P (after_served r me op) → P (after r me op)
+where_fenced P r me op before served = go (is_fenced r me)
+  where
+    go : (b : Bool) → P (cond b r (after_served r me op))
+    go true = before
+    go false = served
+
+served_directory : (r : Records) (me : Instance) (op : Op) → IsFalse (is_on_directory op) → (after_served r me op).directory ≡ r.directory
+served_directory r me (on.Directory op) other = cc
+served_directory r me op other = refl
 
 pub other_directory : (r : Records) (me : Instance) (op : Op) → IsFalse (is_on_directory op) → (after r me op).directory ≡ r.directory
-other_directory r me (on.Directory op) other = cc
-other_directory r me op other = refl
+other_directory r me op other = where_fenced (λ s. s.directory ≡ r.directory) r me op refl (served_directory r me op other)
+
+served_blocklist : (r : Records) (me : Instance) (op : Op) → IsFalse (is_block_add op) → (after_served r me op).blocklist ≡ r.blocklist
+served_blocklist r me (on.BlockAdd i) other = cc
+served_blocklist r me op other = refl
+
+pub other_blocklist : (r : Records) (me : Instance) (op : Op) → IsFalse (is_block_add op) → (after r me op).blocklist ≡ r.blocklist
+other_blocklist r me op other = where_fenced (λ s. s.blocklist ≡ r.blocklist) r me op refl (served_blocklist r me op other)
 
 at_other : {T : Type 0} (f : ℕ → T) (place : ℕ) (value : T) (n : ℕ) → eqb n place ≡ false → put f place value n ≡ f n
 at_other f place value n other = ap (λ b. cond b value (f n)) other
 
-pub other_header : (r : Records) (me : Instance) (op : Op) (image : ℕ) → IsFalse (is_on_header image op) → (after r me op).headers image ≡ r.headers image
-other_header r me (on.Header image op) i other = at_other r.headers image (header_after me (r.headers image) op) i other
-other_header r me op i other = refl
+pub served_header : (r : Records) (me : Instance) (op : Op) (image : ℕ) → IsFalse (is_on_header image op) → (after_served r me op).headers image ≡ r.headers image
+served_header r me (on.Header image op) i other = at_other r.headers image (header_after me (r.headers image) op) i other
+served_header r me op i other = refl
 
-pub other_object : (r : Records) (me : Instance) (op : Op) (image number : ℕ) → IsFalse (is_on_object image number op) → (after r me op).objects image number ≡ r.objects image number
-other_object r me (on.Data image number op) i n other = go (eqb i image) (eqb n number) refl refl other
+pub other_header : (r : Records) (me : Instance) (op : Op) (image : ℕ) → IsFalse (is_on_header image op) → (after r me op).headers image ≡ r.headers image
+other_header r me op i other = where_fenced (λ s. s.headers i ≡ r.headers i) r me op refl (served_header r me op i other)
+
+served_watchers : (r : Records) (me : Instance) (op : Op) (image : ℕ) → IsFalse (is_on_header image op) → (after_served r me op).watchers image ≡ r.watchers image
+served_watchers r me (on.Header image op) i other = at_other r.watchers image (watchers_after me (r.headers image) (r.watchers image) op) i other
+served_watchers r me op i other = refl
+
+pub other_watchers : (r : Records) (me : Instance) (op : Op) (image : ℕ) → IsFalse (is_on_header image op) → (after r me op).watchers image ≡ r.watchers image
+other_watchers r me op i other = where_fenced (λ s. s.watchers i ≡ r.watchers i) r me op refl (served_watchers r me op i other)
+
+served_object : (r : Records) (me : Instance) (op : Op) (image number : ℕ) → IsFalse (is_on_object image number op) → (after_served r me op).objects image number ≡ r.objects image number
+served_object r me (on.Data image number op) i n other = go (eqb i image) (eqb n number) refl refl other
   where
     after_it : Option Mapped
     after_it = data_after (r.objects image number) op
@@ -51,11 +81,17 @@ other_object r me (on.Data image number op) i n other = go (eqb i image) (eqb n 
     go true true a b other = cc
     go true false a b other = at_other (r.objects image) number after_it n b ∙ ap (λ image. r.objects image n) (sym (eqb-true i image a))
     go false t a b other = refl
-other_object r me op i n other = refl
+served_object r me op i n other = refl
+
+pub other_object : (r : Records) (me : Instance) (op : Op) (image number : ℕ) → IsFalse (is_on_object image number op) → (after r me op).objects image number ≡ r.objects image number
+other_object r me op i n other = where_fenced (λ s. s.objects i n ≡ r.objects i n) r me op refl (served_object r me op i n other)
+
+served_children : (r : Records) (me : Instance) (op : Op) → IsFalse (is_on_children op) → (after_served r me op).children ≡ r.children
+served_children r me (on.Children op) other = cc
+served_children r me op other = refl
 
 pub other_children : (r : Records) (me : Instance) (op : Op) → IsFalse (is_on_children op) → (after r me op).children ≡ r.children
-other_children r me (on.Children op) other = cc
-other_children r me op other = refl
+other_children r me op other = where_fenced (λ s. s.children ≡ r.children) r me op refl (served_children r me op other)
 
 pub refused_directory : (d : Listing) (op : DirectoryOp) → IsFalse (is_change (directory_answer d op)) → directory_after d op ≡ d
 refused_directory d (dir.Add name) other = go (id_of d name) (is_full_directory d) other
@@ -91,27 +127,35 @@ not_done : (done : Bool) (refusal : Answer) (changed old : HeaderView) → is_ch
 not_done true refusal changed old other = cc
 not_done false refusal changed old other = refl
 
-pub refused_header : (me : Instance) (o : Option HeaderView) (op : HeaderOp) → IsFalse (is_change (header_answer me o op)) → header_after me o op ≡ o
-refused_header me None (head.Create view) other = cc
-refused_header me None op other = refl
-refused_header me (Some h) (head.Create view) other = refl
-refused_header me (Some h) head.Get other = refl
-refused_header me (Some h) (head.SnapAdd name) other = go (is_some (snap_named h.snaps name)) (is_full h) other
+pub refused_header : (me : Instance) (o : Option HeaderView) (w : List Instance) (op : HeaderOp) → IsFalse (is_change (header_answer me o w op)) → header_after me o op ≡ o
+refused_header me None w (head.Create view) other = cc
+refused_header me None w op other = refl
+refused_header me (Some h) w (head.Create view) other = refl
+refused_header me (Some h) w head.Get other = refl
+refused_header me (Some h) w (head.SnapAdd name) other = go (is_some (snap_named h.snaps name)) (is_full h) other
   where
     go : (listed full : Bool) → is_change (snap_added listed full (h.snap_seq + 1)) ≡ false → Some (where_made listed full (with_snap name h) h) ≡ Some h
     go true full other = refl
     go false true other = refl
     go false false other = cc
-refused_header me (Some h) (head.SnapRemove snap) other = not_done (is_some (snap_in h.snaps snap)) answer.Absent (without_snap snap h) h other
-refused_header me (Some h) (head.SnapStatus snap status) other = not_done (is_some (snap_in h.snaps snap)) answer.Absent (with_status snap status h) h other
-refused_header me (Some h) head.LockTake other = ap (λ owner. Some (record h { owner = owner })) (go h.owner other)
+refused_header me (Some h) w (head.SnapRemove snap) other = not_done (is_some (snap_in h.snaps snap)) answer.Absent (without_snap snap h) h other
+refused_header me (Some h) w (head.SnapStatus snap status) other = not_done (is_some (snap_in h.snaps snap)) answer.Absent (with_status snap status h) h other
+refused_header me (Some h) w head.LockTake other = ap (λ owner. Some (record h { owner = owner })) (go h.owner other)
   where
     go : (owner : Option Instance) → is_change (lock_taken me owner) ≡ false → cond (is_some owner) owner (Some me) ≡ owner
     go None other = cc
     go (Some owner) other = refl
-refused_header me (Some h) head.LockDrop other = not_done (is_owner me h.owner) answer.Changed (record h { owner = None }) h other
-refused_header me (Some h) (head.LockBreak owner) other = not_done (is_owner owner h.owner) answer.Changed (record h { owner = None }) h other
-refused_header me (Some h) op other = cc
+refused_header me (Some h) w head.LockDrop other = not_done (is_owner me h.owner) answer.Changed (record h { owner = None }) h other
+refused_header me (Some h) w (head.LockBreak owner) other = not_done (is_owner owner h.owner) answer.Changed (record h { owner = None }) h other
+refused_header me (Some h) w head.WatchersGet other = refl
+refused_header me (Some h) w op other = cc
+
+refused_watchers : (me : Instance) (o : Option HeaderView) (w : List Instance) (op : HeaderOp) → IsFalse (is_change (header_answer me o w op)) → watchers_after me o w op ≡ w
+refused_watchers me None w op other = refl
+refused_watchers me (Some h) w head.Watch other = cc
+refused_watchers me (Some h) w head.Unwatch other = cc
+refused_watchers me (Some h) w head.Remove other = cc
+refused_watchers me (Some h) w op other = refl
 
 pub refused_object : (o : Option Mapped) (op : DataOp) → IsFalse (is_change (blank_answer (or_blank o) op)) → data_after o op ≡ o
 refused_object o op other = go (blank_answer (or_blank o) op) other
@@ -120,11 +164,21 @@ refused_object o op other = go (blank_answer (or_blank o) op) other
     go answer.Done other = cc
     go a other = refl
 
-pub refused : (r : Records) (me : Instance) (op : Op) → IsFalse (is_change (answer_to r me op)) → after r me op ≡ r
-refused r me (on.Directory op) other = ap (λ d. with_directory d r) (refused_directory r.directory op other)
-refused r me (on.Children op) other = ap (λ entries. with_children entries r) (refused_children r.children op other)
-refused r me (on.Header image op) other =
-    with_header_same image (header_after me (r.headers image) op) r (refused_header me (r.headers image) op other)
-refused r me (on.Data image number op) other =
+served_refused : (r : Records) (me : Instance) (op : Op) → IsFalse (is_change (answer_served r me op)) → after_served r me op ≡ r
+served_refused r me (on.Directory op) other = ap (λ d. with_directory d r) (refused_directory r.directory op other)
+served_refused r me (on.Children op) other = ap (λ entries. with_children entries r) (refused_children r.children op other)
+served_refused r me (on.BlockAdd i) other = cc
+served_refused r me (on.Header image op) other =
+    let w = watchers_after me (r.headers image) (r.watchers image) op in
+    with_header_same image (header_after me (r.headers image) op) (with_watchers image w r) (refused_header me (r.headers image) (r.watchers image) op other)
+    ∙ with_watchers_same image w r (refused_watchers me (r.headers image) (r.watchers image) op other)
+served_refused r me (on.Data image number op) other =
     with_object_same image number (data_after (r.objects image number) op) r (refused_object (r.objects image number) op other)
-refused r me op other = refl
+served_refused r me op other = refl
+
+pub refused : (r : Records) (me : Instance) (op : Op) → IsFalse (is_change (answer_to r me op)) → after r me op ≡ r
+refused r me op = go (is_fenced r me)
+  where
+    go : (b : Bool) → is_change (cond b answer.Fenced (answer_served r me op)) ≡ false → cond b r (after_served r me op) ≡ r
+    go true other = refl
+    go false other = served_refused r me op other

@@ -1,12 +1,13 @@
 -- A trim of an object.
-use Rattle.std.proofs.Common.{◌≡◌, ℕ, ◌+◌, Bool, true, false, cond, eqb, Option, None, option_map, refl, sym, ap, ◌∙◌, arith}
+use Rattle.std.proofs.Common.{◌≡◌, ℕ, ◌+◌, Bool, true, false, cond, eqb, List, Option, None, option_map, refl, sym, ap, ◌∙◌, arith}
 use Rattle.std.proofs.Math.Path.{fun_ext}
 use Rattle.std.proofs.lemmas.Bool.{eqb-true}
 use Rattle.rbd_kinds.specs.declared.header.HeaderView.{HeaderView}
+use Rattle.rbd_kinds.specs.declared.id.Instance.{Instance}
 use Rattle.rbd_object.specs.Mapped.{Mapped, mapped_trim}
 use Rattle.rbd_site.specs.InForm.{AreInForm}
 use Rattle.rbd_site.specs.Log.{live_in, trimmed}
-use Rattle.rbd_site.specs.Records.{Records, put, with_header, with_object}
+use Rattle.rbd_site.specs.Records.{Records, put, with_header, with_object, with_watchers}
 
 -- the value that is there is put again
 pub put_same : {T : Type 0} (f : ℕ → T) (place : ℕ) (value : T) → value ≡ f place → put f place value ≡ f
@@ -19,9 +20,12 @@ put_same {T} f place value is = fun_ext (λ n. go n (eqb n place) refl)
 pub with_header_same : (image : ℕ) (header : Option HeaderView) (r : Records) → header ≡ r.headers image → with_header image header r ≡ r
 with_header_same image header r is = ap (λ (headers : ℕ → Option HeaderView). record r { headers = headers }) (put_same r.headers image header is)
 
+pub with_watchers_same : (image : ℕ) (watchers : List Instance) (r : Records) → watchers ≡ r.watchers image → with_watchers image watchers r ≡ r
+with_watchers_same image watchers r is = ap (λ (all : ℕ → List Instance). record r { watchers = all }) (put_same r.watchers image watchers is)
+
 pub with_object_same : (image number : ℕ) (object : Option Mapped) (r : Records) → object ≡ r.objects image number → with_object image number object r ≡ r
 with_object_same image number object r is =
-    ap (λ (objects : ℕ → ℕ → Option Mapped). record { directory = r.directory; children = r.children; headers = r.headers; objects = objects })
+    ap (λ (objects : ℕ → ℕ → Option Mapped). record r { objects = objects })
     (put_same r.objects image (put (r.objects image) number object) (put_same (r.objects image) number object is))
 
 -- nothing is there to trim
@@ -31,4 +35,9 @@ trimmed_missing image number r missing =
     (ap (option_map (mapped_trim (live_in (r.headers image)))) missing ∙ sym missing)
 
 pub form_trimmed : (image number : ℕ) (r : Records) (most : ℕ) → AreInForm r most → AreInForm (trimmed image number r) (most + 1)
-form_trimmed image number r most held = record { form = held.form; generation = λ i h is. omega (arith, held.generation i h is) }
+form_trimmed image number r most held = record {
+  form = held.form;
+  generation = λ i h is. omega (arith, held.generation i h is);
+  unwatched = held.unwatched;
+  distinct = held.distinct;
+}

@@ -1,5 +1,5 @@
 -- Operations on the header of an image: the answer, and the header after it.
-use Rattle.std.specs.Prelude.{ℕ, ◌+◌, ◌==◌, ◌&&◌, Bool, false, if◌then◌else◌, Option, Some, None, is_some}
+use Rattle.std.specs.Prelude.{ℕ, ◌+◌, ◌==◌, ◌&&◌, List, Bool, false, if◌then◌else◌, Option, Some, None, is_some}
 use Rattle.rbd_kinds.specs.declared.answer.Answer.{Answer}
 use Rattle.rbd_kinds.specs.declared.answer.Answer.TheVariants as answer
 use Rattle.rbd_kinds.specs.declared.header.HeaderView.{HeaderView}
@@ -20,10 +20,6 @@ abbrev pub MayDoOnHeader : Option HeaderView → HeaderOp → Type 0
 MayDoOnHeader header (Create view) = IsNewHeader view
 MayDoOnHeader (Some h) (SetSize size) = HasFewObjects h.layout size
 MayDoOnHeader header Mirror = ⊥
-MayDoOnHeader header Watch = ⊥
-MayDoOnHeader header Unwatch = ⊥
-MayDoOnHeader header WatchersGet = ⊥
-MayDoOnHeader header (Notify kind) = ⊥
 MayDoOnHeader header op = Unit {0}
 
 abbrev pub snap_added : (listed full : Bool) → (next : ℕ) → Answer
@@ -40,26 +36,32 @@ is_owner i (Some owner) = same_instance owner i
 abbrev pub lock_left : Instance → (owner : Option Instance) → Answer
 lock_left i owner = if is_owner i owner then answer.Done else answer.Changed
 
--- where the header is there
-abbrev pub there_answer : Instance → HeaderView → HeaderOp → Answer
-there_answer me h (Create view) = answer.Exists
-there_answer me h Get = answer.Header h
-there_answer me h (SnapAdd name) = snap_added (is_some (snap_named h.snaps name)) (is_full h) (h.snap_seq + 1)
-there_answer me h (SnapRemove snap) = done_where (is_some (snap_in h.snaps snap))
-there_answer me h (SnapStatus snap status) = done_where (is_some (snap_in h.snaps snap))
-there_answer me h LockTake = lock_taken me h.owner
-there_answer me h LockDrop = lock_left me h.owner
-there_answer me h (LockBreak owner) = lock_left owner h.owner
-there_answer me h op = answer.Done
+-- where the header is there, with its watchers
+abbrev pub there_answer : Instance → HeaderView → (watchers : List Instance) → HeaderOp → Answer
+there_answer me h watchers (Create view) = answer.Exists
+there_answer me h watchers Get = answer.Header h
+there_answer me h watchers (SnapAdd name) = snap_added (is_some (snap_named h.snaps name)) (is_full h) (h.snap_seq + 1)
+there_answer me h watchers (SnapRemove snap) = done_where (is_some (snap_in h.snaps snap))
+there_answer me h watchers (SnapStatus snap status) = done_where (is_some (snap_in h.snaps snap))
+there_answer me h watchers LockTake = lock_taken me h.owner
+there_answer me h watchers LockDrop = lock_left me h.owner
+there_answer me h watchers (LockBreak owner) = lock_left owner h.owner
+there_answer me h watchers WatchersGet = answer.Instances watchers
+there_answer me h watchers op = answer.Done
+
+-- The header tells it without its watchers.
+abbrev pub IsToldAlone : HeaderOp → Type 0
+IsToldAlone WatchersGet = ⊥
+IsToldAlone op = Unit {0}
 
 -- where it isn't
 abbrev pub missing_answer : HeaderOp → Answer
 missing_answer (Create view) = answer.Done
 missing_answer op = answer.Absent
 
-abbrev pub header_answer : Instance → Option HeaderView → HeaderOp → Answer
-header_answer me (Some h) op = there_answer me h op
-header_answer me None op = missing_answer op
+abbrev pub header_answer : Instance → Option HeaderView → (watchers : List Instance) → HeaderOp → Answer
+header_answer me (Some h) watchers op = there_answer me h watchers op
+header_answer me None watchers op = missing_answer op
 
 abbrev pub where_made : (listed full : Bool) → (made old : HeaderView) → HeaderView
 where_made listed full made old = if listed then old else if full then old else made

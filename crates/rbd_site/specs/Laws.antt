@@ -25,6 +25,10 @@ abbrev pub is_on_object : (image number : ℕ) → Op → Bool
 is_on_object i n (on.Data image number op) = (i == image) && (n == number)
 is_on_object i n op = false
 
+abbrev pub is_block_add : Op → Bool
+is_block_add (on.BlockAdd instance) = true
+is_block_add op = false
+
 -- the answers with which something may have changed
 abbrev pub is_change : Answer → Bool
 is_change answer.Done = true
@@ -32,12 +36,14 @@ is_change (answer.Id image) = true
 is_change (answer.Snap snap) = true
 is_change a = false
 
--- an operation that only reads
+-- an operation that changes no record
 abbrev pub is_look : Op → Bool
 is_look (on.Directory (directory.Find name)) = true
 is_look (on.Directory directory.List) = true
 is_look (on.Children (children.List parent snap)) = true
 is_look (on.Header image header.Get) = true
+is_look (on.Header image header.WatchersGet) = true
+is_look (on.Header image (header.Notify kind)) = true
 is_look (on.Data image number (object.Read snap parts)) = true
 is_look _ = false
 

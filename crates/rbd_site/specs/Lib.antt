@@ -9,3 +9,4 @@ pub mod Log
 pub mod Maps
 pub mod Records
 pub mod Step
+pub mod WatchStep

@@ -1,6 +1,6 @@
 -- The log of a site: what each operation did to the records, from none on, and what it was
 -- answered.
-use Rattle.std.specs.Prelude.{◌≡◌, ℕ, ◌+◌, List, [], ◌∷◌, length, Option, Some, None, option_map, IsSome}
+use Rattle.std.specs.Prelude.{◌≡◌, ℕ, ◌+◌, List, [], ◌∷◌, ◌++◌, length, Option, Some, None, option_map, IsSome}
 use Rattle.rbd_kinds.specs.declared.answer.Answer.{Answer}
 use Rattle.rbd_kinds.specs.declared.answer.Answer.TheVariants as answer
 use Rattle.rbd_kinds.specs.declared.header.HeaderView.{HeaderView}
@@ -13,7 +13,8 @@ use Rattle.rbd_site.specs.declared.done.Done.{Done}
 use Rattle.rbd_site.specs.declared.done.DoneOp.{DoneOp}
 use Rattle.rbd_site.specs.declared.done.DoneOp.TheVariants as done
 use Rattle.rbd_site.specs.InForm.{AreInForm}
-use Rattle.rbd_site.specs.Records.{Records, no_records, with_object}
+use Rattle.rbd_watch.specs.Watching.{oldest_of, without}
+use Rattle.rbd_site.specs.Records.{Records, no_records, with_object, with_watchers}
 use Rattle.rbd_site.specs.Step.{answer_to, after}
 
 -- the ids that a header lists, none where it is gone
@@ -25,12 +26,20 @@ live_in (Some h) = ids_of h.snaps
 abbrev pub trimmed : (image number : ℕ) → Records → Records
 trimmed image number r = with_object image number (option_map (mapped_trim (live_in (r.headers image))) (r.objects image number)) r
 
+-- the store lets the watch of an instance expire
+abbrev pub expired : (image : ℕ) → Instance → Records → Records
+expired image i r = with_watchers image (without i (r.watchers image)) r
+
+abbrev pub expired_by : (image : ℕ) → Option Instance → Records → Records
+expired_by image None r = r
+expired_by image (Some i) r = expired image i r
+
 -- the records after one operation of the log
 abbrev pub after_op : Records → Option Instance → DoneOp → Records
 after_op r (Some me) (done.Op op) = after r me op
 after_op r None (done.Op op) = r
 after_op r instance (done.Trim image number) = trimmed image number r
-after_op r instance (done.Expire image i) = r
+after_op r instance (done.Expire image i) = expired image i r
 
 abbrev pub after_all : Records → List Done → Records
 after_all r [] = r
@@ -42,18 +51,26 @@ abbrev pub IsAnswer : Records → Option Instance → DoneOp → Answer → Type
 IsAnswer r (Some me) (done.Op op) a = a ≡ answer_to r me op
 IsAnswer r None (done.Op op) a = ⊥
 IsAnswer r instance (done.Trim image number) a = (instance ≡ None) × IsSome (r.objects image number) × (a ≡ answer.Done)
-IsAnswer r instance (done.Expire image i) a = ⊥
+IsAnswer r instance (done.Expire image i) a = (instance ≡ None) × (oldest_of i.session (r.watchers image) ≡ Some i) × (a ≡ answer.Done)
 
 abbrev pub AreAnswered : Records → List Done → Type 0
 AreAnswered r [] = Unit {0}
 AreAnswered r (d ∷ log) = IsAnswer r d.instance d.op d.answer × AreAnswered (after_op r d.instance d.op) log
 
--- the line of an operation of an instance, and that of a trim
+-- the line of an operation of an instance, that of a trim, and that of a watch's end
 abbrev pub line_of : (number : ℕ) → Instance → Op → Answer → Done
 line_of number me op a = record { number = number; instance = Some me; op = done.Op op; answer = a }
 
 abbrev pub trim_line : (number image object : ℕ) → Done
 trim_line number image object = record { number = number; instance = None; op = done.Trim image object; answer = answer.Done }
+
+abbrev pub expire_line : (number image : ℕ) → Instance → Done
+expire_line number image i = record { number = number; instance = None; op = done.Expire image i; answer = answer.Done }
+
+-- the log after an expiry, which is logged where there is a watch to end
+abbrev pub watch_ended : (number image : ℕ) → Option Instance → List Done → List Done
+watch_ended number image None log = log
+watch_ended number image (Some i) log = log ++ expire_line number image i ∷ []
 
 -- numbers from 1 on
 abbrev pub AreNumbered : (next : ℕ) → List Done → Type 0

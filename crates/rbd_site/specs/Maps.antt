@@ -1,9 +1,10 @@
 -- What the maps of a site hold, as its records.
-use Rattle.std.specs.Prelude.{ℕ, Option}
+use Rattle.std.specs.Prelude.{ℕ, List, [], Option, unwrap_or}
 use Rattle.std.specs.Ordering.{nat_cmp, ordering_then}
 use Rattle.std.specs.declared.cmp.Ordering.{Ordering}
 use Rattle.std.specs.BTreeMap.{BTreeMap, get}
 use Rattle.rbd_kinds.specs.declared.header.HeaderView.{HeaderView}
+use Rattle.rbd_kinds.specs.declared.id.Instance.{Instance}
 use Rattle.rbd_object.specs.Mapped.{Mapped}
 use Rattle.rbd_site.specs.declared.object_key.ObjectKey.{ObjectKey}
 use Rattle.rbd_site.specs.declared.store.Store.{Store}
@@ -19,9 +20,20 @@ key image number = record { image = image; number = number }
 abbrev pub header_in : BTreeMap ℕ HeaderView → (image : ℕ) → Option HeaderView
 header_in headers image = get nat_cmp headers image
 
+-- an image that nobody watches has no list
+abbrev pub watchers_in : BTreeMap ℕ (List Instance) → (image : ℕ) → List Instance
+watchers_in watchers image = unwrap_or (get nat_cmp watchers image) []
+
 abbrev pub object_in : BTreeMap ObjectKey Mapped → (image number : ℕ) → Option Mapped
 object_in objects image number = get key_cmp objects (key image number)
 
 -- the records that a store keeps
 abbrev pub kept : Store → Records
-kept s = record { directory = s.directory; children = s.children; headers = header_in s.headers; objects = object_in s.objects }
+kept s = record {
+  directory = s.directory;
+  children = s.children;
+  blocklist = s.blocklist;
+  headers = header_in s.headers;
+  watchers = watchers_in s.watchers;
+  objects = object_in s.objects;
+}

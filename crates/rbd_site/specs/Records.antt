@@ -1,8 +1,10 @@
--- What a site keeps: its directory, the children of its snapshots, the header of each image, and
--- the data objects of each image by number.
-use Rattle.std.specs.Prelude.{ℕ, ◌==◌, if◌then◌else◌, Option, Some, None}
+-- What a site keeps: its directory, the children of its snapshots, its blocklist, the header of each
+-- image with who watches it, and the data objects of each image by number.
+use Rattle.std.specs.Prelude.{ℕ, ◌==◌, if◌then◌else◌, List, [], Option, Some, None}
 use Rattle.rbd_kinds.specs.declared.header.HeaderView.{HeaderView}
+use Rattle.rbd_kinds.specs.declared.id.Instance.{Instance}
 use Rattle.std.specs.FinSet as finset
+use Rattle.rbd_fence.specs.Instances.{instance_cmp}
 use Rattle.rbd_registry.specs.Children.{entry_cmp}
 use Rattle.rbd_registry.specs.Directory.{Listing, nothing_listed}
 use Rattle.rbd_object.specs.Mapped.{Mapped, mapped_blank}
@@ -10,11 +12,13 @@ use Rattle.rbd_object.specs.Mapped.{Mapped, mapped_blank}
 pub record Records : Type 0 where
   pub directory : Listing
   pub children : finset.FinSet entry_cmp
+  pub blocklist : finset.FinSet instance_cmp
   pub headers : (image : ℕ) → Option HeaderView
+  pub watchers : (image : ℕ) → List Instance
   pub objects : (image number : ℕ) → Option Mapped
 
 abbrev pub no_records : Records
-no_records = record { directory = nothing_listed; children = finset.empty; headers = λ image. None; objects = λ image number. None }
+no_records = record { directory = nothing_listed; children = finset.empty; blocklist = finset.empty; headers = λ image. None; watchers = λ image. []; objects = λ image number. None }
 
 -- f with another value at one place
 abbrev pub put : {T : Type 0} → (ℕ → T) → (place : ℕ) → T → ℕ → T
@@ -33,6 +37,12 @@ with_directory listing r = record r { directory = listing }
 
 abbrev pub with_children : finset.FinSet entry_cmp → Records → Records
 with_children entries r = record r { children = entries }
+
+abbrev pub with_blocklist : finset.FinSet instance_cmp → Records → Records
+with_blocklist instances r = record r { blocklist = instances }
+
+abbrev pub with_watchers : (image : ℕ) → List Instance → Records → Records
+with_watchers image watchers r = record r { watchers = put r.watchers image watchers }
 
 abbrev pub with_header : (image : ℕ) → Option HeaderView → Records → Records
 with_header image header r = record r { headers = put r.headers image header }

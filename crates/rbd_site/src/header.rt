@@ -1,11 +1,12 @@
 //! Operations on the header of an image.
-ghost use Rattle.std.specs.Prelude.{◌≡◌, ℕ, ◌+◌, ◌^◌, ◌<◌, if◌then◌else◌, Some, None, is_some, option_map, unwrap_or, IfSome, IfOk, OnOk, OnErr};
+ghost use Rattle.std.specs.Prelude.{◌≡◌, ℕ, ◌+◌, ◌^◌, ◌<◌, if◌then◌else◌, List, Some, None, is_some, option_map, unwrap_or, IfSome, IfOk, OnOk, OnErr};
 ghost use Rattle.rbd_site.specs.Records.{put};
 ghost use Rattle.rbd_site.specs.Maps.{header_in};
 ghost use Rattle.rbd_site.specs.Log.{live_in};
 ghost use Rattle.rbd_kinds.specs.Header.{snap_named};
+ghost use Rattle.rbd_kinds.specs.declared.id.Instance.{Instance};
 ghost use Rattle.rbd_header.specs.Header.{snap_in, is_full, with_snap};
-ghost use Rattle.rbd_site.specs.HeaderStep.{MayDoOnHeader, is_owner, lock_taken, lock_left, snap_added, where_made, there_answer, missing_answer, header_answer, header_then, header_after};
+ghost use Rattle.rbd_site.specs.HeaderStep.{IsToldAlone, MayDoOnHeader, is_owner, lock_taken, lock_left, snap_added, where_made, there_answer, missing_answer, header_answer, header_then, header_after};
 
 use crate::found::done_where;
 use rbd_header::{Header, SnapAddFault, ids_of};
@@ -15,19 +16,33 @@ use rbd_kinds::{
 use std::alloc::Global;
 use std::collections::BTreeMap;
 
-/// What an operation is answered now.
+/// What an operation is answered now, whoever watches.
 pub fn answer(
     headers: &BTreeMap<ImageId, Header>,
     image: ImageId,
     instance: Instance,
     op: &HeaderOp,
 ) -> Result<Answer, NoMemory>
-    requires { MayDoOnHeader (header_in headers.now image) op.now }
-    ensures { IfOk result (λ answer. answer ≡ header_answer instance (header_in headers.now image) op.now) }
+    requires may { MayDoOnHeader (header_in headers.now image) op.now }
+    requires alone { IsToldAlone op.now }
+    ensures { (watchers : List Instance) → IfOk result (λ answer. answer ≡ header_answer instance (header_in headers.now image) watchers op.now) }
 {
     match headers.get(&image) {
         Some(header) => answer_there(header, instance, op),
         None => Ok(answer_missing(op)),
+    }
+}
+
+/// The header of an image, if it is there, as a look at it tells.
+pub fn view(
+    headers: &BTreeMap<ImageId, Header>,
+    image: ImageId,
+) -> Result<Option<HeaderView>, NoMemory>
+    ensures { IfOk result (λ header. header ≡ header_in headers.now image) }
+{
+    match headers.get(&image) {
+        Some(header) => Ok(Some(header.view()?)),
+        None => Ok(None),
     }
 }
 
@@ -187,11 +202,11 @@ fn change_header(header: &mut Header, instance: Instance, op: &HeaderOp) -> Resu
         HeaderOp::Create { view: _ } => Ok(()),
         HeaderOp::Get => Ok(()),
         HeaderOp::Remove => Ok(()),
+        HeaderOp::Watch => Ok(()),
+        HeaderOp::Unwatch => Ok(()),
+        HeaderOp::WatchersGet => Ok(()),
+        HeaderOp::Notify { kind: _ } => Ok(()),
         HeaderOp::Mirror => unreachable!(),
-        HeaderOp::Watch => unreachable!(),
-        HeaderOp::Unwatch => unreachable!(),
-        HeaderOp::WatchersGet => unreachable!(),
-        HeaderOp::Notify { kind: _ } => unreachable!(),
     }
 }
 
@@ -224,8 +239,9 @@ fn leave_lock(header: &mut Header, owner: Instance)
 
 /// What an operation on a header that is there is answered.
 fn answer_there(header: &Header, instance: Instance, op: &HeaderOp) -> Result<Answer, NoMemory>
-    requires { MayDoOnHeader (Some header.now) op.now }
-    ensures { IfOk result (λ answer. answer ≡ there_answer instance header.now op.now) }
+    requires may { MayDoOnHeader (Some header.now) op.now }
+    requires alone { IsToldAlone op.now }
+    ensures { (watchers : List Instance) → IfOk result (λ answer. answer ≡ there_answer instance header.now watchers op.now) }
 {
     match op {
         HeaderOp::Create { view: _ } => Ok(Answer::Exists),
@@ -241,11 +257,11 @@ fn answer_there(header: &Header, instance: Instance, op: &HeaderOp) -> Result<An
         HeaderOp::Role { role: _ } => Ok(Answer::Done),
         HeaderOp::Synced => Ok(Answer::Done),
         HeaderOp::Remove => Ok(Answer::Done),
+        HeaderOp::Watch => Ok(Answer::Done),
+        HeaderOp::Unwatch => Ok(Answer::Done),
+        HeaderOp::Notify { kind: _ } => Ok(Answer::Done),
         HeaderOp::Mirror => unreachable!(),
-        HeaderOp::Watch => unreachable!(),
-        HeaderOp::Unwatch => unreachable!(),
         HeaderOp::WatchersGet => unreachable!(),
-        HeaderOp::Notify { kind: _ } => unreachable!(),
     }
 }
 

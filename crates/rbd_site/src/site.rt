@@ -1,14 +1,16 @@
 //! One site.
 ghost use Rattle.std.specs.Prelude.{◌≡◌, ◌+◌, [], ◌∷◌, ◌++◌, length, if◌then◌else◌, is_some, IfOk, OnOk, OnErr};
 ghost use Rattle.rbd_site.specs.InForm.{AreInForm};
-ghost use Rattle.rbd_site.specs.Log.{records_of, line_of, trim_line, trimmed, AreAnswered, AreNumbered};
+ghost use Rattle.rbd_watch.specs.Watching.{oldest_of};
+ghost use Rattle.rbd_site.specs.Log.{records_of, line_of, trim_line, trimmed, watch_ended, expired_by, AreAnswered, AreNumbered};
 ghost use Rattle.rbd_site.specs.Records.{no_records};
-ghost use Rattle.rbd_site.specs.Step.{MayDo, answer_to, after};
+ghost use Rattle.rbd_site.specs.Step.{MayDo, answer_to, after, mail_after};
 
 use crate::done::{Done, DoneOp};
 use crate::object_key::ObjectKey;
 use crate::store::Store;
-use rbd_kinds::{Answer, ImageId, Instance, NoMemory, Op, SiteId};
+use rbd_kinds::{Answer, HeaderView, ImageId, Instance, NoMemory, Op, SessionNo, SiteId};
+use rbd_watch::Mail;
 use std::alloc::Global;
 use std::marker::Model;
 
@@ -62,28 +64,39 @@ impl Site {
         self.log.as_slice()
     }
 
-    /// The answer that `apply` would give now. Nothing changes and nothing is logged.
-    pub fn answer(&self, instance: Instance, op: &Op) -> Result<Answer, NoMemory>
-        requires { MayDo (records_of self.now) op.now }
-        ensures { IfOk result (λ answer. answer ≡ answer_to (records_of self.now) instance op.now) }
+    /// The header of an image, if it is there, as a look at it would tell. Nothing is logged.
+    pub fn header(&self, image: ImageId) -> Result<Option<HeaderView>, NoMemory>
+        ensures { IfOk result (λ header. header ≡ (records_of self.now).headers image) }
     {
-        self.store.answer(instance, op)
+        self.store.header(image)
     }
 
-    /// Does one operation on one object, and logs it with its answer. Refused memory, nothing is
-    /// done and nothing is logged.
-    pub fn apply(&mut self, instance: Instance, op: Op) -> Result<Answer, NoMemory>
-        requires { MayDo (records_of self.old) op }
+    /// The answer that `apply` would give now. Nothing changes and nothing is logged.
+    pub fn answer(&self, instance: Instance, op: &Op) -> Result<Answer, NoMemory>
+        requires { MayDo (records_of self.now) instance op.now }
+        ensures { IfOk result (λ answer. answer ≡ answer_to (records_of self.now) instance op.now) }
+    {
+        self.store.answer(&instance, op)
+    }
+
+    /// Does one operation on one object, and logs it with its answer. A notice is posted into the
+    /// mail of both sites, to each watcher of the image but the sender. An operation of an instance
+    /// in the blocklist is answered `fenced`, and changes nothing (Ceph: the OSD blocklist).
+    /// Refused memory, nothing is done, nothing is logged and nothing is posted.
+    pub fn apply(&mut self, instance: Instance, op: Op, mail: &mut Mail) -> Result<Answer, NoMemory>
+        requires { MayDo (records_of self.old) instance op }
         ensures answer { IfOk result (λ answer. answer ≡ answer_to (records_of self.old) instance op) }
         ensures ok { let number = length self.old.log + 1 in
             IfOk result (λ answer. self.new ≡ record self.old { log = self.old.log ++ line_of number instance op answer ∷ [] }) }
         ensures records { OnOk result (records_of self.new ≡ after (records_of self.old) instance op) }
+        ensures mail { OnOk result (mail.new ≡ mail_after self.old.id (records_of self.old) instance op mail.old) }
         ensures form { AreInForm (records_of self.new) (length self.new.log) }
         ensures err { OnErr result (self.new ≡ self.old) }
+        ensures unsent { OnErr result (mail.new ≡ mail.old) }
     {
         let number = self.next_number();
         self.log.reserve(1)?;
-        let told = self.store.perform(&instance, &op)?;
+        let told = self.store.perform(self.id, &instance, &op, mail)?;
         let (answer, kept) = told;
         let line = Done {
             number,
@@ -122,6 +135,37 @@ impl Site {
         };
         self.log.reserve(1)?;
         self.store.trim(key, live.as_slice());
+        self.log.push_reserved(line);
+        Ok(true)
+    }
+
+    /// The store's own step: the watch of an image by a session ends. Where several instances of
+    /// the session watch, it is that of the oldest, which is the one that began first. It is
+    /// `false` exactly where none watches, and then nothing is logged. Nobody is told (own). Refused
+    /// memory, nothing changes.
+    pub fn expire(&mut self, image: ImageId, session: SessionNo) -> Result<bool, NoMemory>
+        ensures found { IfOk result (λ found. found ≡ is_some (oldest_of session ((records_of self.old).watchers image))) }
+        ensures ok { let oldest = oldest_of session ((records_of self.old).watchers image) in
+            OnOk result (self.new ≡ record self.old { log = watch_ended (length self.old.log + 1) image oldest self.old.log }) }
+        ensures records { let oldest = oldest_of session ((records_of self.old).watchers image) in
+            OnOk result (records_of self.new ≡ expired_by image oldest (records_of self.old)) }
+        ensures err { OnErr result (self.new ≡ self.old) }
+    {
+        let Some(oldest) = self.store.oldest_watch(image, session) else {
+            return Ok(false);
+        };
+        let number = self.next_number();
+        self.log.reserve(1)?;
+        self.store.expire(image, &oldest);
+        let line = Done {
+            number,
+            instance: None,
+            op: DoneOp::Expire {
+                image,
+                instance: oldest,
+            },
+            answer: Answer::Done,
+        };
         self.log.push_reserved(line);
         Ok(true)
     }

@@ -25,13 +25,14 @@ use Rattle.rbd_flat.specs.Flat as flat
 use Rattle.rbd_site.specs.ChildrenStep.{entry}
 use Rattle.rbd_site.specs.Found.{done_where}
 use Rattle.rbd_site.specs.Records.{Records, object_at, with_children}
-use Rattle.rbd_site.specs.Step.{answer_to, after}
+use Rattle.rbd_site.specs.Step.{answer_to, answer_served, after, after_served}
 use Rattle.rbd_stands.specs.Condition.{IsFree, NamesOther}
 use Rattle.rbd_stands.specs.Image.{ImageStands}
 use Rattle.rbd_stands.specs.Reading.{AreLinkedTo}
 use Rattle.rbd_stands.specs.Shown.{Snapshots, Links, HasParent, links_of, snapshots_of}
 use Rattle.rbd_stands.specs.Site.{StandsAt, StandsFor, Pending, IsAwaited}
 use Rattle.rbd_stands.specs.View.{EachView}
+use Rattle.rbd_stands.proofs.Served.{where_served}
 
 -- ---- other links, where those stay that views name
 
@@ -101,10 +102,10 @@ or_true : (b c : Bool) → c ≡ true → (b || c) ≡ true
 or_true true c e = refl
 or_true false c e = e
 
-pub link_stands : (pending : List Pending) (r : Records) (f : Flat) (me : Instance) (parent snap child : ℕ) → StandsFor pending r f
-    → answer_to r me (op.Children (children_op.Add parent snap child)) ≡ answer.Done
-    → StandsFor pending (after r me (op.Children (children_op.Add parent snap child))) (flat.after f (effect.Link parent snap child))
-link_stands pending r f me parent snap child stands done =
+link_served : (pending : List Pending) (r : Records) (f : Flat) (me : Instance) (parent snap child : ℕ) → StandsFor pending r f
+    → answer_served r me (op.Children (children_op.Add parent snap child)) ≡ answer.Done
+    → StandsFor pending (after_served r me (op.Children (children_op.Add parent snap child))) (flat.after f (effect.Link parent snap child))
+link_served pending r f me parent snap child stands done =
     links_stand pending r f (finset.insert r.children (entry parent snap child)) (finset.insert f.links (link parent snap child)) stands
     (λ p s c.
     finset.contains-insert entry_total r.children (entry parent snap child) (entry p s c)
@@ -118,6 +119,13 @@ link_stands pending r f me parent snap child stands done =
     stays c (Some l) = λ e.
         finset.contains-insert link_total f.links (link parent snap child) (link l.image l.snap c)
         ∙ or_true (eq_by_cmp link_cmp (link l.image l.snap c) (link parent snap child)) (finset.contains f.links (link l.image l.snap c)) e
+
+pub link_stands : (pending : List Pending) (r : Records) (f : Flat) (me : Instance) (parent snap child : ℕ) → StandsFor pending r f
+    → answer_to r me (op.Children (children_op.Add parent snap child)) ≡ answer.Done
+    → StandsFor pending (after r me (op.Children (children_op.Add parent snap child))) (flat.after f (effect.Link parent snap child))
+link_stands pending r f me parent snap child stands =
+    where_served (λ (s : Records). StandsFor pending s (flat.after f (effect.Link parent snap child))) r me (op.Children (children_op.Add parent snap child)) answer.Done refl
+    (link_served pending r f me parent snap child stands)
 
 -- ---- a link is taken away
 
@@ -138,10 +146,10 @@ was_held : (b : Bool) → done_where b ≡ answer.Done → b ≡ true
 was_held true e = refl
 was_held false e = absurd (cc)
 
-pub unlink_stands : (pending : List Pending) (r : Records) (f : Flat) (me : Instance) (parent snap child : ℕ) → StandsFor pending r f → IsFree pending r parent snap child
-    → answer_to r me (op.Children (children_op.Remove parent snap child)) ≡ answer.Done
-    → StandsFor pending (after r me (op.Children (children_op.Remove parent snap child))) (flat.after f (effect.Unlink parent snap child))
-unlink_stands pending r f me parent snap child stands free done =
+unlink_served : (pending : List Pending) (r : Records) (f : Flat) (me : Instance) (parent snap child : ℕ) → StandsFor pending r f → IsFree pending r parent snap child
+    → answer_served r me (op.Children (children_op.Remove parent snap child)) ≡ answer.Done
+    → StandsFor pending (after_served r me (op.Children (children_op.Remove parent snap child))) (flat.after f (effect.Unlink parent snap child))
+unlink_served pending r f me parent snap child stands free done =
     let gone = finset.remove r.children (entry parent snap child) in
     subst (λ b. StandsFor pending (with_children (cond b gone r.children) r) (flat.after f (effect.Unlink parent snap child))) (sym (was_held (finset.contains r.children (entry parent snap child)) done))
     (links_stand pending r f gone (finset.remove f.links (link parent snap child)) stands
@@ -162,17 +170,30 @@ unlink_stands pending r f me parent snap child stands free done =
         ∙ ap (λ b. not b && finset.contains f.links (link l.image l.snap c)) (apart l.image l.snap c parent snap child (λ p s same. other same p s))
         ∙ e
 
+pub unlink_stands : (pending : List Pending) (r : Records) (f : Flat) (me : Instance) (parent snap child : ℕ) → StandsFor pending r f → IsFree pending r parent snap child
+    → answer_to r me (op.Children (children_op.Remove parent snap child)) ≡ answer.Done
+    → StandsFor pending (after r me (op.Children (children_op.Remove parent snap child))) (flat.after f (effect.Unlink parent snap child))
+unlink_stands pending r f me parent snap child stands free =
+    where_served (λ (s : Records). StandsFor pending s (flat.after f (effect.Unlink parent snap child))) r me (op.Children (children_op.Remove parent snap child)) answer.Done refl
+    (unlink_served pending r f me parent snap child stands free)
+
 -- ---- children are listed
 
 abbrev told_ids : Answer → List ℕ
 told_ids (answer.Ids ids) = ids
 told_ids _ = []
 
-pub children_told : (pending : List Pending) (r : Records) (f : Flat) (me : Instance) (parent snap : ℕ) (ids : List ℕ) → StandsFor pending r f
-    → answer_to r me (op.Children (children_op.List parent snap)) ≡ answer.Ids ids → AreLinkedTo f parent snap ids
-children_told pending r f me parent snap ids stands told =
+children_served : (pending : List Pending) (r : Records) (f : Flat) (me : Instance) (parent snap : ℕ) (ids : List ℕ) → StandsFor pending r f
+    → answer_served r me (op.Children (children_op.List parent snap)) ≡ answer.Ids ids → AreLinkedTo f parent snap ids
+children_served pending r f me parent snap ids stands told =
     let are = are_children r.children parent snap in
     subst (AreLinkedTo f parent snap) (ap told_ids told) (record { each = λ c. are.each c ∙ stands.links parent snap c; ascending = are.ascending })
+
+pub children_told : (pending : List Pending) (r : Records) (f : Flat) (me : Instance) (parent snap : ℕ) (ids : List ℕ) → StandsFor pending r f
+    → answer_to r me (op.Children (children_op.List parent snap)) ≡ answer.Ids ids → AreLinkedTo f parent snap ids
+children_told pending r f me parent snap ids stands =
+    where_served (λ (s : Records). AreLinkedTo f parent snap ids) r me (op.Children (children_op.List parent snap)) (answer.Ids ids) refl
+    (children_served pending r f me parent snap ids stands)
 
 -- ---- a clone begins to be made, and ends
 

@@ -26,8 +26,9 @@ use Rattle.rbd_flat.specs.Laws.{snap_at, snap_byte}
 use Rattle.rbd_flat.proofs.Images.{clone_of, image_law}
 use Rattle.rbd_flat.proofs.Steps.{snap_law, names_stay, links_stay}
 use Rattle.rbd_site.specs.HeaderStep.{header_after}
-use Rattle.rbd_site.specs.Records.{Records, object_at, put, with_header, with_object}
-use Rattle.rbd_site.specs.Step.{answer_to, after}
+use Rattle.rbd_site.specs.Records.{Records, object_at, put, with_object}
+use Rattle.rbd_site.specs.WatchStep.{watchers_after}
+use Rattle.rbd_site.specs.Step.{answer_to, answer_served, after, after_served}
 use Rattle.rbd_site.proofs.OneChange.{none_from_test}
 use Rattle.rbd_stands.specs.Condition.{IsCloneHeader, IsDrawn, IsGathered, MayCopyUp}
 use Rattle.rbd_stands.specs.Image.{ImageStands, IsInside, line_of_snap}
@@ -36,7 +37,8 @@ use Rattle.rbd_stands.specs.Site.{StandsFor, IsAwaited, IsUntouched, Pending}
 use Rattle.rbd_stands.proofs.DataSteps.{done_after}
 use Rattle.rbd_stands.proofs.HeaderEdits.{past_inherited}
 use Rattle.rbd_stands.proofs.ObjectSteps.{put_both, put_there}
-use Rattle.rbd_stands.proofs.SiteSteps.{here, is_drawn, keep_all, links_same, object_there, other_header, other_object, site_change, stands_at, flat_elsewhere}
+use Rattle.rbd_stands.proofs.SiteSteps.{here, is_drawn, keep_all, links_same, object_there, other_header, with_headed, other_object, site_change, stands_at, flat_elsewhere}
+use Rattle.rbd_stands.proofs.Served.{where_served}
 
 -- ---- an object that was never changed is copied up
 
@@ -120,11 +122,11 @@ not_there : (b : Bool) → cond b answer.Exists answer.Done ≡ answer.Done → 
 not_there true e = absurd (cc)
 not_there false e = refl
 
-pub copy_stands : (pending : List Pending) (r : Records) (f : Flat) (me : Instance) (image number : ℕ) (h : HeaderView) (bytes : List ℕ)
+copy_served : (pending : List Pending) (r : Records) (f : Flat) (me : Instance) (image number : ℕ) (h : HeaderView) (bytes : List ℕ)
     → StandsFor pending r f → r.headers image ≡ Some h → MayCopyUp (snapshots_of f) h number (object_at r image number) bytes
-    → answer_to r me (op.Data image number (data_op.CopyUp bytes)) ≡ answer.Done
-    → StandsFor pending (after r me (op.Data image number (data_op.CopyUp bytes))) f
-copy_stands pending r f me image number h bytes stands is may done =
+    → answer_served r me (op.Data image number (data_op.CopyUp bytes)) ≡ answer.Done
+    → StandsFor pending (after_served r me (op.Data image number (data_op.CopyUp bytes))) f
+copy_served pending r f me image number h bytes stands is may done =
     let absent : (object_at r image number).head ≡ None = none_from_test (object_at r image number).head (not_there (is_some (object_at r image number).head) done) in
     let now : Mapped = mapped_copy_up bytes (object_at r image number) in
     let s = with_object image number (Some now) r in
@@ -136,6 +138,14 @@ copy_stands pending r f me image number h bytes stands is may done =
     (subst (λ (objects : ℕ → Mapped). ImageStands (snapshots_of f) (links_of f image) h objects k.image) (sym (object_there image number now r))
     (object_copied (snapshots_of f) (links_of f image) h (object_at r image) k.image k.stands number bytes (may.inside absent) absent (may.gathered absent))))
     (is_drawn pending r f stands image h is s f))
+
+pub copy_stands : (pending : List Pending) (r : Records) (f : Flat) (me : Instance) (image number : ℕ) (h : HeaderView) (bytes : List ℕ)
+    → StandsFor pending r f → r.headers image ≡ Some h → MayCopyUp (snapshots_of f) h number (object_at r image number) bytes
+    → answer_to r me (op.Data image number (data_op.CopyUp bytes)) ≡ answer.Done
+    → StandsFor pending (after r me (op.Data image number (data_op.CopyUp bytes))) f
+copy_stands pending r f me image number h bytes stands is may =
+    where_served (λ (s : Records). StandsFor pending s f) r me (op.Data image number (data_op.CopyUp bytes)) answer.Done refl
+    (copy_served pending r f me image number h bytes stands is may)
 
 -- ---- a clone's header is made
 
@@ -176,15 +186,16 @@ module _ (below : Snapshots) (linked : Links) (h : HeaderView) (link : ParentLin
     laid = made.new.form.layout;
   }
 
-pub clone_stands : (pending : List Pending) (r : Records) (f : Flat) (me : Instance) (image k : ℕ) (view : HeaderView) (link : ParentLink) → StandsFor pending r f
+clone_served : (pending : List Pending) (r : Records) (f : Flat) (me : Instance) (image k : ℕ) (view : HeaderView) (link : ParentLink) → StandsFor pending r f
     → slice_get pending k ≡ Some (record { child = image; link = link }) → IsDrawn r image → IsUntouched r f image → IsCloneHeader view link
-    → answer_to r me (op.Header image (header_op.Create view)) ≡ answer.Done
-    → StandsFor pending (after r me (op.Header image (header_op.Create view))) (flat.after f (effect.Clone image link.image link.snap))
-clone_stands pending r f me image k view link stands at drawn untouched made done =
+    → answer_served r me (op.Header image (header_op.Create view)) ≡ answer.Done
+    → StandsFor pending (after_served r me (op.Header image (header_op.Create view))) (flat.after f (effect.Clone image link.image link.snap))
+clone_served pending r f me image k view link stands at drawn untouched made done =
     let e : Effect = effect.Clone image link.image link.snap in
     let g = flat.after f e in
     let waits : IsAwaited (snapshots_of f) (links_of f image) link = stands.awaited k (record { child = image; link = link }) at in
     let header : Option HeaderView = header_after me (r.headers image) (header_op.Create view) in
+    let watchers : List Instance = watchers_after me (r.headers image) (r.watchers image) (header_op.Create view) in
     let now : header ≡ Some view = ap (λ (p : Option HeaderView). header_after me p (header_op.Create view)) untouched.header in
     let stays : (i t : ℕ) (s : FlatSnap) → snap_at f i t ≡ Some s → snap_at g i t ≡ Some s = λ i t s is. snap_law f e i t ∙ kept i t s is (eqb i image) refl in
     let there : snap_at g link.image link.snap ≡ Some waits.snap = stays link.image link.snap waits.snap waits.is in
@@ -193,10 +204,10 @@ clone_stands pending r f me image k view link stands at drawn untouched made don
     subst (λ (l : Links). IsAwaited (snapshots_of g) l link) (sym linked) (record { snap = waits.snap; is = there; long = waits.long; kept = waits.kept; child = waits.child }) in
     let flat_now : image_at g image ≡ Some (record { bytes = waits.snap.bytes; snaps = []; role = Plain }) =
     image_law f e image ∙ ap (λ b. cond b (clone_of (snap_at f link.image link.snap) (image_at f image)) (image_at f image)) (eq-eqb image image refl) ∙ ap (λ o. clone_of o (image_at f image)) waits.is in
-    site_change pending image r (with_header image header r) f g stands
-    (other_header image header r f g (names_stay f e refl) (links_stay f e refl) (flat_elsewhere f e image refl))
+    site_change pending image r (with_headed image header watchers r) f g stands
+    (other_header image header watchers r f g (names_stay f e refl) (links_stay f e refl) (flat_elsewhere f e image refl))
     (keep_all pending r (snapshots_of f) (snapshots_of g) stays)
-    (λ st. stands_at (snapshots_of g) (links_of g image) ((with_header image header r).headers image) (object_at r image) (image_at g image) view _
+    (λ st. stands_at (snapshots_of g) (links_of g image) ((with_headed image header watchers r).headers image) (object_at r image) (image_at g image) view _
     (put_there r.headers image header ∙ now) flat_now
     (clone_made (snapshots_of g) (links_of g image) view link (object_at r image) waits.snap made untouched.blank there waits.long waits_now))
     (λ above. absurd (omega (arith, above, drawn)))
@@ -208,3 +219,11 @@ clone_stands pending r f me image k view link stands at drawn untouched made don
     kept : (i t : ℕ) (s : FlatSnap) → snap_at f i t ≡ Some s → (b : Bool) → eqb i image ≡ b → cond (b && is_some (snap_at f link.image link.snap)) None (snap_at f i t) ≡ Some s
     kept i t s is true e = absurd (none-some s (sym (ap (λ o. snap_of o t) (ap (image_at f) (eqb-true i image e) ∙ untouched.flat)) ∙ is))
     kept i t s is false e = is
+
+pub clone_stands : (pending : List Pending) (r : Records) (f : Flat) (me : Instance) (image k : ℕ) (view : HeaderView) (link : ParentLink) → StandsFor pending r f
+    → slice_get pending k ≡ Some (record { child = image; link = link }) → IsDrawn r image → IsUntouched r f image → IsCloneHeader view link
+    → answer_to r me (op.Header image (header_op.Create view)) ≡ answer.Done
+    → StandsFor pending (after r me (op.Header image (header_op.Create view))) (flat.after f (effect.Clone image link.image link.snap))
+clone_stands pending r f me image k view link stands at drawn untouched made =
+    where_served (λ (s : Records). StandsFor pending s (flat.after f (effect.Clone image link.image link.snap))) r me (op.Header image (header_op.Create view)) answer.Done refl
+    (clone_served pending r f me image k view link stands at drawn untouched made)

@@ -27,7 +27,7 @@ use Rattle.rbd_flat.proofs.Painted.{length_painted, painted_extents, painted_pla
 use Rattle.rbd_object.specs.Parts.{parts_written, parts_zeroed}
 use Rattle.rbd_site.specs.DataStep.{MayWrite, data_answer, data_after, data_change, where_object_done}
 use Rattle.rbd_site.specs.Records.{Records, put, or_blank, object_at, with_object}
-use Rattle.rbd_site.specs.Step.{answer_to, after}
+use Rattle.rbd_site.specs.Step.{answer_to, answer_served, after, after_served}
 use Rattle.rbd_stands.specs.Shown.{Snapshots, IsInOverlap, snapshots_of, inherited, shown, Links, links_of}
 use Rattle.rbd_stands.specs.Image.{ImageStands}
 use Rattle.rbd_stands.specs.Site.{StandsFor, Pending}
@@ -37,6 +37,7 @@ use Rattle.rbd_stands.proofs.ObjectSteps.{object_changed}
 use Rattle.rbd_stands.proofs.Painting.{parts_at, painted_beside, beside_elsewhere, beside_past, zeros_at, any_covered}
 use Rattle.rbd_stands.proofs.Whole.{whole_places, in_whole, held_none}
 use Rattle.rbd_stands.proofs.SiteSteps.{here, stands_at, keep_all, site_change, is_drawn, other_object, object_there, flat_there, links_same}
+use Rattle.rbd_stands.proofs.Served.{where_served}
 
 -- ---- what an object shows of itself
 
@@ -122,10 +123,10 @@ any_head_stands pending r f image number h context new i bytes stands is at of i
 -- the same, of an operation that was done
 pub data_stands : (pending : List Pending) (r : Records) (f : Flat) (me : Instance) (image number : ℕ) (h : HeaderView) (context : SnapContext) (new : Option (List ℕ)) (repaint : List ℕ → List ℕ) (o : DataOp)
     → StandsFor pending r f → r.headers image ≡ Some h → IsContextOf h context
-    → answer_to r me (op.Data image number o) ≡ answer.Done
+    → answer_served r me (op.Data image number o) ≡ answer.Done
     → data_change (object_at r image number) o ≡ mapped_change context new (object_at r image number)
     → ((i : FlatImage) → image_at f image ≡ Some i → ImageStands (snapshots_of f) (links_of f image) h (object_at r image) i → IsChanged (snapshots_of f) h number new i.bytes (repaint i.bytes))
-    → StandsFor pending (after r me (op.Data image number o)) (repainted f image repaint)
+    → StandsFor pending (after_served r me (op.Data image number o)) (repainted f image repaint)
 data_stands pending r f me image number h context new repaint o stands is of done made isChanged =
     subst (λ (object : Option Mapped). StandsFor pending (with_object image number object r) (repainted f image repaint))
     (sym (done_after (r.objects image number) o done ∙ ap Some made))
@@ -260,44 +261,86 @@ module _ (below : Snapshots) (linked : Links) (h : HeaderView) (objects : ℕ �
 
 -- ---- each operation
 
+write_served : (pending : List Pending) (r : Records) (f : Flat) (me : Instance) (image number : ℕ) (h : HeaderView) (context : SnapContext) (must : Bool) (parts : List Part) (bytes : List ℕ)
+    → StandsFor pending r f → r.headers image ≡ Some h → IsContextOf h context → MayWrite parts bytes
+    → ArePartsBelow h h.size number parts → IsCopiedUp h number (object_at r image number)
+    → answer_served r me (op.Data image number (data_op.Write context must parts bytes)) ≡ answer.Done
+    → StandsFor pending (after_served r me (op.Data image number (data_op.Write context must parts bytes))) (flat.after f (effect.Piece image (extents_of parts) bytes))
+write_served pending r f me image number h context must parts bytes stands is of may lie up done =
+    data_stands pending r f me image number h context _ (painted (places_of (extents_of parts)) bytes) (data_op.Write context must parts bytes) stands is of done refl
+    (λ i at st. write_is_change (snapshots_of f) (links_of f image) h (object_at r image) i st number parts bytes may lie up)
+
 pub write_stands : (pending : List Pending) (r : Records) (f : Flat) (me : Instance) (image number : ℕ) (h : HeaderView) (context : SnapContext) (must : Bool) (parts : List Part) (bytes : List ℕ)
     → StandsFor pending r f → r.headers image ≡ Some h → IsContextOf h context → MayWrite parts bytes
     → ArePartsBelow h h.size number parts → IsCopiedUp h number (object_at r image number)
     → answer_to r me (op.Data image number (data_op.Write context must parts bytes)) ≡ answer.Done
     → StandsFor pending (after r me (op.Data image number (data_op.Write context must parts bytes))) (flat.after f (effect.Piece image (extents_of parts) bytes))
-write_stands pending r f me image number h context must parts bytes stands is of may lie up done =
-    data_stands pending r f me image number h context _ (painted (places_of (extents_of parts)) bytes) (data_op.Write context must parts bytes) stands is of done refl
-    (λ i at st. write_is_change (snapshots_of f) (links_of f image) h (object_at r image) i st number parts bytes may lie up)
+write_stands pending r f me image number h context must parts bytes stands is of may lie up =
+    where_served (λ (s : Records). StandsFor pending s (flat.after f (effect.Piece image (extents_of parts) bytes))) r me (op.Data image number (data_op.Write context must parts bytes)) answer.Done refl
+    (write_served pending r f me image number h context must parts bytes stands is of may lie up)
+
+zero_served : (pending : List Pending) (r : Records) (f : Flat) (me : Instance) (image number : ℕ) (h : HeaderView) (context : SnapContext) (must : Bool) (parts : List Part)
+    → StandsFor pending r f → r.headers image ≡ Some h → IsContextOf h context
+    → All (IsPart h.layout number) parts → IsCopiedUp h number (object_at r image number)
+    → answer_served r me (op.Data image number (data_op.Zero context must parts)) ≡ answer.Done
+    → StandsFor pending (after_served r me (op.Data image number (data_op.Zero context must parts))) (flat.after f (effect.Zero image (extents_of parts)))
+zero_served pending r f me image number h context must parts stands is of lie up done =
+    data_stands pending r f me image number h context _ (painted (places_of (extents_of parts)) []) (data_op.Zero context must parts) stands is of done refl
+    (λ i at st. zero_is_change (snapshots_of f) (links_of f image) h (object_at r image) i st number parts lie up)
 
 pub zero_stands : (pending : List Pending) (r : Records) (f : Flat) (me : Instance) (image number : ℕ) (h : HeaderView) (context : SnapContext) (must : Bool) (parts : List Part)
     → StandsFor pending r f → r.headers image ≡ Some h → IsContextOf h context
     → All (IsPart h.layout number) parts → IsCopiedUp h number (object_at r image number)
     → answer_to r me (op.Data image number (data_op.Zero context must parts)) ≡ answer.Done
     → StandsFor pending (after r me (op.Data image number (data_op.Zero context must parts))) (flat.after f (effect.Zero image (extents_of parts)))
-zero_stands pending r f me image number h context must parts stands is of lie up done =
-    data_stands pending r f me image number h context _ (painted (places_of (extents_of parts)) []) (data_op.Zero context must parts) stands is of done refl
-    (λ i at st. zero_is_change (snapshots_of f) (links_of f image) h (object_at r image) i st number parts lie up)
+zero_stands pending r f me image number h context must parts stands is of lie up =
+    where_served (λ (s : Records). StandsFor pending s (flat.after f (effect.Zero image (extents_of parts)))) r me (op.Data image number (data_op.Zero context must parts)) answer.Done refl
+    (zero_served pending r f me image number h context must parts stands is of lie up)
+
+empty_served : (pending : List Pending) (r : Records) (f : Flat) (me : Instance) (image number : ℕ) (h : HeaderView) (context : SnapContext) (parts : List Part)
+    → StandsFor pending r f → r.headers image ≡ Some h → IsContextOf h context → AreWhole h number parts
+    → answer_served r me (op.Data image number (data_op.Empty context)) ≡ answer.Done
+    → StandsFor pending (after_served r me (op.Data image number (data_op.Empty context))) (flat.after f (effect.Zero image (extents_of parts)))
+empty_served pending r f me image number h context parts stands is of are done =
+    data_stands pending r f me image number h context _ (painted (places_of (extents_of parts)) []) (data_op.Empty context) stands is of done refl
+    (λ i at st. empty_is_change (snapshots_of f) (links_of f image) h (object_at r image) i st number parts are)
 
 pub empty_stands : (pending : List Pending) (r : Records) (f : Flat) (me : Instance) (image number : ℕ) (h : HeaderView) (context : SnapContext) (parts : List Part)
     → StandsFor pending r f → r.headers image ≡ Some h → IsContextOf h context → AreWhole h number parts
     → answer_to r me (op.Data image number (data_op.Empty context)) ≡ answer.Done
     → StandsFor pending (after r me (op.Data image number (data_op.Empty context))) (flat.after f (effect.Zero image (extents_of parts)))
-empty_stands pending r f me image number h context parts stands is of are done =
-    data_stands pending r f me image number h context _ (painted (places_of (extents_of parts)) []) (data_op.Empty context) stands is of done refl
-    (λ i at st. empty_is_change (snapshots_of f) (links_of f image) h (object_at r image) i st number parts are)
+empty_stands pending r f me image number h context parts stands is of are =
+    where_served (λ (s : Records). StandsFor pending s (flat.after f (effect.Zero image (extents_of parts)))) r me (op.Data image number (data_op.Empty context)) answer.Done refl
+    (empty_served pending r f me image number h context parts stands is of are)
+
+remove_served : (pending : List Pending) (r : Records) (f : Flat) (me : Instance) (image number : ℕ) (h : HeaderView) (context : SnapContext) (parts : List Part)
+    → StandsFor pending r f → r.headers image ≡ Some h → IsContextOf h context → AreWhole h number parts → (IsInside h number → ⊥)
+    → answer_served r me (op.Data image number (data_op.Remove context)) ≡ answer.Done
+    → StandsFor pending (after_served r me (op.Data image number (data_op.Remove context))) (flat.after f (effect.Zero image (extents_of parts)))
+remove_served pending r f me image number h context parts stands is of are outside done =
+    data_stands pending r f me image number h context _ (painted (places_of (extents_of parts)) []) (data_op.Remove context) stands is of done refl
+    (λ i at st. remove_is_change (snapshots_of f) (links_of f image) h (object_at r image) i st number parts are outside)
 
 pub remove_stands : (pending : List Pending) (r : Records) (f : Flat) (me : Instance) (image number : ℕ) (h : HeaderView) (context : SnapContext) (parts : List Part)
     → StandsFor pending r f → r.headers image ≡ Some h → IsContextOf h context → AreWhole h number parts → (IsInside h number → ⊥)
     → answer_to r me (op.Data image number (data_op.Remove context)) ≡ answer.Done
     → StandsFor pending (after r me (op.Data image number (data_op.Remove context))) (flat.after f (effect.Zero image (extents_of parts)))
-remove_stands pending r f me image number h context parts stands is of are outside done =
-    data_stands pending r f me image number h context _ (painted (places_of (extents_of parts)) []) (data_op.Remove context) stands is of done refl
-    (λ i at st. remove_is_change (snapshots_of f) (links_of f image) h (object_at r image) i st number parts are outside)
+remove_stands pending r f me image number h context parts stands is of are outside =
+    where_served (λ (s : Records). StandsFor pending s (flat.after f (effect.Zero image (extents_of parts)))) r me (op.Data image number (data_op.Remove context)) answer.Done refl
+    (remove_served pending r f me image number h context parts stands is of are outside)
+
+replace_served : (pending : List Pending) (r : Records) (f : Flat) (me : Instance) (image number : ℕ) (h : HeaderView) (context : SnapContext) (bytes : List ℕ) (parts : List Part)
+    → StandsFor pending r f → r.headers image ≡ Some h → IsContextOf h context → AreWhole h number parts → IsZeroPast h number bytes
+    → answer_served r me (op.Data image number (data_op.WriteFull context bytes)) ≡ answer.Done
+    → StandsFor pending (after_served r me (op.Data image number (data_op.WriteFull context bytes))) (flat.after f (effect.Piece image (extents_of parts) bytes))
+replace_served pending r f me image number h context bytes parts stands is of are past_zero done =
+    data_stands pending r f me image number h context _ (painted (places_of (extents_of parts)) bytes) (data_op.WriteFull context bytes) stands is of done refl
+    (λ i at st. replace_is_change (snapshots_of f) (links_of f image) h (object_at r image) i st number parts bytes are past_zero)
 
 pub replace_stands : (pending : List Pending) (r : Records) (f : Flat) (me : Instance) (image number : ℕ) (h : HeaderView) (context : SnapContext) (bytes : List ℕ) (parts : List Part)
     → StandsFor pending r f → r.headers image ≡ Some h → IsContextOf h context → AreWhole h number parts → IsZeroPast h number bytes
     → answer_to r me (op.Data image number (data_op.WriteFull context bytes)) ≡ answer.Done
     → StandsFor pending (after r me (op.Data image number (data_op.WriteFull context bytes))) (flat.after f (effect.Piece image (extents_of parts) bytes))
-replace_stands pending r f me image number h context bytes parts stands is of are past_zero done =
-    data_stands pending r f me image number h context _ (painted (places_of (extents_of parts)) bytes) (data_op.WriteFull context bytes) stands is of done refl
-    (λ i at st. replace_is_change (snapshots_of f) (links_of f image) h (object_at r image) i st number parts bytes are past_zero)
+replace_stands pending r f me image number h context bytes parts stands is of are past_zero =
+    where_served (λ (s : Records). StandsFor pending s (flat.after f (effect.Piece image (extents_of parts) bytes))) r me (op.Data image number (data_op.WriteFull context bytes)) answer.Done refl
+    (replace_served pending r f me image number h context bytes parts stands is of are past_zero)

@@ -29,8 +29,9 @@ use Rattle.rbd_flat.proofs.Images.{image_law}
 use Rattle.rbd_flat.proofs.Steps.{snap_law, names_stay, links_stay}
 use Rattle.rbd_site.specs.Found.{done_where}
 use Rattle.rbd_site.specs.HeaderStep.{header_answer, header_after, there_after, snap_added, where_made}
-use Rattle.rbd_site.specs.Records.{Records, object_at, with_header}
-use Rattle.rbd_site.specs.Step.{answer_to, after}
+use Rattle.rbd_site.specs.Records.{Records, object_at}
+use Rattle.rbd_site.specs.WatchStep.{watchers_after}
+use Rattle.rbd_site.specs.Step.{answer_to, answer_served, after, after_served}
 use Rattle.rbd_stands.specs.Shown.{Snapshots, snapshots_of, shown, HasParent, Links, links_of, IsInOverlap}
 use Rattle.rbd_stands.specs.Image.{ImageStands, line_of_snap}
 use Rattle.rbd_stands.specs.Site.{StandsFor, IsUntouched, Pending}
@@ -38,8 +39,9 @@ use Rattle.rbd_stands.specs.Condition.{IsDrawn, IsUnnamed, NamesOther}
 use Rattle.rbd_stands.proofs.Frame.{KeepsParent}
 use Rattle.rbd_stands.proofs.HeaderSteps as header
 use Rattle.rbd_stands.proofs.ObjectSteps.{put_there}
-use Rattle.rbd_stands.proofs.SiteSteps.{here, stands_at, KeepsParents, keep_all, site_change, is_drawn, other_header, flat_there, flat_elsewhere}
+use Rattle.rbd_stands.proofs.SiteSteps.{here, stands_at, KeepsParents, keep_all, site_change, is_drawn, other_header, with_headed, flat_there, flat_elsewhere}
 use Rattle.rbd_stands.proofs.Lookups.{both_tests}
+use Rattle.rbd_stands.proofs.Served.{where_served}
 
 -- what an image stands for after a change
 pub record After (below : Snapshots) (linked : Links) (k : HeaderView) (objects : ℕ → Mapped) (o : Option FlatImage) : Type 0 where
@@ -51,18 +53,19 @@ pub header_change : (pending : List Pending) (r : Records) (f g : Flat) (me : In
     → g.names ≡ f.names → g.links ≡ f.links → ((j : ℕ) → j ≢ image → image_at g j ≡ image_at f j)
     → KeepsParents pending r (snapshots_of f) (snapshots_of g)
     → ((i : FlatImage) → image_at f image ≡ Some i → ImageStands (snapshots_of g) (links_of g image) h (object_at r image) i → After (snapshots_of g) (links_of g image) k (object_at r image) (image_at g image))
-    → StandsFor pending (after r me (op.Header image o)) g
+    → StandsFor pending (after_served r me (op.Header image o)) g
 header_change pending r f g me image o h k stands is made names links elsewhere keeps step =
     let header : Option HeaderView = header_after me (r.headers image) o in
+    let watchers : List Instance = watchers_after me (r.headers image) (r.watchers image) o in
     let now : header ≡ Some k = ap (λ (p : Option HeaderView). header_after me p o) is ∙ made in
-    site_change pending image r (with_header image header r) f g stands
-    (other_header image header r f g names links elsewhere)
+    site_change pending image r (with_headed image header watchers r) f g stands
+    (other_header image header watchers r f g names links elsewhere)
     keeps
     (λ st.
     let was = here (snapshots_of g) (links_of g image) (r.headers image) (object_at r image) (image_at f image) h is st in
     let a = step was.image was.is was.stands in
-    stands_at (snapshots_of g) (links_of g image) ((with_header image header r).headers image) (object_at r image) (image_at g image) k a.image (put_there r.headers image header ∙ now) a.is a.stands)
-    (is_drawn pending r f stands image h is (with_header image header r) g)
+    stands_at (snapshots_of g) (links_of g image) ((with_headed image header watchers r).headers image) (object_at r image) (image_at g image) k a.image (put_there r.headers image header ∙ now) a.is a.stands)
+    (is_drawn pending r f stands image h is (with_headed image header watchers r) g)
 
 -- ---- a header is made
 
@@ -100,26 +103,34 @@ module _ (below : Snapshots) (linked : Links) (h : HeaderView) (objects : ℕ �
 no_snap_of_none : (f : Flat) (image i t : ℕ) (s : FlatSnap) → image_at f image ≡ None → i ≡ image → snap_at f i t ≡ Some s → ⊥
 no_snap_of_none f image i t s none same is = none-some s (sym (ap (λ o. snap_of o t) (ap (image_at f) same ∙ none)) ∙ is)
 
-pub create_stands : (pending : List Pending) (r : Records) (f : Flat) (me : Instance) (image : ℕ) (view : HeaderView) → StandsFor pending r f
-    → IsDrawn r image → IsUntouched r f image → IsNewHeader view → view.parent ≡ None → answer_to r me (op.Header image (header_op.Create view)) ≡ answer.Done
-    → StandsFor pending (after r me (op.Header image (header_op.Create view))) (flat.after f (effect.Create image view.size view.role))
-create_stands pending r f me image view stands drawn untouched new alone done =
+create_served : (pending : List Pending) (r : Records) (f : Flat) (me : Instance) (image : ℕ) (view : HeaderView) → StandsFor pending r f
+    → IsDrawn r image → IsUntouched r f image → IsNewHeader view → view.parent ≡ None → answer_served r me (op.Header image (header_op.Create view)) ≡ answer.Done
+    → StandsFor pending (after_served r me (op.Header image (header_op.Create view))) (flat.after f (effect.Create image view.size view.role))
+create_served pending r f me image view stands drawn untouched new alone done =
     let e : Effect = effect.Create image view.size view.role in
     let g = flat.after f e in
     let header : Option HeaderView = header_after me (r.headers image) (header_op.Create view) in
+    let watchers : List Instance = watchers_after me (r.headers image) (r.watchers image) (header_op.Create view) in
     let now : header ≡ Some view = ap (λ (p : Option HeaderView). header_after me p (header_op.Create view)) untouched.header in
     let made : image_at g image ≡ Some (zeros (snapshots_of g) (links_of g image) view (object_at r image) new alone untouched.blank) =
     image_law f e image ∙ ap (λ b. cond b (Some (zeros (snapshots_of g) (links_of g image) view (object_at r image) new alone untouched.blank)) (image_at f image)) (eq-eqb image image refl) in
-    site_change pending image r (with_header image header r) f g stands
-    (other_header image header r f g (names_stay f e refl) (links_stay f e refl) (flat_elsewhere f e image refl))
+    site_change pending image r (with_headed image header watchers r) f g stands
+    (other_header image header watchers r f g (names_stay f e refl) (links_stay f e refl) (flat_elsewhere f e image refl))
     (keep_all pending r (snapshots_of f) (snapshots_of g) (λ i t s is. snap_law f e i t ∙ kept i t s is (eqb i image) refl))
-    (λ st. stands_at (snapshots_of g) (links_of g image) ((with_header image header r).headers image) (object_at r image) (image_at g image) view _
+    (λ st. stands_at (snapshots_of g) (links_of g image) ((with_headed image header watchers r).headers image) (object_at r image) (image_at g image) view _
     (put_there r.headers image header ∙ now) made (image_made (snapshots_of g) (links_of g image) view (object_at r image) new alone untouched.blank))
     (λ above. absurd (omega (arith, above, drawn)))
   where
     kept : (i t : ℕ) (s : FlatSnap) → snap_at f i t ≡ Some s → (b : Bool) → eqb i image ≡ b → cond b None (snap_at f i t) ≡ Some s
     kept i t s is true e = absurd (no_snap_of_none f image i t s untouched.flat (eqb-true i image e) is)
     kept i t s is false e = is
+
+pub create_stands : (pending : List Pending) (r : Records) (f : Flat) (me : Instance) (image : ℕ) (view : HeaderView) → StandsFor pending r f
+    → IsDrawn r image → IsUntouched r f image → IsNewHeader view → view.parent ≡ None → answer_to r me (op.Header image (header_op.Create view)) ≡ answer.Done
+    → StandsFor pending (after r me (op.Header image (header_op.Create view))) (flat.after f (effect.Create image view.size view.role))
+create_stands pending r f me image view stands drawn untouched new alone =
+    where_served (λ (s : Records). StandsFor pending s (flat.after f (effect.Create image view.size view.role))) r me (op.Header image (header_op.Create view)) answer.Done refl
+    (create_served pending r f me image view stands drawn untouched new alone)
 
 -- ---- a snapshot is taken
 
@@ -137,21 +148,21 @@ still_first : (b : Bool) (o more : Option FlatSnap) (s : FlatSnap) → o ≡ Som
 still_first true o more s is = ap (λ p. option_or p more) is
 still_first false o more s is = is
 
-pub snap_stands : (pending : List Pending) (r : Records) (f : Flat) (me : Instance) (image snap : ℕ) (name : List ℕ) → StandsFor pending r f
-    → answer_to r me (op.Header image (header_op.SnapAdd name)) ≡ answer.Snap snap
-    → StandsFor pending (after r me (op.Header image (header_op.SnapAdd name))) (flat.after f (effect.Snap image snap name))
-snap_stands pending r f me image snap name stands answered = go (r.headers image) refl
+snap_served : (pending : List Pending) (r : Records) (f : Flat) (me : Instance) (image snap : ℕ) (name : List ℕ) → StandsFor pending r f
+    → answer_served r me (op.Header image (header_op.SnapAdd name)) ≡ answer.Snap snap
+    → StandsFor pending (after_served r me (op.Header image (header_op.SnapAdd name))) (flat.after f (effect.Snap image snap name))
+snap_served pending r f me image snap name stands answered = go (r.headers image) refl
   where
-    go : (header : Option HeaderView) → r.headers image ≡ header → StandsFor pending (after r me (op.Header image (header_op.SnapAdd name))) (flat.after f (effect.Snap image snap name))
-    go None is = absurd (let e = sym (ap (λ (p : Option HeaderView). header_answer me p (header_op.SnapAdd name)) is) ∙ answered in cc)
+    go : (header : Option HeaderView) → r.headers image ≡ header → StandsFor pending (after_served r me (op.Header image (header_op.SnapAdd name))) (flat.after f (effect.Snap image snap name))
+    go None is = absurd (let e = sym (ap (λ (p : Option HeaderView). header_answer me p (r.watchers image) (header_op.SnapAdd name)) is) ∙ answered in cc)
     go (Some h) is =
         let a = taken (is_some (snap_named h.snaps name)) (is_full h) (h.snap_seq + 1) snap
-        (sym (ap (λ (p : Option HeaderView). header_answer me p (header_op.SnapAdd name)) is) ∙ answered) in
+        (sym (ap (λ (p : Option HeaderView). header_answer me p (r.watchers image) (header_op.SnapAdd name)) is) ∙ answered) in
         let made : there_after me h (header_op.SnapAdd name) ≡ Some (with_snap name h) =
         ap (λ b. Some (where_made b (is_full h) (with_snap name h) h)) a.unlisted ∙ ap (λ b. Some (where_made false b (with_snap name h) h)) a.room in
         let e : Effect = effect.Snap image (h.snap_seq + 1) name in
         let g = flat.after f e in
-        subst (λ n. StandsFor pending (after r me (op.Header image (header_op.SnapAdd name))) (flat.after f (effect.Snap image n name))) a.answered
+        subst (λ n. StandsFor pending (after_served r me (op.Header image (header_op.SnapAdd name))) (flat.after f (effect.Snap image n name))) a.answered
         (header_change pending r f g me image (header_op.SnapAdd name) h (with_snap name h) stands is made (names_stay f e refl) (links_stay f e refl) (flat_elsewhere f e image refl)
         (keep_all pending r (snapshots_of f) (snapshots_of g) (λ i t s is. snap_law f e i t ∙ still_first (eqb i image && eqb t (h.snap_seq + 1)) (snap_at f i t) _ s is))
         (λ i at st. record {
@@ -159,6 +170,13 @@ snap_stands pending r f me image snap name stands answered = go (r.headers image
           is = flat_there f image _ i at;
           stands = header.snap_added (snapshots_of g) (links_of g image) name h (object_at r image) i st;
         }))
+
+pub snap_stands : (pending : List Pending) (r : Records) (f : Flat) (me : Instance) (image snap : ℕ) (name : List ℕ) → StandsFor pending r f
+    → answer_to r me (op.Header image (header_op.SnapAdd name)) ≡ answer.Snap snap
+    → StandsFor pending (after r me (op.Header image (header_op.SnapAdd name))) (flat.after f (effect.Snap image snap name))
+snap_stands pending r f me image snap name stands =
+    where_served (λ (s : Records). StandsFor pending s (flat.after f (effect.Snap image snap name))) r me (op.Header image (header_op.SnapAdd name)) (answer.Snap snap) refl
+    (snap_served pending r f me image snap name stands)
 
 -- ---- a snapshot is removed
 
@@ -170,10 +188,10 @@ unless : (b : Bool) (o : Option FlatSnap) (s : FlatSnap) → (b ≡ true → ⊥
 unless true o s not_this is = absurd (not_this refl)
 unless false o s not_this is = is
 
-pub unsnap_stands : (pending : List Pending) (r : Records) (f : Flat) (me : Instance) (image snap : ℕ) → StandsFor pending r f → IsUnnamed pending r image snap
-    → answer_to r me (op.Header image (header_op.SnapRemove snap)) ≡ answer.Done
-    → StandsFor pending (after r me (op.Header image (header_op.SnapRemove snap))) (flat.after f (effect.Unsnap image snap))
-unsnap_stands pending r f me image snap stands unnamed answered = go (r.headers image) refl
+unsnap_served : (pending : List Pending) (r : Records) (f : Flat) (me : Instance) (image snap : ℕ) → StandsFor pending r f → IsUnnamed pending r image snap
+    → answer_served r me (op.Header image (header_op.SnapRemove snap)) ≡ answer.Done
+    → StandsFor pending (after_served r me (op.Header image (header_op.SnapRemove snap))) (flat.after f (effect.Unsnap image snap))
+unsnap_served pending r f me image snap stands unnamed answered = go (r.headers image) refl
   where
     kept : (parent : Option ParentLink) → NamesOther image snap parent → KeepsParent (snapshots_of f) (snapshots_of (flat.after f (effect.Unsnap image snap))) parent
     kept None other = tt
@@ -186,10 +204,10 @@ unsnap_stands pending r f me image snap stands unnamed answered = go (r.headers 
       kept = λ k. k;
     }
 
-    go : (header : Option HeaderView) → r.headers image ≡ header → StandsFor pending (after r me (op.Header image (header_op.SnapRemove snap))) (flat.after f (effect.Unsnap image snap))
-    go None is = absurd (let a = sym (ap (λ (p : Option HeaderView). header_answer me p (header_op.SnapRemove snap)) is) ∙ answered in cc)
+    go : (header : Option HeaderView) → r.headers image ≡ header → StandsFor pending (after_served r me (op.Header image (header_op.SnapRemove snap))) (flat.after f (effect.Unsnap image snap))
+    go None is = absurd (let a = sym (ap (λ (p : Option HeaderView). header_answer me p (r.watchers image) (header_op.SnapRemove snap)) is) ∙ answered in cc)
     go (Some h) is =
-        let there = was_there (is_some (snap_in h.snaps snap)) (sym (ap (λ (p : Option HeaderView). header_answer me p (header_op.SnapRemove snap)) is) ∙ answered) in
+        let there = was_there (is_some (snap_in h.snaps snap)) (sym (ap (λ (p : Option HeaderView). header_answer me p (r.watchers image) (header_op.SnapRemove snap)) is) ∙ answered) in
         let made : there_after me h (header_op.SnapRemove snap) ≡ Some (without_snap snap h) = ap (λ b. Some (cond b (without_snap snap h) h)) there in
         let x : Effect = effect.Unsnap image snap in
         let g = flat.after f x in
@@ -203,3 +221,10 @@ unsnap_stands pending r f me image snap stands unnamed answered = go (r.headers 
           is = flat_there f image _ i at;
           stands = header.snap_removed (snapshots_of g) (links_of g image) snap h (object_at r image) i st;
         })
+
+pub unsnap_stands : (pending : List Pending) (r : Records) (f : Flat) (me : Instance) (image snap : ℕ) → StandsFor pending r f → IsUnnamed pending r image snap
+    → answer_to r me (op.Header image (header_op.SnapRemove snap)) ≡ answer.Done
+    → StandsFor pending (after r me (op.Header image (header_op.SnapRemove snap))) (flat.after f (effect.Unsnap image snap))
+unsnap_stands pending r f me image snap stands unnamed =
+    where_served (λ (s : Records). StandsFor pending s (flat.after f (effect.Unsnap image snap))) r me (op.Header image (header_op.SnapRemove snap)) answer.Done refl
+    (unsnap_served pending r f me image snap stands unnamed)

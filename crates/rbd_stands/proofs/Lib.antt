@@ -1,3 +1,4 @@
+pub mod Served
 pub mod NoEffect
 pub mod CloneSteps
 pub mod ChildSteps
@@ -21,3 +22,5 @@ pub mod HeaderEdits
 pub mod EditSteps
 pub mod WritePieces
 pub mod ReadPieces
+pub mod Locks
+pub mod LogSteps

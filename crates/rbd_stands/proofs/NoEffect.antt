@@ -9,13 +9,16 @@ use Rattle.rbd_kinds.specs.declared.data_op.DataOp.{DataOp}
 use Rattle.rbd_kinds.specs.declared.data_op.DataOp.TheVariants as data_op
 use Rattle.rbd_kinds.specs.declared.directory_op.DirectoryOp.TheVariants as directory_op
 use Rattle.rbd_kinds.specs.declared.header.HeaderView.{HeaderView}
+use Rattle.rbd_kinds.specs.declared.header_op.HeaderOp.{HeaderOp}
 use Rattle.rbd_kinds.specs.declared.header_op.HeaderOp.TheVariants as header_op
+use Rattle.rbd_kinds.specs.declared.id.Instance.{Instance}
 use Rattle.rbd_kinds.specs.declared.operation.Op.{Op}
 use Rattle.rbd_kinds.specs.declared.operation.Op.TheVariants as op
 use Rattle.rbd_site.specs.declared.done.DoneOp.TheVariants as done
 use Rattle.rbd_site.specs.Laws.{is_change, is_look}
 use Rattle.rbd_site.specs.Records.{Records}
 use Rattle.rbd_stands.specs.Effect.{effect_of, effect_of_op, header_of}
+use Rattle.rbd_stands.specs.Unseen.{is_unseen}
 
 -- ---- looks
 
@@ -24,6 +27,8 @@ look_at header (op.Directory (directory_op.Find name)) a look = refl
 look_at header (op.Directory directory_op.List) a look = refl
 look_at header (op.Children (children_op.List parent snap)) a look = refl
 look_at header (op.Header image header_op.Get) a look = refl
+look_at header (op.Header image header_op.WatchersGet) a look = refl
+look_at header (op.Header image (header_op.Notify kind)) a look = refl
 look_at None (op.Data image number (data_op.Read snap parts)) a look = refl
 look_at (Some h) (op.Data image number (data_op.Read snap parts)) answer.Done look = refl
 look_at (Some h) (op.Data image number (data_op.Read snap parts)) a look = refl
@@ -62,6 +67,28 @@ refused_at header o a no_change = refl
 pub refused_none : (r : Records) (o : Op) (a : Answer) → IsFalse (is_change a) → effect_of r (done.Op o) a ≡ None
 refused_none r o a no_change = refused_at (header_of r o) o a no_change
 
+pub fenced_none : (r : Records) (o : Op) → effect_of r (done.Op o) answer.Fenced ≡ None
+fenced_none r o = refused_none r o answer.Fenced refl
+
+-- ---- what a flat site doesn't have
+
+unseen_at : (header : Option HeaderView) (image : ℕ) (o : HeaderOp) (a : Answer) → is_unseen o ≡ true → effect_of_op header (op.Header image o) a ≡ None
+unseen_at header image header_op.LockTake a e = refl
+unseen_at header image header_op.LockDrop a e = refl
+unseen_at header image (header_op.LockBreak owner) a e = refl
+unseen_at header image header_op.Synced a e = refl
+unseen_at header image header_op.Watch a e = refl
+unseen_at header image header_op.Unwatch a e = refl
+unseen_at header image header_op.WatchersGet a e = refl
+unseen_at header image (header_op.Notify kind) a e = refl
+unseen_at header image o a e = absurd (true≢false (sym e))
+
+pub unseen_none : (r : Records) (image : ℕ) (o : HeaderOp) (a : Answer) → is_unseen o ≡ true → effect_of r (done.Op (op.Header image o)) a ≡ None
+unseen_none r image o a e = unseen_at (r.headers image) image o a e
+
+pub listed_none : (r : Records) (i : Instance) (a : Answer) → effect_of r (done.Op (op.BlockAdd i)) a ≡ None
+listed_none r i a = refl
+
 -- ---- objects
 
 missing_at : (image number : ℕ) (o : DataOp) (a : Answer) → effect_of_op None (op.Data image number o) a ≡ None
@@ -82,3 +109,6 @@ copied_none r image number bytes a = copied_at (r.headers image) image number by
 
 pub trimmed_none : (r : Records) (image object : ℕ) (a : Answer) → effect_of r (done.Trim image object) a ≡ None
 trimmed_none r image object a = refl
+
+pub expired_none : (r : Records) (image : ℕ) (i : Instance) (a : Answer) → effect_of r (done.Expire image i) a ≡ None
+expired_none r image i a = refl

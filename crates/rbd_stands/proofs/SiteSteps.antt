@@ -5,6 +5,7 @@ use Rattle.std.proofs.lemmas.Bool.{cases_eq, eq-eqb}
 use Rattle.std.proofs.lemmas.Option.{none-some, same_Some}
 use Rattle.rbd_kinds.specs.declared.header.HeaderView.{HeaderView}
 use Rattle.rbd_kinds.specs.declared.header.ParentLink.{ParentLink}
+use Rattle.rbd_kinds.specs.declared.id.Instance.{Instance}
 use Rattle.rbd_object.specs.Mapped.{Mapped}
 use Rattle.rbd_flat.specs.declared.effect.Effect.{Effect}
 use Rattle.rbd_flat.specs.Flat.{Flat, FlatImage, FlatSnap, image_at, with_image}
@@ -12,7 +13,7 @@ use Rattle.rbd_flat.specs.Laws.{image_of}
 use Rattle.rbd_flat.specs.Flat as flat
 use Rattle.rbd_flat.proofs.Images.{with_image_at}
 use Rattle.rbd_flat.proofs.Steps.{images_stay}
-use Rattle.rbd_site.specs.Records.{Records, put, or_blank, object_at, with_header, with_object}
+use Rattle.rbd_site.specs.Records.{Records, put, or_blank, object_at, with_header, with_object, with_watchers}
 use Rattle.rbd_stands.specs.View.{EachView}
 use Rattle.rbd_stands.specs.Shown.{Snapshots, snapshots_of, Links, links_of, HasParent}
 use Rattle.rbd_stands.specs.Image.{ImageStands}
@@ -135,9 +136,13 @@ parents_there pending r f image h stands is = (here (snapshots_of f) (links_of f
 
 -- ---- records with another header, or another object
 
-pub other_header : (image : ℕ) (header : Option HeaderView) (r : Records) (f g : Flat) → g.names ≡ f.names → g.links ≡ f.links → ((j : ℕ) → j ≢ image → image_at g j ≡ image_at f j)
-    → IsElsewhereSame image r (with_header image header r) f g
-other_header image header r f g names links images = record {
+-- A header and its watchers change together, and a flat site has no watchers.
+abbrev pub with_headed : (image : ℕ) → Option HeaderView → List Instance → Records → Records
+with_headed image header watchers r = with_header image header (with_watchers image watchers r)
+
+pub other_header : (image : ℕ) (header : Option HeaderView) (watchers : List Instance) (r : Records) (f g : Flat) → g.names ≡ f.names → g.links ≡ f.links → ((j : ℕ) → j ≢ image → image_at g j ≡ image_at f j)
+    → IsElsewhereSame image r (with_headed image header watchers r) f g
+other_header image header watchers r f g names links images = record {
   directory = refl;
   children = refl;
   links = links;

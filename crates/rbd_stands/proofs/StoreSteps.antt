@@ -1,6 +1,7 @@
--- Steps that have no effect: on the lock, late ones on objects of an image that is gone, and the
--- store's trim.
+-- Steps that have no effect: on the lock and on who watches, those of a fenced instance, the listing
+-- of one, late ones on objects of an image that is gone, the end of a watch, and the store's trim.
 use Rattle.std.proofs.Common.{◌≡◌, ℕ, ◌+◌, ◌<◌, ◌≤◌, Bool, true, false, cond, eqb, ◌||◌, List, [], ◌∷◌, map, get_or, Option, Some, None, option_map, is_some, unwrap_or, ltb, refl, sym, ◌∙◌, ap, subst, arith}
+use Rattle.std.specs.Prelude.{IsTrue}
 use Rattle.std.proofs.lemmas.Bool.{true≢false}
 use Rattle.std.proofs.lemmas.Option.{none-some}
 use Rattle.std.specs.FinMap.{FinMap, get-empty, empty, same_map, nat_cmp-IsAntisymmetric}
@@ -13,6 +14,7 @@ use Rattle.rbd_kinds.specs.declared.header.SnapView.{SnapView}
 use Rattle.rbd_kinds.specs.declared.header_op.HeaderOp.{HeaderOp}
 use Rattle.rbd_kinds.specs.declared.header_op.HeaderOp.TheVariants as header_op
 use Rattle.rbd_kinds.specs.declared.id.Instance.{Instance}
+use Rattle.rbd_kinds.specs.declared.operation.Op.{Op}
 use Rattle.rbd_kinds.specs.declared.operation.Op.TheVariants as op
 use Rattle.rbd_kinds.specs.Striping.{object_of, offset_of}
 use Rattle.rbd_header.specs.Header.{snap_in}
@@ -24,17 +26,20 @@ use Rattle.rbd_object.proofs.KeptLemmas.{get-live}
 use Rattle.rbd_flat.specs.Flat.{Flat, FlatImage, image_at}
 use Rattle.rbd_site.specs.HeaderStep.{header_after, there_after, header_then, is_owner}
 use Rattle.rbd_site.specs.DataStep.{data_after}
-use Rattle.rbd_site.specs.Log.{live_in, trimmed}
-use Rattle.rbd_site.specs.Records.{Records, put, or_blank, object_at, with_header, with_object}
-use Rattle.rbd_site.specs.Step.{after}
+use Rattle.rbd_site.specs.Log.{expired_by, live_in, trimmed}
+use Rattle.rbd_site.specs.Records.{Records, put, or_blank, object_at, with_object, with_watchers}
+use Rattle.rbd_site.specs.Step.{is_fenced, after, after_served}
+use Rattle.rbd_site.specs.WatchStep.{watchers_after}
+use Rattle.rbd_site.proofs.StepLemmas.{where_fenced}
 use Rattle.rbd_stands.specs.Shown.{Snapshots, snapshots_of, shown, Links, links_of}
 use Rattle.rbd_stands.specs.Image.{ImageStands, IsInside}
 use Rattle.rbd_stands.specs.Site.{StandsFor, IsUntouched, Pending}
 use Rattle.rbd_stands.specs.Condition.{IsContextOf, IsDrawn}
 use Rattle.rbd_stands.specs.Unseen.{is_unseen}
 use Rattle.rbd_stands.proofs.ObjectSteps.{put_both, put_there}
+use Rattle.rbd_stands.proofs.Served.{fenced_after}
 use Rattle.rbd_site.proofs.TrimLemmas.{with_header_same, with_object_same}
-use Rattle.rbd_stands.proofs.SiteSteps.{here, stands_at, no_flat, stands_without, keep_all, site_change, is_drawn, other_header, other_object, object_there}
+use Rattle.rbd_stands.proofs.SiteSteps.{here, stands_at, no_flat, stands_without, keep_all, site_change, is_drawn, other_header, with_headed, other_object, object_there}
 
 -- ---- what a flat image doesn't have
 
@@ -68,6 +73,10 @@ unseen_then below linked me h objects i header_op.LockDrop e stands =
 unseen_then below linked me h objects i (header_op.LockBreak owner) e stands =
     where_mine (λ k. ImageStands below linked k objects i) (is_owner owner h.owner) (record h { owner = None }) h (unseen below linked h objects i None h.generation h.syncing stands) stands
 unseen_then below linked me h objects i header_op.Synced e stands = unseen below linked h objects i h.owner (h.generation + 1) false stands
+unseen_then below linked me h objects i header_op.Watch e stands = stands
+unseen_then below linked me h objects i header_op.Unwatch e stands = stands
+unseen_then below linked me h objects i header_op.WatchersGet e stands = stands
+unseen_then below linked me h objects i (header_op.Notify kind) e stands = stands
 unseen_then below linked me h objects i _ e stands = absurd (true≢false (sym e))
 
 unseen_there : (me : Instance) (h : HeaderView) (o : HeaderOp) → is_unseen o ≡ true → there_after me h o ≡ Some (header_then me h o)
@@ -78,19 +87,60 @@ unseen_missing : (me : Instance) (o : HeaderOp) → is_unseen o ≡ true → hea
 unseen_missing me (header_op.Create view) e = absurd (true≢false (sym e))
 unseen_missing me _ e = refl
 
-pub unseen_change : (pending : List Pending) (r : Records) (f : Flat) (me : Instance) (image : ℕ) (o : HeaderOp) → StandsFor pending r f → is_unseen o ≡ true → StandsFor pending (after r me (op.Header image o)) f
-unseen_change pending r f me image o stands e = go (r.headers image) refl
+-- who watches
+watched_stands : (pending : List Pending) (r : Records) (f : Flat) (image : ℕ) (watchers : List Instance) → StandsFor pending r f → StandsFor pending (with_watchers image watchers r) f
+watched_stands pending r f image watchers stands = record {
+  names = stands.names;
+  links = stands.links;
+  images = stands.images;
+  awaited = stands.awaited;
+  fresh = λ i above. let was = stands.fresh i above in record { header = was.header; flat = was.flat; blank = was.blank };
+}
+
+unseen_served : (pending : List Pending) (r : Records) (f : Flat) (me : Instance) (image : ℕ) (o : HeaderOp) (watchers : List Instance) → StandsFor pending r f → is_unseen o ≡ true
+    → StandsFor pending (with_headed image (header_after me (r.headers image) o) watchers r) f
+unseen_served pending r f me image o watchers stands e = go (r.headers image) refl
   where
-    go : (header : Option HeaderView) → r.headers image ≡ header → StandsFor pending (with_header image (header_after me header o) r) f
-    go None is = subst (λ (s : Records). StandsFor pending s f) (sym (with_header_same image (header_after me None o) r (unseen_missing me o e ∙ sym is))) stands
+    go : (header : Option HeaderView) → r.headers image ≡ header → StandsFor pending (with_headed image (header_after me header o) watchers r) f
+    go None is =
+        subst (λ (s : Records). StandsFor pending s f) (sym (with_header_same image (header_after me None o) (with_watchers image watchers r) (unseen_missing me o e ∙ sym is)))
+        (watched_stands pending r f image watchers stands)
     go (Some h) is =
-        let s = with_header image (there_after me h o) r in
-        site_change pending image r s f f stands (other_header image (there_after me h o) r f f refl refl (λ j other. refl))
+        let s = with_headed image (there_after me h o) watchers r in
+        site_change pending image r s f f stands (other_header image (there_after me h o) watchers r f f refl refl (λ j other. refl))
         (keep_all pending r (snapshots_of f) (snapshots_of f) (λ i t s is. is))
         (λ st. let k = here (snapshots_of f) (links_of f image) (r.headers image) (object_at r image) (image_at f image) h is st in
         stands_at (snapshots_of f) (links_of f image) (s.headers image) (object_at r image) (image_at f image) (header_then me h o) k.image
         (put_there r.headers image (there_after me h o) ∙ unseen_there me h o e) k.is (unseen_then (snapshots_of f) (links_of f image) me h (object_at r image) k.image o e k.stands))
         (is_drawn pending r f stands image h is s f)
+
+pub unseen_change : (pending : List Pending) (r : Records) (f : Flat) (me : Instance) (image : ℕ) (o : HeaderOp) → StandsFor pending r f → is_unseen o ≡ true → StandsFor pending (after r me (op.Header image o)) f
+unseen_change pending r f me image o stands e =
+    where_fenced (λ s. StandsFor pending s f) r me (op.Header image o) stands
+    (unseen_served pending r f me image o (watchers_after me (r.headers image) (r.watchers image) o) stands e)
+
+-- ---- who is fenced
+
+pub fenced_stands : (pending : List Pending) (r : Records) (f : Flat) (me : Instance) (o : Op) → StandsFor pending r f → IsTrue (is_fenced r me) → StandsFor pending (after r me o) f
+fenced_stands pending r f me o stands fenced = subst (λ (s : Records). StandsFor pending s f) (sym (fenced_after r me o fenced)) stands
+
+listed_served : (pending : List Pending) (r : Records) (f : Flat) (me i : Instance) → StandsFor pending r f → StandsFor pending (after_served r me (op.BlockAdd i)) f
+listed_served pending r f me i stands = record {
+  names = stands.names;
+  links = stands.links;
+  images = stands.images;
+  awaited = stands.awaited;
+  fresh = λ image above. let was = stands.fresh image above in record { header = was.header; flat = was.flat; blank = was.blank };
+}
+
+pub listed_stands : (pending : List Pending) (r : Records) (f : Flat) (me i : Instance) → StandsFor pending r f → StandsFor pending (after r me (op.BlockAdd i)) f
+listed_stands pending r f me i stands = where_fenced (λ s. StandsFor pending s f) r me (op.BlockAdd i) stands (listed_served pending r f me i stands)
+
+-- ---- a watch ends
+
+pub expired_stands : (pending : List Pending) (r : Records) (f : Flat) (image : ℕ) (oldest : Option Instance) → StandsFor pending r f → StandsFor pending (expired_by image oldest r) f
+expired_stands pending r f image None stands = stands
+expired_stands pending r f image (Some i) stands = watched_stands pending r f image _ stands
 
 -- ---- objects of no image
 
@@ -103,7 +153,9 @@ data_without pending r f image number object stands none untouched =
     untouched
 
 pub data_of_none : (pending : List Pending) (r : Records) (f : Flat) (me : Instance) (image number : ℕ) (o : DataOp) → StandsFor pending r f → r.headers image ≡ None → IsDrawn r image → StandsFor pending (after r me (op.Data image number o)) f
-data_of_none pending r f me image number o stands none drawn = data_without pending r f image number (data_after (r.objects image number) o) stands none (λ above. absurd (omega (arith, above, drawn)))
+data_of_none pending r f me image number o stands none drawn =
+    where_fenced (λ s. StandsFor pending s f) r me (op.Data image number o) stands
+    (data_without pending r f image number (data_after (r.objects image number) o) stands none (λ above. absurd (omega (arith, above, drawn))))
 
 -- ---- the store's trim
 

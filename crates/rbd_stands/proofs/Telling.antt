@@ -1,11 +1,12 @@
 -- What a header and the objects tell of the flat image.
-use Rattle.std.proofs.Common.{◌≡◌, ℕ, ◌+◌, ◌-◌, ◌<◌, cond, inl, inr, List, [], ◌∷◌, ◌++◌, length, map, get_or, Option, Some, None, option_map, unwrap_or, refl, sym, ◌∙◌, ap, subst, arith}
-use Rattle.std.specs.Prelude.{nat_eq}
+use Rattle.std.proofs.Common.{◌≡◌, ◌↔◌, ℕ, ◌+◌, ◌-◌, ◌<◌, cond, inl, inr, List, [], ◌∷◌, ◌++◌, length, map, get_or, Option, Some, None, option_map, unwrap_or, refl, sym, ◌∙◌, ap, subst, arith}
+use Rattle.std.specs.Prelude.{IsFalse, nat_eq}
 use Rattle.std.specs.Cmp.Lexicographic.{pointwise}
 use Rattle.std.proofs.lemmas.Bool.{cases_lt, le-ltb}
 use Rattle.std.proofs.lemmas.Option.{same_Some}
 use Rattle.std.proofs.lemmas.List.Elements.{All-head, All-tail}
 use Rattle.std.proofs.lemmas.List.FromFn.{fill_by_all}
+use Rattle.rbd_kinds.specs.declared.answer.Answer.{Answer}
 use Rattle.rbd_kinds.specs.declared.answer.Answer.TheVariants as answer
 use Rattle.rbd_kinds.specs.declared.data_op.DataOp.TheVariants as data_op
 use Rattle.rbd_kinds.specs.declared.header.HeaderView.{HeaderView}
@@ -30,15 +31,16 @@ use Rattle.rbd_object.specs.Parts.{parts_of}
 use Rattle.rbd_site.specs.DataStep.{parts_read}
 use Rattle.rbd_site.specs.HeaderStep.{header_answer}
 use Rattle.rbd_site.specs.Records.{Records, object_at}
-use Rattle.rbd_site.specs.Step.{answer_to}
+use Rattle.rbd_site.specs.Step.{is_fenced, answer_to, answer_served}
 use Rattle.rbd_stands.specs.View.{Shape, shape_of, shape_of_head, shape_of_snap}
 use Rattle.rbd_stands.specs.Shown.{Snapshots, IsInOverlap, snapshots_of, inherited, shown, Links, links_of}
 use Rattle.rbd_stands.specs.Image.{ImageStands, SnapLine, line_of_snap, line_of_flat}
-use Rattle.rbd_stands.specs.Site.{StandsFor, Pending}
+use Rattle.rbd_stands.specs.Site.{StandsAt, StandsFor, Pending}
 use Rattle.rbd_stands.specs.Condition.{IsPartBelow, ArePartsBelow}
 use Rattle.rbd_stands.specs.Reading.{IsToldBy, Tells, IsAt, AreFlatBytes, AreInherited, flat_snap_named, bytes_at_parts}
 use Rattle.rbd_stands.proofs.Lookups.{map_cond, a_value, line_at, flat_there, flat_missing}
 use Rattle.rbd_stands.proofs.SiteSteps.{here}
+use Rattle.rbd_stands.proofs.Served.{free_answer, where_served}
 
 -- ---- the header
 
@@ -76,18 +78,37 @@ module _ (below : Snapshots) (linked : Links) (h : HeaderView) (objects : ℕ �
     snap_sizes = λ t. snap_size t (snap_in h.snaps t) refl;
   }
 
-pub header_told : (pending : List Pending) (r : Records) (f : Flat) (me : Instance) (image : ℕ) (h : HeaderView) → StandsFor pending r f
-    → answer_to r me (op.Header image header_op.Get) ≡ answer.Header h → Tells h (image_at f image)
-header_told pending r f me image h stands answered = go (r.headers image) refl
+header_served : (pending : List Pending) (r : Records) (f : Flat) (me : Instance) (image : ℕ) (h : HeaderView) → StandsFor pending r f
+    → answer_served r me (op.Header image header_op.Get) ≡ answer.Header h → Tells h (image_at f image)
+header_served pending r f me image h stands answered = go (r.headers image) refl
   where
     go : (header : Option HeaderView) → r.headers image ≡ header → Tells h (image_at f image)
-    go None is = absurd (let e = sym (ap (λ (p : Option HeaderView). header_answer me p header_op.Get) is) ∙ answered in cc)
+    go None is = absurd (let e = sym (ap (λ (p : Option HeaderView). header_answer me p (r.watchers image) header_op.Get) is) ∙ answered in cc)
     go (Some k) is =
-        let e : answer.Header k ≡ answer.Header h = sym (ap (λ (p : Option HeaderView). header_answer me p header_op.Get) is) ∙ answered in
+        let e : answer.Header k ≡ answer.Header h = sym (ap (λ (p : Option HeaderView). header_answer me p (r.watchers image) header_op.Get) is) ∙ answered in
         let same : k ≡ h = cc in
         let was = here (snapshots_of f) (links_of f image) (r.headers image) (object_at r image) (image_at f image) k is (stands.images image) in
         subst (λ j. Tells j (image_at f image)) same
         (subst (Tells k) (sym was.is) (told (snapshots_of f) (links_of f image) k (object_at r image) was.image was.stands))
+
+pub header_told : (pending : List Pending) (r : Records) (f : Flat) (me : Instance) (image : ℕ) (h : HeaderView) → StandsFor pending r f
+    → answer_to r me (op.Header image header_op.Get) ≡ answer.Header h → Tells h (image_at f image)
+header_told pending r f me image h stands =
+    where_served (λ (s : Records). Tells h (image_at f image)) r me (op.Header image header_op.Get) (answer.Header h) refl
+    (header_served pending r f me image h stands)
+
+absence_at : (below : Snapshots) (linked : Links) (me : Instance) (header : Option HeaderView) (watchers : List Instance) (objects : ℕ → Mapped) (o : Option FlatImage) → StandsAt below linked header objects o
+    → (header_answer me header watchers header_op.Get ≡ answer.Absent) ↔ (o ≡ None)
+absence_at below linked me None watchers objects None stands = (λ _. refl, λ _. refl)
+absence_at below linked me None watchers objects (Some i) stands = absurd stands
+absence_at below linked me (Some h) watchers objects None stands = absurd stands
+absence_at below linked me (Some h) watchers objects (Some i) stands = (λ e. absurd (cc), λ e. absurd (cc))
+
+pub absence_of_header : (pending : List Pending) (r : Records) (f : Flat) (me : Instance) (image : ℕ) → StandsFor pending r f → IsFalse (is_fenced r me)
+    → (answer_to r me (op.Header image header_op.Get) ≡ answer.Absent) ↔ (image_at f image ≡ None)
+absence_of_header pending r f me image stands free =
+    subst (λ (a : Answer). (a ≡ answer.Absent) ↔ (image_at f image ≡ None)) (free_answer r me (op.Header image header_op.Get) free)
+    (absence_at (snapshots_of f) (links_of f image) me (r.headers image) (r.watchers image) (object_at r image) (image_at f image) (stands.images image))
 
 -- ---- the objects
 
@@ -135,11 +156,11 @@ read_none : (parts : List Part) (content : Option (List ℕ)) → parts_read par
 read_none parts None e = refl
 read_none parts (Some c) e = absurd (cc)
 
-pub bytes_told : (pending : List Pending) (r : Records) (f : Flat) (me : Instance) (image number : ℕ) (h : HeaderView) (v : Option ℕ) (shape : Shape) (parts : List Part) (bytes : List ℕ)
+bytes_served : (pending : List Pending) (r : Records) (f : Flat) (me : Instance) (image number : ℕ) (h : HeaderView) (v : Option ℕ) (shape : Shape) (parts : List Part) (bytes : List ℕ)
     → StandsFor pending r f → r.headers image ≡ Some h → shape_of h v ≡ Some shape → ArePartsBelow h shape.size number parts
-    → answer_to r me (op.Data image number (data_op.Read v parts)) ≡ answer.Bytes bytes
+    → answer_served r me (op.Data image number (data_op.Read v parts)) ≡ answer.Bytes bytes
     → AreFlatBytes f image v parts bytes
-bytes_told pending r f me image number h v shape parts bytes stands is seen lie answered =
+bytes_served pending r f me image number h v shape parts bytes stands is seen lie answered =
     let was = here (snapshots_of f) (links_of f image) (r.headers image) (object_at r image) (image_at f image) h is (stands.images image) in
     let at = viewed (snapshots_of f) (links_of f image) h (object_at r image) was.image v shape was.stands seen in
     let read = read_bytes parts (view (looked (object_at r image number)) v) bytes answered in
@@ -152,6 +173,14 @@ bytes_told pending r f me image number h v shape parts bytes stands is seen lie 
           ∙ ap (λ content. shown (snapshots_of f) shape.parent content (offset_of h.layout x) x) read.1) parts lie;
     }
 
+pub bytes_told : (pending : List Pending) (r : Records) (f : Flat) (me : Instance) (image number : ℕ) (h : HeaderView) (v : Option ℕ) (shape : Shape) (parts : List Part) (bytes : List ℕ)
+    → StandsFor pending r f → r.headers image ≡ Some h → shape_of h v ≡ Some shape → ArePartsBelow h shape.size number parts
+    → answer_to r me (op.Data image number (data_op.Read v parts)) ≡ answer.Bytes bytes
+    → AreFlatBytes f image v parts bytes
+bytes_told pending r f me image number h v shape parts bytes stands is seen lie =
+    where_served (λ (s : Records). AreFlatBytes f image v parts bytes) r me (op.Data image number (data_op.Read v parts)) (answer.Bytes bytes) refl
+    (bytes_served pending r f me image number h v shape parts bytes stands is seen lie)
+
 uncovered : (below : Snapshots) (parent : Option ParentLink) (x : ℕ) → (IsInOverlap parent x → ⊥) → inherited below parent x ≡ 0
 uncovered below None x none = refl
 uncovered below (Some link) x none = elim (cases_lt x link.overlap) [
@@ -159,11 +188,11 @@ uncovered below (Some link) x none = elim (cases_lt x link.overlap) [
   | inr past ↦ ap (λ b. cond b (snap_byte (below link.image link.snap) 0 x) 0) (le-ltb x link.overlap past)
 ]
 
-pub absence_told : (pending : List Pending) (r : Records) (f : Flat) (me : Instance) (image number : ℕ) (h : HeaderView) (v : Option ℕ) (shape : Shape) (parts : List Part)
+absence_served : (pending : List Pending) (r : Records) (f : Flat) (me : Instance) (image number : ℕ) (h : HeaderView) (v : Option ℕ) (shape : Shape) (parts : List Part)
     → StandsFor pending r f → r.headers image ≡ Some h → shape_of h v ≡ Some shape → ArePartsBelow h shape.size number parts
-    → answer_to r me (op.Data image number (data_op.Read v parts)) ≡ answer.Absent
+    → answer_served r me (op.Data image number (data_op.Read v parts)) ≡ answer.Absent
     → AreInherited f image v shape.parent parts
-absence_told pending r f me image number h v shape parts stands is seen lie answered =
+absence_served pending r f me image number h v shape parts stands is seen lie answered =
     let was = here (snapshots_of f) (links_of f image) (r.headers image) (object_at r image) (image_at f image) h is (stands.images image) in
     let at = viewed (snapshots_of f) (links_of f image) h (object_at r image) was.image v shape was.stands seen in
     let none = read_none parts (view (looked (object_at r image number)) v) answered in
@@ -182,3 +211,11 @@ absence_told pending r f me image number h v shape parts stands is seen lie answ
       covered = λ x place covers. from x place;
       zeros = λ x place outside. from x place ∙ uncovered (snapshots_of f) shape.parent x outside;
     }
+
+pub absence_told : (pending : List Pending) (r : Records) (f : Flat) (me : Instance) (image number : ℕ) (h : HeaderView) (v : Option ℕ) (shape : Shape) (parts : List Part)
+    → StandsFor pending r f → r.headers image ≡ Some h → shape_of h v ≡ Some shape → ArePartsBelow h shape.size number parts
+    → answer_to r me (op.Data image number (data_op.Read v parts)) ≡ answer.Absent
+    → AreInherited f image v shape.parent parts
+absence_told pending r f me image number h v shape parts stands is seen lie =
+    where_served (λ (s : Records). AreInherited f image v shape.parent parts) r me (op.Data image number (data_op.Read v parts)) answer.Absent refl
+    (absence_served pending r f me image number h v shape parts stands is seen lie)

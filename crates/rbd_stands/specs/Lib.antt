@@ -7,3 +7,4 @@ pub mod Effect
 pub mod Unseen
 pub mod Reading
 pub mod Writing
+pub mod Owned

@@ -40,9 +40,9 @@ ghost use Rattle.rbd_site.specs.DataStep.{MayWrite};
 ghost use Rattle.rbd_site.specs.DirectoryStep.{image_found};
 ghost use Rattle.rbd_site.specs.Laws.{is_change, is_look};
 ghost use Rattle.rbd_site.specs.declared.done.DoneOp.TheVariants as done;
-ghost use Rattle.rbd_site.specs.Log.{live_in, trimmed};
+ghost use Rattle.rbd_site.specs.Log.{expired_by, live_in, trimmed};
 ghost use Rattle.rbd_site.specs.Records.{Records, no_records, object_at, with_object};
-ghost use Rattle.rbd_site.specs.Step.{answer_to, after};
+ghost use Rattle.rbd_site.specs.Step.{is_fenced, answer_to, after};
 ghost use Rattle.rbd_stands.specs.Condition.{IsContextOf, ArePartsBelow, AreWhole, IsCopiedUp, IsChanged, IsZeroPast, IsZeroedFrom, IsUnnamed, IsDrawn, IsFree, IsCloneHeader, MayCopyUp, extents_of};
 ghost use Rattle.rbd_stands.specs.Effect.{effect_of, effect_of_data};
 ghost use Rattle.rbd_stands.specs.Image.{IsInside};
@@ -60,11 +60,27 @@ pub fn no_records_stand()
 
 // ---- what changes nothing
 
-/// The flat image doesn't have what these operations change: the lock, and whether a copy is under
-/// way.
+/// The flat image doesn't have what these operations are on: the lock, who watches, and whether a
+/// copy is under way.
 pub fn unseen_changes()
     ensures { (pending : List Pending) (r : Records) (f : Flat) (me : Instance) (image : ℕ) (o : HeaderOp) → StandsFor pending r f → is_unseen o ≡ true
         → StandsFor pending (after r me (op.Header image o)) f }
+{}
+
+/// A fenced instance changes nothing, whatever it does.
+pub fn fenced_operations()
+    ensures { (pending : List Pending) (r : Records) (f : Flat) (me : Instance) (o : Op) → StandsFor pending r f → IsTrue (is_fenced r me)
+        → StandsFor pending (after r me o) f }
+{}
+
+/// The flat site doesn't have a blocklist: any instance may be listed at any moment.
+pub fn listing_an_instance()
+    ensures { (pending : List Pending) (r : Records) (f : Flat) (me i : Instance) → StandsFor pending r f → StandsFor pending (after r me (op.BlockAdd i)) f }
+{}
+
+/// The store may let the watch of any instance end at any moment.
+pub fn ending_a_watch()
+    ensures { (pending : List Pending) (r : Records) (f : Flat) (image : ℕ) (oldest : Option Instance) → StandsFor pending r f → StandsFor pending (expired_by image oldest r) f }
 {}
 
 /// What is done late to the objects of an image that is gone has no effect.
@@ -81,17 +97,17 @@ pub fn trimming_an_object()
 // ---- what is told
 
 /// The directory tells the flat site's names: where one leads, all of them, and when a name is held
-/// or missing.
+/// or missing. An instance that is fenced isn't told.
 pub fn telling_names()
-    ensures find { (pending : List Pending) (r : Records) (f : Flat) (me : Instance) (name : List ℕ) → StandsFor pending r f
+    ensures find { (pending : List Pending) (r : Records) (f : Flat) (me : Instance) (name : List ℕ) → StandsFor pending r f → IsFalse (is_fenced r me)
         → answer_to r me (op.Directory (directory_op.Find name)) ≡ image_found (id_of f name) }
-    ensures list { (pending : List Pending) (r : Records) (f : Flat) (me : Instance) → StandsFor pending r f
+    ensures list { (pending : List Pending) (r : Records) (f : Flat) (me : Instance) → StandsFor pending r f → IsFalse (is_fenced r me)
         → answer_to r me (op.Directory directory_op.List) ≡ answer.Names (finmap.keys f.names) }
-    ensures held { (pending : List Pending) (r : Records) (f : Flat) (me : Instance) (name : List ℕ) → StandsFor pending r f
+    ensures held { (pending : List Pending) (r : Records) (f : Flat) (me : Instance) (name : List ℕ) → StandsFor pending r f → IsFalse (is_fenced r me)
         → (answer_to r me (op.Directory (directory_op.Add name)) ≡ answer.Exists) ↔ IsSome (id_of f name) }
-    ensures missing { (pending : List Pending) (r : Records) (f : Flat) (me : Instance) (from to : List ℕ) → StandsFor pending r f
+    ensures missing { (pending : List Pending) (r : Records) (f : Flat) (me : Instance) (from to : List ℕ) → StandsFor pending r f → IsFalse (is_fenced r me)
         → (answer_to r me (op.Directory (directory_op.Rename from to)) ≡ answer.Absent) ↔ (id_of f from ≡ None) }
-    ensures taken { (pending : List Pending) (r : Records) (f : Flat) (me : Instance) (from to : List ℕ) → StandsFor pending r f
+    ensures taken { (pending : List Pending) (r : Records) (f : Flat) (me : Instance) (from to : List ℕ) → StandsFor pending r f → IsFalse (is_fenced r me)
         → (answer_to r me (op.Directory (directory_op.Rename from to)) ≡ answer.Exists) ↔ (IsSome (id_of f from) × IsSome (id_of f to)) }
 {}
 
@@ -105,7 +121,7 @@ pub fn telling_children()
 pub fn telling_a_header()
     ensures told { (pending : List Pending) (r : Records) (f : Flat) (me : Instance) (image : ℕ) (h : HeaderView) → StandsFor pending r f
         → answer_to r me (op.Header image header_op.Get) ≡ answer.Header h → Tells h (image_at f image) }
-    ensures missing { (pending : List Pending) (r : Records) (f : Flat) (me : Instance) (image : ℕ) → StandsFor pending r f
+    ensures missing { (pending : List Pending) (r : Records) (f : Flat) (me : Instance) (image : ℕ) → StandsFor pending r f → IsFalse (is_fenced r me)
         → (answer_to r me (op.Header image header_op.Get) ≡ answer.Absent) ↔ (image_at f image ≡ None) }
 {}
 
@@ -377,14 +393,19 @@ pub fn effects_of_objects()
         → effect_of_data image number h (data_op.Remove context) ≡ Some (effect.Zero image (extents_of parts)) }
 {}
 
-/// What has no effect: a look, what isn't answered done, with an id or with a snapshot, what is
-/// done to objects of an image without a header, a copy-up, and each step of the store.
+/// What has no effect: a look, what isn't answered done, with an id or with a snapshot, so all that
+/// a fenced instance does, what is done to what a flat site doesn't have, to objects of an image
+/// without a header, a copy-up, and each step of the store.
 pub fn what_has_no_effect()
     ensures look { (r : Records) (o : Op) (a : Answer) → IsTrue (is_look o) → effect_of r (done.Op o) a ≡ None }
     ensures refused { (r : Records) (o : Op) (a : Answer) → IsFalse (is_change a) → effect_of r (done.Op o) a ≡ None }
+    ensures fenced { (r : Records) (o : Op) → effect_of r (done.Op o) answer.Fenced ≡ None }
+    ensures unseen { (r : Records) (image : ℕ) (o : HeaderOp) (a : Answer) → is_unseen o ≡ true → effect_of r (done.Op (op.Header image o)) a ≡ None }
+    ensures listed { (r : Records) (i : Instance) (a : Answer) → effect_of r (done.Op (op.BlockAdd i)) a ≡ None }
     ensures missing { (r : Records) (image number : ℕ) (o : DataOp) (a : Answer) → r.headers image ≡ None
         → effect_of r (done.Op (op.Data image number o)) a ≡ None }
     ensures copied { (r : Records) (image number : ℕ) (bytes : List ℕ) (a : Answer)
         → effect_of r (done.Op (op.Data image number (data_op.CopyUp bytes))) a ≡ None }
     ensures trimmed { (r : Records) (image object : ℕ) (a : Answer) → effect_of r (done.Trim image object) a ≡ None }
+    ensures expired { (r : Records) (image : ℕ) (i : Instance) (a : Answer) → effect_of r (done.Expire image i) a ≡ None }
 {}

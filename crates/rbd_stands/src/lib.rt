@@ -25,6 +25,11 @@
 //! What is read needs no law but those of the section "what is told" in [`laws`]: a header tells
 //! the flat image, and an object's bytes are the flat image's.
 //!
+//! A flat site has no locks, no watchers and no blocklist: what is done to them leaves it as it is,
+//! and so does whatever a fenced instance does. [`fencing`] says what the log of a site says of
+//! them: who is listed does nothing any more, and who loses a lock let go of it or is listed, where
+//! each change of an image was by its owner (specs/Owned.antt).
+//!
 //! # How it works
 //!
 //! *One step to the parent.* The byte of an absent object inside the overlap is the byte of the
@@ -45,4 +50,5 @@
 //! that goes.
 #![tactic(auto)]
 
+pub mod fencing;
 pub mod laws;

@@ -1,3 +1,5 @@
+mod bench;
 mod edge;
+mod fence;
 mod flat;
 mod site;

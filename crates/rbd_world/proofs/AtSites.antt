@@ -20,6 +20,7 @@ use Rattle.rbd_rely.proofs.Done.{gives_it, has_its_effect}
 use Rattle.rbd_rely.proofs.Elsewhere.{true_elsewhere, beside_elsewhere}
 use Rattle.rbd_rely.proofs.Kept.{others_keep}
 use Rattle.rbd_rely.proofs.Learned.{own_learned}
+use Rattle.rbd_rely.proofs.Parents.{parentless_stays}
 use Rattle.rbd_rely.proofs.Together.{learned_beside}
 use Rattle.rbd_site.specs.Step.{after, answer_to}
 use Rattle.rbd_stands.specs.Site.{StandsFor}
@@ -31,7 +32,6 @@ use Rattle.rbd_world.proofs.Beginning.{nothing_is_beside, nothing_is_true}
 use Rattle.rbd_world.proofs.BothSites.{same_site_itself}
 use Rattle.rbd_world.proofs.Carried.{StandFlat}
 use Rattle.rbd_world.proofs.Changed.{IsElsewhere}
-use Rattle.rbd_world.proofs.Parentless.{parentless_on}
 use Rattle.rbd_world.proofs.Rest.{where_standing}
 
 -- a site is this one or the other
@@ -104,7 +104,7 @@ module _ {R : Type 0} (stands : R → Standing) (old new : WorldView R) (w : IsS
 
   pub parentless_then : (t : SiteId) → IsParentless (records_in t new.sites)
   parentless_then =
-      at_either s (λ t. IsParentless (records_in t new.sites)) (subst IsParentless (sym here_now) (parentless_on s (records_in s old.sites) know who o (w.parentless s) permits))
+      at_either s (λ t. IsParentless (records_in t new.sites)) (subst IsParentless (sym here_now) (parentless_stays s (records_in s old.sites) know who o (w.parentless s) permits))
       (λ t differ. subst IsParentless (sym (elsewhere_now t differ)) (w.parentless t))
 
   pub can_give : CanGive o answered

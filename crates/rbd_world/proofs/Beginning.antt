@@ -13,6 +13,7 @@ use Rattle.rbd_session.proofs.Sound.{no_some}
 use Rattle.rbd_site.specs.InForm.{AreInForm}
 use Rattle.rbd_site.specs.Log.{after_all}
 use Rattle.rbd_site.specs.Records.{Records, no_records}
+use Rattle.rbd_site.proofs.FormLemmas.{form_at_first}
 use Rattle.rbd_stands.proofs.Nothing.{nothing_stands}
 use Rattle.rbd_world.specs.Sound.{IsHeldRightly, IsNewClient, IsNewWorld, IsSoundClient, IsSoundWorld, held_of, line_at}
 use Rattle.rbd_world.specs.World.{WorldView, session_in}
@@ -27,9 +28,6 @@ pub nothing_is_beside : (s : SiteId) (j : Knowledge) → AreBeside s nothing_kno
 nothing_is_beside s j = record { shared = λ image one other. absurd (true≢false (sym one)); apart = λ image drawn. absurd (true≢false (sym drawn)) }
 
 -- ---- empty sites
-
-pub none_in_form : AreInForm no_records 0
-none_in_form = record { form = λ image h is. absurd (no_some h is); generation = λ image h is. absurd (no_some h is) }
 
 pub none_parentless : IsParentless no_records
 none_parentless image h is = absurd (no_some h is)
@@ -66,8 +64,8 @@ module _ {R : Type 0} (stands : R → Standing) where
     history = new.history;
     logs = new.sites;
     records = λ s. ap (after_all no_records) (new.sites s);
-    right = λ s. record { stands = nothing_stands; parentless = none_parentless; form = none_in_form };
-    form = λ s. subst (λ log. AreInForm (after_all no_records log) (length log)) (sym (new.sites s)) none_in_form;
+    right = λ s. record { stands = nothing_stands; parentless = none_parentless; form = form_at_first };
+    form = λ s. subst (λ log. AreInForm (after_all no_records log) (length log)) (sym (new.sites s)) form_at_first;
     parentless = λ s. subst (λ log. IsParentless (after_all no_records log)) (sym (new.sites s)) none_parentless;
     clients = λ session c is. new_client session (home_of (session_in session w.sessions)) c (sym (ap home_of is)) (new.clients session c is);
     nobody = λ session none slot. refl;

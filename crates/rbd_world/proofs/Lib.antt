@@ -21,7 +21,6 @@ pub mod Operated
 pub mod Ordered
 pub mod OrderedWorld
 pub mod Orderly
-pub mod Parentless
 pub mod Parts
 pub mod Polling
 pub mod Quiet

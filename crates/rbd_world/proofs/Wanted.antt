@@ -47,6 +47,6 @@ module _ {R : Type 0} (stands : R → Standing) where
       let permits = wanted_is_permitted slot (held_in slot c.slots) c.lines k s o ((sound.clients session c is).know slot) wants in
       let most = length (site_in s w.sites).log in
       record {
-        may = may_do s (records_in s w.sites) k most (sound.form s) (sound.truth session slot s) o permits;
+        may = may_do s (records_in s w.sites) k most (sound.form s) (sound.truth session slot s) c.instance o permits;
         gives = gives_it s (records_in s w.sites) k most (sound.form s) (sound.truth session slot s) c.instance o permits;
       }

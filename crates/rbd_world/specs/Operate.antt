@@ -1,9 +1,6 @@
 -- One operation of a session at a site.
 use Rattle.std.specs.Prelude.{◌≡◌, ℕ, ◌+◌, ◌∷◌, [], false, length, Option, Some, None}
 use Rattle.rbd_flat.specs.declared.effect.Effect.{Effect}
-use Rattle.rbd_kinds.specs.declared.answer.Answer.{Answer}
-use Rattle.rbd_kinds.specs.declared.answer.Answer.TheVariants as answer
-use Rattle.rbd_kinds.specs.declared.header.HeaderView.{HeaderView}
 use Rattle.rbd_kinds.specs.declared.id.Instance.{Instance}
 use Rattle.rbd_kinds.specs.declared.id.SiteId.{SiteId}
 use Rattle.rbd_kinds.specs.declared.operation.Op.{Op}
@@ -28,15 +25,6 @@ abbrev pub image_of_op : Op → Option ℕ
 image_of_op (op.Header image o) = Some image
 image_of_op (op.Data image number o) = Some image
 image_of_op o = None
-
--- the header that an answer tells
-abbrev pub header_in : Answer → Option HeaderView
-header_in (answer.Header h) = Some h
-header_in a = None
-
--- whoever looks, since all are told the same
-abbrev pub nobody : Instance
-nobody = record { session = 0; life = 0 }
 
 -- the site did the operation, and nothing else
 pub record IsLogged (who : Instance) (o : Op) (old new : SiteLog) : Type 0 where

@@ -219,7 +219,7 @@ AreSameSites old new = (s : SiteId) → site_in s new ≡ site_in s old
 
 -- The operation may be done at its site, and the answer is one that it can give.
 pub record IsPermitted (sites : Sites) (who : Instance) (s : SiteId) (o : Op) : Type 0 where
-  pub may : MayDo (records_in s sites) o
+  pub may : MayDo (records_in s sites) who o
   pub gives : CanGive o (answer_to (records_in s sites) who o)
 
 module _ {R : Type 0} (stands : R → Standing) where

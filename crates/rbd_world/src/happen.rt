@@ -18,12 +18,14 @@ use rbd_kinds::NoMemory;
 use rbd_machine::Machine;
 use rbd_requests::SessionRequest;
 use rbd_session::Session;
+use rbd_watch::Mail;
 use std::alloc::Global;
 
 /// Does what an event does. Refused memory, nothing happened, and each request is where it was.
 pub fn happen<E: Machine + Drop>(
     alloc: Global,
     sites: &mut Sites,
+    mail: &mut Mail,
     sessions: &mut Vec<Session<SessionRequest<E>>>,
     begun: &mut BegunLines,
     event: &Event,
@@ -40,7 +42,7 @@ pub fn happen<E: Machine + Drop>(
             line,
             command,
         } => submit(alloc, sessions, begun, *session, *line, command),
-        Event::Poll { session, slot } => poll(alloc, sites, sessions, *session, *slot),
+        Event::Poll { session, slot } => poll(alloc, sites, mail, sessions, *session, *slot),
         Event::Trim {
             site,
             image,

@@ -65,11 +65,16 @@
 //! [`laws`] has these as laws over any sessions: a world begins sound, and each event, and each
 //! refusal of memory, leaves it so; and that order as a law on whole runs.
 //!
+//! All of it holds of fenced instances too: an operation of one is answered `fenced`, changes
+//! nothing and has no effect. What sites tell those that watch is no part of it yet, since no
+//! request notifies.
+//!
 //! # Cost
 //!
 //! A step costs its operation, and look-ups by number: of a session, of a slot, and of a line in a
-//! hash table. History, calls and logs grow at their end, and are never copied or read. A poll looks
-//! once more at the header of the operation's image, whose list of snapshots is shared.
+//! hash table. History, calls and logs grow at their end, and are never copied or read. A poll
+//! whose operation is done looks once more at the header of its image, whose list of snapshots is
+//! shared.
 //!
 //! # How it works
 //!

@@ -14,17 +14,16 @@ ghost use Rattle.rbd_site.specs.Log.{records_of};
 ghost use Rattle.rbd_site.specs.Step.{MayDo, answer_to};
 ghost use Rattle.rbd_site.specs.declared.done.DoneOp.TheVariants as of_done;
 ghost use Rattle.rbd_stands.specs.Effect.{effect_of as effect_there};
-ghost use Rattle.rbd_world.specs.Operate.{IsOperated, header_in, image_of_op, nobody};
+ghost use Rattle.rbd_world.specs.Operate.{IsOperated, image_of_op};
 
 use crate::happened::Happened;
 use rbd_course::Request;
 use rbd_effect::effect_of;
 use rbd_flat::Effect;
-use rbd_kinds::{
-    Answer, Fed, HeaderOp, HeaderView, ImageId, Instance, NoMemory, Op, SessionNo, SiteId, Slot,
-};
+use rbd_kinds::{Answer, Fed, HeaderView, ImageId, NoMemory, Op, SiteId, Slot};
 use rbd_session::Session;
 use rbd_site::Site;
+use rbd_watch::Mail;
 use std::alloc::Global;
 
 /// Does the operation that the request in a slot wants, at its site, and feeds the request. Refused
@@ -32,6 +31,7 @@ use std::alloc::Global;
 pub fn operate<R: Request>(
     alloc: Global,
     at: &mut Site,
+    mail: &mut Mail,
     client: &mut Session<R>,
     slot: Slot,
     line: u32,
@@ -40,7 +40,7 @@ pub fn operate<R: Request>(
 ) -> Result<Happened, NoMemory>
     requires sound { IsSoundSession R.stands client.old }
     requires wants { op_at R.stands slot client.old ≡ Some (site, op) }
-    requires may { MayDo (records_of at.old) op }
+    requires may { MayDo (records_of at.old) client.old.instance op }
     requires gives { CanGive op (answer_to (records_of at.old) client.old.instance op) }
     ensures done { IfOk result (IsOperated R.stands slot line site op at.old at.new client.old client.new) }
     ensures err { OnErr result (at.new ≡ at.old) }
@@ -52,7 +52,7 @@ pub fn operate<R: Request>(
     let number = at.log().len() as u64 + 1;
     let fed = Fed::Answer(answer);
     client.ready(alloc, slot, &fed)?;
-    at.apply(client.instance(), op)?;
+    at.apply(client.instance(), op, mail)?;
     let reply = client.feed(slot, &fed);
     Ok(Happened::Did {
         line,
@@ -63,8 +63,24 @@ pub fn operate<R: Request>(
     })
 }
 
-/// The effect of an operation that will be answered so, by the header that its image has now.
+/// The effect of an operation that will be answered so. Only what is done has one that the header of
+/// its image tells.
 fn effect_now(
+    alloc: Global,
+    at: &Site,
+    op: &Op,
+    answer: &Answer,
+) -> Result<Option<Effect>, NoMemory>
+    ensures { IfOk result (λ effect. effect ≡ effect_there (records_of at.now) (of_done.Op op.now) answer.now) }
+{
+    match answer {
+        Answer::Done => effect_done(alloc, at, op, answer),
+        _ => effect_of(alloc, op, answer, None),
+    }
+}
+
+/// The same, by the header that its image has now.
+fn effect_done(
     alloc: Global,
     at: &Site,
     op: &Op,
@@ -99,32 +115,5 @@ fn header_at(at: &Site, image: ImageId) -> Result<Option<HeaderView>, NoMemory>
 {
     // (the log tells that each header is in form)
     let _form = at.log();
-    let op = HeaderOp::Get;
-    let answer = look(at, Op::Header { image, op })?;
-    Ok(told_header(answer))
+    at.header(image)
 }
-
-/// What anybody would be answered. It takes the operation by value, so that no caller has to let it
-/// go.
-fn look(at: &Site, op: Op) -> Result<Answer, NoMemory>
-    requires { MayDo (records_of at.now) op }
-    ensures { IfOk result (λ answer. answer ≡ answer_to (records_of at.now) nobody op) }
-{
-    at.answer(NOBODY, &op)
-}
-
-/// The header that an answer tells.
-fn told_header(answer: Answer) -> Option<HeaderView>
-    ensures { result ≡ header_in answer }
-{
-    match answer {
-        Answer::Header(header) => Some(header),
-        _ => None,
-    }
-}
-
-/// Whoever looks is told the same header.
-const NOBODY: Instance = Instance {
-    session: SessionNo(0),
-    life: 0,
-};

@@ -12,6 +12,7 @@ use crate::sites::Sites;
 use rbd_course::Request;
 use rbd_kinds::{NoMemory, Op, SessionNo, SiteId, Slot};
 use rbd_session::Session;
+use rbd_watch::Mail;
 use std::alloc::Global;
 
 /// Polls a slot of a session: nothing where there is no such session or nobody in the slot. Refused
@@ -19,6 +20,7 @@ use std::alloc::Global;
 pub fn poll<R: Request>(
     alloc: Global,
     sites: &mut Sites,
+    mail: &mut Mail,
     sessions: &mut Vec<Session<R>>,
     session: SessionNo,
     slot: Slot,
@@ -31,7 +33,7 @@ pub fn poll<R: Request>(
     ensures alike { OnErr result (LeavesSessions R.stands sessions.old.items sessions.new.items) }
 {
     match sessions.get_mut(session.0 as usize) {
-        Some(client) => poll_in(alloc, sites, client, slot),
+        Some(client) => poll_in(alloc, sites, mail, client, slot),
         None => Ok(Happened::Nothing),
     }
 }
@@ -40,6 +42,7 @@ pub fn poll<R: Request>(
 fn poll_in<R: Request>(
     alloc: Global,
     sites: &mut Sites,
+    mail: &mut Mail,
     client: &mut Session<R>,
     slot: Slot,
 ) -> Result<Happened, NoMemory>
@@ -61,13 +64,14 @@ fn poll_in<R: Request>(
     let Some((site, op)) = client.next(alloc, slot)? else {
         return Ok(Happened::Waited);
     };
-    go_on(alloc, sites, client, slot, line, site, op)
+    go_on(alloc, sites, mail, client, slot, line, site, op)
 }
 
 /// The request in a slot does its operation at the site where it wants it.
 fn go_on<R: Request>(
     alloc: Global,
     sites: &mut Sites,
+    mail: &mut Mail,
     client: &mut Session<R>,
     slot: Slot,
     line: u32,
@@ -83,7 +87,7 @@ fn go_on<R: Request>(
     ensures sound { IsSoundSession R.stands client.new }
 {
     match site {
-        SiteId::A => operate(alloc, &mut sites.a, client, slot, line, site, op),
-        SiteId::B => operate(alloc, &mut sites.b, client, slot, line, site, op),
+        SiteId::A => operate(alloc, &mut sites.a, mail, client, slot, line, site, op),
+        SiteId::B => operate(alloc, &mut sites.b, mail, client, slot, line, site, op),
     }
 }

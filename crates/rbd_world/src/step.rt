@@ -18,12 +18,14 @@ use rbd_kinds::{NoMemory, TryClone};
 use rbd_machine::Machine;
 use rbd_requests::SessionRequest;
 use rbd_session::Session;
+use rbd_watch::Mail;
 use std::alloc::Global;
 
 /// Does what an event does, and notes it. Refused memory, nothing happened.
 pub fn step_parts<E: Machine + Drop>(
     alloc: Global,
     sites: &mut Sites,
+    mail: &mut Mail,
     sessions: &mut Vec<Session<SessionRequest<E>>>,
     begun: &mut BegunLines,
     history: &mut Vec<Entry>,
@@ -40,13 +42,16 @@ pub fn step_parts<E: Machine + Drop>(
 {
     reserve(history, calls)?;
     let kept = event.try_clone()?;
-    step_noted(alloc, sites, sessions, begun, history, calls, event, kept)
+    step_noted(
+        alloc, sites, mail, sessions, begun, history, calls, event, kept,
+    )
 }
 
 /// The same where there is room, with the event that is kept.
 fn step_noted<E: Machine + Drop>(
     alloc: Global,
     sites: &mut Sites,
+    mail: &mut Mail,
     sessions: &mut Vec<Session<SessionRequest<E>>>,
     begun: &mut BegunLines,
     history: &mut Vec<Entry>,
@@ -65,6 +70,6 @@ fn step_noted<E: Machine + Drop>(
     ensures history { OnErr result (history.new.items ≡ history.old.items) }
     ensures calls { OnErr result (calls.new.items ≡ calls.old.items) }
 {
-    let happened = happen(alloc, sites, sessions, begun, event)?;
+    let happened = happen(alloc, sites, mail, sessions, begun, event)?;
     Ok(note(history, calls, kept, happened))
 }

@@ -16,6 +16,7 @@ use rbd_machine::Machine;
 use rbd_requests::SessionRequest;
 use rbd_session::Session;
 use rbd_site::Done;
+use rbd_watch::Mail;
 use std::alloc::Global;
 use std::marker::Model;
 
@@ -33,6 +34,8 @@ use std::marker::Model;
 #[derive(Debug, Drop)]
 pub struct World<E: Machine + Drop> {
     sites: Sites,
+    /// What both sites told those that watch. No request tells anybody anything yet.
+    mail: Mail,
     sessions: Vec<Session<SessionRequest<E>>>,
     /// The lines that have a start in the history.
     begun: BegunLines,
@@ -66,6 +69,7 @@ impl<E: Machine + Drop> World<E> {
         let sessions = first_sessions(alloc, homes)?;
         Ok(World {
             sites,
+            mail: Mail::new(alloc),
             sessions,
             begun: BegunLines::new(alloc),
             history: Vec::new(alloc),
@@ -86,6 +90,7 @@ impl<E: Machine + Drop> World<E> {
         let outcome = step_parts(
             alloc,
             &mut self.sites,
+            &mut self.mail,
             &mut self.sessions,
             &mut self.begun,
             &mut self.history,

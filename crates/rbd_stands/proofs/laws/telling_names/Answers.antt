@@ -1,5 +1,11 @@
-use Rattle.rbd_stands.proofs.DirectorySteps.{held_told, missing_told, taken_told}
+use Rattle.rbd_stands.proofs.DirectorySteps.{found_told, listed_told, held_told, missing_told, taken_told}
 use Rattle.rbd_stands.proofs.laws.telling_names.Goals as goal
+
+pub returns-clause-find : goal.returns-clause-find
+returns-clause-find c = found_told
+
+pub returns-clause-list : goal.returns-clause-list
+returns-clause-list c = listed_told
 
 pub returns-clause-held : goal.returns-clause-held
 returns-clause-held c = held_told

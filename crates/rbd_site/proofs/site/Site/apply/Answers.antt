@@ -13,7 +13,7 @@ invariant_of-self-2 c =
     let r = kept c.self.inside.store in
     let me = c.args.instance in
     let stands : r ≡ records_of c.args.self.now = c.self.invariant.kept ∙ ap records_of c.self.view_is in
-    let may : MayDo r c.args.op = subst (λ x. MayDo x c.args.op) (sym stands) c.requires in
+    let may : MayDo r me c.args.op = subst (λ x. MayDo x me c.args.op) (sym stands) c.requires in
     rw (c.push_reserved.ensures.items, c.in_ok-reserve.ensures.items)
     (sound_more r (kept c.perform.new.self) c.self.inside.log.items
     (record { number = c.next_number-number.result; instance = Some me; op = done.Op c.args.op; answer = c.in_ok-told.told.1 })

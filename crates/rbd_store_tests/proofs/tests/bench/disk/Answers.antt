@@ -3,7 +3,7 @@ use Rattle.rbd_kinds.specs.declared.header.HeaderView.{HeaderView}
 use Rattle.rbd_kinds.specs.declared.header.Role.TheVariants.{Plain}
 use Rattle.rbd_kinds.specs.declared.header.SnapView.{SnapView}
 use Rattle.rbd_kinds.specs.Form.{IsNewHeader}
-use Rattle.rbd_store_tests.proofs.tests.site.disk.Goals as goal
+use Rattle.rbd_store_tests.proofs.tests.bench.disk.Goals as goal
 
 abbrev disk : List SnapView → HeaderView
 disk snaps = record {

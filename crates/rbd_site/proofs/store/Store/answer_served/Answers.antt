@@ -1,4 +1,4 @@
-use Rattle.rbd_site.proofs.store.Store.answer.Goals as goal
+use Rattle.rbd_site.proofs.store.Store.answer_served.Goals as goal
 
 pub returns-in-Data : goal.returns-in-Data
 returns-in-Data c = rw c.in-Data.is c.answer-in-Data.ensures

@@ -2,13 +2,13 @@ use Rattle.std.proofs.Common.{ℕ, Option, ap}
 use Rattle.std.proofs.Math.Path.{fun_ext}
 use Rattle.std.proofs.lemmas.Result.{on_ok_weaker}
 use Rattle.rbd_object.specs.Mapped.{Mapped}
-use Rattle.rbd_site.specs.Maps.{header_in}
-use Rattle.rbd_site.proofs.store.Store.change.Goals as goal
+use Rattle.rbd_site.specs.Maps.{kept}
+use Rattle.rbd_site.proofs.store.Store.serve.Goals as goal
 
 pub returns-in-Data-clause-ok : goal.returns-in-Data-clause-ok
 returns-in-Data-clause-ok c =
     rw c.in-Data.is
     (on_ok_weaker c.change-in-Data.result
-    (λ each. ap (λ (objects : ℕ → ℕ → Option Mapped). record { directory = c.args.self.now.directory; children = c.args.self.now.children; headers = header_in c.args.self.now.headers; objects = objects })
+    (λ each. ap (λ (objects : ℕ → ℕ → Option Mapped). record (kept c.args.self.now) { objects = objects })
     (fun_ext (λ image. fun_ext (each image))))
     c.change-in-Data.ensures.ok)

@@ -1,0 +1,6 @@
+use Rattle.std.proofs.Common.{[], None, refl}
+use Rattle.rbd_site.proofs.WatchLemmas.{watchers_put}
+use Rattle.rbd_site.proofs.watch.forget.Goals as goal
+
+pub returns : goal.returns
+returns c = watchers_put c.args.watchers.now c.remove.new.self c.args.image None [] c.remove.ensures.updates.0 refl

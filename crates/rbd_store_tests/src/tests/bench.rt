@@ -1,0 +1,83 @@
+//! A site with the mail of both, and what its tests begin with.
+ghost use Rattle.rbd_kinds.specs.Form.{IsNewHeader};
+ghost use Rattle.rbd_site.specs.Log.{records_of};
+ghost use Rattle.rbd_site.specs.Step.{MayDo};
+
+use rbd_kinds::{
+    Answer, Bytes, HeaderOp, HeaderView, ImageId, Instance, Layout, Name, NoMemory, Op, Role,
+    SessionNo, SiteId, Snaps,
+};
+use rbd_site::Site;
+use rbd_watch::Mail;
+use std::alloc::Global;
+use std::process::Abort;
+
+pub const C1: Instance = Instance {
+    session: SessionNo(0),
+    life: 0,
+};
+
+pub const IMAGE: ImageId = ImageId(1);
+
+/// A site, and the mail of both.
+#[derive(Drop)]
+pub struct Bench {
+    pub site: Site,
+    pub mail: Mail,
+}
+
+impl Bench {
+    pub fn new(alloc: Global) -> Result<Self, NoMemory> {
+        Ok(Bench {
+            site: Site::new(alloc, SiteId::A)?,
+            mail: Mail::new(alloc),
+        })
+    }
+
+    pub fn apply(&mut self, me: Instance, op: Op) -> Result<Answer, NoMemory>
+        requires { MayDo (records_of self.old.site) me op }
+    {
+        self.site.apply(me, op, &mut self.mail)
+    }
+}
+
+pub fn name(rt: &impl Abort, alloc: Global, text: &[u8]) -> Result<Name, NoMemory> {
+    Ok(Name::parse(Bytes::from_slice(alloc, text)?).expect(rt, "a name"))
+}
+
+/// A new image of 4,096 bytes in one object.
+fn disk(alloc: Global) -> HeaderView
+    ensures { IsNewHeader result }
+{
+    HeaderView {
+        layout: Layout {
+            object: 4096,
+            unit: 4096,
+            count: 1,
+        },
+        size: 4096,
+        generation: 0,
+        snap_seq: 0,
+        snaps: Snaps::new(alloc),
+        parent: None,
+        depth: 0,
+        born: 4096,
+        born_clone: false,
+        journal: false,
+        syncing: false,
+        owner: None,
+        global: None,
+        role: Role::Plain,
+    }
+}
+
+/// Makes the header of the image.
+pub fn create(bench: &mut Bench, me: Instance, alloc: Global) -> Result<Answer, NoMemory> {
+    bench.apply(
+        me,
+        Op::Header {
+            image: IMAGE,
+            op: HeaderOp::Create { view: disk(alloc) },
+        },
+    )
+}
