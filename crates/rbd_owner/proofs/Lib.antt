@@ -1,0 +1,11 @@
+pub mod Standing
+pub mod Tells
+pub mod Ordered
+pub mod Behind
+pub mod Counted
+pub mod Owned
+pub mod Bounded
+pub mod Closed
+pub mod Released
+pub mod Apart
+pub mod Listed

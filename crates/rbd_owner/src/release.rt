@@ -1,0 +1,112 @@
+//! How an exclusive lock is let go.
+ghost use Rattle.std.specs.Prelude.{◌≡◌};
+ghost use Rattle.rbd_machine.specs.Plan.{without_labels};
+ghost use Rattle.rbd_owner.specs.Release.{release, rest_of_release};
+
+use rbd_kinds::{
+    Answer, Event, Fed, HeaderOp, ImageId, NoMemory, NoticeKind, Op, OpKind, Reply, SiteId, Turn,
+    Want,
+};
+use rbd_machine::{Machine, Reason};
+use std::alloc::Global;
+
+/// Lets an image's exclusive lock go, and tells the image's watchers (Ceph: librbd's
+/// `ReleaseRequest`, and its notification `ReleasedLock`).
+///
+/// ```text
+/// Dropping   lock-drop ──changed, none, fenced──▶ the end
+///    │ done
+///    ▼
+/// Telling    notify ReleasedLock
+///    │ any answer
+///    ▼
+/// the end
+/// ```
+///
+/// It isn't refused: whatever its `lock-drop` is answered, the session counts the lock as let go,
+/// and so it ends with Done. No request waits for it and none goes on behind it. So it is a machine
+/// by itself, which a session holds beside its requests and treats as one of them, and no part.
+#[derive(Debug, Drop)]
+pub struct Release {
+    site: SiteId,
+    image: ImageId,
+    stage: Stage,
+}
+
+/// A step of it.
+#[derive(Debug, Drop)]
+enum Stage {
+    Dropping,
+    Telling,
+}
+
+impl Release {
+    /// Lets the lock of an image go. It takes no memory.
+    pub fn new(site: SiteId, image: ImageId) -> Self
+        ensures { rest_of_release result ≡ release site image }
+    {
+        Release {
+            site,
+            image,
+            stage: Stage::Dropping,
+        }
+    }
+}
+
+impl Machine for Release {
+    ghost stands = { λ r. without_labels (rest_of_release r) };
+
+    ghost is_ready = { λ r answer. Unit {0} };
+
+    fn wants(&self) -> Want {
+        let kind = match &self.stage {
+            Stage::Dropping => OpKind::LockDrop,
+            Stage::Telling => OpKind::Notify,
+        };
+        Want::Op {
+            site: self.site,
+            kind,
+        }
+    }
+
+    fn next(&self, _alloc: Global) -> Result<Op, NoMemory> {
+        let op = match &self.stage {
+            Stage::Dropping => HeaderOp::LockDrop,
+            Stage::Telling => HeaderOp::Notify {
+                kind: NoticeKind::ReleasedLock,
+            },
+        };
+        Ok(Op::Header {
+            image: self.image,
+            op,
+        })
+    }
+
+    fn reason(&self) -> Reason {
+        Reason::Own
+    }
+
+    fn event(&self, _alloc: Global) -> Result<Option<Event>, NoMemory> {
+        Ok(None)
+    }
+
+    fn ready(&mut self, _alloc: Global, _fed: &Fed) -> Result<(), NoMemory> {
+        Ok(())
+    }
+
+    fn feed(&mut self, fed: &Fed) -> Turn {
+        let Fed::Answer(answer) = fed else {
+            unreachable!()
+        };
+        match &self.stage {
+            Stage::Dropping => match answer {
+                Answer::Done => {
+                    self.stage = Stage::Telling;
+                    Turn::More
+                }
+                _ => Turn::Done(Reply::Done),
+            },
+            Stage::Telling => Turn::Done(Reply::Done),
+        }
+    }
+}
