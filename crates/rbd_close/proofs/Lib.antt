@@ -1,0 +1,11 @@
+pub mod Tells
+pub mod Labels
+pub mod Bounds
+pub mod Orderly
+pub mod Lawful
+pub mod About
+pub mod Ended
+pub mod Stands
+pub mod Order
+pub mod Kept
+pub mod Meant

@@ -1,0 +1,156 @@
+-- `close`, `quiesce`, `resume` and `tell`: the plans.
+use Rattle.std.specs.Prelude.{ℕ, List, Bool, true, false}
+use Rattle.rbd_close.specs.declared.close.Close.{Close}
+use Rattle.rbd_close.specs.declared.close.Stage.{Stage as CloseStage}
+use Rattle.rbd_close.specs.declared.close.Stage.TheVariants as closing
+use Rattle.rbd_close.specs.declared.quiesce.Quiesce.{Quiesce}
+use Rattle.rbd_close.specs.declared.request.CloseRequest.{CloseRequest}
+use Rattle.rbd_close.specs.declared.request.CloseRequest.TheVariants as request
+use Rattle.rbd_close.specs.declared.resume.Resume.{Resume}
+use Rattle.rbd_close.specs.declared.tell.Stage.{Stage as TellStage}
+use Rattle.rbd_close.specs.declared.tell.Stage.TheVariants as telling
+use Rattle.rbd_close.specs.declared.tell.Tell.{Tell}
+use Rattle.rbd_kinds.specs.declared.answer.Answer.{Answer}
+use Rattle.rbd_kinds.specs.declared.answer.Answer.TheVariants as answer
+use Rattle.rbd_kinds.specs.declared.command.Command.{Command}
+use Rattle.rbd_kinds.specs.declared.command.Command.TheVariants as command
+use Rattle.rbd_kinds.specs.declared.header.HeaderView.{HeaderView}
+use Rattle.rbd_kinds.specs.declared.header_op.HeaderOp.TheVariants as header
+use Rattle.rbd_kinds.specs.declared.id.SiteId.{SiteId}
+use Rattle.rbd_kinds.specs.declared.notice.NoticeKind.{NoticeKind}
+use Rattle.rbd_kinds.specs.declared.notice.NoticeKind.TheVariants as notice
+use Rattle.rbd_kinds.specs.declared.operation.Op.{Op}
+use Rattle.rbd_kinds.specs.declared.operation.Op.TheVariants as op
+use Rattle.rbd_kinds.specs.declared.refusal.Refusal.TheVariants as refusal
+use Rattle.rbd_kinds.specs.declared.reply.Reply.TheVariants as reply
+use Rattle.rbd_machine.specs.Approach.{rest_of}
+use Rattle.rbd_machine.specs.Plan.{Plan, Await, Return}
+use Rattle.rbd_machine.specs.Refused.{refuses_none}
+use Rattle.rbd_machine.specs.Steps.{own, refused, not_there, on_done, find, change, EndsIt}
+use Rattle.rbd_machine.specs.Wait as wait
+use Rattle.rbd_owner.specs.Steps.{lock_drop, released_lock}
+
+-- the commands that it serves
+abbrev pub is_close : Command → Bool
+is_close (command.Close image) = true
+is_close (command.Quiesce image) = true
+is_close (command.Resume image) = true
+is_close (command.Tell image bytes) = true
+is_close _ = false
+
+abbrev pub done : Plan
+done = Return reply.Done
+
+-- ---- operations
+
+-- the instance doesn't watch the image any more
+abbrev pub unwatch : (image : ℕ) → Op
+unwatch image = op.Header image header.Unwatch
+
+-- the watchers are told something
+abbrev pub notify : (image : ℕ) → NoticeKind → Op
+notify image kind = op.Header image (header.Notify kind)
+
+-- they are told what a client has to tell
+abbrev pub custom : (image : ℕ) → (bytes : List ℕ) → Op
+custom image bytes = notify image (notice.Custom bytes)
+
+-- ---- close: the lock is let go, and then the watch
+
+abbrev pub unwatching : SiteId → (image : ℕ) → Plan
+unwatching site image = own site (unwatch image) (on_done done)
+
+-- the watchers are told that the lock was let go
+abbrev pub releasing : SiteId → (image : ℕ) → Plan
+releasing site image = own site (released_lock image) (on_done (unwatching site image))
+
+-- Only a lock that was dropped is told of. Where it was another's, or nobody's, the watch is all that
+-- is left to end.
+abbrev pub on_dropped : SiteId → (image : ℕ) → Answer → Plan
+on_dropped site image answer.Done = releasing site image
+on_dropped site image answer.Changed = unwatching site image
+on_dropped site image a = not_there a
+
+abbrev pub TellsDropped : Answer → Type 0
+TellsDropped answer.Done = Unit {0}
+TellsDropped answer.Changed = Unit {0}
+TellsDropped a = EndsIt a
+
+abbrev pub dropping : SiteId → (image : ℕ) → Plan
+dropping site image = own site (lock_drop image) (on_dropped site image)
+
+-- alone in the image's line, once the requests before it have ended
+abbrev pub holding : SiteId → (image : ℕ) → Plan
+holding site image = Await (wait.Hold site image) (dropping site image)
+
+abbrev pub joining : SiteId → (image : ℕ) → Plan
+joining site image = Await (wait.Join site image true) (holding site image)
+
+abbrev pub close : SiteId → (name : List ℕ) → Plan
+close site name = find site name (joining site)
+
+-- ---- quiesce: a change that ends at its own look, and refuses no header
+
+abbrev pub quiesced : (image : ℕ) → HeaderView → Plan
+quiesced image h = done
+
+abbrev pub quiesce : SiteId → (name : List ℕ) → Plan
+quiesce site name = change site name true refuses_none quiesced
+
+-- ---- resume: the image is found, and that is all
+
+abbrev pub resumed : (image : ℕ) → Plan
+resumed image = done
+
+abbrev pub resume : SiteId → (name : List ℕ) → Plan
+resume site name = find site name resumed
+
+-- ---- tell
+
+abbrev pub saying : SiteId → (bytes : List ℕ) → (image : ℕ) → Plan
+saying site bytes image = own site (custom image bytes) (on_done done)
+
+abbrev pub tell : SiteId → (name bytes : List ℕ) → Plan
+tell site name bytes = find site name (saying site bytes)
+
+-- ---- the plan of a command
+
+abbrev pub close_plan : SiteId → Command → Plan
+close_plan site (command.Close image) = close site image
+close_plan site (command.Quiesce image) = quiesce site image
+close_plan site (command.Resume image) = resume site image
+close_plan site (command.Tell image bytes) = tell site image bytes
+close_plan site _ = refused refusal.NoImage
+
+-- ---- where a request stands
+
+abbrev pub close_at : CloseStage → SiteId → (name : List ℕ) → Plan
+close_at closing.Finding site name = close site name
+close_at (closing.Joining image) site name = joining site image
+close_at (closing.Holding image) site name = holding site image
+close_at (closing.Dropping image) site name = dropping site image
+close_at (closing.Releasing image) site name = releasing site image
+close_at (closing.Unwatching image) site name = unwatching site image
+
+abbrev pub rest_of_close : Close → Plan
+rest_of_close c = close_at c.stage c.site c.name
+
+abbrev pub rest_of_quiesce : Quiesce → Plan
+rest_of_quiesce q = rest_of q.way refuses_none quiesced
+
+abbrev pub rest_of_resume : Resume → Plan
+rest_of_resume r = resume r.site r.name
+
+abbrev pub tell_at : TellStage → SiteId → (name bytes : List ℕ) → Plan
+tell_at telling.Finding site name bytes = tell site name bytes
+tell_at (telling.Saying image) site name bytes = saying site bytes image
+
+abbrev pub rest_of_tell : Tell → Plan
+rest_of_tell t = tell_at t.stage t.site t.name t.bytes
+
+-- what is left of one
+abbrev pub rest_of_request : CloseRequest → Plan
+rest_of_request (request.Close c) = rest_of_close c
+rest_of_request (request.Quiesce q) = rest_of_quiesce q
+rest_of_request (request.Resume r) = rest_of_resume r
+rest_of_request (request.Tell t) = rest_of_tell t

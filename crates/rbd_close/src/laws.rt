@@ -1,0 +1,100 @@
+//! What the plans of requests keep to, and what a close does: laws, each the contract of a function
+//! that does nothing.
+ghost use Rattle.std.specs.Prelude.{◌≡◌, ℕ, Bool, true, false, List, [], ◌∷◌, ◌++◌, None};
+ghost use Rattle.rbd_kinds.specs.declared.answer.Answer.{Answer};
+ghost use Rattle.rbd_kinds.specs.declared.answer.Answer.TheVariants.{Done as DoneSo};
+ghost use Rattle.rbd_kinds.specs.declared.command.Command.{Command};
+ghost use Rattle.rbd_kinds.specs.declared.id.SiteId.{SiteId};
+ghost use Rattle.rbd_kinds.specs.declared.machine.Fed.{Fed};
+ghost use Rattle.rbd_kinds.specs.declared.notice.NoticeKind.{NoticeKind};
+ghost use Rattle.rbd_kinds.specs.declared.notice.NoticeKind.TheVariants.{ReleasedLock};
+ghost use Rattle.rbd_kinds.specs.declared.reply.Reply.{Reply};
+ghost use Rattle.rbd_course.specs.Course.{beginning};
+ghost use Rattle.rbd_course.specs.Orderly.{IsOrderlyFrom};
+ghost use Rattle.rbd_machine.specs.Lawful.{IsLawfulRequest};
+ghost use Rattle.rbd_machine.specs.Path.{Answered, IsBounded, IsWalk};
+ghost use Rattle.rbd_machine.specs.Plan.{Plan, Return, Goto, IsClosed, without_labels};
+ghost use Rattle.rbd_machine.specs.Refused.{AreGiven};
+ghost use Rattle.rbd_owner.specs.Order.{EndsWith};
+ghost use Rattle.rbd_owner.specs.Steps.{lock_drop};
+ghost use Rattle.rbd_owner.specs.Waiting.{owned_by};
+ghost use Rattle.rbd_close.specs.Close.{is_close, close_plan, close, notify, quiesce, resume, tell, unwatch};
+ghost use Rattle.rbd_close.specs.Meaning.{answered, Ends, IsBehindLettingGo, IsDropBehind, IsMeantBy};
+
+/// None of them begins a part again.
+pub fn plans_go_to_no_label()
+    ensures { (home : SiteId) (command : Command) → IsClosed Goto (close_plan home command) }
+{}
+
+/// A `close` has four operations at most, a `quiesce` three, a `resume` one and a `tell` two.
+pub fn plans_are_short()
+    ensures close { (site : SiteId) (image : List ℕ) → IsBounded (close site image) 4 }
+    ensures quiesce { (site : SiteId) (image : List ℕ) → IsBounded (quiesce site image) 3 }
+    ensures resume { (site : SiteId) (image : List ℕ) → IsBounded (resume site image) 1 }
+    ensures tell { (site : SiteId) (image bytes : List ℕ) → IsBounded (tell site image bytes) 2 }
+{}
+
+/// They keep to their line: a `close` and a `quiesce` join it as the first thing behind the answer
+/// of their look-up, and wait there; a `resume` and a `tell` wait for nothing. None takes turns at
+/// objects.
+pub fn requests_are_orderly()
+    ensures { (home : SiteId) (command : Command) → IsOrderlyFrom None true beginning (without_labels (close_plan home command)) }
+{}
+
+/// A `quiesce` and a `resume` are lawful from nothing known: they only look.
+pub fn looks_are_lawful()
+    ensures quiesce { (site : SiteId) (image : List ℕ) → IsLawfulRequest (without_labels (quiesce site image)) }
+    ensures resume { (site : SiteId) (image : List ℕ) → IsLawfulRequest (without_labels (resume site image)) }
+{}
+
+/// What a close does, on each way to its end: where it found its image it drops the lock; it tells
+/// the watchers exactly where that was done; and it lets the watch go behind a drop that was done
+/// and told of, or that was `changed`.
+pub fn closes_let_go()
+    ensures { (site : SiteId) (image : List ℕ) (feds : List Fed) (steps : List Answered) (reply : Reply)
+        → IsWalk Goto (close site image) feds steps (Return reply) → Ends site image steps }
+{}
+
+/// Wherever a close stands or ends, from its drop on the session counts the lock as let go,
+/// whatever the drop was answered. Up to there it counts as before.
+pub fn closes_count_as_released()
+    ensures dropped { (site : SiteId) (name : List ℕ) (owned : Bool) (feds : List Fed) (before after : List Answered) (image : ℕ) (a : Answer) (last : Plan)
+        → IsWalk Goto (close site name) feds (before ++ answered site (lock_drop image) a ∷ after) last
+        → owned_by owned (before ++ answered site (lock_drop image) a ∷ after) ≡ false }
+    ensures found { (site : SiteId) (name : List ℕ) (owned : Bool) (feds : List Fed) (first : Answered) (last : Plan)
+        → IsWalk Goto (close site name) feds (first ∷ []) last → owned_by owned (first ∷ []) ≡ owned }
+    ensures second { (site : SiteId) (name : List ℕ) (feds : List Fed) (first second : Answered) (more : List Answered) (last : Plan)
+        → IsWalk Goto (close site name) feds (first ∷ second ∷ more) last → IsDropBehind site name first second }
+{}
+
+/// Wherever a close stands or ends, it has told nothing but that the lock was let go, directly
+/// behind a drop that was done; and it has let the watch go only directly behind that notice, once
+/// it was done, or behind a drop that was `changed`.
+pub fn closes_are_in_order()
+    ensures told { (site : SiteId) (name : List ℕ) (feds : List Fed) (before after : List Answered) (image : ℕ) (kind : NoticeKind) (a : Answer) (last : Plan)
+        → IsWalk Goto (close site name) feds (before ++ answered site (notify image kind) a ∷ after) last
+        → (kind ≡ ReleasedLock) × EndsWith (answered site (lock_drop image) DoneSo) before }
+    ensures unwatched { (site : SiteId) (name : List ℕ) (feds : List Fed) (before after : List Answered) (image : ℕ) (a : Answer) (last : Plan)
+        → IsWalk Goto (close site name) feds (before ++ answered site (unwatch image) a ∷ after) last
+        → IsBehindLettingGo site image before }
+{}
+
+/// A `quiesce`, a `resume` and a `tell` neither take a lock nor drop one by an operation of their
+/// own: wherever one stands or ends, the lock counts as before.
+pub fn others_leave_the_lock()
+    ensures quiesce { (site : SiteId) (name : List ℕ) (owned : Bool) (feds : List Fed) (steps : List Answered) (last : Plan)
+        → IsWalk Goto (quiesce site name) feds steps last → owned_by owned steps ≡ owned }
+    ensures resume { (site : SiteId) (name : List ℕ) (owned : Bool) (feds : List Fed) (steps : List Answered) (last : Plan)
+        → IsWalk Goto (resume site name) feds steps last → owned_by owned steps ≡ owned }
+    ensures tell { (site : SiteId) (name bytes : List ℕ) (owned : Bool) (feds : List Fed) (steps : List Answered) (last : Plan)
+        → IsWalk Goto (tell site name bytes) feds steps last → owned_by owned steps ≡ owned }
+{}
+
+/// A reply is meant by its command, behind the operations that were done, where each answer is one
+/// that its operation can give: it was done when a request isn't refused, and when it is, the last
+/// answer refused it, and none before. A `close` may be refused behind its drop, the others only
+/// where they changed nothing. No other reply comes.
+pub fn replies_are_meant()
+    ensures { (site : SiteId) (command : Command) (feds : List Fed) (steps : List Answered) (reply : Reply) → is_close command ≡ true → AreGiven steps
+        → IsWalk Goto (close_plan site command) feds steps (Return reply) → IsMeantBy site command steps reply }
+{}

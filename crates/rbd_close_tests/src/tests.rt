@@ -1,0 +1,4 @@
+mod drive;
+mod ends;
+mod site;
+mod ways;
