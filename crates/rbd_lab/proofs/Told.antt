@@ -3,21 +3,24 @@ use Rattle.std.proofs.Common.{◌≡◌, ℕ, List, ap, ◌∙◌}
 use Rattle.rbd_flat.specs.declared.entry.Entry.{Entry}
 use Rattle.rbd_kinds.specs.declared.id.SiteId.TheVariants.{A, B}
 use Rattle.rbd_replies.proofs.Worlds.{told_in_world}
+use Rattle.rbd_schedule.specs.InOrder.{AreInOrder}
 use Rattle.rbd_schedule.specs.Playing.{IsPlay, IsPlayable}
 use Rattle.rbd_schedule.proofs.Answered.{plays_end}
+use Rattle.rbd_schedule.proofs.Turns.{play_takes_turns}
 use Rattle.rbd_script.specs.declared.script.Script.{Script}
 use Rattle.rbd_site.specs.declared.done.Done.{Done}
 use Rattle.rbd_world.specs.World.{WorldView, site_in}
 use Rattle.rbd_lab.specs.Output.{IsTold, Requests, stands, told_text}
 use Rattle.rbd_lab.specs.declared.mode.Mode.{Mode}
 
-pub told : (mode : Mode) (script : Script) (w : WorldView Requests) → IsPlayable script → IsPlay stands script w
+pub told : (mode : Mode) (script : Script) (w : WorldView Requests) → IsPlayable script → AreInOrder script.lines → IsPlay stands script w
     → (history : List Entry) (a b : List Done) → history ≡ w.history → a ≡ (site_in A w.sites).log → b ≡ (site_in B w.sites).log
     → (text : List ℕ) → text ≡ told_text mode script history a b → IsTold mode script text
-told mode script w playable play history a b of_history of_a of_b text is = record {
+told mode script w playable in_order play history a b of_history of_a of_b text is = record {
   world = w;
   play = play;
   replies = told_in_world stands w play.sound;
+  turns = play_takes_turns stands script w play in_order;
   ends = plays_end stands script w play playable;
   tells =
       is

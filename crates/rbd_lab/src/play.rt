@@ -1,6 +1,7 @@
 //! Plays a script, and tells the play.
 ghost use Rattle.std.specs.Prelude.{◌≡◌, IfOk};
 ghost use Rattle.rbd_text.specs.Text.{AreShown};
+ghost use Rattle.rbd_schedule.specs.InOrder.{AreInOrder};
 ghost use Rattle.rbd_schedule.specs.Playing.{IsPlayable};
 ghost use Rattle.rbd_lab.specs.Output.{told_text, IsTold};
 
@@ -15,9 +16,10 @@ use rbd_text::{replies, trace};
 use rbd_world::World;
 use std::alloc::Global;
 
-/// What is printed of a script of built forms.
+/// What is printed of a script of built forms, whose lines are in order.
 pub fn output(alloc: Global, mode: Mode, script: &Script) -> Result<Vec<u8>, NoMemory>
-    requires { IsPlayable script.now }
+    requires playable { IsPlayable script.now }
+    requires in_order { AreInOrder script.now.lines }
     ensures { IfOk result (λ text. IsTold mode script.now text.items) }
 {
     // (no machine is brought, so any type may stand where its type would)

@@ -2,6 +2,7 @@
 ghost use Rattle.std.specs.Prelude.{◌≡◌, None, Ok, Err, IfOk, IfErr};
 ghost use Rattle.rbd_script.specs.Fault.{AtLine};
 ghost use Rattle.rbd_known.specs.Calm.{is_change as changes_image};
+ghost use Rattle.rbd_schedule.specs.InOrder.{AreInOrder};
 ghost use Rattle.rbd_schedule.specs.Playing.{IsPlayable};
 ghost use Rattle.rbd_lab.specs.Script as told;
 
@@ -16,6 +17,7 @@ use std::alloc::Global;
 pub fn judged(alloc: Global, bytes: &[u8]) -> Result<Script, ScriptFault>
     ensures script { IfOk result (λ script. told.judged bytes.now ≡ Ok script) }
     ensures built { IfOk result IsPlayable }
+    ensures in_order { IfOk result (λ script. AreInOrder script.lines) }
     ensures fault { IfErr result (AtLine (λ fault. told.judged bytes.now ≡ Err fault)) }
 {
     let script = read(alloc, bytes, false)?;

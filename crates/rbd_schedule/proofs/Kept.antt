@@ -1,6 +1,8 @@
--- What each step keeps, a play keeps.
-use Rattle.std.proofs.Common.{◌≡◌, ℕ, zero, suc, ◌+◌, Bool, true, false, List, length, take, refl, sym, subst}
+-- What each poll, each step of the store and each start keeps, a play keeps.
+use Rattle.std.proofs.Common.{◌≡◌, ℕ, zero, suc, ◌+◌, Bool, true, false, List, [], ◌++◌, length, take, drop, take-append-drop, append-nil, sym, subst}
+use Rattle.rbd_kinds.specs.declared.id.SiteId.{SiteId}
 use Rattle.rbd_machine.specs.Plan.{Standing}
+use Rattle.rbd_script.specs.declared.script.Line.{Line}
 use Rattle.rbd_script.specs.declared.script.Said.{Said}
 use Rattle.rbd_script.specs.declared.script.Said.TheVariants as said
 use Rattle.rbd_script.specs.declared.script.Script.{Script}
@@ -12,7 +14,7 @@ use Rattle.rbd_world.specs.World.{WorldView}
 use Rattle.rbd_schedule.specs.declared.given.Given.{Given}
 use Rattle.rbd_schedule.specs.Deeds.{Deeds}
 use Rattle.rbd_schedule.specs.Given.{commands_of, given_in}
-use Rattle.rbd_schedule.specs.Schedule.{Calm, Comes, Pace, Plays, PlaysLine, PlaysScript, Polls, PollsBefore, PollsIn, PollsUntil, PollsWhere, Round, RoundsOn, Settles, Starts, StartsAll, Turn, closing_rounds, is_held}
+use Rattle.rbd_schedule.specs.Schedule.{Calm, Comes, Pace, Plays, PlaysLine, PlaysScript, Polls, PollsBefore, PollsIn, PollsWhere, Round, RoundsOn, Settles, Starts, StartsAll, Submits, Turn, closing_rounds, is_held}
 
 -- what each of the deeds keeps, all keep
 pub kept_by_deeds : {S : Type 0} (P : S → Type 0) (deed : ℕ → S → S → Type 0) → ((k : ℕ) (old new : S) → deed k old new → P old → P new) → (n : ℕ) (old new : S) → Deeds deed n old new → P old → P new
@@ -20,22 +22,28 @@ unfolding Deeds
 kept_by_deeds P deed each zero old new done is = subst P (sym done) is
 kept_by_deeds P deed each (suc n) old new (between, before, it) is = each n between new it (kept_by_deeds P deed each n old between before is)
 
-module _ {R : Type 0} (stands : R → Standing) (P : WorldView R → Type 0) (step : (e : Event) (result : Outcome) (old new : WorldView R) → IsStep stands e old result new → P old → P new) where
-  module _ (given : (session : ℕ) → List Given) where
+-- What each poll, each step of the store and each start keeps.
+module _ {R : Type 0} (stands : R → Standing) (P : WorldView R → Type 0)
+    (poll : (session slot : ℕ) (result : Outcome) (old new : WorldView R) → IsStep stands (event.Poll session slot) old result new → P old → P new)
+    (trim : (s : SiteId) (image object : ℕ) (result : Outcome) (old new : WorldView R) → IsStep stands (event.Trim s image object) old result new → P old → P new) where
+  module _ (given : (session : ℕ) → List Given) (start : (session : ℕ) (old new : WorldView R) → Submits stands given session old new → P old → P new) where
     kept_by_start : (k : ℕ) (old new : WorldView R) → Starts stands given old new → P old → P new
-    kept_by_start k old new starts is = step starts.submits.command.submission starts.submits.result old new starts.submits.step is
+    kept_by_start k old new starts is = start starts.session old new starts.submits is
 
     kept_by_starts : (old new : WorldView R) → StartsAll stands given old new → P old → P new
     kept_by_starts old new starts is = kept_by_deeds P (λ k. Starts stands given) kept_by_start starts.count old new starts.starts is
 
-    kept_by_coming : (e : Event) (result : Outcome) (old new : WorldView R) → Comes stands given e result old new → P old → P new
-    kept_by_coming e result old new comes is = kept_by_starts comes.between new comes.starts (step e result old comes.between comes.step is)
+    kept_by_poll : (session slot : ℕ) (result : Outcome) (old new : WorldView R) → Comes stands given (event.Poll session slot) result old new → P old → P new
+    kept_by_poll session slot result old new comes is = kept_by_starts comes.between new comes.starts (poll session slot result old comes.between comes.step is)
 
-    kept_by_poll : (session slot : ℕ) (old new : WorldView R) → Polls stands given session slot old new → P old → P new
-    kept_by_poll session slot old new polls is = kept_by_coming (event.Poll session slot) polls.result old new polls.comes is
+    kept_by_trim : (s : SiteId) (image object : ℕ) (result : Outcome) (old new : WorldView R) → Comes stands given (event.Trim s image object) result old new → P old → P new
+    kept_by_trim s image object result old new comes is = kept_by_starts comes.between new comes.starts (trim s image object result old comes.between comes.step is)
+
+    kept_by_polls : (session slot : ℕ) (old new : WorldView R) → Polls stands given session slot old new → P old → P new
+    kept_by_polls session slot old new polls is = kept_by_poll session slot polls.result old new polls.comes is
 
     kept_in_round : (session slot : ℕ) (old new : Pace R) → PollsIn stands given session slot old new → P old.world → P new.world
-    kept_in_round session slot old new polls is = kept_by_coming (event.Poll session slot) polls.result old.world new.world polls.comes is
+    kept_in_round session slot old new polls is = kept_by_poll session slot polls.result old.world new.world polls.comes is
 
     kept_where : (held : Bool) (session slot : ℕ) (old new : Pace R) → PollsWhere stands given held session slot old new → P old.world → P new.world
     kept_where true session slot old new polls is = kept_in_round session slot old new polls is
@@ -60,9 +68,9 @@ module _ {R : Type 0} (stands : R → Standing) (P : WorldView R → Type 0) (st
 
     kept_by_line : (sessions : ℕ) (s : Said) (old new : WorldView R) → Plays stands given sessions s old new → P old → P new
     kept_by_line sessions (said.Command session beside command) old new plays is = kept_by_starts old new plays is
-    kept_by_line sessions (said.Poll session slot times) old new plays is = kept_by_deeds P (λ k. Polls stands given session slot) (λ k. kept_by_poll session slot) times old new plays is
+    kept_by_line sessions (said.Poll session slot times) old new plays is = kept_by_deeds P (λ k. Polls stands given session slot) (λ k. kept_by_polls session slot) times old new plays is
     kept_by_line sessions (said.Until session slot kind) old new plays is =
-        kept_by_deeds P (λ k. PollsBefore stands given session slot kind) (λ k a b before. kept_by_poll session slot a b before.polls) plays.count old new plays.polls is
+        kept_by_deeds P (λ k. PollsBefore stands given session slot kind) (λ k a b before. kept_by_polls session slot a b before.polls) plays.count old new plays.polls is
     kept_by_line sessions (said.Settle rounds) old new plays is = kept_by_settle sessions rounds old new plays is
     kept_by_line sessions (said.Deliver number) old new plays is = absurd plays
     kept_by_line sessions (said.Lose number) old new plays is = absurd plays
@@ -70,10 +78,21 @@ module _ {R : Type 0} (stands : R → Standing) (P : WorldView R → Type 0) (st
     kept_by_line sessions (said.Stop session) old new plays is = absurd plays
     kept_by_line sessions (said.Restart session) old new plays is = absurd plays
     kept_by_line sessions (said.Late session slot) old new plays is = absurd plays
-    kept_by_line sessions (said.Trim site image object) old new plays is = kept_by_coming (event.Trim site image object) plays.0 old new plays.1 is
+    kept_by_line sessions (said.Trim site image object) old new plays is = kept_by_trim site image object plays.0 old new plays.1 is
 
-  -- so a play keeps it
-  pub kept_by_play : (script : Script) (old new : WorldView R) → PlaysScript stands script old new → P old → P new
-  kept_by_play script old new plays is =
-      kept_by_settle (given_in script.lines) (length script.sessions) (closing_rounds (length (commands_of script.lines))) plays.between new plays.closing
-      (kept_by_deeds P (PlaysLine stands script) (λ k a b line. kept_by_line (given_in (take (k + 1) script.lines)) (length script.sessions) line.line.said a b line.plays) (length script.lines) old plays.between plays.lines is)
+  -- so a play keeps it, where each start of one of the first lines' commands does
+  pub kept_by_parts : (script : Script)
+      → ((lines more : List Line) → script.lines ≡ lines ++ more → (session : ℕ) (old new : WorldView R) → Submits stands (given_in lines) session old new → P old → P new)
+      → (old new : WorldView R) → PlaysScript stands script old new → P old → P new
+  kept_by_parts script start old new plays is =
+      kept_by_settle (given_in script.lines) (start script.lines [] (sym (append-nil script.lines))) (length script.sessions) (closing_rounds (length (commands_of script.lines))) plays.between new plays.closing
+      (kept_by_deeds P (PlaysLine stands script)
+      (λ k a b line. kept_by_line (given_in (take (k + 1) script.lines)) (start (take (k + 1) script.lines) (drop (k + 1) script.lines) (sym (take-append-drop (k + 1) script.lines))) (length script.sessions) line.line.said a b line.plays)
+      (length script.lines) old plays.between plays.lines is)
+
+-- and what each step keeps, whatever the event
+pub kept_by_play : {R : Type 0} (stands : R → Standing) (P : WorldView R → Type 0) → ((e : Event) (result : Outcome) (old new : WorldView R) → IsStep stands e old result new → P old → P new)
+    → (script : Script) (old new : WorldView R) → PlaysScript stands script old new → P old → P new
+kept_by_play stands P step script old new plays is =
+    kept_by_parts stands P (λ session slot. step (event.Poll session slot)) (λ s image object. step (event.Trim s image object)) script
+    (λ lines more whole session old new submits. step submits.command.submission submits.result old new submits.step) old new plays is

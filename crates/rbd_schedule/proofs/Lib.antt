@@ -13,3 +13,6 @@ pub mod Kept
 pub mod Idle
 pub mod Ended
 pub mod Answered
+pub mod Numbered
+pub mod Before
+pub mod Turns

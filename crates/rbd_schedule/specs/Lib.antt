@@ -1,4 +1,5 @@
 pub mod InOrder
+pub mod InTurn
 pub mod Deeds
 pub mod Ends
 pub mod Given

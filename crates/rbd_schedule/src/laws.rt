@@ -7,8 +7,10 @@ ghost use Rattle.rbd_session.specs.Session.{SessionView, IsSoundSession, held_in
 ghost use Rattle.rbd_session.specs.declared.running.Occupant.{Occupant};
 ghost use Rattle.rbd_world.specs.World.{WorldView};
 ghost use Rattle.rbd_schedule.specs.Ends.{AreAnswered, IsSpent};
+ghost use Rattle.rbd_schedule.specs.Given.{given_in};
 ghost use Rattle.rbd_schedule.specs.Going.{MayGo};
 ghost use Rattle.rbd_schedule.specs.InOrder.{AreDeclared, AreInOrder};
+ghost use Rattle.rbd_schedule.specs.InTurn.{AreInTurn};
 ghost use Rattle.rbd_schedule.specs.Playing.{IsPlay, IsPlayable};
 
 use rbd_course::Request;
@@ -31,4 +33,11 @@ pub fn somebody_goes_on<R: Request>()
 /// played, `2^60` for each command and once more, and never were eight in a row idle.
 pub fn plays_end_with_replies<R: Request>()
     ensures { (script : Script) (w : WorldView R) → IsPlayable script → (play : IsPlay R.stands script w) → AreAnswered script w.history ⊎ IsSpent R.stands script w play }
+{}
+
+/// In each play the commands of a session that wait for each other come one after another: one
+/// without `&` begins when all before it have their replies. The script's lines have to be in
+/// order, as those of each script that was read are: a history tells commands by their lines. Own.
+pub fn commands_take_turns<R: Request>()
+    ensures { (script : Script) (w : WorldView R) → AreInOrder script.lines → IsPlay R.stands script w → (session : ℕ) → AreInTurn (given_in script.lines session) w.history }
 {}

@@ -42,6 +42,7 @@
 //! | `specs/Deeds.antt` | deeds, one after another |
 //! | `specs/Playing.antt` | which scripts are played (`IsPlayable`), and what a play is (`IsPlay`); and what the runner keeps |
 //! | `specs/InOrder.antt` | what holds of the lines of each script that was read |
+//! | `specs/InTurn.antt` | that commands that wait for each other come one after another (`AreInTurn`) |
 //! | `specs/Going.antt` | whether a request of a session may go on (`MayGo`) |
 //! | `specs/Ends.antt` | that each command has its reply at the end (`AreAnswered`), or all closing rounds were played (`IsSpent`) |
 //!
@@ -49,7 +50,8 @@
 //! calls is the event that the rules name behind the calls before it. [`laws`] says of each script
 //! that was read that its lines ascend and name declared sessions; of each session with a request
 //! that one of its requests may go on; and so of each play that at its end each command has its
-//! reply, or all the closing rounds were played.
+//! reply, or all the closing rounds were played. And of each play that a command without `&` begins
+//! when all before it of its session have their replies.
 //!
 //! # Cost
 //!

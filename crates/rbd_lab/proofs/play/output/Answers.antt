@@ -17,5 +17,5 @@ returns c =
     IfOk-weaker c.tell.result
     (λ text. text.items ≡ told_text c.args.mode c.args.script.now c.history.result.now c.operations-a.result.now c.operations-b.result.now)
     (λ text. IsTold c.args.mode c.args.script.now text.items)
-    (λ text. told c.args.mode c.args.script.now c.in_ok-world.world c.requires c.in_ok-world.ensures c.history.result.now c.operations-a.result.now c.operations-b.result.now c.history.ensures c.operations-a.ensures c.operations-b.ensures text.items)
+    (λ text. told c.args.mode c.args.script.now c.in_ok-world.world c.requires.playable c.requires.in_order c.in_ok-world.ensures c.history.result.now c.operations-a.result.now c.operations-b.result.now c.history.ensures c.operations-a.ensures c.operations-b.ensures text.items)
     c.tell.ensures
