@@ -21,6 +21,7 @@ pub struct StdSource<I> {
 }
 
 impl<I: Read> StdSource<I> {
+    /// A source that reads from it. No fault is counted yet.
     pub fn new(reader: I) -> Self
         ensures untold { ⟦<StdSource<I> as Source>⟧.left result ≡ None }
         ensures faults { ⟦<StdSource<I> as Source>⟧.faults result ≡ 0 }
@@ -75,6 +76,7 @@ pub struct StdSink<O> {
 }
 
 impl<O: Write> StdSink<O> {
+    /// A sink that writes to it. No fault is counted yet.
     pub fn new(writer: O) -> Self
         ensures untold { ⟦<StdSink<O> as Sink>⟧.held result ≡ None }
         ensures faults { ⟦<StdSink<O> as Sink>⟧.faults result ≡ 0 }

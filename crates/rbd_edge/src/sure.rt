@@ -59,6 +59,7 @@ impl Source for SureSource {
 pub struct SureSink;
 
 impl SureSink {
+    /// A sink that takes whatever it is given, and tells nothing of it.
     pub fn new() -> Self
         ensures untold { ⟦<SureSink as Sink>⟧.held result ≡ None }
         ensures faults { ⟦<SureSink as Sink>⟧.faults result ≡ 0 }

@@ -30,12 +30,14 @@ impl Model for Snapshot {
 }
 
 impl Snapshot {
+    /// The id by which the snapshot was taken.
     pub fn id(&self) -> SnapId
         ensures { result ≡ self.now.id }
     {
         self.id
     }
 
+    /// The bytes that it keeps: as many as the image had then.
     pub fn bytes(&self) -> &[u8]
         ensures { result.now ≡ self.now.bytes }
     {
@@ -111,6 +113,7 @@ impl Image {
         }
     }
 
+    /// Puts the bytes into the extents, one after another; what lies past the size is left out.
     pub fn paint(&mut self, at: &[Extent], bytes: &[u8])
         ensures { self.new ≡ record self.old { bytes = painted (places_of at.now) bytes.now self.old.bytes } }
     {
@@ -141,18 +144,21 @@ impl Image {
         Ok(())
     }
 
+    /// Takes a snapshot away, where there is one of the id.
     pub fn drop_snapshot(&mut self, snap: SnapId)
         ensures { self.new ≡ record self.old { snaps = filter (λ s. not (s.id == snap)) self.old.snaps } }
     {
         self.snaps.retain(|s| s.id() != snap);
     }
 
+    /// Gives a snapshot a status, where there is one of the id.
     pub fn mark_snapshot(&mut self, snap: SnapId, status: SnapStatus)
         ensures { self.new ≡ record self.old { snaps = map (with_status snap status) self.old.snaps } }
     {
         mark_snapshots(self.snaps.as_mut_slice(), snap, status);
     }
 
+    /// Gives the image a role.
     pub fn set_role(&mut self, role: Role)
         ensures { self.new ≡ record self.old { role = role } }
     {

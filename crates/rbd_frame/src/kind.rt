@@ -15,6 +15,7 @@ pub enum Kind {
 }
 
 impl Kind {
+    /// The kind that a byte means, or `None` where it means none.
     pub fn from_byte(byte: u8) -> Option<Self>
         ensures { result ≡ kind_at byte }
     {
@@ -30,6 +31,7 @@ impl Kind {
         }
     }
 
+    /// The byte that means the kind.
     pub fn byte(self) -> u8
         ensures { result ≡ byte_of self }
     {

@@ -115,6 +115,7 @@ impl Header {
         self.rest.snap_seq
     }
 
+    /// How often it was changed: each change but one of the lock raises it.
     pub fn generation(&self) -> u64
         ensures { result ≡ self.now.generation }
     {
@@ -234,6 +235,7 @@ impl Header {
         self.rest.generation += 1;
     }
 
+    /// Gives the image a role.
     pub fn set_role(&mut self, role: Role)
         requires { self.old.generation + 1 < 2 ^ 64 }
         ensures { self.new ≡ with_role role self.old }
@@ -313,6 +315,7 @@ fn cut(parent: Option<ParentLink>, size: u64) -> Option<ParentLink>
     }
 }
 
+/// Whether no more snapshots can be: 256 are listed, or no id is left.
 pub fn is_full(view: &HeaderView) -> bool
     ensures { result ≡ is_full view.now }
 {

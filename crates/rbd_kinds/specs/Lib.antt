@@ -1,6 +1,7 @@
 pub mod Answer
 pub mod AnswerForm
 pub mod Command
+pub mod CommandCopy
 pub mod Extents
 pub mod Form
 pub mod Frame

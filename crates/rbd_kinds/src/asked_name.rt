@@ -43,6 +43,7 @@ impl AskedName {
         }
     }
 
+    /// The name, of which it is still known that it may be asked for.
     pub fn as_name(&self) -> &Name
         ensures value { result.now ≡ self.now }
         ensures name { IsAskedName self.now }
@@ -50,6 +51,7 @@ impl AskedName {
         &self.name
     }
 
+    /// Its bytes.
     pub fn as_slice(&self) -> &[u8]
         ensures value { result.now ≡ self.now }
         ensures name { IsAskedName self.now }

@@ -6,7 +6,7 @@ use crate::id::{ImageId, SnapId};
 use crate::operation_kind::OpKind;
 
 /// An operation on a site's list of clones by their parents (Ceph: `rbd_children`).
-#[derive(Clone, Copy, Debug, PartialEq, Eq, Hash)]
+#[derive(Clone, Copy, Debug, PartialEq, Eq)]
 pub enum ChildrenOp {
     Add {
         parent: ImageId,
@@ -26,6 +26,7 @@ pub enum ChildrenOp {
 }
 
 impl ChildrenOp {
+    /// Which operation it is, without its parts.
     pub fn kind(self) -> OpKind
         ensures { result ≡ children_kind self }
     {

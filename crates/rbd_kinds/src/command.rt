@@ -192,6 +192,7 @@ impl Payload {
         }
     }
 
+    /// The bytes, 1 to 65,536 of them.
     pub fn as_slice(&self) -> &[u8]
         ensures value { result.now ≡ self.now }
         ensures range { IsPayload self.now }
@@ -199,6 +200,7 @@ impl Payload {
         self.bytes.as_slice()
     }
 
+    /// The bytes, which copies of them share.
     pub fn as_bytes(&self) -> &Bytes
         ensures { result.now ≡ self.now }
     {

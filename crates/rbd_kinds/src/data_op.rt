@@ -1,6 +1,7 @@
 //! Operations on a data object.
-ghost use Rattle.std.specs.Prelude.{◌≡◌};
+ghost use Rattle.std.specs.Prelude.{◌≡◌, IfOk};
 ghost use Rattle.rbd_kinds.specs.OperationKind.{data_kind};
+ghost use Rattle.rbd_kinds.specs.declared.data_op.DataOp.TheVariants as variant;
 
 use crate::byte_string::Bytes;
 use crate::copies::TryClone;
@@ -53,6 +54,7 @@ pub enum DataOp {
 }
 
 impl DataOp {
+    /// Which operation it is, without its parts.
     pub fn kind(&self) -> OpKind
         ensures { result ≡ data_kind self.now }
     {
@@ -82,44 +84,67 @@ impl DataOp {
 
 impl TryClone for DataOp {
     fn try_clone(&self) -> Result<Self, NoMemory> {
-        Ok(match self {
-            DataOp::Read { snap, parts } => DataOp::Read {
+        match self {
+            DataOp::Read { snap, parts } => Ok(DataOp::Read {
                 snap: *snap,
                 parts: parts.try_clone()?,
-            },
+            }),
             DataOp::Write {
                 context,
                 must,
                 parts,
                 bytes,
-            } => DataOp::Write {
-                context: context.try_clone()?,
-                must: *must,
-                parts: parts.try_clone()?,
-                bytes: bytes.try_clone()?,
-            },
-            DataOp::WriteFull { context, bytes } => DataOp::WriteFull {
-                context: context.try_clone()?,
-                bytes: bytes.try_clone()?,
-            },
+            } => copied_write(context, *must, parts, bytes),
+            DataOp::WriteFull { context, bytes } => copied_write_full(context, bytes),
             DataOp::Zero {
                 context,
                 must,
                 parts,
-            } => DataOp::Zero {
+            } => copied_zero(context, *must, parts),
+            DataOp::Empty { context } => Ok(DataOp::Empty {
                 context: context.try_clone()?,
-                must: *must,
-                parts: parts.try_clone()?,
-            },
-            DataOp::Empty { context } => DataOp::Empty {
+            }),
+            DataOp::Remove { context } => Ok(DataOp::Remove {
                 context: context.try_clone()?,
-            },
-            DataOp::Remove { context } => DataOp::Remove {
-                context: context.try_clone()?,
-            },
-            DataOp::CopyUp { bytes } => DataOp::CopyUp {
+            }),
+            DataOp::CopyUp { bytes } => Ok(DataOp::CopyUp {
                 bytes: bytes.try_clone()?,
-            },
-        })
+            }),
+        }
     }
+}
+
+fn copied_write(
+    context: &SnapContext,
+    must: bool,
+    parts: &Parts,
+    bytes: &Bytes,
+) -> Result<DataOp, NoMemory>
+    ensures { IfOk result (λ copy. copy ≡ variant.Write context.now must parts.now bytes.now) }
+{
+    Ok(DataOp::Write {
+        context: context.try_clone()?,
+        must,
+        parts: parts.try_clone()?,
+        bytes: bytes.try_clone()?,
+    })
+}
+
+fn copied_write_full(context: &SnapContext, bytes: &Bytes) -> Result<DataOp, NoMemory>
+    ensures { IfOk result (λ copy. copy ≡ variant.WriteFull context.now bytes.now) }
+{
+    Ok(DataOp::WriteFull {
+        context: context.try_clone()?,
+        bytes: bytes.try_clone()?,
+    })
+}
+
+fn copied_zero(context: &SnapContext, must: bool, parts: &Parts) -> Result<DataOp, NoMemory>
+    ensures { IfOk result (λ copy. copy ≡ variant.Zero context.now must parts.now) }
+{
+    Ok(DataOp::Zero {
+        context: context.try_clone()?,
+        must,
+        parts: parts.try_clone()?,
+    })
 }

@@ -23,6 +23,7 @@ pub enum DirectoryOp {
 }
 
 impl DirectoryOp {
+    /// Which operation it is, without its parts.
     pub fn kind(&self) -> OpKind
         ensures { result ≡ directory_kind self.now }
     {

@@ -43,6 +43,7 @@ pub enum HeaderOp {
 }
 
 impl HeaderOp {
+    /// Which operation it is, without its parts.
     pub fn kind(&self) -> OpKind
         ensures { result ≡ header_kind self.now }
     {

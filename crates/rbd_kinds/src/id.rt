@@ -45,6 +45,7 @@ pub struct Instance {
     pub life: u32,
 }
 
+/// Instances, in an order that their user tells.
 pub type Instances = Sequence<Instance>;
 
 /// An image's id, drawn by its site's directory from 1 upwards and never drawn again.
@@ -59,6 +60,7 @@ impl Model for ImageId {
     ghost inverse = { λ n. record { 0 = n } };
 }
 
+/// Ids of images, in an order that their user tells.
 pub type Ids = Sequence<ImageId>;
 
 /// A snapshot's id, drawn by its image's header from 1 upwards and never drawn again.

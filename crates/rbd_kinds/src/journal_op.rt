@@ -26,6 +26,7 @@ pub enum JournalOp {
 }
 
 impl JournalOp {
+    /// Which operation it is, without its parts.
     pub fn kind(&self) -> OpKind
         ensures { result ≡ journal_kind self.now }
     {

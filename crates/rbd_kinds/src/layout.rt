@@ -45,6 +45,7 @@ pub struct Part {
     pub len: u64,
 }
 
+/// Parts of one object, in the order of the image's bytes.
 pub type Parts = Sequence<Part>;
 
 impl TryClone for Part {

@@ -5,7 +5,7 @@ use crate::operation_kind::OpKind;
 use crate::reply::Reply;
 
 /// What a request wants next.
-#[derive(Clone, Copy, Debug, PartialEq, Eq, Hash)]
+#[derive(Clone, Copy, Debug, PartialEq, Eq)]
 pub enum Want {
     /// An operation at a site.
     Op {

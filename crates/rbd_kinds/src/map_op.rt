@@ -36,6 +36,7 @@ pub enum MapOp {
 }
 
 impl MapOp {
+    /// Which operation it is, without its parts.
     pub fn kind(&self) -> OpKind
         ensures { result ≡ map_kind self.now }
     {

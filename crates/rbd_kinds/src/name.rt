@@ -17,6 +17,7 @@ pub struct Name {
     text: Bytes,
 }
 
+/// Names, in an order that their user tells.
 pub type Names = Sequence<Name>;
 
 impl Model for Name {
@@ -43,6 +44,7 @@ impl Name {
         }
     }
 
+    /// Its bytes, 1 to 64 of them.
     pub fn as_slice(&self) -> &[u8]
         ensures value { result.now ≡ self.now }
         ensures name { IsName self.now }

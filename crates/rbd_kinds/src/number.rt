@@ -35,6 +35,7 @@ impl<const MOST: u64> AtMost<MOST> {
         }
     }
 
+    /// The number.
     pub fn get(self) -> u64
         ensures value { result ≡ self.entry }
         ensures most { result ≤ MOST }

@@ -50,6 +50,7 @@ pub enum Op {
 }
 
 impl Op {
+    /// Which operation it is, without its object and its parts.
     pub fn kind(&self) -> OpKind
         ensures { result ≡ kind_of self.now }
     {

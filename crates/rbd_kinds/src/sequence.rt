@@ -96,6 +96,7 @@ impl<T> Sequence<T> {
         })
     }
 
+    /// The items, in order.
     pub fn as_slice(&self) -> &[T]
         ensures { result.now ≡ self.now }
     {
@@ -105,6 +106,7 @@ impl<T> Sequence<T> {
         }
     }
 
+    /// How many items there are.
     pub fn len(&self) -> usize
         ensures { result ≡ length self.now }
     {
@@ -114,6 +116,7 @@ impl<T> Sequence<T> {
         }
     }
 
+    /// Whether there is none.
     pub fn is_empty(&self) -> bool
         ensures { IsTrue result ↔ (self.now ≡ []) }
     {

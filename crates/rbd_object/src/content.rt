@@ -44,6 +44,7 @@ impl Content {
         }
     }
 
+    /// How many bytes it has.
     pub fn len(&self) -> usize
         ensures { result ≡ self.now.len }
     {

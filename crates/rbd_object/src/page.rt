@@ -44,6 +44,7 @@ impl Page {
         }
     }
 
+    /// How many entries name it.
     pub fn count(&self) -> u32
         ensures { result ≡ self.now.count }
     {

@@ -73,6 +73,7 @@ pub fn copy_window(bytes: &[u8], at: usize, into: &mut [u8])
     past.fill(0);
 }
 
+/// Puts the new bytes over those from `at` on.
 pub fn copy_over(bytes: &mut [u8], at: usize, new: &[u8])
     requires { at + length new.now ≤ length bytes.old }
     ensures { bytes.new ≡ overwritten bytes.old at new.now }

@@ -41,6 +41,7 @@ impl Sheaf {
         }
     }
 
+    /// How many contents name it.
     pub fn count(&self) -> u32
         ensures { result ≡ self.now.count }
     {

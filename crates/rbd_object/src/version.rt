@@ -23,18 +23,21 @@ impl Model for Version {
 }
 
 impl Version {
+    /// A content that is kept for these snapshots.
     pub fn new(snaps: Vec<SnapId>, content: Content) -> Self
         ensures { result ≡ record { snaps = snaps.items; content = content } }
     {
         Version { snaps, content }
     }
 
+    /// Whether a snapshot shows it.
     pub fn is_for(&self, snap: SnapId) -> bool
         ensures { result ≡ is_listed self.now.snaps snap }
     {
         self.snaps.contains(&snap)
     }
 
+    /// What these snapshots show.
     pub fn content(&self) -> &Content
         ensures { result.now ≡ self.now.content }
     {

@@ -19,6 +19,7 @@ pub struct Declared {
     pub home: SiteId,
 }
 
+/// The sessions of a script, in the order of their declaration.
 pub type Sessions = Growing<Declared>;
 
 /// One line of a script, by its number from 1.
@@ -28,6 +29,7 @@ pub struct Line {
     pub said: Said,
 }
 
+/// The lines of a script that ask for something, in order.
 pub type Lines = Growing<Line>;
 
 /// What a line says.

@@ -30,6 +30,7 @@ pub struct Tokens<'a> {
 }
 
 impl<'a> Tokens<'a> {
+    /// The tokens of a line, none of them taken yet.
     pub fn new(alloc: Global, line: &'a [u8]) -> Self
         ensures { result.rest.now ≡ line.now }
     {

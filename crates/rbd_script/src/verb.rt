@@ -8,6 +8,7 @@ use crate::fault::{PartFault, known};
 use crate::word::is;
 use rbd_kinds::{AskedName, Command};
 
+/// The first word of a command.
 #[derive(Clone, Copy, Debug)]
 pub enum Verb {
     Create,
@@ -83,6 +84,7 @@ impl Verb {
         }
     }
 
+    /// The verb that a token spells. Any other token is an unknown word.
     #[tactic(auto, unfolding(crate::specs::Word::verb_of))]
     pub fn of(token: &[u8]) -> Result<Verb, PartFault>
         ensures { Gives result (verb_of token.now) }

@@ -9,6 +9,7 @@ use crate::image::Image;
 use rbd_kinds::{Bytes, ImageId, Name, NoMemory, Role, SnapId, SnapStatus};
 
 impl FlatSite {
+    /// Adds an image of zeros, of a size in bytes.
     pub fn create(&mut self, image: ImageId, size: u64, role: Role) -> Result<(), NoMemory>
         ensures ok { OnOk result (self.new ≡ after self.old (effect.Create image size role)) }
         ensures err { OnErr result (self.new ≡ self.old) }
@@ -18,6 +19,7 @@ impl FlatSite {
         Ok(())
     }
 
+    /// Adds an image with the bytes of a parent's snapshot, where that is there.
     pub fn copy_of_snapshot(
         &mut self,
         image: ImageId,
@@ -38,6 +40,7 @@ impl FlatSite {
         Ok(())
     }
 
+    /// Puts the bytes into the extents of an image.
     pub fn paint(&mut self, image: ImageId, at: &Extents, bytes: &Bytes)
         ensures { self.new ≡ after self.old (effect.Piece image at.now bytes.now) }
     {
@@ -47,6 +50,7 @@ impl FlatSite {
         found.paint(at.as_slice(), bytes.as_slice());
     }
 
+    /// Puts zeros into the extents of an image.
     pub fn blank(&mut self, image: ImageId, at: &Extents)
         ensures { self.new ≡ after self.old (effect.Zero image at.now) }
     {
@@ -56,6 +60,7 @@ impl FlatSite {
         found.paint(at.as_slice(), &[]);
     }
 
+    /// Cuts an image to a size in bytes, or lengthens it by zeros.
     pub fn resize(&mut self, image: ImageId, size: u64) -> Result<(), NoMemory>
         ensures ok { OnOk result (self.new ≡ after self.old (effect.Size image size)) }
         ensures err { OnErr result (self.new ≡ self.old) }
@@ -67,6 +72,7 @@ impl FlatSite {
         Ok(())
     }
 
+    /// Adds a copy of an image's bytes as its newest snapshot, unprotected.
     pub fn take_snapshot(
         &mut self,
         image: ImageId,
@@ -83,6 +89,7 @@ impl FlatSite {
         Ok(())
     }
 
+    /// Takes a snapshot of an image away.
     pub fn drop_snapshot(&mut self, image: ImageId, snap: SnapId)
         ensures { self.new ≡ after self.old (effect.Unsnap image snap) }
     {
@@ -92,6 +99,7 @@ impl FlatSite {
         found.drop_snapshot(snap);
     }
 
+    /// Gives a snapshot of an image a status.
     pub fn mark_snapshot(&mut self, image: ImageId, snap: SnapId, status: SnapStatus)
         ensures { self.new ≡ after self.old (effect.Status image snap status) }
     {
@@ -101,6 +109,7 @@ impl FlatSite {
         found.mark_snapshot(snap, status);
     }
 
+    /// Gives an image a role.
     pub fn set_role(&mut self, image: ImageId, role: Role)
         ensures { self.new ≡ after self.old (effect.Role image role) }
     {
@@ -110,6 +119,7 @@ impl FlatSite {
         found.set_role(role);
     }
 
+    /// Takes an image away, with its snapshots.
     pub fn remove(&mut self, image: ImageId)
         ensures { self.new ≡ after self.old (effect.Gone image) }
     {

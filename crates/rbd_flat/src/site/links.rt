@@ -8,6 +8,7 @@ use super::link::Link;
 use rbd_kinds::{ImageId, NoMemory, SnapId};
 
 impl FlatSite {
+    /// Adds a child of a parent's snapshot.
     pub fn link(&mut self, parent: ImageId, snap: SnapId, child: ImageId) -> Result<(), NoMemory>
         ensures ok { OnOk result (self.new ≡ after self.old (effect.Link parent snap child)) }
         ensures err { OnErr result (self.new ≡ self.old) }
@@ -21,6 +22,7 @@ impl FlatSite {
         Ok(())
     }
 
+    /// Takes a child of a parent's snapshot away.
     pub fn unlink(&mut self, parent: ImageId, snap: SnapId, child: ImageId)
         ensures { self.new ≡ after self.old (effect.Unlink parent snap child) }
     {

@@ -7,6 +7,7 @@ use super::FlatSite;
 use rbd_kinds::{ImageId, Name, NoMemory, TryClone};
 
 impl FlatSite {
+    /// Gives an image's id a name.
     pub fn add_name(&mut self, name: &Name, image: ImageId) -> Result<(), NoMemory>
         ensures ok { OnOk result (self.new ≡ after self.old (effect.Name name.now image)) }
         ensures err { OnErr result (self.new ≡ self.old) }
@@ -15,6 +16,7 @@ impl FlatSite {
         Ok(())
     }
 
+    /// Takes the name of an image away.
     pub fn free_name(&mut self, image: ImageId)
         ensures { self.new ≡ after self.old (effect.NameFree image) }
     {
