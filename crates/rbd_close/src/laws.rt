@@ -41,10 +41,10 @@ pub fn requests_are_orderly()
     ensures { (home : SiteId) (command : Command) → IsOrderlyFrom None true beginning (without_labels (close_plan home command)) }
 {}
 
-/// A `quiesce` and a `resume` are lawful from nothing known: they only look.
-pub fn looks_are_lawful()
-    ensures quiesce { (site : SiteId) (image : List ℕ) → IsLawfulRequest (without_labels (quiesce site image)) }
-    ensures resume { (site : SiteId) (image : List ℕ) → IsLawfulRequest (without_labels (resume site image)) }
+/// They are lawful from nothing known. So a close drops a lock only where it waited for it, alone,
+/// and looked at no header behind it.
+pub fn requests_are_lawful()
+    ensures { (home : SiteId) (command : Command) → IsLawfulRequest (without_labels (close_plan home command)) }
 {}
 
 /// What a close does, on each way to its end: where it found its image it drops the lock; it tells

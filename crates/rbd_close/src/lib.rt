@@ -64,11 +64,11 @@
 //!
 //! A request that is made has the plan of its command left, and each of its calls keeps to it
 //! ([`Machine`](rbd_machine::Machine)). [`laws`] says how many operations each plan has at most,
-//! that none begins a part again, that each keeps to its line (`rbd_course`), that a `quiesce` and
-//! a `resume` are lawful from nothing known (`rbd_machine`), and what each reply means. Of a close it
-//! says, on every path: that its lock counts as let go from its drop on, that it tells of a drop
-//! exactly where that was done, and that its watch ends behind a drop that was done and told of, or
-//! that was `changed`. The others neither take a lock nor drop one by an operation of their own.
+//! that none begins a part again, that each keeps to its line (`rbd_course`), that each is lawful
+//! from nothing known (`rbd_machine`), and what each reply means. Of a close it says, on every
+//! path: that its lock counts as let go from its drop on, that it tells of a drop exactly where
+//! that was done, and that its watch ends behind a drop that was done and told of, or that was
+//! `changed`. The others neither take a lock nor drop one by an operation of their own.
 //!
 //! # Cost
 //!

@@ -14,13 +14,14 @@ use Rattle.rbd_kinds.specs.declared.directory_op.DirectoryOp.TheVariants as dire
 use Rattle.rbd_kinds.specs.declared.header.HeaderView.{HeaderView}
 use Rattle.rbd_kinds.specs.declared.header_op.HeaderOp.{HeaderOp}
 use Rattle.rbd_kinds.specs.declared.header_op.HeaderOp.TheVariants as header
+use Rattle.rbd_kinds.specs.declared.id.Instance.{Instance}
 use Rattle.rbd_kinds.specs.declared.id.SiteId.{SiteId}
 use Rattle.rbd_kinds.specs.declared.layout.Extent.{Extent}
 use Rattle.rbd_kinds.specs.declared.operation.Op.{Op}
 use Rattle.rbd_kinds.specs.declared.operation.Op.TheVariants as op
 use Rattle.rbd_header.specs.Header.{with_snap, without_snap}
 use Rattle.rbd_line.specs.Line.{is_past}
-use Rattle.rbd_machine.specs.Knowledge.{Knowledge, Own, own_of, is_at, told_of, with_header, header_told, first_told, learned, learned_of_directory, learned_of_header, passed, held, left}
+use Rattle.rbd_machine.specs.Knowledge.{Knowledge, Own, own_of, is_at, told_of, with_header, header_told, first_told, learned, learned_of_directory, learned_of_header, learned_of_listing, passed, held, left}
 use Rattle.rbd_machine.specs.Wait.{Wait}
 use Rattle.rbd_machine.specs.Wait as wait
 use Rattle.rbd_session.proofs.Sound.{no_some, some_same}
@@ -142,6 +143,9 @@ module _ (e : Option Extent) (k : Knowledge) (c : Course) (t : IsTied k c) where
   header_tied s i (header.Create view) _ = t
   header_tied s i (header.SnapAdd name) _ = t
   header_tied s i (header.SnapRemove snap) _ = t
+  header_tied s i (header.LockBreak owner) answer.Done = record { owns = t.owns; alone = t.alone }
+  header_tied s i (header.LockBreak owner) answer.Changed = record { owns = t.owns; alone = t.alone }
+  header_tied s i (header.LockBreak owner) _ = t
   header_tied s i _ a = t
 
   directory_tied : (s : SiteId) (o : DirectoryOp) (a : Answer) → IsTied (learned_of_directory k s o a) c
@@ -149,9 +153,14 @@ module _ (e : Option Extent) (k : Knowledge) (c : Course) (t : IsTied k c) where
   directory_tied s (directory.Add name) _ = t
   directory_tied s _ a = t
 
+  listing_tied : (s : SiteId) (i : Instance) (a : Answer) → IsTied (learned_of_listing k s i a) c
+  listing_tied s i answer.Done = record { owns = t.owns; alone = t.alone }
+  listing_tied s i _ = t
+
   pub answered_tied : (s : SiteId) (o : Op) (a : Answer) → IsTied (learned k s o a) (answered e c s o a)
   answered_tied s (op.Directory o) a = directory_tied s o a
   answered_tied s (op.Header i o) a = header_tied s i o a
+  answered_tied s (op.BlockAdd i) a = listing_tied s i a
   answered_tied s _ a = t
 
 -- ---- waits

@@ -1,4 +1,5 @@
 -- Waits make nothing known that is false, or that another one may not know beside.
+use Rattle.rbd_kinds.specs.declared.id.Instance.{Instance}
 use Rattle.rbd_kinds.specs.declared.id.SiteId.{SiteId}
 use Rattle.rbd_machine.specs.Knowledge.{Knowledge, passed}
 use Rattle.rbd_machine.specs.Plan.{Plan, Ask, Await, Note, Return, Goto}
@@ -9,12 +10,12 @@ use Rattle.rbd_rely.proofs.Together.{waited_beside}
 use Rattle.rbd_site.specs.Records.{Records}
 use Rattle.rbd_known.specs.Knowing.{known_at_operation}
 
-pub still_true : (site : SiteId) (r : Records) (plan : Plan) (k : Knowledge) → IsTrueAt site r k → IsTrueAt site r (known_at_operation k plan)
-still_true site r (Ask there why op next) k t = t
-still_true site r (Await w next) k t = still_true site r next (passed k w) (waits_learned site r k w t)
-still_true site r (Note there image event next) k t = still_true site r next k t
-still_true site r (Return reply) k t = t
-still_true site r (Goto label) k t = t
+pub still_true : (site : SiteId) (r : Records) (me : Instance) (plan : Plan) (k : Knowledge) → IsTrueAt site r me k → IsTrueAt site r me (known_at_operation k plan)
+still_true site r me (Ask there why op next) k t = t
+still_true site r me (Await w next) k t = still_true site r me next (passed k w) (waits_learned site r me k w t)
+still_true site r me (Note there image event next) k t = still_true site r me next k t
+still_true site r me (Return reply) k t = t
+still_true site r me (Goto label) k t = t
 
 pub still_beside : (site : SiteId) (j : Knowledge) (plan : Plan) (k : Knowledge) → AreBeside site k j → AreBeside site (known_at_operation k plan) j
 still_beside site j (Ask there why op next) k beside = beside

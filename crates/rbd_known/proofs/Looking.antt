@@ -15,7 +15,7 @@ use Rattle.rbd_line.proofs.Fair.{passed_fair}
 use Rattle.rbd_line.proofs.Passing.{alone_past, found_at, own_changed, others_changed, passed_is_steady}
 use Rattle.rbd_machine.specs.Knowledge.{Knowledge, Own, own_of}
 use Rattle.rbd_machine.specs.Plan.{Standing}
-use Rattle.rbd_rely.specs.Beside.{AreShared, MayLook, is_own_alone}
+use Rattle.rbd_rely.specs.Beside.{MayLook, SharesLock, is_own_alone}
 use Rattle.rbd_rely.specs.Truth.{header_of_own}
 use Rattle.rbd_rely.proofs.Learned.{place_of}
 use Rattle.rbd_session.specs.declared.running.Running.{Running}
@@ -147,12 +147,13 @@ module _ {R : Type 0} (stands : R → Standing) (s : SessionView R) (knows : ℕ
     header_shared (Some o) None is that some told = absurd (true≢false (sym told))
     header_shared (Some o) (Some p) is that some told = owners_shared o p is that told
 
-    get_shared : IsSome (own_of (knows slot).owns site image) → IsSome (header_of_own (own_of (knows other).owns site image)) → AreShared site image (knows slot) (knows other)
-    get_shared some told =
+    lock_shared : SharesLock site image (knows slot) (knows other)
+    lock_shared some told =
         let shared = header_shared (own_of (knows slot).owns site image) (own_of (knows other).owns site image) refl refl some told in
         record { one = shared.0; other = shared.1 }
 
   pub may_look : (slot other : ℕ) (r : Running R) (site : SiteId) (o : Op) → slot ≢ other → running_at slot s ≡ Some r → waits slot (track_of r s.lines) ≡ false
       → MayLook site (knows slot) (knows other) o
-  may_look slot other r site (op.Header image header.Get) differ runs goes = get_shared slot other differ r runs goes site image
+  may_look slot other r site (op.Header image header.Get) differ runs goes = lock_shared slot other differ r runs goes site image
+  may_look slot other r site (op.Header image header.LockDrop) differ runs goes = lock_shared slot other differ r runs goes site image
   may_look slot other r site _ differ runs goes = tt

@@ -9,6 +9,7 @@ use Rattle.rbd_kinds.specs.declared.directory_op.DirectoryOp.TheVariants as dire
 use Rattle.rbd_kinds.specs.declared.header.HeaderView.{HeaderView}
 use Rattle.rbd_kinds.specs.declared.header_op.HeaderOp.{HeaderOp}
 use Rattle.rbd_kinds.specs.declared.header_op.HeaderOp.TheVariants as header
+use Rattle.rbd_kinds.specs.declared.id.Instance.{Instance}
 use Rattle.rbd_kinds.specs.declared.id.SiteId.{SiteId}
 use Rattle.rbd_kinds.specs.declared.machine.Fed.{Fed}
 use Rattle.rbd_kinds.specs.declared.machine.Fed.TheVariants as fed
@@ -16,11 +17,11 @@ use Rattle.rbd_kinds.specs.declared.operation.Op.{Op}
 use Rattle.rbd_kinds.specs.declared.operation.Op.TheVariants as op
 use Rattle.rbd_header.specs.Header.{with_snap, without_snap}
 use Rattle.rbd_machine.specs.Answers.{CanBeFed}
-use Rattle.rbd_machine.specs.Knowledge.{Knowledge, is_drawn, told_of, header_told, first_told, learned, learned_of_directory, learned_of_header}
+use Rattle.rbd_machine.specs.Knowledge.{Knowledge, is_drawn, told_of, header_told, first_told, learned, learned_of_directory, learned_of_header, learned_of_listing}
 use Rattle.rbd_machine.specs.Label.{Label}
 use Rattle.rbd_machine.specs.Path.{at_operation}
 use Rattle.rbd_machine.specs.Plan.{Plan, Ask, Await, Note, Return, Goto, plan_after}
-use Rattle.rbd_rely.specs.Beside.{AreBeside, MayLook}
+use Rattle.rbd_rely.specs.Beside.{AreBeside, MayLook, SharesLock}
 use Rattle.rbd_rely.specs.Truth.{header_of_own}
 use Rattle.rbd_known.specs.Calm.{IsCalm, OwnsNothing}
 use Rattle.rbd_known.specs.Knowing.{known_at_operation, known_behind}
@@ -39,6 +40,9 @@ module _ (k : Knowledge) (none : OwnsNothing k) where
   header_nothing s i (header.Create view) _ = none
   header_nothing s i (header.SnapAdd name) _ = none
   header_nothing s i (header.SnapRemove snap) _ = none
+  header_nothing s i (header.LockBreak owner) answer.Done = none
+  header_nothing s i (header.LockBreak owner) answer.Changed = none
+  header_nothing s i (header.LockBreak owner) _ = none
   header_nothing s i _ a = none
 
   directory_nothing : (s : SiteId) (o : DirectoryOp) (a : Answer) → OwnsNothing (learned_of_directory k s o a)
@@ -46,9 +50,14 @@ module _ (k : Knowledge) (none : OwnsNothing k) where
   directory_nothing s (directory.Add name) _ = none
   directory_nothing s _ a = none
 
+  listing_nothing : (s : SiteId) (i : Instance) (a : Answer) → OwnsNothing (learned_of_listing k s i a)
+  listing_nothing s i answer.Done = none
+  listing_nothing s i _ = none
+
   learned_nothing : (s : SiteId) (o : Op) (a : Answer) → OwnsNothing (learned k s o a)
   learned_nothing s (op.Directory o) a = directory_nothing s o a
   learned_nothing s (op.Header i o) a = header_nothing s i o a
+  learned_nothing s (op.BlockAdd i) a = listing_nothing s i a
   learned_nothing s _ a = none
 
 -- no wait stands before its next operation
@@ -91,10 +100,18 @@ calm_beside site k j none apart = record {
   apart = apart;
 }
 
+calm_shares : (site : SiteId) (k j : Knowledge) (image : ℕ) → OwnsNothing k → SharesLock site image k j
+calm_shares site k j image none = λ some told. absurd (true≢false (sym some ∙ ap is_some (none site image)))
+
 pub calm_looks : (site : SiteId) (k j : Knowledge) (o : Op) → OwnsNothing k → MayLook site k j o
-calm_looks site k j (op.Header image header.Get) none = λ some told. absurd (true≢false (sym some ∙ ap is_some (none site image)))
+calm_looks site k j (op.Header image header.Get) none = calm_shares site k j image none
+calm_looks site k j (op.Header image header.LockDrop) none = calm_shares site k j image none
 calm_looks site k j _ none = tt
 
+shares_with_calm : (site : SiteId) (k j : Knowledge) (image : ℕ) → OwnsNothing j → SharesLock site image k j
+shares_with_calm site k j image none = λ some told. absurd (true≢false (sym told ∙ ap (λ q. is_some (header_of_own q)) (none site image)))
+
 pub looked_beside_calm : (site : SiteId) (k j : Knowledge) (o : Op) → OwnsNothing j → MayLook site k j o
-looked_beside_calm site k j (op.Header image header.Get) none = λ some told. absurd (true≢false (sym told ∙ ap (λ q. is_some (header_of_own q)) (none site image)))
+looked_beside_calm site k j (op.Header image header.Get) none = shares_with_calm site k j image none
+looked_beside_calm site k j (op.Header image header.LockDrop) none = shares_with_calm site k j image none
 looked_beside_calm site k j _ none = tt

@@ -3,6 +3,7 @@
 ghost use Rattle.std.specs.Prelude.{◌≡◌, ◌≢◌, ℕ, false, true, Some, Option};
 ghost use Rattle.rbd_kinds.specs.declared.answer.Answer.{Answer};
 ghost use Rattle.rbd_kinds.specs.declared.command.Command.{Command};
+ghost use Rattle.rbd_kinds.specs.declared.id.Instance.{Instance};
 ghost use Rattle.rbd_kinds.specs.declared.id.SiteId.{SiteId as Site};
 ghost use Rattle.rbd_kinds.specs.declared.machine.Fed.{Fed};
 ghost use Rattle.rbd_kinds.specs.declared.operation.Op.{Op};
@@ -52,8 +53,8 @@ pub fn ready_requests_know_the_same<R: Request>()
     ensures { (s t : SessionView R) (knows : ℕ → Knowledge) → IsAlike R.stands s t → AllKnow R.stands knows s → AllKnow R.stands knows t }
 {}
 
-/// A request that may go on may look, whatever another one of its session knows: the line lets it
-/// look under the lock only where neither is alone that knows the header.
+/// A request that may go on may look, and may drop a lock, whatever another one of its session
+/// knows: the line lets it look under the lock only where neither is alone that knows the header.
 pub fn who_may_go_on_may_look<R: Request>()
     ensures { (s : SessionView R) (slot other : ℕ) (r : Running R) (knows : ℕ → Knowledge) (site : Site) (why : Reason) (op : Op) (next : Answer → Plan)
         → IsSoundSession R.stands s → AllKnow R.stands knows s → slot ≢ other
@@ -66,7 +67,7 @@ pub fn who_may_go_on_may_look<R: Request>()
 pub fn waits_change_little()
     ensures lawful { (labels : Label → Plan) (known_at : Label → Knowledge) → ((label : Label) → IsLawful known_at (known_at label) (labels label))
         → (k : Knowledge) (plan : Plan) → IsLawful known_at k plan → IsLawful known_at (known_at_operation k plan) (at_operation labels plan) }
-    ensures truth { (site : Site) (r : Records) (k : Knowledge) (plan : Plan) → IsTrueAt site r k → IsTrueAt site r (known_at_operation k plan) }
+    ensures truth { (site : Site) (r : Records) (me : Instance) (k : Knowledge) (plan : Plan) → IsTrueAt site r me k → IsTrueAt site r me (known_at_operation k plan) }
     ensures beside { (site : Site) (k j : Knowledge) (plan : Plan) → AreBeside site k j → AreBeside site (known_at_operation k plan) j }
 {}
 

@@ -6,6 +6,7 @@ pub mod Tells
 pub mod Passed
 pub mod Closed
 pub mod Lawful
+pub mod Fences
 pub mod About
 pub mod Refused
 pub mod Walked

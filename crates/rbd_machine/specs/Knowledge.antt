@@ -8,6 +8,7 @@ use Rattle.rbd_kinds.specs.declared.directory_op.DirectoryOp.TheVariants as dire
 use Rattle.rbd_kinds.specs.declared.header.HeaderView.{HeaderView}
 use Rattle.rbd_kinds.specs.declared.header_op.HeaderOp.{HeaderOp}
 use Rattle.rbd_kinds.specs.declared.header_op.HeaderOp.TheVariants as header
+use Rattle.rbd_kinds.specs.declared.id.Instance.{Instance}
 use Rattle.rbd_kinds.specs.declared.id.SiteId.{SiteId}
 use Rattle.rbd_kinds.specs.declared.id.SiteId.TheVariants as site
 use Rattle.rbd_kinds.specs.declared.operation.Op.{Op}
@@ -29,6 +30,11 @@ pub record Own : Type 0 where
   pub alone : Bool
   pub header : Option HeaderView
 
+-- an instance that it put into a site's blocklist
+pub record Fence : Type 0 where
+  pub site : SiteId
+  pub instance : Instance
+
 pub record Knowledge : Type 0 where
   -- whether it joined its line alone
   pub alone : Bool
@@ -37,9 +43,11 @@ pub record Knowledge : Type 0 where
   pub turn : Option ℕ
   -- ids that it drew, and made no header of yet
   pub drawn : List Place
+  -- instances that it fenced, and whose lock it didn't break yet
+  pub fenced : List Fence
 
 abbrev pub nothing_known : Knowledge
-nothing_known = record { alone = false; owns = []; turn = None; drawn = [] }
+nothing_known = record { alone = false; owns = []; turn = None; drawn = []; fenced = [] }
 
 -- ---- where
 
@@ -58,6 +66,19 @@ own_of (o ∷ owns) site image = if is_at site image o.site o.image then Some o 
 abbrev pub is_drawn : List Place → SiteId → (image : ℕ) → Bool
 is_drawn [] site image = false
 is_drawn (d ∷ drawn) site image = if is_at site image d.site d.image then true else is_drawn drawn site image
+
+-- ---- who
+
+-- one life of one session
+abbrev pub same_instance : Instance → Instance → Bool
+same_instance a b = (a.session == b.session) && (a.life == b.life)
+
+abbrev pub is_fence_of : SiteId → Instance → Fence → Bool
+is_fence_of site i f = same_site f.site site && same_instance f.instance i
+
+abbrev pub is_fenced_by : List Fence → SiteId → Instance → Bool
+is_fenced_by [] site i = false
+is_fenced_by (f ∷ fenced) site i = if is_fence_of site i f then true else is_fenced_by fenced site i
 
 -- ---- what an answer teaches
 
@@ -81,6 +102,23 @@ without_drawn site image k = record k { drawn = filter (λ d. not (is_at site im
 abbrev pub with_drawn : SiteId → (image : ℕ) → Knowledge → Knowledge
 with_drawn site image k = record k { drawn = record { site = site; image = image } ∷ k.drawn }
 
+abbrev pub with_fence : SiteId → Instance → Knowledge → Knowledge
+with_fence site i k = record k { fenced = record { site = site; instance = i } ∷ k.fenced }
+
+-- without the fence of an instance that was put up last
+abbrev pub unfenced : SiteId → Instance → List Fence → List Fence
+unfenced site i [] = []
+unfenced site i (f ∷ fenced) = if is_fence_of site i f then fenced else f ∷ unfenced site i fenced
+
+-- One fence serves to break one lock, and is then forgotten. So who goes back to ask for the lock
+-- again knows what it knew before.
+abbrev pub without_fence : SiteId → Instance → Knowledge → Knowledge
+without_fence site i k = record k { fenced = unfenced site i k.fenced }
+
+abbrev pub learned_of_listing : Knowledge → SiteId → Instance → Answer → Knowledge
+learned_of_listing k site i answer.Done = with_fence site i k
+learned_of_listing k site i _ = k
+
 abbrev pub learned_of_directory : Knowledge → SiteId → DirectoryOp → Answer → Knowledge
 learned_of_directory k site (directory.Add name) (answer.Id image) = with_drawn site image k
 learned_of_directory k site _ _ = k
@@ -90,12 +128,15 @@ learned_of_header k site image header.Get (answer.Header h) = header_told site i
 learned_of_header k site image (header.Create view) answer.Done = without_drawn site image k
 learned_of_header k site image (header.SnapAdd name) (answer.Snap snap) = header_told site image (option_map (with_snap name)) k
 learned_of_header k site image (header.SnapRemove snap) answer.Done = header_told site image (option_map (without_snap snap)) k
+learned_of_header k site image (header.LockBreak owner) answer.Done = without_fence site owner k
+learned_of_header k site image (header.LockBreak owner) answer.Changed = without_fence site owner k
 learned_of_header k site image _ _ = k
 
 -- what is known after an operation and its answer
 abbrev pub learned : Knowledge → SiteId → Op → Answer → Knowledge
 learned k site (op.Directory o) a = learned_of_directory k site o a
 learned k site (op.Header image o) a = learned_of_header k site image o a
+learned k site (op.BlockAdd instance) a = learned_of_listing k site instance a
 learned k site _ a = k
 
 -- ---- what a wait teaches

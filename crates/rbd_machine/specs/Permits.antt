@@ -21,7 +21,7 @@ use Rattle.rbd_kinds.specs.Header.{snap_named}
 use Rattle.rbd_kinds.specs.Parts.{parts_len}
 use Rattle.rbd_header.specs.Header.{context_of, is_full, snap_in}
 use Rattle.rbd_layout.specs.Pieces.{IsPart}
-use Rattle.rbd_machine.specs.Knowledge.{Knowledge, own_of, is_drawn}
+use Rattle.rbd_machine.specs.Knowledge.{Knowledge, own_of, is_drawn, is_fenced_by}
 
 -- It has the image's lock, and by its own look, with its own changes since, the header meets a
 -- condition.
@@ -55,6 +55,13 @@ pub record MayRemove (snap : ℕ) (h : HeaderView) : Type 0 where
   pub listed : snap_in h.snaps snap ≡ Some view
   pub unprotected : view.status ≡ Unprotected
 
+-- ---- locks
+
+-- It waited for the image's lock, alone, and hasn't looked at the header behind it. So it relies on
+-- none, and may give the lock up.
+pub record HoldsUnlooked (k : Knowledge) (site : SiteId) (image : ℕ) : Type 0 where
+  pub is : own_of k.owns site image ≡ Some (record { site = site; image = image; alone = true; header = None })
+
 -- ---- objects
 
 -- It is alone on the image, or has its turn at the object.
@@ -82,11 +89,20 @@ PermitsOnDirectory (directory.Add name) = Unit {0}
 PermitsOnDirectory directory.List = Unit {0}
 PermitsOnDirectory _ = ⊥
 
+-- A lock is broken only behind the fence of its owner (Ceph), so that nothing which the owner may
+-- still send can do anything.
 abbrev pub PermitsOnHeader : Knowledge → SiteId → (image : ℕ) → HeaderOp → Type 0
 PermitsOnHeader k site image header.Get = Unit {0}
 PermitsOnHeader k site image (header.Create view) = MayMake k site image view
 PermitsOnHeader k site image (header.SnapAdd name) = OwnsAlone k site image (MayTake name)
 PermitsOnHeader k site image (header.SnapRemove snap) = OwnsAlone k site image (MayRemove snap)
+PermitsOnHeader k site image header.LockTake = Unit {0}
+PermitsOnHeader k site image header.LockDrop = HoldsUnlooked k site image
+PermitsOnHeader k site image (header.LockBreak owner) = is_fenced_by k.fenced site owner ≡ true
+PermitsOnHeader k site image header.Watch = Unit {0}
+PermitsOnHeader k site image header.Unwatch = Unit {0}
+PermitsOnHeader k site image header.WatchersGet = Unit {0}
+PermitsOnHeader k site image (header.Notify kind) = Unit {0}
 PermitsOnHeader k site image _ = ⊥
 
 abbrev pub PermitsOnObject : Knowledge → SiteId → (image number : ℕ) → DataOp → Type 0
@@ -98,4 +114,5 @@ abbrev pub Permits : Knowledge → SiteId → Op → Type 0
 Permits k site (op.Directory o) = PermitsOnDirectory o
 Permits k site (op.Header image o) = PermitsOnHeader k site image o
 Permits k site (op.Data image number o) = PermitsOnObject k site image number o
+Permits k site (op.BlockAdd instance) = Unit {0}
 Permits k site _ = ⊥

@@ -1,17 +1,18 @@
 //! What plans mean: laws, each the contract of a function that does nothing.
-ghost use Rattle.std.specs.Prelude.{◌≡◌, ℕ, ◌≤◌, ◌+◌, ◌*◌, List, length, Bool, Option, Some, None};
+ghost use Rattle.std.specs.Prelude.{◌≡◌, ◌≢◌, ℕ, ◌≤◌, ◌+◌, ◌*◌, List, length, Bool, true, false, IsFalse, Option, Some, None};
 ghost use Rattle.rbd_kinds.specs.declared.data_op.DataOp.TheVariants.{Write};
 ghost use Rattle.rbd_kinds.specs.declared.header.SnapContext.{SnapContext};
 ghost use Rattle.rbd_kinds.specs.declared.header.SnapStatus.TheVariants.{Unprotected};
 ghost use Rattle.rbd_kinds.specs.declared.header.SnapView.{SnapView};
-ghost use Rattle.rbd_kinds.specs.declared.header_op.HeaderOp.TheVariants.{SnapAdd, SnapRemove};
+ghost use Rattle.rbd_kinds.specs.declared.header_op.HeaderOp.TheVariants.{LockBreak, LockDrop, SnapAdd, SnapRemove};
 ghost use Rattle.rbd_kinds.specs.declared.layout.Part.{Part};
 ghost use Rattle.rbd_kinds.specs.declared.operation.Op.{Op};
-ghost use Rattle.rbd_kinds.specs.declared.operation.Op.TheVariants.{Data, Header};
+ghost use Rattle.rbd_kinds.specs.declared.operation.Op.TheVariants.{BlockAdd, Data, Header};
 ghost use Rattle.rbd_header.specs.Header.{context_of, snap_in};
-ghost use Rattle.rbd_machine.specs.Knowledge.{Knowledge, own_of};
+ghost use Rattle.rbd_machine.specs.Knowledge.{Knowledge, is_fenced_by, learned, own_of, same_site};
 ghost use Rattle.rbd_machine.specs.Permits.{Permits};
 ghost use Rattle.rbd_kinds.specs.declared.header.HeaderView.{HeaderView};
+ghost use Rattle.rbd_kinds.specs.declared.id.Instance.{Instance};
 ghost use Rattle.rbd_kinds.specs.declared.id.SiteId.{SiteId};
 ghost use Rattle.rbd_kinds.specs.declared.refusal.Refusal.{Refusal};
 ghost use Rattle.rbd_kinds.specs.declared.machine.Fed.{Fed};
@@ -19,6 +20,7 @@ ghost use Rattle.rbd_kinds.specs.declared.machine.Want.TheVariants.{Note, Op as 
 ghost use Rattle.rbd_kinds.specs.declared.operation_kind.OpKind.{OpKind};
 ghost use Rattle.rbd_machine.specs.Label.{Label};
 ghost use Rattle.rbd_kinds.specs.declared.answer.Answer.{Answer};
+ghost use Rattle.rbd_kinds.specs.declared.answer.Answer.TheVariants.{Changed, Done};
 ghost use Rattle.rbd_machine.specs.Answers.{CanBeFed};
 ghost use Rattle.rbd_machine.specs.Lawful.{IsLawful, known_after};
 ghost use Rattle.rbd_machine.specs.Plan.{Plan, Ask, IsAsking, IsLive, IsNoting, Wants, settled, plan_after};
@@ -89,6 +91,34 @@ pub fn the_own_look_decides()
         → own_of k.owns site image ≡ Some (record { site = site; image = image; alone = alone; header = Some h })
         → snap_in h.snaps snap ≡ Some listed → (listed.status ≡ Unprotected → ⊥)
         → Permits k site (Header image (SnapRemove snap)) → ⊥ }
+{}
+
+/// A lock is broken only by one that has put its owner into the site's blocklist. It is given up
+/// only by one that waited for it, is alone on the image, and hasn't looked at its header since.
+pub fn locks_end_by_what_is_known()
+    ensures broken { (k : Knowledge) (site : SiteId) (image : ℕ) (owner : Instance)
+        → is_fenced_by k.fenced site owner ≡ false → Permits k site (Header image (LockBreak owner)) → ⊥ }
+    ensures unheld { (k : Knowledge) (site : SiteId) (image : ℕ)
+        → own_of k.owns site image ≡ None → Permits k site (Header image LockDrop) → ⊥ }
+    ensures shared { (k : Knowledge) (site : SiteId) (image : ℕ) (header : Option HeaderView)
+        → own_of k.owns site image ≡ Some (record { site = site; image = image; alone = false; header = header })
+        → Permits k site (Header image LockDrop) → ⊥ }
+    ensures looked { (k : Knowledge) (site : SiteId) (image : ℕ) (alone : Bool) (h : HeaderView)
+        → own_of k.owns site image ≡ Some (record { site = site; image = image; alone = alone; header = Some h })
+        → Permits k site (Header image LockDrop) → ⊥ }
+{}
+
+/// A fence that was put up is known to be that instance's at that site, and nobody else's. Once the
+/// lock was broken, or wasn't the owner's any more, it is forgotten, and what is known is what was
+/// known before the fence.
+pub fn fences_serve_once()
+    ensures known { (k : Knowledge) (site : SiteId) (i : Instance) → is_fenced_by (learned k site (BlockAdd i) Done).fenced site i ≡ true }
+    ensures others { (k : Knowledge) (site there : SiteId) (i other : Instance) → other ≢ i
+        → is_fenced_by (learned k site (BlockAdd i) Done).fenced there other ≡ is_fenced_by k.fenced there other }
+    ensures elsewhere { (k : Knowledge) (site there : SiteId) (i other : Instance) → IsFalse (same_site site there)
+        → is_fenced_by (learned k site (BlockAdd i) Done).fenced there other ≡ is_fenced_by k.fenced there other }
+    ensures broken { (k : Knowledge) (site : SiteId) (image : ℕ) (i : Instance) → learned (learned k site (BlockAdd i) Done) site (Header image (LockBreak i)) Done ≡ k }
+    ensures changed { (k : Knowledge) (site : SiteId) (image : ℕ) (i : Instance) → learned (learned k site (BlockAdd i) Done) site (Header image (LockBreak i)) Changed ≡ k }
 {}
 
 /// A lawful request asks only for what it may by what it knows, and stays lawful by what it then

@@ -62,7 +62,9 @@
 //! most as many operations as its plan, that a request which begins again ends in a pass that
 //! doesn't, and has a pass's operations once more each time, and that a change has three operations
 //! up to its own look. A request that is lawful stays so, whatever it is fed. What it doesn't own
-//! by a look behind the lock it may not change, and that look decides what it may.
+//! by a look behind the lock it may not change, and that look decides what it may. It breaks a lock
+//! only behind the fence of its owner, a fence for each, and gives one up only where it relies on
+//! no header behind it.
 //!
 //! # A new request
 //!

@@ -6,6 +6,7 @@ pub mod Counted
 pub mod Owned
 pub mod Bounded
 pub mod Closed
+pub mod Lawful
 pub mod Released
 pub mod Apart
 pub mod Listed

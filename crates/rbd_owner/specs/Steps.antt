@@ -1,5 +1,5 @@
 -- The operations by which a lock changes hands, and who watches.
-use Rattle.std.specs.Prelude.{ℕ, ◌==◌, ◌&&◌, Bool, List}
+use Rattle.std.specs.Prelude.{ℕ, Bool, List}
 use Rattle.std.specs.List.{list_any}
 use Rattle.rbd_kinds.specs.declared.answer.Answer.TheVariants as answer
 use Rattle.rbd_kinds.specs.declared.header_op.HeaderOp.TheVariants as header
@@ -8,6 +8,7 @@ use Rattle.rbd_kinds.specs.declared.id.SiteId.{SiteId}
 use Rattle.rbd_kinds.specs.declared.notice.NoticeKind.TheVariants as notice
 use Rattle.rbd_kinds.specs.declared.operation.Op.{Op}
 use Rattle.rbd_kinds.specs.declared.operation.Op.TheVariants as op
+use Rattle.rbd_machine.specs.Knowledge.{same_instance}
 use Rattle.rbd_machine.specs.Path.{Answered}
 
 -- ---- operations
@@ -40,12 +41,8 @@ released_lock image = op.Header image (header.Notify notice.ReleasedLock)
 
 -- ---- who watches
 
--- one life of one session
-abbrev pub same : Instance → Instance → Bool
-same a b = (a.session == b.session) && (a.life == b.life)
-
 abbrev pub is_among : List Instance → Instance → Bool
-is_among watchers owner = list_any (λ w. same w owner) watchers
+is_among watchers owner = list_any (λ w. same_instance w owner) watchers
 
 -- ---- operations that were done
 

@@ -5,20 +5,24 @@
 //! asks for, with the answers that it is fed, to its end or to where it stands.
 ghost use Rattle.std.specs.Prelude.{◌≡◌, ℕ, ◌+◌, ◌*◌, ◌≤◌, Bool, true, false, List, [], ◌∷◌, ◌++◌, count_by};
 ghost use Rattle.rbd_kinds.specs.declared.answer.Answer.{Answer};
+ghost use Rattle.rbd_kinds.specs.declared.answer.Answer.TheVariants.{Done as DoneSo};
 ghost use Rattle.rbd_kinds.specs.declared.id.Instance.{Instance};
 ghost use Rattle.rbd_kinds.specs.declared.id.SiteId.{SiteId};
 ghost use Rattle.rbd_kinds.specs.declared.machine.Fed.{Fed};
 ghost use Rattle.rbd_kinds.specs.declared.reply.Reply.{Reply};
 ghost use Rattle.rbd_kinds.specs.declared.reply.Reply.TheVariants.{Done};
+ghost use Rattle.rbd_machine.specs.Knowledge.{Knowledge, learned};
 ghost use Rattle.rbd_machine.specs.Label.{Label, Lock};
+ghost use Rattle.rbd_machine.specs.Lawful.{IsLawful, IsLawfulRequest};
 ghost use Rattle.rbd_machine.specs.Path.{Answered, IsBounded, IsWalk};
+ghost use Rattle.rbd_machine.specs.Permits.{HoldsUnlooked};
 ghost use Rattle.rbd_machine.specs.Plan.{Plan, Goto, Return, IsAsking, IsClosed};
-ghost use Rattle.rbd_owner.specs.Acquire.{acquire, taking, IsWay};
+ghost use Rattle.rbd_owner.specs.Acquire.{acquire, lock_labels, taking, IsWay};
 ghost use Rattle.rbd_owner.specs.Counts.{first_watch, is_break, is_counted, is_fence, is_round, is_take, is_taken, is_watch};
 ghost use Rattle.rbd_owner.specs.Order.{AreInOrder, EndsBy, EndsWith, EndsWithLook, EndsWithWatching};
 ghost use Rattle.rbd_owner.specs.Past.{IsToldApart};
 ghost use Rattle.rbd_owner.specs.Release.{release, LetsGo};
-ghost use Rattle.rbd_owner.specs.Steps.{block_add, fenced, held, is_among, lock_break, request_lock, watched_by};
+ghost use Rattle.rbd_owner.specs.Steps.{block_add, fenced, held, is_among, lock_break, lock_take, request_lock, watched_by};
 ghost use Rattle.rbd_owner.specs.Waiting.{owned_by};
 
 /// A way that ends well ends with the lock: its last operation is a `lock-take` of the image at the
@@ -100,6 +104,22 @@ pub fn ways_are_told_apart()
     ensures { (labels : Label → Plan) (site : SiteId) (image : ℕ) (watched : Bool) (next : Plan) (feds : List Fed) (steps : List Answered) (last : Plan)
         → labels Lock ≡ taking site image next → IsWalk labels (acquire site image watched next) feds steps last
         → IsToldApart labels site image (acquire site image watched) next steps last }
+{}
+
+/// Whatever was known before, the way to a lock does only what it may, where what comes next does
+/// by what is known once the lock is taken. At the label `Lock` the same is known in each round,
+/// since a fence is forgotten with the break that it was for.
+pub fn ways_are_lawful()
+    ensures way { (known_at : Label → Knowledge) (k : Knowledge) (site : SiteId) (image : ℕ) (watched : Bool) (next : Plan)
+        → k ≡ known_at Lock → IsLawful known_at (learned k site (lock_take image) DoneSo) next → IsLawful known_at k (acquire site image watched next) }
+    ensures alone { (site : SiteId) (image : ℕ) (watched : Bool)
+        → IsLawfulRequest (record { labels = lock_labels site image; plan = acquire site image watched (Return Done) }) }
+{}
+
+/// A release does only what it may, where the lock was waited for, alone, and nobody looked at the
+/// header behind it.
+pub fn releases_are_lawful()
+    ensures { (known_at : Label → Knowledge) (k : Knowledge) (site : SiteId) (image : ℕ) → HoldsUnlooked k site image → IsLawful known_at k (release site image) }
 {}
 
 /// A release drops the lock, and whatever that is answered, the session counts the lock as let go

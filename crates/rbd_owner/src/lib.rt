@@ -90,7 +90,8 @@
 //! that a lock is broken only directly behind the fence of its owner and an owner is fenced only
 //! behind a look that didn't show it among the watchers, how many steps there are beside those that
 //! ask again, that all this holds of the steps up to the lock of any request that takes one on its
-//! way, and what a release does.
+//! way, and what a release does. Both do only what they may by what is known (`rbd_machine`), the
+//! way from anything known, with what comes next.
 //!
 //! # Cost
 //!

@@ -1,8 +1,8 @@
 -- What is permitted may be done, is answered as it can be, and has its effect.
-use Rattle.std.proofs.Common.{◌≡◌, ℕ, ◌+◌, ◌≤◌, ◌||◌, not, Bool, true, false, List, [], ◌∷◌, length, length-append, Option, Some, None, is_some, refl, sym, ap, ◌∙◌, subst, arith}
+use Rattle.std.proofs.Common.{◌≡◌, ℕ, ◌+◌, ◌≤◌, ◌||◌, cond, not, Bool, true, false, List, [], ◌∷◌, length, length-append, Option, Some, None, is_some, refl, sym, ap, ◌∙◌, subst, arith}
 use Rattle.std.proofs.lemmas.List.Elements.{All-weaker}
 use Rattle.std.proofs.lemmas.Option.{slice_get_within, get_or_from_slice_get}
-use Rattle.std.specs.Prelude.{All}
+use Rattle.std.specs.Prelude.{All, IsFalse}
 use Rattle.rbd_layout.proofs.Limits.{shape_of}
 use Rattle.rbd_object.proofs.ContentsLemmas.{length-window}
 use Rattle.rbd_object.specs.Contents.{window}
@@ -41,7 +41,7 @@ use Rattle.rbd_site.specs.DataStep.{finds, parts_read}
 use Rattle.rbd_site.specs.DataStep as step
 use Rattle.rbd_site.specs.DirectoryStep.{name_added, image_found}
 use Rattle.rbd_site.specs.Found.{done_where}
-use Rattle.rbd_site.specs.HeaderStep.{header_answer}
+use Rattle.rbd_site.specs.HeaderStep.{header_answer, is_owner, lock_taken, same_instance}
 use Rattle.rbd_site.specs.InForm.{AreInForm}
 use Rattle.rbd_site.specs.Laws.{is_look, is_change}
 use Rattle.rbd_site.specs.Records.{Records, object_at}
@@ -59,9 +59,12 @@ use Rattle.rbd_stands.proofs.DirectorySteps.{name_stands}
 use Rattle.rbd_stands.proofs.EditSteps.{unnamed}
 use Rattle.rbd_stands.proofs.EffectLemmas.{write_effect}
 use Rattle.rbd_stands.proofs.ImageSteps.{create_stands, snap_stands, unsnap_stands}
-use Rattle.rbd_stands.proofs.NoEffect.{look_none, refused_none}
-use Rattle.rbd_stands.proofs.Served.{fenced_answer, free_answer, where_either}
+use Rattle.rbd_stands.proofs.NoEffect.{listed_none, look_none, refused_none, unseen_none}
+use Rattle.rbd_stands.proofs.Served.{fenced_answer, free_answer}
+use Rattle.rbd_stands.proofs.StoreSteps.{listed_stands, unseen_change}
+use Rattle.rbd_stands.specs.Unseen.{is_unseen}
 use Rattle.rbd_rely.specs.Truth.{IsTrueAt, IsParentless, changed_by}
+use Rattle.rbd_rely.proofs.Fenced.{where_free}
 use Rattle.rbd_rely.proofs.Kept.{owned_there}
 use Rattle.rbd_rely.proofs.Learned.{takes, removes}
 
@@ -90,91 +93,154 @@ len_of_parts (p ∷ parts) bytes =
 -- each of them can be answered fenced
 fence_given : (k : Knowledge) (site : SiteId) (o : Op) → Permits k site o → CanGive o answer.Fenced
 fence_given k site (op.Directory o) permits = record { word = refl; form = tt }
+fence_given k site (op.BlockAdd i) permits = record { word = refl; form = tt }
 fence_given k site (op.Header image header.Get) permits = record { word = refl; form = tt }
 fence_given k site (op.Header image o) permits = record { word = refl; form = tt }
 fence_given k site (op.Data image number (object.Read snap parts)) permits = record { word = refl; form = tt }
 fence_given k site (op.Data image number o) permits = record { word = refl; form = tt }
 fence_given k site _ permits = elim permits [ ]
 
-module _ (site : SiteId) (r : Records) (k : Knowledge) (most : ℕ) (form : AreInForm r most) (t : IsTrueAt site r k) where
+-- of an instance that isn't fenced
+module _ (site : SiteId) (r : Records) (me : Instance) (k : Knowledge) (most : ℕ) (form : AreInForm r most) (t : IsTrueAt site r me k) (free : IsFalse (is_fenced r me)) where
   may_write : (image number : ℕ) (context : SnapContext) (parts : List Part) (bytes : List ℕ) → OwnsBy k site image (MayWrite k.turn number context parts bytes) → step.MayWrite parts bytes
   may_write image number context parts bytes owns =
-      let there = owned_there site r k image _ t owns in
+      let there = owned_there site r me k image _ t free owns in
       let laid : IsLayout owns.header.layout = same_layout owns.header there.view there.same (form.form image there.view there.is).layout in
       record { within = within owns.header number parts laid owns.meets.within; long = owns.meets.long }
 
   may_serve : (o : Op) → Permits k site o → MayServe r o
   may_serve (op.Directory o) permits = tt
+  may_serve (op.BlockAdd i) permits = tt
   may_serve (op.Header image header.Get) permits = tt
   may_serve (op.Header image (header.Create view)) permits = permits.new
   may_serve (op.Header image (header.SnapAdd name)) permits = tt
   may_serve (op.Header image (header.SnapRemove snap)) permits = tt
+  may_serve (op.Header image header.LockTake) permits = tt
+  may_serve (op.Header image header.LockDrop) permits = tt
+  may_serve (op.Header image (header.LockBreak owner)) permits = tt
+  may_serve (op.Header image header.Watch) permits = tt
+  may_serve (op.Header image header.Unwatch) permits = tt
+  may_serve (op.Header image header.WatchersGet) permits = tt
+  may_serve (op.Header image (header.Notify kind)) permits = tt
   may_serve (op.Header image _) permits = elim permits [ ]
   may_serve (op.Data image number (object.Read snap parts)) permits = tt
   may_serve (op.Data image number (object.Write context must parts bytes)) permits = may_write image number context parts bytes permits
   may_serve (op.Data image number _) permits = elim permits [ ]
   may_serve _ permits = elim permits [ ]
 
-  pub may_do : (me : Instance) (o : Op) → Permits k site o → MayDo r me o
-  may_do me o permits = λ free. may_serve o permits
-
   -- ---- its answer
 
-  directory_gives_it : (me : Instance) (o : DirectoryOp) → PermitsOnDirectory o → CanGive (op.Directory o) (answer_served r me (op.Directory o))
-  directory_gives_it me (directory.Find name) permits = record { word = by (id_of r.directory name); form = tt }
+  directory_gives_it : (o : DirectoryOp) → PermitsOnDirectory o → CanGive (op.Directory o) (answer_served r me (op.Directory o))
+  directory_gives_it (directory.Find name) permits = record { word = by (id_of r.directory name); form = tt }
     where
       by : (held : Option ℕ) → gives (op.Directory (directory.Find name)) (image_found held) ≡ true
       by None = refl
       by (Some image) = refl
-  directory_gives_it me directory.List permits = record { word = refl; form = tt }
-  directory_gives_it me (directory.Add name) permits = record { word = by (id_of r.directory name) (listing.is_full r.directory); form = tt }
+  directory_gives_it directory.List permits = record { word = refl; form = tt }
+  directory_gives_it (directory.Add name) permits = record { word = by (id_of r.directory name) (listing.is_full r.directory); form = tt }
     where
       by : (held : Option ℕ) (full : Bool) → gives (op.Directory (directory.Add name)) (name_added held full (r.directory.drawn + 1)) ≡ true
       by (Some image) full = refl
       by None true = refl
       by None false = refl
-  directory_gives_it me _ permits = elim permits [ ]
+  directory_gives_it _ permits = elim permits [ ]
 
-  header_gives_it : (me : Instance) (image : ℕ) (o : HeaderOp) → PermitsOnHeader k site image o → CanGive (op.Header image o) (answer_served r me (op.Header image o))
-  header_gives_it me image header.Get permits = by (r.headers image) refl
+  header_gives_it : (image : ℕ) (o : HeaderOp) → PermitsOnHeader k site image o → CanGive (op.Header image o) (answer_served r me (op.Header image o))
+  header_gives_it image header.Get permits = by (r.headers image) refl
     where
       by : (there : Option HeaderView) → r.headers image ≡ there → CanGive (op.Header image header.Get) (header_answer me there (r.watchers image) header.Get)
       by None is = record { word = refl; form = tt }
       by (Some h) is = record { word = refl; form = form.form image h is }
-  header_gives_it me image (header.Create view) permits =
+  header_gives_it image (header.Create view) permits =
       subst (λ there. CanGive (op.Header image (header.Create view)) (header_answer me there (r.watchers image) (header.Create view))) (sym (t.drawn image permits.drawn).header) (record { word = refl; form = tt })
-  header_gives_it me image (header.SnapAdd name) permits =
-      subst (CanGive (op.Header image (header.SnapAdd name))) (sym (takes site r k me t image name permits).answered) (record { word = refl; form = tt })
-  header_gives_it me image (header.SnapRemove snap) permits =
-      subst (CanGive (op.Header image (header.SnapRemove snap))) (sym (removes site r k me t image snap permits).answered) (record { word = refl; form = tt })
-  header_gives_it me image _ permits = elim permits [ ]
+  header_gives_it image (header.SnapAdd name) permits =
+      subst (CanGive (op.Header image (header.SnapAdd name))) (sym (takes site r me k t free image name permits).answered) (record { word = refl; form = tt })
+  header_gives_it image (header.SnapRemove snap) permits =
+      subst (CanGive (op.Header image (header.SnapRemove snap))) (sym (removes site r me k t free image snap permits).answered) (record { word = refl; form = tt })
+  header_gives_it image header.LockTake permits = lock_gives_it (r.headers image)
+    where
+      by : (same : Bool) (owner : Instance) → CanGive (op.Header image header.LockTake) (cond same answer.Done (answer.Held owner))
+      by true owner = record { word = refl; form = tt }
+      by false owner = record { word = refl; form = tt }
 
-  object_gives_it : (me : Instance) (image number : ℕ) (o : DataOp) → PermitsOnObject k site image number o → CanGive (op.Data image number o) (answer_served r me (op.Data image number o))
-  object_gives_it me image number (object.Read snap parts) permits = by (view (looked (object_at r image number)) snap)
+      of_owner : (owner : Option Instance) → CanGive (op.Header image header.LockTake) (lock_taken me owner)
+      of_owner None = record { word = refl; form = tt }
+      of_owner (Some owner) = by (same_instance owner me) owner
+
+      lock_gives_it : (there : Option HeaderView) → CanGive (op.Header image header.LockTake) (header_answer me there (r.watchers image) header.LockTake)
+      lock_gives_it None = record { word = refl; form = tt }
+      lock_gives_it (Some h) = of_owner h.owner
+  header_gives_it image header.LockDrop permits = by (r.headers image)
+    where
+      left : (b : Bool) → CanGive (op.Header image header.LockDrop) (cond b answer.Done answer.Changed)
+      left true = record { word = refl; form = tt }
+      left false = record { word = refl; form = tt }
+
+      by : (there : Option HeaderView) → CanGive (op.Header image header.LockDrop) (header_answer me there (r.watchers image) header.LockDrop)
+      by None = record { word = refl; form = tt }
+      by (Some h) = left (is_owner me h.owner)
+  header_gives_it image (header.LockBreak owner) permits = by (r.headers image)
+    where
+      left : (b : Bool) → CanGive (op.Header image (header.LockBreak owner)) (cond b answer.Done answer.Changed)
+      left true = record { word = refl; form = tt }
+      left false = record { word = refl; form = tt }
+
+      by : (there : Option HeaderView) → CanGive (op.Header image (header.LockBreak owner)) (header_answer me there (r.watchers image) (header.LockBreak owner))
+      by None = record { word = refl; form = tt }
+      by (Some h) = left (is_owner owner h.owner)
+  header_gives_it image header.Watch permits = by (r.headers image)
+    where
+      by : (there : Option HeaderView) → CanGive (op.Header image header.Watch) (header_answer me there (r.watchers image) header.Watch)
+      by None = record { word = refl; form = tt }
+      by (Some h) = record { word = refl; form = tt }
+  header_gives_it image header.Unwatch permits = by (r.headers image)
+    where
+      by : (there : Option HeaderView) → CanGive (op.Header image header.Unwatch) (header_answer me there (r.watchers image) header.Unwatch)
+      by None = record { word = refl; form = tt }
+      by (Some h) = record { word = refl; form = tt }
+  header_gives_it image header.WatchersGet permits = by (r.headers image)
+    where
+      by : (there : Option HeaderView) → CanGive (op.Header image header.WatchersGet) (header_answer me there (r.watchers image) header.WatchersGet)
+      by None = record { word = refl; form = tt }
+      by (Some h) = record { word = refl; form = tt }
+  header_gives_it image (header.Notify kind) permits = by (r.headers image)
+    where
+      by : (there : Option HeaderView) → CanGive (op.Header image (header.Notify kind)) (header_answer me there (r.watchers image) (header.Notify kind))
+      by None = record { word = refl; form = tt }
+      by (Some h) = record { word = refl; form = tt }
+  header_gives_it image _ permits = elim permits [ ]
+
+  object_gives_it : (image number : ℕ) (o : DataOp) → PermitsOnObject k site image number o → CanGive (op.Data image number o) (answer_served r me (op.Data image number o))
+  object_gives_it image number (object.Read snap parts) permits = by (view (looked (object_at r image number)) snap)
     where
       by : (content : Option (List ℕ)) → CanGive (op.Data image number (object.Read snap parts)) (parts_read parts content)
       by None = record { word = refl; form = tt }
       by (Some bytes) = record { word = refl; form = len_of_parts parts bytes }
-  object_gives_it me image number (object.Write context must parts bytes) permits = by must (is_some (object_at r image number).head)
+  object_gives_it image number (object.Write context must parts bytes) permits = by must (is_some (object_at r image number).head)
     where
       by : (must there : Bool) → CanGive (op.Data image number (object.Write context must parts bytes)) (done_where (not must || there))
       by true true = record { word = refl; form = tt }
       by true false = record { word = refl; form = tt }
       by false there = record { word = refl; form = tt }
-  object_gives_it me image number _ permits = elim permits [ ]
+  object_gives_it image number _ permits = elim permits [ ]
 
-  served_gives_it : (me : Instance) (o : Op) → Permits k site o → CanGive o (answer_served r me o)
-  served_gives_it me (op.Directory o) permits = directory_gives_it me o permits
-  served_gives_it me (op.Header image o) permits = header_gives_it me image o permits
-  served_gives_it me (op.Data image number o) permits = object_gives_it me image number o permits
-  served_gives_it me _ permits = elim permits [ ]
+  served_gives_it : (o : Op) → Permits k site o → CanGive o (answer_served r me o)
+  served_gives_it (op.Directory o) permits = directory_gives_it o permits
+  served_gives_it (op.BlockAdd i) permits = record { word = refl; form = tt }
+  served_gives_it (op.Header image o) permits = header_gives_it image o permits
+  served_gives_it (op.Data image number o) permits = object_gives_it image number o permits
+  served_gives_it _ permits = elim permits [ ]
 
-  pub gives_it : (me : Instance) (o : Op) → Permits k site o → CanGive o (answer_to r me o)
-  gives_it me o permits = where_either (λ a s. CanGive o a) r me o (fence_given k site o permits) (served_gives_it me o permits)
+module _ (site : SiteId) (r : Records) (me : Instance) (k : Knowledge) (most : ℕ) (form : AreInForm r most) (t : IsTrueAt site r me k) where
+  pub may_do : (o : Op) → Permits k site o → MayDo r me o
+  may_do o permits = λ free. may_serve site r me k most form t free o permits
+
+  pub gives_it : (o : Op) → Permits k site o → CanGive o (answer_to r me o)
+  gives_it o permits = where_free (λ a s. CanGive o a) r me o (fence_given k site o permits) (λ free. served_gives_it site r me k most form t free o permits)
 
 -- ---- its effect
 
-module _ (site : SiteId) (r : Records) (f : Flat) (k : Knowledge) (me : Instance) (most : ℕ) (stands : StandsFor [] r f) (form : AreInForm r most) (parentless : IsParentless r) (t : IsTrueAt site r k) where
+module _ (site : SiteId) (r : Records) (f : Flat) (k : Knowledge) (me : Instance) (most : ℕ) (stands : StandsFor [] r f) (form : AreInForm r most) (parentless : IsParentless r) (t : IsTrueAt site r me k) where
   abbrev HasItsEffect : Op → Type 0
   HasItsEffect o = StandsFor [] (after r me o) (changed_by f (effect_of r (done.Op o) (answer_to r me o)))
 
@@ -191,12 +257,12 @@ module _ (site : SiteId) (r : Records) (f : Flat) (k : Knowledge) (me : Instance
       (subst (λ s. StandsFor [] s f) (sym (refused r me o (ap is_change answered ∙ unchanged))) stands)
 
   -- A fenced instance has none, so it is enough that what is served has its effect.
-  where_free : (o : Op) → (answer_to r me o ≡ answer_served r me o → HasItsEffect o) → HasItsEffect o
-  where_free o served = go (is_fenced r me) refl
+  where_served : (o : Op) → (IsFalse (is_fenced r me) → answer_to r me o ≡ answer_served r me o → HasItsEffect o) → HasItsEffect o
+  where_served o served = go (is_fenced r me) refl
     where
       go : (b : Bool) → is_fenced r me ≡ b → HasItsEffect o
       go true fenced = refused_effect o answer.Fenced (fenced_answer r me o fenced) refl
-      go false free = served (sym (free_answer r me o free))
+      go false free = served free (sym (free_answer r me o free))
 
   add_effect : (name : List ℕ) (held : Option ℕ) (full : Bool) → answer_to r me (op.Directory (directory.Add name)) ≡ name_added held full (r.directory.drawn + 1) → HasItsEffect (op.Directory (directory.Add name))
   add_effect name (Some image) full answered = refused_effect (op.Directory (directory.Add name)) answer.Exists answered refl
@@ -208,7 +274,7 @@ module _ (site : SiteId) (r : Records) (f : Flat) (k : Knowledge) (me : Instance
   directory_effect : (o : DirectoryOp) → PermitsOnDirectory o → HasItsEffect (op.Directory o)
   directory_effect (directory.Find name) permits = look_effect (op.Directory (directory.Find name)) refl
   directory_effect directory.List permits = look_effect (op.Directory directory.List) refl
-  directory_effect (directory.Add name) permits = where_free (op.Directory (directory.Add name)) (add_effect name (id_of r.directory name) (listing.is_full r.directory))
+  directory_effect (directory.Add name) permits = where_served (op.Directory (directory.Add name)) (λ free served. add_effect name (id_of r.directory name) (listing.is_full r.directory) served)
   directory_effect _ permits = elim permits [ ]
 
   -- an image without a header isn't there
@@ -220,39 +286,54 @@ module _ (site : SiteId) (r : Records) (f : Flat) (k : Knowledge) (me : Instance
       by None at = refl
       by (Some i) at = elim at [ ]
 
+  -- a flat site has neither locks nor watchers, nor a blocklist
+  unseen_effect : (image : ℕ) (o : HeaderOp) → is_unseen o ≡ true → HasItsEffect (op.Header image o)
+  unseen_effect image o unseen =
+      effects (op.Header image o) (answer_to r me (op.Header image o)) None refl (unseen_none r image o (answer_to r me (op.Header image o)) unseen) (unseen_change [] r f me image o stands unseen)
+
+  listed_effect : (i : Instance) → HasItsEffect (op.BlockAdd i)
+  listed_effect i = effects (op.BlockAdd i) (answer_to r me (op.BlockAdd i)) None refl (listed_none r i (answer_to r me (op.BlockAdd i))) (listed_stands [] r f me i stands)
+
   header_effect : (image : ℕ) (o : HeaderOp) → PermitsOnHeader k site image o → HasItsEffect (op.Header image o)
   header_effect image header.Get permits = look_effect (op.Header image header.Get) refl
-  header_effect image (header.Create view) permits = where_free (op.Header image (header.Create view)) (λ free.
+  header_effect image (header.Create view) permits = where_served (op.Header image (header.Create view)) (λ free served.
       let waiting = t.drawn image permits.drawn in
-      let answered : answer_to r me (op.Header image (header.Create view)) ≡ answer.Done = free ∙ ap (λ h. header_answer me h (r.watchers image) (header.Create view)) waiting.header in
+      let answered : answer_to r me (op.Header image (header.Create view)) ≡ answer.Done = served ∙ ap (λ h. header_answer me h (r.watchers image) (header.Create view)) waiting.header in
       effects (op.Header image (header.Create view)) answer.Done (Some (effect.Create image view.size view.role)) answered
       (ap (λ parent. Some (effect_of_making image view.size view.role parent)) permits.no_parent)
       (create_stands [] r f me image view stands waiting.drawn (record { header = waiting.header; flat = no_image image waiting.header; blank = waiting.blank }) permits.new permits.no_parent answered))
-  header_effect image (header.SnapAdd name) permits = where_free (op.Header image (header.SnapAdd name)) (λ free.
-      let edits = takes site r k me t image name permits in
-      let snap = (owned_there site r k image _ t permits).view.snap_seq + 1 in
-      effects (op.Header image (header.SnapAdd name)) (answer.Snap snap) (Some (effect.Snap image snap name)) (free ∙ edits.answered) refl
-      (snap_stands [] r f me image snap name stands (free ∙ edits.answered)))
-  header_effect image (header.SnapRemove snap) permits = where_free (op.Header image (header.SnapRemove snap)) (λ free.
-      let there = owned_there site r k image _ t permits in
-      let edits = removes site r k me t image snap permits in
+  header_effect image (header.SnapAdd name) permits = where_served (op.Header image (header.SnapAdd name)) (λ free served.
+      let edits = takes site r me k t free image name permits in
+      let snap = (owned_there site r me k image _ t free permits).view.snap_seq + 1 in
+      effects (op.Header image (header.SnapAdd name)) (answer.Snap snap) (Some (effect.Snap image snap name)) (served ∙ edits.answered) refl
+      (snap_stands [] r f me image snap name stands (served ∙ edits.answered)))
+  header_effect image (header.SnapRemove snap) permits = where_served (op.Header image (header.SnapRemove snap)) (λ free served.
+      let there = owned_there site r me k image _ t free permits in
+      let edits = removes site r me k t free image snap permits in
       let may = permits.meets.1 in
-      effects (op.Header image (header.SnapRemove snap)) answer.Done (Some (effect.Unsnap image snap)) (free ∙ edits.answered) refl
+      effects (op.Header image (header.SnapRemove snap)) answer.Done (Some (effect.Unsnap image snap)) (served ∙ edits.answered) refl
       (unsnap_stands [] r f me image snap stands
       (unnamed [] r f image snap there.view may.view stands there.is (ap (λ (h : HeaderView). snap_in h.snaps snap) there.same ∙ may.listed) may.unprotected)
-      (free ∙ edits.answered)))
+      (served ∙ edits.answered)))
+  header_effect image header.LockTake permits = unseen_effect image header.LockTake refl
+  header_effect image header.LockDrop permits = unseen_effect image header.LockDrop refl
+  header_effect image (header.LockBreak owner) permits = unseen_effect image (header.LockBreak owner) refl
+  header_effect image header.Watch permits = unseen_effect image header.Watch refl
+  header_effect image header.Unwatch permits = unseen_effect image header.Unwatch refl
+  header_effect image header.WatchersGet permits = unseen_effect image header.WatchersGet refl
+  header_effect image (header.Notify kind) permits = unseen_effect image (header.Notify kind) refl
   header_effect image _ permits = elim permits [ ]
 
   write_effects : (image number : ℕ) (context : SnapContext) (must : Bool) (parts : List Part) (bytes : List ℕ) → OwnsBy k site image (MayWrite k.turn number context parts bytes)
-      → answer_to r me (op.Data image number (object.Write context must parts bytes)) ≡ answer_served r me (op.Data image number (object.Write context must parts bytes))
+      → IsFalse (is_fenced r me) → answer_to r me (op.Data image number (object.Write context must parts bytes)) ≡ answer_served r me (op.Data image number (object.Write context must parts bytes))
       → (found : Bool) → finds must (object_at r image number) ≡ found → HasItsEffect (op.Data image number (object.Write context must parts bytes))
-  write_effects image number context must parts bytes owns free false lacks =
-      refused_effect (op.Data image number (object.Write context must parts bytes)) answer.Absent (free ∙ ap done_where lacks) refl
-  write_effects image number context must parts bytes owns free true has =
-      let there = owned_there site r k image _ t owns in
+  write_effects image number context must parts bytes owns free served false lacks =
+      refused_effect (op.Data image number (object.Write context must parts bytes)) answer.Absent (served ∙ ap done_where lacks) refl
+  write_effects image number context must parts bytes owns free served true has =
+      let there = owned_there site r me k image _ t free owns in
       let v = there.view in
-      let may = may_write site r k most form t image number context parts bytes owns in
-      let answered : answer_to r me (op.Data image number (object.Write context must parts bytes)) ≡ answer.Done = free ∙ ap done_where has in
+      let may = may_write site r me k most form t free image number context parts bytes owns in
+      let answered : answer_to r me (op.Data image number (object.Write context must parts bytes)) ≡ answer.Done = served ∙ ap done_where has in
       let parts_lie : ArePartsBelow v v.size number parts =
       subst (λ w. ArePartsBelow w w.size number parts) (sym there.same)
       (All-weaker (LiesBelow owns.header number) (IsPartBelow (record owns.header { owner = v.owner }) owns.header.size number) (λ p lies. record { part = lies.part; below = lies.below }) parts owns.meets.within) in
@@ -266,9 +347,10 @@ module _ (site : SiteId) (r : Records) (f : Flat) (k : Knowledge) (me : Instance
 
   pub has_its_effect : (o : Op) → Permits k site o → HasItsEffect o
   has_its_effect (op.Directory o) permits = directory_effect o permits
+  has_its_effect (op.BlockAdd i) permits = listed_effect i
   has_its_effect (op.Header image o) permits = header_effect image o permits
   has_its_effect (op.Data image number (object.Read snap parts)) permits = look_effect (op.Data image number (object.Read snap parts)) refl
   has_its_effect (op.Data image number (object.Write context must parts bytes)) permits =
-      where_free (op.Data image number (object.Write context must parts bytes)) (λ free. write_effects image number context must parts bytes permits free (finds must (object_at r image number)) refl)
+      where_served (op.Data image number (object.Write context must parts bytes)) (λ free served. write_effects image number context must parts bytes permits free served (finds must (object_at r image number)) refl)
   has_its_effect (op.Data image number _) permits = elim permits [ ]
   has_its_effect _ permits = elim permits [ ]

@@ -1,5 +1,5 @@
 -- What is learned at one site says nothing of the other.
-use Rattle.std.proofs.Common.{◌≡◌, ℕ, ◌==◌, ◌&&◌, not, cond, Bool, true, false, List, [], ◌∷◌, map, filter, Option, Some, None, option_map, is_some, refl, sym, ap, ◌∙◌, subst}
+use Rattle.std.proofs.Common.{◌≡◌, ℕ, ◌==◌, ◌&&◌, not, cond, Bool, true, false, List, [], ◌∷◌, map, filter, Option, Some, option_map, is_some, refl, sym, ap, ◌∙◌, subst}
 use Rattle.std.proofs.lemmas.Bool.{true≢false, and_parts}
 use Rattle.rbd_kinds.specs.declared.answer.Answer.{Answer}
 use Rattle.rbd_kinds.specs.declared.answer.Answer.TheVariants as answer
@@ -8,15 +8,17 @@ use Rattle.rbd_kinds.specs.declared.directory_op.DirectoryOp.TheVariants as dire
 use Rattle.rbd_kinds.specs.declared.header.HeaderView.{HeaderView}
 use Rattle.rbd_kinds.specs.declared.header_op.HeaderOp.{HeaderOp}
 use Rattle.rbd_kinds.specs.declared.header_op.HeaderOp.TheVariants as header
+use Rattle.rbd_kinds.specs.declared.id.Instance.{Instance}
 use Rattle.rbd_kinds.specs.declared.id.SiteId.{SiteId}
 use Rattle.rbd_kinds.specs.declared.id.SiteId.TheVariants as site
 use Rattle.rbd_kinds.specs.declared.operation.Op.{Op}
 use Rattle.rbd_kinds.specs.declared.operation.Op.TheVariants as op
 use Rattle.rbd_header.specs.Header.{with_snap, without_snap}
-use Rattle.rbd_machine.specs.Knowledge.{Knowledge, Own, Place, first_told, is_at, is_drawn, learned, learned_of_directory, learned_of_header, own_of, same_site, told_of, with_header}
+use Rattle.rbd_machine.specs.Knowledge.{Knowledge, Own, Place, first_told, is_at, is_drawn, is_fenced_by, learned, learned_of_directory, learned_of_header, learned_of_listing, own_of, same_instance, same_site, told_of, with_header, without_fence}
 use Rattle.rbd_site.specs.Records.{Records}
-use Rattle.rbd_rely.specs.Beside.{AreBeside, AreShared, is_own_alone}
-use Rattle.rbd_rely.specs.Truth.{IsStill, IsTrueAt, IsWaiting, header_of_own}
+use Rattle.rbd_rely.specs.Beside.{AreBeside, is_own_alone}
+use Rattle.rbd_rely.specs.Truth.{IsStill, IsTrueAt, header_of_own}
+use Rattle.rbd_rely.proofs.Learned.{was_known}
 
 -- a site is one of two
 apart_sites : (s t there : SiteId) → same_site s t ≡ false → same_site there s ≡ true → same_site there t ≡ false
@@ -27,13 +29,17 @@ apart_sites site.A site.B site.B differ here = absurd (true≢false (sym here))
 apart_sites site.B site.A site.A differ here = absurd (true≢false (sym here))
 apart_sites site.B site.A site.B differ here = refl
 
--- the same is known of the images of a site
+-- the same is known of the images of a site, and no more of who is fenced there
 pub record IsSameOf (t : SiteId) (k new : Knowledge) : Type 0 where
   pub owns : (image : ℕ) → own_of new.owns t image ≡ own_of k.owns t image
   pub drawn : (image : ℕ) → is_drawn new.drawn t image ≡ is_drawn k.drawn t image
+  pub fenced : (i : Instance) → is_fenced_by new.fenced t i ≡ true → is_fenced_by k.fenced t i ≡ true
 
 same_of : (t : SiteId) (k : Knowledge) → IsSameOf t k k
-same_of t k = record { owns = λ image. refl; drawn = λ image. refl }
+same_of t k = record { owns = λ image. refl; drawn = λ image. refl; fenced = λ i known. known }
+
+broken_same : (t there : SiteId) (owner : Instance) (k : Knowledge) → IsSameOf t k (without_fence there owner k)
+broken_same t there owner k = record { owns = λ image. refl; drawn = λ image. refl; fenced = λ i known. was_known there owner t i k.fenced known }
 
 module _ (s t : SiteId) (differ : same_site s t ≡ false) where
   not_at : (image i : ℕ) (there : SiteId) (place : ℕ) → is_at s image there place ≡ true → is_at t i there place ≡ false
@@ -73,33 +79,46 @@ module _ (s t : SiteId) (differ : same_site s t ≡ false) where
           ∙ ap (λ found. cond (is_at t i d.site d.image) true found) more
 
   told_same : (k : Knowledge) (image : ℕ) (change : Option HeaderView → Option HeaderView) → IsSameOf t k (record k { owns = map (told_of s image change) k.owns })
-  told_same k image change = record { owns = λ i. told_owns image i change k.owns; drawn = λ i. refl }
+  told_same k image change = record { owns = λ i. told_owns image i change k.owns; drawn = λ i. refl; fenced = λ i known. known }
 
   directory_same : (k : Knowledge) (o : DirectoryOp) (a : Answer) → IsSameOf t k (learned_of_directory k s o a)
   directory_same k (directory.Add name) (answer.Id image) = record {
     owns = λ i. refl;
     drawn = λ i. ap (λ b. cond (b && (image == i)) true (is_drawn k.drawn t i)) differ;
+    fenced = λ i known. known;
   }
   directory_same k _ _ = same_of t k
 
   header_same : (k : Knowledge) (image : ℕ) (o : HeaderOp) (a : Answer) → IsSameOf t k (learned_of_header k s image o a)
   header_same k image header.Get (answer.Header h) = told_same k image (first_told h)
-  header_same k image (header.Create view) answer.Done = record { owns = λ i. refl; drawn = λ i. left_drawn image i k.drawn }
+  header_same k image (header.Create view) answer.Done = record { owns = λ i. refl; drawn = λ i. left_drawn image i k.drawn; fenced = λ i known. known }
   header_same k image (header.SnapAdd name) (answer.Snap snap) = told_same k image (option_map (with_snap name))
   header_same k image (header.SnapRemove snap) answer.Done = told_same k image (option_map (without_snap snap))
+  header_same k image (header.LockBreak owner) answer.Done = broken_same t s owner k
+  header_same k image (header.LockBreak owner) answer.Changed = broken_same t s owner k
   header_same k image _ _ = same_of t k
+
+  listing_same : (k : Knowledge) (i : Instance) (a : Answer) → IsSameOf t k (learned_of_listing k s i a)
+  listing_same k i answer.Done = record {
+    owns = λ image. refl;
+    drawn = λ image. refl;
+    fenced = λ other known. sym (ap (λ b. cond (b && same_instance i other) true (is_fenced_by k.fenced t other)) differ) ∙ known;
+  }
+  listing_same k i _ = same_of t k
 
   learned_same : (k : Knowledge) (o : Op) (a : Answer) → IsSameOf t k (learned k s o a)
   learned_same k (op.Directory o) a = directory_same k o a
   learned_same k (op.Header image o) a = header_same k image o a
+  learned_same k (op.BlockAdd i) a = listing_same k i a
   learned_same k _ a = same_of t k
 
-  pub true_elsewhere : (r : Records) (k : Knowledge) (o : Op) (a : Answer) → IsTrueAt t r k → IsTrueAt t r (learned k s o a)
-  true_elsewhere r k o a holds =
+  pub true_elsewhere : (r : Records) (me : Instance) (k : Knowledge) (o : Op) (a : Answer) → IsTrueAt t r me k → IsTrueAt t r me (learned k s o a)
+  true_elsewhere r me k o a holds =
       let same = learned_same k o a in
       record {
-        owned = λ image. subst (λ own. IsStill (header_of_own own) (r.headers image)) (sym (same.owns image)) (holds.owned image);
+        owned = λ free image. subst (λ own. IsStill (header_of_own own) (r.headers image)) (sym (same.owns image)) (holds.owned free image);
         drawn = λ image drawn. holds.drawn image (sym (same.drawn image) ∙ drawn);
+        fenced = λ i known. holds.fenced i (same.fenced i known);
       }
 
   pub beside_elsewhere : (k j : Knowledge) (o : Op) (a : Answer) → AreBeside t k j → AreBeside t (learned k s o a) j

@@ -4,7 +4,7 @@ use Rattle.std.proofs.lemmas.Bool.{true≢false, eqb-true, ne_eqb}
 use Rattle.std.proofs.lemmas.Option.{none-some}
 use Rattle.std.specs.FinMap as finmap
 use Rattle.std.specs.Ordering.{nat_cmp}
-use Rattle.std.specs.Prelude.{IsSome, is_some}
+use Rattle.std.specs.Prelude.{IsFalse, IsSome, is_some}
 use Rattle.rbd_kinds.specs.declared.data_op.DataOp.{DataOp}
 use Rattle.rbd_kinds.specs.declared.data_op.DataOp.TheVariants as object
 use Rattle.rbd_kinds.specs.declared.header.HeaderView.{HeaderView}
@@ -17,11 +17,12 @@ use Rattle.rbd_kinds.specs.declared.operation.Op.TheVariants as op
 use Rattle.rbd_object.specs.Mapped.{Mapped, mapped_blank, mapped_trim}
 use Rattle.rbd_machine.specs.Knowledge.{Knowledge, is_drawn}
 use Rattle.rbd_machine.specs.Permits.{Permits, PermitsOnHeader, PermitsOnObject, OwnsBy}
-use Rattle.rbd_site.specs.HeaderStep.{header_after}
+use Rattle.rbd_site.specs.HeaderStep.{header_after, is_owner}
 use Rattle.rbd_site.specs.Laws.{is_look}
 use Rattle.rbd_site.specs.Log.{expired, live_in, trimmed}
 use Rattle.rbd_site.specs.Records.{Records, put, or_blank, object_at}
-use Rattle.rbd_site.specs.Step.{after, after_served}
+use Rattle.rbd_site.specs.Step.{is_fenced, after, after_served}
+use Rattle.rbd_site.proofs.FenceLemmas.{fence_stays}
 use Rattle.rbd_site.proofs.StepLemmas.{where_fenced}
 use Rattle.rbd_site.proofs.GenerationLemmas.{looked_at}
 use Rattle.rbd_stands.specs.Site.{IsUntouched}
@@ -31,6 +32,7 @@ use Rattle.rbd_stands.proofs.StoreSteps.{blank_trimmed}
 use Rattle.rbd_flat.specs.Flat.{no_images}
 use Rattle.rbd_rely.specs.Beside.{AreBeside, is_own_alone}
 use Rattle.rbd_rely.specs.Truth.{IsTrueAt, IsStill, IsWaiting, header_of_own, known_header}
+use Rattle.rbd_rely.proofs.Fenced.{after_free, was_free}
 
 -- ---- a header that is known
 
@@ -49,16 +51,16 @@ pub own_known : (k : Knowledge) (site : SiteId) (image : ℕ) (condition : (alon
 own_known k site image condition owns = ap header_of_own owns.is
 
 -- the header of an image that it owns
-pub owned_there : (site : SiteId) (r : Records) (k : Knowledge) (image : ℕ) (condition : (alone : Bool) → HeaderView → Type 0) → IsTrueAt site r k → (owns : OwnsBy k site image condition)
-    → IsThere owns.header (r.headers image)
-owned_there site r k image condition t owns =
-    find_there (known_header k site image) (r.headers image) owns.header (own_known k site image condition owns) (t.owned image)
+pub owned_there : (site : SiteId) (r : Records) (me : Instance) (k : Knowledge) (image : ℕ) (condition : (alone : Bool) → HeaderView → Type 0) → IsTrueAt site r me k → IsFalse (is_fenced r me)
+    → (owns : OwnsBy k site image condition) → IsThere owns.header (r.headers image)
+owned_there site r me k image condition t free owns =
+    find_there (known_header k site image) (r.headers image) owns.header (own_known k site image condition owns) (t.owned free image)
 
 -- an image that somebody owns isn't one that waits for its header
-pub not_waiting : (site : SiteId) (r : Records) (k : Knowledge) (image : ℕ) (condition : (alone : Bool) → HeaderView → Type 0) → IsTrueAt site r k → OwnsBy k site image condition
-    → r.headers image ≡ None → ⊥
-not_waiting site r k image condition t owns none =
-    let there = owned_there site r k image condition t owns in
+pub not_waiting : (site : SiteId) (r : Records) (me : Instance) (k : Knowledge) (image : ℕ) (condition : (alone : Bool) → HeaderView → Type 0) → IsTrueAt site r me k → IsFalse (is_fenced r me)
+    → OwnsBy k site image condition → r.headers image ≡ None → ⊥
+not_waiting site r me k image condition t free owns none =
+    let there = owned_there site r me k image condition t free owns in
     none-some there.view (sym none ∙ there.is)
 
 pub unknown_of_none : (known there : Option HeaderView) → IsStill known None → IsStill known there
@@ -77,34 +79,111 @@ alone_beside site k j image condition beside owns there = go (known_header k sit
         let others : IsSome (known_header j site image) = ap is_some (own_known j site image (λ alone h. (alone ≡ true) × condition h) owns) in
         absurd (true≢false (sym owns.meets.0 ∙ sym (ap is_own_alone owns.is) ∙ (beside.shared image mine others).other))
 
+-- ---- what leaves a header but for its owner
+
+-- operations on the lock and the watchers of an image, and looks at them
+abbrev pub keeps_header : HeaderOp → Bool
+keeps_header header.LockTake = true
+keeps_header header.LockDrop = true
+keeps_header (header.LockBreak owner) = true
+keeps_header header.Watch = true
+keeps_header header.Unwatch = true
+keeps_header header.WatchersGet = true
+keeps_header (header.Notify kind) = true
+keeps_header _ = false
+
+either_still : (known : HeaderView) (b : Bool) (one other : HeaderView) → IsStill (Some known) (Some one) → IsStill (Some known) (Some other) → IsStill (Some known) (Some (cond b one other))
+either_still known true one other first second = first
+either_still known false one other first second = second
+
+-- it is still what it was with another owner
+owned_else : (known there : HeaderView) (owner : Option Instance) → there ≡ record known { owner = there.owner } → record there { owner = owner } ≡ record known { owner = owner }
+owned_else known there owner still = ap (λ (h : HeaderView). record h { owner = owner }) still
+
+left_still : (known there : HeaderView) (b : Bool) → IsStill (Some known) (Some there) → IsStill (Some known) (Some (cond b (record there { owner = None }) there))
+left_still known there b still = either_still known b (record there { owner = None }) there (owned_else known there None still) still
+
+still_behind : (you : Instance) (o : HeaderOp) → keeps_header o ≡ true → (known there : Option HeaderView) → IsStill known there → IsStill known (header_after you there o)
+still_behind you o keeps None there still = tt
+still_behind you o keeps (Some known) None still = elim still [ ]
+still_behind you header.LockTake keeps (Some known) (Some h) still = owned_else known h (cond (is_some h.owner) h.owner (Some you)) still
+still_behind you header.LockDrop keeps (Some known) (Some h) still = left_still known h (is_owner you h.owner) still
+still_behind you (header.LockBreak owner) keeps (Some known) (Some h) still = left_still known h (is_owner owner h.owner) still
+still_behind you header.Watch keeps (Some known) (Some h) still = still
+still_behind you header.Unwatch keeps (Some known) (Some h) still = still
+still_behind you header.WatchersGet keeps (Some known) (Some h) still = still
+still_behind you (header.Notify kind) keeps (Some known) (Some h) still = still
+still_behind you o keeps (Some known) (Some h) still = absurd (true≢false (sym keeps))
+
+-- where there is no header it makes none
+none_behind : (you : Instance) (o : HeaderOp) → keeps_header o ≡ true → header_after you None o ≡ None
+none_behind you (header.Create view) keeps = absurd (true≢false (sym keeps))
+none_behind you o keeps = refl
+
+-- an id that waits still does
+waits_by : (r : Records) (you : Instance) (other : ℕ) (o : HeaderOp) → keeps_header o ≡ true → (image : ℕ) → IsWaiting r image → IsWaiting (after r you (op.Header other o)) image
+waits_by r you other o keeps image w =
+    where_fenced (λ s. IsWaiting s image) r you (op.Header other o) w (record { drawn = w.drawn; header = by (image == other) refl; blank = w.blank })
+  where
+    by : (b : Bool) → (image == other) ≡ b → cond b (header_after you (r.headers other) o) (r.headers image) ≡ None
+    by true same = ap (λ h. header_after you h o) (ap r.headers (sym (eqb-true image other same)) ∙ w.header) ∙ none_behind you o keeps
+    by false differ = w.header
+
+-- So whoever does it, what anybody knows stays true.
+pub kept_by : (site : SiteId) (r : Records) (me you : Instance) (k : Knowledge) (other : ℕ) (o : HeaderOp) → keeps_header o ≡ true → IsTrueAt site r me k
+    → IsTrueAt site (after r you (op.Header other o)) me k
+kept_by site r me you k other o keeps t = record {
+  owned = λ free image.
+      let still = t.owned (was_free r you me (op.Header other o) free) in
+      where_fenced (λ s. IsStill (known_header k site image) (s.headers image)) r you (op.Header other o) (still image) (by image (image == other) refl still);
+  drawn = λ image drawn. waits_by r you other o keeps image (t.drawn image drawn);
+  fenced = λ i known. fence_stays r you i (op.Header other o) (t.fenced i known);
+}
+  where
+    by : (image : ℕ) (b : Bool) → (image == other) ≡ b → ((i : ℕ) → IsStill (known_header k site i) (r.headers i)) → IsStill (known_header k site image) (cond b (header_after you (r.headers other) o) (r.headers image))
+    by image true same still =
+        subst (λ i. IsStill (known_header k site i) (header_after you (r.headers other) o)) (sym (eqb-true image other same))
+        (still_behind you o keeps (known_header k site other) (r.headers other) (still other))
+    by image false differ still = still image
+
 -- ---- others
 
 get_same : (you : Instance) (h : Option HeaderView) → header_after you h header.Get ≡ h
 get_same you None = refl
 get_same you (Some h) = refl
 
-module _ (site : SiteId) (r : Records) (k j : Knowledge) (you : Instance) (t : IsTrueAt site r k) (u : IsTrueAt site r j) (beside : AreBeside site k j) where
+-- What isn't fenced on either side: one knows the headers, and another changes them.
+module _ (site : SiteId) (r : Records) (k j : Knowledge) (you : Instance) (still : (image : ℕ) → IsStill (known_header k site image) (r.headers image)) (u : IsTrueAt site r you j)
+    (beside : AreBeside site k j) where
   header_kept : (image : ℕ) (o : HeaderOp) → PermitsOnHeader j site image o → IsStill (known_header k site image) (header_after you (r.headers image) o)
-  header_kept image header.Get permits = subst (IsStill (known_header k site image)) (sym (get_same you (r.headers image))) (t.owned image)
+  header_kept image header.Get permits = subst (IsStill (known_header k site image)) (sym (get_same you (r.headers image))) (still image)
   header_kept image (header.Create view) permits =
       unknown_of_none (known_header k site image) (header_after you (r.headers image) (header.Create view))
-      (subst (IsStill (known_header k site image)) (u.drawn image permits.drawn).header (t.owned image))
+      (subst (IsStill (known_header k site image)) (u.drawn image permits.drawn).header (still image))
   header_kept image (header.SnapAdd name) permits = alone_beside site k j image _ beside permits (header_after you (r.headers image) (header.SnapAdd name))
   header_kept image (header.SnapRemove snap) permits = alone_beside site k j image _ beside permits (header_after you (r.headers image) (header.SnapRemove snap))
+  header_kept image header.LockTake permits = still_behind you header.LockTake refl (known_header k site image) (r.headers image) (still image)
+  header_kept image header.LockDrop permits = still_behind you header.LockDrop refl (known_header k site image) (r.headers image) (still image)
+  header_kept image (header.LockBreak owner) permits = still_behind you (header.LockBreak owner) refl (known_header k site image) (r.headers image) (still image)
+  header_kept image header.Watch permits = still_behind you header.Watch refl (known_header k site image) (r.headers image) (still image)
+  header_kept image header.Unwatch permits = still_behind you header.Unwatch refl (known_header k site image) (r.headers image) (still image)
+  header_kept image header.WatchersGet permits = still_behind you header.WatchersGet refl (known_header k site image) (r.headers image) (still image)
+  header_kept image (header.Notify kind) permits = still_behind you (header.Notify kind) refl (known_header k site image) (r.headers image) (still image)
   header_kept image _ permits = elim permits [ ]
 
   owned_served : (o : Op) → Permits j site o → (image : ℕ) → IsStill (known_header k site image) ((after_served r you o).headers image)
-  owned_served (op.Directory o) permits image = t.owned image
-  owned_served (op.Data other number o) permits image = t.owned image
+  owned_served (op.Directory o) permits image = still image
+  owned_served (op.BlockAdd i) permits image = still image
+  owned_served (op.Data other number o) permits image = still image
   owned_served (op.Header other o) permits image = go (image == other) refl
     where
       go : (b : Bool) → (image == other) ≡ b → IsStill (known_header k site image) (cond b (header_after you (r.headers other) o) (r.headers image))
       go true same = subst (λ i. IsStill (known_header k site i) (header_after you (r.headers other) o)) (sym (eqb-true image other same)) (header_kept other o permits)
-      go false differ = t.owned image
+      go false differ = still image
   owned_served _ permits image = elim permits [ ]
 
   owned_kept : (o : Op) → Permits j site o → (image : ℕ) → IsStill (known_header k site image) ((after r you o).headers image)
-  owned_kept o permits image = where_fenced (λ s. IsStill (known_header k site image) (s.headers image)) r you o (t.owned image) (owned_served o permits image)
+  owned_kept o permits image = where_fenced (λ s. IsStill (known_header k site image) (s.headers image)) r you o (still image) (owned_served o permits image)
 
 -- an id that waits still does, where the operation isn't about it
 pub waits_served : (r : Records) (you : Instance) (o : Op) (image : ℕ) → is_about image o ≡ false → IsWaiting r image → IsWaiting (after_served r you o) image
@@ -124,39 +203,52 @@ pub other_than : (other image : ℕ) → ((other ≡ image) → ⊥) → (other 
 other_than other image differ = ne_eqb other image differ
 
 -- an object of an image that somebody owns is none of an id that waits for its header
-pub owned_is_other : (site : SiteId) (r : Records) (k : Knowledge) (other image : ℕ) (condition : (alone : Bool) → HeaderView → Type 0) → IsTrueAt site r k
-    → OwnsBy k site other condition → IsWaiting r image → (other == image) ≡ false
-owned_is_other site r k other image condition t owns w =
-    other_than other image (λ same. not_waiting site r k other condition t owns (ap r.headers same ∙ w.header))
+pub owned_is_other : (site : SiteId) (r : Records) (me : Instance) (k : Knowledge) (other image : ℕ) (condition : (alone : Bool) → HeaderView → Type 0) → IsTrueAt site r me k
+    → IsFalse (is_fenced r me) → OwnsBy k site other condition → IsWaiting r image → (other == image) ≡ false
+owned_is_other site r me k other image condition t free owns w =
+    other_than other image (λ same. not_waiting site r me k other condition t free owns (ap r.headers same ∙ w.header))
 
-module _ (site : SiteId) (r : Records) (j : Knowledge) (you : Instance) (u : IsTrueAt site r j) (image : ℕ) (w : IsWaiting r image) where
+module _ (site : SiteId) (r : Records) (j : Knowledge) (you : Instance) (u : IsTrueAt site r you j) (image : ℕ) (w : IsWaiting r image) where
+  -- What an owner does: it owns the image where it isn't fenced, and else does nothing.
+  waits_owned : (o : Op) → (IsFalse (is_fenced r you) → is_about image o ≡ false) → IsWaiting (after r you o) image
+  waits_owned o other = after_free (λ s. IsWaiting s image) r you o w (λ free. waits_served r you o image (other free) w)
+
   -- while nobody else makes its header
   waits_header : (other : ℕ) (o : HeaderOp) → PermitsOnHeader j site other o → (is_drawn j.drawn site image ≡ false) → IsWaiting (after r you (op.Header other o)) image
   waits_header other header.Get permits apart = waits_behind_look r you (op.Header other header.Get) image refl w
   waits_header other (header.Create view) permits apart =
       waits_on r you (op.Header other (header.Create view)) image
       (other_than other image (λ same. true≢false (sym permits.drawn ∙ ap (λ i. is_drawn j.drawn site i) same ∙ apart))) w
-  waits_header other (header.SnapAdd name) permits apart = waits_on r you (op.Header other (header.SnapAdd name)) image (owned_is_other site r j other image _ u permits w) w
-  waits_header other (header.SnapRemove snap) permits apart = waits_on r you (op.Header other (header.SnapRemove snap)) image (owned_is_other site r j other image _ u permits w) w
+  waits_header other (header.SnapAdd name) permits apart = waits_owned (op.Header other (header.SnapAdd name)) (λ free. owned_is_other site r you j other image _ u free permits w)
+  waits_header other (header.SnapRemove snap) permits apart = waits_owned (op.Header other (header.SnapRemove snap)) (λ free. owned_is_other site r you j other image _ u free permits w)
+  waits_header other header.LockTake permits apart = waits_by r you other header.LockTake refl image w
+  waits_header other header.LockDrop permits apart = waits_by r you other header.LockDrop refl image w
+  waits_header other (header.LockBreak owner) permits apart = waits_by r you other (header.LockBreak owner) refl image w
+  waits_header other header.Watch permits apart = waits_by r you other header.Watch refl image w
+  waits_header other header.Unwatch permits apart = waits_by r you other header.Unwatch refl image w
+  waits_header other header.WatchersGet permits apart = waits_by r you other header.WatchersGet refl image w
+  waits_header other (header.Notify kind) permits apart = waits_by r you other (header.Notify kind) refl image w
   waits_header other _ permits apart = elim permits [ ]
 
   pub waits_object : (other number : ℕ) (o : DataOp) → PermitsOnObject j site other number o → IsWaiting (after r you (op.Data other number o)) image
   waits_object other number (object.Read snap parts) permits = waits_behind_look r you (op.Data other number (object.Read snap parts)) image refl w
   waits_object other number (object.Write context must parts bytes) permits =
-      waits_on r you (op.Data other number (object.Write context must parts bytes)) image (owned_is_other site r j other image _ u permits w) w
+      waits_owned (op.Data other number (object.Write context must parts bytes)) (λ free. owned_is_other site r you j other image _ u free permits w)
   waits_object other number _ permits = elim permits [ ]
 
   pub waits_still : (o : Op) → Permits j site o → is_drawn j.drawn site image ≡ false → IsWaiting (after r you o) image
   waits_still (op.Directory o) permits apart = waits_on r you (op.Directory o) image refl w
+  waits_still (op.BlockAdd i) permits apart = waits_on r you (op.BlockAdd i) image refl w
   waits_still (op.Header other o) permits apart = waits_header other o permits apart
   waits_still (op.Data other number o) permits apart = waits_object other number o permits
   waits_still _ permits apart = elim permits [ ]
 
-pub others_keep : (site : SiteId) (r : Records) (k j : Knowledge) (you : Instance) (o : Op) → IsTrueAt site r k → IsTrueAt site r j → AreBeside site k j → Permits j site o
-    → IsTrueAt site (after r you o) k
-others_keep site r k j you o t u beside permits = record {
-  owned = owned_kept site r k j you t u beside o permits;
+pub others_keep : (site : SiteId) (r : Records) (k j : Knowledge) (me you : Instance) (o : Op) → IsTrueAt site r me k → IsTrueAt site r you j → AreBeside site k j → Permits j site o
+    → IsTrueAt site (after r you o) me k
+others_keep site r k j me you o t u beside permits = record {
+  owned = λ free. owned_kept site r k j you (t.owned (was_free r you me o free)) u beside o permits;
   drawn = λ image drawn. waits_still site r j you u image (t.drawn image drawn) o permits (beside.apart image drawn);
+  fenced = λ i known. fence_stays r you i o (t.fenced i known);
 }
 
 -- ---- the store
@@ -186,11 +278,12 @@ trim_waits r other number image w = record {
     by n true same true there = ap (λ b. or_blank (cond b now (r.objects other n))) there ∙ blank_in live (r.objects other number) (was number same)
     by n true same false elsewhere = ap (λ b. or_blank (cond b now (r.objects other n))) elsewhere ∙ was n same
 
-pub trims_keep : (site : SiteId) (r : Records) (k : Knowledge) (image number : ℕ) → IsTrueAt site r k → IsTrueAt site (trimmed image number r) k
-trims_keep site r k image number t = record { owned = t.owned; drawn = λ i drawn. trim_waits r image number i (t.drawn i drawn) }
+pub trims_keep : (site : SiteId) (r : Records) (me : Instance) (k : Knowledge) (image number : ℕ) → IsTrueAt site r me k → IsTrueAt site (trimmed image number r) me k
+trims_keep site r me k image number t = record { owned = t.owned; drawn = λ i drawn. trim_waits r image number i (t.drawn i drawn); fenced = t.fenced }
 
-pub expiries_keep : (site : SiteId) (r : Records) (k : Knowledge) (image : ℕ) (i : Instance) → IsTrueAt site r k → IsTrueAt site (expired image i r) k
-expiries_keep site r k image i t = record {
+pub expiries_keep : (site : SiteId) (r : Records) (me : Instance) (k : Knowledge) (image : ℕ) (i : Instance) → IsTrueAt site r me k → IsTrueAt site (expired image i r) me k
+expiries_keep site r me k image i t = record {
   owned = t.owned;
   drawn = λ n drawn. let w = t.drawn n drawn in record { drawn = w.drawn; header = w.header; blank = w.blank };
+  fenced = t.fenced;
 }

@@ -1,7 +1,7 @@
 -- What a request learns by its own operations, and behind its waits, is true.
 use Rattle.std.proofs.Common.{◌≡◌, ◌≢◌, ℕ, ◌==◌, ◌+◌, ◌&&◌, cond, not, Bool, true, false, List, [], ◌∷◌, map, Option, Some, None, option_map, refl, sym, ap, ◌∙◌, subst, arith}
 use Rattle.std.specs.List.{filter}
-use Rattle.std.specs.Prelude.{is_some}
+use Rattle.std.specs.Prelude.{IsFalse, is_some}
 use Rattle.std.proofs.lemmas.Bool.{true≢false, eqb-true, ne_eqb, and_parts, eq-eqb}
 use Rattle.rbd_kinds.specs.declared.answer.Answer.{Answer}
 use Rattle.rbd_kinds.specs.declared.answer.Answer.TheVariants as answer
@@ -15,7 +15,7 @@ use Rattle.rbd_kinds.specs.declared.id.SiteId.{SiteId}
 use Rattle.rbd_kinds.specs.declared.id.SiteId.TheVariants as sites
 use Rattle.rbd_kinds.specs.declared.operation.Op.{Op}
 use Rattle.rbd_kinds.specs.declared.operation.Op.TheVariants as op
-use Rattle.rbd_machine.specs.Knowledge.{Knowledge, Own, Place, own_of, is_drawn, is_at, same_site, told_of, header_told, first_told, learned, learned_of_header, learned_of_directory, with_drawn, without_drawn, passed, held, left}
+use Rattle.rbd_machine.specs.Knowledge.{Knowledge, Own, Place, Fence, own_of, is_drawn, is_at, is_fence_of, is_fenced_by, same_instance, same_site, told_of, header_told, first_told, learned, learned_of_header, learned_of_directory, learned_of_listing, unfenced, with_drawn, with_fence, without_drawn, without_fence, passed, held, left}
 use Rattle.rbd_machine.specs.Wait.{Wait}
 use Rattle.rbd_machine.specs.Wait as wait
 use Rattle.rbd_machine.specs.Permits.{Permits, PermitsOnHeader, PermitsOnDirectory, OwnsBy, OwnsAlone, MayMake, MayTake, MayRemove}
@@ -28,14 +28,17 @@ use Rattle.rbd_site.specs.DirectoryStep.{name_added, where_added}
 use Rattle.rbd_site.specs.HeaderStep.{header_after, header_answer, snap_added, where_made}
 use Rattle.rbd_site.specs.Found.{done_where}
 use Rattle.rbd_site.specs.Records.{Records, with_directory}
-use Rattle.rbd_site.specs.Step.{after, after_served, answer_to, answer_served}
+use Rattle.rbd_site.specs.Step.{is_fenced, after, after_served, answer_to, answer_served}
+use Rattle.rbd_site.proofs.FenceLemmas.{fence_stays}
 use Rattle.rbd_site.proofs.StepLemmas.{where_fenced}
 use Rattle.rbd_site.proofs.GenerationLemmas.{looked_at}
 use Rattle.rbd_stands.specs.Site.{StandsFor}
+use Rattle.rbd_stands.proofs.Locks.{same_is}
 use Rattle.rbd_stands.proofs.ObjectSteps.{put_there, put_elsewhere}
 use Rattle.rbd_stands.proofs.Served.{where_either}
 use Rattle.rbd_rely.specs.Truth.{IsTrueAt, IsStill, IsWaiting, header_of_own, known_header}
-use Rattle.rbd_rely.proofs.Kept.{owned_there, unknown_of_none, owned_is_other, waits_served, waits_object, other_than}
+use Rattle.rbd_rely.proofs.Fenced.{where_free, was_free, is_put_up, stays_put_up}
+use Rattle.rbd_rely.proofs.Kept.{owned_there, unknown_of_none, owned_is_other, waits_served, waits_object, kept_by, other_than}
 
 -- ---- where
 
@@ -85,12 +88,12 @@ told_there site image other change differ (o ∷ owns) = by (is_at site image o.
     by true is rest = rw is (rw (at_one site image other o.site o.image differ is) rest)
     by false is rest = rw is (ap (λ found. cond (is_at site other o.site o.image) (Some o) found) rest)
 
-module _ (site : SiteId) (r new : Records) (k : Knowledge) (t : IsTrueAt site r k) where
+module _ (site : SiteId) (r new : Records) (me : Instance) (k : Knowledge) (t : IsTrueAt site r me k) (free : IsFalse (is_fenced r me)) where
   -- what it was told of one image
   pub told_true : (image : ℕ) (change : Option HeaderView → Option HeaderView) → ((i : ℕ) → i ≢ image → new.headers i ≡ r.headers i)
       → IsStill (header_changed change (own_of k.owns site image)) (new.headers image) → ((i : ℕ) → is_drawn k.drawn site i ≡ true → IsWaiting new i)
-      → IsTrueAt site new (header_told site image change k)
-  told_true image change others here waits = record { owned = λ i. by i (i == image) refl; drawn = waits }
+      → ((i : Instance) → is_fenced_by k.fenced site i ≡ true → is_fenced new i ≡ true) → IsTrueAt site new me (header_told site image change k)
+  told_true image change others here waits listed = record { owned = λ still_free i. by i (i == image) refl; drawn = waits; fenced = listed }
     where
       by : (i : ℕ) (b : Bool) → (i == image) ≡ b → IsStill (known_header (header_told site image change k) site i) (new.headers i)
       by i true same =
@@ -99,37 +102,36 @@ module _ (site : SiteId) (r new : Records) (k : Knowledge) (t : IsTrueAt site r 
       by i false other =
           let differ : i ≢ image = λ e. true≢false (sym (eq-eqb i image e) ∙ other) in
           subst (λ o. IsStill o (new.headers i)) (sym (ap header_of_own (told_there site image i change (λ e. differ (sym e)) k.owns)))
-          (subst (IsStill (known_header k site i)) (sym (others i differ)) (t.owned i))
+          (subst (IsStill (known_header k site i)) (sym (others i differ)) (t.owned free i))
 
 -- ---- the directory
 
 -- a fresh id waits for its header
-module _ (site : SiteId) (r : Records) (f : Flat) (k : Knowledge) (stands : StandsFor [] r f) (t : IsTrueAt site r k) where
+module _ (site : SiteId) (r : Records) (f : Flat) (me : Instance) (k : Knowledge) (stands : StandsFor [] r f) (t : IsTrueAt site r me k) where
   fresh_waits : (name : List ℕ) (image : ℕ) → image ≡ r.directory.drawn + 1 → IsWaiting (with_directory (added name r.directory) r) image
   fresh_waits name image new =
       let untouched = stands.fresh image (omega (arith, new)) in
       record { drawn = omega (arith, new); header = untouched.header; blank = untouched.blank }
 
-  drawn_true : (name : List ℕ) → IsTrueAt site (with_directory (added name r.directory) r) (with_drawn site (r.directory.drawn + 1) k)
-  drawn_true name = record { owned = t.owned; drawn = λ i drawn. by i (is_at site i site (r.directory.drawn + 1)) refl drawn }
+  drawn_true : (name : List ℕ) → IsTrueAt site (with_directory (added name r.directory) r) me (with_drawn site (r.directory.drawn + 1) k)
+  drawn_true name = record { owned = t.owned; drawn = λ i drawn. by i (is_at site i site (r.directory.drawn + 1)) refl drawn; fenced = t.fenced }
     where
       by : (i : ℕ) (b : Bool) → is_at site i site (r.directory.drawn + 1) ≡ b → cond b true (is_drawn k.drawn site i) ≡ true → IsWaiting (with_directory (added name r.directory) r) i
       by i true here drawn = fresh_waits name i (sym (eqb-true (r.directory.drawn + 1) i (and_parts (same_site site site) ((r.directory.drawn + 1) == i) here).1))
       by i false there drawn = let w = t.drawn i drawn in let before = w.drawn in record { drawn = omega (arith, before); header = w.header; blank = w.blank }
 
   added_true : (name : List ℕ) (held : Option ℕ) (full : Bool)
-      → IsTrueAt site (with_directory (where_added (name_added held full (r.directory.drawn + 1)) (added name r.directory) r.directory) r)
+      → IsTrueAt site (with_directory (where_added (name_added held full (r.directory.drawn + 1)) (added name r.directory) r.directory) r) me
       (learned_of_directory k site (directory.Add name) (name_added held full (r.directory.drawn + 1)))
   added_true name (Some image) full = t
   added_true name None true = t
   added_true name None false = drawn_true name
 
-  directory_learned : (me : Instance) (o : DirectoryOp) → PermitsOnDirectory o
-      → IsTrueAt site (after_served r me (op.Directory o)) (learned_of_directory k site o (answer_served r me (op.Directory o)))
-  directory_learned me (directory.Find name) permits = t
-  directory_learned me directory.List permits = t
-  directory_learned me (directory.Add name) permits = added_true name (id_of r.directory name) (listing.is_full r.directory)
-  directory_learned me _ permits = elim permits [ ]
+  directory_learned : (o : DirectoryOp) → PermitsOnDirectory o → IsTrueAt site (after_served r me (op.Directory o)) me (learned_of_directory k site o (answer_served r me (op.Directory o)))
+  directory_learned (directory.Find name) permits = t
+  directory_learned directory.List permits = t
+  directory_learned (directory.Add name) permits = added_true name (id_of r.directory name) (listing.is_full r.directory)
+  directory_learned _ permits = elim permits [ ]
 
 -- ---- headers
 
@@ -151,16 +153,17 @@ drawn_left site image i (d ∷ drawn) is = by (is_at site image d.site d.image) 
     by false here true there is more = (refl, λ same. true≢false (sym there ∙ ap (λ n. is_at site n d.site d.image) same ∙ here))
     by false here false there is more = more (sym (ap (λ b. cond b true (is_drawn rest site i)) there) ∙ is)
 
-module _ (site : SiteId) (r : Records) (k : Knowledge) (me : Instance) (t : IsTrueAt site r k) where
+-- of an instance that isn't fenced
+module _ (site : SiteId) (r : Records) (me : Instance) (k : Knowledge) (t : IsTrueAt site r me k) (free : IsFalse (is_fenced r me)) where
   abbrev pub doing : (image : ℕ) → HeaderOp → Records
   doing image o = after_served r me (op.Header image o)
 
   elsewhere : (image : ℕ) (o : HeaderOp) (i : ℕ) → i ≢ image → (doing image o).headers i ≡ r.headers i
   elsewhere image o i differ = put_elsewhere r.headers image (header_after me (r.headers image) o) i differ
 
-  got : (image : ℕ) (there : Option HeaderView) → r.headers image ≡ there → IsTrueAt site r (learned_of_header k site image header.Get (header_answer me there (r.watchers image) header.Get))
+  got : (image : ℕ) (there : Option HeaderView) → r.headers image ≡ there → IsTrueAt site r me (learned_of_header k site image header.Get (header_answer me there (r.watchers image) header.Get))
   got image None is = t
-  got image (Some h) is = told_true site r r k t image (first_told h) (λ i differ. refl) (by (own_of k.owns site image) refl) t.drawn
+  got image (Some h) is = told_true site r r me k t free image (first_told h) (λ i differ. refl) (by (own_of k.owns site image) refl) t.drawn t.fenced
     where
       still : (o : Own) (known : Option HeaderView) → o.header ≡ known → IsStill known (Some h) → IsStill (first_told h o.header) (Some h)
       still o None is was = subst (λ q. IsStill (first_told h q) (Some h)) (sym is) refl
@@ -170,17 +173,17 @@ module _ (site : SiteId) (r : Records) (k : Knowledge) (me : Instance) (t : IsTr
       by None at = tt
       by (Some o) at =
           subst (IsStill (first_told h o.header)) (sym is)
-          (still o o.header refl (subst (IsStill o.header) is (subst (λ q. IsStill (header_of_own q) (r.headers image)) at (t.owned image))))
+          (still o o.header refl (subst (IsStill o.header) is (subst (λ q. IsStill (header_of_own q) (r.headers image)) at (t.owned free image))))
 
-  made : (image : ℕ) (view : HeaderView) → MayMake k site image view → IsTrueAt site (doing image (header.Create view)) (without_drawn site image k)
-  made image view may = record { owned = λ i. by i (i == image) refl; drawn = λ i drawn. waits i (drawn_left site image i k.drawn drawn) }
+  made : (image : ℕ) (view : HeaderView) → MayMake k site image view → IsTrueAt site (doing image (header.Create view)) me (without_drawn site image k)
+  made image view may = record { owned = λ still_free i. by i (i == image) refl; drawn = λ i drawn. waits i (drawn_left site image i k.drawn drawn); fenced = t.fenced }
     where
       by : (i : ℕ) (b : Bool) → (i == image) ≡ b → IsStill (known_header k site i) ((doing image (header.Create view)).headers i)
       by i true same =
           unknown_of_none (known_header k site i) ((doing image (header.Create view)).headers i)
-          (subst (λ n. IsStill (known_header k site n) None) (sym (eqb-true i image same)) (subst (IsStill (known_header k site image)) (t.drawn image may.drawn).header (t.owned image)))
+          (subst (λ n. IsStill (known_header k site n) None) (sym (eqb-true i image same)) (subst (IsStill (known_header k site image)) (t.drawn image may.drawn).header (t.owned free image)))
       by i false other =
-          subst (IsStill (known_header k site i)) (sym (elsewhere image (header.Create view) i (λ e. true≢false (sym (eq-eqb i image e) ∙ other)))) (t.owned i)
+          subst (IsStill (known_header k site i)) (sym (elsewhere image (header.Create view) i (λ e. true≢false (sym (eq-eqb i image e) ∙ other)))) (t.owned free i)
 
       waits : (i : ℕ) → (is_drawn k.drawn site i ≡ true) × (i ≢ image) → IsWaiting (doing image (header.Create view)) i
       waits i left = waits_served r me (op.Header image (header.Create view)) i (other_than image i (λ e. left.1 (sym e))) (t.drawn i left.0)
@@ -189,13 +192,14 @@ module _ (site : SiteId) (r : Records) (k : Knowledge) (me : Instance) (t : IsTr
   edited : (image : ℕ) (o : HeaderOp) (condition : (alone : Bool) → HeaderView → Type 0) (owns : OwnsBy k site image condition) (edit : HeaderView → HeaderView)
       → ((h : HeaderView) (owner : Option Instance) → edit (record h { owner = owner }) ≡ record (edit h) { owner = owner })
       → (v : HeaderView) → v ≡ record owns.header { owner = v.owner } → (edit v).owner ≡ v.owner
-      → header_after me (r.headers image) o ≡ Some (edit v) → IsTrueAt site (doing image o) (header_told site image (option_map edit) k)
+      → header_after me (r.headers image) o ≡ Some (edit v) → IsTrueAt site (doing image o) me (header_told site image (option_map edit) k)
   edited image o condition owns edit keeps v same owner is =
-      told_true site r (doing image o) k t image (option_map edit) (elsewhere image o)
+      told_true site r (doing image o) me k t free image (option_map edit) (elsewhere image o)
       (subst (λ q. IsStill (header_changed (option_map edit) q) ((doing image o).headers image)) (sym owns.is)
       (subst (IsStill (Some (edit owns.header))) (sym (put_there r.headers image (header_after me (r.headers image) o) ∙ is))
       (ap edit same ∙ keeps owns.header v.owner ∙ ap (λ w. record (edit owns.header) { owner = w }) (sym owner))))
-      (λ i drawn. waits_served r me (op.Header image o) i (owned_is_other site r k image i condition t owns (t.drawn i drawn)) (t.drawn i drawn))
+      (λ i drawn. waits_served r me (op.Header image o) i (owned_is_other site r me k image i condition t free owns (t.drawn i drawn)) (t.drawn i drawn))
+      t.fenced
 
   -- ---- snapshots
 
@@ -205,9 +209,9 @@ module _ (site : SiteId) (r : Records) (k : Knowledge) (me : Instance) (t : IsTr
     pub is : header_after me (r.headers image) o ≡ Some (edit v)
 
   pub takes : (image : ℕ) (name : List ℕ) (owns : OwnsAlone k site image (MayTake name))
-      → Edits image (header.SnapAdd name) (with_snap name) (owned_there site r k image _ t owns).view (answer.Snap ((owned_there site r k image _ t owns).view.snap_seq + 1))
+      → Edits image (header.SnapAdd name) (with_snap name) (owned_there site r me k image _ t free owns).view (answer.Snap ((owned_there site r me k image _ t free owns).view.snap_seq + 1))
   takes image name owns =
-      let there = owned_there site r k image _ t owns in
+      let there = owned_there site r me k image _ t free owns in
       let unlisted : is_some (snap_named there.view.snaps name) ≡ false =
       ap (λ (h : HeaderView). is_some (snap_named h.snaps name)) there.same ∙ ap is_some owns.meets.1.unlisted in
       let room : is_full there.view ≡ false = ap is_full there.same ∙ owns.meets.1.has_room in
@@ -221,9 +225,9 @@ module _ (site : SiteId) (r : Records) (k : Knowledge) (me : Instance) (t : IsTr
       }
 
   pub removes : (image snap : ℕ) (owns : OwnsAlone k site image (MayRemove snap))
-      → Edits image (header.SnapRemove snap) (without_snap snap) (owned_there site r k image _ t owns).view answer.Done
+      → Edits image (header.SnapRemove snap) (without_snap snap) (owned_there site r me k image _ t free owns).view answer.Done
   removes image snap owns =
-      let there = owned_there site r k image _ t owns in
+      let there = owned_there site r me k image _ t free owns in
       let listed : is_some (snap_in there.view.snaps snap) ≡ true =
       ap (λ (h : HeaderView). is_some (snap_in h.snaps snap)) there.same ∙ ap is_some owns.meets.1.listed in
       record {
@@ -232,35 +236,86 @@ module _ (site : SiteId) (r : Records) (k : Knowledge) (me : Instance) (t : IsTr
       }
 
   taken : (image : ℕ) (name : List ℕ) → OwnsAlone k site image (MayTake name)
-      → IsTrueAt site (doing image (header.SnapAdd name)) (learned_of_header k site image (header.SnapAdd name) (header_answer me (r.headers image) (r.watchers image) (header.SnapAdd name)))
+      → IsTrueAt site (doing image (header.SnapAdd name)) me (learned_of_header k site image (header.SnapAdd name) (header_answer me (r.headers image) (r.watchers image) (header.SnapAdd name)))
   taken image name owns =
-      let there = owned_there site r k image _ t owns in
+      let there = owned_there site r me k image _ t free owns in
       let edits = takes image name owns in
-      subst (λ a. IsTrueAt site (doing image (header.SnapAdd name)) (learned_of_header k site image (header.SnapAdd name) a)) (sym edits.answered)
+      subst (λ a. IsTrueAt site (doing image (header.SnapAdd name)) me (learned_of_header k site image (header.SnapAdd name) a)) (sym edits.answered)
       (edited image (header.SnapAdd name) _ owns (with_snap name) (λ h owner. refl) there.view there.same refl edits.is)
 
   removed : (image snap : ℕ) → OwnsAlone k site image (MayRemove snap)
-      → IsTrueAt site (doing image (header.SnapRemove snap)) (learned_of_header k site image (header.SnapRemove snap) (header_answer me (r.headers image) (r.watchers image) (header.SnapRemove snap)))
+      → IsTrueAt site (doing image (header.SnapRemove snap)) me (learned_of_header k site image (header.SnapRemove snap) (header_answer me (r.headers image) (r.watchers image) (header.SnapRemove snap)))
   removed image snap owns =
-      let there = owned_there site r k image _ t owns in
+      let there = owned_there site r me k image _ t free owns in
       let edits = removes image snap owns in
-      subst (λ a. IsTrueAt site (doing image (header.SnapRemove snap)) (learned_of_header k site image (header.SnapRemove snap) a)) (sym edits.answered)
+      subst (λ a. IsTrueAt site (doing image (header.SnapRemove snap)) me (learned_of_header k site image (header.SnapRemove snap) a)) (sym edits.answered)
       (edited image (header.SnapRemove snap) _ owns (without_snap snap) (λ h owner. refl) there.view there.same refl edits.is)
 
+-- ---- fences
+
+-- a fence that is known without the last one of an instance was known with it
+pub was_known : (there : SiteId) (owner : Instance) (site : SiteId) (i : Instance) (fenced : List Fence) → is_fenced_by (unfenced there owner fenced) site i ≡ true → is_fenced_by fenced site i ≡ true
+was_known there owner site i [] known = known
+was_known there owner site i (f ∷ fenced) known = by (is_fence_of there owner f) (is_fence_of site i f) refl known (was_known there owner site i fenced)
+  where
+    by : (a b : Bool) → is_fence_of site i f ≡ b → is_fenced_by (cond a fenced (f ∷ unfenced there owner fenced)) site i ≡ true
+        → (is_fenced_by (unfenced there owner fenced) site i ≡ true → is_fenced_by fenced site i ≡ true) → cond b true (is_fenced_by fenced site i) ≡ true
+    by a true is known before = refl
+    by true false is known before = known
+    by false false is known before = before (sym (ap (λ b. cond b true (is_fenced_by (unfenced there owner fenced) site i)) is) ∙ known)
+
+-- to forget one does no harm
+unfenced_true : (site there : SiteId) (r : Records) (me : Instance) (k : Knowledge) (owner : Instance) → IsTrueAt site r me k → IsTrueAt site r me (without_fence there owner k)
+unfenced_true site there r me k owner t = record { owned = t.owned; drawn = t.drawn; fenced = λ i known. t.fenced i (was_known there owner site i k.fenced known) }
+
+broken_true : (site : SiteId) (r : Records) (me : Instance) (k : Knowledge) (image : ℕ) (owner : Instance) (a : Answer) → IsTrueAt site r me k
+    → IsTrueAt site r me (learned_of_header k site image (header.LockBreak owner) a)
+broken_true site r me k image owner answer.Done t = unfenced_true site site r me k owner t
+broken_true site r me k image owner answer.Changed t = unfenced_true site site r me k owner t
+broken_true site r me k image owner _ t = t
+
+listed_true : (site : SiteId) (r : Records) (me : Instance) (k : Knowledge) (i : Instance) → IsTrueAt site r me k → IsFalse (is_fenced r me)
+    → IsTrueAt site (after_served r me (op.BlockAdd i)) me (with_fence site i k)
+listed_true site r me k i t free = record {
+  owned = λ still_free. t.owned free;
+  drawn = λ image drawn. let w = t.drawn image drawn in record { drawn = w.drawn; header = w.header; blank = w.blank };
+  fenced = λ other known. by other (is_fence_of site other (record { site = site; instance = i })) refl known;
+}
+  where
+    by : (other : Instance) (b : Bool) → is_fence_of site other (record { site = site; instance = i }) ≡ b → cond b true (is_fenced_by k.fenced site other) ≡ true
+        → is_fenced (after_served r me (op.BlockAdd i)) other ≡ true
+    by other true is known =
+        subst (λ j. is_fenced (after_served r me (op.BlockAdd i)) j ≡ true) (same_is i other (and_parts (same_site site site) (same_instance i other) is).1) (is_put_up r me i free)
+    by other false is known = stays_put_up r me i free other (t.fenced other known)
+
+-- ---- headers, whether it is fenced or not
+
+module _ (site : SiteId) (r : Records) (me : Instance) (k : Knowledge) (t : IsTrueAt site r me k) where
   abbrev HeaderTeaches : (image : ℕ) → HeaderOp → Answer → Records → Type 0
-  HeaderTeaches image o a s = IsTrueAt site s (learned_of_header k site image o a)
+  HeaderTeaches image o a s = IsTrueAt site s me (learned_of_header k site image o a)
 
   header_learned : (image : ℕ) (o : HeaderOp) → PermitsOnHeader k site image o
       → HeaderTeaches image o (answer_to r me (op.Header image o)) (after r me (op.Header image o))
   header_learned image header.Get permits =
       subst (HeaderTeaches image header.Get (answer_to r me (op.Header image header.Get))) (sym (looked_at r me (op.Header image header.Get) refl))
-      (where_either (λ a s. HeaderTeaches image header.Get a r) r me (op.Header image header.Get) t (got image (r.headers image) refl))
+      (where_free (λ a s. HeaderTeaches image header.Get a r) r me (op.Header image header.Get) t (λ free. got site r me k t free image (r.headers image) refl))
   header_learned image (header.Create view) permits =
-      where_either (HeaderTeaches image (header.Create view)) r me (op.Header image (header.Create view)) t
-      (subst (λ h. HeaderTeaches image (header.Create view) (header_answer me h (r.watchers image) (header.Create view)) (doing image (header.Create view))) (sym (t.drawn image permits.drawn).header)
-      (made image view permits))
-  header_learned image (header.SnapAdd name) permits = where_either (HeaderTeaches image (header.SnapAdd name)) r me (op.Header image (header.SnapAdd name)) t (taken image name permits)
-  header_learned image (header.SnapRemove snap) permits = where_either (HeaderTeaches image (header.SnapRemove snap)) r me (op.Header image (header.SnapRemove snap)) t (removed image snap permits)
+      where_free (HeaderTeaches image (header.Create view)) r me (op.Header image (header.Create view)) t (λ free.
+      subst (λ h. HeaderTeaches image (header.Create view) (header_answer me h (r.watchers image) (header.Create view)) (after_served r me (op.Header image (header.Create view)))) (sym (t.drawn image permits.drawn).header)
+      (made site r me k t free image view permits))
+  header_learned image (header.SnapAdd name) permits =
+      where_free (HeaderTeaches image (header.SnapAdd name)) r me (op.Header image (header.SnapAdd name)) t (λ free. taken site r me k t free image name permits)
+  header_learned image (header.SnapRemove snap) permits =
+      where_free (HeaderTeaches image (header.SnapRemove snap)) r me (op.Header image (header.SnapRemove snap)) t (λ free. removed site r me k t free image snap permits)
+  header_learned image (header.LockBreak owner) permits =
+      broken_true site (after r me (op.Header image (header.LockBreak owner))) me k image owner (answer_to r me (op.Header image (header.LockBreak owner)))
+      (kept_by site r me me k image (header.LockBreak owner) refl t)
+  header_learned image header.LockTake permits = kept_by site r me me k image header.LockTake refl t
+  header_learned image header.LockDrop permits = kept_by site r me me k image header.LockDrop refl t
+  header_learned image header.Watch permits = kept_by site r me me k image header.Watch refl t
+  header_learned image header.Unwatch permits = kept_by site r me me k image header.Unwatch refl t
+  header_learned image header.WatchersGet permits = kept_by site r me me k image header.WatchersGet refl t
+  header_learned image (header.Notify kind) permits = kept_by site r me me k image (header.Notify kind) refl t
   header_learned image _ permits = elim permits [ ]
 
 -- ---- all operations
@@ -273,18 +328,25 @@ learned_of_fence k site (op.Header image header.Get) = refl
 learned_of_fence k site (op.Header image (header.Create view)) = refl
 learned_of_fence k site (op.Header image (header.SnapAdd name)) = refl
 learned_of_fence k site (op.Header image (header.SnapRemove snap)) = refl
+learned_of_fence k site (op.Header image (header.LockBreak owner)) = refl
 learned_of_fence k site (op.Header image o) = refl
+learned_of_fence k site (op.BlockAdd i) = refl
 learned_of_fence k site o = refl
 
-pub own_learned : (site : SiteId) (r : Records) (f : Flat) (k : Knowledge) (me : Instance) (o : Op) → StandsFor [] r f → IsTrueAt site r k → Permits k site o
-    → IsTrueAt site (after r me o) (learned k site o (answer_to r me o))
+pub own_learned : (site : SiteId) (r : Records) (f : Flat) (k : Knowledge) (me : Instance) (o : Op) → StandsFor [] r f → IsTrueAt site r me k → Permits k site o
+    → IsTrueAt site (after r me o) me (learned k site o (answer_to r me o))
 own_learned site r f k me (op.Directory o) stands t permits =
-    where_either (λ a s. IsTrueAt site s (learned k site (op.Directory o) a)) r me (op.Directory o)
-    (subst (IsTrueAt site r) (sym (learned_of_fence k site (op.Directory o))) t) (directory_learned site r f k stands t me o permits)
-own_learned site r f k me (op.Header image o) stands t permits = header_learned site r k me t image o permits
+    where_either (λ a s. IsTrueAt site s me (learned k site (op.Directory o) a)) r me (op.Directory o)
+    (subst (IsTrueAt site r me) (sym (learned_of_fence k site (op.Directory o))) t) (directory_learned site r f me k stands t o permits)
+own_learned site r f k me (op.BlockAdd i) stands t permits =
+    where_free (λ a s. IsTrueAt site s me (learned_of_listing k site i a)) r me (op.BlockAdd i) t (λ free. listed_true site r me k i t free)
+own_learned site r f k me (op.Header image o) stands t permits = header_learned site r me k t image o permits
 own_learned site r f k me (op.Data image number o) stands t permits = record {
-  owned = λ i. where_fenced (λ s. IsStill (known_header k site i) (s.headers i)) r me (op.Data image number o) (t.owned i) (t.owned i);
+  owned = λ free i.
+      let still = t.owned (was_free r me me (op.Data image number o) free) i in
+      where_fenced (λ s. IsStill (known_header k site i) (s.headers i)) r me (op.Data image number o) still still;
   drawn = λ i drawn. waits_object site r k me t i (t.drawn i drawn) image number o permits;
+  fenced = λ i known. fence_stays r me i (op.Data image number o) (t.fenced i known);
 }
 own_learned site r f k me _ stands t permits = elim permits [ ]
 
@@ -316,7 +378,7 @@ left_there site there image place differ (o ∷ owns) = by (is_at site image o.s
         rest ∙ sym (ap (λ b. cond b (Some o) (own_of owns there place)) (sym (ap (λ s. is_at there place s image) same.0 ∙ ap (λ i. is_at there place o.site i) same.1) ∙ differ))
     by false is rest = ap (λ found. cond (is_at there place o.site o.image) (Some o) found) rest
 
-module _ (site : SiteId) (r : Records) (k : Knowledge) (t : IsTrueAt site r k) (there : SiteId) (place : ℕ) where
+module _ (site : SiteId) (r : Records) (me : Instance) (k : Knowledge) (t : IsTrueAt site r me k) (free : IsFalse (is_fenced r me)) (there : SiteId) (place : ℕ) where
   left_still : (image : ℕ) → IsStill (header_of_own (own_of (left there place k.owns) site image)) (r.headers image)
   left_still image = by (is_at site image there place) refl
     where
@@ -326,7 +388,7 @@ module _ (site : SiteId) (r : Records) (k : Knowledge) (t : IsTrueAt site r k) (
           let none : own_of (left there place k.owns) site image ≡ None =
           ap (λ s. own_of (left there place k.owns) s image) same.0 ∙ ap (λ i. own_of (left there place k.owns) there i) same.1 ∙ left_here there place k.owns in
           subst (λ o. IsStill (header_of_own o) (r.headers image)) (sym none) tt
-      by false other = subst (λ o. IsStill (header_of_own o) (r.headers image)) (sym (left_there there site place image other k.owns)) (t.owned image)
+      by false other = subst (λ o. IsStill (header_of_own o) (r.headers image)) (sym (left_there there site place image other k.owns)) (t.owned free image)
 
   held_still : (image : ℕ) → IsStill (header_of_own (own_of (held k there place) site image)) (r.headers image)
   held_still image = by (is_at site image there place)
@@ -335,9 +397,9 @@ module _ (site : SiteId) (r : Records) (k : Knowledge) (t : IsTrueAt site r k) (
       by true = tt
       by false = left_still image
 
-pub waits_learned : (site : SiteId) (r : Records) (k : Knowledge) (w : Wait) → IsTrueAt site r k → IsTrueAt site r (passed k w)
-waits_learned site r k (wait.Join there image alone) t = record { owned = t.owned; drawn = t.drawn }
-waits_learned site r k (wait.Hold there image) t = record { owned = held_still site r k t there image; drawn = t.drawn }
-waits_learned site r k (wait.Turn object) t = record { owned = t.owned; drawn = t.drawn }
-waits_learned site r k (wait.Applied there image) t = record { owned = t.owned; drawn = t.drawn }
-waits_learned site r k (wait.Leave there image) t = record { owned = left_still site r k t there image; drawn = t.drawn }
+pub waits_learned : (site : SiteId) (r : Records) (me : Instance) (k : Knowledge) (w : Wait) → IsTrueAt site r me k → IsTrueAt site r me (passed k w)
+waits_learned site r me k (wait.Join there image alone) t = record { owned = t.owned; drawn = t.drawn; fenced = t.fenced }
+waits_learned site r me k (wait.Hold there image) t = record { owned = λ free. held_still site r me k t free there image; drawn = t.drawn; fenced = t.fenced }
+waits_learned site r me k (wait.Turn object) t = record { owned = t.owned; drawn = t.drawn; fenced = t.fenced }
+waits_learned site r me k (wait.Applied there image) t = record { owned = t.owned; drawn = t.drawn; fenced = t.fenced }
+waits_learned site r me k (wait.Leave there image) t = record { owned = λ free. left_still site r me k t free there image; drawn = t.drawn; fenced = t.fenced }

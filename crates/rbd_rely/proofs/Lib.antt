@@ -1,4 +1,5 @@
 pub mod Done
+pub mod Fenced
 pub mod Elsewhere
 pub mod Kept
 pub mod Learned

@@ -12,7 +12,7 @@ use Rattle.rbd_kinds.specs.Header.{snap_named}
 use Rattle.rbd_header.specs.Header.{is_full, snap_in, with_snap, without_snap}
 use Rattle.rbd_machine.specs.Knowledge.{Knowledge}
 use Rattle.rbd_machine.specs.Permits.{Permits, PermitsOnHeader}
-use Rattle.rbd_site.specs.HeaderStep.{header_after, where_made}
+use Rattle.rbd_site.specs.HeaderStep.{header_after, is_owner, where_made}
 use Rattle.rbd_site.specs.Records.{Records}
 use Rattle.rbd_site.specs.Step.{after, after_served}
 use Rattle.rbd_site.proofs.StepLemmas.{where_fenced}
@@ -45,10 +45,27 @@ module _ (site : SiteId) (r : Records) (k : Knowledge) (you : Instance) (parentl
   header_parent image (header.SnapRemove snap) permits (Some v) is h at =
       edited v (cond (is_some (snap_in v.snaps snap)) (without_snap snap v) v) image is
       (left_parent (is_some (snap_in v.snaps snap)) (without_snap snap v) v refl) h at
+  header_parent image header.LockTake permits None is h at = absurd (none-some h at)
+  header_parent image header.LockTake permits (Some v) is h at = edited v (record v { owner = cond (is_some v.owner) v.owner (Some you) }) image is refl h at
+  header_parent image header.LockDrop permits None is h at = absurd (none-some h at)
+  header_parent image header.LockDrop permits (Some v) is h at =
+      edited v (cond (is_owner you v.owner) (record v { owner = None }) v) image is (left_parent (is_owner you v.owner) (record v { owner = None }) v refl) h at
+  header_parent image (header.LockBreak owner) permits None is h at = absurd (none-some h at)
+  header_parent image (header.LockBreak owner) permits (Some v) is h at =
+      edited v (cond (is_owner owner v.owner) (record v { owner = None }) v) image is (left_parent (is_owner owner v.owner) (record v { owner = None }) v refl) h at
+  header_parent image header.Watch permits None is h at = absurd (none-some h at)
+  header_parent image header.Watch permits (Some v) is h at = edited v v image is refl h at
+  header_parent image header.Unwatch permits None is h at = absurd (none-some h at)
+  header_parent image header.Unwatch permits (Some v) is h at = edited v v image is refl h at
+  header_parent image header.WatchersGet permits None is h at = absurd (none-some h at)
+  header_parent image header.WatchersGet permits (Some v) is h at = edited v v image is refl h at
+  header_parent image (header.Notify kind) permits None is h at = absurd (none-some h at)
+  header_parent image (header.Notify kind) permits (Some v) is h at = edited v v image is refl h at
   header_parent image _ permits there is h at = elim permits [ ]
 
   served_parent : (o : Op) → Permits k site o → IsParentless (after_served r you o)
   served_parent (op.Directory o) permits = parentless
+  served_parent (op.BlockAdd i) permits = parentless
   served_parent (op.Data image number o) permits = parentless
   served_parent (op.Header image o) permits = λ i h at. by i h (i == image) at
     where

@@ -14,8 +14,8 @@ use Rattle.rbd_kinds.specs.declared.id.SiteId.{SiteId}
 use Rattle.rbd_kinds.specs.declared.operation.Op.{Op}
 use Rattle.rbd_kinds.specs.declared.operation.Op.TheVariants as op
 use Rattle.rbd_header.specs.Header.{with_snap, without_snap}
-use Rattle.rbd_machine.specs.Knowledge.{Knowledge, Own, own_of, is_drawn, is_at, same_site, told_of, header_told, first_told, learned, learned_of_directory, learned_of_header, with_drawn, without_drawn, passed, held, left}
-use Rattle.rbd_machine.specs.Permits.{Permits, PermitsOnDirectory, PermitsOnHeader}
+use Rattle.rbd_machine.specs.Knowledge.{Knowledge, Fence, Own, own_of, is_drawn, is_at, same_site, told_of, header_told, first_told, learned, learned_of_directory, learned_of_header, learned_of_listing, unfenced, with_drawn, without_drawn, passed, held, left}
+use Rattle.rbd_machine.specs.Permits.{Permits, PermitsOnDirectory, PermitsOnHeader, HoldsUnlooked}
 use Rattle.rbd_machine.specs.Wait.{Wait}
 use Rattle.rbd_machine.specs.Wait as wait
 use Rattle.rbd_registry.specs.Directory.{id_of}
@@ -24,7 +24,7 @@ use Rattle.rbd_site.specs.DirectoryStep.{name_added}
 use Rattle.rbd_site.specs.Records.{Records}
 use Rattle.rbd_site.specs.Step.{answer_to}
 use Rattle.rbd_stands.proofs.Served.{where_either}
-use Rattle.rbd_rely.specs.Beside.{AreBeside, AreShared, MayLook, is_own_alone, is_alone_on}
+use Rattle.rbd_rely.specs.Beside.{AreBeside, AreShared, MayLook, SharesLock, is_own_alone, is_alone_on}
 use Rattle.rbd_rely.specs.Truth.{IsTrueAt, header_of_own, known_header}
 use Rattle.rbd_rely.proofs.Learned.{header_changed, told_here, told_there, drawn_left, left_here, left_there, place_of}
 
@@ -101,8 +101,8 @@ module _ (site : SiteId) (k j : Knowledge) (beside : AreBeside site k j) where
     apart = λ i drawn. beside.apart i (drawn_left site image i k.drawn drawn).0;
   }
 
-  drawn_beside : (r : Records) → IsTrueAt site r j → AreBeside site (with_drawn site (r.directory.drawn + 1) k) j
-  drawn_beside r u = record {
+  drawn_beside : (r : Records) (you : Instance) → IsTrueAt site r you j → AreBeside site (with_drawn site (r.directory.drawn + 1) k) j
+  drawn_beside r you u = record {
     shared = λ i mine others. let both = beside.shared i mine others in record { one = both.one; other = both.other };
     apart = λ i drawn. by i (is_at site i site (r.directory.drawn + 1)) refl (is_drawn j.drawn site i) refl drawn;
   }
@@ -115,18 +115,25 @@ module _ (site : SiteId) (k j : Knowledge) (beside : AreBeside site k j) where
           absurd (omega (arith, new, before))
       by i false is true others drawn = absurd (true≢false (sym others ∙ beside.apart i drawn))
 
-  directory_beside : (r : Records) (me : Instance) (o : DirectoryOp) → IsTrueAt site r j → PermitsOnDirectory o → AreBeside site (learned_of_directory k site o (answer_to r me (op.Directory o))) j
-  directory_beside r me (directory.Find name) u permits = beside
-  directory_beside r me directory.List u permits = beside
-  directory_beside r me (directory.Add name) u permits =
+  directory_beside : (r : Records) (me you : Instance) (o : DirectoryOp) → IsTrueAt site r you j → PermitsOnDirectory o → AreBeside site (learned_of_directory k site o (answer_to r me (op.Directory o))) j
+  directory_beside r me you (directory.Find name) u permits = beside
+  directory_beside r me you directory.List u permits = beside
+  directory_beside r me you (directory.Add name) u permits =
       where_either (λ a s. AreBeside site (learned_of_directory k site (directory.Add name) a) j) r me (op.Directory (directory.Add name)) beside
       (by (id_of r.directory name) (listing.is_full r.directory))
     where
       by : (held : Option ℕ) (full : Bool) → AreBeside site (learned_of_directory k site (directory.Add name) (name_added held full (r.directory.drawn + 1))) j
       by (Some image) full = beside
       by None true = beside
-      by None false = drawn_beside r u
-  directory_beside r me _ u permits = elim permits [ ]
+      by None false = drawn_beside r you u
+  directory_beside r me you _ u permits = elim permits [ ]
+
+  -- whatever it knows of fences
+  fence_beside : (fenced : List Fence) → AreBeside site (record k { fenced = fenced }) j
+  fence_beside fenced = record {
+    shared = λ i mine others. let both = beside.shared i mine others in record { one = both.one; other = both.other };
+    apart = beside.apart;
+  }
 
   header_beside : (image : ℕ) (o : HeaderOp) (a : Answer) → PermitsOnHeader k site image o → MayLook site k j (op.Header image o) → AreBeside site (learned_of_header k site image o a) j
   header_beside image header.Get (answer.Header h) permits may = looked_beside image h may
@@ -137,13 +144,27 @@ module _ (site : SiteId) (k j : Knowledge) (beside : AreBeside site k j) where
   header_beside image (header.Create view) _ permits may = beside
   header_beside image (header.SnapAdd name) _ permits may = beside
   header_beside image (header.SnapRemove snap) _ permits may = beside
+  header_beside image (header.LockBreak owner) answer.Done permits may = fence_beside (unfenced site owner k.fenced)
+  header_beside image (header.LockBreak owner) answer.Changed permits may = fence_beside (unfenced site owner k.fenced)
+  header_beside image (header.LockBreak owner) _ permits may = beside
+  header_beside image header.LockTake a permits may = beside
+  header_beside image header.LockDrop a permits may = beside
+  header_beside image header.Watch a permits may = beside
+  header_beside image header.Unwatch a permits may = beside
+  header_beside image header.WatchersGet a permits may = beside
+  header_beside image (header.Notify kind) a permits may = beside
   header_beside image _ a permits may = elim permits [ ]
 
-  pub learned_beside : (r : Records) (me : Instance) (o : Op) → IsTrueAt site r j → Permits k site o → MayLook site k j o → AreBeside site (learned k site o (answer_to r me o)) j
-  learned_beside r me (op.Directory o) u permits may = directory_beside r me o u permits
-  learned_beside r me (op.Header image o) u permits may = header_beside image o (answer_to r me (op.Header image o)) permits may
-  learned_beside r me (op.Data image number o) u permits may = beside
-  learned_beside r me _ u permits may = elim permits [ ]
+  listing_beside : (i : Instance) (a : Answer) → AreBeside site (learned_of_listing k site i a) j
+  listing_beside i answer.Done = fence_beside (record { site = site; instance = i } ∷ k.fenced)
+  listing_beside i _ = beside
+
+  pub learned_beside : (r : Records) (me you : Instance) (o : Op) → IsTrueAt site r you j → Permits k site o → MayLook site k j o → AreBeside site (learned k site o (answer_to r me o)) j
+  learned_beside r me you (op.Directory o) u permits may = directory_beside r me you o u permits
+  learned_beside r me you (op.BlockAdd i) u permits may = listing_beside i (answer_to r me (op.BlockAdd i))
+  learned_beside r me you (op.Header image o) u permits may = header_beside image o (answer_to r me (op.Header image o)) permits may
+  learned_beside r me you (op.Data image number o) u permits may = beside
+  learned_beside r me you _ u permits may = elim permits [ ]
 
   -- ---- waits
 
@@ -203,3 +224,13 @@ module _ (site : SiteId) (k j : Knowledge) (beside : AreBeside site k j) where
     shared = λ i mine others. let both = left_shared there image i mine others in record { one = both.0; other = both.1 };
     apart = beside.apart;
   }
+
+-- ---- a lock that is given up
+
+-- Who may give up a lock is alone on the image. So nobody else that goes beside knows the header.
+pub nobody_knows : (site : SiteId) (k j : Knowledge) (image : ℕ) → HoldsUnlooked k site image → SharesLock site image k j → known_header j site image ≡ None
+nobody_knows site k j image holds may = by (known_header j site image) refl
+  where
+    by : (there : Option HeaderView) → known_header j site image ≡ there → there ≡ None
+    by None is = refl
+    by (Some h) is = absurd (true≢false (sym (ap is_own_alone holds.is) ∙ (may (ap is_some holds.is) (ap is_some is)).one))

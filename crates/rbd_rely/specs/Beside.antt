@@ -25,9 +25,15 @@ pub record AreBeside (site : SiteId) (k j : Knowledge) : Type 0 where
   pub shared : (image : ℕ) → IsSome (known_header k site image) → IsSome (known_header j site image) → AreShared site image k j
   pub apart : (image : ℕ) → is_drawn k.drawn site image ≡ true → is_drawn j.drawn site image ≡ false
 
+-- Where one waited for the lock of an image, and the other knows the header, neither is alone.
+abbrev pub SharesLock : SiteId → (image : ℕ) → (k j : Knowledge) → Type 0
+SharesLock site image k j = IsSome (own_of k.owns site image) → IsSome (known_header j site image) → AreShared site image k j
+
 -- A request may look at the header of an image whose lock it waited for only where it is alone with
--- its own look, or neither is alone that knows the header. The line of a session and the lock see
--- to that.
+-- its own look, or neither is alone that knows the header. So it is with the drop of the lock:
+-- nobody of its session may rely on a header meanwhile. The line of a session and the lock see to
+-- that.
 abbrev pub MayLook : SiteId → (k j : Knowledge) → Op → Type 0
-MayLook site k j (op.Header image header.Get) = IsSome (own_of k.owns site image) → IsSome (known_header j site image) → AreShared site image k j
+MayLook site k j (op.Header image header.Get) = SharesLock site image k j
+MayLook site k j (op.Header image header.LockDrop) = SharesLock site image k j
 MayLook site k j o = Unit {0}

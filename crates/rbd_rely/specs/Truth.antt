@@ -1,12 +1,14 @@
 -- When what a request knows is true at a site, by the site's records.
-use Rattle.std.specs.Prelude.{◌≡◌, ℕ, true, Option, Some, None}
+use Rattle.std.specs.Prelude.{◌≡◌, ℕ, true, Option, Some, None, IsFalse}
 use Rattle.rbd_kinds.specs.declared.header.HeaderView.{HeaderView}
+use Rattle.rbd_kinds.specs.declared.id.Instance.{Instance}
 use Rattle.rbd_kinds.specs.declared.id.SiteId.{SiteId}
 use Rattle.rbd_object.specs.Mapped.{mapped_blank}
 use Rattle.rbd_flat.specs.Flat.{Flat, after}
 use Rattle.rbd_flat.specs.declared.effect.Effect.{Effect}
-use Rattle.rbd_machine.specs.Knowledge.{Knowledge, Own, own_of, is_drawn}
+use Rattle.rbd_machine.specs.Knowledge.{Knowledge, Own, own_of, is_drawn, is_fenced_by}
 use Rattle.rbd_site.specs.Records.{Records, object_at}
+use Rattle.rbd_site.specs.Step.{is_fenced}
 use Rattle.rbd_stands.specs.Condition.{IsDrawn}
 
 -- ---- headers
@@ -37,9 +39,12 @@ pub record IsWaiting (r : Records) (image : ℕ) : Type 0 where
 
 -- ---- all of it
 
-pub record IsTrueAt (site : SiteId) (r : Records) (k : Knowledge) : Type 0 where
-  pub owned : (image : ℕ) → IsStill (known_header k site image) (r.headers image)
+-- What a request of an instance knows. Where the instance is fenced, its headers say nothing: its
+-- lock may be broken, and another changes the image. It does nothing by them any more.
+pub record IsTrueAt (site : SiteId) (r : Records) (me : Instance) (k : Knowledge) : Type 0 where
+  pub owned : IsFalse (is_fenced r me) → (image : ℕ) → IsStill (known_header k site image) (r.headers image)
   pub drawn : (image : ℕ) → is_drawn k.drawn site image ≡ true → IsWaiting r image
+  pub fenced : (i : Instance) → is_fenced_by k.fenced site i ≡ true → is_fenced r i ≡ true
 
 -- ---- the site
 

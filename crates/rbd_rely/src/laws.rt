@@ -5,7 +5,9 @@ ghost use Rattle.rbd_kinds.specs.declared.answer.Answer.{Answer};
 ghost use Rattle.rbd_kinds.specs.declared.answer.Answer.TheVariants as answered;
 ghost use Rattle.rbd_kinds.specs.declared.id.Instance.{Instance};
 ghost use Rattle.rbd_kinds.specs.declared.id.SiteId.{SiteId as Site};
+ghost use Rattle.rbd_kinds.specs.declared.header_op.HeaderOp.TheVariants as header;
 ghost use Rattle.rbd_kinds.specs.declared.operation.Op.{Op};
+ghost use Rattle.rbd_kinds.specs.declared.operation.Op.TheVariants as on;
 ghost use Rattle.rbd_flat.specs.Flat.{Flat};
 ghost use Rattle.rbd_machine.specs.Answers.{CanGive};
 ghost use Rattle.rbd_machine.specs.Knowledge.{Knowledge, nothing_known, learned, passed, same_site};
@@ -14,41 +16,41 @@ ghost use Rattle.rbd_machine.specs.Wait.{Wait};
 ghost use Rattle.rbd_site.specs.InForm.{AreInForm};
 ghost use Rattle.rbd_site.specs.Log.{expired, trimmed};
 ghost use Rattle.rbd_site.specs.Records.{Records, no_records};
-ghost use Rattle.rbd_site.specs.Step.{MayDo, answer_to, after};
+ghost use Rattle.rbd_site.specs.Step.{MayDo, is_fenced, answer_to, after};
 ghost use Rattle.rbd_site.specs.declared.done.DoneOp.TheVariants as done;
 ghost use Rattle.rbd_stands.specs.Effect.{effect_of};
 ghost use Rattle.rbd_stands.specs.Site.{StandsFor};
 ghost use Rattle.rbd_rely.specs.Beside.{AreBeside, MayLook};
-ghost use Rattle.rbd_rely.specs.Truth.{IsTrueAt, IsParentless, changed_by};
+ghost use Rattle.rbd_rely.specs.Truth.{IsTrueAt, IsParentless, changed_by, known_header};
 
 /// Who knows nothing knows nothing false.
 pub fn nothing_is_false_at_first()
-    ensures { (site : Site) (r : Records) → IsTrueAt site r nothing_known }
+    ensures { (site : Site) (r : Records) (me : Instance) → IsTrueAt site r me nothing_known }
 {}
 
-/// What a request knows stays true while another one does what is permitted to it, by what that one
-/// knows truly. `you` is whoever does it.
+/// What a request of an instance `me` knows stays true while another one does what is permitted to
+/// it, by what that one knows truly. `you` is the instance that does it, which may be the same.
 pub fn others_keep_what_is_known()
-    ensures { (site : Site) (r : Records) (k j : Knowledge) (you : Instance) (op : Op)
-        → IsTrueAt site r k → IsTrueAt site r j → AreBeside site k j → Permits j site op
-        → IsTrueAt site (after r you op) k }
+    ensures { (site : Site) (r : Records) (k j : Knowledge) (me you : Instance) (op : Op)
+        → IsTrueAt site r me k → IsTrueAt site r you j → AreBeside site k j → Permits j site op
+        → IsTrueAt site (after r you op) me k }
 {}
 
 /// The store's own step keeps what is known.
 pub fn trims_keep_what_is_known()
-    ensures { (site : Site) (r : Records) (k : Knowledge) (image number : ℕ) → IsTrueAt site r k → IsTrueAt site (trimmed image number r) k }
+    ensures { (site : Site) (r : Records) (me : Instance) (k : Knowledge) (image number : ℕ) → IsTrueAt site r me k → IsTrueAt site (trimmed image number r) me k }
 {}
 
 /// So does the end of a watch.
 pub fn expiries_keep_what_is_known()
-    ensures { (site : Site) (r : Records) (k : Knowledge) (image : ℕ) (i : Instance) → IsTrueAt site r k → IsTrueAt site (expired image i r) k }
+    ensures { (site : Site) (r : Records) (me : Instance) (k : Knowledge) (image : ℕ) (i : Instance) → IsTrueAt site r me k → IsTrueAt site (expired image i r) me k }
 {}
 
 /// What a request learns by an operation that is permitted to it is true behind this operation.
 pub fn answers_teach_what_is_true()
     ensures { (site : Site) (r : Records) (f : Flat) (k : Knowledge) (me : Instance) (op : Op)
-        → StandsFor [] r f → IsTrueAt site r k → Permits k site op
-        → IsTrueAt site (after r me op) (learned k site op (answer_to r me op)) }
+        → StandsFor [] r f → IsTrueAt site r me k → Permits k site op
+        → IsTrueAt site (after r me op) me (learned k site op (answer_to r me op)) }
 {}
 
 /// Who is fenced learns nothing.
@@ -58,14 +60,14 @@ pub fn fences_teach_nothing()
 
 /// What it may count on behind a wait is true.
 pub fn waits_teach_what_is_true()
-    ensures { (site : Site) (r : Records) (k : Knowledge) (wait : Wait) → IsTrueAt site r k → IsTrueAt site r (passed k wait) }
+    ensures { (site : Site) (r : Records) (me : Instance) (k : Knowledge) (wait : Wait) → IsTrueAt site r me k → IsTrueAt site r me (passed k wait) }
 {}
 
 /// What a request learns at one site leaves true what it knows of the other, and leaves two requests
 /// beside each other there.
 pub fn sites_are_known_apart()
-    ensures truth { (site other : Site) (r : Records) (k : Knowledge) (op : Op) (answer : Answer)
-        → IsFalse (same_site site other) → IsTrueAt other r k → IsTrueAt other r (learned k site op answer) }
+    ensures truth { (site other : Site) (r : Records) (me : Instance) (k : Knowledge) (op : Op) (answer : Answer)
+        → IsFalse (same_site site other) → IsTrueAt other r me k → IsTrueAt other r me (learned k site op answer) }
     ensures beside { (site other : Site) (k j : Knowledge) (op : Op) (answer : Answer)
         → IsFalse (same_site site other) → AreBeside other k j → AreBeside other (learned k site op answer) j }
 {}
@@ -74,28 +76,38 @@ pub fn sites_are_known_apart()
 /// permitted to it, if it may look at what it looks at; whatever it waited for; and it doesn't
 /// matter which is named first.
 pub fn requests_stay_beside()
-    ensures answered { (site : Site) (r : Records) (k j : Knowledge) (me : Instance) (op : Op)
-        → IsTrueAt site r j → AreBeside site k j → Permits k site op → MayLook site k j op
+    ensures answered { (site : Site) (r : Records) (k j : Knowledge) (me you : Instance) (op : Op)
+        → IsTrueAt site r you j → AreBeside site k j → Permits k site op → MayLook site k j op
         → AreBeside site (learned k site op (answer_to r me op)) j }
     ensures waited { (site : Site) (k j : Knowledge) (wait : Wait) → AreBeside site k j → AreBeside site (passed k wait) j }
     ensures first { (site : Site) (j : Knowledge) → AreBeside site nothing_known j }
     ensures mutual { (site : Site) (k j : Knowledge) → AreBeside site k j → AreBeside site j k }
 {}
 
+/// A lock is broken only where its owner is fenced, so that what the owner knew of the image rests
+/// on the lock no more. And where one gives up a lock, no request that goes beside it relies on the
+/// image's header.
+pub fn nobody_relies_on_a_lock_that_ends()
+    ensures broken { (site : Site) (r : Records) (me owner : Instance) (k : Knowledge) (image : ℕ)
+        → IsTrueAt site r me k → Permits k site (on.Header image (header.LockBreak owner)) → is_fenced r owner ≡ true }
+    ensures dropped { (site : Site) (k j : Knowledge) (image : ℕ)
+        → Permits k site (on.Header image header.LockDrop) → MayLook site k j (on.Header image header.LockDrop) → known_header j site image ≡ None }
+{}
+
 /// What is permitted by true knowledge meets the site's condition, and its answer is one that the
 /// operation can give: it may be that of a fence.
 pub fn what_is_permitted_may_be_done()
     ensures may { (site : Site) (r : Records) (k : Knowledge) (me : Instance) (op : Op) (most : ℕ)
-        → AreInForm r most → IsTrueAt site r k → Permits k site op → MayDo r me op }
+        → AreInForm r most → IsTrueAt site r me k → Permits k site op → MayDo r me op }
     ensures gives { (site : Site) (r : Records) (k : Knowledge) (me : Instance) (op : Op) (most : ℕ)
-        → AreInForm r most → IsTrueAt site r k → Permits k site op → CanGive op (answer_to r me op) }
+        → AreInForm r most → IsTrueAt site r me k → Permits k site op → CanGive op (answer_to r me op) }
 {}
 
 /// Where the records stand for a flat site, what is permitted by true knowledge has its effect
 /// there and no other. So each step of a request is a step of the flat-copy machine, or none.
 pub fn what_is_permitted_has_its_effect()
     ensures { (site : Site) (r : Records) (f : Flat) (k : Knowledge) (me : Instance) (op : Op) (most : ℕ)
-        → StandsFor [] r f → AreInForm r most → IsParentless r → IsTrueAt site r k → Permits k site op
+        → StandsFor [] r f → AreInForm r most → IsParentless r → IsTrueAt site r me k → Permits k site op
         → StandsFor [] (after r me op) (changed_by f (effect_of r (done.Op op) (answer_to r me op))) }
 {}
 

@@ -23,12 +23,17 @@
 //! |---|---|
 //! | a header, behind an own look | the image has it still, with the request's own changes; its owner may change |
 //! | an id that was drawn | it waits for its header: no object of it was changed |
+//! | an instance that was fenced | it is in the site's blocklist |
 //!
+//! - Knowledge is an instance's. What a fenced instance knew of headers says nothing any more: its
+//!   lock may be broken, and another instance changes the image. It does nothing by them, since
+//!   each of its operations is refused. The ids that it drew still wait.
 //! - Two requests are *beside* each other where neither is alone on an image whose header both
 //!   know, and no id was drawn by both. The line of a session sees to the first (`rbd_line`), and
 //!   the lock between sessions, which isn't built.
 //! - A request that has its image's lock may look at its header, the first time, only where it is
-//!   so (`MayLook`). All else keeps two requests beside each other.
+//!   so (`MayLook`), and give the lock up only where it is so: it is alone then, so nobody else of
+//!   its session relies on the header. All else keeps two requests beside each other.
 //!
 //! # Contracts
 //!
@@ -47,7 +52,9 @@
 //!   operation can give;
 //! - where the records stand for a flat site, it has the effect there that `effect_of` tells, and
 //!   no other; so the records stand for a flat site behind it too;
-//! - two requests that are beside each other stay so.
+//! - two requests that are beside each other stay so;
+//! - a lock is broken only where its owner is fenced, and given up only where no request beside
+//!   knows the header.
 //!
 //! With these a world of several clients goes on step by step: whatever request comes next, what
 //! all know is true, what it wants may be done, and the step is one of the flat-copy machine, or

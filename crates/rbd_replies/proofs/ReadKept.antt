@@ -1,5 +1,5 @@
 -- A header that is there stays: its generation never falls, and while it is the same, so is the
--- header.
+-- header, but for the owner of its lock.
 use Rattle.std.proofs.Common.{◌≡◌, ℕ, ◌==◌, ◌≤◌, cond, Bool, true, false, List, [], ◌∷◌, ◌++◌, Option, Some, refl, sym, ap, ◌∙◌, subst, arith}
 use Rattle.std.proofs.lemmas.Bool.{eqb-true}
 use Rattle.rbd_kinds.specs.declared.header.HeaderView.{HeaderView}
@@ -11,12 +11,13 @@ use Rattle.rbd_kinds.specs.declared.operation.Op.{Op}
 use Rattle.rbd_kinds.specs.declared.operation.Op.TheVariants as op
 use Rattle.rbd_machine.specs.Knowledge.{Knowledge, same_site}
 use Rattle.rbd_machine.specs.Permits.{Permits, PermitsOnHeader}
+use Rattle.rbd_rely.proofs.Kept.{IsThere}
 use Rattle.rbd_site.specs.HeaderStep.{header_after}
 use Rattle.rbd_site.specs.Laws.{is_on_lock}
 use Rattle.rbd_site.specs.Log.{trimmed}
 use Rattle.rbd_site.specs.Records.{Records}
 use Rattle.rbd_site.specs.Step.{after, after_served}
-use Rattle.rbd_site.proofs.GenerationLemmas.{generation_lasts, generation_same}
+use Rattle.rbd_site.proofs.GenerationLemmas.{generation_lasts, generation_same, lock_alone}
 use Rattle.rbd_site.proofs.StepLemmas.{where_fenced}
 use Rattle.rbd_world.specs.Run.{Happening, Nothing, Waited, Began, Did, Refused, Trimmed, records_after, records_behind}
 use Rattle.rbd_world.specs.Sound.{IsDone, IsDue, IsRight}
@@ -28,7 +29,7 @@ pub record IsKept (old : HeaderView) (there : Option HeaderView) : Type 0 where
   pub view : HeaderView
   pub is : there ≡ Some view
   pub lasts : old.generation ≤ view.generation
-  pub same : view.generation ≡ old.generation → view ≡ old
+  pub same : view.generation ≡ old.generation → view ≡ record old { owner = view.owner }
 
 kept_as_it_is : (old : HeaderView) (there : Option HeaderView) → there ≡ Some old → IsKept old there
 kept_as_it_is old there is = record { view = old; is = is; lasts = omega arith; same = λ e. refl }
@@ -43,21 +44,31 @@ stays_here k s me image header.Get permits v = record { view = v; is = refl }
 stays_here k s me image (header.Create view) permits v = record { view = v; is = refl }
 stays_here k s me image (header.SnapAdd name) permits v = record { view = _; is = refl }
 stays_here k s me image (header.SnapRemove snap) permits v = record { view = _; is = refl }
+stays_here k s me image header.LockTake permits v = record { view = _; is = refl }
+stays_here k s me image header.LockDrop permits v = record { view = _; is = refl }
+stays_here k s me image (header.LockBreak owner) permits v = record { view = _; is = refl }
+stays_here k s me image header.Watch permits v = record { view = v; is = refl }
+stays_here k s me image header.Unwatch permits v = record { view = v; is = refl }
+stays_here k s me image header.WatchersGet permits v = record { view = v; is = refl }
+stays_here k s me image (header.Notify kind) permits v = record { view = v; is = refl }
 stays_here k s me image _ permits v = elim permits [ ]
 
-no_lock : (k : Knowledge) (s : SiteId) (o : Op) → Permits k s o → is_on_lock o ≡ false
-no_lock k s (op.Directory o) permits = refl
-no_lock k s (op.Header image header.Get) permits = refl
-no_lock k s (op.Header image (header.Create view)) permits = refl
-no_lock k s (op.Header image (header.SnapAdd name)) permits = refl
-no_lock k s (op.Header image (header.SnapRemove snap)) permits = refl
-no_lock k s (op.Header image _) permits = elim permits [ ]
-no_lock k s (op.Data image number o) permits = refl
-no_lock k s _ permits = elim permits [ ]
+-- An operation on the lock changes the owner alone, and any other leaves a header whose generation
+-- stays.
+same_but_owner : (r : Records) (me : Instance) (o : Op) (image : ℕ) (old new : HeaderView) → r.headers image ≡ Some old → (after r me o).headers image ≡ Some new
+    → new.generation ≡ old.generation → new ≡ record old { owner = new.owner }
+same_but_owner r me o image old new was is generation = by (is_on_lock o) refl
+  where
+    by : (b : Bool) → is_on_lock o ≡ b → new ≡ record old { owner = new.owner }
+    by true lock = lock_alone r me o image old new was is lock
+    by false other =
+        let same : new ≡ old = generation_same r me o image old new was is other generation in
+        same ∙ ap (λ (h : HeaderView). record old { owner = h.owner }) (sym same)
 
 here_served : (s : SiteId) (r : Records) (k : Knowledge) (me : Instance) (o : Op) → Permits k s o → (image : ℕ) (old : HeaderView) → r.headers image ≡ Some old
     → IsHere ((after_served r me o).headers image)
 here_served s r k me (op.Directory o) permits image old is = record { view = old; is = is }
+here_served s r k me (op.BlockAdd i) permits image old is = record { view = old; is = is }
 here_served s r k me (op.Data other number o) permits image old is = record { view = old; is = is }
 here_served s r k me (op.Header other o) permits image old is = by (image == other) refl
   where
@@ -80,7 +91,7 @@ kept_on s r k me o permits image old is =
       view = there.view;
       is = there.is;
       lasts = generation_lasts r me o image old there.view is there.is;
-      same = generation_same r me o image old there.view is there.is (no_lock k s o permits);
+      same = same_but_owner r me o image old there.view is there.is;
     }
 
 -- from one moment to the next, and to the one behind it
@@ -95,7 +106,7 @@ kept_further old there then first more =
       same = λ e.
           let here : first.view.generation ≡ old.generation = omega arith in
           let next : more.view.generation ≡ first.view.generation = omega arith in
-          more.same next ∙ first.same here;
+          more.same next ∙ ap (λ (h : HeaderView). record h { owner = more.view.owner }) (first.same here);
     }
 
 module _ (homes : ℕ → SiteId) (s : SiteId) (image : ℕ) where
@@ -131,10 +142,10 @@ module _ (homes : ℕ → SiteId) (s : SiteId) (image : ℕ) where
   header_kept later earlier goes right old is =
       subst (λ run. IsKept old ((records_after s run).headers image)) (sym goes.is) (kept_since goes.since earlier (subst (IsRight homes) goes.is right) old is)
 
-  -- between two moments at which it has one generation it is one header
+  -- between two moments at which it has one generation it is one header, but for its owner
   pub header_between : (last middle first : List Happening) → GoesOn last middle → GoesOn middle first → IsRight homes last → IsRight homes middle → (old new : HeaderView)
       → (records_after s first).headers image ≡ Some old → (records_after s last).headers image ≡ Some new → new.generation ≡ old.generation
-      → (records_after s middle).headers image ≡ Some old
+      → IsThere old ((records_after s middle).headers image)
   header_between last middle first onward since right_last right_middle old new was is generation =
       let then = header_kept middle first since right_middle old was in
       let end = header_kept last middle onward right_last then.view then.is in
@@ -143,4 +154,4 @@ module _ (homes : ℕ → SiteId) (s : SiteId) (image : ℕ) where
       let one = then.lasts in
       let two = end.lasts in
       let still : then.view.generation ≡ old.generation = omega (arith, one, two, equal, generation) in
-      then.is ∙ ap Some (then.same still)
+      record { view = then.view; is = then.is; same = then.same still }

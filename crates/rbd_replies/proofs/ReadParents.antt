@@ -12,7 +12,7 @@ use Rattle.rbd_kinds.specs.declared.operation.Op.TheVariants as op
 use Rattle.rbd_kinds.specs.Header.{snap_named}
 use Rattle.rbd_machine.specs.Knowledge.{Knowledge, same_site}
 use Rattle.rbd_machine.specs.Permits.{Permits, PermitsOnHeader}
-use Rattle.rbd_site.specs.HeaderStep.{header_after, where_made}
+use Rattle.rbd_site.specs.HeaderStep.{header_after, is_owner, where_made}
 use Rattle.rbd_site.specs.Log.{trimmed}
 use Rattle.rbd_site.specs.Records.{Records}
 use Rattle.rbd_site.specs.Step.{after, after_served}
@@ -32,6 +32,14 @@ AreViewsAlone there = (h : HeaderView) → there ≡ Some h → EachView h HasNo
 
 alone : (v : HeaderView) → EachView v HasNoParent → AreViewsAlone (Some v)
 alone v none h is = subst (λ (x : HeaderView). EachView x HasNoParent) (same_Some v h is) none
+
+-- whoever owns its lock
+owned_alone : (v : HeaderView) (owner : Option Instance) → EachView v HasNoParent → AreViewsAlone (Some (record v { owner = owner }))
+owned_alone v owner none = alone (record v { owner = owner }) (record { head = none.head; snap = none.snap })
+
+unowned_alone : (v : HeaderView) (b : Bool) → AreViewsAlone (Some v) → AreViewsAlone (Some (cond b (record v { owner = None }) v))
+unowned_alone v true was = owned_alone v None (was v refl)
+unowned_alone v false was = was
 
 module _ (k : Knowledge) (s : SiteId) (me : Instance) (image : ℕ) where
   views_then : (o : HeaderOp) → PermitsOnHeader k s image o → (there : Option HeaderView) → AreViewsAlone there → AreViewsAlone (header_after me there o)
@@ -55,6 +63,20 @@ module _ (k : Knowledge) (s : SiteId) (me : Instance) (image : ℕ) where
       by : (b : Bool) → AreViewsAlone (Some (cond b (without_snap snap v) v))
       by true = alone (without_snap snap v) (each_removed {P = HasNoParent} {Q = HasNoParent} snap v (λ none. none) (λ t u is other none. none) (was v refl))
       by false = was
+  views_then header.LockTake permits None was = was
+  views_then header.LockTake permits (Some v) was = owned_alone v (cond (is_some v.owner) v.owner (Some me)) (was v refl)
+  views_then header.LockDrop permits None was = was
+  views_then header.LockDrop permits (Some v) was = unowned_alone v (is_owner me v.owner) was
+  views_then (header.LockBreak owner) permits None was = was
+  views_then (header.LockBreak owner) permits (Some v) was = unowned_alone v (is_owner owner v.owner) was
+  views_then header.Watch permits None was = was
+  views_then header.Watch permits (Some v) was = was
+  views_then header.Unwatch permits None was = was
+  views_then header.Unwatch permits (Some v) was = was
+  views_then header.WatchersGet permits None was = was
+  views_then header.WatchersGet permits (Some v) was = was
+  views_then (header.Notify kind) permits None was = was
+  views_then (header.Notify kind) permits (Some v) was = was
   views_then _ permits there was = elim permits [ ]
 
 abbrev AreAloneIn : Records → Type 0
@@ -62,6 +84,7 @@ AreAloneIn r = (image : ℕ) → AreViewsAlone (r.headers image)
 
 views_served : (s : SiteId) (r : Records) (k : Knowledge) (me : Instance) (o : Op) → AreAloneIn r → Permits k s o → AreAloneIn (after_served r me o)
 views_served s r k me (op.Directory o) was permits = was
+views_served s r k me (op.BlockAdd i) was permits = was
 views_served s r k me (op.Data image number o) was permits = was
 views_served s r k me (op.Header image o) was permits = λ i. by i (i == image)
   where

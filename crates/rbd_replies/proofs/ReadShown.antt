@@ -19,6 +19,7 @@ use Rattle.rbd_machine.specs.Path.{Answered, looked_at}
 use Rattle.rbd_meaning.specs.Reads.{AreRead, bytes_read, bytes_shown}
 use Rattle.rbd_site.specs.HeaderStep.{header_answer}
 use Rattle.rbd_stands.specs.Condition.{ArePartsBelow}
+use Rattle.rbd_stands.specs.View.{shape_of}
 use Rattle.rbd_world.specs.Run.{records_after}
 use Rattle.rbd_replies.specs.Places.{Placed}
 use Rattle.rbd_replies.specs.Reads.{ArePiecesAt}
@@ -77,6 +78,14 @@ parts_within h e size object piece within are =
 
 -- ---- piece by piece
 
+-- who owns the lock is no part of what a view tells
+owned_shape : (h : HeaderView) (owner : Option Instance) (snap : Option ℕ) → shape_of (record h { owner = owner }) snap ≡ shape_of h snap
+owned_shape h owner None = refl
+owned_shape h owner (Some s) = refl
+
+owned_view : (h : HeaderView) (owner : Option Instance) (view : View) → IsViewOf h view → IsViewOf (record h { owner = owner }) view
+owned_view h owner view viewed = record { shape = viewed.shape; is = owned_shape h owner view.snap ∙ viewed.is; size = viewed.size; no_parent = viewed.no_parent }
+
 module _ (homes : ℕ → SiteId) (home : SiteId) (image : ℕ) (h : HeaderView) (e : Extent) (view : View) (viewed : IsViewOf h view) (within : e.at + e.len ≤ view.size) (first last : Placed)
     (first_home : first.done.site ≡ home) (last_home : last.done.site ≡ home) (last_right : IsPlacedRight homes last) (new : HeaderView)
     (was : (records_after home first.before).headers image ≡ Some h) (is : (records_after home last.before).headers image ≡ Some new) (generation : new.generation ≡ h.generation) where
@@ -87,10 +96,15 @@ module _ (homes : ℕ → SiteId) (home : SiteId) (image : ℕ) (h : HeaderView)
   pieces_shown [] (p ∷ places) parts right behind ordered read = elim read [ ]
   pieces_shown (piece ∷ pieces) [] parts right behind ordered read = elim read [ ]
   pieces_shown (piece ∷ pieces) (p ∷ places) parts right behind ordered read =
-      let there : (records_after home p.before).headers image ≡ Some h =
+      let there =
       header_between homes home image last.before p.before first.before (behind_last p last places ordered.0) behind.0 last_right.right right.0.right h new was is generation in
-      let here : (records_at p).headers image ≡ Some h = subst (λ s. (records_after s p.before).headers image ≡ Some h) (sym read.0) there in
-      let shown = piece_shown homes home image h view viewed p piece right.0 here (parts_within h e view.size piece.object piece within (All-head (λ (q : Piece). IsPartsOf h.layout e q.object q.parts) piece pieces parts)) read.1 read.2 in (
+      let v = there.view in
+      let here : (records_at p).headers image ≡ Some v = subst (λ s. (records_after s p.before).headers image ≡ Some v) (sym read.0) there.is in
+      let viewed_there : IsViewOf v view = subst (λ w. IsViewOf w view) (sym there.same) (owned_view h v.owner view viewed) in
+      let below : ArePartsBelow v view.size piece.object piece.parts =
+      subst (λ w. ArePartsBelow w view.size piece.object piece.parts) (sym there.same)
+      (parts_within (record h { owner = v.owner }) e view.size piece.object piece within (All-head (λ (q : Piece). IsPartsOf h.layout e q.object q.parts) piece pieces parts)) in
+      let shown = piece_shown homes home image v view viewed_there p piece right.0 here below read.1 read.2 in (
         unwrap_or (bytes_shown piece.parts p.done.answer) [],
         bytes_read pieces (map step_at places),
         refl,

@@ -36,11 +36,11 @@ module _ (homes : ℕ → SiteId) (home : SiteId) (image : ℕ) (own : HeaderVie
       let most = length (log_of p.done.site p.before) in
       let owns : OwnsBy right.is.knows p.done.site image (MayWrite right.is.knows.turn piece.object (context_of own) piece.parts (bytes_for piece.parts from bytes)) =
       subst (λ (s : Answered). Permits right.is.knows p.done.site s.op) is right.is.permits in
-      let there = owned_there p.done.site (records_at p) right.is.knows image _ right.is.truth owns in
+      let free = unfenced_there homes p right (piece_written home image own from bytes piece) is refl in
+      let there = owned_there p.done.site (records_at p) p.done.instance right.is.knows image _ right.is.truth free owns in
       let v = there.view in
       let may : step.MayWrite piece.parts (bytes_for piece.parts from bytes) =
-      may_do p.done.site (records_at p) right.is.knows most right.standing.form right.is.truth p.done.instance (op_of piece) owns
-      (unfenced_there homes p right (piece_written home image own from bytes piece) is refl) in
+      may_do p.done.site (records_at p) p.done.instance right.is.knows most right.standing.form right.is.truth (op_of piece) owns free in
       let lie : ArePartsBelow v v.size piece.object piece.parts =
       subst (λ w. ArePartsBelow w w.size piece.object piece.parts) (sym there.same)
       (All-weaker (LiesBelow owns.header piece.object) (IsPartBelow (record owns.header { owner = v.owner }) owns.header.size piece.object) (λ q lies. record { part = lies.part; below = lies.below }) piece.parts owns.meets.within) in

@@ -22,12 +22,13 @@ use Rattle.rbd_rely.proofs.Kept.{others_keep}
 use Rattle.rbd_rely.proofs.Learned.{own_learned}
 use Rattle.rbd_rely.proofs.Parents.{parentless_stays}
 use Rattle.rbd_rely.proofs.Together.{learned_beside}
+use Rattle.rbd_session.specs.Session.{SessionView}
 use Rattle.rbd_site.specs.Step.{after, answer_to}
 use Rattle.rbd_stands.specs.Site.{StandsFor}
 use Rattle.rbd_world.specs.Run.{Happening, Did, flat_after, records_after}
-use Rattle.rbd_world.specs.Sound.{IsSoundWorld}
+use Rattle.rbd_world.specs.Sound.{IsSoundWorld, first_life}
 use Rattle.rbd_world.specs.Step.{DoesAtSites, operation_at}
-use Rattle.rbd_world.specs.World.{WorldView, records_in, site_in}
+use Rattle.rbd_world.specs.World.{WorldView, records_in, session_in, site_in}
 use Rattle.rbd_world.proofs.Beginning.{nothing_is_beside, nothing_is_true}
 use Rattle.rbd_world.proofs.BothSites.{same_site_itself}
 use Rattle.rbd_world.proofs.Carried.{StandFlat}
@@ -57,8 +58,13 @@ beside_mutual t k j beside = record {
     by image drawn true is = absurd (true≢false (sym drawn ∙ beside.apart image is))
     by image drawn false is = is
 
+-- what a client's request knows is true of the client's instance
+pub client_knows : {R : Type 0} (stands : R → Standing) (old : WorldView R) (w : IsSoundWorld stands old) (session slot : ℕ) (c : SessionView R) → session_in session old.sessions ≡ Some c
+    → (t : SiteId) → IsTrueAt t (records_in t old.sites) c.instance (w.knows session slot)
+client_knows stands old w session slot c there t = subst (λ i. IsTrueAt t (records_in t old.sites) i (w.knows session slot)) (sym (w.clients session c there).who) (w.truth session slot t)
+
 module _ {R : Type 0} (stands : R → Standing) (old new : WorldView R) (w : IsSoundWorld stands old) (session slot line : ℕ) (who : Instance) (s : SiteId) (o : Op) (result : Option Reply)
-    (permits : Permits (w.knows session slot) s o)
+    (knows_truly : (t : SiteId) → IsTrueAt t (records_in t old.sites) who (w.knows session slot)) (permits : Permits (w.knows session slot) s o)
     (at_sites : DoesAtSites (Did (operation_at (site_in s old.sites) who line s o) result) old.sites new.sites) where
   abbrev pub does_it : Happening
   does_it = Did (operation_at (site_in s old.sites) who line s o) result
@@ -93,7 +99,7 @@ module _ {R : Type 0} (stands : R → Standing) (old new : WorldView R) (w : IsS
       here =
           subst (λ b. StandsFor [] (cond b (after (records_after s w.run) who o) (records_after s w.run)) (cond b effect_there (flat_after s w.run))) (sym (same_site_itself s))
           (subst (λ r. StandsFor [] (after r who o) effect_there) (w.records s)
-          (has_its_effect s (records_in s old.sites) (flat_after s w.run) know who (length (site_in s old.sites).log) (stands_in s) (w.form s) (w.parentless s) (w.truth session slot s) o permits))
+          (has_its_effect s (records_in s old.sites) (flat_after s w.run) know who (length (site_in s old.sites).log) (stands_in s) (w.form s) (w.parentless s) (knows_truly s) o permits))
 
       other : (t : SiteId) → same_site s t ≡ false → StandsFor [] (records_after t (does_it ∷ w.run)) (flat_after t (does_it ∷ w.run))
       other t differ =
@@ -108,33 +114,33 @@ module _ {R : Type 0} (stands : R → Standing) (old new : WorldView R) (w : IsS
       (λ t differ. subst IsParentless (sym (elsewhere_now t differ)) (w.parentless t))
 
   pub can_give : CanGive o answered
-  can_give = gives_it s (records_in s old.sites) know (length (site_in s old.sites).log) (w.form s) (w.truth session slot s) who o permits
+  can_give = gives_it s (records_in s old.sites) who know (length (site_in s old.sites).log) (w.form s) (knows_truly s) o permits
 
   -- ---- what is known
 
-  pub others_true : (m x : ℕ) → IsElsewhere session slot m x → (t : SiteId) → IsTrueAt t (records_in t new.sites) (w.knows m x)
+  pub others_true : (m x : ℕ) → IsElsewhere session slot m x → (t : SiteId) → IsTrueAt t (records_in t new.sites) (first_life m) (w.knows m x)
   others_true m x where_else =
-      at_either s (λ t. IsTrueAt t (records_in t new.sites) (w.knows m x))
-      (subst (λ r. IsTrueAt s r (w.knows m x)) (sym here_now)
-      (others_keep s (records_in s old.sites) (w.knows m x) know who o (w.truth m x s) (w.truth session slot s) (w.beside m x session slot where_else s) permits))
-      (λ t differ. subst (λ r. IsTrueAt t r (w.knows m x)) (sym (elsewhere_now t differ)) (w.truth m x t))
+      at_either s (λ t. IsTrueAt t (records_in t new.sites) (first_life m) (w.knows m x))
+      (subst (λ r. IsTrueAt s r (first_life m) (w.knows m x)) (sym here_now)
+      (others_keep s (records_in s old.sites) (w.knows m x) know (first_life m) who o (w.truth m x s) (knows_truly s) (w.beside m x session slot where_else s) permits))
+      (λ t differ. subst (λ r. IsTrueAt t r (first_life m) (w.knows m x)) (sym (elsewhere_now t differ)) (w.truth m x t))
 
   module _ (to : Plan) where
     -- what it knows once it is past what it waits for
     abbrev pub learns : Knowledge
     learns = unless_ended result (known_at_operation (learned know s o answered) to)
 
-    pub own_true : (t : SiteId) → IsTrueAt t (records_in t new.sites) learns
+    pub own_true : (t : SiteId) → IsTrueAt t (records_in t new.sites) who learns
     own_true t =
-        unless_over (IsTrueAt t (records_in t new.sites)) result (known_at_operation (learned know s o answered) to) (nothing_is_true t (records_in t new.sites))
-        (still_true t (records_in t new.sites) to (learned know s o answered) (told t))
+        unless_over (IsTrueAt t (records_in t new.sites) who) result (known_at_operation (learned know s o answered) to) (nothing_is_true t (records_in t new.sites) who)
+        (still_true t (records_in t new.sites) who to (learned know s o answered) (told t))
       where
-        told : (t : SiteId) → IsTrueAt t (records_in t new.sites) (learned know s o answered)
+        told : (t : SiteId) → IsTrueAt t (records_in t new.sites) who (learned know s o answered)
         told =
-            at_either s (λ t. IsTrueAt t (records_in t new.sites) (learned know s o answered))
-            (subst (λ r. IsTrueAt s r (learned know s o answered)) (sym here_now)
-            (own_learned s (records_in s old.sites) (flat_after s w.run) know who o (stands_in s) (w.truth session slot s) permits))
-            (λ t differ. subst (λ r. IsTrueAt t r (learned know s o answered)) (sym (elsewhere_now t differ)) (true_elsewhere s t differ (records_in t old.sites) know o answered (w.truth session slot t)))
+            at_either s (λ t. IsTrueAt t (records_in t new.sites) who (learned know s o answered))
+            (subst (λ r. IsTrueAt s r who (learned know s o answered)) (sym here_now)
+            (own_learned s (records_in s old.sites) (flat_after s w.run) know who o (stands_in s) (knows_truly s) permits))
+            (λ t differ. subst (λ r. IsTrueAt t r who (learned know s o answered)) (sym (elsewhere_now t differ)) (true_elsewhere s t differ (records_in t old.sites) who know o answered (knows_truly t)))
 
     pub own_beside : (m x : ℕ) → IsElsewhere session slot m x → MayLook s know (w.knows m x) o → (t : SiteId) → AreBeside t learns (w.knows m x)
     own_beside m x where_else may t =
@@ -147,5 +153,5 @@ module _ {R : Type 0} (stands : R → Standing) (old new : WorldView R) (w : IsS
         told : (t : SiteId) → AreBeside t (learned know s o answered) (w.knows m x)
         told =
             at_either s (λ t. AreBeside t (learned know s o answered) (w.knows m x))
-            (learned_beside s know (w.knows m x) (were s) (records_in s old.sites) who o (w.truth m x s) permits may)
+            (learned_beside s know (w.knows m x) (were s) (records_in s old.sites) who (first_life m) o (w.truth m x s) permits may)
             (λ t differ. beside_elsewhere s t differ know (w.knows m x) o answered (were t))

@@ -1,6 +1,7 @@
 -- A world in which nothing happened is sound.
 use Rattle.std.proofs.Common.{◌≡◌, ℕ, [], length, Option, Some, None, refl, sym, ap, ◌∙◌, subst}
 use Rattle.std.proofs.lemmas.Bool.{true≢false}
+use Rattle.rbd_kinds.specs.declared.id.Instance.{Instance}
 use Rattle.rbd_kinds.specs.declared.id.SiteId.{SiteId}
 use Rattle.rbd_kinds.specs.declared.id.SiteId.TheVariants as site
 use Rattle.rbd_known.specs.Knowing.{KnowsIn}
@@ -21,8 +22,12 @@ use Rattle.rbd_world.proofs.OrderedWorld.{none_in_order}
 
 -- ---- who knows nothing
 
-pub nothing_is_true : (s : SiteId) (r : Records) → IsTrueAt s r nothing_known
-nothing_is_true s r = record { owned = λ image. tt; drawn = λ image drawn. absurd (true≢false (sym drawn)) }
+pub nothing_is_true : (s : SiteId) (r : Records) (me : Instance) → IsTrueAt s r me nothing_known
+nothing_is_true s r me = record {
+  owned = λ free image. tt;
+  drawn = λ image drawn. absurd (true≢false (sym drawn));
+  fenced = λ i known. absurd (true≢false (sym known));
+}
 
 pub nothing_is_beside : (s : SiteId) (j : Knowledge) → AreBeside s nothing_known j
 nothing_is_beside s j = record { shared = λ image one other. absurd (true≢false (sym one)); apart = λ image drawn. absurd (true≢false (sym drawn)) }
@@ -71,7 +76,7 @@ module _ {R : Type 0} (stands : R → Standing) where
     nobody = λ session none slot. refl;
     apart = λ line session slot other there is also. absurd (no_some line (sym (no_line w session slot new) ∙ is));
     slots = λ line begun. absurd (no_some begun.asked begun.is);
-    truth = λ session slot s. nothing_is_true s _;
+    truth = λ session slot s. nothing_is_true s _ _;
     beside = λ session slot other there differ s. nothing_is_beside s nothing_known;
     order = tt;
     in_order = λ session c is. none_in_order stands (home_of (session_in session w.sessions)) session [] c (λ x. ap running_in ((new.clients session c is).slots x));

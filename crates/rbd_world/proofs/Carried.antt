@@ -21,7 +21,7 @@ use Rattle.rbd_world.specs.declared.event.Event.TheVariants as event
 use Rattle.rbd_world.specs.declared.sites.Sites.{Sites}
 use Rattle.rbd_world.specs.Order.{IsInOrder, IsInTurn}
 use Rattle.rbd_world.specs.Run.{Happening, Nothing, Waited, Began, Trimmed, IsOfEvent, entries_of, flat_after, lines_at, log_of, records_after, records_behind}
-use Rattle.rbd_world.specs.Sound.{AreApart, AreInSlots, IsDue, IsSoundClient, IsSoundWorld, IsStanding}
+use Rattle.rbd_world.specs.Sound.{AreApart, AreInSlots, IsDue, IsSoundClient, IsSoundWorld, IsStanding, first_life}
 use Rattle.rbd_world.specs.Step.{Does, DoesAtSites, call_of, done_by, happening, is_begun, polled, polled_in, submitted}
 use Rattle.rbd_world.specs.World.{WorldView, records_in, session_in, site_in}
 
@@ -80,7 +80,7 @@ module _ {R : Type 0} (stands : R → Standing) where
     pub nobody : (session : ℕ) → session_in session new.sessions ≡ None → (slot : ℕ) → knows session slot ≡ nothing_known
     pub apart : AreApart new.sessions
     pub slots : AreInSlots (h ∷ w.run) new.sessions
-    pub truth : (session slot : ℕ) (s : SiteId) → IsTrueAt s (records_in s new.sites) (knows session slot)
+    pub truth : (session slot : ℕ) (s : SiteId) → IsTrueAt s (records_in s new.sites) (first_life session) (knows session slot)
     pub beside : (session slot other there : ℕ) → (session ≢ other) ⊎ (slot ≢ there) → (s : SiteId) → AreBeside s (knows session slot) (knows other there)
     pub turn : IsInTurn h w.run
     pub in_order : (session : ℕ) (c : SessionView R) → session_in session new.sessions ≡ Some c → IsInOrder stands (w.homes session) session (h ∷ w.run) c

@@ -23,7 +23,7 @@ use Rattle.rbd_session.proofs.Sound.{no_some, some_same}
 use Rattle.rbd_world.specs.declared.event.Event.TheVariants as event
 use Rattle.rbd_world.specs.Order.{IsInOrder}
 use Rattle.rbd_world.specs.Run.{Asked, Happening, Began, asked_by, steps_of}
-use Rattle.rbd_world.specs.Sound.{AreApart, IsHeldRightly, IsInSlot, IsOpen, IsSoundWorld, has_reply, line_at}
+use Rattle.rbd_world.specs.Sound.{AreApart, IsHeldRightly, IsInSlot, IsOpen, IsSoundWorld, first_life, has_reply, line_at}
 use Rattle.rbd_world.specs.Step.{Begins, Does, DoesAtSites, IsSoundIf, is_begun}
 use Rattle.rbd_world.specs.World.{WorldView, session_in}
 use Rattle.rbd_world.proofs.Carried.{Carries}
@@ -196,7 +196,7 @@ module _ {R : Type 0} (stands : R → Standing) (old new : WorldView R) (w : IsS
           nobody = nobody_of stands old new w does_begin session c.lowest c d there after others begins.slots w.knows (λ m differ. refl);
           apart = begun_apart;
           slots = λ l now. slots_then l now (line == l) refl;
-          truth = λ m x s. subst (λ r. IsTrueAt s r (w.knows m x)) (sym (at_sites.records s)) (w.truth m x s);
+          truth = λ m x s. subst (λ r. IsTrueAt s r (first_life m) (w.knows m x)) (sym (at_sites.records s)) (w.truth m x s);
           beside = w.beside;
           turn = tt;
           in_order =

@@ -34,7 +34,7 @@ use Rattle.rbd_world.specs.Sound.{IsDone, IsDue, IsHeldRightly, IsInSlot, IsOpen
 use Rattle.rbd_world.specs.Step.{AreOfOneClient, Does, DoesAtSites, Goes, IsSoundIf, next_number, operation_at, reply_at}
 use Rattle.rbd_world.specs.World.{WorldView, records_in, session_in, site_in}
 use Rattle.rbd_world.proofs.Answered.{answer_due, answer_held, answer_line}
-use Rattle.rbd_world.proofs.AtSites.{beside_mutual, can_give, others_true, own_beside, own_true, parentless_then, stands_then}
+use Rattle.rbd_world.proofs.AtSites.{beside_mutual, can_give, client_knows, others_true, own_beside, own_true, parentless_then, stands_then}
 use Rattle.rbd_world.proofs.Carried.{Carries}
 use Rattle.rbd_world.proofs.Changed.{IsElsewhere, apart_of, client_of, clients_of, has_become, here_or_elsewhere, line_apart, nobody_of, same_or_other}
 use Rattle.rbd_world.proofs.Clients.{looks_beside}
@@ -71,6 +71,9 @@ module _ {R : Type 0} (stands : R → Standing) (old new : WorldView R) (w : IsS
   permits : Permits know s o
   permits = let mine = knows_there stands c (w.knows session) slot r runs (w.clients session c there).know in (subst (IsLawful mine.known_at know) asks mine.lawful).0
 
+  knows_truly : (t : SiteId) → IsTrueAt t (records_in t old.sites) c.instance know
+  knows_truly = client_knows stands old w session slot c there
+
   -- it is of the session that began its line
   is_whose : (asked : Asked) → asked_by r.line w.run ≡ Some asked → c.instance ≡ first_life asked.session
   is_whose asked is =
@@ -85,7 +88,7 @@ module _ {R : Type 0} (stands : R → Standing) (old new : WorldView R) (w : IsS
     answer = ap (λ (x : Records). answer_to x c.instance o) (w.records s);
     effect = ap (λ (x : Records). effect_of x (done.Op o) a) (w.records s);
     knows = know;
-    truth = subst (λ r. IsTrueAt s r know) (w.records s) (w.truth session slot s);
+    truth = subst (λ r. IsTrueAt s r c.instance know) (w.records s) (knows_truly s);
     permits = permits;
   }
 
@@ -128,16 +131,20 @@ module _ {R : Type 0} (stands : R → Standing) (old new : WorldView R) (w : IsS
     own_known : (m x : ℕ) → m ≡ session → x ≡ slot → knows_then m x ≡ unless_ended result (known_behind know (Ask s why o next) (fed.Answer a))
     own_known m x same at = ap (λ i. knows_then i x) same ∙ ap (λ i. knows_then session i) at ∙ here
 
-    true_then : (m x : ℕ) (t : SiteId) → IsTrueAt t (records_in t new.sites) (knows_then m x)
+    true_then : (m x : ℕ) (t : SiteId) → IsTrueAt t (records_in t new.sites) (first_life m) (knows_then m x)
     true_then m x t = by (here_or_elsewhere session slot m x)
       where
-        by : ((m ≡ session) × (x ≡ slot)) ⊎ IsElsewhere session slot m x → IsTrueAt t (records_in t new.sites) (knows_then m x)
+        is_client : m ≡ session → c.instance ≡ first_life m
+        is_client same = (w.clients session c there).who ∙ ap first_life (sym same)
+
+        by : ((m ≡ session) × (x ≡ slot)) ⊎ IsElsewhere session slot m x → IsTrueAt t (records_in t new.sites) (first_life m) (knows_then m x)
         by (inl (same, at)) =
-            subst (IsTrueAt t (records_in t new.sites)) (sym (own_known m x same at))
-            (own_true stands old new w session slot r.line c.instance s o result permits at_sites (next a) t)
+            subst (λ i. IsTrueAt t (records_in t new.sites) i (knows_then m x)) (is_client same)
+            (subst (IsTrueAt t (records_in t new.sites) c.instance) (sym (own_known m x same at))
+            (own_true stands old new w session slot r.line c.instance s o result knows_truly permits at_sites (next a) t))
         by (inr where_else) =
-            subst (IsTrueAt t (records_in t new.sites)) (sym (elsewhere m x where_else))
-            (others_true stands old new w session slot r.line c.instance s o result permits at_sites m x where_else t)
+            subst (IsTrueAt t (records_in t new.sites) (first_life m)) (sym (elsewhere m x where_else))
+            (others_true stands old new w session slot r.line c.instance s o result knows_truly permits at_sites m x where_else t)
 
     may : (m x : ℕ) → IsElsewhere session slot m x → MayLook s know (w.knows m x) o
     may m x where_else = looks_beside stands old w one.client one.before session slot c there r holds goes way s o m x where_else
@@ -146,7 +153,7 @@ module _ {R : Type 0} (stands : R → Standing) (old new : WorldView R) (w : IsS
     own_beside_then m x y z same at where_else t =
         subst (λ k. AreBeside t k (knows_then y z)) (sym (own_known m x same at))
         (subst (AreBeside t (unless_ended result (known_behind know (Ask s why o next) (fed.Answer a)))) (sym (elsewhere y z where_else))
-        (own_beside stands old new w session slot r.line c.instance s o result permits at_sites (next a) y z where_else (may y z where_else) t))
+        (own_beside stands old new w session slot r.line c.instance s o result knows_truly permits at_sites (next a) y z where_else (may y z where_else) t))
 
     beside_then : (m x y z : ℕ) → (m ≢ y) ⊎ (x ≢ z) → (t : SiteId) → AreBeside t (knows_then m x) (knows_then y z)
     beside_then m x y z apart t = by (here_or_elsewhere session slot m x) (here_or_elsewhere session slot y z) apart
@@ -164,7 +171,7 @@ module _ {R : Type 0} (stands : R → Standing) (old new : WorldView R) (w : IsS
     -- ---- the world
 
     can : CanGive o a
-    can = can_give stands old new w session slot r.line c.instance s o result permits at_sites
+    can = can_give stands old new w session slot r.line c.instance s o result knows_truly permits at_sites
 
     module _ (d : SessionView R) (after : session_in session new.sessions ≡ Some d) (others : (m : ℕ) → m ≢ session → session_in m new.sessions ≡ session_in m old.sessions)
         (became : Goes stands slot a result c d) where
@@ -231,9 +238,9 @@ module _ {R : Type 0} (stands : R → Standing) (old new : WorldView R) (w : IsS
 
       goes_carries : ((m : ℕ) → IsSoundIf stands (session_in m new.sessions)) → Carries stands old new w does_it knows_then
       goes_carries sound = record {
-        standing = stands_then stands old new w session slot r.line c.instance s o result permits at_sites;
+        standing = stands_then stands old new w session slot r.line c.instance s o result knows_truly permits at_sites;
         due = due_now;
-        parentless = parentless_then stands old new w session slot r.line c.instance s o result permits at_sites;
+        parentless = parentless_then stands old new w session slot r.line c.instance s o result knows_truly permits at_sites;
         clients = clients_of stands old new w does_it session slot c d there after others became.slots knows_then in_others quiet (own sound);
         nobody = nobody_of stands old new w does_it session slot c d there after others became.slots knows_then in_others;
         apart =

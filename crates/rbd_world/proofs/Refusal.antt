@@ -14,7 +14,7 @@ use Rattle.rbd_session.specs.Session.{SessionView, held_in, running_in, script_l
 use Rattle.rbd_session.proofs.Sound.{no_some, some_same}
 use Rattle.rbd_world.specs.declared.event.Event.TheVariants as event
 use Rattle.rbd_world.specs.Run.{Happening, Refused, steps_of}
-use Rattle.rbd_world.specs.Sound.{IsHeldRightly, IsInSlot, IsLedTo, IsOpen, IsRefusedAtOnce, IsReplyMeant, IsSoundWorld, line_at}
+use Rattle.rbd_world.specs.Sound.{IsHeldRightly, IsInSlot, IsLedTo, IsOpen, IsRefusedAtOnce, IsReplyMeant, IsSoundWorld, first_life, line_at}
 use Rattle.rbd_world.specs.Step.{AreSlotsBut, Does, DoesAtSites, IsSoundIf, Serves}
 use Rattle.rbd_world.specs.World.{WorldView, session_in}
 use Rattle.rbd_world.proofs.Carried.{Carries}
@@ -84,7 +84,7 @@ module _ {R : Type 0} (stands : R → Standing) (old new : WorldView R) (w : IsS
                 apart_of stands old new w does_refuse session slot c d there become.there become.others serves.slots
                 (λ l is. absurd (no_some l (sym (ap script_line serves.held) ∙ is)));
             slots = λ l begun. slots_then d become.there become.others serves.slots l begun (line == l) refl;
-            truth = λ m x s. subst (λ r. IsTrueAt s r (w.knows m x)) (sym (at_sites.records s)) (w.truth m x s);
+            truth = λ m x s. subst (λ r. IsTrueAt s r (first_life m) (w.knows m x)) (sym (at_sites.records s)) (w.truth m x s);
             beside = w.beside;
             turn = tt;
             in_order =

@@ -13,7 +13,7 @@ use Rattle.rbd_stands.proofs.StoreSteps.{trim_stands}
 use Rattle.rbd_world.specs.declared.event.Event.{Event}
 use Rattle.rbd_world.specs.Order.{IsInTurn}
 use Rattle.rbd_world.specs.Run.{Happening, Nothing, Waited, Trimmed, records_after, flat_after}
-use Rattle.rbd_world.specs.Sound.{IsDue, IsRight, IsSoundWorld, IsTrimmed, held_of, line_at}
+use Rattle.rbd_world.specs.Sound.{IsDue, IsRight, IsSoundWorld, IsTrimmed, first_life, held_of, line_at}
 use Rattle.rbd_world.specs.Step.{Becomes, BecomesOf, Does, DoesAtSites, names_session, next_number}
 use Rattle.rbd_world.specs.World.{WorldView, records_in, session_in, site_in}
 use Rattle.rbd_world.proofs.Carried.{Carries, StandFlat}
@@ -49,7 +49,7 @@ module _ {R : Type 0} (stands : R → Standing) where
         by false is = does.others session is
 
     rested : (h : Happening) → ((line : ℕ) → IsQuiet line h) → AreSame → StandFlat (h ∷ w.run) → IsDue w.homes h w.run → IsInTurn h w.run
-        → ((s : SiteId) → IsParentless (records_in s new.sites)) → ((session slot : ℕ) (s : SiteId) → IsTrueAt s (records_in s new.sites) (w.knows session slot))
+        → ((s : SiteId) → IsParentless (records_in s new.sites)) → ((session slot : ℕ) (s : SiteId) → IsTrueAt s (records_in s new.sites) (first_life session) (w.knows session slot))
         → Carries stands old new w h w.knows
     rested h quiet same standing due turn parentless truth = record {
       standing = standing;
@@ -74,13 +74,13 @@ module _ {R : Type 0} (stands : R → Standing) where
     nothing_keeps e leaves does at_sites =
         rested Nothing quiet_nothing (sessions_stay e Nothing leaves does) (where_standing w.homes w.run w.right) tt tt
         (λ s. subst IsParentless (sym (at_sites.records s)) (w.parentless s))
-        (λ session slot s. subst (λ r. IsTrueAt s r (w.knows session slot)) (sym (at_sites.records s)) (w.truth session slot s))
+        (λ session slot s. subst (λ r. IsTrueAt s r (first_life session) (w.knows session slot)) (sym (at_sites.records s)) (w.truth session slot s))
 
     pub waited_keeps : (e : Event) → Leaves e Waited → Does stands e Waited old new → DoesAtSites Waited old.sites new.sites → Carries stands old new w Waited w.knows
     waited_keeps e leaves does at_sites =
         rested Waited quiet_waited (sessions_stay e Waited leaves does) (where_standing w.homes w.run w.right) tt tt
         (λ s. subst IsParentless (sym (at_sites.records s)) (w.parentless s))
-        (λ session slot s. subst (λ r. IsTrueAt s r (w.knows session slot)) (sym (at_sites.records s)) (w.truth session slot s))
+        (λ session slot s. subst (λ r. IsTrueAt s r (first_life session) (w.knows session slot)) (sym (at_sites.records s)) (w.truth session slot s))
 
     -- the store trims an object that is there
     pub trim_due : (s : SiteId) (image object : ℕ) → is_some ((records_in s old.sites).objects image object) ≡ true
@@ -96,7 +96,7 @@ module _ {R : Type 0} (stands : R → Standing) where
         rested (Trimmed site number image object) (λ line. quiet_trimmed line site number image object) (sessions_stay e (Trimmed site number image object) leaves does)
         (λ s. stands_there s (same_site site s) (where_standing w.homes w.run w.right s)) due tt
         (λ s. subst IsParentless (sym (at_sites.records s)) (parentless_there s (same_site site s)))
-        (λ session slot s. subst (λ r. IsTrueAt s r (w.knows session slot)) (sym (at_sites.records s)) (true_there session slot s (same_site site s)))
+        (λ session slot s. subst (λ r. IsTrueAt s r (first_life session) (w.knows session slot)) (sym (at_sites.records s)) (true_there session slot s (same_site site s)))
       where
         stands_there : (s : SiteId) (b : Bool) → StandsFor [] (records_after s w.run) (flat_after s w.run)
             → StandsFor [] (cond b (trimmed image object (records_after s w.run)) (records_after s w.run)) (flat_after s w.run)
@@ -107,6 +107,6 @@ module _ {R : Type 0} (stands : R → Standing) where
         parentless_there s true = w.parentless s
         parentless_there s false = w.parentless s
 
-        true_there : (session slot : ℕ) (s : SiteId) (b : Bool) → IsTrueAt s (cond b (trimmed image object (records_in s old.sites)) (records_in s old.sites)) (w.knows session slot)
-        true_there session slot s true = trims_keep s (records_in s old.sites) (w.knows session slot) image object (w.truth session slot s)
+        true_there : (session slot : ℕ) (s : SiteId) (b : Bool) → IsTrueAt s (cond b (trimmed image object (records_in s old.sites)) (records_in s old.sites)) (first_life session) (w.knows session slot)
+        true_there session slot s true = trims_keep s (records_in s old.sites) (first_life session) (w.knows session slot) image object (w.truth session slot s)
         true_there session slot s false = w.truth session slot s

@@ -17,7 +17,7 @@ use Rattle.rbd_session.proofs.Sound.{no_some, some_same}
 use Rattle.rbd_site.specs.InForm.{AreInForm}
 use Rattle.rbd_world.specs.declared.sites.Sites.{Sites}
 use Rattle.rbd_world.specs.Run.{Happening, AreCalls, asked_by, log_of, records_after, steps_of}
-use Rattle.rbd_world.specs.Sound.{IsHeldRightly, IsSoundClient, IsSoundWorld, IsUnderWay, has_reply, held_of, line_at}
+use Rattle.rbd_world.specs.Sound.{IsHeldRightly, IsSoundClient, IsSoundWorld, IsUnderWay, first_life, has_reply, held_of, line_at}
 use Rattle.rbd_world.specs.Step.{IsAlikeOf, IsSoundIf, IsUndone}
 use Rattle.rbd_world.specs.World.{WorldView, records_in, session_in, site_in}
 use Rattle.rbd_world.proofs.OrderedWorld.{alike_order_if}
@@ -112,7 +112,7 @@ module _ {R : Type 0} (stands : R → Standing) where
     apart = λ line session slot other there is also.
         w.apart line session slot other there (sym (line_was session slot) ∙ is) (sym (line_was other there) ∙ also);
     slots = λ line begun. same_slots old.sessions new.sessions line_was line (w.slots line begun);
-    truth = subst (λ (sites : Sites). (session slot : ℕ) (s : SiteId) → IsTrueAt s (records_in s sites) (w.knows session slot)) (sym undone.sites) w.truth;
+    truth = subst (λ (sites : Sites). (session slot : ℕ) (s : SiteId) → IsTrueAt s (records_in s sites) (first_life session) (w.knows session slot)) (sym undone.sites) w.truth;
     beside = w.beside;
     order = w.order;
     in_order = λ session.

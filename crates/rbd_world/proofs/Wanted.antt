@@ -19,6 +19,7 @@ use Rattle.rbd_session.proofs.Sound.{no_some, some_same}
 use Rattle.rbd_world.specs.Sound.{IsSoundWorld}
 use Rattle.rbd_world.specs.Step.{WantsWhatItMay}
 use Rattle.rbd_world.specs.World.{WorldView, records_in, session_in, site_in}
+use Rattle.rbd_world.proofs.AtSites.{client_knows}
 
 -- a lawful plan asks for what is permitted
 pub asked_is_permitted : (known_at : Label → Knowledge) (k : Knowledge) (plan : Plan) (s : SiteId) (o : Op) → IsLawful known_at k plan → op_asked plan ≡ Some (s, o) → Permits k s o
@@ -47,6 +48,6 @@ module _ {R : Type 0} (stands : R → Standing) where
       let permits = wanted_is_permitted slot (held_in slot c.slots) c.lines k s o ((sound.clients session c is).know slot) wants in
       let most = length (site_in s w.sites).log in
       record {
-        may = may_do s (records_in s w.sites) k most (sound.form s) (sound.truth session slot s) c.instance o permits;
-        gives = gives_it s (records_in s w.sites) k most (sound.form s) (sound.truth session slot s) c.instance o permits;
+        may = may_do s (records_in s w.sites) c.instance k most (sound.form s) (client_knows stands w sound session slot c is s) o permits;
+        gives = gives_it s (records_in s w.sites) c.instance k most (sound.form s) (client_knows stands w sound session slot c is s) o permits;
       }

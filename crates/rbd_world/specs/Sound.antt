@@ -75,7 +75,7 @@ pub record IsDone (o : Operation) (before : List Happening) : Type 0 where
   pub answer : o.answer ≡ answer_to (records_after o.site before) o.instance o.op
   pub effect : o.effect ≡ effect_of (records_after o.site before) (done.Op o.op) o.answer
   pub knows : Knowledge
-  pub truth : IsTrueAt o.site (records_after o.site before) knows
+  pub truth : IsTrueAt o.site (records_after o.site before) o.instance knows
   pub permits : Permits knows o.site o.op
 
 -- The store trimmed an object that was there.
@@ -188,8 +188,9 @@ pub record IsSoundWorld {R : Type 0} (stands : R → Standing) (w : WorldView R)
   pub nobody : (session : ℕ) → session_in session w.sessions ≡ None → (slot : ℕ) → knows session slot ≡ nothing_known
   pub apart : AreApart w.sessions
   pub slots : AreInSlots run w.sessions
-  -- what is known is true, and no two requests are in each other's way
-  pub truth : (session slot : ℕ) (s : SiteId) → IsTrueAt s (records_in s w.sites) (knows session slot)
+  -- what is known is true of the instance that knows it, and no two requests are in each other's
+  -- way
+  pub truth : (session slot : ℕ) (s : SiteId) → IsTrueAt s (records_in s w.sites) (first_life session) (knows session slot)
   pub beside : (session slot other there : ℕ) → (session ≢ other) ⊎ (slot ≢ there) → (s : SiteId) → AreBeside s (knows session slot) (knows other there)
   -- the writes of each session change an image in the order in which they found it
   pub order : KeepsOrder run

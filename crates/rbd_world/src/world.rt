@@ -143,6 +143,7 @@ impl<E: Machine + Drop> World<E> {
     /// session, or the slot is free. It takes no memory.
     pub fn line(&self, session: SessionNo, slot: Slot) -> Option<u32>
         ensures line { result ≡ line_at session slot self.now.sessions }
+        ensures sound { IsSoundWorld (stands_of E.stands) self.now }
     {
         self.sessions.get(session.0 as usize)?.line(slot)
     }

@@ -6,7 +6,7 @@ pub returns-clause-lawful : goal.returns-clause-lawful
 returns-clause-lawful c = λ labels known_at lawful_there k plan lawful. way_lawful labels known_at lawful_there plan k lawful
 
 pub returns-clause-truth : goal.returns-clause-truth
-returns-clause-truth c = λ site r k plan t. still_true site r plan k t
+returns-clause-truth c = λ site r me k plan t. still_true site r me plan k t
 
 pub returns-clause-beside : goal.returns-clause-beside
 returns-clause-beside c = λ site k j plan beside. still_beside site j plan k beside

@@ -2,7 +2,7 @@ use Rattle.rbd_rely.proofs.Elsewhere.{true_elsewhere, beside_elsewhere}
 use Rattle.rbd_rely.proofs.laws.sites_are_known_apart.Goals as goal
 
 pub returns-clause-truth : goal.returns-clause-truth
-returns-clause-truth c = λ s t r k o a differ holds. true_elsewhere s t differ r k o a holds
+returns-clause-truth c = λ s t r me k o a differ holds. true_elsewhere s t differ r me k o a holds
 
 pub returns-clause-beside : goal.returns-clause-beside
 returns-clause-beside c = λ s t k j o a differ beside. beside_elsewhere s t differ k j o a beside
