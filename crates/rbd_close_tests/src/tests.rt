@@ -1,4 +1,0 @@
-mod drive;
-mod ends;
-mod site;
-mod ways;

@@ -1,0 +1,26 @@
+//! Tests of what takes and gives up an image's lock, through public calls: the way to a lock and
+//! its release (`rbd_owner`), `close`, `quiesce`, `resume` and `tell` (`rbd_close`), and what a
+//! session counts of its locks (`rbd_locks`).
+//!
+//! One site of the tests' own (`site`) answers, and writes down what it is asked (`log`). One
+//! driver (`drive`) takes each request (`asked`) from step to step, and looks whether its answers
+//! can be given (`gives`). The tests are tables of what is written down then, by subject; what a
+//! session counts is told behind each step by its words (`steps`):
+//!
+//! | file | subject |
+//! |---|---|
+//! | `taking` | each way to a lock, what ends it, and whether its steps are marked as waiting |
+//! | `releasing` | each release, and what a session counts as its own |
+//! | `closing` | `close` |
+//! | `quiescing` | `quiesce`, and `resume`, which ends it |
+//! | `telling` | `tell` |
+//! | `counting` | what is counted of three images behind each step of a course |
+//! | `order` | in which order images that were asked for come |
+//!
+//! They stand apart from the crates that they test, since a crate that has tests is proved twice:
+//! once as it is, and once with its tests. What a request has to do was worked out by hand from the
+//! diagrams.
+#![tactic(auto)]
+
+#[cfg(test)]
+mod tests;

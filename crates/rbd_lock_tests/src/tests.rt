@@ -1,0 +1,13 @@
+mod asked;
+mod closing;
+mod counting;
+mod drive;
+mod gives;
+mod log;
+mod order;
+mod quiescing;
+mod releasing;
+mod site;
+mod steps;
+mod taking;
+mod telling;

@@ -1,0 +1,4 @@
+pub mod Keys
+pub mod States
+pub mod Lasting
+pub mod Least

@@ -1,0 +1,93 @@
+//! What a session counts of the lock of one image.
+ghost use Rattle.std.specs.Prelude.{◌≡◌};
+ghost use Rattle.rbd_locks.specs.States.{answered, blank, is_counted as counts, quieted, resumed};
+
+use rbd_kinds::{Answer, HeaderOp};
+
+/// What a session counts of the lock of an image at a site.
+#[derive(Clone, Copy, Debug, PartialEq, Eq)]
+pub struct LockState {
+    /// The lock is its own.
+    pub owned: bool,
+    /// It watches the image.
+    pub watched: bool,
+    /// Another one wants the lock.
+    pub asked: bool,
+    /// The image is quiesced.
+    pub quiesced: bool,
+}
+
+/// Whether an operation on a header may change what is counted of the image's lock.
+pub fn is_counted(op: &HeaderOp) -> bool
+    ensures { result ≡ counts op.now }
+{
+    match op {
+        HeaderOp::LockTake => true,
+        HeaderOp::LockDrop => true,
+        HeaderOp::Watch => true,
+        HeaderOp::Unwatch => true,
+        _ => false,
+    }
+}
+
+impl LockState {
+    /// Of an image of which nothing is known.
+    pub fn blank() -> Self
+        ensures { result ≡ blank }
+    {
+        LockState {
+            owned: false,
+            watched: false,
+            asked: false,
+            quiesced: false,
+        }
+    }
+
+    /// Behind an operation of the session on the header, by its answer.
+    pub(crate) fn answered(&self, op: &HeaderOp, answer: &Answer) -> Self
+        ensures { result ≡ answered op.now answer.now self.now }
+    {
+        match (op, answer) {
+            (HeaderOp::LockTake, Answer::Done) => LockState {
+                owned: true,
+                asked: false,
+                ..*self
+            },
+            (HeaderOp::LockDrop, _) => LockState {
+                owned: false,
+                asked: false,
+                quiesced: false,
+                ..*self
+            },
+            (HeaderOp::Watch, Answer::Done) => LockState {
+                watched: true,
+                ..*self
+            },
+            (HeaderOp::Unwatch, _) => LockState {
+                watched: false,
+                ..*self
+            },
+            _ => *self,
+        }
+    }
+
+    /// Behind the own look of a `quiesce`.
+    pub(crate) fn quieted(&self) -> Self
+        ensures { result ≡ quieted self.now }
+    {
+        LockState {
+            quiesced: true,
+            ..*self
+        }
+    }
+
+    /// Behind a `resume`.
+    pub(crate) fn resumed(&self) -> Self
+        ensures { result ≡ resumed self.now }
+    {
+        LockState {
+            quiesced: false,
+            ..*self
+        }
+    }
+}

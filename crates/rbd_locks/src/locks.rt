@@ -1,0 +1,178 @@
+//! What a session counts of the locks of all its images.
+ghost use Rattle.std.specs.Prelude.{◌≡◌, ℕ, ◌<◌, ◌≤◌, [], IsTrue, IsFalse, OnOk, OnErr};
+ghost use Rattle.rbd_kinds.specs.declared.id.SiteId.{SiteId as Site};
+ghost use Rattle.rbd_kinds.specs.declared.operation.Op.TheVariants as of_op;
+ghost use Rattle.rbd_kinds.specs.declared.notice.NoticeKind.TheVariants as notice_kind;
+ghost use Rattle.rbd_locks.specs.Locks.{begins, changed_at, counted, heard, state_at, AreInOrder, IsRoomFor, IsSoundLocks, StaysAsked, StaysBlank};
+ghost use Rattle.rbd_locks.specs.Places.{next_behind};
+ghost use Rattle.rbd_locks.specs.States.{answered, blank, quieted, resumed, told};
+
+use crate::asked::{ask, first, first_behind, is_asked, keep};
+use crate::image_at::ImageAt;
+use crate::lock_state::{LockState, is_counted};
+use crate::noted::{Noted, make_room, note, noted_at};
+use rbd_kinds::{Answer, HeaderOp, NoMemory, Notice, NoticeKind, Op, SiteId};
+use std::alloc::Global;
+use std::collections::{BTreeSet, HashMap};
+use std::marker::Model;
+
+/// What a session counts of the locks of its images, at both sites (Ceph: librbd's
+/// `ExclusiveLock`).
+#[derive(Debug, Drop)]
+pub struct Locks {
+    /// By key. An image of which nothing has to be noted isn't there.
+    noted: HashMap<u64, Noted>,
+    /// The images whose lock another one wants.
+    asked: BTreeSet<ImageAt>,
+}
+
+impl Model for Locks {
+    ghost use Rattle.std.specs.HashMap.{spare};
+    ghost use Rattle.rbd_locks.specs.Locks.{LocksView, IsSoundLocks};
+
+    ghost Value = { LocksView };
+
+    ghost view = { λ l. record { entries = l.noted.entries; asked = l.asked.keys; room = spare l.noted } };
+
+    ghost invariant = { λ l. IsSoundLocks (record { entries = l.noted.entries; asked = l.asked.keys; room = spare l.noted }) };
+}
+
+impl Locks {
+    /// Nothing is known of any image. It takes no memory.
+    pub fn new(alloc: Global) -> Self
+        ensures states { (site : Site) (image : ℕ) → state_at site image result ≡ blank }
+        ensures asked { result.asked ≡ [] }
+    {
+        Locks {
+            noted: HashMap::new(alloc),
+            asked: BTreeSet::new(alloc),
+        }
+    }
+
+    /// What is counted of the lock of an image. It takes no memory.
+    pub fn state(&self, at: &ImageAt) -> LockState
+        ensures state { result ≡ state_at at.now.site at.now.image self.now }
+        ensures sound { IsSoundLocks self.now }
+    {
+        let noted = noted_at(&self.noted, at.key());
+        LockState {
+            owned: noted.owned,
+            watched: noted.watched,
+            asked: is_asked(&self.asked, at),
+            quiesced: noted.quiesced,
+        }
+    }
+
+    /// Takes all memory that is needed to count one more answer, or to quiesce one more image.
+    /// Nothing else changes.
+    pub fn reserve(&mut self) -> Result<(), NoMemory>
+        ensures states { (site : Site) (image : ℕ) → state_at site image self.new ≡ state_at site image self.old }
+        ensures asked { self.new.asked ≡ self.old.asked }
+        ensures room { OnOk result (0 < self.new.room) }
+    {
+        make_room(&mut self.noted)
+    }
+
+    /// An operation of the session at a site was answered. It takes no memory.
+    pub fn count(&mut self, site: SiteId, op: &Op, answer: &Answer)
+        requires { IsTrue (begins op.now answer.now) → 0 < self.old.room }
+        ensures states { (there : Site) (image : ℕ) → state_at there image self.new ≡ counted site op.now answer.now there image (state_at there image self.old) }
+        ensures room { IsFalse (begins op.now answer.now) → self.old.room ≤ self.new.room }
+    {
+        let Op::Header { image, op } = op else {
+            return;
+        };
+        if is_counted(op) {
+            let at = ImageAt {
+                site,
+                image: *image,
+            };
+            self.answered(&at, op, answer);
+        }
+    }
+
+    /// A notice to the session is heard. Refused memory, nothing changes.
+    pub fn hear(&mut self, notice: &Notice) -> Result<(), NoMemory>
+        ensures ok { OnOk result ((site : Site) (image : ℕ) → state_at site image self.new ≡ heard notice.now site image (state_at site image self.old)) }
+        ensures err { OnErr result (self.new ≡ self.old) }
+        ensures room { self.new.room ≡ self.old.room }
+    {
+        match &notice.kind {
+            NoticeKind::RequestLock => self.ask(&ImageAt {
+                site: notice.site,
+                image: notice.image,
+            }),
+            _ => Ok(()),
+        }
+    }
+
+    /// The own look of a `quiesce` found the image's header. It takes no memory.
+    pub fn quiesce(&mut self, at: &ImageAt)
+        requires { 0 < self.old.room }
+        ensures { (site : Site) (image : ℕ) → state_at site image self.new ≡ changed_at at.now.site at.now.image quieted site image (state_at site image self.old) }
+    {
+        let state = self.state(at).quieted();
+        self.set(at, &state);
+    }
+
+    /// The `dir-find` of a `resume` found the image. It takes no memory.
+    pub fn resume(&mut self, at: &ImageAt)
+        ensures states { (site : Site) (image : ℕ) → state_at site image self.new ≡ changed_at at.now.site at.now.image resumed site image (state_at site image self.old) }
+        ensures room { self.old.room ≤ self.new.room }
+    {
+        let state = self.state(at).resumed();
+        self.set(at, &state);
+    }
+
+    /// Of the images that were asked for, in order, the first behind one, or the first of all:
+    /// `None` exactly where none is. It takes no memory.
+    pub fn next_asked(&self, behind: Option<ImageAt>) -> Option<ImageAt>
+        ensures next { result ≡ next_behind behind self.now.asked }
+        ensures order { AreInOrder self.now.asked }
+        ensures sound { IsSoundLocks self.now }
+    {
+        // The length is asked for its clause that the images stand in order.
+        let _count = self.asked.len();
+        match behind {
+            Some(before) => first_behind(&self.asked, &before),
+            None => first(&self.asked),
+        }
+    }
+
+    fn answered(&mut self, at: &ImageAt, op: &HeaderOp, answer: &Answer)
+        requires { (image : ℕ) → IsTrue (begins (of_op.Header image op.now) answer.now) → 0 < self.old.room }
+        ensures states { (site : Site) (image : ℕ) → state_at site image self.new ≡ changed_at at.now.site at.now.image (answered op.now answer.now) site image (state_at site image self.old) }
+        ensures room { (image : ℕ) → IsFalse (begins (of_op.Header image op.now) answer.now) → self.old.room ≤ self.new.room }
+    {
+        let state = self.state(at).answered(op, answer);
+        self.set(at, &state);
+    }
+
+    /// This is counted of an image from now on. It takes no memory.
+    fn set(&mut self, at: &ImageAt, state: &LockState)
+        requires asked { StaysAsked (state_at at.now.site at.now.image self.old) state.now }
+        requires room { IsRoomFor (state_at at.now.site at.now.image self.old) state.now self.old.room }
+        ensures states { (site : Site) (image : ℕ) → state_at site image self.new ≡ changed_at at.now.site at.now.image (λ before. state.now) site image (state_at site image self.old) }
+        ensures room { StaysBlank (state_at at.now.site at.now.image self.old) state.now → self.old.room ≤ self.new.room }
+    {
+        let noted = Noted {
+            owned: state.owned,
+            watched: state.watched,
+            quiesced: state.quiesced,
+        };
+        note(&mut self.noted, at.key(), &noted);
+        keep(&mut self.asked, at, state.asked);
+    }
+
+    /// Another one wants the lock of an image. Refused memory, nothing changes.
+    fn ask(&mut self, at: &ImageAt) -> Result<(), NoMemory>
+        ensures ok { OnOk result ((site : Site) (image : ℕ) → state_at site image self.new ≡ changed_at at.now.site at.now.image (told notice_kind.RequestLock) site image (state_at site image self.old)) }
+        ensures err { OnErr result (self.new ≡ self.old) }
+        ensures room { self.new.room ≡ self.old.room }
+    {
+        if !self.state(at).owned {
+            return Ok(());
+        }
+        ask(&mut self.asked, at)
+    }
+}
