@@ -36,3 +36,9 @@ all_idle P n each s past = by (cases_lt s n)
     by : (s < n) ⊎ (n ≤ s) → P s
     by (inl less) = each s less
     by (inr more) = past more
+
+-- deeds that change nothing may follow, up to any number
+pub idle_on : {S : Type 0} (deed : ℕ → S → S → Type 0) (d n m : ℕ) (old new : S) → d + n ≡ m → Deeds deed n old new → ((k : ℕ) → n ≤ k → k < m → deed k new new) → Deeds deed m old new
+idle_on deed zero n m old new all done idle = let same : n ≡ m = omega (arith, all) in subst (λ k. Deeds deed k old new) same done
+idle_on deed (suc d) n m old new all done idle =
+    idle_on deed d (n + 1) m old new (omega (arith, all)) (one_more deed n old new new done (idle n (omega arith) (omega (arith, all)))) (λ k from below. idle k (omega (arith, from)) below)

@@ -1,7 +1,7 @@
 -- The runner goes on: one part after another.
 use mathlib.Core.Path.{fun_ext}
 use Rattle.std.proofs.Common.{◌≡◌, ℕ, zero, suc, ◌++◌, take, ◌<◌, ◌≤◌, ◌||◌, ◌&&◌, ◌∷◌, not, cond, Bool, true, false, List, All, length, slice_set, slice_get, is_some, IfSome, length-set, get_or, arith, [], Option, Some, None, refl, sym, ap, ◌∙◌, subst}
-use Rattle.std.proofs.lemmas.Bool.{or_left}
+use Rattle.std.proofs.lemmas.Bool.{false≢true, or_left, or_parts}
 use Rattle.std.proofs.lemmas.List.Elements.{All-get_or, All-head, All-nil, All-same, All-tail}
 use Rattle.std.proofs.lemmas.Option.{IfSome_then, get_or_from_slice_get, none-some, same_Some, slice_get_past, slice_get_read, slice_get_within}
 use Rattle.rbd_kinds.specs.declared.id.SiteId.{SiteId}
@@ -14,19 +14,22 @@ use Rattle.rbd_world.specs.declared.event.Call.{Call}
 use Rattle.rbd_world.specs.declared.event.Event.{Event}
 use Rattle.rbd_world.specs.declared.event.Event.TheVariants as event
 use Rattle.rbd_world.specs.declared.event.Outcome.{Outcome}
-use Rattle.rbd_world.specs.Sound.{IsSoundWorld, line_at}
+use Rattle.rbd_session.specs.Session.{SessionView, held_in, script_line}
+use Rattle.rbd_world.specs.Sound.{IsNewWorld, IsSoundWorld, held_of, line_at}
 use Rattle.rbd_world.specs.Step.{AreOfOneClient, IsChangeOf, IsStep, happening, is_begun}
 use Rattle.rbd_world.specs.World.{WorldView, free_in, session_in}
 use Rattle.rbd_schedule.specs.declared.given.Given.{Given}
 use Rattle.rbd_schedule.specs.declared.queue.Queue.{Queue}
 use Rattle.rbd_schedule.specs.declared.runner.Runner.{Runner}
-use Rattle.rbd_schedule.specs.Playing.{GoesOn, HasChanger, IsEmptyQueue, IsGiven, IsPlayed, IsQueue, IsQueueIn, KeepsUp, StartsIf, answers, at_place, commands_in, given_to, has_line, is_beside, is_over}
+use Rattle.rbd_schedule.specs.Playing.{GoesOn, HasChanger, IsEmptyQueue, IsGiven, IsPlayed, IsQueue, IsQueueIn, KeepsUp, StartsIf, answers, at_place, commands_in, given_to, has_line, has_reply_by, highest_after, is_beside, is_over}
 use Rattle.rbd_schedule.specs.Given.{given_by}
-use Rattle.rbd_schedule.specs.Schedule.{Comes, Starts, StartsAll}
+use Rattle.rbd_schedule.specs.Schedule.{Comes, Starts, StartsAll, is_held}
 use Rattle.rbd_schedule.specs.Starts.{IsQuiet, earliest, is_answered, to_start}
+use Rattle.rbd_schedule.proofs.Above.{poll_above, submit_above, submit_most, trim_above}
 use Rattle.rbd_schedule.proofs.Entries.{begun_stays, poll_answers, start_is_earliest, starting_begins, submit_answers, trim_answers}
 use Rattle.rbd_schedule.proofs.Keeping.{calls_stay, queue_in_stays, queue_more}
 use Rattle.rbd_schedule.proofs.Left.{left_in, one_fewer, one_fewer_in}
+use Rattle.rbd_schedule.proofs.Quiet.{line_held, quiet_poll, quiet_trim}
 use Rattle.rbd_schedule.proofs.Queues.{commands_with, each_with}
 
 module _ {E : Type 0} where
@@ -53,9 +56,14 @@ module _ {E : Type 0} where
       → IsStep stands e old.world result new.world → IsSoundWorld stands new.world → new.queues ≡ old.queues
       → ((line : ℕ) → has_line line old.answered ≡ is_answered line old.world.history → has_line line new.answered ≡ is_answered line new.world.history)
       → ((line : ℕ) → is_answered line old.world.history ≡ true → is_answered line new.world.history ≡ true)
+      → (HasChanger old → new.is_due ≡ false → IsQuiet (given_to old) new.world) → (old.highest ≤ 64 → new.highest ≤ 64)
+      → (((s slot : ℕ) → old.highest < slot → is_held s slot old.world ≡ false) → (s slot : ℕ) → new.highest < slot → is_held s slot new.world ≡ false)
       → GoesOn stands old new
-  goes_by_step stands e old new result mine step sound queues answered stays = record {
+  goes_by_step stands e old new result mine step sound queues answered stays quiet most above = record {
     keeps = λ changer keeps. record {
+      quiet = λ due. subst (λ given. IsQuiet given new.world) (sym given) (quiet (changer, keeps) due);
+      most = most keeps.most;
+      above = above keeps.above;
       few = subst (λ qs. length qs.items ≤ 32) (sym queues) keeps.few;
       calls = calls_stay stands changer e (happening stands e old.world) old.world new.world step.1 (mine changer keeps) keeps.calls;
       queues = λ session q is.
@@ -64,8 +72,20 @@ module _ {E : Type 0} where
       answered = λ line. answered line (keeps.answered line);
     };
     sound = λ before. sound;
-    given = fun_ext (λ session. ap (λ qs. commands_in (slice_get qs.items session)) queues);
+    given = given;
     queues = ap (λ qs. length qs.items) queues;
+  }
+    where
+      given : given_to new ≡ given_to old
+      given = fun_ext (λ session. ap (λ qs. commands_in (slice_get qs.items session)) queues)
+
+  -- nothing may start, and so none is looked for
+  pub goes_quiet : (stands : SessionRequest E → Standing) (old : Runner E) → IsQuiet (given_to old) old.world → GoesOn stands old (record old { is_due = false })
+  goes_quiet stands old quiet = record {
+    keeps = λ changer keeps. record { quiet = λ due. quiet; most = keeps.most; above = keeps.above; few = keeps.few; calls = keeps.calls; queues = keeps.queues; answered = keeps.answered };
+    sound = λ sound. sound;
+    given = refl;
+    queues = refl;
   }
 
 -- what is answered stays so
@@ -105,9 +125,9 @@ module _ {E : Type 0} where
 
   -- a queue looked, and goes on from there
   pub goes_by_look : {stands : SessionRequest E → Standing} (old new : Runner E) → HasChanger old → (session : ℕ) (q q' : Queue) → slice_get old.queues.items session ≡ Some q → new.world ≡ old.world → new.answered ≡ old.answered
-      → new.queues.items ≡ slice_set old.queues.items session q' → q'.commands ≡ q.commands
+      → new.is_due ≡ old.is_due → new.highest ≡ old.highest → new.queues.items ≡ slice_set old.queues.items session q' → q'.commands ≡ q.commands
       → IsQueue (λ line. is_begun line old.world.history) (λ line. has_line line old.answered) q' → GoesOn stands old new
-  goes_by_look {stands} old new has session q q' is world answered items commands queue = record {
+  goes_by_look {stands} old new has session q q' is world answered due highest items commands queue = record {
     keeps = λ changer keeps.
         let q_is : IsQueueIn changer old.world.history session q' = record {
           queue = subst (λ a. IsQueue (λ line. is_begun line old.world.history) a q') (sym (same_answers old has)) queue;
@@ -116,16 +136,22 @@ module _ {E : Type 0} where
         let all : (s : ℕ) (x : Queue) → slice_get (slice_set old.queues.items session q') s ≡ Some x → IsQueueIn changer old.world.history s x
         = each_with (λ s x. IsQueueIn changer old.world.history s x) old.queues.items session q' (slice_get_within old.queues.items session q is) keeps.queues q_is in
         record {
+          quiet = λ none. subst (IsQuiet (given_to new)) (sym world) (subst (λ given. IsQuiet given old.world) (sym same) (keeps.quiet (sym due ∙ none)));
+          most = subst (λ n. n ≤ 64) (sym highest) keeps.most;
+          above = λ s slot more. ap (is_held s slot) world ∙ keeps.above s slot (subst (λ n. n < slot) highest more);
           few = subst (λ n. n ≤ 32) (sym (ap length items ∙ length-set old.queues.items session q')) keeps.few;
           calls = subst (λ w. All (λ (c : Call). IsChangeOf changer c.event) w.calls) (sym world) keeps.calls;
           queues = λ s x found. subst (λ w. IsQueueIn changer w.history s x) (sym world) (all s x (ap (λ qs. slice_get qs s) (sym items) ∙ found));
           answered = λ line. ap (has_line line) answered ∙ keeps.answered line ∙ ap (λ w. is_answered line w.history) (sym world);
         };
     sound = λ sound. subst (IsSoundWorld stands) (sym world) sound;
-    given = fun_ext (λ s. ap (λ qs. commands_in (slice_get qs s)) items
-        ∙ commands_with old.queues.items session q' (slice_get_within old.queues.items session q is) (ap (λ cs. cs.items) commands ∙ sym (ap commands_in is)) s);
+    given = same;
     queues = ap length items ∙ length-set old.queues.items session q';
   }
+    where
+      same : given_to new ≡ given_to old
+      same = fun_ext (λ s. ap (λ qs. commands_in (slice_get qs s)) items
+          ∙ commands_with old.queues.items session q' (slice_get_within old.queues.items session q is) (ap (λ cs. cs.items) commands ∙ sym (ap commands_in is)) s)
 
   -- ---- a command of a queue
 
@@ -139,18 +165,21 @@ module _ {E : Type 0} where
           (All-get_or (IsGiven changer session) q.commands.items place c (slice_get_within q.commands.items place c is) (keeps.queues session q e).given)
 
   -- it is submitted
-  pub goes_by_start : (stands : SessionRequest E → Standing) (session place : ℕ) (c : Given) (old new : Runner E) (result : Outcome) → HasChanger old
-      → slice_get (given_to old session) place ≡ Some c → IsStep stands c.submission old.world result new.world → IsSoundWorld stands new.world → new.queues ≡ old.queues → new.answered ≡ old.answered
-      → GoesOn stands old new
-  goes_by_start stands session place c old new result has is step sound queues answered =
+  pub goes_by_start : (stands : SessionRequest E → Standing) (session place : ℕ) (c : Given) (old : Runner E) (w : WorldView (SessionRequest E)) (highest : ℕ) (result : Outcome) → HasChanger old
+      → slice_get (given_to old session) place ≡ Some c → to_start (given_to old session) old.world session ≡ slice_get (given_to old session) place
+      → IsStep stands c.submission old.world result w → IsSoundWorld stands w → highest ≡ highest_after old.highest result → GoesOn stands old (record old { world = w; highest = highest })
+  goes_by_start stands session place c old w highest result has is may step sound high =
       let it = given_there has.0 old has.1 session place c is in
-      let same : (line : ℕ) → is_answered line new.world.history ≡ is_answered line old.world.history
-      = submit_answers stands session c.line it.command old.world result new.world (subst (λ e. IsStep stands e old.world result new.world) it.submission step) in
-      goes_by_step stands c.submission old new result
+      let step' : IsStep stands (event.Submit session c.line it.command) old.world result w = subst (λ e. IsStep stands e old.world result w) it.submission step in
+      let same : (line : ℕ) → is_answered line w.history ≡ is_answered line old.world.history = submit_answers stands session c.line it.command old.world result w step' in
+      goes_by_step stands c.submission old (record old { world = w; highest = highest }) result
       (λ changer keeps. let mine = given_there changer old keeps session place c is in subst (IsChangeOf changer) (sym mine.submission) mine.served.change)
-      step sound queues
-      (λ line was. ap (has_line line) answered ∙ was ∙ sym (same line))
+      step sound refl
+      (λ line was. was ∙ sym (same line))
       (λ line was. same line ∙ was)
+      (λ keeps due. absurd (none-some c (sym (keeps.1.quiet due session) ∙ may ∙ is)))
+      (λ few. subst (λ n. n ≤ 64) (sym high) (submit_most stands session c.line it.command old.world result w old.highest step' few))
+      (λ above s slot more. submit_above stands session c.line it.command old.world result w old.highest step' above s slot (subst (λ n. n < slot) high more))
 
 -- a session that isn't there has no command that may start
 none_starts : {R : Type 0} (w : WorldView R) (session : ℕ) → to_start [] w session ≡ None
@@ -235,30 +264,40 @@ comes_then stands e result old between new given given' same step starts =
     record { between = between; step = step; starts = subst (λ h. StartsAll stands h between new) same starts }
 
 module _ {E : Type 0} (stands : SessionRequest E → Standing) where
-  pub goes_by_trim : (s : SiteId) (image object : ℕ) (old new : Runner E) (result : Outcome) → IsStep stands (event.Trim s image object) old.world result new.world
-      → IsSoundWorld stands new.world → new.queues ≡ old.queues → new.answered ≡ old.answered → GoesOn stands old new
-  goes_by_trim s image object old new result step sound queues answered =
-      goes_by_step stands (event.Trim s image object) old new result (λ changer keeps. tt) step sound queues
-      (λ line was. ap (has_line line) answered ∙ was ∙ sym (trim_answers stands s image object old.world result new.world step line))
-      (λ line was. trim_answers stands s image object old.world result new.world step line ∙ was)
+  pub goes_by_trim : (s : SiteId) (image object : ℕ) (old : Runner E) (w : WorldView (SessionRequest E)) (result : Outcome) → IsStep stands (event.Trim s image object) old.world result w
+      → IsSoundWorld stands w → GoesOn stands old (record old { world = w })
+  goes_by_trim s image object old w result step sound =
+      goes_by_step stands (event.Trim s image object) old (record old { world = w }) result (λ changer keeps. tt) step sound refl
+      (λ line was. was ∙ sym (trim_answers stands s image object old.world result w step line))
+      (λ line was. trim_answers stands s image object old.world result w step line ∙ was)
+      (λ keeps due. quiet_trim stands (given_to old) s image object old.world result w step (keeps.1.quiet due)) (λ few. few)
+      (λ above session slot more. trim_above stands s image object old.world result w step session slot (above session slot more))
 
   -- the runner noted what was answered by a poll
-  pub goes_by_poll : (session slot : ℕ) (old new : Runner E) (result : Outcome) → IsStep stands (event.Poll session slot) old.world result new.world
-      → IsSoundWorld stands new.world → new.queues ≡ old.queues → ((line : ℕ) → has_line line new.answered ≡ (has_line line old.answered || answers line (line_at session slot old.world.sessions) result)) → GoesOn stands old new
-  goes_by_poll session slot old new result step sound queues answered =
-      goes_by_step stands (event.Poll session slot) old new result (λ changer keeps. tt) step sound queues
-      (λ line was. answered line ∙ ap (λ b. b || answers line (line_at session slot old.world.sessions) result) was ∙ sym (poll_answers stands session slot old.world result new.world step line))
-      (λ line was. answered_more (is_answered line old.world.history) (answers line (line_at session slot old.world.sessions) result) (is_answered line new.world.history) (poll_answers stands session slot old.world result new.world step line) was)
+  pub goes_by_poll : (session slot : ℕ) (old : Runner E) (w : WorldView (SessionRequest E)) (new : Runner E) (result : Outcome) → IsSoundWorld stands old.world → IsStep stands (event.Poll session slot) old.world result w
+      → IsSoundWorld stands w → new ≡ record old { world = w; answered = new.answered; is_due = new.is_due }
+      → ((line : ℕ) → has_line line new.answered ≡ (has_line line old.answered || answers line (line_at session slot old.world.sessions) result)) → new.is_due ≡ (old.is_due || has_reply_by result) → GoesOn stands old new
+  goes_by_poll session slot old w new result before step sound rest answered due =
+      subst (GoesOn stands old) (sym rest)
+      (goes_by_step stands (event.Poll session slot) old (record old { world = w; answered = new.answered; is_due = new.is_due }) result (λ changer keeps. tt) step sound refl
+      (λ line was. answered line ∙ ap (λ b. b || answers line (line_at session slot old.world.sessions) result) was ∙ sym (poll_answers stands session slot old.world result w step line))
+      (λ line was. answered_more (is_answered line old.world.history) (answers line (line_at session slot old.world.sessions) result) (is_answered line w.history) (poll_answers stands session slot old.world result w step line) was)
+      (λ keeps none.
+      let parts = or_parts old.is_due (has_reply_by result) (sym due ∙ none) in
+      quiet_poll stands (given_to old) session slot old.world result w step before sound parts.1 (keeps.1.quiet parts.0))
+      (λ few. few)
+      (λ above s other more. poll_above stands session slot old.world result w step s other (above s other more)))
 
   -- a poll's step, and then what was noted of it
-  pub goes_by_note : (session slot : ℕ) (old between new : Runner E) (before : Option ℕ) (result : Outcome) → before ≡ line_at session slot old.world.sessions
-      → IsStep stands (event.Poll session slot) old.world result between.world → IsSoundWorld stands between.world → between.queues ≡ old.queues → between.answered ≡ old.answered
-      → new.world ≡ between.world → new.queues ≡ between.queues → ((line : ℕ) → has_line line new.answered ≡ (has_line line between.answered || answers line before result)) → GoesOn stands old new
-  goes_by_note session slot old between new before result line step sound queues answered world queues' noted =
-      goes_by_poll session slot old new result
-      (subst (λ w. IsStep stands (event.Poll session slot) old.world result w) (sym world) step)
-      (subst (IsSoundWorld stands) (sym world) sound) (queues' ∙ queues)
-      (λ l. noted l ∙ ap (λ a. has_line l a || answers l before result) answered ∙ ap (λ o. has_line l old.answered || answers l o result) line)
+  pub goes_by_note : (session slot : ℕ) (old between new : Runner E) (before : Option ℕ) (result : Outcome) → before ≡ line_at session slot old.world.sessions → IsSoundWorld stands old.world
+      → IsStep stands (event.Poll session slot) old.world result between.world → IsSoundWorld stands between.world → between ≡ record old { world = between.world }
+      → new ≡ record between { answered = new.answered; is_due = new.is_due } → ((line : ℕ) → has_line line new.answered ≡ (has_line line between.answered || answers line before result))
+      → new.is_due ≡ (between.is_due || has_reply_by result) → GoesOn stands old new
+  goes_by_note session slot old between new before result line was step sound first rest noted due =
+      goes_by_poll session slot old between.world new result was step sound
+      (rest ∙ ap (λ (r : Runner E). record r { answered = new.answered; is_due = new.is_due }) first)
+      (λ l. noted l ∙ ap (λ (r : Runner E). has_line l r.answered || answers l before result) first ∙ ap (λ o. has_line l old.answered || answers l o result) line)
+      (due ∙ ap (λ (r : Runner E). r.is_due || has_reply_by result) first)
 
 -- ---- a command that a line gives
 
@@ -303,26 +342,20 @@ one_given number (said.Trim site image object) c changer is played = absurd (not
 module _ {E : Type 0} where
   -- a session has it behind the others
   pub keeps_more : (changer : ℕ) (old new : Runner E) (c : Given) (q q' : Queue) → KeepsUp changer old → slice_get old.queues.items c.session ≡ Some q → new.world ≡ old.world → new.answered ≡ old.answered
-      → new.queues.items ≡ slice_set old.queues.items c.session q' → q'.commands.items ≡ q.commands.items ++ c ∷ [] → q'.front ≡ q.front → q'.next ≡ q.next → IsGiven changer c.session c → KeepsUp changer new
-  keeps_more changer old new c q q' keeps is world answered items commands front next given =
+      → new.is_due ≡ true → new.highest ≡ old.highest → new.queues.items ≡ slice_set old.queues.items c.session q' → q'.commands.items ≡ q.commands.items ++ c ∷ [] → q'.front ≡ q.front → q'.next ≡ q.next → IsGiven changer c.session c → KeepsUp changer new
+  keeps_more changer old new c q q' keeps is world answered due highest items commands front next given =
       let it = queue_more changer old.world.history c.session q q' c (keeps.queues c.session q is) commands front next given in
       let all : (s : ℕ) (x : Queue) → slice_get (slice_set old.queues.items c.session q') s ≡ Some x → IsQueueIn changer old.world.history s x
       = each_with (λ s x. IsQueueIn changer old.world.history s x) old.queues.items c.session q' (slice_get_within old.queues.items c.session q is) keeps.queues it in
       record {
+        quiet = λ none. absurd (false≢true (sym none ∙ due));
+        most = subst (λ n. n ≤ 64) (sym highest) keeps.most;
+        above = λ s slot more. ap (is_held s slot) world ∙ keeps.above s slot (subst (λ n. n < slot) highest more);
         few = subst (λ n. n ≤ 32) (sym (ap length items ∙ length-set old.queues.items c.session q')) keeps.few;
         calls = subst (λ w. All (λ (c : Call). IsChangeOf changer c.event) w.calls) (sym world) keeps.calls;
         queues = λ s x found. subst (λ w. IsQueueIn changer w.history s x) (sym world) (all s x (ap (λ qs. slice_get qs s) (sym items) ∙ found));
         answered = λ line. ap (has_line line) answered ∙ keeps.answered line ∙ ap (λ w. is_answered line w.history) (sym world);
       }
-
-  -- a new runner
-  pub keeps_new : (changer : ℕ) (r : Runner E) → length r.queues.items ≤ 32 → All IsEmptyQueue r.queues.items → r.world.history ≡ [] → r.world.calls ≡ [] → ((line : ℕ) → has_line line r.answered ≡ false) → KeepsUp changer r
-  keeps_new changer r few empty history calls answered = record {
-    few = few;
-    calls = All-same (λ (c : Call). IsChangeOf changer c.event) r.world.calls [] calls (All-nil (λ (c : Call). IsChangeOf changer c.event));
-    queues = λ s q is. queue_new changer r.world.history s q (subst IsEmptyQueue (get_or_from_slice_get r.queues.items s q q is) (All-get_or IsEmptyQueue r.queues.items s q (slice_get_within r.queues.items s q is) empty));
-    answered = λ line. answered line ∙ sym (ap (is_answered line) history);
-  }
 
   pub given_none : (r : Runner E) → All IsEmptyQueue r.queues.items → (s : ℕ) → given_to r s ≡ []
   given_none r empty s = by (slice_get r.queues.items s) refl
@@ -330,3 +363,20 @@ module _ {E : Type 0} where
       by : (o : Option Queue) → slice_get r.queues.items s ≡ o → commands_in o ≡ []
       by None e = refl
       by (Some q) e = (subst IsEmptyQueue (get_or_from_slice_get r.queues.items s q q e) (All-get_or IsEmptyQueue r.queues.items s q (slice_get_within r.queues.items s q e) empty)).commands
+
+  -- a new runner
+  pub keeps_new : (stands : SessionRequest E → Standing) (changer : ℕ) (r : Runner E) → length r.queues.items ≤ 32 → All IsEmptyQueue r.queues.items → IsNewWorld stands r.world → ((line : ℕ) → has_line line r.answered ≡ false)
+      → r.highest ≡ 0 → KeepsUp changer r
+  keeps_new stands changer r few empty new answered highest = record {
+    quiet = λ due session. ap (λ given. to_start given r.world session) (given_none r empty session) ∙ none_starts r.world session;
+    most = omega (arith, highest);
+    above = λ session slot more. nobody session (session_in session r.world.sessions) refl slot;
+    few = few;
+    calls = All-same (λ (c : Call). IsChangeOf changer c.event) r.world.calls [] new.calls (All-nil (λ (c : Call). IsChangeOf changer c.event));
+    queues = λ s q is. queue_new changer r.world.history s q (subst IsEmptyQueue (get_or_from_slice_get r.queues.items s q q is) (All-get_or IsEmptyQueue r.queues.items s q (slice_get_within r.queues.items s q is) empty));
+    answered = λ line. answered line ∙ sym (ap (is_answered line) new.history);
+  }
+    where
+      nobody : (session : ℕ) (c : Option (SessionView (SessionRequest E))) → session_in session r.world.sessions ≡ c → (slot : ℕ) → is_some (script_line (held_of slot c)) ≡ false
+      nobody session None is slot = refl
+      nobody session (Some c) is slot = line_held (held_in slot c.slots) ∙ ap is_some ((new.clients session c is).slots slot)

@@ -1,5 +1,6 @@
 -- The polls of a round, one more after another.
-use Rattle.std.proofs.Common.{◌≡◌, ℕ, ◌<◌, ◌+◌, Bool, List, length, slice_get, slice_set, Some, ap, ◌∙◌, subst, arith}
+use Rattle.std.proofs.Common.{◌≡◌, ℕ, zero, suc, ◌<◌, ◌+◌, Bool, true, false, List, length, replicate, slice_get, slice_set, Some, refl, ap, ◌∙◌, subst, arith}
+use Rattle.std.proofs.lemmas.Bool.{true≢false}
 use Rattle.rbd_machine.specs.Plan.{Standing}
 use Rattle.rbd_script.specs.declared.script.Said.{Said}
 use Rattle.rbd_world.specs.World.{WorldView}
@@ -21,6 +22,11 @@ pub polls_so : {R : Type 0} (stands : R → Standing) (given given' : (session :
 polls_so stands given given' held held' session slot old new same is polls =
     subst (λ b. PollsWhere stands given b session slot old new) is (subst (λ gs. PollsWhere stands gs held' session slot old new) same polls)
 
+-- a slot that isn't held isn't polled
+pub not_held : {R : Type 0} (stands : R → Standing) (given : (session : ℕ) → List Given) (held : Bool) (session slot : ℕ) (p : Pace R) → held ≡ false → PollsWhere stands given held session slot p p
+not_held stands given true session slot p is = absurd (true≢false is)
+not_held stands given false session slot p is = refl
+
 -- what a line does, and how a script settles, told of the same commands, sessions and world
 pub plays_so : {R : Type 0} (stands : R → Standing) (given given' : (session : ℕ) → List Given) (sessions sessions' : ℕ) (s : Said) (old old' new : WorldView R)
     → given' ≡ given → sessions' ≡ sessions → old' ≡ old → Plays stands given' sessions' s old' new → Plays stands given sessions s old new
@@ -33,3 +39,9 @@ pub settles_so : {R : Type 0} (stands : R → Standing) (given given' : (session
 settles_so stands given given' sessions sessions' rounds rounds' old new same count all settles =
     subst (λ n. Settles stands given sessions n old new) all
     (subst (λ n. Settles stands given n rounds' old new) count (subst (λ gs. Settles stands gs sessions' rounds' old new) same settles))
+
+-- in a list of one value each place has it
+pub all_alike : {X : Type 0} (x : X) (n j : ℕ) → j < n → slice_get (replicate n x) j ≡ Some x
+all_alike x zero j below = absurd (omega (arith, below))
+all_alike x (suc n) zero below = refl
+all_alike x (suc n) (suc j) below = all_alike x n j (omega (arith, below))

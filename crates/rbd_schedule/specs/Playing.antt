@@ -1,5 +1,5 @@
 -- What is played, and by what.
-use Rattle.std.specs.Prelude.{◌≡◌, ℕ, ◌≤◌, ◌==◌, ◌&&◌, nat_eq, not, Bool, true, false, List, [], length, take, map, All, slice_get, Option, Some, None}
+use Rattle.std.specs.Prelude.{◌≡◌, ℕ, ◌<◌, ◌≤◌, ◌==◌, ◌&&◌, nat_eq, nat_lt, cond, not, Bool, true, false, List, [], length, take, map, All, slice_get, Option, Some, None}
 use Rattle.std.specs.HashSet.{HashSet, contains_by}
 use Rattle.rbd_known.specs.Calm.{is_change}
 use Rattle.rbd_kinds.specs.declared.command.Command.{Command}
@@ -24,7 +24,7 @@ use Rattle.rbd_schedule.specs.declared.runner.Runner.{Runner}
 use Rattle.rbd_world.specs.declared.event.Outcome.{Outcome}
 use Rattle.rbd_world.specs.declared.event.Outcome.TheVariants as outcome
 use Rattle.rbd_schedule.specs.InOrder.{AreDeclared}
-use Rattle.rbd_schedule.specs.Schedule.{PlaysScript, Starts, Submits}
+use Rattle.rbd_schedule.specs.Schedule.{PlaysScript, Starts, Submits, is_held}
 use Rattle.rbd_schedule.specs.Starts.{IsIdle, IsQuiet, is_answered}
 
 -- ---- which scripts are played
@@ -123,6 +123,9 @@ pub record IsQueueIn (changer : ℕ) (history : List Entry) (session : ℕ) (q :
 
 -- What the runner keeps beside the world is true of it, where one session makes all changes.
 pub record KeepsUp {E : Type 0} (changer : ℕ) (r : Runner E) : Type 0 where
+  pub quiet : r.is_due ≡ false → IsQuiet (given_to r) r.world
+  pub most : r.highest ≤ 64
+  pub above : (session slot : ℕ) → r.highest < slot → is_held session slot r.world ≡ false
   pub few : length r.queues.items ≤ 32
   pub calls : All (λ (c : Call). IsChangeOf changer c.event) r.world.calls
   pub queues : (session : ℕ) (q : Queue) → slice_get r.queues.items session ≡ Some q → IsQueueIn changer r.world.history session q
@@ -162,3 +165,8 @@ is_one_of line (Some other) = line == other
 -- the line that was in the slot before it, where the request has its reply now
 abbrev pub answers : (line : ℕ) → (before : Option ℕ) → Outcome → Bool
 answers line before result = has_reply_by result && is_one_of line before
+
+-- the highest slot that was given so far, behind this
+abbrev pub highest_after : (highest : ℕ) → Outcome → ℕ
+highest_after highest (outcome.Submitted slot) = cond (nat_lt highest slot) slot highest
+highest_after highest result = highest

@@ -55,15 +55,19 @@
 //!
 //! # Cost
 //!
-//! An event costs its step in the world (`rbd_world`), and behind it a look at each session's queue:
-//! two look-ups by number. A command is passed by in its queue once, so all looks together cost as
-//! much as there are commands. A turn looks at all 64 slots of its session, whatever it holds.
+//! An event costs its step in the world (`rbd_world`). Only behind a reply, and where a line gives
+//! a command, is each session's queue looked at for one that may start: two look-ups by number. A
+//! command is passed by in its queue once, so all looks together cost as much as there are
+//! commands. A turn looks at the slots of its session up to the highest that any session was given
+//! so far.
 //!
 //! # How it works
 //!
-//! Beside the world the runner has a queue of commands for each session, and the lines that have
-//! their reply. A queue has two places that only go on: all commands before the one are over, and
-//! none before the other stands beside the others and wasn't begun.
+//! Beside the world the runner has a queue of commands for each session, the lines that have their
+//! reply, whether a command may have come to start, and the highest slot that was given. A queue
+//! has two places that only go on: all commands before the one are over, and none before the other
+//! stands beside the others and wasn't begun. An event without a reply lets none start: it begins
+//! and answers no line, and frees no slot (`proofs/Quiet.antt`).
 #![tactic(auto)]
 
 mod given;

@@ -58,7 +58,7 @@ impl<E: Machine + Drop> Runner<E> {
     {
         let mut went_on = self.poll_in(alloc, session, Slot(0), went_on)?;
         let held = self.held(session);
-        for k in 0..64 {
+        for k in 0..self.highest() as usize {
             went_on = self.poll_held(alloc, session, Slot(k as u8 + 1), held[k], went_on)?;
         }
         Ok(went_on)
@@ -102,10 +102,11 @@ impl<E: Machine + Drop> Runner<E> {
 
     /// Which slots of a session are held: those from 1 on.
     fn held(&self, session: SessionNo) -> [bool; 64]
+        requires { HasChanger self.now }
         ensures { (k : ℕ) → k < 64 → slice_get result k ≡ Some (is_held session (k + 1) self.now.world) }
     {
         let mut held = [false; 64];
-        for k in 0..64 {
+        for k in 0..self.highest() as usize {
             held[k] = self.world.line(session, Slot(k as u8 + 1)).is_some();
         }
         held

@@ -14,7 +14,7 @@ ghost use Rattle.rbd_world.specs.declared.event.Event.TheVariants as of_event;
 ghost use Rattle.rbd_world.specs.declared.event.Outcome.{Outcome as Came};
 ghost use Rattle.rbd_schedule.specs.Given.{given_by as told_by, of_session};
 ghost use Rattle.rbd_schedule.specs.Starts.{to_start};
-ghost use Rattle.rbd_schedule.specs.Playing.{at_place, GoesOn, HasChanger, IsEmptyQueue, IsPlayed, KeepsUp, StartsIf, StartsWhere, answers, given_to, has_line, has_reply_by, homes_of};
+ghost use Rattle.rbd_schedule.specs.Playing.{at_place, GoesOn, HasChanger, IsEmptyQueue, IsPlayed, KeepsUp, StartsIf, StartsWhere, answers, given_to, has_line, has_reply_by, highest_after, homes_of};
 ghost use Rattle.rbd_schedule.specs.Schedule.{Comes, StartsAll};
 
 use crate::given::given_by;
@@ -34,6 +34,10 @@ pub struct Runner<E: Machine + Drop> {
     queues: Vec<Queue>,
     /// The lines that have their reply.
     answered: HashSet<u32>,
+    /// Whether a command may have come to start: where it is false, none may.
+    is_due: bool,
+    /// No session holds a slot above it.
+    highest: u8,
 }
 
 impl<E: Machine + Drop> Runner<E> {
@@ -54,6 +58,8 @@ impl<E: Machine + Drop> Runner<E> {
             world,
             queues,
             answered: HashSet::new(alloc),
+            is_due: false,
+            highest: 0,
         })
     }
 
@@ -72,6 +78,8 @@ impl<E: Machine + Drop> Runner<E> {
             world,
             queues: _,
             answered: _,
+            is_due: _,
+            highest: _,
         } = self;
         world
     }
@@ -86,6 +94,7 @@ impl<E: Machine + Drop> Runner<E> {
         let Some(given) = given_by(line)? else {
             return Ok(());
         };
+        self.is_due = true;
         match self.queues.get_mut(given.session.0 as usize) {
             Some(queue) => queue.push(given),
             None => Ok(()),
@@ -116,21 +125,22 @@ impl<E: Machine + Drop> Runner<E> {
         requires one_client { AreOfOneClient self.old.world.calls event }
         ensures step { IfOk result (λ outcome. IsStep (stands_of E.stands) event self.old.world outcome self.new.world) }
         ensures sound { IsSoundWorld (stands_of E.stands) self.new.world }
-        ensures answered { self.new.answered ≡ self.old.answered }
-        ensures queues { self.new.queues ≡ self.old.queues }
+        ensures rest { self.new ≡ record self.old { world = self.new.world } }
     {
         self.world.step(alloc, &event)
     }
 
-    /// The line that was in a slot before a poll of it has its reply, where the request ended.
+    /// The line that was in a slot before a poll of it has its reply, where the request ended: then
+    /// another may start.
     fn note(&mut self, before: Option<u32>, outcome: &Outcome) -> Result<(), NoMemory>
         ensures answered { OnOk result ((other : ℕ) → has_line other self.new.answered ≡ (has_line other self.old.answered || answers other before outcome.now)) }
-        ensures world { self.new.world ≡ self.old.world }
-        ensures queues { self.new.queues ≡ self.old.queues }
+        ensures due { OnOk result (self.new.is_due ≡ (self.old.is_due || has_reply_by outcome.now)) }
+        ensures rest { self.new ≡ record self.old { answered = self.new.answered; is_due = self.new.is_due } }
     {
         if !has_replied(outcome) {
             return Ok(());
         }
+        self.is_due = true;
         if let Some(line) = before {
             self.answered.insert(line)?;
         }
@@ -158,13 +168,17 @@ impl<E: Machine + Drop> Runner<E> {
         self.start_all(alloc)
     }
 
-    /// Starts one command after another, until none may start.
+    /// Starts one command after another, until none may start. None is looked for where none may.
     pub fn start_all(&mut self, alloc: Global) -> Result<(), NoMemory>
         requires { HasChanger self.old }
         ensures starts { OnOk result (StartsAll (stands_of E.stands) (given_to self.old) self.old.world self.new.world) }
         ensures goes { OnOk result (GoesOn (stands_of E.stands) self.old self.new) }
     {
+        if !self.is_due {
+            return Ok(());
+        }
         while self.start_next(alloc)? {}
+        self.is_due = false;
         Ok(())
     }
 
@@ -222,8 +236,26 @@ impl<E: Machine + Drop> Runner<E> {
         ensures goes { OnOk result (GoesOn (stands_of E.stands) self.old self.new) }
     {
         let command = &self.queues[session.0 as usize].commands[place];
-        self.world.step(alloc, &command.submission)?;
+        let outcome = self.world.step(alloc, &command.submission)?;
+        self.highest = highest_behind(self.highest, &outcome);
         Ok(true)
+    }
+
+    /// A slot above which no session holds one.
+    pub fn highest(&self) -> u8
+        ensures { result ≡ self.now.highest }
+    {
+        self.highest
+    }
+}
+
+/// The highest slot that was given so far, behind a step.
+fn highest_behind(highest: u8, outcome: &Outcome) -> u8
+    ensures { result ≡ highest_after highest outcome.now }
+{
+    match outcome {
+        Outcome::Submitted(slot) => highest.max(slot.0),
+        _ => highest,
     }
 }
 

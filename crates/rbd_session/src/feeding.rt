@@ -27,12 +27,10 @@ pub fn prepare_in<R: Request>(
     ensures lines { (key : ℕ) → members_at key lines.new ≡ members_at key lines.old }
     ensures ready { OfRunning (λ r. OfRunning (λ q. IsSameStand R.stands r q × OnOk result (IsPrepared R.stands R.is_ready slot r lines.old fed.now q lines.new)) occupant.new) occupant.old }
 {
-    let Some(Occupant::Running(mut running)) = occupant.take() else {
-        unreachable!()
-    };
-    let readied = prepare(alloc, &mut running, lines, slot, fed);
-    *occupant = Some(Occupant::Running(running));
-    readied
+    match occupant {
+        Some(Occupant::Running(running)) => prepare(alloc, running, lines, slot, fed),
+        _ => unreachable!(),
+    }
 }
 
 /// Feeds the request in a slot, which is free from then on where the request ends.
@@ -47,14 +45,12 @@ pub fn feed_in<R: Request>(
     ensures others { LeavesOthers slot (lines_of lines.old) (lines_of lines.new) }
     ensures fair { AreFair (lines_of lines.new) }
 {
-    let Some(Occupant::Running(mut running)) = occupant.take() else {
-        unreachable!()
+    let reply = match occupant {
+        Some(Occupant::Running(running)) => advance(running, lines, slot, fed),
+        _ => unreachable!(),
     };
-    match advance(&mut running, lines, slot, fed) {
-        Some(reply) => Some(reply),
-        None => {
-            *occupant = Some(Occupant::Running(running));
-            None
-        }
+    if reply.is_some() {
+        *occupant = None;
     }
+    reply
 }

@@ -68,7 +68,7 @@
 //!
 //! Slots are a list of 65, of which the first is never held. Lines are a hash table by image, each
 //! a `Line` of `rbd_line`, which goes with its last member; one that is empty is kept ready. A
-//! feeding takes the request out of its slot, and puts it back where it hasn't ended.
+//! request is fed in its slot: it is large, and isn't moved.
 #![tactic(auto)]
 
 mod advance;

@@ -1,4 +1,4 @@
-use Rattle.std.proofs.Common.{◌≡◌, Some, [], ◌∷◌, ◌++◌, slice_get, slice_set, sym, ap, ◌∙◌, refl}
+use Rattle.std.proofs.Common.{◌≡◌, Some, true, [], ◌∷◌, ◌++◌, slice_get, slice_set, sym, ap, ◌∙◌, refl}
 use Rattle.std.proofs.lemmas.Option.{slice_get_read, slice_get_within}
 use Rattle.std.proofs.lemmas.Result.{on_ok_weaker}
 use Rattle.std.specs.Vec.{vec_len, with_item}
@@ -25,8 +25,8 @@ told g c = sym (ap listed c.in-Some.is) ∙ c.in_ok-given.ensures
 pub returns-in-Some-get_mut-clause-keeps : goal.returns-in-Some-get_mut-clause-keeps
 returns-in-Some-get_mut-clause-keeps g c =
     on_ok_weaker c.push.result (λ commands changer keeps played.
-    keeps_more changer c.args.self.now (record { world = c.args.self.now.world; queues = with_item c.args.self.now.queues c.given.inside.0.0.0 c.push.new.self; answered = c.args.self.now.answered })
-    c.in-Some.given c.in-Some-get_mut.queue.now c.push.new.self keeps (there g c) refl refl
+    keeps_more changer c.args.self.now (record { world = c.args.self.now.world; queues = with_item c.args.self.now.queues c.given.inside.0.0.0 c.push.new.self; answered = c.args.self.now.answered; is_due = true; highest = c.args.self.now.highest })
+    c.in-Some.given c.in-Some-get_mut.queue.now c.push.new.self keeps (there g c) refl refl refl refl
     (ap (λ n. slice_set c.args.self.now.queues.items n c.push.new.self) (number g c)) commands c.push.ensures.front c.push.ensures.next
     (one_given c.args.line.now.number c.args.line.now.said c.in-Some.given changer (told g c) played)) c.push.ensures.commands
 

@@ -1,10 +1,10 @@
-use Rattle.std.proofs.Common.{◌+◌, sym, subst}
+use Rattle.std.proofs.Common.{◌+◌, false, sym, subst}
 use Rattle.rbd_requests.specs.Session.{stands_of}
 use Rattle.rbd_schedule.specs.Deeds.{Deeds}
 use Rattle.rbd_schedule.specs.Playing.{StartsWhere, given_to}
 use Rattle.rbd_schedule.specs.Schedule.{Starts}
 use Rattle.rbd_schedule.proofs.Done.{none_done, one_more}
-use Rattle.rbd_schedule.proofs.Goes.{goes_same, goes_then, has_changer, left_again, quiet_again, starts_one}
+use Rattle.rbd_schedule.proofs.Goes.{goes_quiet, goes_same, goes_then, has_changer, left_again, quiet_again, starts_one}
 use Rattle.rbd_schedule.proofs.runner.Runner.start_all.Goals as goal
 
 pub loop-init : goal.loop-init
@@ -28,15 +28,32 @@ loop-preserved g c = record {
       (subst (λ b. StartsWhere (stands_of g.E.Machine.stands) (given_to c.loop.self) b c.loop.self.world c.start_next.new.self.world) c.if-branch.true c.in_ok-start_next.ensures.starts));
 }
 
+pub returns-then-not-self-clause-starts : goal.returns-then-not-self-clause-starts
+returns-then-not-self-clause-starts g c = record {
+  count = 0;
+  starts = none_done (λ k. Starts (stands_of g.E.Machine.stands) (given_to c.args.self.now)) c.args.self.now.world;
+  quiet = c.requires.1.quiet c.if-not-self.true;
+}
+
+pub returns-then-not-self-clause-goes : goal.returns-then-not-self-clause-goes
+returns-then-not-self-clause-goes g c = goes_same c.args.self.now
+
 pub returns-clause-starts : goal.returns-clause-starts
 returns-clause-starts g c =
-    let none = subst (λ b. StartsWhere (stands_of g.E.Machine.stands) (given_to c.loop.self) b c.loop.self.world c.start_next.new.self.world) c.if-branch.false c.in_ok-start_next.ensures.starts in
     let stands = stands_of g.E.Machine.stands in
+    let last : StartsWhere (stands_of g.E.Machine.stands) (given_to c.loop.self) false c.loop.self.world c.start_next.new.self.world
+    = subst (λ b. StartsWhere (stands_of g.E.Machine.stands) (given_to c.loop.self) b c.loop.self.world c.start_next.new.self.world) c.if-branch.false c.in_ok-start_next.ensures.starts in
     record {
       count = c.loop.invariant.count;
-      starts = subst (λ w. Deeds (λ k. Starts stands (given_to c.args.self.now)) c.loop.invariant.count c.args.self.now.world w) (sym none.0) c.loop.invariant.starts;
-      quiet = quiet_again (given_to c.loop.self) (given_to c.args.self.now) c.loop.self.world c.start_next.new.self.world c.loop.invariant.goes.given none.0 none.1;
+      starts = subst (λ w. Deeds (λ k. Starts stands (given_to c.args.self.now)) c.loop.invariant.count c.args.self.now.world w) (sym last.0) c.loop.invariant.starts;
+      quiet = quiet_again (given_to c.loop.self) (given_to c.args.self.now) c.loop.self.world c.start_next.new.self.world c.loop.invariant.goes.given last.0 last.1;
     }
 
 pub returns-clause-goes : goal.returns-clause-goes
-returns-clause-goes g c = goes_then c.args.self.now c.loop.self c.start_next.new.self c.loop.invariant.goes c.in_ok-start_next.ensures.goes
+returns-clause-goes g c =
+    let last : StartsWhere (stands_of g.E.Machine.stands) (given_to c.loop.self) false c.loop.self.world c.start_next.new.self.world
+    = subst (λ b. StartsWhere (stands_of g.E.Machine.stands) (given_to c.loop.self) b c.loop.self.world c.start_next.new.self.world) c.if-branch.false c.in_ok-start_next.ensures.starts in
+    let goes = goes_then c.args.self.now c.loop.self c.start_next.new.self c.loop.invariant.goes c.in_ok-start_next.ensures.goes in
+    goes_then c.args.self.now c.start_next.new.self (record c.start_next.new.self { is_due = false }) goes
+    (goes_quiet (stands_of g.E.Machine.stands) c.start_next.new.self
+    (quiet_again (given_to c.loop.self) (given_to c.start_next.new.self) c.loop.self.world c.start_next.new.self.world (sym c.in_ok-start_next.ensures.goes.given) last.0 last.1))
