@@ -1,6 +1,9 @@
+ghost use Rattle.std.specs.Prelude.{◌≡◌};
+
 use crate::run::{Status, run, run_alone};
 use rbd_edge::{MemSink, MemSource, SureSource};
 use std::alloc::Global;
+use std::process::Abort;
 use std::test::Fail;
 
 /// A session of one image.
@@ -127,19 +130,45 @@ fn printed(alloc: Global, text: &str, script: &str) -> Result<(Status, MemSink),
     Ok((status, sink))
 }
 
+/// A run with these words ends so, and prints this. Tests call it, since a function that looks at a
+/// sink is dear to prove.
+fn prints(
+    rt: &impl Abort,
+    alloc: Global,
+    words: &str,
+    script: &str,
+    ended: Status,
+    told: &str,
+) -> Result<(), Fail> {
+    let (status, sink) = printed(alloc, words, script)?;
+    assert_eq!(rt; status, ended, "{words}: {script}");
+    assert_eq!(rt; sink.held(), told.as_bytes(), "{words}: {script}");
+    Ok(())
+}
+
+/// The same for each of some scripts, and what it prints.
+fn all_print(
+    rt: &impl Abort,
+    alloc: Global,
+    words: &str,
+    ended: Status,
+    rows: &[(&str, &str)],
+) -> Result<(), Fail> {
+    for &(script, told) in rows {
+        prints(rt, alloc, words, script, ended, told)?;
+    }
+    Ok(())
+}
+
 #[test]
 fn a_script_is_played(rt: HostRuntime) -> Result<(), Fail> {
-    for (script, replies) in [
+    let rows = [
         (FIRST, FIRST_REPLIES),
         (TWO_PIECES, TWO_PIECES_REPLIES),
         ("", ""),
         ("# nothing\n\n", ""),
-    ] {
-        let (status, sink) = printed(rt.alloc(), "run", script)?;
-        assert_eq!(rt; status, Status::Done);
-        assert_eq!(rt; sink.held(), replies.as_bytes());
-    }
-    Ok(())
+    ];
+    all_print(&rt, rt.alloc(), "run", Status::Done, &rows)
 }
 
 #[test]
@@ -156,7 +185,7 @@ fn the_call_with_a_runtime_does_the_same(rt: HostRuntime) -> Result<(), Fail> {
 
 #[test]
 fn the_first_fault_is_told(rt: HostRuntime) -> Result<(), Fail> {
-    for (script, told) in [
+    let rows = [
         ("c", "line 1: unknown word\n"),
         ("client", "line 1: missing part\n"),
         ("client c1", "line 1: missing part\n"),
@@ -174,17 +203,13 @@ fn the_first_fault_is_told(rt: HostRuntime) -> Result<(), Fail> {
         ("client c1 a\nc1 write disk 1 abc", "line 2: bad number\n"),
         ("client c1 a\nc1 ls x", "line 2: extra part\n"),
         ("client c1 a\nc2 ls", "line 2: unknown word\n"),
-    ] {
-        let (status, sink) = printed(rt.alloc(), "run", script)?;
-        assert_eq!(rt; status, Status::BadLine, "{script}");
-        assert_eq!(rt; sink.held(), told.as_bytes(), "{script}");
-    }
-    Ok(())
+    ];
+    all_print(&rt, rt.alloc(), "run", Status::BadLine, &rows)
 }
 
 #[test]
 fn a_form_that_isnt_built_is_an_unknown_word(rt: HostRuntime) -> Result<(), Fail> {
-    for (script, told) in [
+    let rows = [
         ("client c1 a\nc1 rm disk\n", "line 2: unknown word\n"),
         ("client c1 a\n@deliver 1\n", "line 2: unknown word\n"),
         ("client c1 a\nc1 ls\n@stop c1\n", "line 3: unknown word\n"),
@@ -200,17 +225,13 @@ fn a_form_that_isnt_built_is_an_unknown_word(rt: HostRuntime) -> Result<(), Fail
             "client c1 a\nc1 rm disk\nc1 read disk 00 1\n",
             "line 3: bad number\n",
         ),
-    ] {
-        let (status, sink) = printed(rt.alloc(), "run", script)?;
-        assert_eq!(rt; status, Status::BadLine, "{script}");
-        assert_eq!(rt; sink.held(), told.as_bytes(), "{script}");
-    }
-    Ok(())
+    ];
+    all_print(&rt, rt.alloc(), "run", Status::BadLine, &rows)
 }
 
 #[test]
 fn a_second_session_that_changes_is_an_unknown_word(rt: HostRuntime) -> Result<(), Fail> {
-    for (script, told) in [
+    let rows = [
         (
             "client c1 a\nclient c2 b\nc1 write d 0 11\nc2 write d 0 22\n",
             "line 4: unknown word\n",
@@ -223,92 +244,84 @@ fn a_second_session_that_changes_is_an_unknown_word(rt: HostRuntime) -> Result<(
             "client c1 a\nclient c2 a\nc1 snap rm d@s\nc2 create d 1\nc2 ls\nc2 snap create d@s\n",
             "line 6: unknown word\n",
         ),
-    ] {
-        let (status, sink) = printed(rt.alloc(), "run", script)?;
-        assert_eq!(rt; status, Status::BadLine, "{script}");
-        assert_eq!(rt; sink.held(), told.as_bytes(), "{script}");
-    }
-    Ok(())
+    ];
+    all_print(&rt, rt.alloc(), "run", Status::BadLine, &rows)
 }
 
 #[test]
 fn commands_start_when_they_may(rt: HostRuntime) -> Result<(), Fail> {
-    for (script, replies) in [
+    let rows = [
         (NEXT, NEXT_REPLIES),
         (PASSED, PASSED_REPLIES),
         (BESIDE, BESIDE_REPLIES),
-    ] {
-        let (status, sink) = printed(rt.alloc(), "run", script)?;
-        assert_eq!(rt; status, Status::Done, "{script}");
-        assert_eq!(rt; sink.held(), replies.as_bytes(), "{script}");
-    }
-    Ok(())
+    ];
+    all_print(&rt, rt.alloc(), "run", Status::Done, &rows)
 }
 
 #[test]
 fn requests_go_on_as_the_schedule_says(rt: HostRuntime) -> Result<(), Fail> {
-    for (script, replies) in [
+    let rows = [
         (ONE_ROUND, ONE_ROUND_REPLIES),
         (HALF_MADE, HALF_MADE_REPLIES),
         (ONE_PIECE, ONE_PIECE_REPLIES),
-    ] {
-        let (status, sink) = printed(rt.alloc(), "run", script)?;
-        assert_eq!(rt; status, Status::Done, "{script}");
-        assert_eq!(rt; sink.held(), replies.as_bytes(), "{script}");
-    }
-    Ok(())
+    ];
+    all_print(&rt, rt.alloc(), "run", Status::Done, &rows)
 }
 
 #[test]
 fn changes_go_in_line(rt: HostRuntime) -> Result<(), Fail> {
-    for (script, replies) in [
+    let rows = [
         (LOOKED_UP_FIRST, LOOKED_UP_FIRST_REPLIES),
         (ALONE, ALONE_REPLIES),
         (SHOWN, SHOWN_REPLIES),
-    ] {
-        let (status, sink) = printed(rt.alloc(), "run", script)?;
-        assert_eq!(rt; status, Status::Done, "{script}");
-        assert_eq!(rt; sink.held(), replies.as_bytes(), "{script}");
-    }
-    Ok(())
+    ];
+    all_print(&rt, rt.alloc(), "run", Status::Done, &rows)
 }
 
 #[test]
 fn a_trace_tells_who_did_what(rt: HostRuntime) -> Result<(), Fail> {
-    for (script, told) in [
+    let rows = [
         (AGAIN, AGAIN_TRACE),
         (SITES, SITES_TRACE),
         (TRIMMED, TRIMMED_TRACE),
-    ] {
-        let (status, sink) = printed(rt.alloc(), "run --trace", script)?;
-        assert_eq!(rt; status, Status::Done, "{script}");
-        assert_eq!(rt; sink.held(), told.as_bytes(), "{script}");
-    }
-    Ok(())
+    ];
+    all_print(&rt, rt.alloc(), "run --trace", Status::Done, &rows)
 }
 
 #[test]
 fn snapshots_show_what_was(rt: HostRuntime) -> Result<(), Fail> {
-    let (status, sink) = printed(rt.alloc(), "run", SNAPSHOTS)?;
-    assert_eq!(rt; status, Status::Done);
-    assert_eq!(rt; sink.held(), SNAPSHOT_REPLIES.as_bytes());
-    Ok(())
+    prints(
+        &rt,
+        rt.alloc(),
+        "run",
+        SNAPSHOTS,
+        Status::Done,
+        SNAPSHOT_REPLIES,
+    )
 }
 
 #[test]
 fn a_trace_has_history_and_log(rt: HostRuntime) -> Result<(), Fail> {
-    let (status, sink) = printed(rt.alloc(), "run --trace", "client c1 a\nc1 create disk 0\n")?;
-    assert_eq!(rt; status, Status::Done);
-    assert_eq!(rt; sink.held(), TRACE.as_bytes());
-    Ok(())
+    prints(
+        &rt,
+        rt.alloc(),
+        "run --trace",
+        "client c1 a\nc1 create disk 0\n",
+        Status::Done,
+        TRACE,
+    )
 }
 
 #[test]
 fn the_log_is_that_of_the_sessions_site(rt: HostRuntime) -> Result<(), Fail> {
-    let (status, sink) = printed(rt.alloc(), "run --trace", "client c1 b\nc1 ls\n")?;
-    assert_eq!(rt; status, Status::Done);
-    assert_eq!(rt; sink.held(), TRACE_AT_B.as_bytes());
-    Ok(())
+    prints(
+        &rt,
+        rt.alloc(),
+        "run --trace",
+        "client c1 b\nc1 ls\n",
+        Status::Done,
+        TRACE_AT_B,
+    )
 }
 
 #[test]
@@ -322,20 +335,25 @@ fn other_words_get_the_usage_line(rt: HostRuntime) -> Result<(), Fail> {
         "--trace run",
         "run --trace x",
     ] {
-        let (status, sink) = printed(rt.alloc(), words, FIRST)?;
-        assert_eq!(rt; status, Status::Usage, "{words}");
-        assert_eq!(rt; sink.held(), USAGE.as_bytes(), "{words}");
+        prints(&rt, rt.alloc(), words, FIRST, Status::Usage, USAGE)?;
     }
     Ok(())
 }
 
+/// How a run into a sink ends.
+fn ended(alloc: Global, script: &str, sink: &mut MemSink) -> Result<Status, Fail>
+    requires { sink.old.faults ≡ 0 }
+{
+    let words = words(alloc, "run")?;
+    let bytes = Vec::from_slice(alloc, script.as_bytes())?;
+    let mut source = SureSource::new(bytes);
+    Ok(run_alone(alloc, words.as_slice(), &mut source, sink))
+}
+
 #[test]
 fn a_sink_that_fails_has_a_first_part(rt: HostRuntime) -> Result<(), Fail> {
-    let words = words(rt.alloc(), "run")?;
-    let bytes = Vec::from_slice(rt.alloc(), TWO_PIECES.as_bytes())?;
-    let mut source = SureSource::new(bytes);
     let mut sink = MemSink::new(rt.alloc(), 1_024, 4, vec![in rt.alloc(); 3]?)?;
-    let status = run_alone(rt.alloc(), words.as_slice(), &mut source, &mut sink);
+    let status = ended(rt.alloc(), TWO_PIECES, &mut sink)?;
     assert_eq!(rt; status, Status::WriteFault);
     assert_eq!(rt; sink.held(), b"2 c1 ok\n".as_slice());
     Ok(())
@@ -343,11 +361,8 @@ fn a_sink_that_fails_has_a_first_part(rt: HostRuntime) -> Result<(), Fail> {
 
 #[test]
 fn a_full_sink_has_a_first_part(rt: HostRuntime) -> Result<(), Fail> {
-    let words = words(rt.alloc(), "run")?;
-    let bytes = Vec::from_slice(rt.alloc(), TWO_PIECES.as_bytes())?;
-    let mut source = SureSource::new(bytes);
     let mut sink = MemSink::new(rt.alloc(), 8, 4, Vec::new(rt.alloc()))?;
-    let status = run_alone(rt.alloc(), words.as_slice(), &mut source, &mut sink);
+    let status = ended(rt.alloc(), TWO_PIECES, &mut sink)?;
     assert_eq!(rt; status, Status::WriteFault);
     assert_eq!(rt; sink.held(), b"2 c1 ok\n".as_slice());
     Ok(())

@@ -44,29 +44,28 @@ fn push_entry(text: &mut Vec<u8>, sessions: &[Declared], entry: &Entry) -> Resul
     ensures { OnOk result (text.new.items ≡ text.old.items ++ entry_text sessions.now entry.now) }
 {
     match entry {
-        Entry::Start { line, instance } => push_start(text, sessions, *line, *instance)?,
+        Entry::Start { line, instance } => push_start(text, sessions, *line, *instance),
         Entry::Effect {
             cause,
             site,
             number,
             effect,
-        } => push_effect(text, sessions, *cause, *site, *number, effect)?,
+        } => push_effect(text, sessions, *cause, *site, *number, effect),
         Entry::Look {
             cause,
             site,
             number,
-        } => push_look(text, sessions, *cause, *site, *number)?,
+        } => push_look(text, sessions, *cause, *site, *number),
         Entry::Fence {
             cause,
             site,
             number,
             instance,
-        } => push_fence(text, sessions, *cause, *site, *number, *instance)?,
-        Entry::Reply { line, reply: _ } => push_answered(text, *line)?,
-        Entry::Stop { session } => push_stop(text, sessions, *session)?,
-        Entry::Lost { line } => push_lost(text, *line)?,
+        } => push_fence(text, sessions, *cause, *site, *number, *instance),
+        Entry::Reply { line, reply: _ } => push_answered(text, *line),
+        Entry::Stop { session } => push_stop(text, sessions, *session),
+        Entry::Lost { line } => push_lost(text, *line),
     }
-    Ok(())
 }
 
 fn push_start(
@@ -80,8 +79,7 @@ fn push_start(
     text.extend_from_slice(b"start ")?;
     push_number(text, line)?;
     text.push(b' ')?;
-    push_instance(text, sessions, instance)?;
-    Ok(())
+    push_instance(text, sessions, instance)
 }
 
 fn push_effect(
@@ -115,8 +113,7 @@ fn push_look(
     text.extend_from_slice(b"look ")?;
     push_cause(text, sessions, cause)?;
     text.push(b' ')?;
-    push_numbered(text, site, number)?;
-    Ok(())
+    push_numbered(text, site, number)
 }
 
 fn push_fence(
@@ -134,44 +131,39 @@ fn push_fence(
     text.push(b' ')?;
     push_numbered(text, site, number)?;
     text.push(b' ')?;
-    push_instance(text, sessions, instance)?;
-    Ok(())
+    push_instance(text, sessions, instance)
 }
 
 fn push_answered(text: &mut Vec<u8>, line: u32) -> Result<(), NoMemory>
     ensures { OnOk result (text.new.items ≡ text.old.items ++ (codes "reply " ++ decimal line)) }
 {
     text.extend_from_slice(b"reply ")?;
-    push_number(text, line)?;
-    Ok(())
+    push_number(text, line)
 }
 
 fn push_stop(text: &mut Vec<u8>, sessions: &[Declared], session: SessionNo) -> Result<(), NoMemory>
     ensures { OnOk result (text.new.items ≡ text.old.items ++ entry_text sessions.now (Entry.Stop session)) }
 {
     text.extend_from_slice(b"stop ")?;
-    push_session(text, sessions, session)?;
-    Ok(())
+    push_session(text, sessions, session)
 }
 
 fn push_lost(text: &mut Vec<u8>, line: u32) -> Result<(), NoMemory>
     ensures { OnOk result (text.new.items ≡ text.old.items ++ (codes "lost " ++ decimal line)) }
 {
     text.extend_from_slice(b"lost ")?;
-    push_number(text, line)?;
-    Ok(())
+    push_number(text, line)
 }
 
 fn push_cause(text: &mut Vec<u8>, sessions: &[Declared], cause: Cause) -> Result<(), NoMemory>
     ensures { OnOk result (text.new.items ≡ text.old.items ++ cause_text sessions.now cause) }
 {
     match cause {
-        Cause::Line(line) => push_number(text, line)?,
-        Cause::Late(instance) => push_by(text, sessions, b"late:", instance)?,
-        Cause::Replay { line, seq } => push_replay(text, line, seq)?,
-        Cause::House(instance) => push_by(text, sessions, b"house:", instance)?,
+        Cause::Line(line) => push_number(text, line),
+        Cause::Late(instance) => push_by(text, sessions, b"late:", instance),
+        Cause::Replay { line, seq } => push_replay(text, line, seq),
+        Cause::House(instance) => push_by(text, sessions, b"house:", instance),
     }
-    Ok(())
 }
 
 fn push_by(
@@ -183,8 +175,7 @@ fn push_by(
     ensures { OnOk result (text.new.items ≡ text.old.items ++ (why.now ++ instance_text sessions.now instance)) }
 {
     text.extend_from_slice(why)?;
-    push_instance(text, sessions, instance)?;
-    Ok(())
+    push_instance(text, sessions, instance)
 }
 
 fn push_replay(text: &mut Vec<u8>, line: u32, seq: u64) -> Result<(), NoMemory>
@@ -193,8 +184,7 @@ fn push_replay(text: &mut Vec<u8>, line: u32, seq: u64) -> Result<(), NoMemory>
     text.extend_from_slice(b"replay:")?;
     push_number(text, line)?;
     text.push(b':')?;
-    push_number(text, seq)?;
-    Ok(())
+    push_number(text, seq)
 }
 
 fn word(effect: &Effect) -> &'static str

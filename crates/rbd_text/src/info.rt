@@ -5,6 +5,7 @@ ghost use Rattle.rbd_text.specs.Replies.{info_text, extent_text, standing_text, 
 
 use crate::names::push_instance;
 use crate::numbers::push_number;
+use crate::word::push_word;
 use rbd_kinds::{HeaderView, Instance, Layout, NoMemory, ParentLink, Role};
 use rbd_script::Declared;
 
@@ -21,8 +22,7 @@ pub fn push_info(
     text.extend_from_slice(b"ok ")?;
     push_extent(text, view)?;
     text.push(b' ')?;
-    push_standing(text, sessions, view)?;
-    Ok(())
+    push_standing(text, sessions, view)
 }
 
 /// `size 10000 objects 3 layout 4096/4096/1 snaps 1`
@@ -38,8 +38,7 @@ fn push_extent(text: &mut Vec<u8>, view: &HeaderView) -> Result<(), NoMemory>
     text.extend_from_slice(b" layout ")?;
     push_layout(text, &view.layout)?;
     text.extend_from_slice(b" snaps ")?;
-    push_number(text, view.snaps.len())?;
-    Ok(())
+    push_number(text, view.snaps.len())
 }
 
 fn objects(layout: &Layout, size: u64) -> u64
@@ -58,8 +57,7 @@ fn push_layout(text: &mut Vec<u8>, layout: &Layout) -> Result<(), NoMemory>
     text.push(b'/')?;
     push_number(text, layout.unit)?;
     text.push(b'/')?;
-    push_number(text, layout.count)?;
-    Ok(())
+    push_number(text, layout.count)
 }
 
 /// `parent 1@1 overlap 5000 lock c1.0 role none`
@@ -90,8 +88,7 @@ fn push_parent(text: &mut Vec<u8>, parent: Option<ParentLink>) -> Result<(), NoM
     text.push(b'@')?;
     push_number(text, link.snap.0)?;
     text.extend_from_slice(b" overlap ")?;
-    push_number(text, link.overlap)?;
-    Ok(())
+    push_number(text, link.overlap)
 }
 
 fn push_owner(
@@ -102,10 +99,9 @@ fn push_owner(
     ensures { OnOk result (text.new.items ≡ text.old.items ++ lock_text sessions.now owner) }
 {
     match owner {
-        None => text.extend_from_slice(b"none")?,
-        Some(owner) => push_instance(text, sessions, owner)?,
+        None => push_word(text, b"none"),
+        Some(owner) => push_instance(text, sessions, owner),
     }
-    Ok(())
 }
 
 /// The word of an image's part in mirroring.

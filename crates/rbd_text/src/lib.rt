@@ -53,10 +53,10 @@
 //! # How it works
 //!
 //! One printer for each form appends to a vector, and its contract is one equation: the text
-//! before, and the form (numbers.rt, names.rt, objects.rt, reply.rt, info.rt, snaps.rt, entries.rt,
-//! operations.rt, lines.rt). speakers.rt keeps whose each line of the script is, and progress.rt
-//! how far each command has come: sets of the lines that were started, answered and lost, and whom
-//! each line's last attempt at a lock found.
+//! before, and the form (word.rt, numbers.rt, names.rt, objects.rt, reply.rt, info.rt, snaps.rt,
+//! entries.rt, operations.rt, lines.rt). speakers.rt keeps whose each line of the script is, and
+//! progress.rt how far each command has come: sets of the lines that were started, answered and
+//! lost, and whom each line's last attempt at a lock found.
 #![tactic(auto)]
 
 mod entries;
@@ -72,6 +72,7 @@ mod reply;
 mod room;
 mod snaps;
 mod speakers;
+mod word;
 
 pub use entries::push_line;
 pub use operations::push_log;

@@ -3,6 +3,7 @@ ghost use Rattle.std.specs.Prelude.{◌≡◌, ◌++◌, OnOk};
 ghost use Rattle.rbd_text.specs.Names.{session_name, instance_text, doer_text, numbered};
 
 use crate::numbers::push_number;
+use crate::word::push_word;
 use rbd_kinds::{Instance, NoMemory, SessionNo, SiteId};
 use rbd_script::Declared;
 
@@ -43,10 +44,9 @@ pub fn push_doer(
     ensures { OnOk result (text.new.items ≡ text.old.items ++ doer_text sessions.now doer) }
 {
     match doer {
-        None => text.extend_from_slice(b"store")?,
-        Some(instance) => push_instance(text, sessions, instance)?,
+        None => push_word(text, b"store"),
+        Some(instance) => push_instance(text, sessions, instance),
     }
-    Ok(())
 }
 
 /// Appends an operation by its number in its site's log: `a1`.

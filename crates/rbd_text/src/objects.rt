@@ -4,6 +4,7 @@ ghost use Rattle.rbd_text.specs.Numbers.{hexadecimal};
 ghost use Rattle.rbd_text.specs.Objects.{object_name, header_name, data_name, map_name, journal_name, snapshot_suffix, mapped};
 
 use crate::numbers::{push_hexadecimal, push_sixteen_digits};
+use crate::word::push_word;
 use rbd_kinds::{ImageId, MapOp, NoMemory, Op, SnapId};
 
 /// Appends the name of the object that an operation is about.
@@ -11,19 +12,18 @@ pub fn push_object(text: &mut Vec<u8>, op: &Op) -> Result<(), NoMemory>
     ensures { OnOk result (text.new.items ≡ text.old.items ++ object_name op.now) }
 {
     match op {
-        Op::Directory(_) => text.extend_from_slice(b"rbd_directory")?,
-        Op::Children(_) => text.extend_from_slice(b"rbd_children")?,
-        Op::BlockAdd { instance: _ } => text.extend_from_slice(b"blocklist")?,
-        Op::Header { image, op: _ } => push_header(text, *image)?,
+        Op::Directory(_) => push_word(text, b"rbd_directory"),
+        Op::Children(_) => push_word(text, b"rbd_children"),
+        Op::BlockAdd { instance: _ } => push_word(text, b"blocklist"),
+        Op::Header { image, op: _ } => push_header(text, *image),
         Op::Data {
             image,
             object,
             op: _,
-        } => push_data(text, *image, *object)?,
-        Op::Map { image, op } => push_map(text, *image, snapshot_of(op))?,
-        Op::Journal { image, op: _ } => push_journal(text, *image)?,
+        } => push_data(text, *image, *object),
+        Op::Map { image, op } => push_map(text, *image, snapshot_of(op)),
+        Op::Journal { image, op: _ } => push_journal(text, *image),
     }
-    Ok(())
 }
 
 /// Appends the name of an image's header.
@@ -50,8 +50,7 @@ fn push_map(text: &mut Vec<u8>, image: ImageId, snap: Option<SnapId>) -> Result<
 {
     text.extend_from_slice(b"rbd_object_map.")?;
     push_image(text, image)?;
-    push_snapshot_suffix(text, snap)?;
-    Ok(())
+    push_snapshot_suffix(text, snap)
 }
 
 fn push_snapshot_suffix(text: &mut Vec<u8>, snap: Option<SnapId>) -> Result<(), NoMemory>
@@ -91,6 +90,5 @@ fn push_journal(text: &mut Vec<u8>, image: ImageId) -> Result<(), NoMemory>
     ensures { OnOk result (text.new.items ≡ text.old.items ++ journal_name image) }
 {
     text.extend_from_slice(b"journal.")?;
-    push_image(text, image)?;
-    Ok(())
+    push_image(text, image)
 }

@@ -74,9 +74,8 @@ fn push_done_object(text: &mut Vec<u8>, op: &DoneOp) -> Result<(), NoMemory>
     ensures { OnOk result (text.new.items ≡ text.old.items ++ done_object op.now) }
 {
     match op {
-        DoneOp::Op(op) => push_object(text, op)?,
-        DoneOp::Trim { image, object } => push_data(text, *image, *object)?,
-        DoneOp::Expire { image, instance: _ } => push_header(text, *image)?,
+        DoneOp::Op(op) => push_object(text, op),
+        DoneOp::Trim { image, object } => push_data(text, *image, *object),
+        DoneOp::Expire { image, instance: _ } => push_header(text, *image),
     }
-    Ok(())
 }

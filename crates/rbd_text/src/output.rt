@@ -77,8 +77,7 @@ fn push_commands(
     ensures { OnOk result (text.new.items ≡ text.old.items ++ replies_text script.now history.now a.now b.now) }
 {
     push_replied(text, script, history)?;
-    push_unreplied(text, script, history, a, b)?;
-    Ok(())
+    push_unreplied(text, script, history, a, b)
 }
 
 fn push_replied(text: &mut Vec<u8>, script: &Script, history: &[Entry]) -> Result<(), NoMemory>

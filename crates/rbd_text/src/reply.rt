@@ -6,6 +6,7 @@ ghost use Rattle.rbd_text.specs.Replies.{reply_text, bytes_text, names_text, ids
 use crate::info::{push_info, role};
 use crate::numbers::push_number;
 use crate::snaps::push_snaps;
+use crate::word::push_word;
 use rbd_kinds::{ImageId, MirrorState, Name, NoMemory, Refusal, Reply, Role};
 use rbd_script::Declared;
 
@@ -15,20 +16,19 @@ pub fn push_reply(text: &mut Vec<u8>, sessions: &[Declared], reply: &Reply) -> R
     ensures { OnOk result (text.new.items ≡ text.old.items ++ reply_text sessions.now reply.now) }
 {
     match reply {
-        Reply::Done => text.extend_from_slice(b"ok")?,
-        Reply::Bytes(bytes) => push_bytes(text, bytes.as_slice())?,
-        Reply::Names(names) => push_names(text, names.as_slice())?,
-        Reply::Ids(ids) => push_ids(text, ids.as_slice())?,
-        Reply::Snaps(snaps) => push_snaps(text, snaps.as_slice())?,
-        Reply::Info(view) => push_info(text, sessions, view)?,
-        Reply::Used { used, of } => push_used(text, *used, *of)?,
-        Reply::At(at) => push_at(text, *at)?,
-        Reply::SplitBrain(at) => push_split_brain(text, *at)?,
-        Reply::Stuck(name) => push_stuck(text, name)?,
-        Reply::Status { role, at, state } => push_status(text, *role, *at, state)?,
-        Reply::Refused(refusal) => push_refusal(text, *refusal)?,
+        Reply::Done => push_word(text, b"ok"),
+        Reply::Bytes(bytes) => push_bytes(text, bytes.as_slice()),
+        Reply::Names(names) => push_names(text, names.as_slice()),
+        Reply::Ids(ids) => push_ids(text, ids.as_slice()),
+        Reply::Snaps(snaps) => push_snaps(text, snaps.as_slice()),
+        Reply::Info(view) => push_info(text, sessions, view),
+        Reply::Used { used, of } => push_used(text, *used, *of),
+        Reply::At(at) => push_at(text, *at),
+        Reply::SplitBrain(at) => push_split_brain(text, *at),
+        Reply::Stuck(name) => push_stuck(text, name),
+        Reply::Status { role, at, state } => push_status(text, *role, *at, state),
+        Reply::Refused(refusal) => push_refusal(text, *refusal),
     }
-    Ok(())
 }
 
 /// No bytes print no space either.
@@ -73,24 +73,21 @@ fn push_used(text: &mut Vec<u8>, used: u64, of: u64) -> Result<(), NoMemory>
     text.extend_from_slice(b"ok used ")?;
     push_number(text, used)?;
     text.extend_from_slice(b" of ")?;
-    push_number(text, of)?;
-    Ok(())
+    push_number(text, of)
 }
 
 fn push_at(text: &mut Vec<u8>, at: u64) -> Result<(), NoMemory>
     ensures { OnOk result (text.new.items ≡ text.old.items ++ codes "ok at " ++ decimal at) }
 {
     text.extend_from_slice(b"ok at ")?;
-    push_number(text, at)?;
-    Ok(())
+    push_number(text, at)
 }
 
 fn push_split_brain(text: &mut Vec<u8>, at: u64) -> Result<(), NoMemory>
     ensures { OnOk result (text.new.items ≡ text.old.items ++ codes "split-brain at " ++ decimal at) }
 {
     text.extend_from_slice(b"split-brain at ")?;
-    push_number(text, at)?;
-    Ok(())
+    push_number(text, at)
 }
 
 fn push_stuck(text: &mut Vec<u8>, name: &Name) -> Result<(), NoMemory>
@@ -109,21 +106,19 @@ fn push_status(text: &mut Vec<u8>, part: Role, at: u64, state: &MirrorState) -> 
     text.push(b' ')?;
     push_number(text, at)?;
     text.push(b' ')?;
-    push_state(text, state)?;
-    Ok(())
+    push_state(text, state)
 }
 
 fn push_state(text: &mut Vec<u8>, state: &MirrorState) -> Result<(), NoMemory>
     ensures { OnOk result (text.new.items ≡ text.old.items ++ state_text state.now) }
 {
     match state {
-        MirrorState::Dash => text.push(b'-')?,
-        MirrorState::Following => text.extend_from_slice(b"following")?,
-        MirrorState::SplitBrain => text.extend_from_slice(b"split-brain")?,
-        MirrorState::Stuck(name) => push_stuck(text, name)?,
-        MirrorState::Missing => text.extend_from_slice(b"missing")?,
+        MirrorState::Dash => push_word(text, b"-"),
+        MirrorState::Following => push_word(text, b"following"),
+        MirrorState::SplitBrain => push_word(text, b"split-brain"),
+        MirrorState::Stuck(name) => push_stuck(text, name),
+        MirrorState::Missing => push_word(text, b"missing"),
     }
-    Ok(())
 }
 
 fn push_refusal(text: &mut Vec<u8>, refusal: Refusal) -> Result<(), NoMemory>

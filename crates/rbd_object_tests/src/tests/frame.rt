@@ -1,9 +1,12 @@
 //! What is decoded from some bytes. The wanted answers were worked out from the table of kinds in
 //! prose.
+ghost use Rattle.rbd_kinds.specs.Frame.{IsInRange};
+
 use Wanted::*;
 use rbd_frame::FrameFault::*;
 use rbd_frame::{FrameFault, decode, encode};
-use rbd_kinds::{Bytes, Event, Name};
+use rbd_kinds::{Bytes, Event, Name, NoMemory};
+use std::alloc::Global;
 use std::test::Fail;
 
 /// An event and the length of its frame, or a fault.
@@ -190,25 +193,37 @@ fn is_wanted(event: &Event, length: usize, wanted: &Wanted) -> bool {
     }
 }
 
+/// Whether what was decoded is wanted, and is encoded as it stood.
+fn is_read(
+    alloc: Global,
+    bytes: &[u8],
+    event: &Event,
+    length: usize,
+    wanted: &Wanted,
+) -> Result<bool, NoMemory>
+    requires { IsInRange event.now }
+{
+    let again = encode(alloc, event)?;
+    let same = again.len() == length && bytes.starts_with(again.as_slice());
+    Ok(same && is_wanted(event, length, wanted))
+}
+
+fn is_fault(fault: FrameFault, wanted: &Wanted) -> bool {
+    matches!(wanted, Fault(f) if *f == fault)
+}
+
+fn row_holds(alloc: Global, bytes: &[u8], wanted: &Wanted) -> Result<bool, NoMemory> {
+    match decode(alloc, bytes) {
+        Ok((event, length)) => is_read(alloc, bytes, &event, length, wanted),
+        Err(fault) => Ok(is_fault(fault, wanted)),
+    }
+}
+
 /// Each row's answer; and what was decoded is encoded as it stood.
 #[test]
 fn decodes_the_table(rt: HostRuntime) -> Result<(), Fail> {
-    let alloc = rt.alloc();
     for (row, (bytes, wanted)) in TABLE.iter().enumerate() {
-        match decode(alloc, bytes) {
-            Ok((event, length)) => {
-                assert!(rt; is_wanted(&event, length, wanted), "row {row}");
-                let again = encode(alloc, &event)?;
-                assert_eq!(rt; again.len(), length, "row {row}");
-                assert!(rt; bytes.starts_with(again.as_slice()), "row {row}");
-            }
-            Err(fault) => {
-                assert!(rt;
-                    matches!(wanted, Fault(f) if *f == fault),
-                    "row {row}: {fault}"
-                );
-            }
-        }
+        assert!(rt; row_holds(rt.alloc(), bytes, wanted)?, "row {row}");
     }
     Ok(())
 }

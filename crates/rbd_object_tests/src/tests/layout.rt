@@ -1,4 +1,7 @@
 //! Places and pieces of five layouts, as a script found them from the formulas of striping.
+ghost use Rattle.std.specs.Prelude.{◌^◌, ◌<◌};
+ghost use Rattle.rbd_kinds.specs.Striping.{IsLayout};
+
 use rbd_kinds::{Extent, Layout, NoMemory, Number, Shape};
 use rbd_layout::*;
 use std::alloc::AllocError;
@@ -121,10 +124,7 @@ fn two_object_sets(rt: HostRuntime) {
 fn one_place(rt: HostRuntime) {
     let layout = layout(8_192, 4_096, 3);
     assert!(rt; check(&layout).is_ok());
-    let found = place(&layout, 50_000);
-    assert_eq!(rt; (found.object, found.offset), (6, 848));
-    place_of_a_byte();
-    assert_eq!(rt; back(&layout, &found), 50_000);
+    assert_eq!(rt; place_and_back(&rt, &layout, 50_000), (6, 848));
 }
 
 #[test]
@@ -206,13 +206,21 @@ fn five_objects_in_a_stripe(rt: HostRuntime) -> Result<(), NoMemory> {
 /// Each place of a table, and the byte at each place.
 fn places_are(rt: &impl Abort, layout: &Layout, table: &[(u64, u64, u64)]) {
     assert!(rt; check(layout).is_ok());
-    place_of_a_byte();
     for &(x, object, offset) in table {
         assert!(rt; x < 1 << 62);
-        let found = place(layout, x);
-        assert_eq!(rt; (found.object, found.offset), (object, offset), "at {x}");
-        assert_eq!(rt; back(layout, &found), x);
+        assert_eq!(rt; place_and_back(rt, layout, x), (object, offset), "at {x}");
     }
+}
+
+/// The object and the offset of a byte, which lead back to it.
+fn place_and_back(rt: &impl Abort, layout: &Layout, x: u64) -> (u64, u64)
+    requires layout { IsLayout layout.now }
+    requires byte { x < 2 ^ 62 }
+{
+    place_of_a_byte();
+    let found = place(layout, x);
+    assert_eq!(rt; back(layout, &found), x);
+    (found.object, found.offset)
 }
 
 /// The parts of an object below an overlap: offset, byte of the image, length.
@@ -237,7 +245,20 @@ fn covered_are(
     Ok(())
 }
 
-/// The parts of each extent of a table: object, offset there, byte of the image, length.
+/// The parts of some pieces: object, offset there, byte of the image, length.
+fn parts_are(rt: &impl Abort, pieces: &[Piece], extent: &Extent, wanted: &[(u64, u64, u64, u64)]) {
+    let Extent { at, len } = extent;
+    let mut wanted = wanted.iter();
+    for piece in pieces {
+        for part in piece.parts.as_slice() {
+            let row = (piece.object, part.offset, part.at, part.len);
+            assert_eq!(rt; Some(&row), wanted.next(), "of {len} bytes at {at}");
+        }
+    }
+    assert!(rt; wanted.next().is_none(), "after {len} bytes at {at}");
+}
+
+/// The parts of each extent of a table.
 fn pieces_are(
     rt: &(impl Abort + AllocGlobal),
     layout: &Layout,
@@ -246,14 +267,9 @@ fn pieces_are(
     assert!(rt; check(layout).is_ok());
     for &(at, len, wanted) in table {
         assert!(rt; len <= 1 << 44 && at <= 1 << 44);
-        let mut wanted = wanted.iter();
-        for piece in &pieces(rt.alloc(), layout, &Extent { at, len })? {
-            for part in piece.parts.as_slice() {
-                let row = (piece.object, part.offset, part.at, part.len);
-                assert_eq!(rt; Some(&row), wanted.next(), "of {len} bytes at {at}");
-            }
-        }
-        assert!(rt; wanted.next().is_none(), "after {len} bytes at {at}");
+        let extent = Extent { at, len };
+        let pieces = pieces(rt.alloc(), layout, &extent)?;
+        parts_are(rt, pieces.as_slice(), &extent, wanted);
     }
     Ok(())
 }

@@ -88,6 +88,45 @@ fn context(alloc: Global, number: u32, snaps: &[u32]) -> Result<SnapContext, NoM
     })
 }
 
+/// Does a change under its context.
+fn change(
+    rt: &impl Abort,
+    object: &mut Object,
+    given: &SnapContext,
+    operation: &Operation,
+) -> Result<(), NoMemory> {
+    match operation {
+        Write(_, _, at, bytes) => {
+            assert!(rt; bytes.len() <= 4);
+            object.write(given, *at as u64, bytes)
+        }
+        WriteFull(_, _, bytes) => {
+            assert!(rt; bytes.len() <= 4);
+            object.write_full(given, bytes)
+        }
+        Zero(_, _, at, len) => object.zero(given, *at as u64, *len as u64),
+        Empty(..) => object.empty(given),
+        _ => object.remove(given),
+    }
+}
+
+fn copy_up(
+    rt: &impl Abort,
+    object: &mut Object,
+    bytes: &[u8],
+    copied: bool,
+) -> Result<(), NoMemory> {
+    let did = object.copy_up(bytes)?;
+    assert_eq!(rt; did, copied);
+    Ok(())
+}
+
+fn trim(alloc: Global, object: &mut Object, live: &[u32]) -> Result<(), NoMemory> {
+    object.trim(ids(alloc, live)?.as_slice());
+    Ok(())
+}
+
+/// Does an operation. All changes have one arm, so that a context is made, and let go, once.
 fn apply(
     rt: &impl Abort,
     alloc: Global,
@@ -95,27 +134,21 @@ fn apply(
     operation: &Operation,
 ) -> Result<(), NoMemory> {
     match operation {
-        New => *object = Object::new(alloc),
-        Write(number, snaps, at, bytes) => {
-            assert!(rt; bytes.len() <= 4);
-            object.write(&context(alloc, *number, snaps)?, *at as u64, bytes)?;
+        New => {
+            *object = Object::new(alloc);
+            Ok(())
         }
-        WriteFull(number, snaps, bytes) => {
-            assert!(rt; bytes.len() <= 4);
-            object.write_full(&context(alloc, *number, snaps)?, bytes)?;
+        CopyUp(bytes, copied) => copy_up(rt, object, bytes, *copied),
+        Trim(live) => trim(alloc, object, live),
+        Write(number, snaps, ..)
+        | WriteFull(number, snaps, _)
+        | Zero(number, snaps, ..)
+        | Empty(number, snaps)
+        | Remove(number, snaps) => {
+            let given = context(alloc, *number, snaps)?;
+            change(rt, object, &given, operation)
         }
-        Zero(number, snaps, at, len) => {
-            object.zero(&context(alloc, *number, snaps)?, *at as u64, *len as u64)?;
-        }
-        Empty(number, snaps) => object.empty(&context(alloc, *number, snaps)?)?,
-        Remove(number, snaps) => object.remove(&context(alloc, *number, snaps)?)?,
-        CopyUp(bytes, copied) => {
-            let did = object.copy_up(bytes)?;
-            assert_eq!(rt; did, *copied);
-        }
-        Trim(live) => object.trim(ids(alloc, live)?.as_slice()),
     }
-    Ok(())
 }
 
 /// The head for 0, else the snapshot of this number.
@@ -161,23 +194,17 @@ fn views_after_each_operation(rt: HostRuntime) -> Result<(), Fail> {
 #[test]
 fn a_copy_up_fills_only_an_absent_head(rt: HostRuntime) -> Result<(), Fail> {
     let mut object = Object::new(rt.alloc());
-    let first = object.copy_up(&[0xaa])?;
-    let second = object.copy_up(&[0xbb])?;
-    assert!(rt; first && !second);
-
-    let mut byte = [0];
-    assert!(rt; object.read(None, 0, &mut byte));
-    assert_eq!(rt; byte[0], 0xaa);
-
-    let mut past = [7];
-    assert!(rt; object.read(None, LARGEST_OBJECT, &mut past));
-    assert_eq!(rt; past[0], 0);
+    copy_up(&rt, &mut object, &[0xaa], true)?;
+    copy_up(&rt, &mut object, &[0xbb], false)?;
+    byte_is(&rt, &object, 0, 0, 0xaa);
+    byte_is(&rt, &object, 0, LARGEST_OBJECT, 0);
     Ok(())
 }
 
-/// The byte of a view at an offset, where the object is there.
+/// The byte of a view at an offset, where the object is there. What was in the buffer before is no
+/// byte of it.
 fn byte_of(object: &Object, number: u32, at: u64) -> Option<u8> {
-    let mut byte = [0];
+    let mut byte = [b'?'];
     if object.read(view_of(number), at, &mut byte) {
         Some(byte[0])
     } else {
@@ -185,20 +212,30 @@ fn byte_of(object: &Object, number: u32, at: u64) -> Option<u8> {
     }
 }
 
+/// The object is there, and has this byte. Looks are taken through a borrow: a function that holds
+/// an object is dear to prove, each look in it a few seconds more.
+fn byte_is(rt: &impl Abort, object: &Object, number: u32, at: u64, byte: u8) {
+    assert_eq!(rt; byte_of(object, number, at), Some(byte));
+}
+
+fn has_pages(rt: &impl Abort, object: &Object, pages: u64) {
+    assert_eq!(rt; object.pages(), pages);
+}
+
 #[test]
 fn versions_share_pages(rt: HostRuntime) -> Result<(), Fail> {
     let alloc = rt.alloc();
     let mut object = Object::new(alloc);
-    object.write(&context(alloc, 0, &[])?, 0, &[7; 10_000])?;
-    assert_eq!(rt; object.pages(), 3);
+    write_under(alloc, &mut object, 0, &[], 0, 7, 10_000)?;
+    has_pages(&rt, &object, 3);
 
-    object.write(&context(alloc, 1, &[1])?, 4096, &[9])?;
-    assert_eq!(rt; object.pages(), 4);
-    assert_eq!(rt; byte_of(&object, 1, 4096), Some(7));
-    assert_eq!(rt; byte_of(&object, 0, 4096), Some(9));
+    write_under(alloc, &mut object, 1, &[1], 4096, 9, 1)?;
+    has_pages(&rt, &object, 4);
+    byte_is(&rt, &object, 1, 4096, 7);
+    byte_is(&rt, &object, 0, 4096, 9);
 
     object.trim(&[]);
-    assert_eq!(rt; object.pages(), 3);
+    has_pages(&rt, &object, 3);
     Ok(())
 }
 
@@ -358,6 +395,21 @@ fn write(object: &mut Object, given: &SnapContext, at: u32, bytes: &[u8]) -> Res
     object.write(given, at as u64, bytes)
 }
 
+/// Writes a byte so often, under the context of a number and these snapshots.
+fn write_under(
+    alloc: Global,
+    object: &mut Object,
+    number: u32,
+    snaps: &[u32],
+    at: u32,
+    byte: u32,
+    len: u32,
+) -> Result<(), NoMemory> {
+    let given = context(alloc, number, snaps)?;
+    let bytes = repeated(alloc, byte, len)?;
+    write(object, &given, at, bytes.as_slice())
+}
+
 /// Makes the head these bytes where they are within the largest object.
 fn fill(object: &mut Object, given: &SnapContext, bytes: &[u8]) -> Result<(), NoMemory> {
     if bytes.len() > 20_000 {
@@ -428,16 +480,26 @@ fn row_holds(
     Ok(shows(object, numbers.as_slice(), buffer))
 }
 
+/// Goes through the rows, and tells how many there are.
+fn all_rows_hold(
+    rt: &impl Abort,
+    alloc: Global,
+    object: &mut Object,
+    buffer: &mut [u8],
+) -> Result<u32, NoMemory> {
+    let mut rows = 0_u32;
+    for row in RANDOM.split('\n') {
+        assert!(rt; row_holds(alloc, object, row, buffer)?, "{row}");
+        rows = rows.wrapping_add(1);
+    }
+    Ok(rows)
+}
+
 #[test]
 fn random_operations_show_what_plain_lists_do(rt: HostRuntime) -> Result<(), Fail> {
     let mut object = Object::new(rt.alloc());
     let mut buffer = repeated(rt.alloc(), 0, 12_300)?;
-    let mut rows = 0_u32;
-    for row in RANDOM.split('\n') {
-        let holds = row_holds(rt.alloc(), &mut object, row, buffer.as_mut_slice())?;
-        assert!(rt; holds, "{row}");
-        rows = rows.wrapping_add(1);
-    }
+    let rows = all_rows_hold(&rt, rt.alloc(), &mut object, buffer.as_mut_slice())?;
     assert_eq!(rt; rows, 60);
     Ok(())
 }

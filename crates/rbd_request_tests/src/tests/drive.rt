@@ -4,7 +4,7 @@ ghost use Rattle.rbd_machine.specs.Answers.{CanBeFed};
 ghost use Rattle.rbd_machine.specs.Plan.{GoesOn, IsAsking, plan_after};
 
 use rbd_kinds::{
-    AskedName, Bytes, Fed, ImageId, NoMemory, OpKind, Refusal, Reply, SiteId, Turn, Want,
+    AskedName, Bytes, Fed, ImageId, NoMemory, Op, OpKind, Refusal, Reply, SiteId, Turn, Want,
 };
 use rbd_machine::{Machine, Reason};
 use std::alloc::Global;
@@ -64,8 +64,16 @@ pub fn holds(found_out: Result<bool, NoMemory>) -> bool {
 pub fn asks<M: Machine>(alloc: Global, request: &M, kind: OpKind) -> Result<bool, NoMemory>
     requires { IsAsking (M.stands request.now).plan }
 {
-    let op = request.next(alloc)?;
-    Ok(op.kind() == kind && request.reason() == Reason::Own)
+    let asked = kind_of(request.next(alloc)?);
+    Ok(asked == kind && request.reason() == Reason::Own)
+}
+
+/// The kind of an operation, which goes with the call. `drop` lets it go: by itself it would be
+/// taken apart here, variant by variant.
+fn kind_of(op: Op) -> OpKind {
+    let kind = op.kind();
+    drop(op);
+    kind
 }
 
 /// A request wants this, is fed, and wants more.

@@ -3,9 +3,10 @@ ghost use Rattle.rbd_kinds.specs.Form.{IsNewHeader};
 ghost use Rattle.rbd_site.specs.Log.{records_of};
 ghost use Rattle.rbd_site.specs.Step.{MayDo};
 
+use rbd_header::new_header;
 use rbd_kinds::{
-    Answer, Bytes, HeaderOp, HeaderView, ImageId, Instance, Layout, Name, NoMemory, Op, Role,
-    SessionNo, SiteId, Snaps,
+    Answer, Bytes, HeaderOp, HeaderView, ImageId, Instance, Layout, Name, NoMemory, Op, SessionNo,
+    SiteId,
 };
 use rbd_site::Site;
 use rbd_watch::Mail;
@@ -49,26 +50,12 @@ pub fn name(rt: &impl Abort, alloc: Global, text: &[u8]) -> Result<Name, NoMemor
 fn disk(alloc: Global) -> HeaderView
     ensures { IsNewHeader result }
 {
-    HeaderView {
-        layout: Layout {
-            object: 4096,
-            unit: 4096,
-            count: 1,
-        },
-        size: 4096,
-        generation: 0,
-        snap_seq: 0,
-        snaps: Snaps::new(alloc),
-        parent: None,
-        depth: 0,
-        born: 4096,
-        born_clone: false,
-        journal: false,
-        syncing: false,
-        owner: None,
-        global: None,
-        role: Role::Plain,
-    }
+    let layout = Layout {
+        object: 4096,
+        unit: 4096,
+        count: 1,
+    };
+    new_header(alloc, layout, 4096)
 }
 
 /// Makes the header of the image.

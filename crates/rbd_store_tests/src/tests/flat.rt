@@ -19,10 +19,26 @@ fn places(alloc: Global, at: &[Extent]) -> Result<Extents, NoMemory> {
     Ok(Extents::from_vec(Vec::from_slice(alloc, at)?))
 }
 
+/// Takes a step. The effect goes with the call, so that no test lets one go itself.
+fn take(site: &mut FlatSite, effect: Effect) -> Result<(), NoMemory> {
+    site.after(&effect)
+}
+
 /// Asks for as many bytes as are wanted, from the first one on.
 fn shows(rt: &impl Abort, site: &FlatSite, snap: Option<SnapId>, want: &[u8]) {
+    image_shows(rt, site, DISK, snap, want);
+}
+
+/// The same of any image.
+fn image_shows(
+    rt: &impl Abort,
+    site: &FlatSite,
+    image: ImageId,
+    snap: Option<SnapId>,
+    want: &[u8],
+) {
     let len = want.len() as u64;
-    match site.read(DISK, snap, &Extent { at: 0, len }) {
+    match site.read(image, snap, &Extent { at: 0, len }) {
         Ok(read) => assert_eq!(rt; read.as_slice(), want),
         Err(fault) => panic!(rt; "{fault}"),
     }
@@ -32,32 +48,34 @@ fn shows(rt: &impl Abort, site: &FlatSite, snap: Option<SnapId>, want: &[u8]) {
 fn created(alloc: Global) -> Result<FlatSite, NoMemory> {
     let mut site = FlatSite::new(alloc);
     let (image, size, role) = (DISK, 8, Role::Plain);
-    site.after(&Effect::Create { image, size, role })?;
+    take(&mut site, Effect::Create { image, size, role })?;
     Ok(site)
 }
 
 /// 6 and 7 take 1 and 2; 3 and 4 would go past the end; 1 and 2 take 5 and 6.
-fn written(alloc: Global) -> Result<FlatSite, NoMemory> {
-    let mut site = created(alloc)?;
+fn paint(alloc: Global, site: &mut FlatSite) -> Result<(), NoMemory> {
     let at = places(alloc, &[Extent { at: 6, len: 4 }, Extent { at: 1, len: 2 }])?;
     let bytes = Bytes::from_slice(alloc, &[1, 2, 3, 4, 5, 6])?;
-    site.after(&Effect::Piece {
-        image: DISK,
-        at,
-        bytes,
-    })?;
+    let image = DISK;
+    take(site, Effect::Piece { image, at, bytes })
+}
+
+fn written(alloc: Global) -> Result<FlatSite, NoMemory> {
+    let mut site = created(alloc)?;
+    paint(alloc, &mut site)?;
     Ok(site)
+}
+
+fn take_snapshot(rt: &impl Abort, alloc: Global, site: &mut FlatSite) -> Result<(), NoMemory> {
+    let name = name(rt, alloc, b"first")?;
+    let (image, snap) = (DISK, FIRST);
+    take(site, Effect::Snap { image, snap, name })
 }
 
 /// The same with a snapshot.
 fn taken(rt: &impl Abort, alloc: Global) -> Result<FlatSite, NoMemory> {
     let mut site = written(alloc)?;
-    let name = name(rt, alloc, b"first")?;
-    site.after(&Effect::Snap {
-        image: DISK,
-        snap: FIRST,
-        name,
-    })?;
+    take_snapshot(rt, alloc, &mut site)?;
     Ok(site)
 }
 
@@ -72,105 +90,166 @@ fn fault(
     site.read(image, snap, &Extent { at, len }).err()
 }
 
-fn finds(rt: &impl Abort, site: &FlatSite, text: &Name, want: bool) {
-    assert_eq!(rt; site.find(text), if want { Some(DISK) } else { None });
+fn blank(alloc: Global, site: &mut FlatSite) -> Result<(), NoMemory> {
+    let at = places(alloc, &[Extent { at: 2, len: 5 }])?;
+    take(site, Effect::Zero { image: DISK, at })
 }
 
 #[test]
 fn bytes_after_a_piece_and_zeros(rt: HostRuntime) -> Result<(), Fail> {
     let mut site = written(rt.alloc())?;
     shows(&rt, &site, None, &[0, 5, 6, 0, 0, 0, 1, 2]);
-    let at = places(rt.alloc(), &[Extent { at: 2, len: 5 }])?;
-    site.after(&Effect::Zero { image: DISK, at })?;
+    blank(rt.alloc(), &mut site)?;
     shows(&rt, &site, None, &[0, 5, 0, 0, 0, 0, 0, 2]);
     Ok(())
+}
+
+fn resize(site: &mut FlatSite, size: u64) -> Result<(), NoMemory> {
+    take(site, Effect::Size { image: DISK, size })
+}
+
+/// Cuts the image, and makes it longer again.
+fn cut(site: &mut FlatSite) -> Result<(), NoMemory> {
+    resize(site, 2)?;
+    resize(site, 4)
 }
 
 #[test]
 fn a_cut_is_for_good_and_a_snapshot_stays(rt: HostRuntime) -> Result<(), Fail> {
     let mut site = taken(&rt, rt.alloc())?;
-    site.after(&Effect::Size {
-        image: DISK,
-        size: 2,
-    })?;
-    site.after(&Effect::Size {
-        image: DISK,
-        size: 4,
-    })?;
+    cut(&mut site)?;
     shows(&rt, &site, None, &[0, 5, 0, 0]);
     shows(&rt, &site, Some(FIRST), &[0, 5, 6, 0, 0, 0, 1, 2]);
     Ok(())
 }
 
+/// Makes a clone of the snapshot, and takes the snapshot away.
+fn clone_and_forget(site: &mut FlatSite) -> Result<(), NoMemory> {
+    let (image, parent, snap) = (COPY, DISK, FIRST);
+    take(
+        site,
+        Effect::Clone {
+            image,
+            parent,
+            snap,
+        },
+    )?;
+    take(site, Effect::Unsnap { image: DISK, snap })
+}
+
 #[test]
 fn a_clone_outlives_its_parent(rt: HostRuntime) -> Result<(), Fail> {
     let mut site = taken(&rt, rt.alloc())?;
-    site.after(&Effect::Clone {
-        image: COPY,
-        parent: DISK,
-        snap: FIRST,
-    })?;
-    site.after(&Effect::Unsnap {
-        image: DISK,
-        snap: FIRST,
-    })?;
+    clone_and_forget(&mut site)?;
     assert_eq!(rt;
         fault(&site, DISK, Some(FIRST), 0, 1),
         Some(FlatFault::NoSnap)
     );
-    site.after(&Effect::Gone { image: DISK })?;
+    take(&mut site, Effect::Gone { image: DISK })?;
     assert_eq!(rt; fault(&site, DISK, None, 0, 1), Some(FlatFault::NoImage));
-    let copy = site.read(COPY, None, &Extent { at: 0, len: 8 })?;
-    assert_eq!(rt; copy.as_slice(), [0, 5, 6, 0, 0, 0, 1, 2].as_slice());
+    image_shows(&rt, &site, COPY, None, &[0, 5, 6, 0, 0, 0, 1, 2]);
     Ok(())
+}
+
+/// Whether a word stands in the site as it is printed for a look. Links, marks and roles stand
+/// there alone: no call tells them.
+fn prints(alloc: Global, site: &FlatSite, word: &str) -> bool {
+    match format!(in alloc; "{site:?}") {
+        Ok(text) => text.as_str().contains(word),
+        Err(_) => false,
+    }
+}
+
+/// The snapshot of DISK linked to COPY, or no more.
+fn linked(site: &mut FlatSite, to: bool) -> Result<(), NoMemory> {
+    let (parent, snap, child) = (DISK, FIRST, COPY);
+    if to {
+        return site.after(&Effect::Link {
+            parent,
+            snap,
+            child,
+        });
+    }
+    site.after(&Effect::Unlink {
+        parent,
+        snap,
+        child,
+    })
+}
+
+fn marked(site: &mut FlatSite, status: SnapStatus) -> Result<(), NoMemory> {
+    let (image, snap) = (DISK, FIRST);
+    site.after(&Effect::Status {
+        image,
+        snap,
+        status,
+    })
+}
+
+fn given_role(site: &mut FlatSite, role: Role) -> Result<(), NoMemory> {
+    site.after(&Effect::Role { image: DISK, role })
 }
 
 #[test]
 fn links_and_marks_are_taken(rt: HostRuntime) -> Result<(), Fail> {
     let mut site = taken(&rt, rt.alloc())?;
-    let (parent, snap, child) = (DISK, FIRST, COPY);
-    site.after(&Effect::Link {
-        parent,
-        snap,
-        child,
-    })?;
-    site.after(&Effect::Status {
-        image: DISK,
-        snap,
-        status: SnapStatus::Protected,
-    })?;
-    site.after(&Effect::Role {
-        image: DISK,
-        role: Role::Primary,
-    })?;
-    site.after(&Effect::Unlink {
-        parent,
-        snap,
-        child,
-    })?;
+    let alloc = rt.alloc();
+    assert!(rt; !prints(alloc, &site, "Link {"));
+    linked(&mut site, true)?;
+    assert!(rt; prints(alloc, &site, "Link {"));
+    assert!(rt; prints(alloc, &site, "Unprotected"));
+    marked(&mut site, SnapStatus::Protected)?;
+    assert!(rt; prints(alloc, &site, "status: Protected"));
+    assert!(rt; prints(alloc, &site, "role: Plain"));
+    given_role(&mut site, Role::Primary)?;
+    assert!(rt; prints(alloc, &site, "role: Primary"));
+    linked(&mut site, false)?;
+    assert!(rt; !prints(alloc, &site, "Link {"));
+    // None of these changes a byte.
+    shows(&rt, &site, None, &[0, 5, 6, 0, 0, 0, 1, 2]);
+    shows(&rt, &site, Some(FIRST), &[0, 5, 6, 0, 0, 0, 1, 2]);
     Ok(())
+}
+
+fn add_name(rt: &impl Abort, alloc: Global, site: &mut FlatSite) -> Result<(), NoMemory> {
+    let name = name(rt, alloc, b"disk")?;
+    take(site, Effect::Name { name, image: DISK })
+}
+
+fn rename(rt: &impl Abort, alloc: Global, site: &mut FlatSite) -> Result<(), NoMemory> {
+    let from = name(rt, alloc, b"disk")?;
+    let to = name(rt, alloc, b"data")?;
+    take(site, Effect::Rename { from, to })
+}
+
+fn finds(
+    rt: &impl Abort,
+    alloc: Global,
+    site: &FlatSite,
+    text: &[u8],
+    want: bool,
+) -> Result<(), NoMemory> {
+    let name = name(rt, alloc, text)?;
+    assert_eq!(rt; site.find(&name), if want { Some(DISK) } else { None });
+    Ok(())
+}
+
+/// Gives the image a name, another one, and none.
+fn name_moves(rt: &impl Abort, alloc: Global, site: &mut FlatSite) -> Result<(), NoMemory> {
+    add_name(rt, alloc, site)?;
+    finds(rt, alloc, site, b"disk", true)?;
+    rename(rt, alloc, site)?;
+    finds(rt, alloc, site, b"disk", false)?;
+    finds(rt, alloc, site, b"data", true)?;
+    take(site, Effect::NameFree { image: DISK })?;
+    finds(rt, alloc, site, b"data", false)
 }
 
 #[test]
 fn a_name_moves_and_goes(rt: HostRuntime) -> Result<(), Fail> {
     let mut site = FlatSite::new(rt.alloc());
-    let disk = name(&rt, rt.alloc(), b"disk")?;
-    let data = name(&rt, rt.alloc(), b"data")?;
-    site.after(&Effect::Name {
-        name: name(&rt, rt.alloc(), b"disk")?,
-        image: DISK,
-    })?;
-    finds(&rt, &site, &disk, true);
-    renamed(&mut site, disk, data)?;
-    let data = name(&rt, rt.alloc(), b"data")?;
-    finds(&rt, &site, &data, true);
-    site.after(&Effect::NameFree { image: DISK })?;
-    finds(&rt, &site, &data, false);
+    name_moves(&rt, rt.alloc(), &mut site)?;
     Ok(())
-}
-
-fn renamed(site: &mut FlatSite, from: Name, to: Name) -> Result<(), NoMemory> {
-    site.after(&Effect::Rename { from, to })
 }
 
 #[test]
