@@ -1,12 +1,13 @@
-//! A plain tokenizer of scripts: the yardstick of `scripts/reading`, which tells the cost of the proved reader as a
-//! multiple of this one's.
+//! A plain tokenizer of scripts: the yardstick of `scripts/reading`, which gives the cost of the
+//! proved reader as a multiple of this one's.
 //!
 //!     rustc -O scripts/tokenizer.rs && ./tokenizer < SCRIPT
 //!
-//! It is what one writes in Rust without much thought. Standard input is read whole as text and cut into lines, and
-//! these at spaces. Blank lines and comments are passed over. Of each other line the words are matched and the numbers
-//! parsed, and it is kept as a value that owns what it names. How many are kept is printed. It knows the forms that the
-//! measured scripts have, and judges names, numbers and options less strictly than the reader does.
+//! It is what one writes in Rust without much thought. Standard input is read whole as text and cut
+//! into lines, and these at spaces. Blank lines and comments are passed over. Of each other line
+//! the words are matched and the numbers parsed, and it is kept as a value that owns what it names.
+//! How many are kept is printed. It knows the forms that the measured scripts have, and judges
+//! names, numbers and options less strictly than the reader does.
 use std::io;
 
 // What is read is kept, and never looked at again.

@@ -1,0 +1,210 @@
+"""What `scripts/lab` does. Its words, and what it promises, are in the text that it prints for
+`--help`."""
+import contextlib
+import os
+import re
+import signal
+import subprocess
+import sys
+import tempfile
+from pathlib import Path
+from typing import NamedTuple
+
+sys.dont_write_bytecode = True
+from lab_hints import drawn, explained
+from lab_marks import LIMIT
+
+TOP = Path(__file__).resolve().parent.parent
+HELP = """\
+Plays a script on rbd_lab, on a fresh machine too: what is missing is built.
+
+  scripts/lab run < SCRIPT           prints the replies
+  scripts/lab run --trace < SCRIPT   prints the history and the logs, and then the replies
+  scripts/lab show FILE              prints each line of a script with its reply under it
+  scripts/lab -h | --help            prints this
+  scripts/lab --version              prints which sources these are
+
+All other words go to the program as they are. Standard output is the program's alone, and so is
+the exit status. Standard error says which build ran: the proved one (scripts/proved), or else one
+that was built without proof and runs with checks (scripts/unproved; about a minute, once).
+Where a line of the script doesn't fit, standard error also shows the line, with a mark under the
+word that is meant, and with what may help.
+
+Exit status: that of the program
+  0   the script was played            3   the script couldn't be read
+  1   the words aren't understood      4   the output couldn't be written
+  2   a line of the script doesn't fit 5   there was no memory
+or 70 where there is no program, or it gave no answer."""
+# Where the script comes from: scripts/lab puts its standard input there.
+SCRIPT = 3
+NOT_UNDERSTOOD, BAD_LINE, UNREADABLE, UNWRITABLE, NO_ANSWER = 1, 2, 3, 4, 70
+FAULT = re.compile(rb"line ([0-9]+): ([a-z ]+)\n")
+# What a user or a closed pipe does to a program is no fault of it.
+FROM_OUTSIDE = (signal.SIGPIPE, signal.SIGINT, signal.SIGTERM, signal.SIGHUP, signal.SIGQUIT)
+
+
+class Build(NamedTuple):
+    program: str
+    proved: bool
+
+
+def say(*texts):
+    for text in texts:
+        print(f"lab: {text}", file=sys.stderr, flush=True)
+
+
+def fail(why, status=NO_ANSWER):
+    say(why)
+    sys.exit(status)
+
+
+def build():
+    """Returns the proved program, or else the unproved one, and says which it is."""
+    ran = subprocess.run([TOP / "scripts/proved"], stdin=subprocess.DEVNULL, capture_output=True, text=True)
+    if ran.returncode == 0:
+        say("this is the proved build")
+        return Build(ran.stdout.rstrip("\n"), True)
+    why = ran.stderr.strip().removeprefix("proved: ") or "scripts/proved does not run"
+    say(f"this is NOT the proved build, and runs with checks ({why})")
+    ran = subprocess.run([TOP / "scripts/unproved"], stdin=subprocess.DEVNULL, stdout=subprocess.PIPE, text=True)
+    if ran.returncode:
+        fail("there is no program to run")
+    return Build(ran.stdout.rstrip("\n"), False)
+
+
+def given_script():
+    """Returns the script, to one byte past the longest, or None where it can't be read."""
+    try:
+        if os.isatty(SCRIPT):
+            say("type the script, and end it with control-D")
+        got = b""
+        while len(got) <= LIMIT and (more := os.read(SCRIPT, LIMIT + 1 - len(got))):
+            got += more
+        return got
+    except OSError:
+        return None
+
+
+def started(build, words, script, stdout):
+    """Runs the program on a script, and returns how that ended."""
+    with tempfile.TemporaryFile() as given:
+        given.write(script)
+        given.seek(0)
+        return subprocess.run([build.program, *words], stdin=given, stdout=stdout)
+
+
+def end(build, status):
+    """Ends as the program did."""
+    if status >= 0:
+        sys.exit(status)
+    if not build.proved and -status not in FROM_OUTSIDE:
+        fail("the program gave no answer")
+    with contextlib.suppress(OSError):
+        # (some signals can't be handled, so they already do what they do)
+        signal.signal(-status, signal.SIG_DFL)
+    os.kill(os.getpid(), -status)
+
+
+def explain(build, words, script):
+    """Shows the line of a script that doesn't fit; the program is asked once more which one it
+    is."""
+    said = FAULT.fullmatch(started(build, words, script, subprocess.PIPE).stdout)
+    if said:
+        number = int(said[1])
+        say(*drawn(number, explained(script, number, said[2].decode())))
+
+
+def run(words):
+    """Plays the script on standard input."""
+    script = given_script()
+    ours = build()
+    if script is None:
+        # The program meets the same fault itself.
+        os.dup2(SCRIPT, 0)
+        os.execv(ours.program, [ours.program, *words])
+    status = started(ours, words, script, None).returncode
+    if status == BAD_LINE:
+        explain(ours, words, script)
+    end(ours, status)
+
+
+def replies_in(output):
+    """Returns the reply to each line that has one, with its place among all replies."""
+    found = {}
+    for place, line in enumerate(output.splitlines(), 1):
+        number, _, rest = line.partition(b" ")
+        found[int(number)] = (place, rest.partition(b" ")[2])
+    return found
+
+
+def shown(script, status, output):
+    """Returns the texts that show a script with what the program answered."""
+    lines = script.removesuffix(b"\n").split(b"\n")
+    wide = len(str(len(lines)))
+    said = FAULT.fullmatch(output) if status == BAD_LINE else None
+    replies = replies_in(output) if status == 0 else {}
+    in_order = list(replies) == sorted(replies)
+    for number, line in enumerate(lines, 1):
+        yield (b"%*d  %s" % (wide, number, line)).rstrip(b" ")
+        if number in replies:
+            place, reply = replies[number]
+            yield b"%*s  => %s%s" % (wide, b"", reply, b"" if in_order else b"   (reply %d)" % place)
+        if said and number == int(said[1]):
+            cause = said[2].decode()
+            mark = drawn(number, explained(script, number, cause))[1:]
+            yield from (it.encode() for it in [*mark, f"{' ' * wide} => {cause}: nothing is played"])
+
+
+def show(path):
+    """Prints a script, each line with its reply under it."""
+    try:
+        script = Path(path).read_bytes()
+    except OSError as error:
+        fail(f"{path} cannot be read: {error.strerror}", UNREADABLE)
+    ours = build()
+    ran = started(ours, ["run"], script, subprocess.PIPE)
+    if ran.returncode in (0, BAD_LINE):
+        for text in shown(script, ran.returncode, ran.stdout):
+            sys.stdout.buffer.write(text + b"\n")
+        sys.stdout.flush()
+    end(ours, ran.returncode)
+
+
+def version():
+    """Returns which sources these are."""
+    words = ["git", "-C", TOP, "describe", "--always", "--dirty=, changed since"]
+    ran = subprocess.run(words, capture_output=True, text=True)
+    return f"rbd_lab, commit {ran.stdout.strip()}" if ran.returncode == 0 else "rbd_lab, from no git checkout"
+
+
+def main():
+    words = sys.argv[1:]
+    if words in (["-h"], ["--help"]):
+        print(HELP)
+    elif words == ["--version"]:
+        print(version())
+    elif words[:1] == ["show"]:
+        if len(words) != 2:
+            fail("usage: scripts/lab show FILE", NOT_UNDERSTOOD)
+        show(words[1])
+    elif words in (["run"], ["run", "--trace"]):
+        run(words)
+    else:
+        if any(os.path.isfile(it) for it in words):
+            say("the script comes from standard input: scripts/lab run < SCRIPT")
+        ours = build()
+        end(ours, started(ours, words, b"", None).returncode)
+
+
+if __name__ == "__main__":
+    try:
+        main()
+        sys.stdout.flush()
+    except KeyboardInterrupt:
+        sys.exit(130)
+    except OSError as error:
+        # (what is left in the buffer goes nowhere)
+        os.dup2(os.open(os.devnull, os.O_WRONLY), 1)
+        if not isinstance(error, BrokenPipeError):
+            say(error)
+        sys.exit(UNWRITABLE)

@@ -1,0 +1,186 @@
+"""Where in a line of a script a fault is, and what may help: for `scripts/lab`.
+
+The program says which line doesn't fit, and why: it is the judge. Here the grammar of docs/RULES.md
+is read once more, from left to right, only to find the token that the program means. Where this
+reading and the program don't agree, no token is marked.
+"""
+import re
+from typing import NamedTuple, Optional
+
+LIMIT = 1 << 24
+GREATEST = (1 << 63) - 1
+BELOW_32_BITS = (1 << 32) - 1
+
+IMAGE_WORDS = ("rm", "info", "du", "flatten", "quiesce", "resume", "close")
+SNAP_WORDS = ("create", "rm", "protect", "unprotect", "rollback")
+MIRROR_WORDS = ("enable", "demote", "resync", "status", "follow")
+SHAPE = [("option", "object", GREATEST), ("option", "unit", GREATEST)]
+SHAPE += [("option", "count", BELOW_32_BITS), ("flag", "journal")]
+
+# What stands behind a command's word.
+COMMANDS = {
+    "create": [("image",), ("number", 0, GREATEST), *SHAPE],
+    "clone": [("snap",), ("image",), *SHAPE],
+    "write": [("image",), ("number", 0, GREATEST), ("hex",)],
+    "fill": [("image",), ("number", 0, GREATEST), ("number", 0, 1 << 20), ("byte",)],
+    "discard": [("image",), ("number", 0, GREATEST), ("number", 0, GREATEST)],
+    "read": [("target",), ("number", 0, GREATEST), ("number", 0, 1 << 16)],
+    "resize": [("image",), ("number", 0, GREATEST)],
+    "rename": [("image",), ("image",)],
+    "ls": [],
+    "children": [("snap",)],
+    "tell": [("image",), ("hex",)],
+    **{word: [("image",)] for word in IMAGE_WORDS},
+}
+BEHIND_SNAP = {**{word: [("snap",)] for word in SNAP_WORDS}, "ls": [("image",)]}
+BEHIND_MIRROR = {word: [("image",)] for word in MIRROR_WORDS}
+BEHIND_MIRROR["promote"] = [("image",), ("flag", "force")]
+SCHEDULE = {
+    "@poll": [("session",), ("number", 0, 64), ("times", 1, 1_000_000)],
+    "@until": [("session",), ("number", 0, 64), ("kind",)],
+    "@settle": [("number", 0, GREATEST)],
+    "@deliver": [("number", 0, GREATEST)],
+    "@lose": [("number", 0, GREATEST)],
+    "@expire": [("session",), ("site",), ("number", 0, BELOW_32_BITS)],
+    "@stop": [("session",)],
+    "@restart": [("session",)],
+    "@late": [("session",), ("number", 0, 64)],
+    "@trim": [("site",), ("number", 0, BELOW_32_BITS), ("number", 0, GREATEST)],
+}
+
+
+class Token(NamedTuple):
+    at: int
+    text: bytes
+
+
+class Fault(NamedTuple):
+    cause: str
+    # The token that doesn't fit, or None where the line ends too early.
+    token: Optional[Token]
+    # The part that was wanted in its place, as `("number", 0, 64)`; `("end",)` where none was.
+    part: tuple
+
+
+def tokens_of(line):
+    return [Token(it.start(), it.group()) for it in re.finditer(rb"[^ ]+", line)]
+
+
+def is_number(text, least, most):
+    return bool(re.fullmatch(rb"0|[1-9][0-9]*", text)) and least <= int(text) <= most
+
+
+def is_name(text):
+    return bool(re.fullmatch(rb"[A-Za-z0-9_][A-Za-z0-9._-]{0,63}", text))
+
+
+def is_snap(text):
+    image, _, snap = text.partition(b"@")
+    return is_name(image) and is_name(snap)
+
+
+def is_session_name(text):
+    return bool(re.fullmatch(rb"[a-z][a-z0-9]{0,31}", text)) and text != b"client"
+
+
+def cause_of(part, text, sessions):
+    """Returns why a token can't stand in a part's place, or None where it can."""
+    kind = part[0]
+    fits = {
+        "image": lambda: is_name(text),
+        "snap": lambda: is_snap(text),
+        "target": lambda: is_snap(text) if b"@" in text else is_name(text),
+        "number": lambda: is_number(text, *part[1:]),
+        "times": lambda: is_number(text, *part[1:]),
+        "hex": lambda: len(text) <= 131_072 and bool(re.fullmatch(rb"([0-9a-f]{2})+", text)),
+        "byte": lambda: bool(re.fullmatch(rb"[0-9a-f]{2}", text)),
+        "site": lambda: text in (b"a", b"b"),
+        "kind": lambda: bool(re.fullmatch(rb"[a-z]+(-[a-z]+)*", text)),
+        "session": lambda: text in sessions,
+        "new session": lambda: is_session_name(text) and text not in sessions and len(sessions) < 32,
+        "flag": lambda: text.decode("latin-1") == part[1],
+    }
+    causes = {"image": "bad name", "snap": "bad name", "target": "bad name", "new session": "bad name"}
+    causes |= {"number": "bad number", "times": "bad number", "hex": "bad number", "byte": "bad number"}
+    return None if fits[kind]() else causes.get(kind, "unknown word")
+
+
+def fault_in(parts, tokens, sessions):
+    """Returns the first fault of some parts in their order, or None."""
+    left = list(tokens)
+    for part in parts:
+        if part[0] in ("times", "option", "flag") and not left:
+            continue
+        if part[0] == "option":
+            if left[0].text.decode("latin-1") != part[1]:
+                continue
+            left.pop(0)
+            part = ("number", 0, part[2])
+        if not left:
+            return Fault("missing part", None, part)
+        if cause := cause_of(part, left[0].text, sessions):
+            return Fault(cause, left[0], part)
+        left.pop(0)
+    return Fault("extra part", left[0], ("end",)) if left else None
+
+
+def fault_by_word(table, tokens, sessions, part):
+    """Returns the first fault of a form that its first token names."""
+    if not tokens:
+        return Fault("missing part", None, (part,))
+    word = tokens[0].text.decode("latin-1")
+    if word not in table:
+        return Fault("unknown word", tokens[0], (part,))
+    return fault_in(table[word], tokens[1:], sessions)
+
+
+def fault_of_command(tokens, sessions):
+    if tokens and tokens[0].text == b"snap":
+        return fault_by_word(BEHIND_SNAP, tokens[1:], sessions, "word behind snap")
+    if tokens and tokens[0].text == b"mirror":
+        return fault_by_word(BEHIND_MIRROR, tokens[1:], sessions, "word behind mirror")
+    return fault_by_word(COMMANDS, tokens, sessions, "command")
+
+
+def fault_of_line(line, sessions):
+    """Returns the first fault of a line, or None. The sessions are those that were declared
+    before it."""
+    tokens = [] if line.startswith(b"#") else tokens_of(line)
+    if not tokens:
+        return None
+    if tokens[0].text == b"client":
+        return fault_in([("new session",), ("site",)], tokens[1:], sessions)
+    if tokens[0].text.startswith(b"@"):
+        return fault_by_word(SCHEDULE, tokens, sessions, "line of a schedule")
+    if tokens[0].text == b"&":
+        tokens = tokens[1:]
+    return fault_in([("session",)], tokens[:1], sessions) or fault_of_command(tokens[1:], sessions)
+
+
+def declared_in(lines):
+    """Returns the names of the sessions that some lines declare."""
+    found = ([it.text for it in tokens_of(line)] for line in lines if b"client" in line)
+    return [words[1] for words in found if words[:1] == [b"client"] and len(words) > 1]
+
+
+def words_of_command(line):
+    """Returns the tokens of a line behind `&`: the session's, the command's and what follows."""
+    tokens = tokens_of(line)
+    return tokens[1:] if tokens and tokens[0].text == b"&" else tokens
+
+
+def changer_of(line):
+    """Returns the session that changes an image by this line, or None."""
+    words = [it.text for it in words_of_command(line)]
+    snaps = [b"snap", b"create"], [b"snap", b"rm"]
+    return words[0] if words[1:2] in ([b"write"], [b"fill"]) or words[1:3] in snaps else None
+
+
+def unbuilt_token(line):
+    """Returns the token by which a line of the grammar is one that isn't built."""
+    tokens = words_of_command(line)
+    if tokens[0].text.startswith(b"@"):
+        return tokens[-1] if tokens[0].text == b"@until" else tokens[0]
+    if tokens[1].text == b"create" and tokens[-1].text == b"journal":
+        return tokens[-1]
+    return tokens[2] if tokens[1].text in (b"snap", b"mirror") else tokens[1]
