@@ -1,1 +1,1 @@
-mod Fed
+mod Live

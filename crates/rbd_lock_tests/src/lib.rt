@@ -4,8 +4,8 @@
 //!
 //! One site of the tests' own (`site`) answers, and writes down what it is asked (`log`). One
 //! driver (`drive`) takes each request (`asked`) from step to step, and looks whether its answers
-//! can be given (`gives`). The tests are tables of what is written down then, by subject; what a
-//! session counts is told behind each step by its words (`steps`):
+//! can be given. The tests are tables of what is written down then, by subject; what a session
+//! counts is told behind each step by its words (`steps`):
 //!
 //! | file | subject |
 //! |---|---|

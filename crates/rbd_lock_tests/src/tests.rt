@@ -2,7 +2,6 @@ mod asked;
 mod closing;
 mod counting;
 mod drive;
-mod gives;
 mod log;
 mod order;
 mod quiescing;

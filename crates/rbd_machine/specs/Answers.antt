@@ -20,6 +20,7 @@ use Rattle.rbd_kinds.specs.declared.map_op.MapOp.TheVariants as states
 use Rattle.rbd_kinds.specs.declared.operation.Op.{Op}
 use Rattle.rbd_kinds.specs.declared.operation.Op.TheVariants as op
 use Rattle.rbd_kinds.specs.AnswerForm.{IsInForm}
+use Rattle.rbd_kinds.specs.Form.{IsHeaderInForm}
 use Rattle.rbd_machine.specs.Plan.{Plan, Ask, Await, Note}
 
 -- ---- the words, by the kind of object
@@ -124,3 +125,17 @@ CanBeFed (Ask site why o next) (fed.Answer a) = CanGive o a
 CanBeFed (Await wait next) fed.Passed = Unit {0}
 CanBeFed (Note site image event next) fed.Passed = Unit {0}
 CanBeFed _ _ = ⊥
+
+-- ---- answers whose form is that of their header
+
+-- the answer carries neither bytes nor bits, a frame or spans
+abbrev pub is_plain : Op → Answer → Bool
+is_plain (op.Data image number o) (answer.Bytes bytes) = false
+is_plain (op.Map image o) a = false
+is_plain (op.Journal image o) a = false
+is_plain _ _ = true
+
+-- a header that is told is in form
+abbrev pub IsHeaderToldInForm : Answer → Type 0
+IsHeaderToldInForm (answer.Header h) = IsHeaderInForm h
+IsHeaderToldInForm _ = Unit {0}

@@ -43,7 +43,7 @@
 //! |---|---|
 //! | `specs/Wait.antt`, `specs/Label.antt` | what a request waits for beside operations and its event; where it begins a part again |
 //! | `specs/Plan.antt` | `Plan`: the steps that are left, a finite tree that branches on the answers. `Wants`, `Asks`, `AsksBy`, `Notes`: what `wants`, `next`, `reason` and `event` tell of it. `plan_after`: the plan after what it was fed. `GoesOn`: after `feed` it stands there and wants something, or is done with the plan's reply. `IsClosed`: its labels stand at operations |
-//! | `specs/Answers.antt` | `CanGive`: the answers that an operation can give. `CanBeFed`: what a machine may be fed |
+//! | `specs/Answers.antt` | `CanGive`: the answers that an operation can give. `CanBeFed`: what a machine may be fed. [`gives`] computes the words, [`can_give`] judges an answer where its form needs no look at bytes |
 //! | `specs/Ready.antt` | only an answer needs memory |
 //! | `specs/Steps.antt` | steps that many requests share, as plans |
 //! | `specs/Approach.antt` | what is left of an [`Approach`], and what comes of a step of it |
@@ -100,6 +100,7 @@
 #![tactic(auto)]
 
 mod approach;
+mod giving;
 pub mod laws;
 mod looks;
 mod machine;
@@ -108,6 +109,7 @@ mod reason;
 mod told;
 
 pub use approach::{Approach, Refuses};
+pub use giving::{can_give, gives};
 pub use looks::{dir_find, header_get};
 pub use machine::Machine;
 pub use progress::Progress;

@@ -12,7 +12,6 @@ use Rattle.rbd_kinds.specs.declared.layout.Extent.{Extent}
 use Rattle.rbd_kinds.specs.declared.operation.Op.TheVariants as op
 use Rattle.rbd_kinds.specs.declared.refusal.Refusal.TheVariants as refusal
 use Rattle.rbd_kinds.specs.declared.reply.Reply.TheVariants as reply
-use Rattle.rbd_kinds.specs.Form.{IsHeaderInForm}
 use Rattle.rbd_layout.specs.Pieces.{pieces_of}
 use Rattle.rbd_header.specs.Header.{view_of}
 use Rattle.rbd_header.specs.declared.view.View.{View}
@@ -107,11 +106,6 @@ IsReadyAt _ r _ = Unit {0}
 
 abbrev pub IsReady : ReadRequest → Answer → Type 0
 IsReady r a = IsReadyAt r.stage r a
-
--- a header that is told is in form
-abbrev pub IsHeaderToldInForm : Answer → Type 0
-IsHeaderToldInForm (answer.Header h) = IsHeaderInForm h
-IsHeaderToldInForm _ = Unit {0}
 
 abbrev pub IsClosing : Stage → Type 0
 IsClosing (stage.Closing image seen read) = Unit {0}

@@ -1,7 +1,6 @@
 //! Bytes that were read object by object, in the order of the image.
-ghost use Rattle.std.specs.Prelude.{◌≡◌, ◌+◌, ◌^◌, ◌≤◌, drop, length, replicate, IfOk};
+ghost use Rattle.std.specs.Prelude.{◌≡◌, ◌+◌, ◌^◌, ◌≤◌, drop, length, IfOk};
 ghost use Rattle.rbd_kinds.specs.Striping.{IsLayout};
-ghost use Rattle.rbd_layout.specs.Pieces.{pieces_of};
 ghost use Rattle.rbd_object.specs.Parts.{AreBehind, EndBefore};
 ghost use Rattle.rbd_object.specs.Contents.{window, overwritten};
 ghost use Rattle.rbd_meaning.specs.Arrange as of_arrange;

@@ -1,12 +1,12 @@
 //! `read`
-ghost use Rattle.std.specs.Prelude.{◌≡◌, ◌==◌, ℕ, true, Option, Some, None, List, [], IfOk, OnOk, OnErr};
+ghost use Rattle.std.specs.Prelude.{◌≡◌, ◌==◌, ℕ, true, Some, None, List, [], IfOk, OnOk, OnErr};
 ghost use Rattle.rbd_kinds.specs.declared.machine.Fed.TheVariants as fed_with;
-ghost use Rattle.rbd_kinds.specs.declared.header.HeaderView.{HeaderView};
 ghost use Rattle.rbd_kinds.specs.Form.{IsHeaderInForm};
 ghost use Rattle.rbd_header.specs.Header.{view_of as named_view};
 ghost use Rattle.rbd_header.specs.declared.view.View.{View};
 ghost use Rattle.rbd_layout.specs.Pieces.{pieces_of};
 ghost use Rattle.rbd_piece.specs.Gather.{gather as gathered, rest_of_gather};
+ghost use Rattle.rbd_machine.specs.Answers.{IsHeaderToldInForm};
 ghost use Rattle.rbd_machine.specs.Plan.{Plan, GoesOn, plan_after};
 ghost use Rattle.rbd_machine.specs.Steps.{going, TellsHeader};
 ghost use Rattle.rbd_meaning.specs.Range.{out_of_range};
@@ -165,7 +165,7 @@ impl ReadRequest {
     fn look(&mut self, image: ImageId, answer: &Answer) -> Turn
         requires at { self.old.stage ≡ stage.Looking image }
         requires tells { TellsHeader answer.now }
-        requires form { of_read.IsHeaderToldInForm answer.now }
+        requires form { IsHeaderToldInForm answer.now }
         requires ready { of_read.IsReady self.old answer.now }
         ensures { GoesOn (of_read.standing_of self.old).labels (plan_after (of_read.rest_at (stage.Looking image) self.old) (fed_with.Answer answer.now)) result (of_read.standing_of self.new) }
     {

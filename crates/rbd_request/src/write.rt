@@ -1,7 +1,5 @@
 //! `write` and `fill`
-ghost use Rattle.std.specs.Prelude.{◌≡◌, true, replicate, Option, IfOk};
-ghost use Rattle.rbd_kinds.specs.declared.header.HeaderView.{HeaderView};
-ghost use Rattle.rbd_kinds.specs.declared.refusal.Refusal.{Refusal};
+ghost use Rattle.std.specs.Prelude.{◌≡◌, true, replicate, IfOk};
 ghost use Rattle.rbd_machine.specs.Answers.{CanBeFed};
 ghost use Rattle.rbd_machine.specs.Plan.{Goto, without_labels, Wants, GoesOn, plan_after};
 ghost use Rattle.rbd_machine.specs.Ready.{IsReadyFor};

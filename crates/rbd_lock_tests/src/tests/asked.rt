@@ -83,7 +83,7 @@ fn disk(rt: &impl Abort, alloc: Global) -> Result<AskedName, NoMemory> {
     Ok(AskedName::parse(Bytes::from_slice(alloc, b"disk")?).expect(rt, "a name"))
 }
 
-#[tactic(auto, using(crate::proofs::Fed::close_is_live))]
+#[tactic(auto, using(crate::proofs::Live::close_is_live))]
 fn made(command: Command) -> CloseRequest
     requires { is_close command ≡ true }
     ensures { IsLive (rest_of_request result) }

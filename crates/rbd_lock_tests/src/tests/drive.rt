@@ -7,10 +7,9 @@ ghost use Rattle.rbd_machine.specs.Answers.{CanBeFed, CanGive};
 ghost use Rattle.rbd_machine.specs.Plan.{IsLive};
 ghost use Rattle.rbd_lock_tests.specs.declared.tests.drive.End.TheVariants as end;
 
-use super::gives::can_give;
 use super::site::{HERE, Site};
 use rbd_kinds::{Answer, Fed, NoMemory, Op, Refusal, Reply, Turn, Want};
-use rbd_machine::{Machine, Reason};
+use rbd_machine::{Machine, Reason, can_give};
 use rbd_owner::is_waiting;
 use std::alloc::Global;
 use std::process::Abort;
@@ -39,7 +38,7 @@ fn answer_of(
 }
 
 /// Asks the site for the operation that a machine wants, where it wants one for this reason.
-#[tactic(auto, using(rbd_machine::proofs::Wanted::wants_operation, crate::proofs::Fed::can_be_fed))]
+#[tactic(auto, using(rbd_machine::proofs::Wanted::wants_operation, rbd_machine::proofs::Fed::can_be_fed))]
 fn ask<M: Machine>(
     alloc: Global,
     reason: Reason,
@@ -63,7 +62,7 @@ fn ask<M: Machine>(
 }
 
 /// Whether a machine waits at the line of an image's requests; the site writes it down.
-#[tactic(auto, using(crate::proofs::Fed::can_join, crate::proofs::Fed::can_hold))]
+#[tactic(auto, using(rbd_machine::proofs::Fed::can_join, rbd_machine::proofs::Fed::can_hold))]
 fn waits_in_line<M: Machine>(machine: &M, site: &mut Site) -> Result<bool, NoMemory>
     requires { IsLive (M.stands machine.now).plan }
     ensures { IfOk result (λ waits. waits ≡ true → CanBeFed (M.stands machine.now).plan of_fed.Passed) }

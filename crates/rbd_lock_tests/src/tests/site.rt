@@ -1,8 +1,8 @@
 //! A site with one image, as far as its lock, its watchers and its header go. It writes down what
 //! it is asked and what it answers, and what a request waits for.
-ghost use Rattle.std.specs.Prelude.{◌≡◌, IfOk};
+ghost use Rattle.std.specs.Prelude.{IfOk};
 ghost use Rattle.rbd_kinds.specs.Form.{IsHeaderInForm};
-ghost use Rattle.rbd_lock_tests.specs.Told.{IsToldInForm};
+ghost use Rattle.rbd_machine.specs.Answers.{IsHeaderToldInForm};
 
 use super::log::{operation_into, wait_into};
 use rbd_header::new_header;
@@ -12,9 +12,10 @@ use rbd_kinds::{
 };
 use std::alloc::Global;
 
-/// The site of these tests, and its image.
+/// The site of these tests.
 pub const HERE: SiteId = SiteId::B;
 
+/// The image of that site.
 pub const IMAGE: ImageId = ImageId(7);
 
 /// The instance whose requests these tests play.
@@ -112,6 +113,7 @@ impl Site {
         site
     }
 
+    /// The allocator that it was made with.
     pub fn alloc(&self) -> Global {
         self.alloc
     }
@@ -122,7 +124,7 @@ impl Site {
 impl Site {
     /// Does an operation of the instance of these tests, and writes it down.
     pub fn ask(&mut self, op: &Op) -> Result<Answer, NoMemory>
-        ensures { IfOk result IsToldInForm }
+        ensures { IfOk result IsHeaderToldInForm }
     {
         self.done = self.done.saturating_add(1);
         let answer = self.answer(op)?;
@@ -136,7 +138,7 @@ impl Site {
     }
 
     fn answer(&mut self, op: &Op) -> Result<Answer, NoMemory>
-        ensures { IfOk result IsToldInForm }
+        ensures { IfOk result IsHeaderToldInForm }
     {
         if let Some((number, fault)) = &self.fault {
             if *number == self.done {
@@ -164,7 +166,7 @@ impl Site {
     }
 
     fn header(&mut self, op: &HeaderOp) -> Result<Answer, NoMemory>
-        ensures { IfOk result IsToldInForm }
+        ensures { IfOk result IsHeaderToldInForm }
     {
         match op {
             HeaderOp::Get => Ok(Answer::Header(secondary(self.alloc))),
@@ -180,7 +182,7 @@ impl Site {
     }
 
     fn watch(&mut self, watches: bool) -> Answer
-        ensures { IsToldInForm result }
+        ensures { IsHeaderToldInForm result }
     {
         self.watched = watches;
         Answer::Done
@@ -188,7 +190,7 @@ impl Site {
 
     /// The watchers, the instance of these tests first.
     fn list(&self) -> Result<Answer, NoMemory>
-        ensures { IfOk result IsToldInForm }
+        ensures { IfOk result IsHeaderToldInForm }
     {
         let mut list = Vec::new(self.alloc);
         if self.watched {
@@ -201,7 +203,7 @@ impl Site {
     }
 
     fn take(&mut self) -> Answer
-        ensures { IsToldInForm result }
+        ensures { IsHeaderToldInForm result }
     {
         match &self.owner {
             Some(owner) => Answer::Held(*owner),
@@ -214,7 +216,7 @@ impl Site {
 
     /// The owner lets the lock go once it has lost its patience.
     fn hear(&mut self, kind: &NoticeKind) -> Answer
-        ensures { IsToldInForm result }
+        ensures { IsHeaderToldInForm result }
     {
         if let NoticeKind::RequestLock = kind {
             self.patience = self.patience.saturating_sub(1);
@@ -229,7 +231,7 @@ impl Site {
     }
 
     fn break_lock(&mut self, owner: &Instance) -> Answer
-        ensures { IsToldInForm result }
+        ensures { IsHeaderToldInForm result }
     {
         if let Some(faster) = self.faster.take() {
             self.owner = Some(faster);
@@ -242,7 +244,7 @@ impl Site {
     }
 
     fn drop_lock(&mut self) -> Answer
-        ensures { IsToldInForm result }
+        ensures { IsHeaderToldInForm result }
     {
         if self.owner == Some(ME) {
             self.owner = None;

@@ -100,6 +100,7 @@ pub fn step(alloc: Global, locks: &mut Locks, at: &ImageAt, words: &str) -> Resu
     }
 }
 
+/// An image at a site, by the number of its id.
 pub fn image_at(site: SiteId, image: u32) -> ImageAt {
     ImageAt {
         site,

@@ -3,20 +3,19 @@
 //!
 //! Whether the request wants what it is told is looked at when the test runs, so that no proof has
 //! to know its pieces.
-ghost use Rattle.std.specs.Prelude.{◌≡◌, ◌≤◌, true, ℕ, IfOk, IfSome, OnOk};
+ghost use Rattle.std.specs.Prelude.{◌≡◌, ◌≤◌, true, IfOk, IfSome, OnOk};
 ghost use Rattle.rbd_kinds.specs.declared.machine.Fed.TheVariants as of_fed;
-ghost use Rattle.rbd_kinds.specs.declared.operation.Op.TheVariants as of_op;
 ghost use Rattle.rbd_kinds.specs.Form.{IsHeaderInForm};
 ghost use Rattle.rbd_kinds.specs.Parts.{parts_len};
-ghost use Rattle.rbd_machine.specs.Answers.{CanBeFed, CanGive};
+ghost use Rattle.rbd_machine.specs.Answers.{CanBeFed, CanGive, IsHeaderToldInForm};
 ghost use Rattle.rbd_machine.specs.Plan.{IsLive};
-ghost use Rattle.rbd_request.specs.Read.{IsHeaderToldInForm, standing_of};
+ghost use Rattle.rbd_request.specs.Read.{standing_of};
 
 use super::drive::{IMAGE, end, go_on, holds, name, op};
 use rbd_header::new_header;
 use rbd_kinds::{
-    Answer, Bytes, Command, DataOp, DirectoryOp, Fed, HeaderOp, HeaderView, Layout, NoMemory,
-    Number, Op, OpKind, Part, ReadLength, Reply, SiteId, Want,
+    Answer, Bytes, Command, DataOp, Fed, HeaderView, Layout, NoMemory, Number, Op, OpKind, Part,
+    ReadLength, Reply, SiteId, Want,
 };
 use rbd_layout::keeps_limits;
 use rbd_machine::Machine;
@@ -36,66 +35,26 @@ fn total(parts: &[Part]) -> Option<usize>
     Some(len)
 }
 
-/// Whether an answer has as many bytes as a read asks for.
-fn is_read(op: &DataOp, answer: &Answer) -> bool
-    ensures { result ≡ true → (image object : ℕ) → CanGive (of_op.Data image object op.now) answer.now }
-{
-    let DataOp::Read { snap: _, parts } = op else {
-        return false;
-    };
-    match answer {
-        Answer::Bytes(bytes) => total(parts.as_slice()) == Some(bytes.len()),
-        _ => false,
-    }
-}
-
-/// Whether the answer shows a header that an operation looks at.
-fn is_looked_at(op: &HeaderOp, answer: &Answer) -> bool
-    requires { IsHeaderToldInForm answer.now }
-    ensures { result ≡ true → (image : ℕ) → CanGive (of_op.Header image op.now) answer.now }
-{
-    let HeaderOp::Get = op else {
-        return false;
-    };
-    match answer {
-        Answer::Header(_) => true,
-        _ => false,
-    }
-}
-
-/// Whether the answer shows the image of a name that is looked for.
-fn is_found(op: &DirectoryOp, answer: &Answer) -> bool
-    ensures { result ≡ true → CanGive (of_op.Directory op.now) answer.now }
-{
-    let DirectoryOp::Find { name: _ } = op else {
-        return false;
-    };
-    match answer {
-        Answer::Id(_) => true,
-        _ => false,
-    }
-}
-
-/// Whether it is an answer of the operation: of a look at a name or a header, or of a read of
-/// bytes.
+/// Whether it is an answer of the operation: of a read with as many bytes as it asks for.
 fn can_give(op: &Op, answer: &Answer) -> bool
     requires { IsHeaderToldInForm answer.now }
     ensures { result ≡ true → CanGive op.now answer.now }
 {
-    match op {
-        Op::Data {
-            image: _,
-            object: _,
-            op,
-        } => is_read(op, answer),
-        Op::Header { image: _, op } => is_looked_at(op, answer),
-        Op::Directory(op) => is_found(op, answer),
-        _ => false,
+    match (op, answer) {
+        (
+            Op::Data {
+                image: _,
+                object: _,
+                op: DataOp::Read { snap: _, parts },
+            },
+            Answer::Bytes(bytes),
+        ) => total(parts.as_slice()) == Some(bytes.len()),
+        _ => rbd_machine::can_give(op, answer),
     }
 }
 
 /// Whether a request wants an operation that can give this answer.
-#[tactic(auto, using(rbd_machine::proofs::Wanted::wants_operation, crate::proofs::Fed::can_be_fed))]
+#[tactic(auto, using(rbd_machine::proofs::Wanted::wants_operation, rbd_machine::proofs::Fed::can_be_fed))]
 fn wants_it<M: Machine>(alloc: Global, request: &M, answer: &Answer) -> Result<bool, NoMemory>
     requires live { IsLive (M.stands request.now).plan }
     requires form { IsHeaderToldInForm answer.now }

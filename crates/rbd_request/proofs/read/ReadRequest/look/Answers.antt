@@ -1,5 +1,5 @@
 use Rattle.std.proofs.Common.{subst}
-use Rattle.rbd_request.specs.Read.{IsHeaderToldInForm}
+use Rattle.rbd_machine.specs.Answers.{IsHeaderToldInForm}
 use Rattle.rbd_request.proofs.Looks.{ends_early}
 use Rattle.rbd_request.proofs.read.ReadRequest.look.Goals as goal
 
