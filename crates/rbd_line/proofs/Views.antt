@@ -1,12 +1,12 @@
 -- How the members are seen that standings and turns hold.
-use Rattle.std.proofs.Common.{◌≡◌, ℕ, ◌≤◌, ◌<◌, Bool, true, false, cond, not, ◌&&◌, eqb, List, [], ◌∷◌, ◌++◌, length, map, drop, refl, sym, ap, subst, ◌∙◌, arith}
-use Rattle.std.specs.List.{filter}
+use Rattle.std.proofs.Common.{◌≡◌, ℕ, ◌≤◌, ◌<◌, Bool, true, false, cond, not, ◌&&◌, ◌||◌, eqb, List, [], ◌∷◌, ◌++◌, length, map, drop, refl, sym, ap, subst, ◌∙◌, arith}
+use Rattle.std.specs.List.{filter, list_any}
 use Rattle.std.proofs.lemmas.List.{map-append, length-map}
 use Rattle.rbd_course.specs.declared.stage.Stage.TheVariants as stage
 use Rattle.rbd_guard.specs.Order.{is_in, AreApart}
 use Rattle.rbd_line.specs.declared.standing.Standing.{Standing}
 use Rattle.rbd_line.specs.Kept.{member, held_at, passed_at, IsKept}
-use Rattle.rbd_line.specs.Line.{Member, is_member, may_pass, may_enter, none_past_behind, objects_of, has_turn, comes_next, joined, held, passed, entered, next_piece, changed, without, Each}
+use Rattle.rbd_line.specs.Line.{Member, is_member, is_past, any_past, may_pass, may_enter, none_past_behind, objects_of, has_turn, comes_next, joined, held, passed, entered, next_piece, changed, without, Each}
 use Rattle.rbd_line.specs.Turns.{begins_with}
 use Rattle.rbd_line.proofs.Fair.{put, room_for_one}
 use Rattle.rbd_line.proofs.Keeping.{joined_kept, held_kept, passed_kept, left_kept, entered_kept, next_kept, held_once, turn_kept}
@@ -26,6 +26,11 @@ pub record Holds (held_of holders : ℕ → List ℕ) (items : List Standing) (m
 
 holds_them : (held_of holders : ℕ → List ℕ) (items : List Standing) (members : List Member) → members_of held_of items ≡ members → IsKept held_of holders members → Holds held_of holders items members
 holds_them held_of holders items members seen kept = record { seen = seen; kept = subst (IsKept held_of holders) (sym seen) kept }
+
+-- whether anybody is past own is told by where they stand
+pub any_past_seen : (held_of : ℕ → List ℕ) (items : List Standing) → list_any (λ (s : Standing). is_past s.stage) items ≡ any_past (members_of held_of items)
+any_past_seen held_of [] = refl
+any_past_seen held_of (s ∷ items) = ap (λ b. is_past s.stage || b) (any_past_seen held_of items)
 
 pub room : (held_of holders : ℕ → List ℕ) (items : List Standing) (slot : ℕ) → IsKept held_of holders (members_of held_of items) → 1 ≤ slot → slot ≤ 64
     → is_member slot (members_of held_of items) ≡ false → length items < 64

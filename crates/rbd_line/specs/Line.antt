@@ -43,6 +43,15 @@ abbrev pub is_past : Stage → Bool
 is_past stage.Past = true
 is_past _ = false
 
+-- whether a member is there and past its own look
+abbrev pub is_past_in : Option Member → Bool
+is_past_in None = false
+is_past_in (Some m) = is_past m.stage
+
+-- whether anybody is past its own look
+abbrev pub any_past : List Member → Bool
+any_past members = list_any (λ m. is_past m.stage) members
+
 -- it is past its own look, and not alone
 abbrev pub is_shared_past : Member → Bool
 is_shared_past m = is_past m.stage && not m.alone

@@ -72,8 +72,8 @@
 //!
 //! A line has at most 64 members. `join`, `enter`, `has_turn`, `end_piece` and `is_empty` cost the
 //! same however many they are and however many tickets they have (`enter`, `has_turn` and
-//! `end_piece` on average, since they look into hash tables). `hold`, `may_pass`, `pass`, `stage`
-//! and `alone` go along the line once or twice. `leave` does so too, and costs as much as the
+//! `end_piece` on average, since they look into hash tables). `hold`, `may_pass`, `pass`, `stage`,
+//! `alone` and `is_any_past` go along the line once or twice. `leave` does so too, and costs as much as the
 //! member's tickets do one by one. Only `new` and `reserve` take memory.
 //!
 //! # How it works

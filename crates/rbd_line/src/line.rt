@@ -1,10 +1,11 @@
-ghost use Rattle.std.specs.Prelude.{◌≡◌, ℕ, ◌+◌, ◌<◌, ◌≤◌, ◌==◌, ◌&&◌, cond, [], ◌∷◌, ◌++◌, length, IsTrue, IsFalse, IsOk, IfOk, OnOk};
+ghost use Rattle.std.specs.Prelude.{◌≡◌, ◌+◌, ◌<◌, ◌≤◌, ◌==◌, ◌&&◌, [], ◌∷◌, ◌++◌, length, IsTrue, IsFalse, IsOk, IfOk, OnOk};
 ghost use Rattle.std.specs.Option.{option_map};
 ghost use Rattle.rbd_guard.specs.Order.{is_in};
-ghost use Rattle.rbd_line.specs.Line.{member_of, is_member, may_pass, has_turn, comes_next, objects_of, may_enter, none_past_behind, joined, held, passed, entered, next_piece, changed, without, IsFairLine};
+ghost use Rattle.rbd_line.specs.Line.{member_of, is_member, any_past, may_pass, has_turn, comes_next, objects_of, may_enter, none_past_behind, joined, held, passed, entered, next_piece, changed, without, IsFairLine};
 
 use crate::standing::{
-    Standing, alone_of, are_letting_pass, hold_at, join_at, leave_at, pass_at, stage_of,
+    Standing, alone_of, are_letting_pass, hold_at, is_any_past, join_at, leave_at, pass_at,
+    stage_of,
 };
 use crate::turns::Turns;
 use rbd_course::Stage;
@@ -116,6 +117,14 @@ impl Line {
         ensures sound { IsFairLine self.now.members }
     {
         alone_of(self.standings.as_slice(), slot)
+    }
+
+    /// Whether anybody in the line is past its own look. It takes no memory.
+    pub fn is_any_past(&self) -> bool
+        ensures past { result ≡ any_past self.now.members }
+        ensures sound { IsFairLine self.now.members }
+    {
+        is_any_past(self.standings.as_slice())
     }
 
     /// Makes room for `more` tickets: the next `more` calls of `enter` are allowed, whoever leaves

@@ -1,6 +1,6 @@
 //! Where the members of a line stand, without their turns.
 ghost use Rattle.std.specs.Prelude.{◌≡◌, ℕ, ◌==◌, ◌<◌, ◌≤◌, not, List, [], ◌∷◌, ◌++◌, map, vec_len, vec_capacity};
-ghost use Rattle.std.specs.List.{filter, list_all};
+ghost use Rattle.std.specs.List.{filter, list_all, list_any};
 ghost use Rattle.std.specs.Option.{option_map};
 ghost use Rattle.rbd_course.specs.Course.{held_stage};
 ghost use Rattle.rbd_line.specs.Kept.{member, held_at, passed_at};
@@ -60,6 +60,13 @@ fn is_letting_pass(standing: &Standing, alone: bool) -> bool
     ensures { (held : ℕ → List ℕ) → result ≡ lets_pass alone (member held standing.now) }
 {
     is_past(standing.stage) && !standing.alone && !alone
+}
+
+/// Whether any member is past its own look.
+pub fn is_any_past(members: &[Standing]) -> bool
+    ensures { result ≡ list_any (λ s. is_past s.stage) members.now }
+{
+    members.iter().any(|standing| is_past(standing.stage))
 }
 
 fn is_past(stage: Stage) -> bool

@@ -54,7 +54,7 @@ module _ {R : Type 0} (stands : R → Standing) where
 
 -- ---- who is in a line
 
-here_is : (place : Option ImageAt) (site : SiteId) (image : ℕ) → is_here place site image ≡ true → place ≡ Some (record { site = site; image = image })
+pub here_is : (place : Option ImageAt) (site : SiteId) (image : ℕ) → is_here place site image ≡ true → place ≡ Some (record { site = site; image = image })
 here_is None site image is = absurd (true≢false (sym is))
 here_is (Some p) site image is =
     let parts = and_parts (same_site site p.site) (image == p.image) is in

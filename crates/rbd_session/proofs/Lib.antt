@@ -5,8 +5,11 @@ pub mod Behind
 pub mod Consequences
 pub mod Entering
 pub mod Fairness
+pub mod GivenUp
 pub mod Going
 pub mod Members
+pub mod OwnLooks
+pub mod OwnLooksStay
 pub mod Others
 pub mod Readied
 pub mod Sound

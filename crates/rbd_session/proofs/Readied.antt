@@ -29,7 +29,7 @@ module _ {R : Type 0} (stands : R → Standing) where
       go (Some (occupant.Refused line refusal)) is a = elim a [ ]
       go None is a = elim a [ ]
 
-  same_track : (r q : Running R) (old new : LinesView) → IsSameStand stands r q → lines_of new ≡ lines_of old → track_of q new ≡ track_of r old
+  pub same_track : (r q : Running R) (old new : LinesView) → IsSameStand stands r q → lines_of new ≡ lines_of old → track_of q new ≡ track_of r old
   same_track r q old new same lines =
       ap (λ p. record { place = p; turn = q.turn; due = []; lines = lines_of new }) same.place
       ∙ ap (λ t. record { place = r.place; turn = t; due = []; lines = lines_of new }) same.turn

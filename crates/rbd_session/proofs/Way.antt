@@ -57,7 +57,7 @@ line_there slot p m t there =
 
 -- ---- its tickets
 
-held_past : KeepsPast held
+pub held_past : KeepsPast held
 held_past m = go m.stage
   where
     go : (s : Stage) → is_past (held_stage s) ≡ is_past s
@@ -65,7 +65,7 @@ held_past m = go m.stage
     go stage.Waiting = refl
     go stage.Past = refl
 
-done_past : (turn : Option ℕ) → KeepsPast (done_with turn)
+pub done_past : (turn : Option ℕ) → KeepsPast (done_with turn)
 done_past None m = refl
 done_past (Some object) m = refl
 

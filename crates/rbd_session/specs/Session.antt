@@ -1,5 +1,7 @@
 -- What contracts see of a session, and what holds of each.
-use Rattle.std.specs.Prelude.{◌≡◌, ℕ, ◌<◌, ◌≤◌, ◌&&◌, nat_lt, cond, Bool, true, false, List, length, slice_index_or, Option, Some, None, IsSome}
+use Rattle.std.specs.Prelude.{◌≡◌, ℕ, ◌<◌, ◌≤◌, ◌&&◌, nat_lt, cond, if◌then◌else◌, Bool, true, false, List, length, slice_index_or, Option, Some, None, IsSome}
+use Rattle.std.specs.Option.{option_map}
+use Rattle.rbd_course.specs.declared.stage.Stage.TheVariants as stage
 use Rattle.rbd_kinds.specs.declared.answer.Answer.{Answer}
 use Rattle.rbd_kinds.specs.declared.id.Instance.{Instance}
 use Rattle.rbd_kinds.specs.declared.id.SiteId.{SiteId}
@@ -7,12 +9,14 @@ use Rattle.rbd_kinds.specs.declared.layout.Extent.{Extent}
 use Rattle.rbd_kinds.specs.declared.machine.Fed.{Fed}
 use Rattle.rbd_kinds.specs.declared.operation.Op.{Op}
 use Rattle.rbd_kinds.specs.declared.operation_kind.OpKind.{OpKind}
+use Rattle.rbd_kinds.specs.declared.operation_kind.OpKind.TheVariants as kind
 use Rattle.rbd_kinds.specs.declared.refusal.Refusal.{Refusal}
 use Rattle.rbd_kinds.specs.declared.reply.Reply.{Reply}
 use Rattle.rbd_kinds.specs.declared.reply.Reply.TheVariants as reply
 use Rattle.rbd_kinds.specs.OperationKind.{kind_of}
-use Rattle.rbd_line.specs.Line.{member_of}
+use Rattle.rbd_line.specs.Line.{Member, member_of, may_pass}
 use Rattle.rbd_machine.specs.Answers.{CanBeFed}
+use Rattle.rbd_machine.specs.Knowledge.{same_site}
 use Rattle.rbd_machine.specs.Path.{at_operation}
 use Rattle.rbd_machine.specs.Plan.{Plan, Ask, Standing, IsAsking, plan_after}
 use Rattle.rbd_machine.specs.Ready.{IsReadyFor}
@@ -20,11 +24,12 @@ use Rattle.rbd_machine.specs.Steps.{refused}
 use Rattle.rbd_session.specs.declared.running.Occupant.{Occupant}
 use Rattle.rbd_session.specs.declared.running.Occupant.TheVariants as occupant
 use Rattle.rbd_session.specs.declared.running.Running.{Running}
+use Rattle.rbd_session.specs.declared.image_at.ImageAt.{ImageAt}
 use Rattle.rbd_session.specs.Advance.{listed, track_of, looked_for, fed_by, IsSameStand, IsFedWell, ComesTo}
 use Rattle.rbd_session.specs.Lines.{LinesView, lines_of, room_of, CanOpen}
 use Rattle.rbd_session.specs.OnTrack.{IsOnTrack, AreFair}
 use Rattle.rbd_session.specs.Track.{run}
-use Rattle.rbd_session.specs.Waits.{waits}
+use Rattle.rbd_session.specs.Waits.{waits, waits_at}
 
 -- Slot n holds what stands at n, and nothing is ever held at 0. The lowest free slot is 65 where 64
 -- are held.
@@ -120,6 +125,39 @@ kind_at stands slot s = of_going stands kind_asked (going_in slot (held_in slot 
 
 abbrev pub op_at : {R : Type 0} → (stands : R → Standing) → (slot : ℕ) → SessionView R → Option (SiteId × Op)
 op_at stands slot s = of_going stands op_asked (going_in slot (held_in slot s.slots) s.lines)
+
+-- ---- at whose own look the request in a slot stands
+
+-- it wants a look at a header of the site
+abbrev pub is_look_at : SiteId → Option (SiteId × OpKind) → Bool
+is_look_at site (Some (at, kind.HeaderGet)) = same_site site at
+is_look_at site wanted = false
+
+-- It is in the image's line and waits for its own look there, and the operation that it wants is a
+-- look at a header of the image's site.
+abbrev pub own_look_of : (slot : ℕ) → Option (SiteId × OpKind) → Option ImageAt → LinesView → Option ImageAt
+own_look_of slot wanted None lines = None
+own_look_of slot wanted (Some p) lines = if is_look_at p.site wanted && waits_at (option_map (λ (m : Member). m.stage) (member_of slot (lines_of lines p.site p.image))) then Some p else None
+
+abbrev pub own_look_in : {R : Type 0} → (stands : R → Standing) → (slot : ℕ) → LinesView → Option (Running R) → Option ImageAt
+own_look_in stands slot lines None = None
+own_look_in stands slot lines (Some r) = own_look_of slot (kind_asked (stands r.request).plan) r.place lines
+
+-- the image at whose own look the request in a slot stands, where it may go on
+abbrev pub own_look_at : {R : Type 0} → (stands : R → Standing) → (slot : ℕ) → SessionView R → Option ImageAt
+own_look_at stands slot s = own_look_in stands slot s.lines (going_in slot (held_in slot s.slots) s.lines)
+
+-- The request that runs in a slot is in the line of an image, waits there for its own look, and may
+-- go past it.
+pub record IsAtOwnLook {R : Type 0} (slot : ℕ) (p : ImageAt) (s : SessionView R) : Type 0 where
+  pub running : Running R
+  pub member : Member
+  pub runs : running_at slot s ≡ Some running
+  pub place : running.place ≡ Some p
+  pub found : member_of slot (lines_of s.lines p.site p.image) ≡ Some member
+  pub awaits : member.stage ≡ stage.Waiting
+  pub goes : waits slot (track_of running s.lines) ≡ false
+  pub may : may_pass slot (lines_of s.lines p.site p.image) ≡ true
 
 -- why the request in a slot is refused before any operation
 abbrev pub refusal_in : {R : Type 0} → Option (Occupant R) → Option Refusal

@@ -1,11 +1,9 @@
 //! How a request goes on: past what it waits for, to its next operation or to its end.
-ghost use Rattle.std.specs.Prelude.{◌≡◌, ◌⊎◌, ℕ, ◌≤◌, cond, [], ◌∷◌, ◌++◌, length, None, Some, IsSome, IsTrue, IsFalse, Option};
-ghost use Rattle.rbd_machine.specs.Answers.{CanBeFed};
+ghost use Rattle.std.specs.Prelude.{◌≡◌, ℕ, ◌≤◌, cond, [], ◌∷◌, ◌++◌, length, None, Some, IsSome, IsTrue, IsFalse};
 ghost use Rattle.rbd_machine.specs.Path.{at_operation};
-ghost use Rattle.rbd_machine.specs.Plan.{IsAsking, IsLive, plan_after};
-ghost use Rattle.rbd_machine.specs.Ready.{IsReadyFor};
+ghost use Rattle.rbd_machine.specs.Plan.{plan_after};
 ghost use Rattle.rbd_line.specs.Line.{is_member, changed, joined, without, may_pass};
-ghost use Rattle.rbd_session.specs.Advance.{listed, track_with, track_of, looked_at, looked_for, fed_by, wanted_by, no_operation, IsGoingOn, IsSameRequest, IsJoin, MayPass, IsFedWell, ComesTo};
+ghost use Rattle.rbd_session.specs.Advance.{listed, track_with, track_of, looked_at, fed_by, wanted_by, no_operation, IsGoingOn, IsSameRequest, IsJoin, MayPass, IsFedWell, ComesTo};
 ghost use Rattle.rbd_session.specs.OnTrack.{AreFair, LeavesOthers};
 ghost use Rattle.rbd_session.specs.Lines.{members_at, members_of, lines_of, room_at, room_of, is_key, CanOpen, MayEnterAll};
 ghost use Rattle.rbd_session.specs.Track.{changed_at, done_with, given, passed_by, run};

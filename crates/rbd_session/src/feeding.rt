@@ -1,5 +1,5 @@
 //! The request in a slot is made ready for an answer, and fed it.
-ghost use Rattle.std.specs.Prelude.{◌≡◌, ℕ, None, Some, IsSome, OnOk};
+ghost use Rattle.std.specs.Prelude.{◌≡◌, ℕ, None, OnOk};
 ghost use Rattle.rbd_machine.specs.Answers.{CanBeFed};
 ghost use Rattle.rbd_machine.specs.Plan.{IsAsking};
 ghost use Rattle.rbd_session.specs.Advance.{track_of, IsFedWell, IsSameStand};
@@ -50,7 +50,14 @@ pub fn feed_in<R: Request>(
         _ => unreachable!(),
     };
     if reply.is_some() {
-        *occupant = None;
+        clear(occupant);
     }
     reply
+}
+
+/// The slot is free. (By itself, since only a request that ends has its parts let go.)
+fn clear<R: Drop>(occupant: &mut Option<Occupant<R>>)
+    ensures { occupant.new ≡ None }
+{
+    *occupant = None;
 }

@@ -1,10 +1,14 @@
 //! What follows for every session: each law is the contract of a function that does nothing.
-ghost use Rattle.std.specs.Prelude.{◌≡◌, ◌≢◌, ℕ, true, false, ◌∷◌, Some, None, IsTrue, IsFalse, List};
+ghost use Rattle.std.specs.Prelude.{◌≡◌, ◌≢◌, ◌⊎◌, ℕ, Option, false, ◌∷◌, Some, None, IsTrue, IsFalse, List};
 ghost use Rattle.rbd_kinds.specs.declared.id.SiteId.{SiteId as Site};
-ghost use Rattle.rbd_line.specs.Line.{Member, member_of, is_member, is_past, ahead, holds};
+ghost use Rattle.rbd_line.specs.Line.{Member, member_of, is_member, is_past, is_past_in, ahead, holds};
+ghost use Rattle.rbd_kinds.specs.declared.machine.Fed.{Fed};
+ghost use Rattle.rbd_kinds.specs.declared.reply.Reply.{Reply};
 ghost use Rattle.rbd_session.specs.Advance.{track_of};
 ghost use Rattle.rbd_session.specs.Lines.{lines_of};
-ghost use Rattle.rbd_session.specs.Session.{SessionView, IsSoundSession, running_at, kind_at};
+ghost use Rattle.rbd_session.specs.Session.{SessionView, IsSoundSession, IsAtOwnLook, IsAlike, IsReadied, IsFed, held_in, running_at, kind_at, own_look_in, own_look_at};
+ghost use Rattle.rbd_session.specs.OnTrack.{LeavesOthers};
+ghost use Rattle.rbd_session.specs.Track.{ended_by};
 ghost use Rattle.rbd_session.specs.Waits.{waits};
 ghost use Rattle.rbd_session.specs.declared.image_at.ImageAt.{ImageAt};
 ghost use Rattle.rbd_session.specs.declared.running.Running.{Running};
@@ -44,4 +48,41 @@ pub fn members_run<R: Request>()
     ensures { (s : SessionView R) (slot : ℕ) (site : Site) (image : ℕ) (m : Member)
         → IsSoundSession R.stands s → member_of slot (lines_of s.lines site image) ≡ Some m
         → (r : Running R) × (running_at slot s ≡ Some r) × (r.place ≡ Some (record { site = site; image = image })) }
+{}
+
+/// Who stands at its own look is in that image's line, waits there for it, and may go past it.
+pub fn own_looks_are_in_line<R: Request>()
+    ensures { (s : SessionView R) (slot : ℕ) (p : ImageAt) → own_look_at R.stands slot s ≡ Some p → IsAtOwnLook slot p s }
+{}
+
+/// A feeding takes nobody past own but the request that is fed, and that one only at its own look.
+/// Whoever else is past own behind it was past own before.
+pub fn passing_comes_by_own_looks<R: Request>()
+    ensures { (s new : SessionView R) (slot : ℕ) (f : Fed) (reply : Option Reply)
+        → IsReadied R.stands R.is_ready slot f s → IsFed R.stands slot f reply s new
+        → LeavesOthers slot (lines_of s.lines) (lines_of new.lines)
+        → (k : ℕ) (site : Site) (image : ℕ) → IsTrue (is_past_in (member_of k (lines_of new.lines site image)))
+        → IsTrue (is_past_in (member_of k (lines_of s.lines site image)))
+        ⊎ ((k ≡ slot) × (own_look_at R.stands slot s ≡ Some (record { site = site; image = image }))) }
+{}
+
+/// What other slots do leaves a request at the own look at which it stands, be it that it waits
+/// there. Where one of them is fed or given up, who could go on there still may. To make a request
+/// ready changes nothing of this.
+pub fn own_looks_stay<R: Request>()
+    ensures stands { (s new : SessionView R) (slot other : ℕ) → slot ≢ other
+        → held_in slot new.slots ≡ held_in slot s.slots → LeavesOthers other (lines_of s.lines) (lines_of new.lines)
+        → own_look_in R.stands slot new.lines (running_at slot new) ≡ own_look_in R.stands slot s.lines (running_at slot s) }
+
+    ensures fed { (s new : SessionView R) (slot other : ℕ) (p : ImageAt) (f : Fed) (reply : Option Reply)
+        → IsSoundSession R.stands s → slot ≢ other → held_in slot new.slots ≡ held_in slot s.slots
+        → IsFed R.stands other f reply s new → LeavesOthers other (lines_of s.lines) (lines_of new.lines)
+        → own_look_at R.stands slot s ≡ Some p → own_look_at R.stands slot new ≡ Some p }
+
+    ensures given_up { (s new : SessionView R) (slot other : ℕ) (p : ImageAt) (r : Running R)
+        → IsSoundSession R.stands s → slot ≢ other → held_in slot new.slots ≡ held_in slot s.slots
+        → lines_of new.lines ≡ (ended_by other (track_of r s.lines)).lines
+        → own_look_at R.stands slot s ≡ Some p → own_look_at R.stands slot new ≡ Some p }
+
+    ensures readied { (s new : SessionView R) (slot : ℕ) → IsAlike R.stands s new → own_look_at R.stands slot new ≡ own_look_at R.stands slot s }
 {}

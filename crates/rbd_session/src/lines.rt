@@ -1,10 +1,9 @@
 //! The lines of a session's images.
-ghost use Rattle.std.specs.Prelude.{◌≡◌, ℕ, ◌+◌, ◌<◌, ◌≤◌, ◌==◌, ◌&&◌, nat_eq, cond, [], ◌∷◌, ◌++◌, length, IsTrue, IsFalse, IsSome, IfOk, OnOk, None, Some};
+ghost use Rattle.std.specs.Prelude.{◌≡◌, ℕ, ◌<◌, ◌≤◌, ◌==◌, ◌&&◌, nat_eq, cond, [], ◌∷◌, ◌++◌, length, IsTrue, IsFalse, IsSome, OnOk, None, Some};
 ghost use Rattle.std.specs.HashMap.{get, spare};
 ghost use Rattle.std.specs.Option.{option_map};
-ghost use Rattle.rbd_guard.specs.Order.{is_in, AreApart};
-ghost use Rattle.rbd_line.specs.Line.{member_of, is_member, may_pass, has_turn, comes_next, may_enter, none_past_behind, objects_of, joined, held, passed, next_piece, changed, without, IsFairLine};
-ghost use Rattle.rbd_session.specs.Lines.{key_of, members_in, room_in, members_at, room_at, room_of, lines_of, members_of, is_key, CanOpen, IsEmptyLine, IsHeld, MayEnterAll};
+ghost use Rattle.rbd_line.specs.Line.{member_of, is_member, any_past, may_pass, has_turn, comes_next, joined, held, passed, next_piece, changed, without};
+ghost use Rattle.rbd_session.specs.Lines.{members_in, room_in, members_at, room_at, room_of, lines_of, members_of, is_key, CanOpen, IsEmptyLine, IsHeld, MayEnterAll};
 ghost use Rattle.rbd_kinds.specs.declared.id.SiteId.{SiteId};
 ghost use Rattle.rbd_session.specs.Track.{given};
 
@@ -163,6 +162,15 @@ fn may_pass_in(lines: &HashMap<u64, Line>, key: u64, slot: Slot) -> bool
     }
 }
 
+fn is_any_past_in(lines: &HashMap<u64, Line>, key: u64) -> bool
+    ensures { result ≡ any_past (members_in lines.now key) }
+{
+    match lines.get(&key) {
+        Some(line) => line.is_any_past(),
+        None => false,
+    }
+}
+
 fn has_turn_in(lines: &HashMap<u64, Line>, key: u64, slot: Slot, object: u64) -> bool
     ensures { result ≡ (comes_next slot object (members_in lines.now key) && has_turn slot object (members_in lines.now key)) }
 {
@@ -307,6 +315,13 @@ impl Lines {
             Some(place) => may_pass_in(&self.lines, place.key(), slot),
             None => false,
         }
+    }
+
+    /// Whether a request of an image is past its own look.
+    pub fn is_any_past(&self, place: &ImageAt) -> bool
+        ensures { result ≡ any_past (lines_of self.now place.now.site place.now.image) }
+    {
+        is_any_past_in(&self.lines, place.key())
     }
 
     /// Whether an object is the next one of a request, and the request has its turn there.

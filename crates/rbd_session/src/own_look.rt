@@ -1,6 +1,6 @@
 //! The answer to a request's own look: the objects that it then takes tickets for.
-ghost use Rattle.std.specs.Prelude.{◌≡◌, true, false, map, IfOk, IsTrue, None};
-ghost use Rattle.rbd_course.specs.Course.{objects_of as objects_of_pieces, objects_within as objects_of_extent, objects_asked as asked, is_own_at};
+ghost use Rattle.std.specs.Prelude.{◌≡◌, true, IfOk};
+ghost use Rattle.rbd_course.specs.Course.{objects_of as objects_of_pieces, objects_asked as asked};
 ghost use Rattle.rbd_kinds.specs.Extents.{fits};
 ghost use Rattle.rbd_kinds.specs.Form.{IsHeaderInForm};
 ghost use Rattle.rbd_layout.specs.Pieces.{pieces_of};

@@ -1,13 +1,13 @@
 //! What a request needs before it is fed: all memory, and the objects that it is due where it is at
 //! its own look.
-ghost use Rattle.std.specs.Prelude.{◌≡◌, ℕ, ◌≤◌, length, None, Some, IfOk, OnOk, Option};
-ghost use Rattle.rbd_course.specs.Course.{is_own_at, is_waiting, due_of, objects_asked as asked};
+ghost use Rattle.std.specs.Prelude.{◌≡◌, ℕ, ◌≤◌, length, IfOk, OnOk};
+ghost use Rattle.rbd_course.specs.Course.{is_own_at, due_of, objects_asked as asked};
 ghost use Rattle.rbd_kinds.specs.Form.{IsHeaderInForm};
 ghost use Rattle.rbd_machine.specs.Answers.{CanBeFed};
 ghost use Rattle.rbd_machine.specs.Plan.{IsAsking};
 ghost use Rattle.rbd_machine.specs.Ready.{IsReadyFor};
 ghost use Rattle.rbd_session.specs.Advance.{listed, track_of, looked_for, look_of, IsSameStand};
-ghost use Rattle.rbd_session.specs.Lines.{lines_of, members_at, room_of, CanOpen};
+ghost use Rattle.rbd_session.specs.Lines.{members_at, room_of, CanOpen};
 ghost use Rattle.rbd_session.specs.OnTrack.{IsSomewhere};
 ghost use Rattle.rbd_session.specs.Track.{course_of};
 ghost use Rattle.rbd_session.specs.Waits.{waits_at};

@@ -1,15 +1,20 @@
 //! A session and its slots.
-ghost use Rattle.std.specs.Prelude.{◌≡◌, ◌≢◌, ℕ, ◌<◌, ◌≤◌, [], None, Some, IsSome, IsNone, IfOk, OnErr, OnOk};
+ghost use Rattle.std.specs.Prelude.{◌≡◌, ◌≢◌, ℕ, ◌≤◌, not, [], None, Some, IsSome, IsNone, IfOk, OnErr, OnOk};
 ghost use Rattle.rbd_kinds.specs.declared.id.SiteId.{SiteId as Site};
+ghost use Rattle.rbd_line.specs.Line.{any_past};
+ghost use Rattle.rbd_session.specs.Advance.{track_of};
 ghost use Rattle.rbd_session.specs.Lines.{lines_of};
-ghost use Rattle.rbd_session.specs.Session.{IsSoundSession, IsNewcomer, free_slot, held_in, script_line, kind_at, op_at, refusal_in, reply_of, lowest_after, OfRunning, IsAlike, IsAnswered, IsFed, IsReadied};
+ghost use Rattle.rbd_session.specs.Session.{IsSoundSession, IsNewcomer, free_slot, held_in, running_at, script_line, kind_at, op_at, own_look_at, refusal_in, reply_of, lowest_after, OfRunning, IsAlike, IsAnswered, IsFed, IsReadied};
 ghost use Rattle.rbd_session.specs.OnTrack.{LeavesOthers};
+ghost use Rattle.rbd_session.specs.Track.{ended_by};
+ghost use Rattle.rbd_session.specs.declared.running.Running.{Running};
 
 use crate::feeding::{feed_in, prepare_in};
+use crate::image_at::ImageAt;
 use crate::lines::Lines;
 use crate::running::{Occupant, Running};
 use crate::slots::{empty_slots, free_up, held_at, next_free};
-use crate::wanted::{going, wanted_kind, wanted_op};
+use crate::wanted::{going, own_look, running_in, wanted_kind, wanted_op};
 use rbd_course::{Begun, Request};
 use rbd_kinds::{Fed, Instance, NoMemory, Op, OpKind, Refusal, Reply, SiteId, Slot};
 use std::alloc::Global;
@@ -133,6 +138,29 @@ impl<R: Request> Session<R> {
         }
     }
 
+    /// The image at whose own look the request in a slot stands, where it may go on: it waits for
+    /// that look in the image's line, and wants a look at a header of that site. `None` exactly
+    /// where the slot is free, waits, holds a request that is refused before any operation, or
+    /// stands elsewhere. It takes no memory.
+    pub fn own_look(&self, slot: Slot) -> Option<ImageAt>
+        ensures look { result ≡ own_look_at R.stands slot self.now }
+        ensures sound { IsSoundSession R.stands self.now }
+    {
+        own_look(
+            going(self.slots.as_slice(), &self.lines, slot)?,
+            &self.lines,
+            slot,
+        )
+    }
+
+    /// Whether no request of an image is past its own look (own). It takes no memory.
+    pub fn is_at_rest(&self, at: &ImageAt) -> bool
+        ensures rest { result ≡ not (any_past (lines_of self.now.lines at.now.site at.now.image)) }
+        ensures sound { IsSoundSession R.stands self.now }
+    {
+        !self.lines.is_any_past(at)
+    }
+
     /// Serves a request that is refused before any operation: its reply, and the slot is free.
     /// `None` exactly where the slot holds no such request; then nothing changes. It takes no
     /// memory.
@@ -182,6 +210,25 @@ impl<R: Request> Session<R> {
         let reply = feed_in(&mut self.slots[slot.0 as usize], &mut self.lines, slot, fed);
         self.lowest = lowest_behind(self.lowest, slot, reply.is_some());
         reply
+    }
+
+    /// Ends the request that runs in a slot, wherever it stands: it leaves the line that it is in,
+    /// with its tickets, and the slot is free. Where no request runs there nothing changes. It
+    /// takes no memory.
+    pub fn give_up(&mut self, slot: Slot)
+        ensures free { IsSome (running_at slot self.old) → held_in slot self.new.slots ≡ None }
+        ensures none { running_at slot self.old ≡ None → self.new ≡ self.old }
+        ensures others { (other : ℕ) → other ≢ slot → held_in other self.new.slots ≡ held_in other self.old.slots }
+        ensures left { (r : Running R) → running_at slot self.old ≡ Some r → lines_of self.new.lines ≡ (ended_by slot (track_of r self.old.lines)).lines }
+        ensures lines { LeavesOthers slot (lines_of self.old.lines) (lines_of self.new.lines) }
+        ensures who { (self.new.instance ≡ self.old.instance) × (self.new.home ≡ self.old.home) }
+        ensures sound { IsSoundSession R.stands self.new }
+    {
+        let Some(running) = running_in(self.slots.as_slice(), slot) else {
+            return;
+        };
+        self.lines.leave(running.place, slot);
+        free_up(&mut self.slots, &mut self.lowest, slot);
     }
 }
 

@@ -1,18 +1,30 @@
 //! What the request in a slot wants, where it may go on.
-ghost use Rattle.std.specs.Prelude.{◌≡◌, ℕ, Some, IfOk, IfSome};
+ghost use Rattle.std.specs.Prelude.{◌≡◌, Some, IfOk, IfSome};
 ghost use Rattle.std.specs.Option.{option_map};
 ghost use Rattle.rbd_machine.specs.Plan.{IsAsking};
 ghost use Rattle.rbd_session.specs.Advance.{track_of};
 ghost use Rattle.rbd_session.specs.OnTrack.{HasNext};
-ghost use Rattle.rbd_session.specs.Session.{held_in, running_in, going_in, kind_asked, op_asked};
+ghost use Rattle.rbd_session.specs.Session.{held_in, running_in, going_in, kind_asked, op_asked, is_look_at, own_look_of};
 
+use crate::image_at::ImageAt;
 use crate::lines::Lines;
+use crate::prepare::is_at_own;
 use crate::running::{Occupant, Running};
 use crate::slots::held_at;
 use crate::waits::is_waiting;
 use rbd_course::Request;
 use rbd_kinds::{NoMemory, Op, OpKind, SiteId, Slot, Want};
 use std::alloc::Global;
+
+/// The request that runs in a slot.
+pub fn running_in<R>(slots: &[Option<Occupant<R>>], slot: Slot) -> Option<&Running<R>>
+    ensures { option_map (λ r. r.now) result ≡ running_in (held_in slot slots.now) }
+{
+    match held_at(slots, slot) {
+        Some(Occupant::Running(running)) => Some(running),
+        _ => None,
+    }
+}
 
 /// The request that runs in a slot, where it doesn't wait.
 pub fn going<'a, R: Request>(
@@ -56,4 +68,29 @@ pub fn wanted_op<R: Request>(alloc: Global, request: &R) -> Result<Option<(SiteI
         return Ok(None);
     };
     Ok(Some((site, request.next(alloc)?)))
+}
+
+/// Whether a wanted operation is a look at a header of a site.
+fn is_look_at(site: SiteId, wanted: Option<(SiteId, OpKind)>) -> bool
+    ensures { result ≡ is_look_at site wanted }
+{
+    match wanted {
+        Some((at, OpKind::HeaderGet)) => site == at,
+        _ => false,
+    }
+}
+
+/// The image at whose own look a request stands.
+pub fn own_look<R: Request>(running: &Running<R>, lines: &Lines, slot: Slot) -> Option<ImageAt>
+    requires { IsAsking (R.stands running.now.request).plan }
+    ensures { result ≡ own_look_of slot (kind_asked (R.stands running.now.request).plan) running.now.place lines.now }
+{
+    let place = running.place?;
+    if !is_look_at(place.site, wanted_kind(&running.request)) {
+        return None;
+    }
+    if !is_at_own(lines.stage(running.place, slot)) {
+        return None;
+    }
+    Some(place)
 }

@@ -1,5 +1,6 @@
 mod drive;
 mod lines;
+mod looks;
 mod rows;
 mod slots;
 mod told;

@@ -4,13 +4,13 @@
 //! the test runs, so that no proof has to know where a request stands.
 ghost use Rattle.std.specs.Prelude.{◌≡◌, ◌≤◌, true, IfOk};
 ghost use Rattle.rbd_kinds.specs.declared.machine.Fed.TheVariants as of_fed;
-ghost use Rattle.rbd_request.specs.Read.{IsHeaderToldInForm};
+ghost use Rattle.rbd_machine.specs.Answers.{IsHeaderToldInForm};
 ghost use Rattle.rbd_session.specs.Session.{held_in, IsAnswered, OfRunning};
 
-use super::told::can_give;
 use rbd_admin::CreateRequest;
 use rbd_course::Request;
 use rbd_kinds::{Answer, Command, Fed, Instance, NoMemory, Op, Reply, SessionNo, SiteId, Slot};
+use rbd_machine::can_give;
 use rbd_requests::{SessionRequest, Work, is_built};
 use rbd_session::Session;
 use std::alloc::Global;

@@ -10,10 +10,16 @@
 //! | `1 data-write done done` | it ends with this reply, and the slot wants nothing more |
 //! | `1 refused BadShape` | what slot 1 holds is refused by this, before any operation |
 //! | `1 refused not` | slot 1 holds nothing that is refused before any operation |
+//! | `1 looks 7` | slot 1 stands at its own look of the image 7, and may go on |
+//! | `1 looks none` | it stands at no own look, or waits there |
+//! | `1 gives up` | what runs in slot 1 is given up, and the slot wants nothing more |
+//! | `rests 7` | no request of the image 7 is past its own look |
+//! | `moves 7` | one is |
 use super::drive::{Client, holds, new_session, submit, tell, wants, wants_none};
 use super::told::told;
 use super::work::command;
-use rbd_kinds::{NoMemory, Reply, Slot};
+use rbd_kinds::{ImageId, NoMemory, Reply, SiteId, Slot};
+use rbd_session::ImageAt;
 use std::alloc::Global;
 use std::process::Abort;
 use std::test::Fail;
@@ -39,6 +45,32 @@ fn is_free(session: &Client, word: &str) -> bool {
         Some(slot) => slot.0 == number(word),
         None => word == "none",
     }
+}
+
+/// The image at the home site that a word numbers.
+fn image(word: &str) -> ImageAt {
+    ImageAt {
+        site: SiteId::A,
+        image: ImageId(u32::from(number(word))),
+    }
+}
+
+fn is_at_rest(session: &Client, word: &str) -> bool {
+    session.is_at_rest(&image(word))
+}
+
+/// Whether a slot stands at the own look of the image of this word.
+fn looks_at(session: &Client, slot: Slot, word: &str) -> bool {
+    match session.own_look(slot) {
+        Some(at) => at == image(word),
+        None => word == "none",
+    }
+}
+
+/// Whether a slot wants nothing once what runs in it was given up.
+fn is_given_up(alloc: Global, session: &mut Client, slot: Slot) -> Result<bool, NoMemory> {
+    session.give_up(slot);
+    wants_none(alloc, session, slot)
 }
 
 /// Whether the command of a word takes a slot.
@@ -116,6 +148,8 @@ fn slot_does(
     match word {
         "takes" => takes(rt, alloc, session, slot, rest),
         "refused" => Ok(is_refused(session, slot, rest)),
+        "looks" => Ok(looks_at(session, slot, rest)),
+        "gives" => Ok(rest == "up" && is_given_up(alloc, session, slot)?),
         _ => Ok(wants(session, slot, word) && is_told(rt, alloc, session, slot, rest)?),
     }
 }
@@ -131,6 +165,8 @@ fn row_holds(
     };
     match word {
         "free" => Ok(is_free(session, rest)),
+        "rests" => Ok(is_at_rest(session, rest)),
+        "moves" => Ok(!is_at_rest(session, rest)),
         _ => slot_does(rt, alloc, session, Slot(number(word)), rest),
     }
 }
@@ -154,6 +190,9 @@ const NOT_SO: &str = "free 1
 free none
 1 waits
 1 refused NoImage
+1 looks 7
+1 gives in
+moves 7
 1 header-get header
 2 dir-find id-7
 2 refused BadShape

@@ -1,0 +1,42 @@
+use Rattle.std.proofs.Common.{◌≡◌, Some, sym, ap, ◌∙◌}
+use Rattle.std.specs.Option.{option_map}
+use Rattle.rbd_line.specs.Line.{member_of, without}
+use Rattle.rbd_session.specs.declared.running.Running.{Running}
+use Rattle.rbd_session.specs.Lines.{lines_of}
+use Rattle.rbd_session.specs.Session.{SessionView, held_in, running_in, running_at}
+use Rattle.rbd_session.specs.Track.{changed_at}
+use Rattle.rbd_session.proofs.Alike.{changes_lines}
+use Rattle.rbd_session.proofs.GivenUp.{leaves_others, given_up}
+use Rattle.rbd_session.proofs.Sound.{some_same}
+use Rattle.rbd_session.proofs.session.Session.give_up.Goals as goal
+
+-- the session before, the request that runs there, and the lines that it left
+abbrev before : (g : _) → goal.After-free_up g → SessionView g.row.R.Denot
+before g c = record { instance = c.self.inside.instance; home = c.self.inside.home; slots = c.self.inside.slots.items; lowest = c.self.inside.lowest; lines = c.self.inside.lines }
+
+runs : (g : _) (c : goal.After-free_up g) → running_at c.args.slot (before g c) ≡ Some c.in-Some.running.now
+runs g c =
+    ap (λ xs. running_in (held_in c.args.slot xs)) (sym c.as_slice.ensures.value) ∙ sym c.running_in.ensures
+    ∙ ap (option_map (λ (r : _). r.now)) c.in-Some.is
+
+left : (g : _) (c : goal.After-free_up g) → lines_of c.leave.new.self ≡ changed_at c.in-Some.running.now.place (without c.args.slot) (lines_of c.self.inside.lines)
+left g c = changes_lines c.in-Some.running.now.place (without c.args.slot) c.self.inside.lines c.leave.new.self c.leave.ensures.lines
+
+pub invariant_of-self : goal.invariant_of-self
+invariant_of-self g c =
+    given_up g.R.Machine.stands (before g c) c.self.invariant c.args.slot c.in-Some.running.now (runs g c) c.leave.new.self (left g c) c.free_up.new.slots.items c.free_up.new.lowest
+    c.free_up.ensures.slots c.free_up.ensures.lowest
+
+pub returns-clause-left : goal.returns-clause-left
+returns-clause-left g c = λ r is.
+    left g c
+    ∙ ap (λ (q : Running _). changed_at q.place (without c.args.slot) (lines_of c.self.inside.lines)) (some_same c.in-Some.running.now r (sym (runs g c) ∙ ap (running_at c.args.slot) c.self.view_is ∙ is))
+    ∙ ap (λ (v : SessionView _). changed_at r.place (without c.args.slot) (lines_of v.lines)) c.self.view_is
+
+pub returns-clause-lines : goal.returns-clause-lines
+returns-clause-lines g c = λ other differ site image.
+    leaves_others g.R.Machine.stands (before g c) c.self.invariant c.args.slot c.in-Some.running.now (runs g c) c.leave.new.self (left g c) other differ site image
+    ∙ ap (λ (v : SessionView _). member_of other (lines_of v.lines site image)) c.self.view_is
+
+pub returns-clause-sound : goal.returns-clause-sound
+returns-clause-sound g c = invariant_of-self g c
