@@ -1,4 +1,4 @@
-ghost use Rattle.std.specs.Prelude.{◌≡◌, ◌+◌, ◌*◌};
+ghost use Rattle.std.specs.Prelude.{◌≡◌};
 ghost use Rattle.rbd_locks.specs.Places.{key_of};
 
 use rbd_kinds::{ImageId, SiteId};

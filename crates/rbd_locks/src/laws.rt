@@ -1,6 +1,6 @@
 //! What holds of what a session counts, whatever comes: laws, each the contract of a function that
 //! does nothing.
-ghost use Rattle.std.specs.Prelude.{◌≡◌, ℕ, Bool, true, false, List, ◌∷◌, Option, None, Some, ◌||◌, IsTrue, IsFalse};
+ghost use Rattle.std.specs.Prelude.{◌≡◌, ℕ, List, ◌∷◌, Option, None, Some, IsTrue, IsFalse};
 ghost use Rattle.std.specs.List.{list_any};
 ghost use Rattle.std.specs.Ordering.{is_lt};
 ghost use Rattle.rbd_kinds.specs.declared.answer.Answer.{Answer};
@@ -9,7 +9,6 @@ ghost use Rattle.rbd_kinds.specs.declared.header_op.HeaderOp.TheVariants as head
 ghost use Rattle.rbd_kinds.specs.declared.id.SiteId.{SiteId};
 ghost use Rattle.rbd_kinds.specs.declared.notice.Notice.{Notice};
 ghost use Rattle.rbd_kinds.specs.declared.notice.NoticeKind.TheVariants as notice;
-ghost use Rattle.rbd_kinds.specs.declared.operation.Op.{Op};
 ghost use Rattle.rbd_kinds.specs.declared.operation.Op.TheVariants as op;
 ghost use Rattle.rbd_locks.specs.declared.image_at.ImageAt.{ImageAt};
 ghost use Rattle.rbd_locks.specs.declared.lock_state.LockState.{LockState};

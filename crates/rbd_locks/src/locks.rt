@@ -139,6 +139,14 @@ impl Locks {
         }
     }
 
+    /// The images that were asked for, in order. It takes no memory.
+    pub fn asked(&self) -> &BTreeSet<ImageAt>
+        ensures asked { result.now.keys ≡ self.now.asked }
+        ensures sound { IsSoundLocks self.now }
+    {
+        &self.asked
+    }
+
     fn answered(&mut self, at: &ImageAt, op: &HeaderOp, answer: &Answer)
         requires { (image : ℕ) → IsTrue (begins (of_op.Header image op.now) answer.now) → 0 < self.old.room }
         ensures states { (site : Site) (image : ℕ) → state_at site image self.new ≡ changed_at at.now.site at.now.image (answered op.now answer.now) site image (state_at site image self.old) }

@@ -1,7 +1,7 @@
 //! What is noted of each image, in a table by key.
-ghost use Rattle.std.specs.Prelude.{◌≡◌, ℕ, ◌<◌, ◌≤◌, nat_eq, cond, IsTrue, IsFalse, IsSome, OnOk, None, Some};
+ghost use Rattle.std.specs.Prelude.{◌≡◌, ℕ, ◌<◌, ◌≤◌, nat_eq, cond, IsTrue, IsFalse, OnOk, None, Some};
 ghost use Rattle.std.specs.HashMap.{get, spare};
-ghost use Rattle.rbd_locks.specs.Locks.{is_blank, noted_in, nothing, AreNoted};
+ghost use Rattle.rbd_locks.specs.Locks.{is_blank, noted_in, AreNoted};
 
 use rbd_kinds::NoMemory;
 use std::collections::HashMap;

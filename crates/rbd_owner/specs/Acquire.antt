@@ -74,7 +74,13 @@ watching site image next = step site (watch image) (on_done (taking site image n
 abbrev pub acquire : SiteId → (image : ℕ) → (watched : Bool) → (next : Plan) → Plan
 acquire site image watched next = if watched then taking site image next else watching site image next
 
--- ---- what is left of one
+-- ---- where one begins, and what is left of one
+
+abbrev pub first_stage : (watched : Bool) → Stage
+first_stage watched = if watched then stage.Taking else stage.Watching
+
+abbrev pub begun : SiteId → (image : ℕ) → (watched : Bool) → Acquire
+begun site image watched = record { site = site; image = image; stage = first_stage watched }
 
 abbrev pub rest_at : Stage → SiteId → (image : ℕ) → (next : Plan) → Plan
 rest_at stage.Watching site image next = watching site image next
@@ -138,3 +144,8 @@ abbrev pub Acquires : (labels : Label → Plan) → (next to : Plan) → Progres
 Acquires labels next to progress.More left = IsGoing (settled labels to) left
 Acquires labels next to (progress.Ended nothing) left = to ≡ next
 Acquires labels next to (progress.Refused r) left = to ≡ refused r
+
+-- it has ended where its `lock-take` was done, and nowhere else
+abbrev pub TakesLock : Stage → Answer → Progress (Unit {0}) → Type 0
+TakesLock at a (progress.Ended nothing) = (at ≡ stage.Taking) × (a ≡ answer.Done)
+TakesLock at a p = Unit {0}

@@ -1,8 +1,9 @@
 -- How a lock is let go.
-use Rattle.std.specs.Prelude.{◌≡◌, ℕ, List, [], ◌∷◌}
+use Rattle.std.specs.Prelude.{◌≡◌, ℕ, List, [], ◌∷◌, Option, Some, None}
 use Rattle.rbd_kinds.specs.declared.answer.Answer.{Answer}
 use Rattle.rbd_kinds.specs.declared.answer.Answer.TheVariants as answer
 use Rattle.rbd_kinds.specs.declared.id.SiteId.{SiteId}
+use Rattle.rbd_kinds.specs.declared.operation.Op.{Op}
 use Rattle.rbd_kinds.specs.declared.reply.Reply.TheVariants as reply
 use Rattle.rbd_machine.specs.Path.{Answered}
 use Rattle.rbd_machine.specs.Plan.{Plan, Return}
@@ -24,7 +25,10 @@ on_dropped site image a = Return reply.Done
 abbrev pub release : SiteId → (image : ℕ) → Plan
 release site image = own site (lock_drop image) (on_dropped site image)
 
--- ---- what is left of one
+-- ---- where one begins, and what is left of one
+
+abbrev pub begun_release : SiteId → (image : ℕ) → Release
+begun_release site image = record { site = site; image = image; stage = stage.Dropping }
 
 abbrev pub rest_at : Stage → SiteId → (image : ℕ) → Plan
 rest_at stage.Dropping site image = release site image
@@ -32,6 +36,22 @@ rest_at stage.Telling site image = telling site image
 
 abbrev pub rest_of_release : Release → Plan
 rest_of_release r = rest_at r.stage r.site r.image
+
+-- the operation that it wants
+abbrev pub release_op_at : Stage → (image : ℕ) → Op
+release_op_at stage.Dropping image = lock_drop image
+release_op_at stage.Telling image = released_lock image
+
+abbrev pub release_op : Release → Op
+release_op r = release_op_at r.stage r.image
+
+-- what is left of it behind an answer, and nothing where it has ended
+abbrev pub release_behind : Stage → SiteId → (image : ℕ) → Answer → Option Release
+release_behind stage.Dropping site image answer.Done = Some (record { site = site; image = image; stage = stage.Telling })
+release_behind at site image a = None
+
+abbrev pub release_after : Release → Answer → Option Release
+release_after r a = release_behind r.stage r.site r.image a
 
 -- ---- what it did
 

@@ -4,7 +4,7 @@ ghost use Rattle.rbd_kinds.specs.declared.machine.Fed.TheVariants as fed_with;
 ghost use Rattle.rbd_machine.specs.Answers.{CanGive};
 ghost use Rattle.rbd_machine.specs.Label.{Label, Lock};
 ghost use Rattle.rbd_machine.specs.Plan.{Plan, Wants, Asks, plan_after};
-ghost use Rattle.rbd_owner.specs.Acquire.{acquire, lock_of, op_of, rest_of_acquire, standing_of, Acquires, TellsTaken, TellsWatchers};
+ghost use Rattle.rbd_owner.specs.Acquire.{acquire, begun, lock_of, op_of, rest_of_acquire, standing_of, Acquires, TakesLock, TellsTaken, TellsWatchers};
 ghost use Rattle.rbd_owner.specs.Steps.{is_among};
 ghost use Rattle.rbd_owner.specs.declared.acquire.Stage.TheVariants as at_stage;
 
@@ -40,7 +40,7 @@ use std::alloc::Global;
 ///
 /// Any operation that is answered `none` ends the request with NoImage, and any that is answered
 /// `fenced` with Fenced. Where an owner watches and doesn't let go, there is no end.
-#[derive(Debug, Drop)]
+#[derive(Clone, Copy, Debug)]
 pub struct Acquire {
     site: SiteId,
     image: ImageId,
@@ -48,7 +48,7 @@ pub struct Acquire {
 }
 
 /// A step of the way, with the owner that stands in it.
-#[derive(Debug, Drop)]
+#[derive(Clone, Copy, Debug)]
 pub enum Stage {
     Watching,
     Taking,
@@ -62,7 +62,8 @@ impl Acquire {
     /// The way to the lock of an image, for an instance that watches the image already or doesn't.
     /// It takes no memory.
     pub fn new(site: SiteId, image: ImageId, watched: bool) -> Self
-        ensures { (next : Plan) → rest_of_acquire result next ≡ acquire site image watched next }
+        ensures way { result ≡ begun site image watched }
+        ensures plan { (next : Plan) → rest_of_acquire result next ≡ acquire site image watched next }
     {
         let stage = if watched {
             Stage::Taking
@@ -70,6 +71,20 @@ impl Acquire {
             Stage::Watching
         };
         Acquire { site, image, stage }
+    }
+
+    /// The site of the image.
+    pub fn site(&self) -> SiteId
+        ensures { result ≡ self.now.site }
+    {
+        self.site
+    }
+
+    /// The image whose lock it takes.
+    pub fn image(&self) -> ImageId
+        ensures { result ≡ self.now.image }
+    {
+        self.image
     }
 
     /// What it wants.
@@ -117,6 +132,8 @@ impl Acquire {
         ensures goes { (labels : Label → Plan) (next : Plan) → labels Lock ≡ lock_of self.old next
             → Acquires labels next (plan_after (rest_of_acquire self.old next) (fed_with.Answer answer.now)) result (rest_of_acquire self.new next) }
         ensures label { (next : Plan) → lock_of self.new next ≡ lock_of self.old next }
+        ensures place { (self.new.site ≡ self.old.site) × (self.new.image ≡ self.old.image) }
+        ensures taken { TakesLock self.old.stage answer.now result }
     {
         match &self.stage {
             Stage::Taking => self.take(answer),
@@ -155,6 +172,8 @@ impl Acquire {
         ensures goes { (labels : Label → Plan) (next : Plan)
             → Acquires labels next (plan_after (rest_of_acquire self.old next) (fed_with.Answer answer.now)) result (rest_of_acquire self.new next) }
         ensures label { (next : Plan) → lock_of self.new next ≡ lock_of self.old next }
+        ensures place { (self.new.site ≡ self.old.site) × (self.new.image ≡ self.old.image) }
+        ensures taken { TakesLock self.old.stage answer.now result }
     {
         match answer {
             Answer::Done => Progress::Ended(()),
@@ -173,6 +192,8 @@ impl Acquire {
         ensures goes { (labels : Label → Plan) (next : Plan)
             → Acquires labels next (plan_after (rest_of_acquire self.old next) (fed_with.Answer answer.now)) result (rest_of_acquire self.new next) }
         ensures label { (next : Plan) → lock_of self.new next ≡ lock_of self.old next }
+        ensures place { (self.new.site ≡ self.old.site) × (self.new.image ≡ self.old.image) }
+        ensures taken { TakesLock self.old.stage answer.now result }
     {
         match answer {
             Answer::Instances(watchers) => {

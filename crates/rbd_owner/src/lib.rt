@@ -114,6 +114,6 @@ mod release;
 mod told;
 mod waiting;
 
-pub use acquire::Acquire;
+pub use acquire::{Acquire, Stage};
 pub use release::Release;
 pub use waiting::{is_waiting, owns_lock_after};

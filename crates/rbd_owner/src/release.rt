@@ -1,7 +1,7 @@
 //! How an exclusive lock is let go.
 ghost use Rattle.std.specs.Prelude.{◌≡◌};
 ghost use Rattle.rbd_machine.specs.Plan.{without_labels};
-ghost use Rattle.rbd_owner.specs.Release.{release, rest_of_release};
+ghost use Rattle.rbd_owner.specs.Release.{begun_release, release, release_after, release_op, rest_of_release};
 
 use rbd_kinds::{
     Answer, Event, Fed, HeaderOp, ImageId, NoMemory, NoticeKind, Op, OpKind, Reply, SiteId, Turn,
@@ -26,7 +26,7 @@ use std::alloc::Global;
 /// It isn't refused: whatever its `lock-drop` is answered, the session counts the lock as let go,
 /// and so it ends with Done. No request waits for it and none goes on behind it. So it is a machine
 /// by itself, which a session holds beside its requests and treats as one of them, and no part.
-#[derive(Debug, Drop)]
+#[derive(Clone, Copy, Debug)]
 pub struct Release {
     site: SiteId,
     image: ImageId,
@@ -34,7 +34,7 @@ pub struct Release {
 }
 
 /// A step of it.
-#[derive(Debug, Drop)]
+#[derive(Clone, Copy, Debug)]
 enum Stage {
     Dropping,
     Telling,
@@ -43,12 +43,49 @@ enum Stage {
 impl Release {
     /// Lets the lock of an image go. It takes no memory.
     pub fn new(site: SiteId, image: ImageId) -> Self
-        ensures { rest_of_release result ≡ release site image }
+        ensures begun { result ≡ begun_release site image }
+        ensures plan { rest_of_release result ≡ release site image }
     {
         Release {
             site,
             image,
             stage: Stage::Dropping,
+        }
+    }
+
+    /// The site of the image.
+    pub fn site(&self) -> SiteId
+        ensures { result ≡ self.now.site }
+    {
+        self.site
+    }
+
+    /// The operation that it wants. It takes no memory.
+    pub fn next(&self) -> Op
+        ensures { result ≡ release_op self.now }
+    {
+        let op = match &self.stage {
+            Stage::Dropping => HeaderOp::LockDrop,
+            Stage::Telling => HeaderOp::Notify {
+                kind: NoticeKind::ReleasedLock,
+            },
+        };
+        Op::Header {
+            image: self.image,
+            op,
+        }
+    }
+
+    /// What is left of it behind an answer: `None` where it has ended. It takes no memory.
+    pub fn answered(self, answer: &Answer) -> Option<Release>
+        ensures { result ≡ release_after self answer.now }
+    {
+        match (&self.stage, answer) {
+            (Stage::Dropping, Answer::Done) => Some(Release {
+                stage: Stage::Telling,
+                ..self
+            }),
+            _ => None,
         }
     }
 }
@@ -70,16 +107,7 @@ impl Machine for Release {
     }
 
     fn next(&self, _alloc: Global) -> Result<Op, NoMemory> {
-        let op = match &self.stage {
-            Stage::Dropping => HeaderOp::LockDrop,
-            Stage::Telling => HeaderOp::Notify {
-                kind: NoticeKind::ReleasedLock,
-            },
-        };
-        Ok(Op::Header {
-            image: self.image,
-            op,
-        })
+        Ok(Release::next(self))
     }
 
     fn reason(&self) -> Reason {
@@ -98,15 +126,12 @@ impl Machine for Release {
         let Fed::Answer(answer) = fed else {
             unreachable!()
         };
-        match &self.stage {
-            Stage::Dropping => match answer {
-                Answer::Done => {
-                    self.stage = Stage::Telling;
-                    Turn::More
-                }
-                _ => Turn::Done(Reply::Done),
-            },
-            Stage::Telling => Turn::Done(Reply::Done),
+        match self.answered(answer) {
+            Some(rest) => {
+                *self = rest;
+                Turn::More
+            }
+            None => Turn::Done(Reply::Done),
         }
     }
 }

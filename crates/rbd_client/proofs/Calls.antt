@@ -1,0 +1,107 @@
+-- What holds of a client at first, and is kept by the calls that feed nothing.
+use Rattle.std.proofs.Common.{◌≡◌, ◌≢◌, ◌⊎◌, inl, inr, ℕ, zero, suc, Bool, true, false, cond, [], length, replicate, Option, Some, None, refl, sym, ap, ◌∙◌, subst, true≢false}
+use Rattle.std.proofs.lemmas.Bool.{cases_eq}
+use Rattle.std.proofs.lemmas.List.{length-replicate}
+use Rattle.rbd_client.specs.declared.slot_state.SlotState.{SlotState}
+use Rattle.rbd_client.specs.declared.slot_state.Way.TheVariants as way
+use Rattle.rbd_client.specs.Client.{ClientView, blank, state_in}
+use Rattle.rbd_client.specs.Sound.{IsOwned, IsSoundClient, IsTelling, IsWellOnWay}
+use Rattle.rbd_client.proofs.Kept.{waits_kept, way_kept}
+use Rattle.rbd_kinds.specs.declared.id.SiteId.{SiteId}
+use Rattle.rbd_kinds.specs.declared.layout.Extent.{Extent}
+use Rattle.rbd_kinds.specs.declared.notice.Notice.{Notice}
+use Rattle.rbd_kinds.specs.declared.notice.NoticeKind.{NoticeKind}
+use Rattle.rbd_kinds.specs.declared.notice.NoticeKind.TheVariants as notice
+use Rattle.rbd_line.specs.Line.{any_past, member_of}
+use Rattle.rbd_locks.specs.declared.lock_state.LockState.{LockState}
+use Rattle.rbd_locks.specs.Locks.{LocksView, heard, state_at}
+use Rattle.rbd_locks.specs.Places.{is_same}
+use Rattle.rbd_locks.specs.States.{told}
+use Rattle.rbd_machine.specs.Plan.{Standing}
+use Rattle.rbd_session.specs.Lines.{LinesView, lines_of}
+use Rattle.rbd_session.specs.declared.running.Occupant.{Occupant}
+use Rattle.rbd_session.specs.Session.{SessionView, IsNewcomer, IsSoundSession, held_in}
+use Rattle.rbd_session.proofs.Sound.{no_some}
+
+all_blank : (n slot : ℕ) → state_in slot (replicate n blank) ≡ blank
+all_blank zero zero = refl
+all_blank zero (suc slot) = refl
+all_blank (suc n) zero = refl
+all_blank (suc n) (suc slot) = all_blank n slot
+
+module _ {R : Type 0} (stands : R → Standing) where
+  pub new_sound : (c : ClientView R) → IsSoundSession stands c.session → ((site : SiteId) (image : ℕ) → lines_of c.session.lines site image ≡ [])
+      → c.slots ≡ replicate 65 blank → c.release ≡ None → IsSoundClient stands c
+  new_sound c session lines slots release = record {
+    session = session;
+    slots = ap length slots ∙ length-replicate 65 blank;
+    free = λ slot none. ap (state_in slot) slots ∙ all_blank 65 slot;
+    ways = λ slot. subst (λ (s : SlotState). IsWellOnWay stands slot s.way c.session c.locks) (sym (ap (state_in slot) slots ∙ all_blank 65 slot)) tt;
+    telling = subst IsTelling (sym release) tt;
+    owns = λ site image any. absurd (true≢false (sym any ∙ ap any_past (lines site image)));
+  }
+
+  -- a slot is taken, or freed, and nothing else changes
+  pub slot_set_sound : (slot : ℕ) (x : SlotState) (old new : ClientView R) → IsSoundClient stands old → IsSoundSession stands new.session
+      → ((k : ℕ) → k ≢ slot → held_in k new.session.slots ≡ held_in k old.session.slots) → new.session.lines ≡ old.session.lines → new.locks ≡ old.locks → new.release ≡ old.release
+      → length new.slots ≡ 65 → state_in slot new.slots ≡ x → ((k : ℕ) → k ≢ slot → state_in k new.slots ≡ state_in k old.slots) → x.way ≡ way.Unbegun → (held_in slot new.session.slots ≡ None → x ≡ blank)
+      → IsSoundClient stands new
+  slot_set_sound slot x old new sound session held lines locks release slots here there unbegun free = record {
+    session = session;
+    slots = slots;
+    free = free_at;
+    ways = way_at;
+    telling = subst IsTelling (sym release) sound.telling;
+    owns = λ site image any. subst (IsOwned site image) (sym locks) (sound.owns site image (ap (λ (ls : LinesView). any_past (lines_of ls site image)) (sym lines) ∙ any));
+  }
+    where
+      free_at : (k : ℕ) → held_in k new.session.slots ≡ None → state_in k new.slots ≡ blank
+      free_at k none = go (cases_eq k slot)
+        where
+          go : (k ≡ slot) ⊎ (k ≢ slot) → state_in k new.slots ≡ blank
+          go (inl same) = ap (λ n. state_in n new.slots) same ∙ here ∙ free (sym (ap (λ n. held_in n new.session.slots) same) ∙ none)
+          go (inr differ) = there k differ ∙ sound.free k (sym (held k differ) ∙ none)
+
+      way_at : (k : ℕ) → IsWellOnWay stands k (state_in k new.slots).way new.session new.locks
+      way_at k = go (cases_eq k slot)
+        where
+          go : (k ≡ slot) ⊎ (k ≢ slot) → IsWellOnWay stands k (state_in k new.slots).way new.session new.locks
+          go (inl same) = subst (λ w. IsWellOnWay stands k w new.session new.locks) (sym (ap (λ n. (state_in n new.slots).way) same ∙ ap (λ (s : SlotState). s.way) here ∙ unbegun)) tt
+          go (inr differ) =
+              subst (λ (s : SlotState). IsWellOnWay stands k s.way new.session new.locks) (sym (there k differ))
+              (way_kept stands k (state_in k old.slots).way old.session new.session old.locks new.locks
+              (waits_kept stands k slot differ old.session new.session (held k differ) (λ other apart site image. ap (λ (ls : LinesView). member_of other (lines_of ls site image)) lines))
+              (λ p is. subst (IsOwned p.site p.image) (sym locks))
+              (sound.ways k))
+
+  -- what is counted of locks changes, and no lock is lost by it
+  pub relocked_sound : (old new : ClientView R) → IsSoundClient stands old → new.session ≡ old.session → new.slots ≡ old.slots → new.release ≡ old.release
+      → ((site : SiteId) (image : ℕ) → IsOwned site image old.locks → IsOwned site image new.locks) → IsSoundClient stands new
+  relocked_sound old new sound same slots release kept = record {
+    session = subst (IsSoundSession stands) (sym same) sound.session;
+    slots = ap length slots ∙ sound.slots;
+    free = λ slot none. ap (state_in slot) slots ∙ sound.free slot (ap (λ (s : SessionView R). held_in slot s.slots) (sym same) ∙ none);
+    ways = λ slot. subst (λ xs. IsWellOnWay stands slot (state_in slot xs).way new.session new.locks) (sym slots)
+        (subst (λ s. IsWellOnWay stands slot (state_in slot old.slots).way s new.locks) (sym same)
+        (way_kept stands slot (state_in slot old.slots).way old.session old.session old.locks new.locks (λ site image w. w) (λ p is. kept p.site p.image) (sound.ways slot)));
+    telling = subst IsTelling (sym release) sound.telling;
+    owns = λ site image any. kept site image (sound.owns site image (ap (λ (s : SessionView R). any_past (lines_of s.lines site image)) (sym same) ∙ any));
+  }
+
+  told_owned : (kind : NoticeKind) (s : LockState) → (told kind s).owned ≡ s.owned
+  told_owned notice.RequestLock s = refl
+  told_owned kind s = refl
+
+  pub heard_owned : (n : Notice) (old new : LocksView) → ((site : SiteId) (image : ℕ) → state_at site image new ≡ heard n site image (state_at site image old))
+      → (site : SiteId) (image : ℕ) → IsOwned site image old → IsOwned site image new
+  heard_owned n old new is site image owned = ap (λ (s : LockState). s.owned) (is site image) ∙ by (is_same n.site n.image site image)
+    where
+      by : (b : Bool) → (cond b (told n.kind (state_at site image old)) (state_at site image old)).owned ≡ true
+      by true = told_owned n.kind (state_at site image old) ∙ owned
+      by false = owned
+
+  -- a slot that a newcomer took is held
+  pub newcomer_held : {W : Type 0} (stands_for : SiteId → W → Standing → Type 0) (extent_for : W → Option Extent) (home : SiteId) (line : ℕ) (work : W) (o : Option (Occupant R))
+      → IsNewcomer stands stands_for extent_for home line work o → o ≡ None → ⊥
+  newcomer_held stands_for extent_for home line work None new is = elim new [ ]
+  newcomer_held stands_for extent_for home line work (Some x) new is = no_some x (sym is)

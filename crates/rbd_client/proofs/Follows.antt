@@ -1,0 +1,108 @@
+-- What follows for every client.
+use Rattle.std.proofs.Common.{◌≡◌, ℕ, ◌==◌, ◌||◌, not, cond, Bool, true, false, List, [], ◌∷◌, Option, Some, None, refl, sym, ap, ◌∙◌, subst, true≢false}
+use Rattle.std.proofs.lemmas.Bool.{and_parts, eqb-true}
+use Rattle.std.specs.List.{find}
+use Rattle.std.specs.Prelude.{IsTrue, IsFalse}
+use Rattle.rbd_client.specs.declared.actor.Actor.{Actor}
+use Rattle.rbd_client.specs.declared.actor.Actor.TheVariants as actor
+use Rattle.rbd_client.specs.declared.slot_state.Way.TheVariants as way
+use Rattle.rbd_client.specs.Actor.{actor_at, actor_on, due_release, is_at_rest, kind_by, kind_wanted, may_release, releasing}
+use Rattle.rbd_client.specs.Client.{ClientView, state_in}
+use Rattle.rbd_client.specs.Laws.{DropsALock, IsHeldBack}
+use Rattle.rbd_client.specs.Sound.{IsOwned, IsSoundClient, IsTelling}
+use Rattle.rbd_client.proofs.OnWay.{found_may, is_telling}
+use Rattle.rbd_client.proofs.Past.{found_past}
+use Rattle.rbd_kinds.specs.declared.id.SiteId.{SiteId}
+use Rattle.rbd_line.specs.Line.{Member, is_past, member_of}
+use Rattle.rbd_locks.specs.declared.image_at.ImageAt.{ImageAt}
+use Rattle.rbd_locks.specs.declared.lock_state.LockState.{LockState}
+use Rattle.rbd_locks.specs.Locks.{state_at}
+use Rattle.rbd_locks.specs.Places.{is_among, is_same}
+use Rattle.rbd_locks.proofs.Lasting.{same_itself}
+use Rattle.rbd_machine.specs.Plan.{Standing}
+use Rattle.rbd_owner.specs.Acquire.{begun}
+use Rattle.rbd_owner.specs.declared.release.Release.{Release}
+use Rattle.rbd_session.specs.declared.image_at.ImageAt.{ImageAt as LineAt}
+use Rattle.rbd_session.specs.Lines.{lines_of}
+use Rattle.rbd_session.specs.Session.{held_in, own_look_at, running_in}
+use Rattle.rbd_session.proofs.OwnLooks.{at_own_look}
+use Rattle.rbd_session.proofs.Sound.{no_some, some_same}
+
+module _ {R : Type 0} (stands : R → Standing) where
+  pub past_owns : (c : ClientView R) (site : SiteId) (image : ℕ) (m : Member) → IsSoundClient stands c → member_of m.slot (lines_of c.session.lines site image) ≡ Some m → is_past m.stage ≡ true
+      → IsOwned site image c.locks
+  past_owns c site image m sound found past = sound.owns site image (found_past m.slot (lines_of c.session.lines site image) m found past)
+
+  -- ---- held back
+
+  pub held_back : (c : ClientView R) (slot : ℕ) (p : LineAt) → IsSoundClient stands c → own_look_at stands slot c.session ≡ Some p → (state_in slot c.slots).way ≡ way.Unbegun
+      → IsHeldBack p.site p.image c.locks → kind_wanted stands slot c ≡ None
+  held_back c slot p sound at unbegun held = by (slot == 0) refl
+    where
+      s : LockState
+      s = state_at p.site p.image c.locks
+
+      nobody : actor_on (state_in slot c.slots).way (own_look_at stands slot c.session) c.locks ≡ actor.Nobody
+      nobody =
+          ap (λ w. actor_on w (own_look_at stands slot c.session) c.locks) unbegun
+          ∙ ap (λ look. actor_on way.Unbegun look c.locks) at
+          ∙ ap (λ b. cond b actor.Nobody (cond s.owned actor.Request (actor.Way (begun p.site p.image s.watched)))) held
+
+      none_at_zero : slot ≡ 0 → ⊥
+      none_at_zero is =
+          no_some (at_own_look stands c.session slot p at).running
+          (sym (ap running_in (ap (λ k. held_in k c.session.slots) is ∙ sound.session.zero)) ∙ (at_own_look stands c.session slot p at).runs)
+
+      by : (b : Bool) → (slot == 0) ≡ b → kind_by stands slot c.session (cond b (releasing c.release (due_release c)) (actor_on (state_in slot c.slots).way (own_look_at stands slot c.session) c.locks)) ≡ None
+      by true is = absurd (none_at_zero (eqb-true slot 0 is))
+      by false is = ap (kind_by stands slot c.session) nobody
+
+  -- ---- a release
+
+  pub record MayBegin (c : ClientView R) (r : Release) : Type 0 where
+    pub asked : IsTrue (is_among r.site r.image c.locks.asked)
+    pub open_again : IsFalse (state_at r.site r.image c.locks).quiesced
+    pub rest : is_at_rest r.site r.image c ≡ true
+
+  found_among : (f : ImageAt → Bool) (ps : List ImageAt) (p : ImageAt) → find f ps ≡ Some p → is_among p.site p.image ps ≡ true
+  found_among f [] p is = absurd (no_some p is)
+  found_among f (q ∷ ps) p is = go (f q) is (found_among f ps p)
+    where
+      or_true : (a b : Bool) → b ≡ true → (a || b) ≡ true
+      or_true true b is = refl
+      or_true false b is = is
+
+      go : (b : Bool) → cond b (Some q) (find f ps) ≡ Some p → (find f ps ≡ Some p → is_among p.site p.image ps ≡ true) → (is_same p.site p.image q.site q.image || is_among p.site p.image ps) ≡ true
+      go true is rest =
+          ap (λ b. b || is_among p.site p.image ps)
+          (subst (λ (x : ImageAt). is_same p.site p.image x.site x.image ≡ true) (sym (some_same q p is)) (same_itself p.site p.image))
+      go false is rest = or_true (is_same p.site p.image q.site q.image) (is_among p.site p.image ps) (rest is)
+
+  not_true : (b : Bool) → not b ≡ true → b ≡ false
+  not_true true is = absurd (true≢false (sym is))
+  not_true false is = refl
+
+  abbrev release_or : Release → Actor → Release
+  release_or r (actor.Release q) = q
+  release_or r x = r
+
+  abbrev is_release : Actor → Bool
+  is_release (actor.Release q) = true
+  is_release x = false
+
+  pub release_begins : (c : ClientView R) (r : Release) → IsSoundClient stands c → actor_at stands 0 c ≡ actor.Release r → DropsALock r → MayBegin c r
+  release_begins c r sound acts drops = by c.release (due_release c) refl sound.telling acts
+    where
+      by : (o : Option Release) (due : Option ImageAt) → due_release c ≡ due → IsTelling o → releasing o due ≡ actor.Release r → MayBegin c r
+      by (Some q) due at tells is =
+          let same : q ≡ r = ap (release_or r) is in
+          absurd (true≢false (sym (ap is_telling tells) ∙ ap (λ (x : Release). is_telling x.stage) same ∙ ap is_telling drops))
+      by None (Some p) at tells is =
+          let same = ap (release_or r) is in
+          let parts = and_parts (not (state_at p.site p.image c.locks).quiesced) (is_at_rest p.site p.image c) (found_may stands (may_release c) c.locks.asked p at) in
+          subst (MayBegin c) same (record {
+            asked = found_among (may_release c) c.locks.asked p at;
+            open_again = not_true (state_at p.site p.image c.locks).quiesced parts.0;
+            rest = parts.1;
+          })
+      by None None at tells is = absurd (true≢false (sym (ap is_release is)))

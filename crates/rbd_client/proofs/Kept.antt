@@ -1,0 +1,101 @@
+-- What holds of each client is kept, whatever one slot does.
+use Rattle.std.proofs.Common.{◌≡◌, ◌≢◌, ◌⊎◌, inl, inr, ℕ, Bool, true, false, ◌||◌, length, Option, None, refl, sym, ap, ◌∙◌, subst}
+use Rattle.std.proofs.lemmas.Bool.{cases_eq}
+use Rattle.rbd_client.specs.declared.slot_state.Quiescing.{Quiescing}
+use Rattle.rbd_client.specs.declared.slot_state.SlotState.{SlotState}
+use Rattle.rbd_client.specs.declared.slot_state.Way.{Way}
+use Rattle.rbd_client.specs.declared.slot_state.Way.TheVariants as way
+use Rattle.rbd_client.specs.Actor.{any_taken}
+use Rattle.rbd_client.specs.Client.{ClientView, blank, state_in}
+use Rattle.rbd_client.specs.Feeding.{comings_of, CountsAll, IsAtRest}
+use Rattle.rbd_client.specs.Sound.{IsOwned, IsSoundClient, IsTelling, IsWellOnWay, WaitsForLook}
+use Rattle.rbd_client.proofs.Owning.{keeps_owned, not_dropped, relies, taken_at}
+use Rattle.rbd_kinds.specs.declared.id.SiteId.{SiteId}
+use Rattle.rbd_kinds.specs.declared.machine.Fed.{Fed}
+use Rattle.rbd_kinds.specs.declared.operation.Op.{Op}
+use Rattle.rbd_line.specs.Line.{any_past}
+use Rattle.rbd_locks.specs.declared.image_at.ImageAt.{ImageAt}
+use Rattle.rbd_locks.specs.Locks.{LocksView}
+use Rattle.rbd_machine.specs.Plan.{Standing}
+use Rattle.rbd_session.specs.declared.image_at.ImageAt.{ImageAt as LineAt}
+use Rattle.rbd_session.specs.Lines.{lines_of}
+use Rattle.rbd_session.specs.OnTrack.{LeavesOthers}
+use Rattle.rbd_session.specs.Session.{SessionView, IsSoundSession, held_in, running_in}
+
+module _ {R : Type 0} (stands : R → Standing) where
+  -- the other slots stay as they were
+  pub record LeavesSlots (slot : ℕ) (old new : ClientView R) : Type 0 where
+    pub held : (k : ℕ) → k ≢ slot → held_in k new.session.slots ≡ held_in k old.session.slots
+    pub states : (k : ℕ) → k ≢ slot → state_in k new.slots ≡ state_in k old.slots
+    pub lines : LeavesOthers slot (lines_of old.session.lines) (lines_of new.session.lines)
+
+  pub waits_kept : (k slot : ℕ) → k ≢ slot → (old new : SessionView R) → held_in k new.slots ≡ held_in k old.slots → LeavesOthers slot (lines_of old.lines) (lines_of new.lines)
+      → (site : SiteId) (image : ℕ) → WaitsForLook stands k site image old → WaitsForLook stands k site image new
+  waits_kept k slot differ old new held lines site image w = record {
+    request = w.request;
+    runs = ap running_in held ∙ w.runs;
+    place = w.place;
+    wants = w.wants;
+    member = w.member;
+    found = lines k differ site image ∙ w.found;
+    waits = w.waits;
+  }
+
+  -- a way is kept where its request waits still, and the lock that it has taken counts as owned
+  pub way_kept : (k : ℕ) (w : Way) (s t : SessionView R) (before after : LocksView)
+      → ((site : SiteId) (image : ℕ) → WaitsForLook stands k site image s → WaitsForLook stands k site image t)
+      → ((p : ImageAt) → w ≡ way.Taken p → IsOwned p.site p.image before → IsOwned p.site p.image after)
+      → IsWellOnWay stands k w s before → IsWellOnWay stands k w t after
+  way_kept k way.Unbegun s t before after waits owned well = tt
+  way_kept k (way.On a) s t before after waits owned well = waits a.site a.image well
+  way_kept k (way.Taken p) s t before after waits owned well = (waits p.site p.image well.0, owned p refl well.1)
+
+  or_left : (a b : Bool) → a ≡ true → (a || b) ≡ true
+  or_left a b is = ap (λ c. c || b) is
+
+  or_right : (a b : Bool) → b ≡ true → (a || b) ≡ true
+  or_right true b is = refl
+  or_right false b is = is
+
+  -- What one slot did: its operation was answered.
+  pub sound_behind : (slot : ℕ) (site : SiteId) (o : Op) (f : Fed) (q : Quiescing) (look : Option LineAt) (old new : ClientView R)
+      → IsSoundClient stands old → IsSoundSession stands new.session → LeavesSlots slot old new → length new.slots ≡ 65 → IsTelling new.release
+      → CountsAll (comings_of q look site o f) old.locks new.locks → IsAtRest site o old
+      → (held_in slot new.session.slots ≡ None → state_in slot new.slots ≡ blank)
+      → IsWellOnWay stands slot (state_in slot new.slots).way new.session new.locks
+      → ((there : SiteId) (image : ℕ) → any_past (lines_of new.session.lines there image) ≡ true → (any_past (lines_of old.session.lines there image) ≡ true) ⊎ IsOwned there image new.locks)
+      → IsSoundClient stands new
+  sound_behind slot site o f q look old new sound session leaves slots telling counts rest free way_there past = record {
+    session = session;
+    slots = slots;
+    free = free_at;
+    ways = way_at;
+    telling = telling;
+    owns = λ there image is. owns_at there image (past there image is);
+  }
+    where
+      kept : (there : SiteId) (image : ℕ) → relies old there image ≡ true → IsOwned there image old.locks → IsOwned there image new.locks
+      kept there image relied owned = keeps_owned q look site o f old.locks new.locks counts there image (not_dropped old site o there image rest relied) owned
+
+      owns_at : (there : SiteId) (image : ℕ) → (any_past (lines_of old.session.lines there image) ≡ true) ⊎ IsOwned there image new.locks → IsOwned there image new.locks
+      owns_at there image (inl was) = kept there image (or_left (any_past (lines_of old.session.lines there image)) (any_taken there image old.slots) was) (sound.owns there image was)
+      owns_at there image (inr owned) = owned
+
+      free_at : (k : ℕ) → held_in k new.session.slots ≡ None → state_in k new.slots ≡ blank
+      free_at k none = go (cases_eq k slot)
+        where
+          go : (k ≡ slot) ⊎ (k ≢ slot) → state_in k new.slots ≡ blank
+          go (inl same) = ap (λ n. state_in n new.slots) same ∙ free (sym (ap (λ n. held_in n new.session.slots) same) ∙ none)
+          go (inr differ) = leaves.states k differ ∙ sound.free k (sym (leaves.held k differ) ∙ none)
+
+      way_at : (k : ℕ) → IsWellOnWay stands k (state_in k new.slots).way new.session new.locks
+      way_at k = go (cases_eq k slot)
+        where
+          go : (k ≡ slot) ⊎ (k ≢ slot) → IsWellOnWay stands k (state_in k new.slots).way new.session new.locks
+          go (inl same) = subst (λ n. IsWellOnWay stands n (state_in n new.slots).way new.session new.locks) (sym same) way_there
+          go (inr differ) =
+              subst (λ (s : SlotState). IsWellOnWay stands k s.way new.session new.locks) (sym (leaves.states k differ))
+              (way_kept k (state_in k old.slots).way old.session new.session old.locks new.locks
+              (waits_kept k slot differ old.session new.session (leaves.held k differ) leaves.lines)
+              (λ p is. kept p.site p.image (or_right (any_past (lines_of old.session.lines p.site p.image)) (any_taken p.site p.image old.slots) (taken_at k old.slots p is)))
+              (sound.ways k))

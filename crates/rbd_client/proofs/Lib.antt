@@ -1,0 +1,11 @@
+pub mod Past
+pub mod Owning
+pub mod Kept
+pub mod Looks
+pub mod Ways
+pub mod Alike
+pub mod Requests
+pub mod OnWay
+pub mod Calls
+pub mod Wanted
+pub mod Follows

@@ -1,0 +1,127 @@
+-- What an answer leaves of the locks that count as owned.
+use Rattle.std.proofs.Common.{◌≡◌, ℕ, zero, suc, Bool, true, false, cond, not, ◌&&◌, ◌||◌, List, [], ◌∷◌, Option, Some, None, refl, sym, ap, ◌∙◌, true≢false}
+use Rattle.rbd_client.specs.declared.slot_state.Quiescing.{Quiescing}
+use Rattle.rbd_client.specs.declared.slot_state.Quiescing.TheVariants as quiescing
+use Rattle.rbd_client.specs.declared.slot_state.SlotState.{SlotState}
+use Rattle.rbd_client.specs.declared.slot_state.Way.{Way}
+use Rattle.rbd_client.specs.declared.slot_state.Way.TheVariants as way
+use Rattle.rbd_client.specs.Actor.{any_taken, has_taken, is_at_rest}
+use Rattle.rbd_client.specs.Client.{ClientView, state_in}
+use Rattle.rbd_client.specs.Feeding.{comings_of, quiesced_by, resumes, CountsAll, IsAtRest}
+use Rattle.rbd_client.specs.Sound.{IsOwned}
+use Rattle.rbd_kinds.specs.declared.answer.Answer.{Answer}
+use Rattle.rbd_kinds.specs.declared.answer.Answer.TheVariants as answer
+use Rattle.rbd_kinds.specs.declared.directory_op.DirectoryOp.TheVariants as directory
+use Rattle.rbd_kinds.specs.declared.header_op.HeaderOp.{HeaderOp}
+use Rattle.rbd_kinds.specs.declared.header_op.HeaderOp.TheVariants as header
+use Rattle.rbd_kinds.specs.declared.id.SiteId.{SiteId}
+use Rattle.rbd_kinds.specs.declared.machine.Fed.{Fed}
+use Rattle.rbd_kinds.specs.declared.machine.Fed.TheVariants as fed
+use Rattle.rbd_kinds.specs.declared.operation.Op.{Op}
+use Rattle.rbd_kinds.specs.declared.operation.Op.TheVariants as op
+use Rattle.rbd_line.specs.Line.{any_past}
+use Rattle.rbd_locks.specs.declared.image_at.ImageAt.{ImageAt}
+use Rattle.rbd_locks.specs.declared.lock_state.LockState.{LockState}
+use Rattle.rbd_locks.specs.Comings.{after_all}
+use Rattle.rbd_locks.specs.Locks.{LocksView, counted, state_at}
+use Rattle.rbd_locks.specs.Places.{is_same}
+use Rattle.rbd_locks.specs.States.{answered, quieted, resumed}
+use Rattle.rbd_locks.proofs.Keys.{where_same}
+use Rattle.rbd_locks.proofs.Lasting.{same_itself}
+use Rattle.rbd_session.specs.declared.image_at.ImageAt.{ImageAt as LineAt}
+use Rattle.rbd_session.specs.Lines.{lines_of}
+
+-- ---- one image
+
+abbrev pub is_drop : HeaderOp → Bool
+is_drop header.LockDrop = true
+is_drop o = false
+
+-- an operation drops the lock of an image
+abbrev pub drops : SiteId → Op → SiteId → (image : ℕ) → Bool
+drops site (op.Header on o) there image = is_drop o && is_same site on there image
+drops site o there image = false
+
+owned_answered : (o : HeaderOp) (a : Answer) (s : LockState) → is_drop o ≡ false → s.owned ≡ true → (answered o a s).owned ≡ true
+owned_answered header.LockTake answer.Done s stays owned = refl
+owned_answered header.LockDrop a s stays owned = absurd (true≢false stays)
+owned_answered header.Watch answer.Done s stays owned = owned
+owned_answered header.Unwatch a s stays owned = owned
+owned_answered o a s stays owned = owned
+
+owned_counted : (site : SiteId) (o : Op) (a : Answer) (there : SiteId) (image : ℕ) (s : LockState) → drops site o there image ≡ false → s.owned ≡ true
+    → (counted site o a there image s).owned ≡ true
+owned_counted site (op.Header on o) a there image s stays owned = go (is_same site on there image) refl
+  where
+    and_true : (b : Bool) → (b && true) ≡ false → b ≡ false
+    and_true true is = is
+    and_true false is = refl
+
+    go : (b : Bool) → is_same site on there image ≡ b → (cond b (answered o a s) s).owned ≡ true
+    go true same = owned_answered o a s (and_true (is_drop o) (ap (λ b. is_drop o && b) (sym same) ∙ stays)) owned
+    go false other = owned
+owned_counted site o a there image s stays owned = owned
+
+owned_by : (b : Bool) (change : LockState → LockState) (s : LockState) → (change s).owned ≡ s.owned → s.owned ≡ true → (cond b (change s) s).owned ≡ true
+owned_by true change s same owned = same ∙ owned
+owned_by false change s same owned = owned
+
+owned_resumed : (site : SiteId) (o : Op) (i : ℕ) (there : SiteId) (image : ℕ) (s : LockState) → s.owned ≡ true → (after_all (resumes site o i) there image s).owned ≡ true
+owned_resumed site (op.Directory (directory.Find name)) i there image s owned = owned_by (is_same site i there image) resumed s refl owned
+owned_resumed site o i there image s owned = owned
+
+owned_quiesced : (q : Quiescing) (look : Option LineAt) (site : SiteId) (o : Op) (a : Answer) (there : SiteId) (image : ℕ) (s : LockState) → s.owned ≡ true
+    → (after_all (quiesced_by q look site o a) there image s).owned ≡ true
+owned_quiesced quiescing.Begins None site o (answer.Header h) there image s owned = owned
+owned_quiesced quiescing.Begins (Some p) site o (answer.Header h) there image s owned = owned_by (is_same p.site p.image there image) quieted s refl owned
+owned_quiesced quiescing.Ends look site o (answer.Id i) there image s owned = owned_resumed site o i there image s owned
+owned_quiesced q look site o a there image s owned = owned
+
+pub owned_behind : (q : Quiescing) (look : Option LineAt) (site : SiteId) (o : Op) (f : Fed) (there : SiteId) (image : ℕ) (s : LockState) → drops site o there image ≡ false
+    → s.owned ≡ true → (after_all (comings_of q look site o f) there image s).owned ≡ true
+owned_behind q look site o (fed.Answer a) there image s stays owned =
+    owned_quiesced q look site o a there image (counted site o a there image s) (owned_counted site o a there image s stays owned)
+owned_behind q look site o fed.Passed there image s stays owned = owned
+
+pub keeps_owned : (q : Quiescing) (look : Option LineAt) (site : SiteId) (o : Op) (f : Fed) (old new : LocksView) → CountsAll (comings_of q look site o f) old new
+    → (there : SiteId) (image : ℕ) → drops site o there image ≡ false → IsOwned there image old → IsOwned there image new
+keeps_owned q look site o f old new counts there image stays owned =
+    ap (λ (s : LockState). s.owned) (counts there image) ∙ owned_behind q look site o f there image (state_at there image old) stays owned
+
+-- ---- a lock on which somebody relies isn't dropped
+
+pub taken_at : (slot : ℕ) (slots : List SlotState) (p : ImageAt) → (state_in slot slots).way ≡ way.Taken p → any_taken p.site p.image slots ≡ true
+taken_at slot [] p is = absurd (true≢false (sym (ap is_taken is)))
+  where
+    is_taken : Way → Bool
+    is_taken (way.Taken q) = true
+    is_taken w = false
+taken_at zero (s ∷ slots) p is =
+    ap (λ b. b || any_taken p.site p.image slots) (ap (has_taken p.site p.image) is ∙ same_itself p.site p.image)
+taken_at (suc slot) (s ∷ slots) p is = or_true (has_taken p.site p.image s.way) (taken_at slot slots p is)
+  where
+    or_true : (b : Bool) → any_taken p.site p.image slots ≡ true → (b || any_taken p.site p.image slots) ≡ true
+    or_true true is = refl
+    or_true false is = is
+
+module _ {R : Type 0} (c : ClientView R) where
+  -- somebody relies on the lock of an image
+  abbrev pub relies : SiteId → (image : ℕ) → Bool
+  relies site image = any_past (lines_of c.session.lines site image) || any_taken site image c.slots
+
+  rests : (site : SiteId) (image : ℕ) → is_at_rest site image c ≡ true → relies site image ≡ false
+  rests site image is = go (any_past (lines_of c.session.lines site image)) (any_taken site image c.slots) is
+    where
+      go : (a b : Bool) → (not a && not b) ≡ true → (a || b) ≡ false
+      go true b is = absurd (true≢false (sym is))
+      go false true is = absurd (true≢false (sym is))
+      go false false is = refl
+
+  pub not_dropped : (site : SiteId) (o : Op) (there : SiteId) (image : ℕ) → IsAtRest site o c → relies there image ≡ true → drops site o there image ≡ false
+  not_dropped site (op.Header on header.LockDrop) there image rest relied = go (is_same site on there image) refl
+    where
+      go : (b : Bool) → is_same site on there image ≡ b → b ≡ false
+      go true same = absurd (true≢false (sym relied ∙ where_same (λ s i. relies s i ≡ false) site on there image same (rests site on rest)))
+      go false other = refl
+  not_dropped site (op.Header on o) there image rest relied = refl
+  not_dropped site o there image rest relied = refl

@@ -1,0 +1,22 @@
+use Rattle.std.proofs.Common.{sym, ap, ◌∙◌}
+use Rattle.rbd_kinds.specs.declared.machine.Want.{Want}
+use Rattle.rbd_kinds.specs.declared.machine.Want.TheVariants as want
+use Rattle.rbd_kinds.specs.declared.id.SiteId.{SiteId}
+use Rattle.rbd_kinds.specs.declared.operation_kind.OpKind.{OpKind}
+use Rattle.rbd_kinds.specs.OperationKind.{kind_of}
+use Rattle.rbd_machine.specs.Plan.{Return}
+use Rattle.rbd_kinds.specs.declared.reply.Reply.TheVariants as reply
+use Rattle.rbd_owner.specs.Acquire.{op_of}
+use Rattle.rbd_client.proofs.Ways.{wants_its_operation}
+use Rattle.rbd_client.proofs.actor.way_kind.Goals as goal
+
+abbrev of_want : SiteId × OpKind → Want → SiteId × OpKind
+of_want other (want.Op site kind) = (site, kind)
+of_want other w = other
+
+pub unreachable-requires : goal.unreachable-requires
+unreachable-requires c = c.in_default.not-Op c.args.way.now.site (kind_of (op_of c.args.way.now)) (wants_its_operation c.args.way.now (Return reply.Done) c.wants.result (c.wants.ensures (Return reply.Done)))
+
+pub returns : goal.returns
+returns c =
+    ap (of_want (c.in-Op.site, c.in-Op.kind)) (sym c.in-Op.is ∙ wants_its_operation c.args.way.now (Return reply.Done) c.wants.result (c.wants.ensures (Return reply.Done)))

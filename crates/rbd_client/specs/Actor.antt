@@ -1,0 +1,102 @@
+-- Who acts where a slot is polled: nobody, the request in it, the request's way to the lock of its
+-- image, or, at slot 0, the release of a lock.
+use Rattle.std.specs.Prelude.{ℕ, ◌==◌, ◌&&◌, ◌||◌, not, Bool, false, if◌then◌else◌, List, Option, Some, None}
+use Rattle.std.specs.List.{find, list_any}
+use Rattle.rbd_client.specs.declared.actor.Actor.{Actor}
+use Rattle.rbd_client.specs.declared.actor.Actor.TheVariants as actor
+use Rattle.rbd_client.specs.declared.slot_state.SlotState.{SlotState}
+use Rattle.rbd_client.specs.declared.slot_state.Way.{Way}
+use Rattle.rbd_client.specs.declared.slot_state.Way.TheVariants as way
+use Rattle.rbd_client.specs.Client.{ClientView, state_in}
+use Rattle.rbd_kinds.specs.declared.id.SiteId.{SiteId}
+use Rattle.rbd_kinds.specs.declared.operation.Op.{Op}
+use Rattle.rbd_kinds.specs.declared.operation_kind.OpKind.{OpKind}
+use Rattle.rbd_kinds.specs.OperationKind.{kind_of}
+use Rattle.rbd_line.specs.Line.{any_past}
+use Rattle.rbd_locks.specs.declared.image_at.ImageAt.{ImageAt}
+use Rattle.rbd_locks.specs.declared.lock_state.LockState.{LockState}
+use Rattle.rbd_locks.specs.Locks.{LocksView, state_at}
+use Rattle.rbd_locks.specs.Places.{is_same}
+use Rattle.rbd_machine.specs.Plan.{Standing}
+use Rattle.rbd_owner.specs.Acquire.{begun, op_of}
+use Rattle.rbd_owner.specs.declared.release.Release.{Release}
+use Rattle.rbd_owner.specs.Release.{begun_release, release_op}
+use Rattle.rbd_session.specs.declared.image_at.ImageAt.{ImageAt as LineAt}
+use Rattle.rbd_session.specs.Lines.{lines_of}
+use Rattle.rbd_session.specs.Session.{SessionView, kind_at, op_at, own_look_at}
+
+-- ---- a request at its own look
+
+-- It goes on where the lock is the session's, and else by the way to it. A quiesce holds it back,
+-- and so does another one that wants the lock.
+abbrev pub actor_by : LockState → SiteId → (image : ℕ) → Actor
+actor_by s site image =
+    if s.quiesced || s.asked then actor.Nobody
+    else if s.owned then actor.Request else actor.Way (begun site image s.watched)
+
+abbrev pub actor_at_look : Option LineAt → LocksView → Actor
+actor_at_look None locks = actor.Request
+actor_at_look (Some p) locks = actor_by (state_at p.site p.image locks) p.site p.image
+
+-- One that is on its way goes on there, and one that has taken the lock itself isn't held back any
+-- more.
+abbrev pub actor_on : Way → Option LineAt → LocksView → Actor
+actor_on way.Unbegun look locks = actor_at_look look locks
+actor_on (way.On a) look locks = actor.Way a
+actor_on (way.Taken p) look locks = actor.Request
+
+-- ---- a release
+
+abbrev pub has_taken : SiteId → (image : ℕ) → Way → Bool
+has_taken site image (way.Taken p) = is_same site image p.site p.image
+has_taken site image w = false
+
+abbrev pub any_taken : SiteId → (image : ℕ) → List SlotState → Bool
+any_taken site image slots = list_any (λ (s : SlotState). has_taken site image s.way) slots
+
+-- a release that has begun goes on
+abbrev pub releasing : Option Release → (due : Option ImageAt) → Actor
+releasing (Some r) due = actor.Release r
+releasing None (Some p) = actor.Release (begun_release p.site p.image)
+releasing None None = actor.Nobody
+
+module _ {R : Type 0} where
+  -- no request of the image is past own, or has taken the lock itself
+  abbrev pub is_at_rest : SiteId → (image : ℕ) → ClientView R → Bool
+  is_at_rest site image c = not (any_past (lines_of c.session.lines site image)) && not (any_taken site image c.slots)
+
+  abbrev pub may_release : ClientView R → ImageAt → Bool
+  may_release c p = not (state_at p.site p.image c.locks).quiesced && is_at_rest p.site p.image c
+
+  -- of the images that were asked for, in order, the first whose lock may be let go
+  abbrev pub due_release : ClientView R → Option ImageAt
+  due_release c = find (may_release c) c.locks.asked
+
+  -- ---- at a slot
+
+  abbrev pub actor_at : (stands : R → Standing) → (slot : ℕ) → ClientView R → Actor
+  actor_at stands slot c =
+      if slot == 0 then releasing c.release (due_release c)
+      else actor_on (state_in slot c.slots).way (own_look_at stands slot c.session) c.locks
+
+  -- ---- what it wants
+
+  abbrev pub kind_by : (stands : R → Standing) → (slot : ℕ) → SessionView R → Actor → Option (SiteId × OpKind)
+  kind_by stands slot s actor.Nobody = None
+  kind_by stands slot s actor.Request = kind_at stands slot s
+  kind_by stands slot s (actor.Way a) = Some (a.site, kind_of (op_of a))
+  kind_by stands slot s (actor.Release r) = Some (r.site, kind_of (release_op r))
+
+  abbrev pub op_by : (stands : R → Standing) → (slot : ℕ) → SessionView R → Actor → Option (SiteId × Op)
+  op_by stands slot s actor.Nobody = None
+  op_by stands slot s actor.Request = op_at stands slot s
+  op_by stands slot s (actor.Way a) = Some (a.site, op_of a)
+  op_by stands slot s (actor.Release r) = Some (r.site, release_op r)
+
+  -- None where the slot is free, waits, or holds a request that is refused before any operation, and
+  -- nowhere else. Slot 0 waits where nothing is to be let go.
+  abbrev pub kind_wanted : (stands : R → Standing) → (slot : ℕ) → ClientView R → Option (SiteId × OpKind)
+  kind_wanted stands slot c = kind_by stands slot c.session (actor_at stands slot c)
+
+  abbrev pub op_wanted : (stands : R → Standing) → (slot : ℕ) → ClientView R → Option (SiteId × Op)
+  op_wanted stands slot c = op_by stands slot c.session (actor_at stands slot c)

@@ -1,0 +1,40 @@
+-- What contracts see of a client.
+use Rattle.std.specs.Prelude.{ℕ, List, [], ◌∷◌, ◌++◌, Option, slice_index_or}
+use Rattle.rbd_client.specs.declared.slot_state.Quiescing.{Quiescing}
+use Rattle.rbd_client.specs.declared.slot_state.Quiescing.TheVariants as quiescing
+use Rattle.rbd_client.specs.declared.slot_state.SlotState.{SlotState}
+use Rattle.rbd_client.specs.declared.slot_state.Way.TheVariants as way
+use Rattle.rbd_kinds.specs.declared.notice.Notice.{Notice}
+use Rattle.rbd_kinds.specs.declared.notice.NoticeKind.{NoticeKind}
+use Rattle.rbd_kinds.specs.declared.notice.NoticeKind.TheVariants as notice
+use Rattle.rbd_locks.specs.Locks.{LocksView}
+use Rattle.rbd_owner.specs.declared.release.Release.{Release}
+use Rattle.rbd_session.specs.Session.{SessionView}
+
+-- its session, what it counts of the locks, what it keeps of each slot beside its session, the
+-- release that it is in the middle of, and what it was told by others
+pub record ClientView (R : Type 0) : Type 0 where
+  pub session : SessionView R
+  pub locks : LocksView
+  pub slots : List SlotState
+  pub release : Option Release
+  pub heard : List Notice
+
+-- of each request at first, by what it does to a quiesce of its image
+abbrev pub newcomer : Quiescing → SlotState
+newcomer q = record { way = way.Unbegun; quiescing = q }
+
+-- of a slot that is free
+abbrev pub blank : SlotState
+blank = newcomer quiescing.Leaves
+
+abbrev pub state_in : (slot : ℕ) → List SlotState → SlotState
+state_in slot slots = slice_index_or slots slot blank
+
+-- what it was told is kept, and nothing else
+abbrev pub kept_of : NoticeKind → Notice → List Notice
+kept_of (notice.Custom bytes) n = n ∷ []
+kept_of kind n = []
+
+abbrev pub heard_with : Notice → List Notice → List Notice
+heard_with n heard = heard ++ kept_of n.kind n

@@ -1,0 +1,5 @@
+pub mod Client
+pub mod Actor
+pub mod Feeding
+pub mod Sound
+pub mod Laws

@@ -1,0 +1,49 @@
+-- What holds of each client.
+use Rattle.std.specs.Prelude.{◌≡◌, ℕ, true, Option, Some, None, length, IsTrue}
+use Rattle.rbd_client.specs.declared.slot_state.Way.{Way}
+use Rattle.rbd_client.specs.declared.slot_state.Way.TheVariants as way
+use Rattle.rbd_client.specs.Client.{ClientView, blank, state_in}
+use Rattle.rbd_course.specs.declared.stage.Stage.TheVariants as stage
+use Rattle.rbd_kinds.specs.declared.id.SiteId.{SiteId}
+use Rattle.rbd_line.specs.Line.{Member, any_past, member_of}
+use Rattle.rbd_locks.specs.Locks.{LocksView, state_at}
+use Rattle.rbd_machine.specs.Plan.{Standing}
+use Rattle.rbd_owner.specs.declared.release.Release.{Release}
+use Rattle.rbd_owner.specs.declared.release.Stage.TheVariants as releasing
+use Rattle.rbd_session.specs.declared.running.Running.{Running}
+use Rattle.rbd_session.specs.Lines.{lines_of}
+use Rattle.rbd_session.specs.Session.{SessionView, IsSoundSession, held_in, is_look_at, kind_asked, running_at}
+
+-- the request in a slot waits for its own look, in the line of an image, and wants that look
+pub record WaitsForLook {R : Type 0} (stands : R → Standing) (slot : ℕ) (site : SiteId) (image : ℕ) (s : SessionView R) : Type 0 where
+  pub request : Running R
+  pub runs : running_at slot s ≡ Some request
+  pub place : request.place ≡ Some (record { site = site; image = image })
+  pub wants : is_look_at site (kind_asked (stands request.request).plan) ≡ true
+  pub member : Member
+  pub found : member_of slot (lines_of s.lines site image) ≡ Some member
+  pub waits : member.stage ≡ stage.Waiting
+
+abbrev pub IsOwned : SiteId → (image : ℕ) → LocksView → Type 0
+IsOwned site image locks = IsTrue (state_at site image locks).owned
+
+-- A way is that of a request which waits for its own look, to the lock of its image; and one that has
+-- taken the lock has it.
+abbrev pub IsWellOnWay : {R : Type 0} → (stands : R → Standing) → (slot : ℕ) → Way → SessionView R → LocksView → Type 0
+IsWellOnWay stands slot way.Unbegun s locks = Unit {0}
+IsWellOnWay stands slot (way.On a) s locks = WaitsForLook stands slot a.site a.image s
+IsWellOnWay stands slot (way.Taken p) s locks = WaitsForLook stands slot p.site p.image s × IsOwned p.site p.image locks
+
+-- its lock is dropped already
+abbrev pub IsTelling : Option Release → Type 0
+IsTelling None = Unit {0}
+IsTelling (Some r) = r.stage ≡ releasing.Telling
+
+-- No request of an image is past own but where the lock counts as the session's.
+pub record IsSoundClient {R : Type 0} (stands : R → Standing) (c : ClientView R) : Type 0 where
+  pub session : IsSoundSession stands c.session
+  pub slots : length c.slots ≡ 65
+  pub free : (slot : ℕ) → held_in slot c.session.slots ≡ None → state_in slot c.slots ≡ blank
+  pub ways : (slot : ℕ) → IsWellOnWay stands slot (state_in slot c.slots).way c.session c.locks
+  pub telling : IsTelling c.release
+  pub owns : (site : SiteId) (image : ℕ) → IsTrue (any_past (lines_of c.session.lines site image)) → IsOwned site image c.locks

@@ -1,0 +1,114 @@
+//! Who acts where a slot is polled.
+ghost use Rattle.std.specs.Prelude.{◌≡◌};
+ghost use Rattle.rbd_kinds.specs.OperationKind.{kind_of};
+ghost use Rattle.rbd_owner.specs.Acquire.{op_of};
+ghost use Rattle.rbd_owner.specs.Release.{release_op};
+ghost use Rattle.rbd_client.specs.Actor.{actor_at_look, actor_by, actor_on, releasing};
+
+use crate::slot_state::Way;
+use rbd_kinds::{OpKind, SiteId, Want};
+use rbd_locks::{ImageAt, LockState, Locks};
+use rbd_machine::Machine;
+use rbd_owner::{Acquire, Release};
+use rbd_session::ImageAt as LineAt;
+
+/// Who acts where a slot is polled.
+#[derive(Clone, Copy, Debug)]
+pub enum Actor {
+    /// The slot is free, or what it holds waits.
+    Nobody,
+    /// The request in the slot, where its session lets it go on.
+    Request,
+    /// The request's way to the lock of its image.
+    Way(Acquire),
+    /// The release of a lock, at slot 0.
+    Release(Release),
+}
+
+/// The image of a line, as one whose lock is counted.
+pub fn lock_of(line: &LineAt) -> ImageAt
+    ensures site { result.site ≡ line.now.site }
+    ensures image { result.image ≡ line.now.image }
+{
+    ImageAt {
+        site: line.site,
+        image: line.image,
+    }
+}
+
+/// Who acts for a request at its own look, by what is counted of the image's lock.
+fn at_look(state: &LockState, at: &ImageAt) -> Actor
+    ensures { result ≡ actor_by state.now at.now.site at.now.image }
+{
+    if state.quiesced || state.asked {
+        return Actor::Nobody;
+    }
+    if state.owned {
+        return Actor::Request;
+    }
+    Actor::Way(Acquire::new(at.site, at.image, state.watched))
+}
+
+/// Who acts for a request that has begun no way: at its own look the lock decides.
+fn before_way(look: Option<LineAt>, locks: &Locks) -> Actor
+    ensures { result ≡ actor_at_look look locks.now }
+{
+    let Some(line) = look else {
+        return Actor::Request;
+    };
+    let at = lock_of(&line);
+    at_look(&locks.state(&at), &at)
+}
+
+/// Who acts for the request in a slot.
+pub fn for_request(way: Way, look: Option<LineAt>, locks: &Locks) -> Actor
+    ensures { result ≡ actor_on way look locks.now }
+{
+    match way {
+        Way::Unbegun => before_way(look, locks),
+        Way::On(acquire) => Actor::Way(acquire),
+        Way::Taken(_) => Actor::Request,
+    }
+}
+
+/// Who acts at slot 0: a release that has begun, or one that is due.
+pub fn for_release(begun: Option<Release>, due: Option<ImageAt>) -> Actor
+    ensures { result ≡ releasing begun due }
+{
+    match (begun, due) {
+        (Some(release), _) => Actor::Release(release),
+        (None, Some(at)) => Actor::Release(Release::new(at.site, at.image)),
+        (None, None) => Actor::Nobody,
+    }
+}
+
+/// The image of a lock, as one of a line.
+pub fn line_of(at: &ImageAt) -> LineAt
+    ensures site { result.site ≡ at.now.site }
+    ensures image { result.image ≡ at.now.image }
+{
+    LineAt {
+        site: at.site,
+        image: at.image,
+    }
+}
+
+/// The site and the kind of the operation that a way wants.
+pub fn way_kind(way: &Acquire) -> (SiteId, OpKind)
+    ensures { result ≡ (way.now.site, kind_of (op_of way.now)) }
+{
+    match way.wants() {
+        Want::Op { site, kind } => (site, kind),
+        _ => unreachable!(),
+    }
+}
+
+/// The site and the kind of the operation that a release wants.
+pub fn release_kind(release: &Release) -> (SiteId, OpKind)
+    ensures { result ≡ (release.now.site, kind_of (release_op release.now)) }
+{
+    match release.wants() {
+        Want::Op { site, kind } => (site, kind),
+        _ => unreachable!(),
+    }
+}

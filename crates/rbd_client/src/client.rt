@@ -1,0 +1,356 @@
+//! A client and its calls.
+ghost use Rattle.std.specs.Prelude.{◌≡◌, ◌≢◌, ℕ, ◌≤◌, [], ◌∷◌, ◌++◌, None, Some, IsSome, IsNone, IfOk, OnErr, OnOk};
+ghost use Rattle.rbd_client.specs.declared.actor.Actor.TheVariants as actor;
+ghost use Rattle.rbd_client.specs.Actor.{actor_at, due_release, is_at_rest, kind_wanted, may_release, op_wanted};
+ghost use Rattle.rbd_client.specs.Client.{heard_with, newcomer, state_in};
+ghost use Rattle.rbd_client.specs.Feeding.{CanGet, DropsAtRest, IsClientAlike, IsFedBy, IsReadiedFor};
+ghost use Rattle.rbd_client.specs.Sound.{IsSoundClient};
+ghost use Rattle.rbd_kinds.specs.declared.id.SiteId.{SiteId as Site};
+ghost use Rattle.rbd_locks.specs.Locks.{heard as counted_heard, state_at};
+ghost use Rattle.rbd_locks.specs.States.{blank as unknown};
+ghost use Rattle.rbd_session.specs.Lines.{lines_of};
+ghost use Rattle.rbd_session.specs.OnTrack.{LeavesOthers};
+ghost use Rattle.rbd_session.specs.Session.{free_slot, held_in, op_at, refusal_in, reply_of, script_line, IsNewcomer};
+
+use crate::actor::{Actor, for_release, for_request, line_of, release_kind, way_kind};
+use crate::counting::count;
+use crate::going::{go_on, let_go, settle};
+use crate::slot_state::{Quiescing, SlotState, Way};
+use crate::slots::{blank_slots, is_any_taken, set_state, state_of};
+use rbd_course::Request;
+use rbd_kinds::{
+    Fed, Instance, NoMemory, Notice, NoticeKind, Op, OpKind, Reply, SiteId, Slot, TryClone,
+};
+use rbd_locks::{ImageAt, Locks};
+use rbd_owner::{Acquire, Release};
+use rbd_session::Session;
+use std::alloc::Global;
+use std::marker::Model;
+
+/// One client: its requests, each in a slot, and the locks of the images that they change.
+#[derive(Debug, Drop)]
+pub struct Client<R: Request> {
+    session: Session<R>,
+    locks: Locks,
+    slots: Vec<SlotState>,
+    /// The release that it is in the middle of: its lock is dropped, and nobody is told yet.
+    release: Option<Release>,
+    heard: Vec<Notice>,
+}
+
+impl<R: Request> Model for Client<R> {
+    ghost use Rattle.rbd_client.specs.Client.{ClientView};
+    ghost use Rattle.rbd_client.specs.Sound.{IsSoundClient};
+
+    ghost Value = { ClientView R };
+
+    ghost view = { λ c. record { session = c.session; locks = c.locks; slots = c.slots.items; release = c.release; heard = c.heard.items } };
+
+    ghost invariant = { λ c. IsSoundClient R.stands (record { session = c.session; locks = c.locks; slots = c.slots.items; release = c.release; heard = c.heard.items }) };
+}
+
+impl<R: Request> Client<R> {
+    /// A life of a client at its home site, without requests. Nothing is known of any lock.
+    pub fn new(alloc: Global, instance: Instance, home: SiteId) -> Result<Self, NoMemory>
+        ensures who { IfOk result (λ c. (c.session.instance ≡ instance) × (c.session.home ≡ home)) }
+        ensures slots { IfOk result (λ c. (slot : ℕ) → held_in slot c.session.slots ≡ None) }
+        ensures lines { IfOk result (λ c. (site : Site) (image : ℕ) → lines_of c.session.lines site image ≡ []) }
+        ensures locks { IfOk result (λ c. (site : Site) (image : ℕ) → state_at site image c.locks ≡ unknown) }
+        ensures heard { IfOk result (λ c. c.heard ≡ []) }
+        ensures sound { IfOk result (IsSoundClient R.stands) }
+    {
+        let session = Session::new(alloc, instance, home)?;
+        let slots = blank_slots(alloc)?;
+        Ok(Client {
+            session,
+            locks: Locks::new(alloc),
+            slots,
+            release: None,
+            heard: Vec::new(alloc),
+        })
+    }
+
+    pub fn instance(&self) -> Instance
+        ensures { result ≡ self.now.session.instance }
+    {
+        self.session.instance()
+    }
+
+    /// The site at which the client is.
+    pub fn home(&self) -> SiteId
+        ensures { result ≡ self.now.session.home }
+    {
+        self.session.home()
+    }
+
+    /// The lowest free slot: `None` exactly where 64 are held. It takes no memory.
+    pub fn free(&self) -> Option<Slot>
+        ensures free { result ≡ free_slot self.now.session.lowest }
+        ensures sound { IsSoundClient R.stands self.now }
+    {
+        self.session.free()
+    }
+
+    /// A request takes the lowest free slot: that of the command in a line of the script, or
+    /// another's. Refused memory, nothing changes.
+    pub fn submit(
+        &mut self,
+        alloc: Global,
+        line: u32,
+        work: R::Work,
+        quiescing: Quiescing,
+    ) -> Result<Slot, NoMemory>
+        requires free { self.old.session.lowest ≤ 64 }
+        requires serves { R.serves work }
+        ensures slot { IfOk result (λ slot. slot ≡ self.old.session.lowest) }
+        ensures held { OnOk result (IsNewcomer R.stands R.stands_for R.extent_for self.old.session.home line work (held_in self.old.session.lowest self.new.session.slots)) }
+        ensures state { OnOk result (state_in self.old.session.lowest self.new.slots ≡ newcomer quiescing) }
+        ensures others { (slot : ℕ) → slot ≢ self.old.session.lowest → (held_in slot self.new.session.slots ≡ held_in slot self.old.session.slots) × (state_in slot self.new.slots ≡ state_in slot self.old.slots) }
+        ensures lines { self.new.session.lines ≡ self.old.session.lines }
+        ensures rest { (self.new.session.instance ≡ self.old.session.instance) × (self.new.session.home ≡ self.old.session.home) × (self.new.locks ≡ self.old.locks) × (self.new.release ≡ self.old.release) × (self.new.heard ≡ self.old.heard) }
+        ensures err { OnErr result (self.new ≡ self.old) }
+        ensures sound { IsSoundClient R.stands self.new }
+    {
+        let slot = self.session.submit(alloc, line, work)?;
+        let state = SlotState {
+            way: Way::Unbegun,
+            quiescing,
+        };
+        set_state(&mut self.slots, slot, state);
+        Ok(slot)
+    }
+
+    /// The script's line of the request in a slot: `None` exactly where the slot is free. It takes
+    /// no memory.
+    pub fn line(&self, slot: Slot) -> Option<u32>
+        ensures line { result ≡ script_line (held_in slot self.now.session.slots) }
+        ensures sound { IsSoundClient R.stands self.now }
+    {
+        self.session.line(slot)
+    }
+
+    /// Serves a request that is refused before any operation: its reply, and the slot is free.
+    /// `None` exactly where the slot holds no such request; then nothing changes. It takes no
+    /// memory.
+    pub fn refuse(&mut self, slot: Slot) -> Option<Reply>
+        ensures reply { result ≡ reply_of (refusal_in (held_in slot self.old.session.slots)) }
+        ensures none { IsNone result → self.new ≡ self.old }
+        ensures some { IsSome result → held_in slot self.new.session.slots ≡ None }
+        ensures others { (other : ℕ) → other ≢ slot → (held_in other self.new.session.slots ≡ held_in other self.old.session.slots) × (state_in other self.new.slots ≡ state_in other self.old.slots) }
+        ensures lines { self.new.session.lines ≡ self.old.session.lines }
+        ensures rest { (self.new.session.instance ≡ self.old.session.instance) × (self.new.session.home ≡ self.old.session.home) × (self.new.locks ≡ self.old.locks) × (self.new.release ≡ self.old.release) × (self.new.heard ≡ self.old.heard) }
+        ensures sound { IsSoundClient R.stands self.new }
+    {
+        let reply = self.session.refuse(slot)?;
+        set_state(&mut self.slots, slot, SlotState::blank());
+        Some(reply)
+    }
+
+    /// The site and the kind of the operation that is wanted at a slot: `None` exactly where the
+    /// slot is free, waits, or holds a request that is refused before any operation, and at slot 0
+    /// where no lock is to be let go. It takes no memory.
+    pub fn kind(&self, slot: Slot) -> Option<(SiteId, OpKind)>
+        ensures kind { result ≡ kind_wanted R.stands slot self.now }
+        ensures sound { IsSoundClient R.stands self.now }
+    {
+        match self.actor(slot) {
+            Actor::Nobody => None,
+            Actor::Request => self.session.kind(slot),
+            Actor::Way(way) => Some(way_kind(&way)),
+            Actor::Release(release) => Some(release_kind(&release)),
+        }
+    }
+
+    /// The operation that is wanted at a slot, and its site: `None` as by [`Client::kind`].
+    pub fn next(&self, alloc: Global, slot: Slot) -> Result<Option<(SiteId, Op)>, NoMemory>
+        ensures op { IfOk result (λ told. told ≡ op_wanted R.stands slot self.now) }
+        ensures sound { IsSoundClient R.stands self.now }
+    {
+        match self.actor(slot) {
+            Actor::Nobody => Ok(None),
+            Actor::Request => self.session.next(alloc, slot),
+            Actor::Way(way) => Ok(Some((way.site(), way.next()))),
+            Actor::Release(release) => Ok(Some((release.site(), release.next()))),
+        }
+    }
+
+    /// Makes everything ready for an answer to the operation that is wanted at a slot: all memory
+    /// that [`Client::feed`] needs. Nothing else changes, also where memory is refused.
+    pub fn ready(&mut self, alloc: Global, slot: Slot, fed: &Fed) -> Result<(), NoMemory>
+        requires { CanGet R.stands slot self.old.session fed.now (actor_at R.stands slot self.old) }
+        ensures alike { IsClientAlike R.stands self.old self.new }
+        ensures others { (other : ℕ) → other ≢ slot → held_in other self.new.session.slots ≡ held_in other self.old.session.slots }
+        ensures ready { OnOk result (IsReadiedFor R.stands R.is_ready slot fed.now self.new) }
+        ensures sound { IsSoundClient R.stands self.new }
+    {
+        let actor = self.actor(slot);
+        self.locks.reserve()?;
+        if let Actor::Request = actor {
+            return self.session.ready(alloc, slot, fed);
+        }
+        Ok(())
+    }
+
+    /// Feeds the answer that the slot was readied for: to the request in it, to its way to the
+    /// lock, or to the release. It goes on to its next operation, or ends. `None` exactly where no
+    /// request has ended, and else the reply of the one in the slot, which is free. It takes no
+    /// memory.
+    pub fn feed(&mut self, slot: Slot, site: SiteId, op: &Op, fed: &Fed) -> Option<Reply>
+        requires ready { IsReadiedFor R.stands R.is_ready slot fed.now self.old }
+        requires op { op_wanted R.stands slot self.old ≡ Some (site, op.now) }
+        requires rest { DropsAtRest (actor_at R.stands slot self.old) site op.now self.old }
+        ensures fed { IsFedBy R.stands slot site op.now fed.now result self.old self.new (actor_at R.stands slot self.old) }
+        ensures slots { (other : ℕ) → other ≢ slot → (held_in other self.new.session.slots ≡ held_in other self.old.session.slots) × (state_in other self.new.slots ≡ state_in other self.old.slots) }
+        ensures others { LeavesOthers slot (lines_of self.old.session.lines) (lines_of self.new.session.lines) }
+        ensures who { (self.new.session.instance ≡ self.old.session.instance) × (self.new.session.home ≡ self.old.session.home) × (self.new.heard ≡ self.old.heard) }
+        ensures sound { IsSoundClient R.stands self.new }
+    {
+        match self.actor(slot) {
+            Actor::Nobody => unreachable!(),
+            Actor::Request => self.feed_request(slot, site, op, fed),
+            Actor::Way(way) => self.feed_way(slot, way, site, op, fed),
+            Actor::Release(release) => {
+                self.feed_release(release, site, op, fed);
+                None
+            }
+        }
+    }
+
+    /// Hears a notice. Another one's wish for a lock that counts as this client's is noted, and
+    /// what it was told is kept. Nothing else changes. Refused memory, nothing does.
+    pub fn hear(&mut self, notice: &Notice) -> Result<(), NoMemory>
+        ensures ok { OnOk result ((site : Site) (image : ℕ) → state_at site image self.new.locks ≡ counted_heard notice.now site image (state_at site image self.old.locks)) }
+        ensures heard { OnOk result (self.new.heard ≡ heard_with notice.now self.old.heard) }
+        ensures rest { (self.new.session ≡ self.old.session) × (self.new.slots ≡ self.old.slots) × (self.new.release ≡ self.old.release) }
+        ensures err { OnErr result (self.new ≡ self.old) }
+        ensures sound { IsSoundClient R.stands self.new }
+    {
+        if let NoticeKind::Custom(_) = &notice.kind {
+            return keep(&mut self.heard, notice);
+        }
+        self.locks.hear(notice)
+    }
+
+    /// What other clients told this one, in the order in which it was heard: notices with bytes.
+    pub fn heard(&self) -> &[Notice]
+        ensures { result.now ≡ self.now.heard }
+    {
+        self.heard.as_slice()
+    }
+
+    /// Whether no request of an image relies on its lock: none is past own, or has taken the lock
+    /// itself. It takes no memory.
+    pub fn is_at_rest(&self, at: &ImageAt) -> bool
+        ensures rest { result ≡ is_at_rest at.now.site at.now.image self.now }
+        ensures sound { IsSoundClient R.stands self.now }
+    {
+        self.session.is_at_rest(&line_of(at)) && !is_any_taken(self.slots.as_slice(), at)
+    }
+
+    /// Who acts where a slot is polled.
+    fn actor(&self, slot: Slot) -> Actor
+        ensures actor { result ≡ actor_at R.stands slot self.now }
+        ensures sound { IsSoundClient R.stands self.now }
+    {
+        if slot.0 == 0 {
+            return for_release(self.release, self.due());
+        }
+        for_request(
+            state_of(self.slots.as_slice(), slot).way,
+            self.session.own_look(slot),
+            &self.locks,
+        )
+    }
+
+    /// Of the images that were asked for, in order, the first whose lock may be let go.
+    fn due(&self) -> Option<ImageAt>
+        ensures { result ≡ due_release self.now }
+    {
+        self.locks
+            .asked()
+            .iter()
+            .copied()
+            .find(|at| self.may_release(at))
+    }
+
+    /// Whether the lock of an image may be let go: it isn't quiesced, and no request relies on it.
+    fn may_release(&self, at: &ImageAt) -> bool
+        ensures { result ≡ may_release self.now at.now }
+    {
+        !self.locks.state(at).quiesced && self.is_at_rest(at)
+    }
+
+    fn feed_request(&mut self, slot: Slot, site: SiteId, op: &Op, fed: &Fed) -> Option<Reply>
+        requires actor { actor_at R.stands slot self.old ≡ actor.Request }
+        requires ready { IsReadiedFor R.stands R.is_ready slot fed.now self.old }
+        requires op { op_at R.stands slot self.old.session ≡ Some (site, op.now) }
+        requires rest { DropsAtRest actor.Request site op.now self.old }
+        ensures fed { IsFedBy R.stands slot site op.now fed.now result self.old self.new actor.Request }
+        ensures slots { (other : ℕ) → other ≢ slot → (held_in other self.new.session.slots ≡ held_in other self.old.session.slots) × (state_in other self.new.slots ≡ state_in other self.old.slots) }
+        ensures others { LeavesOthers slot (lines_of self.old.session.lines) (lines_of self.new.session.lines) }
+        ensures who { (self.new.session.instance ≡ self.old.session.instance) × (self.new.session.home ≡ self.old.session.home) × (self.new.heard ≡ self.old.heard) }
+        ensures sound { IsSoundClient R.stands self.new }
+    {
+        let look = self.session.own_look(slot);
+        let state = state_of(self.slots.as_slice(), slot);
+        let reply = self.session.feed(slot, fed);
+        count(&mut self.locks, state.quiescing, look, site, op, fed);
+        let state = state.behind(reply.is_some(), look.is_some());
+        set_state(&mut self.slots, slot, state);
+        reply
+    }
+
+    fn feed_way(
+        &mut self,
+        slot: Slot,
+        way: Acquire,
+        site: SiteId,
+        op: &Op,
+        fed: &Fed,
+    ) -> Option<Reply>
+        requires actor { actor_at R.stands slot self.old ≡ actor.Way way }
+        requires ready { IsReadiedFor R.stands R.is_ready slot fed.now self.old }
+        requires op { op_wanted R.stands slot self.old ≡ Some (site, op.now) }
+        ensures fed { IsFedBy R.stands slot site op.now fed.now result self.old self.new (actor.Way way) }
+        ensures slots { (other : ℕ) → other ≢ slot → (held_in other self.new.session.slots ≡ held_in other self.old.session.slots) × (state_in other self.new.slots ≡ state_in other self.old.slots) }
+        ensures others { LeavesOthers slot (lines_of self.old.session.lines) (lines_of self.new.session.lines) }
+        ensures who { (self.new.session.instance ≡ self.old.session.instance) × (self.new.session.home ≡ self.old.session.home) × (self.new.heard ≡ self.old.heard) }
+        ensures sound { IsSoundClient R.stands self.new }
+    {
+        count(&mut self.locks, Quiescing::Leaves, None, site, op, fed);
+        let (way, reply) = go_on(way, fed);
+        settle(&mut self.session, slot, reply.is_some());
+        let state = state_of(self.slots.as_slice(), slot);
+        let state = state.on_way(way, reply.is_some());
+        set_state(&mut self.slots, slot, state);
+        reply
+    }
+
+    fn feed_release(&mut self, release: Release, site: SiteId, op: &Op, fed: &Fed)
+        requires actor { actor_at R.stands 0 self.old ≡ actor.Release release }
+        requires ready { IsReadiedFor R.stands R.is_ready 0 fed.now self.old }
+        requires op { op_wanted R.stands 0 self.old ≡ Some (site, op.now) }
+        ensures fed { IsFedBy R.stands 0 site op.now fed.now None self.old self.new (actor.Release release) }
+        ensures who { self.new.heard ≡ self.old.heard }
+        ensures sound { IsSoundClient R.stands self.new }
+    {
+        count(&mut self.locks, Quiescing::Leaves, None, site, op, fed);
+        self.release = let_go(release, fed);
+    }
+}
+
+/// Keeps a notice. Refused memory, nothing changes.
+fn keep(heard: &mut Vec<Notice>, notice: &Notice) -> Result<(), NoMemory>
+    ensures ok { OnOk result (heard.new.items ≡ heard.old.items ++ notice.now ∷ []) }
+    ensures err { OnErr result (heard.new.items ≡ heard.old.items) }
+{
+    heard.push(Notice {
+        number: notice.number,
+        to: notice.to,
+        from: notice.from,
+        site: notice.site,
+        image: notice.image,
+        kind: notice.kind.try_clone()?,
+    })?;
+    Ok(())
+}

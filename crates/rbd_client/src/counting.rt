@@ -1,0 +1,50 @@
+//! What an answer comes to for the locks.
+ghost use Rattle.std.specs.Prelude.{◌<◌};
+ghost use Rattle.rbd_client.specs.Feeding.{comings_of, quiesces, resumes, CountsAll};
+
+use crate::actor::lock_of;
+use crate::slot_state::Quiescing;
+use rbd_kinds::{Answer, DirectoryOp, Fed, ImageId, Op, SiteId};
+use rbd_locks::{ImageAt, Locks};
+use rbd_session::ImageAt as LineAt;
+
+/// Counts an operation of the client that was answered, and the quiesce that the request begins at
+/// its own look or ends. It takes no memory.
+pub fn count(
+    locks: &mut Locks,
+    quiescing: Quiescing,
+    look: Option<LineAt>,
+    site: SiteId,
+    op: &Op,
+    fed: &Fed,
+)
+    requires { 0 < locks.old.room }
+    ensures { CountsAll (comings_of quiescing look site op.now fed.now) locks.old locks.new }
+{
+    let Fed::Answer(answer) = fed else {
+        return;
+    };
+    locks.count(site, op, answer);
+    match (quiescing, answer) {
+        (Quiescing::Begins, Answer::Header(_)) => begin_quiesce(locks, look),
+        (Quiescing::Ends, Answer::Id(image)) => end_quiesce(locks, site, op, *image),
+        _ => {}
+    }
+}
+
+fn begin_quiesce(locks: &mut Locks, look: Option<LineAt>)
+    requires { 0 < locks.old.room }
+    ensures { CountsAll (quiesces look) locks.old locks.new }
+{
+    if let Some(line) = look {
+        locks.quiesce(&lock_of(&line));
+    }
+}
+
+fn end_quiesce(locks: &mut Locks, site: SiteId, op: &Op, image: ImageId)
+    ensures { CountsAll (resumes site op.now image) locks.old locks.new }
+{
+    if let Op::Directory(DirectoryOp::Find { name: _ }) = op {
+        locks.resume(&ImageAt { site, image });
+    }
+}

@@ -1,0 +1,49 @@
+//! What follows for every client: each law is the contract of a function that does nothing.
+ghost use Rattle.std.specs.Prelude.{◌≡◌, ℕ, true, Some, None, IsTrue, IsFalse};
+ghost use Rattle.rbd_client.specs.declared.actor.Actor.TheVariants as actor;
+ghost use Rattle.rbd_client.specs.declared.slot_state.Way.TheVariants as way;
+ghost use Rattle.rbd_client.specs.Actor.{actor_at, is_at_rest, kind_wanted};
+ghost use Rattle.rbd_client.specs.Client.{ClientView, state_in};
+ghost use Rattle.rbd_client.specs.Laws.{DropsALock, IsHeldBack};
+ghost use Rattle.rbd_client.specs.Sound.{IsOwned, IsSoundClient};
+ghost use Rattle.rbd_kinds.specs.declared.id.SiteId.{SiteId as Site};
+ghost use Rattle.rbd_line.specs.Line.{Member, is_past, member_of};
+ghost use Rattle.rbd_locks.specs.Locks.{state_at};
+ghost use Rattle.rbd_locks.specs.Places.{is_among};
+ghost use Rattle.rbd_owner.specs.declared.release.Release.{Release};
+ghost use Rattle.rbd_session.specs.declared.image_at.ImageAt.{ImageAt};
+ghost use Rattle.rbd_session.specs.Lines.{lines_of};
+ghost use Rattle.rbd_session.specs.Session.{own_look_at};
+
+use rbd_course::Request;
+
+/// No request of an image is past its own look but where the lock counts as the client's: nothing
+/// is changed without the lock.
+pub fn who_is_past_own_owns<R: Request>()
+    ensures { (c : ClientView R) (site : Site) (image : ℕ) (m : Member)
+        → IsSoundClient R.stands c → member_of m.slot (lines_of c.session.lines site image) ≡ Some m → IsTrue (is_past m.stage)
+        → IsOwned site image c.locks }
+{}
+
+/// A request at its own look is asked for it only where the lock counts as the client's.
+pub fn own_looks_need_the_lock<R: Request>()
+    ensures { (c : ClientView R) (slot : ℕ) (p : ImageAt)
+        → IsSoundClient R.stands c → own_look_at R.stands slot c.session ≡ Some p → actor_at R.stands slot c ≡ actor.Request
+        → IsOwned p.site p.image c.locks }
+{}
+
+/// A quiesced image, and a lock that was asked for, hold back each request at its own look that has
+/// begun no way to the lock: its slot waits.
+pub fn quiesced_and_asked_hold_back<R: Request>()
+    ensures { (c : ClientView R) (slot : ℕ) (p : ImageAt)
+        → IsSoundClient R.stands c → own_look_at R.stands slot c.session ≡ Some p → (state_in slot c.slots).way ≡ way.Unbegun
+        → IsHeldBack p.site p.image c.locks → kind_wanted R.stands slot c ≡ None }
+{}
+
+/// A release begins only where its lock was asked for and counts as the client's, the image isn't
+/// quiesced, and no request of the image is past own or has taken the lock itself.
+pub fn releases_wait_for_requests<R: Request>()
+    ensures { (c : ClientView R) (r : Release)
+        → IsSoundClient R.stands c → actor_at R.stands 0 c ≡ actor.Release r → DropsALock r
+        → IsTrue (is_among r.site r.image c.locks.asked) × IsFalse (state_at r.site r.image c.locks).quiesced × (is_at_rest r.site r.image c ≡ true) }
+{}

@@ -1,0 +1,94 @@
+//! One client: its requests (`rbd_session`), what it counts of the exclusive locks of its images
+//! (`rbd_locks`), and the ways by which it takes them and lets them go (`rbd_owner`).
+//!
+//! ```text
+//! let mut client: Client<SessionRequest<Follower>> = Client::new(alloc, c1, SiteId::A)?;
+//! let one = client.submit(alloc, 3, write, Quiescing::Leaves)?;  // slot 1
+//! ..                                        // dir-find, header-get: it waits for its own look
+//! client.kind(one)                          // site A, watch: the lock isn't this client's yet
+//! client.ready(alloc, one, &done)?;
+//! client.feed(one, SiteId::A, &watch, &done)     // None
+//! client.kind(one)                          // site A, lock-take
+//! ..                                        // done: the lock is taken
+//! client.kind(one)                          // site A, header-get: its own look
+//! ..                                        // it is past own, and changes the image
+//! client.hear(&request_lock)?;              // another client wants the lock
+//! client.kind(Slot(0))                      // None: a request of the image is past own
+//! ..                                        // the write has replied
+//! client.kind(Slot(0))                      // site A, lock-drop: the release
+//! ```
+//!
+//! # Rules
+//!
+//! A request that changes an image goes through the image's line as `rbd_session` says. At its own
+//! look, once the line lets it go on, the lock decides:
+//!
+//! ```text
+//! own look ──quiesced, or asked for──▶ waits
+//!    │ the lock is the client's ─────▶ its own look, and on
+//!    │ it isn't
+//!    ▼
+//! its way to the lock (rbd_owner) ──taken──▶ its own look, and on
+//!    └──none, fenced──▶ its reply: it leaves its line and its slot
+//! ```
+//!
+//! - A request that is on its way goes on there whatever comes, and one that has taken the lock
+//!   itself isn't held back by a later wish of another client.
+//! - **The release** (slot 0) begins where another client asked for the lock, the image isn't
+//!   quiesced, and no request of the image is past own or has taken the lock itself. Of several
+//!   images it takes the first by site, then by id. One that has begun goes on to its end.
+//! - A `close` makes no own look, so neither the lock, a quiesce nor a wish holds it back; it is
+//!   alone in its line, and drops the lock behind all requests before it. What a session counts of
+//!   its answers is `rbd_locks`'s.
+//! - A `quiesce` holds its image from its own look on (`Quiescing::Begins`), and a `resume` ends
+//!   that by its look-up of the image (`Quiescing::Ends`). Whoever submits a request says which of
+//!   them it is.
+//! - A notice that another client wants a lock is noted where the lock counts as this client's, and
+//!   passed over for good where it doesn't. What it is told by others is kept (`heard`).
+//!
+//! So no request of an image is past own but where the lock counts as the client's: that is the
+//! invariant of a client (`IsSoundClient`). That the lock counts as owned doesn't say that it is:
+//! another client may have fenced this one and taken it, and then the fence refuses whatever is
+//! still sent.
+//!
+//! # Contracts
+//!
+//! Contracts see a client as a record (`ClientView`): its session, its locks, what it keeps of each
+//! slot, the release that it is in the middle of, and what it heard.
+//!
+//! | file | what it says |
+//! |---|---|
+//! | `specs/Client.antt` | the record |
+//! | `specs/Actor.antt` | who acts at a slot (`actor_at`), and so which operation is wanted there (`kind_wanted`, `op_wanted`) |
+//! | `specs/Feeding.antt` | what is ready before an answer (`IsReadiedFor`), and what it comes to by who acted (`IsFedBy`) |
+//! | `specs/Sound.antt` | what holds of each client |
+//! | `specs/Laws.antt` | what the laws speak of |
+//!
+//! [`laws`] says that nobody is past own without the lock, nor asked for an own look, that a
+//! quiesced image and a wanted lock hold requests back, and when a release begins.
+//!
+//! # Cost
+//!
+//! A call is that of its session, and a look-up of a lock and a slot. `kind` of slot 0 goes over
+//! the images that were asked for, and for each over its line and over the 65 slots; where none was
+//! asked for it is one look. `ready` takes the memory to count one more lock, and `hear` a copy of
+//! what a client was told. The others take what the session's take.
+//!
+//! # How it works
+//!
+//! A session knows no lock, and a lock no request. A client asks its session at whose own look a
+//! slot stands, its locks what is counted there, and lets one of three act: the request, its way, or
+//! the release. What acts is found anew at each look, so nothing has to be kept up to date but by
+//! the answers.
+#![tactic(auto)]
+
+mod actor;
+mod client;
+mod counting;
+mod going;
+pub mod laws;
+mod slot_state;
+mod slots;
+
+pub use client::Client;
+pub use slot_state::{Quiescing, SlotState, Way};

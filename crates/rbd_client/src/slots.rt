@@ -1,0 +1,55 @@
+//! What a client keeps of its slots: 0 to 64.
+ghost use Rattle.std.specs.Prelude.{◌≡◌, ◌≢◌, ℕ, ◌≤◌, length, replicate, IfOk};
+ghost use Rattle.rbd_client.specs.Actor.{any_taken, has_taken};
+ghost use Rattle.rbd_client.specs.Client.{blank, state_in};
+
+use crate::slot_state::{SlotState, Way};
+use rbd_kinds::{NoMemory, Slot};
+use rbd_locks::ImageAt;
+use std::alloc::Global;
+
+/// Of slots that are all free.
+pub fn blank_slots(alloc: Global) -> Result<Vec<SlotState>, NoMemory>
+    ensures { IfOk result (λ slots. slots.items ≡ replicate 65 blank) }
+{
+    let mut slots = Vec::with_capacity(alloc, 65)?;
+    slots.resize(65, SlotState::blank())?;
+    Ok(slots)
+}
+
+/// What is kept of a slot: nothing of one that is no slot.
+pub fn state_of(slots: &[SlotState], slot: Slot) -> SlotState
+    ensures { result ≡ state_in slot slots.now }
+{
+    match slots.get(slot.0 as usize) {
+        Some(state) => *state,
+        None => SlotState::blank(),
+    }
+}
+
+/// This is kept of a slot from now on.
+pub fn set_state(slots: &mut Vec<SlotState>, slot: Slot, state: SlotState)
+    requires slot { slot ≤ 64 }
+    requires length { length slots.old.items ≡ 65 }
+    ensures length { length slots.new.items ≡ 65 }
+    ensures here { state_in slot slots.new.items ≡ state }
+    ensures others { (other : ℕ) → other ≢ slot → state_in other slots.new.items ≡ state_in other slots.old.items }
+{
+    slots[slot.0 as usize] = state;
+}
+
+/// Whether a request has taken the lock of an image itself.
+pub fn is_any_taken(slots: &[SlotState], at: &ImageAt) -> bool
+    ensures { result ≡ any_taken at.now.site at.now.image slots.now }
+{
+    slots.iter().any(|state| has_taken(&state.way, at))
+}
+
+fn has_taken(way: &Way, at: &ImageAt) -> bool
+    ensures { result ≡ has_taken at.now.site at.now.image way.now }
+{
+    match way {
+        Way::Taken(taken) => taken.site == at.site && taken.image == at.image,
+        _ => false,
+    }
+}

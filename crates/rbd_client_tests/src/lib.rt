@@ -1,0 +1,21 @@
+//! Tests of a client, through its public calls: when one of its requests takes the lock of its
+//! image, when a lock is let go, and who waits meanwhile. They stand apart from the crate that they
+//! test, since a crate that has tests is proved twice: once as it is, and once with its tests.
+//!
+//! Each test is a text with a row for each step, which `rows` reads and `drive` does. What a row
+//! wants was worked out from the rules in prose. The requests are those of all commands that change
+//! an image, and `close`, `quiesce`, `resume` and `tell`:
+//!
+//! | file | subject |
+//! |---|---|
+//! | `taking` | the way to a lock, and who goes it |
+//! | `asked` | a client that is asked for its lock, and when it lets it go |
+//! | `quiescing` | `quiesce` holds changes back, and `resume` lets them go on |
+//! | `closing` | `close`, and who waits behind it |
+//! | `refused` | what ends a request on its way, and what it leaves |
+//! | `hearing` | notices, and `tell` |
+//! | `slots` | slots, and who the client is |
+#![tactic(auto)]
+
+#[cfg(test)]
+mod tests;

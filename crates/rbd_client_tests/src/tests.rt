@@ -1,0 +1,13 @@
+mod asked;
+mod closing;
+mod drive;
+mod hearing;
+mod notices;
+mod operations;
+mod quiescing;
+mod refused;
+mod rows;
+mod slots;
+mod taking;
+mod told;
+mod work;
