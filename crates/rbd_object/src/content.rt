@@ -1,5 +1,5 @@
 //! The bytes of a head or of a version.
-ghost use Rattle.std.specs.Prelude.{◌≡◌, ℕ, ◌+◌, ◌/◌, ◌≤◌, ◌<◌, [], ◌++◌, List, length, min, max, slice_index, IfOk, OnOk, OnErr, IsTrue, false};
+ghost use Rattle.std.specs.Prelude.{◌≡◌, ℕ, ◌+◌, ◌/◌, ◌≤◌, ◌<◌, [], ◌++◌, length, min, max, slice_index, IfOk, OnOk, OnErr, IsTrue, false};
 ghost use Rattle.rbd_object.specs.Contents.{window, overwritten, zeroed};
 ghost use Rattle.rbd_object.specs.Paging.{AreCounted, pages_for};
 ghost use Rattle.rbd_object.specs.Parts.{parts_of};

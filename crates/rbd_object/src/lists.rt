@@ -3,7 +3,7 @@ ghost use Rattle.std.specs.Prelude.{◌≡◌, ◌≢◌, ℕ, ◌+◌, ◌*◌,
 ghost use Rattle.std.specs.List.{list_any};
 ghost use Rattle.rbd_object.specs.Paging.{AreApart, AreCounted, pages_for};
 ghost use Rattle.rbd_object.specs.Sheaves.{AreFull, Exchanged, IsOwn, IsPrepared, IsSame, pages_in, sheaves_for};
-ghost use Rattle.rbd_object.specs.Sheets.{bytes_at, count_at, in_use};
+ghost use Rattle.rbd_object.specs.Sheets.{count_at, in_use};
 ghost use Rattle.rbd_object.specs.declared.page.TheConstants.{PAGE};
 ghost use Rattle.rbd_object.specs.declared.sheaf.TheConstants.{SHEAF};
 ghost use Rattle.rbd_object.specs.declared.content.TheConstants.{LARGEST_OBJECT};

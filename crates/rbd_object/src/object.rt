@@ -1,5 +1,5 @@
 //! The object: a head, and what is kept for snapshots.
-ghost use Rattle.std.specs.Prelude.{◌≡◌, ℕ, ◌+◌, ◌≤◌, ◌↔◌, [], List, length, max, Some, None, is_some, unwrap_or, option_map, option_copied, IsTrue, OnOk, OnErr, IfOk, IfSome, IsSome, IsNone, false, Option};
+ghost use Rattle.std.specs.Prelude.{◌≡◌, ℕ, ◌+◌, ◌≤◌, ◌↔◌, [], List, length, Some, None, unwrap_or, option_map, IsTrue, OnOk, OnErr, IfOk, IfSome, IsSome, IsNone, false, Option};
 ghost use Rattle.rbd_object.specs.Contents.{window, overwritten, zeroed};
 ghost use Rattle.rbd_object.specs.Versioned.{view, IsTidy};
 ghost use Rattle.rbd_object.specs.Mapped.{looked, mapped_blank, mapped_change, mapped_copy_up, mapped_trim};

@@ -11,6 +11,9 @@ use std::marker::Model;
 /// The size of a page in bytes (own; the page of x86-64 and of Ceph's BlueStore).
 pub const PAGE: usize = 4096;
 
+/// The bytes of a page at its first one that isn't zero.
+const ZEROS: [u8; PAGE] = [0; PAGE];
+
 /// How many places name it, its bytes, and the free page after it. A page of zeros has no bytes:
 /// they are taken at the first one that isn't zero.
 #[derive(Debug, Drop)]
@@ -118,7 +121,7 @@ impl Page {
         ensures err { OnErr result (self.new ≡ self.old) }
     {
         if self.bytes.is_empty() {
-            self.bytes.resize(PAGE, 0)?;
+            self.bytes = Vec::from_slice(*self.bytes.allocator(), &ZEROS)?;
         }
         Ok(())
     }

@@ -1,11 +1,7 @@
 //! Lists of pages, each those of one sheaf.
-ghost use Rattle.std.specs.Prelude.{◌≡◌, ◌≢◌, ℕ, ◌+◌, ◌-◌, ◌*◌, ◌/◌, ◌<◌, ◌≤◌, [], length, take, min, max, slice_index, if◌then◌else◌, replicate, IfOk, OnOk, OnErr, IsTrue, nat_lt};
-ghost use Rattle.std.specs.List.{list_any};
-ghost use Rattle.rbd_object.specs.Contents.{is_within, window};
+ghost use Rattle.std.specs.Prelude.{◌≡◌, ◌≢◌, ℕ, ◌+◌, ◌<◌, ◌≤◌, [], length, take, max, IfOk, OnOk, OnErr, IsTrue};
 ghost use Rattle.rbd_object.specs.Sheets.{bytes_at, count_at, in_use};
-ghost use Rattle.rbd_object.specs.Paging.{AreCounted, AreApart, IsReady, IsWritten, IsZeroed, Moved, Prepared, byte_at, bytes_on, pages_for};
-ghost use Rattle.rbd_object.specs.declared.page.TheConstants.{PAGE};
-ghost use Rattle.rbd_object.specs.declared.content.TheConstants.{LARGEST_OBJECT};
+ghost use Rattle.rbd_object.specs.Paging.{AreCounted, IsReady, Moved, Prepared};
 
 use crate::arena::Arena;
 use rbd_kinds::NoMemory;

@@ -1,5 +1,5 @@
 //! The sheaves that the contents of an object share, and their pages.
-ghost use Rattle.std.specs.Prelude.{◌≡◌, ◌≢◌, ℕ, ◌+◌, ◌*◌, ◌/◌, ◌<◌, ◌≤◌, [], length, max, slice_index, IfOk, IfSome, OnOk, OnErr, IsTrue, false};
+ghost use Rattle.std.specs.Prelude.{◌≡◌, ◌≢◌, ℕ, ◌+◌, ◌/◌, ◌<◌, ◌≤◌, [], length, max, slice_index, IfOk, IfSome, OnOk, OnErr, IsTrue, false};
 ghost use Rattle.rbd_object.specs.Paging.{AreApart, AreCounted, IsReady, IsWritten, IsZeroed, Prepared, byte_at, occurs};
 ghost use Rattle.rbd_object.specs.Sheaves.{AreFull, AreStocked, IsOnOwn, IsSame, named_in, pages_in};
 ghost use Rattle.std.specs.Vec.{vec_len, vec_capacity};

@@ -1,5 +1,5 @@
 //! The versions of an object, newest first.
-ghost use Rattle.std.specs.Prelude.{◌≡◌, ℕ, ◌+◌, ◌<◌, ◌≤◌, ◌++◌, IfOk, OnOk, IsTrue, IsSome, find, option_copied, option_map, option_to_list};
+ghost use Rattle.std.specs.Prelude.{◌≡◌, ℕ, ◌+◌, ◌<◌, ◌≤◌, ◌++◌, OnOk, IsTrue, IsSome, find, option_copied, option_map, option_to_list};
 ghost use Rattle.std.specs.VecDeque.{deque_len, deque_capacity};
 ghost use Rattle.rbd_object.specs.Kept.{is_listed};
 ghost use Rattle.rbd_object.specs.Paging.{AreCounted};

@@ -1,7 +1,7 @@
 //! Commands of sessions.
-ghost use Rattle.std.specs.Prelude.{◌≡◌};
-ghost use Rattle.rbd_script.specs.Command.{command_form, command_of as command_in};
+ghost use Rattle.rbd_script.specs.Command.{command_form, command_of as command_in, shape as shape_in, shape_parts};
 ghost use Rattle.rbd_script.specs.Fault.{Gives};
+ghost use Rattle.rbd_script.specs.Form.{form};
 ghost use Rattle.rbd_script.specs.Token.{tokens_of};
 
 use crate::fault::PartFault;
@@ -41,17 +41,25 @@ fn create(mut tokens: Tokens<'_>) -> Result<Command, PartFault>
 {
     let image = tokens.name()?;
     let size = tokens.number()?;
+    let shape = shape(tokens)?;
+    Ok(Command::Create { image, size, shape })
+}
+
+/// `[object N] [unit N] [count N] [journal]`, the end of its form.
+#[tactic(auto, unfolding(crate::specs::Form::form))]
+fn shape(mut tokens: Tokens<'_>) -> Result<Shape, PartFault>
+    ensures { Gives result (form shape_parts shape_in (tokens_of tokens.entry.rest.now)) }
+{
     let object = tokens.option("object")?;
     let unit = tokens.option("unit")?;
     let count = tokens.count("count")?;
     let journal = tokens.flag("journal")?;
-    let shape = Shape {
+    tokens.end(Shape {
         object,
         unit,
         count,
         journal,
-    };
-    tokens.end(Command::Create { image, size, shape })
+    })
 }
 
 /// `clone IMAGE@SNAP IMAGE [object N] [unit N] [count N] [journal]`
@@ -61,17 +69,8 @@ fn clone(mut tokens: Tokens<'_>) -> Result<Command, PartFault>
 {
     let (parent, snap) = tokens.snap()?;
     let image = tokens.name()?;
-    let object = tokens.option("object")?;
-    let unit = tokens.option("unit")?;
-    let count = tokens.count("count")?;
-    let journal = tokens.flag("journal")?;
-    let shape = Shape {
-        object,
-        unit,
-        count,
-        journal,
-    };
-    tokens.end(Command::Clone {
+    let shape = shape(tokens)?;
+    Ok(Command::Clone {
         parent,
         snap,
         image,

@@ -1,5 +1,5 @@
 //! The lines of a script, one after another.
-ghost use Rattle.std.specs.Prelude.{◌≡◌, ◌+◌, ◌-◌, ◌^◌, ◌∷◌, [], ◌<◌, ◌≤◌, length, Ok, Err, IfOk, IfErr, OnOk};
+ghost use Rattle.std.specs.Prelude.{◌≡◌, ◌+◌, ◌∷◌, [], ◌≤◌, length, Ok, Err, IfOk, IfErr, OnOk};
 ghost use Rattle.rbd_script.specs.Fault.{AtLine, LeavesAt};
 ghost use Rattle.rbd_script.specs.Line.{with_line};
 ghost use Rattle.rbd_script.specs.Reading.{no_script, reading, with_lines};

@@ -1,8 +1,9 @@
 -- What a fence does, and what it doesn't.
-use Rattle.std.proofs.Common.{◌≡◌, ℕ, ◌+◌, Bool, true, false, cond, ◌||◌, List, Option, Some, None, is_some, refl, sym, ap, ◌∙◌, true≢false}
+use Rattle.std.proofs.Common.{◌≡◌, ℕ, ◌+◌, Bool, true, false, cond, List, Option, Some, None, is_some, refl, sym, ap, ◌∙◌}
 use Rattle.std.specs.Prelude.{◌≢◌, IsFalse, IsTrue}
 use Rattle.std.specs.FinSet as finset
 use Rattle.std.specs.Ordering.{eq_by_cmp}
+use Rattle.std.proofs.lemmas.Bool.{or_right}
 use Rattle.rbd_fence.specs.Instances.{instance_cmp}
 use Rattle.rbd_fence.proofs.Sets.{total, contains-insert_itself, contains-insert_other}
 use Rattle.rbd_kinds.specs.declared.answer.Answer.{Answer}
@@ -17,7 +18,6 @@ use Rattle.rbd_kinds.specs.declared.header.HeaderView.{HeaderView}
 use Rattle.rbd_kinds.specs.declared.header_op.HeaderOp.{HeaderOp}
 use Rattle.rbd_kinds.specs.declared.header_op.HeaderOp.TheVariants as head
 use Rattle.rbd_kinds.specs.declared.id.Instance.{Instance}
-use Rattle.rbd_kinds.specs.declared.layout.Part.{Part}
 use Rattle.rbd_kinds.specs.declared.operation.Op.{Op}
 use Rattle.rbd_kinds.specs.declared.operation.Op.TheVariants as on
 use Rattle.rbd_kinds.specs.Header.{snap_named}
@@ -29,7 +29,7 @@ use Rattle.rbd_site.specs.ChildrenStep.{Entries, entry, children_answer}
 use Rattle.rbd_site.specs.DataStep.{blank_answer, finds, parts_read}
 use Rattle.rbd_site.specs.DirectoryStep.{directory_answer, image_found, name_added, name_changed}
 use Rattle.rbd_site.specs.Found.{done_where}
-use Rattle.rbd_site.specs.HeaderStep.{header_answer, is_owner, lock_left, lock_taken, same_instance, snap_added}
+use Rattle.rbd_site.specs.HeaderStep.{header_answer, is_owner, lock_taken, same_instance, snap_added}
 use Rattle.rbd_site.specs.Records.{Records, or_blank}
 use Rattle.rbd_site.specs.Step.{is_fenced, answer_served, answer_to, after, after_served}
 use Rattle.rbd_site.proofs.StepLemmas.{other_blocklist, where_fenced}
@@ -124,14 +124,10 @@ refused_is_fenced r me op = go (is_fenced r me)
 
 -- ---- who is listed stays
 
-or_true : (a b : Bool) → b ≡ true → (a || b) ≡ true
-or_true true b e = refl
-or_true false b e = e
-
 pub fence_stays : (r : Records) (me i : Instance) (op : Op) → IsTrue (is_fenced r i) → IsTrue (is_fenced (after r me op) i)
 fence_stays r me i (on.BlockAdd other) listed =
     where_fenced (λ s. is_fenced s i ≡ true) r me (on.BlockAdd other) listed
-    (finset.contains-insert total r.blocklist other i ∙ or_true (eq_by_cmp instance_cmp i other) (finset.contains r.blocklist i) listed)
+    (finset.contains-insert total r.blocklist other i ∙ or_right (eq_by_cmp instance_cmp i other) (finset.contains r.blocklist i) listed)
 fence_stays r me i op listed = ap (λ b. finset.contains b i) (other_blocklist r me op refl) ∙ listed
 
 pub lists_it : (r : Records) (me i : Instance) → IsFalse (is_fenced r me) → IsTrue (is_fenced (after r me (on.BlockAdd i)) i)

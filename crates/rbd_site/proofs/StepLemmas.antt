@@ -28,7 +28,7 @@ use Rattle.rbd_site.specs.HeaderStep.{header_answer, header_after, is_owner, loc
 use Rattle.rbd_site.specs.Laws.{is_block_add, is_change, is_on_children, is_on_directory, is_on_header, is_on_object}
 use Rattle.rbd_site.specs.Records.{Records, or_blank, put, with_children, with_directory, with_watchers}
 use Rattle.rbd_site.specs.Step.{is_fenced, answer_to, answer_served, after, after_served}
-use Rattle.rbd_site.specs.WatchStep.{there_watched, watchers_after}
+use Rattle.rbd_site.specs.WatchStep.{watchers_after}
 use Rattle.rbd_site.proofs.TrimLemmas.{with_header_same, with_object_same, with_watchers_same}
 
 -- A fenced instance leaves the records, so what holds of them and after what is served holds after

@@ -4,7 +4,7 @@ use Rattle.rbd_kinds.specs.declared.answer.Answer.{Answer}
 use Rattle.rbd_kinds.specs.declared.answer.Answer.TheVariants as answer
 use Rattle.rbd_kinds.specs.declared.header.HeaderView.{HeaderView}
 use Rattle.rbd_kinds.specs.declared.header_op.HeaderOp.{HeaderOp}
-use Rattle.rbd_kinds.specs.declared.header_op.HeaderOp.TheVariants.{Create, Get, SetSize, SnapAdd, SnapRemove, SnapStatus, Detach, Role, Mirror, Synced, Remove, LockTake, LockDrop, LockBreak, Watch, Unwatch, WatchersGet, Notify}
+use Rattle.rbd_kinds.specs.declared.header_op.HeaderOp.TheVariants.{Create, Get, SetSize, SnapAdd, SnapRemove, SnapStatus, Detach, Role, Mirror, Synced, Remove, LockTake, LockDrop, LockBreak, WatchersGet}
 use Rattle.rbd_kinds.specs.declared.id.Instance.{Instance}
 use Rattle.rbd_kinds.specs.Form.{HasFewObjects, IsNewHeader}
 use Rattle.rbd_kinds.specs.Header.{snap_named}

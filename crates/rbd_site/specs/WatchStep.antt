@@ -6,7 +6,6 @@ use Rattle.rbd_kinds.specs.declared.header_op.HeaderOp.TheVariants.{Remove, Watc
 use Rattle.rbd_kinds.specs.declared.id.Instance.{Instance}
 use Rattle.rbd_kinds.specs.declared.id.SiteId.{SiteId}
 use Rattle.rbd_kinds.specs.declared.notice.Notice.{Notice}
-use Rattle.rbd_kinds.specs.declared.notice.NoticeKind.{NoticeKind}
 use Rattle.rbd_watch.specs.Posting.{notices}
 use Rattle.rbd_watch.specs.Watching.{registered, without}
 

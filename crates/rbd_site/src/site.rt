@@ -1,8 +1,11 @@
 //! One site.
-ghost use Rattle.std.specs.Prelude.{◌≡◌, ◌+◌, [], ◌∷◌, ◌++◌, length, if◌then◌else◌, is_some, IfOk, OnOk, OnErr};
+ghost use Rattle.std.specs.Prelude.{◌≡◌, ℕ, ◌+◌, ◌^◌, ◌<◌, ◌≤◌, Some, [], ◌∷◌, ◌++◌, length, if◌then◌else◌, is_some, IfOk, OnOk, OnErr};
+ghost use Rattle.std.specs.Vec.{vec_capacity, vec_len};
+ghost use Rattle.rbd_kinds.specs.declared.header.HeaderView.{HeaderView as HeaderShown};
 ghost use Rattle.rbd_site.specs.InForm.{AreInForm};
 ghost use Rattle.rbd_watch.specs.Watching.{oldest_of};
 ghost use Rattle.rbd_site.specs.Log.{records_of, line_of, trim_line, trimmed, watch_ended, expired_by, AreAnswered, AreNumbered};
+ghost use Rattle.rbd_site.specs.Maps.{kept};
 ghost use Rattle.rbd_site.specs.Records.{no_records};
 ghost use Rattle.rbd_site.specs.Step.{MayDo, answer_to, after, mail_after};
 
@@ -46,6 +49,7 @@ impl Site {
         })
     }
 
+    /// Which site it is.
     pub fn id(&self) -> SiteId
         ensures { result ≡ self.now.id }
     {
@@ -95,17 +99,30 @@ impl Site {
         ensures unsent { OnErr result (mail.new ≡ mail.old) }
     {
         let number = self.next_number();
-        self.log.reserve(1)?;
-        let told = self.store.perform(self.id, &instance, &op, mail)?;
-        let (answer, kept) = told;
-        let line = Done {
-            number,
-            instance: Some(instance),
-            op: DoneOp::Op(op),
-            answer: kept,
-        };
-        self.log.push_reserved(line);
-        Ok(answer)
+        match perform(
+            &mut self.store,
+            &mut self.log,
+            self.id,
+            &instance,
+            &op,
+            mail,
+        ) {
+            Ok(told) => {
+                let (answer, kept) = told;
+                let line = Done {
+                    number,
+                    instance: Some(instance),
+                    op: DoneOp::Op(op),
+                    answer: kept,
+                };
+                self.log.push_reserved(line);
+                Ok(answer)
+            }
+            Err(fault) => {
+                drop(op);
+                Err(fault)
+            }
+        }
     }
 
     /// The store's own step: drops what an object keeps for snapshots that the image's header
@@ -126,15 +143,16 @@ impl Site {
         if !self.store.has(&key) {
             return Ok(false);
         }
+        let number = self.next_number();
+        self.log.reserve(1)?;
         let live = self.store.live_snaps(image)?;
+        self.store.trim(key, live.as_slice());
         let line = Done {
-            number: self.next_number(),
+            number,
             instance: None,
             op: DoneOp::Trim { image, object },
             answer: Answer::Done,
         };
-        self.log.reserve(1)?;
-        self.store.trim(key, live.as_slice());
         self.log.push_reserved(line);
         Ok(true)
     }
@@ -176,4 +194,29 @@ impl Site {
     {
         self.log.len() as u64 + 1
     }
+}
+
+/// Makes room for one more line, and does an operation on the records. Refused memory, nothing is
+/// done.
+fn perform(
+    store: &mut Store,
+    log: &mut Vec<Done>,
+    site: SiteId,
+    me: &Instance,
+    op: &Op,
+    mail: &mut Mail,
+) -> Result<(Answer, Answer), NoMemory>
+    requires may { MayDo (kept store.old) me.now op.now }
+    requires generation { (image : ℕ) (h : HeaderShown) → (kept store.old).headers image ≡ Some h → h.generation + 1 < 2 ^ 64 }
+    ensures answer { IfOk result (λ told. told.0 ≡ answer_to (kept store.old) me.now op.now) }
+    ensures copy { IfOk result (λ told. told.1 ≡ answer_to (kept store.old) me.now op.now) }
+    ensures ok { OnOk result (kept store.new ≡ after (kept store.old) me.now op.now) }
+    ensures mail { OnOk result (mail.new ≡ mail_after site (kept store.old) me.now op.now mail.old) }
+    ensures log { log.new.items ≡ log.old.items }
+    ensures room { OnOk result (vec_len log.new + 1 ≤ vec_capacity log.new) }
+    ensures err { OnErr result (kept store.new ≡ kept store.old) }
+    ensures unsent { OnErr result (mail.new ≡ mail.old) }
+{
+    log.reserve(1)?;
+    store.perform(site, me, op, mail)
 }

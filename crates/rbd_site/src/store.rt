@@ -1,5 +1,5 @@
 //! What a site keeps, and one operation on one object of it.
-ghost use Rattle.std.specs.Prelude.{◌≡◌, ℕ, ◌+◌, ◌^◌, ◌<◌, IsFalse, Some, is_some, option_map, IfOk, OnOk, OnErr};
+ghost use Rattle.std.specs.Prelude.{◌≡◌, ℕ, ◌+◌, ◌^◌, ◌<◌, Some, is_some, option_map, IfOk, OnOk, OnErr};
 ghost use Rattle.rbd_object.specs.Mapped.{mapped_trim};
 ghost use Rattle.rbd_kinds.specs.declared.header.HeaderView.{HeaderView};
 ghost use Rattle.rbd_kinds.specs.declared.header_op.HeaderOp.TheVariants as header_op;
@@ -9,7 +9,7 @@ ghost use Rattle.rbd_site.specs.WatchStep.{notified, receivers, watchers_after};
 ghost use Rattle.rbd_site.specs.Records.{no_records, with_header, with_object, with_watchers};
 ghost use Rattle.rbd_site.specs.Log.{expired, live_in};
 ghost use Rattle.rbd_site.specs.Maps.{kept};
-ghost use Rattle.rbd_site.specs.Step.{MayDo, MayServe, is_fenced, answer_to, answer_served, after, after_served, mail_after, mail_served};
+ghost use Rattle.rbd_site.specs.Step.{MayDo, MayServe, answer_to, answer_served, after, after_served, mail_after, mail_served};
 
 use crate::object_key::ObjectKey;
 use crate::{children, data, directory, header, watch};
@@ -133,9 +133,22 @@ impl Store {
             return Ok((Answer::Fenced, Answer::Fenced));
         }
         self.share(op)?;
-        let answer = self.answer_served(*me, op)?;
+        let told = self.answer_twice(*me, op)?;
+        if let Err(refused) = self.serve(site, me, op, mail) {
+            drop(told);
+            return Err(refused);
+        }
+        Ok(told)
+    }
+
+    /// The same answer twice, of an operation of an instance that isn't fenced.
+    fn answer_twice(&self, instance: Instance, op: &Op) -> Result<(Answer, Answer), NoMemory>
+        requires { MayServe (kept self.now) op.now }
+        ensures answer { IfOk result (λ told. told.0 ≡ answer_served (kept self.now) instance op.now) }
+        ensures copy { IfOk result (λ told. told.1 ≡ answer_served (kept self.now) instance op.now) }
+    {
+        let answer = self.answer_served(instance, op)?;
         let copy = answer.try_clone()?;
-        self.serve(site, me, op, mail)?;
         Ok((answer, copy))
     }
 

@@ -1,5 +1,5 @@
 //! The notices of both sites.
-ghost use Rattle.std.specs.Prelude.{◌≡◌, ◌+◌, ◌≤◌, ◌^◌, [], ◌++◌, length, IfOk, OnOk, OnErr, option_copied, slice_get};
+ghost use Rattle.std.specs.Prelude.{◌≡◌, ◌+◌, [], ◌++◌, length, IfOk, OnOk, OnErr, option_copied, slice_get};
 ghost use Rattle.rbd_watch.specs.Posting.{AreNumberedFrom, notices, numbered};
 
 use rbd_kinds::{ImageId, Instance, NoMemory, Notice, NoticeKind, SiteId, TryClone};
@@ -51,10 +51,35 @@ impl Mail {
         ensures ok { OnOk result (self.new ≡ self.old ++ notices (length self.old + 1) site image from to.now kind.now) }
         ensures err { OnErr result (self.new ≡ self.old) }
     {
-        let first = self.notices.len() as u64 + 1;
-        let mut posted = notices_from(self.alloc, first, site, image, from, to, kind)?;
+        let mut posted = self.notices_to(site, image, from, to, kind)?;
         self.notices.append(&mut posted)?;
         Ok(())
+    }
+
+    /// One notice for each receiver, numbered on from the last.
+    fn notices_to(
+        &self,
+        site: SiteId,
+        image: ImageId,
+        from: Instance,
+        receivers: &[Instance],
+        kind: &NoticeKind,
+    ) -> Result<Vec<Notice>, NoMemory>
+        ensures { IfOk result (λ made. made.items ≡ notices (length self.now + 1) site image from receivers.now kind.now) }
+    {
+        let first = self.notices.len() as u64 + 1;
+        let mut made = Vec::with_capacity(self.alloc, receivers.len())?;
+        for to in receivers {
+            made.push(Notice {
+                number: first + made.len() as u64,
+                to: *to,
+                from,
+                site,
+                image,
+                kind: kind.try_clone()?,
+            })?;
+        }
+        Ok(made)
     }
 
     /// The notice that has a number: `None` exactly where none has. It takes no memory.
@@ -79,31 +104,4 @@ fn notice_at(notices: &[Notice], index: usize) -> Option<&Notice>
     ensures { option_copied result ≡ slice_get notices.now index }
 {
     notices.get(index)
-}
-
-/// One notice for each receiver, numbered from `first` on.
-fn notices_from(
-    alloc: Global,
-    first: u64,
-    site: SiteId,
-    image: ImageId,
-    from: Instance,
-    receivers: &[Instance],
-    kind: &NoticeKind,
-) -> Result<Vec<Notice>, NoMemory>
-    requires { first ≤ 2 ^ 63 }
-    ensures { IfOk result (λ made. made.items ≡ notices first site image from receivers.now kind.now) }
-{
-    let mut made = Vec::with_capacity(alloc, receivers.len())?;
-    for to in receivers {
-        made.push(Notice {
-            number: first + made.len() as u64,
-            to: *to,
-            from,
-            site,
-            image,
-            kind: kind.try_clone()?,
-        })?;
-    }
-    Ok(made)
 }

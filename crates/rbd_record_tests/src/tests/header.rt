@@ -181,15 +181,19 @@ fn keeps_first(rt: &impl Abort, alloc: Global, header: &Header) -> Result<bool, 
     named_is(rt, alloc, &view, b"first", snap)
 }
 
+/// Takes a snapshot, and changes the size twice.
+fn snap_and_resize(rt: &impl Abort, alloc: Global, header: &mut Header) {
+    assert!(rt; holds(adds(rt, alloc, header, b"first", 6)));
+    does(rt, header, Change::Size(6000));
+    does(rt, header, Change::Size(8000));
+    assert!(rt; holds(adds_none(rt, alloc, header, b"first", SnapAddFault::Exists)));
+}
+
 #[test]
 fn a_snapshot_keeps_size_and_overlap(rt: HostRuntime) -> Result<(), Fail> {
-    let alloc = rt.alloc();
-    let mut header = cloned(alloc)?;
-    assert!(rt; holds(adds(&rt, alloc, &mut header, b"first", 6)));
-    does(&rt, &mut header, Change::Size(6000));
-    does(&rt, &mut header, Change::Size(8000));
-    assert!(rt; holds(adds_none(&rt, alloc, &mut header, b"first", SnapAddFault::Exists)));
-    assert!(rt; holds(keeps_first(&rt, alloc, &header)));
+    let mut header = cloned(rt.alloc())?;
+    snap_and_resize(&rt, rt.alloc(), &mut header);
+    assert!(rt; holds(keeps_first(&rt, rt.alloc(), &header)));
     Ok(())
 }
 
@@ -286,27 +290,36 @@ fn view_of_name_is(
     Ok(view_is(alloc, view_of(header, Some(&name)), want))
 }
 
+/// Whether there are views of the head and of a snapshot, and none of another name.
+fn has_its_views(rt: &impl Abort, alloc: Global, header: &Header) -> Result<bool, NoMemory> {
+    let view = header.view()?;
+    let head = "Some(View { snap: None, size: 8000 })";
+    let old = "Some(View { snap: Some(SnapId(6)), size: 10000 })";
+    let named = holds(view_of_name_is(rt, alloc, &view, b"first", old))
+        && holds(view_of_name_is(rt, alloc, &view, b"third", "None"));
+    Ok(named && view_is(alloc, view_of(&view, None), head))
+}
+
 #[test]
 fn views_of_names(rt: HostRuntime) -> Result<(), Fail> {
-    let alloc = rt.alloc();
-    let header = snapped(&rt, alloc)?.view()?;
-    let head = "Some(View { snap: None, size: 8000 })";
-    assert!(rt; view_is(alloc, view_of(&header, None), head));
-    let old = "Some(View { snap: Some(SnapId(6)), size: 10000 })";
-    assert!(rt; holds(view_of_name_is(&rt, alloc, &header, b"first", old)));
-    assert!(rt; holds(view_of_name_is(&rt, alloc, &header, b"third", "None")));
+    let header = snapped(&rt, rt.alloc())?;
+    assert!(rt; holds(has_its_views(&rt, rt.alloc(), &header)));
     Ok(())
+}
+
+/// Takes 256 snapshots.
+fn fill(rt: &impl Abort, alloc: Global, header: &mut Header) {
+    for number in 0..256u16 {
+        let text = [letter(number / 16), letter(number)];
+        assert!(rt; holds(adds(rt, alloc, header, &text, 6 + number as u32)));
+    }
 }
 
 #[test]
 fn the_257th_snapshot_is_refused(rt: HostRuntime) -> Result<(), Fail> {
-    let alloc = rt.alloc();
-    let mut header = cloned(alloc)?;
-    for number in 0..256u16 {
-        let text = [letter(number / 16), letter(number)];
-        assert!(rt; holds(adds(&rt, alloc, &mut header, &text, 6 + number as u32)));
-    }
-    assert!(rt; holds(adds_none(&rt, alloc, &mut header, b"more", SnapAddFault::Full)));
+    let mut header = cloned(rt.alloc())?;
+    fill(&rt, rt.alloc(), &mut header);
+    assert!(rt; holds(adds_none(&rt, rt.alloc(), &mut header, b"more", SnapAddFault::Full)));
     Ok(())
 }
 
@@ -327,19 +340,18 @@ fn is_held_by(header: &mut Header, session: u8, owner: u8) -> bool {
     }
 }
 
+/// Whether session 1 has the lock, and session 2 only gets it when it was broken.
+fn has_one_owner(header: &mut Header) -> bool {
+    let taken = locks(header, 1) && locks(header, 1) && is_held_by(header, 2, 1);
+    let kept = !header.unlock(instance(2)) && !header.break_lock(instance(2));
+    let freed = header.break_lock(instance(1)) && locks(header, 2) && header.unlock(instance(2));
+    taken && kept && freed && header.owner().is_none() && header.generation() == 70
+}
+
 #[test]
 fn the_lock_has_one_owner(rt: HostRuntime) -> Result<(), Fail> {
     let mut header = cloned(rt.alloc())?;
-    assert!(rt; locks(&mut header, 1));
-    assert!(rt; locks(&mut header, 1));
-    assert!(rt; is_held_by(&mut header, 2, 1));
-    assert!(rt; !header.unlock(instance(2)));
-    assert!(rt; !header.break_lock(instance(2)));
-    assert!(rt; header.break_lock(instance(1)));
-    assert!(rt; locks(&mut header, 2));
-    assert!(rt; header.unlock(instance(2)));
-    assert!(rt; header.owner().is_none());
-    assert!(rt; header.generation() == 70);
+    assert!(rt; has_one_owner(&mut header));
     Ok(())
 }
 
@@ -412,13 +424,17 @@ fn changes_are_told(rt: &impl Abort, header: &mut Header) -> Result<bool, NoMemo
     has_no_second(header)
 }
 
+/// Whether the list is shared, told as it is after each change, and a view of before keeps its own.
+fn is_told(rt: &impl Abort, header: &mut Header) -> Result<bool, NoMemory> {
+    let shared = is_shared(header)?;
+    let before = header.view()?;
+    let told = holds(changes_are_told(rt, header));
+    Ok(shared && told && before.snaps.len() == 2 && header.snaps().len() == 1)
+}
+
 #[test]
 fn a_shared_list_is_told_until_it_changes(rt: HostRuntime) -> Result<(), Fail> {
     let mut header = snapped(&rt, rt.alloc())?;
-    assert!(rt; holds(is_shared(&mut header)));
-    let before = header.view()?;
-    assert!(rt; holds(changes_are_told(&rt, &mut header)));
-    assert!(rt; before.snaps.len() == 2);
-    assert!(rt; header.snaps().len() == 1);
+    assert!(rt; holds(is_told(&rt, &mut header)));
     Ok(())
 }

@@ -8,6 +8,7 @@ ghost use Rattle.rbd_site.specs.Log.{records_of};
 ghost use Rattle.rbd_site.specs.Step.{MayDo};
 
 use super::bench::{Bench, IMAGE, create, name};
+use super::holds;
 use rbd_kinds::{
     Answer, ChildrenOp, DataOp, DirectoryOp, HeaderOp, Instance, NoMemory, Notice, NoticeKind, Op,
     Parts, SessionNo, SnapContext, SnapId, SnapIds,
@@ -116,7 +117,6 @@ fn on_header(word: &str) -> HeaderOp
     ensures { (header : Option HeaderView) → MayDoOnHeader header result }
 {
     let owner = instance(1, 0);
-    let kind = NoticeKind::RequestLock;
     match word {
         "header-get" => HeaderOp::Get,
         "header-detach" => HeaderOp::Detach,
@@ -127,7 +127,9 @@ fn on_header(word: &str) -> HeaderOp
         "watch" => HeaderOp::Watch,
         "unwatch" => HeaderOp::Unwatch,
         "watchers-get" => HeaderOp::WatchersGet,
-        _ => HeaderOp::Notify { kind },
+        _ => HeaderOp::Notify {
+            kind: NoticeKind::RequestLock,
+        },
     }
 }
 
@@ -171,8 +173,7 @@ fn on_object(alloc: Global, word: &str) -> DataOp
 fn apply(bench: &mut Bench, me: Instance, op: Op, want: &str) -> Result<bool, NoMemory>
     requires { MayDo (records_of bench.old.site) me op }
 {
-    let answer = bench.apply(me, op)?;
-    Ok(is_answer(&answer, want))
+    Ok(is_answer(bench.apply(me, op)?, want))
 }
 
 /// Whether an operation on the directory is answered so.
@@ -225,16 +226,22 @@ fn held_by(owner: &Instance) -> &'static str {
     }
 }
 
-fn is_answer(answer: &Answer, want: &str) -> bool {
+fn word_of(answer: &Answer) -> &'static str {
     match answer {
-        Answer::Held(owner) => want == held_by(owner),
-        _ => want == answer.word(),
+        Answer::Held(owner) => held_by(owner),
+        _ => answer.word(),
     }
 }
 
+/// Whether an answer is told so. It is let go here.
+fn is_answer(answer: Answer, want: &str) -> bool {
+    let same = word_of(&answer) == want;
+    drop(answer);
+    same
+}
+
 fn is_made(bench: &mut Bench, alloc: Global, me: Instance, want: &str) -> Result<bool, NoMemory> {
-    let answer = create(bench, me, alloc)?;
-    Ok(is_answer(&answer, want))
+    Ok(is_answer(create(bench, me, alloc)?, want))
 }
 
 fn is_ended(bench: &mut Bench, want: &str) -> Result<bool, NoMemory> {
@@ -270,16 +277,29 @@ fn are(list: &[Instance], want: &str) -> bool {
             .all(|(instance, wanted)| digit(instance) == wanted)
 }
 
-/// Whether these watch.
-fn watch(bench: &Bench, want: &str) -> Result<bool, NoMemory> {
+fn ask_who_watches(bench: &Bench) -> Result<Answer, NoMemory> {
     let op = Op::Header {
         image: IMAGE,
         op: HeaderOp::WatchersGet,
     };
-    match bench.site.answer(instance(3, 0), &op)? {
-        Answer::Instances(list) => Ok(are(list.as_slice(), want)),
-        _ => Ok(want == "-"),
-    }
+    let told = bench.site.answer(instance(3, 0), &op);
+    drop(op);
+    told
+}
+
+/// Whether an answer tells these watchers. It is let go here.
+fn are_told(answer: Answer, want: &str) -> bool {
+    let same = match &answer {
+        Answer::Instances(list) => are(list.as_slice(), want),
+        _ => want == "-",
+    };
+    drop(answer);
+    same
+}
+
+/// Whether these watch.
+fn watch(bench: &Bench, want: &str) -> Result<bool, NoMemory> {
+    Ok(are_told(ask_who_watches(bench)?, want))
 }
 
 fn number(word: &str) -> u64 {
@@ -323,11 +343,10 @@ fn row_holds(
     row_of(rt, alloc, bench, who(me), rest)
 }
 
-fn run(rt: &impl Abort, alloc: Global, bench: &mut Bench) -> Result<(), Fail> {
+fn run(rt: &impl Abort, alloc: Global, bench: &mut Bench) {
     for row in TWO_AT_ONE_HEADER.split('\n') {
-        assert!(rt; row_holds(rt, alloc, bench, row)?, "{row}");
+        assert!(rt; holds(row_holds(rt, alloc, bench, row)), "{row}");
     }
-    Ok(())
 }
 
 /// Whether a notice goes from one of these to the other, and asks for the lock.
@@ -370,9 +389,8 @@ fn are_posted(rt: &impl Abort, bench: &Bench) {
 
 #[test]
 fn two_instances_share_a_header(rt: HostRuntime) -> Result<(), Fail> {
-    let alloc = rt.alloc();
-    let mut bench = Bench::new(alloc)?;
-    run(&rt, alloc, &mut bench)?;
+    let mut bench = Bench::new(rt.alloc())?;
+    run(&rt, rt.alloc(), &mut bench);
     are_posted(&rt, &bench);
     assert!(rt; count_fenced(&bench) == 17);
     Ok(())

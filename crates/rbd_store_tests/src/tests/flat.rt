@@ -1,4 +1,5 @@
 //! Each effect once, with the bytes worked out by hand, and the answers of a read.
+use super::holds;
 use rbd_flat::{Effect, Extents, FlatFault, FlatSite};
 use rbd_kinds::{Bytes, Extent, ImageId, Name, NoMemory, Role, SnapId, SnapStatus};
 use std::alloc::Global;
@@ -137,16 +138,18 @@ fn clone_and_forget(site: &mut FlatSite) -> Result<(), NoMemory> {
     take(site, Effect::Unsnap { image: DISK, snap })
 }
 
+/// Whether the snapshot, and then the image, isn't there any more.
+fn is_gone(site: &mut FlatSite) -> Result<bool, NoMemory> {
+    clone_and_forget(site)?;
+    let snap = fault(site, DISK, Some(FIRST), 0, 1) == Some(FlatFault::NoSnap);
+    take(site, Effect::Gone { image: DISK })?;
+    Ok(snap && fault(site, DISK, None, 0, 1) == Some(FlatFault::NoImage))
+}
+
 #[test]
 fn a_clone_outlives_its_parent(rt: HostRuntime) -> Result<(), Fail> {
     let mut site = taken(&rt, rt.alloc())?;
-    clone_and_forget(&mut site)?;
-    assert_eq!(rt;
-        fault(&site, DISK, Some(FIRST), 0, 1),
-        Some(FlatFault::NoSnap)
-    );
-    take(&mut site, Effect::Gone { image: DISK })?;
-    assert_eq!(rt; fault(&site, DISK, None, 0, 1), Some(FlatFault::NoImage));
+    assert!(rt; holds(is_gone(&mut site)));
     image_shows(&rt, &site, COPY, None, &[0, 5, 6, 0, 0, 0, 1, 2]);
     Ok(())
 }
@@ -190,21 +193,29 @@ fn given_role(site: &mut FlatSite, role: Role) -> Result<(), NoMemory> {
     site.after(&Effect::Role { image: DISK, role })
 }
 
+/// Whether the snapshot is linked, and then no more.
+fn is_linked(alloc: Global, site: &mut FlatSite) -> Result<bool, NoMemory> {
+    let before = prints(alloc, site, "Link {");
+    linked(site, true)?;
+    let after = prints(alloc, site, "Link {");
+    linked(site, false)?;
+    Ok(!before && after && !prints(alloc, site, "Link {"))
+}
+
+/// Whether the snapshot is marked, and the image given a role.
+fn is_marked(alloc: Global, site: &mut FlatSite) -> Result<bool, NoMemory> {
+    let before = prints(alloc, site, "Unprotected") && prints(alloc, site, "role: Plain");
+    marked(site, SnapStatus::Protected)?;
+    given_role(site, Role::Primary)?;
+    let after = prints(alloc, site, "status: Protected") && prints(alloc, site, "role: Primary");
+    Ok(before && after)
+}
+
 #[test]
 fn links_and_marks_are_taken(rt: HostRuntime) -> Result<(), Fail> {
     let mut site = taken(&rt, rt.alloc())?;
-    let alloc = rt.alloc();
-    assert!(rt; !prints(alloc, &site, "Link {"));
-    linked(&mut site, true)?;
-    assert!(rt; prints(alloc, &site, "Link {"));
-    assert!(rt; prints(alloc, &site, "Unprotected"));
-    marked(&mut site, SnapStatus::Protected)?;
-    assert!(rt; prints(alloc, &site, "status: Protected"));
-    assert!(rt; prints(alloc, &site, "role: Plain"));
-    given_role(&mut site, Role::Primary)?;
-    assert!(rt; prints(alloc, &site, "role: Primary"));
-    linked(&mut site, false)?;
-    assert!(rt; !prints(alloc, &site, "Link {"));
+    assert!(rt; holds(is_linked(rt.alloc(), &mut site)));
+    assert!(rt; holds(is_marked(rt.alloc(), &mut site)));
     // None of these changes a byte.
     shows(&rt, &site, None, &[0, 5, 6, 0, 0, 0, 1, 2]);
     shows(&rt, &site, Some(FIRST), &[0, 5, 6, 0, 0, 0, 1, 2]);
@@ -252,19 +263,18 @@ fn a_name_moves_and_goes(rt: HostRuntime) -> Result<(), Fail> {
     Ok(())
 }
 
+/// Whether a read of an image, of a snapshot and of an extent that isn't there has its fault.
+fn has_its_faults(site: &FlatSite) -> bool {
+    let images = fault(site, COPY, Some(FIRST), 9, 0) == Some(FlatFault::NoImage);
+    let snaps = fault(site, DISK, Some(FIRST), 9, 0) == Some(FlatFault::NoSnap);
+    let empty = fault(site, DISK, None, 0, 0) == Some(FlatFault::BadRange);
+    let past = fault(site, DISK, None, 7, 2) == Some(FlatFault::BadRange);
+    images && snaps && empty && past && fault(site, DISK, None, 7, 1).is_none()
+}
+
 #[test]
 fn faults_of_a_read(rt: HostRuntime) -> Result<(), Fail> {
     let site = written(rt.alloc())?;
-    assert_eq!(rt;
-        fault(&site, COPY, Some(FIRST), 9, 0),
-        Some(FlatFault::NoImage)
-    );
-    assert_eq!(rt;
-        fault(&site, DISK, Some(FIRST), 9, 0),
-        Some(FlatFault::NoSnap)
-    );
-    assert_eq!(rt; fault(&site, DISK, None, 0, 0), Some(FlatFault::BadRange));
-    assert_eq!(rt; fault(&site, DISK, None, 7, 2), Some(FlatFault::BadRange));
-    assert_eq!(rt; fault(&site, DISK, None, 7, 1), None);
+    assert!(rt; has_its_faults(&site));
     Ok(())
 }

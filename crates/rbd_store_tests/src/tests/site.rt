@@ -1,10 +1,11 @@
 //! What a site answers and logs. The wanted answers were worked out from the rules in prose.
-ghost use Rattle.std.specs.Prelude.{◌≡◌, IfOk, ◌+◌, ◌≤◌};
+ghost use Rattle.std.specs.Prelude.{◌≡◌, IfOk, ◌≤◌};
 ghost use Rattle.rbd_kinds.specs.Parts.{parts_len};
 ghost use Rattle.rbd_object.specs.Parts.{AreWithin};
 ghost use Rattle.rbd_site.specs.DataStep.{MayDoOnData};
 
 use super::bench::{Bench, C1, IMAGE, create, name};
+use super::holds;
 use rbd_kinds::{
     Answer, Bytes, ChildrenOp, DataOp, DirectoryOp, HeaderOp, ImageId, Name, NoMemory, Op, Part,
     Parts, SiteId, SnapContext, SnapId, SnapIds,
@@ -98,53 +99,73 @@ fn read(
     on_object(bench, object, DataOp::Read { snap, parts })
 }
 
-fn is_done(answer: &Answer) -> bool {
-    matches!(answer, Answer::Done)
+// Each of these lets the answer go that it looks at, so that no caller does.
+
+fn is_done(answer: Answer) -> bool {
+    let same = matches!(&answer, Answer::Done);
+    drop(answer);
+    same
 }
 
-fn is_absent(answer: &Answer) -> bool {
-    matches!(answer, Answer::Absent)
+fn is_absent(answer: Answer) -> bool {
+    let same = matches!(&answer, Answer::Absent);
+    drop(answer);
+    same
 }
 
-fn are_bytes(answer: &Answer, wanted: &[u8]) -> bool {
-    match answer {
+fn are_bytes(answer: Answer, wanted: &[u8]) -> bool {
+    let same = match &answer {
         Answer::Bytes(bytes) => bytes.as_slice() == wanted,
         _ => false,
-    }
+    };
+    drop(answer);
+    same
 }
 
-/// Whether a line has this number, is the operation of an instance, and has these words.
-fn is_line(line: &Done, number: u64, kind: &str, answer: &str) -> bool {
-    if line.number != number {
-        return false;
-    }
-    if line.instance != Some(C1) {
-        return false;
-    }
-    match &line.op {
-        DoneOp::Op(op) => op.kind().word() == kind && line.answer.word() == answer,
+fn is_snap(answer: Answer, number: u32) -> bool {
+    let same = match &answer {
+        Answer::Snap(snap) => snap.0 == number,
         _ => false,
-    }
+    };
+    drop(answer);
+    same
 }
 
-fn has_line(site: &Site, number: u64, kind: &str, answer: &str) -> bool {
-    for line in site.log() {
-        if is_line(line, number, kind, answer) {
-            return true;
-        }
+fn is_id(answer: Answer, id: u32) -> bool {
+    let same = match &answer {
+        Answer::Id(image) => image.0 == id,
+        _ => false,
+    };
+    drop(answer);
+    same
+}
+
+fn are_told_ids(answer: Answer, wanted: &[u32]) -> bool {
+    let same = match &answer {
+        Answer::Ids(ids) => are_ids(ids.as_slice(), wanted),
+        _ => false,
+    };
+    drop(answer);
+    same
+}
+
+fn are_ids(ids: &[ImageId], wanted: &[u32]) -> bool {
+    if ids.len() != wanted.len() {
+        return false;
     }
-    false
+    ids.iter()
+        .zip(wanted.iter())
+        .all(|(id, number)| id.0 == *number)
 }
 
 /// Whether the image is made, and its object 0 begins with 17.
 fn is_begun(rt: &impl Abort, alloc: Global, bench: &mut Bench) -> Result<bool, NoMemory> {
-    let drawn = draws(bench, name(rt, alloc, b"d")?, 1);
+    let drawn = draws(rt, alloc, bench, 1)?;
     Ok(drawn && is_created(bench, alloc)? && is_written(bench, alloc, 0, 17))
 }
 
 fn is_created(bench: &mut Bench, alloc: Global) -> Result<bool, NoMemory> {
-    let answer = create(bench, C1, alloc)?;
-    Ok(is_done(&answer))
+    Ok(is_done(create(bench, C1, alloc)?))
 }
 
 /// A site with one image, whose object 0 begins with 17.
@@ -157,23 +178,16 @@ fn with_image(rt: &impl Abort, alloc: Global) -> Result<Bench, NoMemory> {
 /// Whether the snapshot is taken that gets this number.
 fn takes(bench: &mut Bench, name: Name, number: u32) -> bool {
     match take_snap(bench, name) {
-        Ok(answer) => is_snap(&answer, number),
+        Ok(answer) => is_snap(answer, number),
         Err(_) => false,
-    }
-}
-
-fn is_snap(answer: &Answer, number: u32) -> bool {
-    match answer {
-        Answer::Snap(snap) => snap.0 == number,
-        _ => false,
     }
 }
 
 /// Whether snapshot 1 is taken, and the byte becomes 34 after it.
 fn is_taken(rt: &impl Abort, alloc: Global, bench: &mut Bench) -> Result<bool, NoMemory> {
     let taken = takes(bench, name(rt, alloc, b"s")?, 1);
-    let written = write(bench, alloc, 1, 34)?;
-    Ok(taken && is_done(&written))
+    let written = is_done(write(bench, alloc, 1, 34)?);
+    Ok(taken && written)
 }
 
 /// The same with snapshot 1, after which the byte became 34.
@@ -183,65 +197,106 @@ fn with_snapshot(rt: &impl Abort, alloc: Global) -> Result<Bench, NoMemory> {
     Ok(bench)
 }
 
-/// Whether a name leads to no image.
-fn is_unknown(site: &Site, name: Name) -> bool {
-    match site.answer(C1, &Op::Directory(DirectoryOp::Find { name })) {
-        Ok(answer) => is_absent(&answer),
-        Err(_) => false,
-    }
+fn find(site: &Site, name: Name) -> Result<Answer, NoMemory> {
+    let op = Op::Directory(DirectoryOp::Find { name });
+    let found = site.answer(C1, &op);
+    drop(op);
+    found
+}
+
+/// Whether `disk` leads to no image, and the look isn't logged.
+fn is_unknown(rt: &impl Abort, alloc: Global, site: &Site) -> Result<bool, NoMemory> {
+    let name = name(rt, alloc, b"disk")?;
+    let absent = is_absent(find(site, name)?);
+    Ok(absent && site.log().is_empty())
 }
 
 #[test]
 fn an_unknown_name_is_absent(rt: HostRuntime) -> Result<(), Fail> {
     let site = Site::new(rt.alloc(), SiteId::A)?;
-    assert!(rt; is_unknown(&site, name(&rt, rt.alloc(), b"disk")?));
-    assert!(rt; site.log().is_empty());
+    assert!(rt; holds(is_unknown(&rt, rt.alloc(), &site)));
     Ok(())
+}
+
+/// Whether the snapshot shows the byte before it, and the head the one after it.
+fn shows_both(bench: &mut Bench, alloc: Global) -> bool {
+    reads(bench, alloc, 0, Some(SnapId(1)), &[17, 0]) && reads(bench, alloc, 0, None, &[34, 0])
 }
 
 #[test]
 fn a_snapshot_shows_what_was_written_before(rt: HostRuntime) -> Result<(), Fail> {
-    let alloc = rt.alloc();
-    let mut bench = with_snapshot(&rt, alloc)?;
-    assert!(rt; reads(&mut bench, alloc, 0, Some(SnapId(1)), &[17, 0]));
-    assert!(rt; reads(&mut bench, alloc, 0, None, &[34, 0]));
+    let mut bench = with_snapshot(&rt, rt.alloc())?;
+    assert!(rt; shows_both(&mut bench, rt.alloc()));
     Ok(())
+}
+
+/// The log behind a read of an object that isn't there: number, operation and answer.
+const LINES: &str = "1|dir-add|id
+2|header-create|done
+3|data-write|done
+4|header-snap-add|snap
+5|data-write|done
+6|data-read|none";
+
+fn is_op(op: &DoneOp, kind: &str) -> bool {
+    match op {
+        DoneOp::Op(op) => op.kind().word() == kind,
+        _ => false,
+    }
+}
+
+/// Whether a line is the operation of the instance that a row wants.
+fn is_line(line: &Done, row: &str) -> bool {
+    let Some((number, rest)) = row.split_once('|') else {
+        return false;
+    };
+    let Some((kind, answer)) = rest.split_once('|') else {
+        return false;
+    };
+    if line.instance != Some(C1) || number.parse::<u64>() != Ok(line.number) {
+        return false;
+    }
+    is_op(&line.op, kind) && line.answer.word() == answer
+}
+
+fn are_lines(rt: &impl Abort, log: &[Done]) {
+    assert_eq!(rt; log.len(), 6);
+    for (line, row) in log.iter().zip(LINES.split('\n')) {
+        assert!(rt; is_line(line, row), "{row}");
+    }
+}
+
+/// Reads an object that isn't there, and looks at the log.
+fn read_and_look(rt: &impl Abort, alloc: Global, bench: &mut Bench) {
+    assert!(rt; !reads(bench, alloc, 7, None, &[0, 0]));
+    are_lines(rt, bench.site.log());
 }
 
 #[test]
 fn each_operation_is_a_line(rt: HostRuntime) -> Result<(), Fail> {
-    let alloc = rt.alloc();
-    let mut bench = with_snapshot(&rt, alloc)?;
-    assert!(rt; !reads(&mut bench, alloc, 7, None, &[0, 0]));
-    assert_eq!(rt; bench.site.log().len(), 6);
-    assert!(rt; has_line(&bench.site, 1, "dir-add", "id"));
-    assert!(rt; has_line(&bench.site, 2, "header-create", "done"));
-    assert!(rt; has_line(&bench.site, 3, "data-write", "done"));
-    assert!(rt; has_line(&bench.site, 4, "header-snap-add", "snap"));
-    assert!(rt; has_line(&bench.site, 5, "data-write", "done"));
-    assert!(rt; has_line(&bench.site, 6, "data-read", "none"));
+    let mut bench = with_snapshot(&rt, rt.alloc())?;
+    read_and_look(&rt, rt.alloc(), &mut bench);
     Ok(())
+}
+
+/// Whether object 0 is trimmed, and object 7, which isn't there, is not.
+fn trims_what_is_there(site: &mut Site) -> Result<bool, NoMemory> {
+    let there = site.trim(IMAGE, 0)?;
+    let missing = site.trim(IMAGE, 7)?;
+    Ok(there && !missing && site.log().len() == 6)
 }
 
 #[test]
 fn an_object_is_there_once_it_was_changed(rt: HostRuntime) -> Result<(), Fail> {
-    let alloc = rt.alloc();
-    let mut bench = with_snapshot(&rt, alloc)?;
-    assert!(rt; holds(bench.site.trim(IMAGE, 0)));
-    assert!(rt; !holds(bench.site.trim(IMAGE, 7)));
-    assert_eq!(rt; bench.site.log().len(), 6);
+    let mut bench = with_snapshot(&rt, rt.alloc())?;
+    assert!(rt; holds(trims_what_is_there(&mut bench.site)));
     Ok(())
-}
-
-/// Whether a check ran to its end and found what it looked for.
-fn holds(found_out: Result<bool, NoMemory>) -> bool {
-    found_out.unwrap_or(false)
 }
 
 /// Whether a write is done.
 fn is_written(bench: &mut Bench, alloc: Global, object: u64, byte: u8) -> bool {
     match write_to(bench, alloc, object, 0, byte) {
-        Ok(answer) => is_done(&answer),
+        Ok(answer) => is_done(answer),
         Err(_) => false,
     }
 }
@@ -255,27 +310,35 @@ fn reads(
     wanted: &[u8],
 ) -> bool {
     match read(bench, alloc, object, snap, 2) {
-        Ok(answer) => are_bytes(&answer, wanted),
+        Ok(answer) => are_bytes(answer, wanted),
         Err(_) => false,
     }
 }
 
+/// Whether object 7 gets a byte of its own.
+fn gets_its_own(bench: &mut Bench, alloc: Global) -> bool {
+    let written = is_written(bench, alloc, 7, 51);
+    let there = reads(bench, alloc, 7, None, &[51, 0]);
+    written && there && reads(bench, alloc, 0, None, &[17, 0])
+}
+
 #[test]
 fn a_write_to_object_7_is_read_there_alone(rt: HostRuntime) -> Result<(), Fail> {
-    let alloc = rt.alloc();
-    let mut bench = with_image(&rt, alloc)?;
-    assert!(rt; is_written(&mut bench, alloc, 7, 51));
-    assert!(rt; reads(&mut bench, alloc, 7, None, &[51, 0]));
-    assert!(rt; reads(&mut bench, alloc, 0, None, &[17, 0]));
+    let mut bench = with_image(&rt, rt.alloc())?;
+    assert!(rt; gets_its_own(&mut bench, rt.alloc()));
     Ok(())
+}
+
+/// Whether the object is trimmed, and the snapshot shows its byte.
+fn is_kept(bench: &mut Bench, alloc: Global) -> Result<bool, NoMemory> {
+    let trimmed = bench.site.trim(IMAGE, 0)?;
+    Ok(trimmed && reads(bench, alloc, 0, Some(SnapId(1)), &[17, 0]))
 }
 
 #[test]
 fn a_listed_snapshot_reads_the_same_after_a_trim(rt: HostRuntime) -> Result<(), Fail> {
-    let alloc = rt.alloc();
-    let mut bench = with_snapshot(&rt, alloc)?;
-    assert!(rt; holds(bench.site.trim(IMAGE, 0)));
-    assert!(rt; reads(&mut bench, alloc, 0, Some(SnapId(1)), &[17, 0]));
+    let mut bench = with_snapshot(&rt, rt.alloc())?;
+    assert!(rt; holds(is_kept(&mut bench, rt.alloc())));
     Ok(())
 }
 
@@ -288,32 +351,32 @@ fn is_freed_once(bench: &mut Bench) -> bool {
 
 fn is_freed(bench: &mut Bench) -> bool {
     match bench.apply(C1, Op::Directory(DirectoryOp::Remove { image: IMAGE })) {
-        Ok(answer) => is_done(&answer),
+        Ok(answer) => is_done(answer),
         Err(_) => false,
     }
 }
 
-/// Whether the name gets this id.
-fn draws(bench: &mut Bench, name: Name, id: u32) -> bool {
-    match bench.apply(C1, Op::Directory(DirectoryOp::Add { name })) {
-        Ok(answer) => is_id(&answer, id),
-        Err(_) => false,
-    }
+/// Whether the name of the image gets this id.
+fn draws(rt: &impl Abort, alloc: Global, bench: &mut Bench, id: u32) -> Result<bool, NoMemory> {
+    let name = name(rt, alloc, b"d")?;
+    Ok(is_id(add_name(bench, name)?, id))
 }
 
-fn is_id(answer: &Answer, id: u32) -> bool {
-    match answer {
-        Answer::Id(image) => image.0 == id,
-        _ => false,
-    }
+fn add_name(bench: &mut Bench, name: Name) -> Result<Answer, NoMemory> {
+    bench.apply(C1, Op::Directory(DirectoryOp::Add { name }))
+}
+
+/// Whether the name is freed, and gets another id when it is added again.
+fn draws_another(rt: &impl Abort, alloc: Global, bench: &mut Bench) -> Result<bool, NoMemory> {
+    let freed = is_freed_once(bench);
+    let drawn = draws(rt, alloc, bench, 2)?;
+    Ok(freed && drawn)
 }
 
 #[test]
 fn a_freed_name_is_absent_and_its_id_is_not_drawn_again(rt: HostRuntime) -> Result<(), Fail> {
-    let alloc = rt.alloc();
-    let mut bench = with_image(&rt, alloc)?;
-    assert!(rt; is_freed_once(&mut bench));
-    assert!(rt; draws(&mut bench, name(&rt, alloc, b"d")?, 2));
+    let mut bench = with_image(&rt, rt.alloc())?;
+    assert!(rt; holds(draws_another(&rt, rt.alloc(), &mut bench)));
     Ok(())
 }
 
@@ -339,7 +402,7 @@ fn removes_child(bench: &mut Bench, snap: u32, child: u32) -> bool {
 
 fn on_children(bench: &mut Bench, op: ChildrenOp) -> bool {
     match bench.apply(C1, Op::Children(op)) {
-        Ok(answer) => is_done(&answer),
+        Ok(answer) => is_done(answer),
         Err(_) => false,
     }
 }
@@ -351,25 +414,9 @@ fn are_children(bench: &mut Bench, snap: u32, wanted: &[u32]) -> bool {
         snap: SnapId(snap),
     };
     match bench.apply(C1, Op::Children(list)) {
-        Ok(answer) => are_told_ids(&answer, wanted),
+        Ok(answer) => are_told_ids(answer, wanted),
         Err(_) => false,
     }
-}
-
-fn are_told_ids(answer: &Answer, wanted: &[u32]) -> bool {
-    match answer {
-        Answer::Ids(ids) => are_ids(ids.as_slice(), wanted),
-        _ => false,
-    }
-}
-
-fn are_ids(ids: &[ImageId], wanted: &[u32]) -> bool {
-    if ids.len() != wanted.len() {
-        return false;
-    }
-    ids.iter()
-        .zip(wanted.iter())
-        .all(|(id, number)| id.0 == *number)
 }
 
 /// Whether children of two snapshots are listed by snapshot, ascending.
@@ -393,7 +440,6 @@ fn lists_what_is_left(bench: &mut Bench) -> bool {
 #[test]
 fn children_are_listed_by_snapshot(rt: HostRuntime) -> Result<(), Fail> {
     let mut bench = Bench::new(rt.alloc())?;
-    assert!(rt; lists_children(&mut bench));
-    assert!(rt; lists_what_is_left(&mut bench));
+    assert!(rt; lists_children(&mut bench) && lists_what_is_left(&mut bench));
     Ok(())
 }

@@ -1,4 +1,3 @@
-use Rattle.std.proofs.Common.{◌≡◌, length}
 use Rattle.rbd_script.proofs.PairsRead.{IsReadTo}
 use Rattle.rbd_script.proofs.payload.read_pairs.Given as goal
 

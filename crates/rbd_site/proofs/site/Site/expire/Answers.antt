@@ -2,7 +2,7 @@ use Rattle.std.proofs.Common.{◌≡◌, ◌+◌, length, Option, Some, refl, sy
 use Rattle.rbd_kinds.specs.declared.id.Instance.{Instance}
 use Rattle.rbd_watch.specs.Watching.{oldest_of}
 use Rattle.rbd_site.specs.InForm.{AreInForm}
-use Rattle.rbd_site.specs.Log.{SiteLog, records_of, expire_line, expired, expired_by}
+use Rattle.rbd_site.specs.Log.{SiteLog, records_of, expire_line, expired_by}
 use Rattle.rbd_site.specs.Maps.{kept}
 use Rattle.rbd_site.specs.Records.{Records}
 use Rattle.rbd_site.proofs.FormLemmas.{form_expired}

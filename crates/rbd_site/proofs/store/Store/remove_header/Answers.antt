@@ -1,16 +1,13 @@
 use Rattle.std.proofs.Common.{None, sym, ap, ◌∙◌}
-use Rattle.std.specs.Prelude.{ℕ, List, Option}
+use Rattle.std.specs.Prelude.{List}
 use Rattle.std.proofs.Math.Path.{fun_ext}
-use Rattle.rbd_kinds.specs.declared.header.HeaderView.{HeaderView}
 use Rattle.rbd_kinds.specs.declared.header_op.HeaderOp.TheVariants.{Remove}
 use Rattle.rbd_kinds.specs.declared.id.Instance.{Instance}
 use Rattle.rbd_site.specs.HeaderStep.{header_after}
-use Rattle.rbd_site.specs.Maps.{header_in, kept, watchers_in}
-use Rattle.rbd_site.specs.Records.{put, with_watchers}
-use Rattle.rbd_site.specs.WatchStep.{watchers_after}
+use Rattle.rbd_site.specs.Maps.{kept}
+use Rattle.rbd_site.specs.Records.{put}
 use Rattle.rbd_site.proofs.HeaderLemmas.{after_remove}
-use Rattle.rbd_site.proofs.OneChange.{header_put, none_from_test}
-use Rattle.rbd_site.proofs.TrimLemmas.{with_header_same, with_watchers_same}
+use Rattle.rbd_site.proofs.OneChange.{header_put}
 use Rattle.rbd_site.proofs.WatchLemmas.{removed_watched}
 use Rattle.rbd_site.proofs.store.Store.remove_header.Goals as goal
 

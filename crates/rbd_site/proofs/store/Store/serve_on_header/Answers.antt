@@ -1,13 +1,12 @@
 use Rattle.std.proofs.Common.{refl, sym, ap, ◌∙◌}
-use Rattle.std.specs.Prelude.{ℕ, List, Option}
+use Rattle.std.specs.Prelude.{ℕ, Option}
 use Rattle.std.proofs.Math.Path.{fun_ext}
 use Rattle.std.proofs.lemmas.Result.{on_ok_weaker, on_err_weaker}
 use Rattle.rbd_kinds.specs.declared.header.HeaderView.{HeaderView}
-use Rattle.rbd_kinds.specs.declared.id.Instance.{Instance}
 use Rattle.rbd_site.specs.HeaderStep.{header_after}
 use Rattle.rbd_site.specs.Maps.{kept}
-use Rattle.rbd_site.specs.Records.{put, with_header, with_watchers}
-use Rattle.rbd_site.specs.WatchStep.{notified, receivers, watchers_after}
+use Rattle.rbd_site.specs.Records.{with_header}
+use Rattle.rbd_site.specs.WatchStep.{receivers, watchers_after}
 use Rattle.rbd_site.proofs.TrimLemmas.{with_watchers_same}
 use Rattle.rbd_site.proofs.WatchLemmas.{if_there, others_untold, others_watched}
 use Rattle.rbd_site.proofs.store.Store.serve_on_header.Goals as goal
