@@ -1,10 +1,10 @@
 //! The top call.
-ghost use Rattle.std.specs.Prelude.{◌≡◌, ◌≢◌, [], drop, Some, ◌+◌, ◌-◌, ◌^◌, ◌<◌, ◌≤◌, ◌⊎◌, ◌↔◌, List, ℕ, codes, length, map, take, IsTrue, IfOk, IfSome};
+ghost use Rattle.std.specs.Prelude.{◌≡◌, ◌≢◌, ◌+◌, ◌-◌, ◌^◌, ◌<◌, map, IfOk};
 ghost use Rattle.std.specs.String.{string_bytes};
 ghost use Rattle.rbd_edge.specs.Source.{IsFurther};
 ghost use Rattle.rbd_edge.specs.Sink.{held_with, GainsFront};
 ghost use Rattle.rbd_script.specs.Reading.{limit};
-ghost use Rattle.rbd_lab.specs.Run.{Answers, AreRun, IsBadLine, IsCut, IsDone, IsForOthers, IsSilent, IsUsage, Tells, code_of, words_of};
+ghost use Rattle.rbd_lab.specs.Run.{Answers, IsBadLine, IsCut, IsDone, IsForOthers, IsSilent, IsUsage, Tells, code_of, words_of};
 
 use crate::mode::Mode;
 use crate::play::output;

@@ -1,11 +1,10 @@
 -- Where nobody is in a slot, each command has its reply.
-use Rattle.std.proofs.Common.{◌≡◌, ℕ, zero, suc, ◌+◌, ◌<◌, ◌≤◌, ◌==◌, ◌&&◌, ◌||◌, ◌⊎◌, inl, inr, cond, not, nat_lt, Bool, true, false, List, [], ◌∷◌, ◌++◌, All, length, map, filter, is_some, slice_get, Option, Some, None, refl, sym, ap, ◌∙◌, subst, arith}
+use Rattle.std.proofs.Common.{◌≡◌, ℕ, zero, suc, ◌+◌, ◌<◌, ◌≤◌, ◌==◌, ◌&&◌, ◌||◌, ◌⊎◌, inl, inr, cond, not, nat_lt, Bool, true, false, List, [], ◌∷◌, ◌++◌, All, length, is_some, slice_get, Option, Some, None, refl, sym, ap, ◌∙◌, subst, arith}
 use Rattle.std.proofs.lemmas.Bool.{cases_eq, cases_lt, eq-eqb, false≢true, ne_eqb, true≢false}
 use Rattle.std.proofs.lemmas.List.Elements.{All-cons, All-nil, filter-append}
-use Rattle.std.proofs.lemmas.Option.{none-some, slice_get_past}
+use Rattle.std.proofs.lemmas.Option.{none-some}
 use Rattle.rbd_flat.specs.declared.effect.Effect.{Effect}
 use Rattle.rbd_kinds.specs.declared.id.SiteId.{SiteId}
-use Rattle.rbd_kinds.specs.declared.reply.Reply.{Reply}
 use Rattle.rbd_machine.specs.Plan.{Standing}
 use Rattle.rbd_script.specs.declared.script.Declared.{Declared}
 use Rattle.rbd_script.specs.declared.script.Line.{Line}
@@ -16,8 +15,8 @@ use Rattle.rbd_session.specs.Session.{SessionView, IsSoundSession, held_in, scri
 use Rattle.rbd_world.specs.declared.event.Event.{Event}
 use Rattle.rbd_world.specs.declared.event.Event.TheVariants as event
 use Rattle.rbd_world.specs.declared.event.Outcome.{Outcome}
-use Rattle.rbd_world.specs.Run.{Asked, Happening, Nothing, Waited, Began, Did, Refused, Trimmed, Operation, asked_by, entries_of, entry_by, history_of, replies_to, reply_entries}
-use Rattle.rbd_world.specs.Sound.{AreFirstClients, FirstIn, IsInSlot, IsOpen, IsSoundWorld, has_reply, held_of, line_at}
+use Rattle.rbd_world.specs.Run.{Asked, Happening, Nothing, Waited, Began, Did, Refused, Trimmed, asked_by, entries_of, entry_by, history_of, replies_to}
+use Rattle.rbd_world.specs.Sound.{FirstIn, IsInSlot, has_reply, held_of, line_at}
 use Rattle.rbd_world.specs.Step.{BecomesOf, Does, IsStep, happening, is_begun, names_session}
 use Rattle.rbd_world.specs.World.{WorldView, free_in, session_in}
 use Rattle.rbd_world.proofs.Runs.{any_append, begun_is_asked, or_false}
@@ -27,10 +26,10 @@ use Rattle.rbd_schedule.specs.Ends.{AreAnswered, IsSpent}
 use Rattle.rbd_schedule.specs.Given.{commands_of, given_by, given_in, of_session}
 use Rattle.rbd_schedule.specs.InOrder.{AreDeclared, NamesDeclared}
 use Rattle.rbd_schedule.specs.Playing.{IsPlay, IsPlayable, homes_of}
-use Rattle.rbd_schedule.specs.Schedule.{Calm, Pace, Round, RoundsOn, Turn, closing_rounds, most_idle}
-use Rattle.rbd_schedule.specs.Starts.{IsQuiet, earliest, is_answered, is_reply_to, to_start}
+use Rattle.rbd_schedule.specs.Schedule.{Calm, Round, RoundsOn, closing_rounds, most_idle}
+use Rattle.rbd_schedule.specs.Starts.{IsQuiet, earliest, is_answered, is_reply_to}
 use Rattle.rbd_schedule.proofs.Ended.{free_there, idle_turns, nobody_in_turns, quiet_turn}
-use Rattle.rbd_schedule.proofs.Idle.{IsSame, quiet_same}
+use Rattle.rbd_schedule.proofs.Idle.{quiet_same}
 use Rattle.rbd_schedule.proofs.Kept.{kept_by_play}
 
 -- ---- a reply in the history is one in the run

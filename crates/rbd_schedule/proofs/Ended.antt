@@ -1,33 +1,28 @@
 -- Behind an idle round nobody is in a slot, and each command has its reply.
-use mathlib.Core.Path.{fun_ext}
-use Rattle.std.proofs.Common.{◌≡◌, ℕ, zero, suc, ◌+◌, ◌<◌, ◌≤◌, ◌==◌, ◌&&◌, ◌||◌, ◌⊎◌, inl, inr, cond, not, nat_lt, Bool, true, false, List, [], ◌∷◌, ◌++◌, All, length, is_some, slice_get, Option, Some, None, IsSome, refl, sym, ap, ◌∙◌, subst, arith}
-use Rattle.std.proofs.lemmas.Bool.{cases_lt, false≢true, or_right, true≢false}
-use Rattle.std.proofs.lemmas.List.Elements.{All-cons, All-nil}
-use Rattle.std.proofs.lemmas.Option.{none-some, same_Some}
+use Rattle.std.proofs.Common.{◌≡◌, ℕ, zero, suc, ◌+◌, ◌<◌, ◌≤◌, ◌⊎◌, inl, inr, cond, true, false, List, is_some, Option, Some, None, refl, sym, ap, ◌∙◌, subst, arith}
+use Rattle.std.proofs.lemmas.Bool.{cases_lt, or_right, true≢false}
+use Rattle.std.proofs.lemmas.Option.{none-some}
 use Rattle.rbd_kinds.specs.declared.id.Instance.{Instance}
 use Rattle.rbd_machine.specs.Label.{Label}
 use Rattle.rbd_machine.specs.Plan.{Plan, Ask, Await, Note, Return, Goto, IsAsking, Standing}
-use Rattle.rbd_session.specs.Session.{IsLowest, SessionView, IsSoundSession, free_slot, held_in, running_at, running_in, script_line}
-use Rattle.rbd_session.specs.Advance.{track_of}
-use Rattle.rbd_session.specs.Waits.{waits}
+use Rattle.rbd_session.specs.Session.{SessionView, IsSoundSession, held_in, running_in, script_line}
 use Rattle.rbd_session.specs.declared.running.Occupant.{Occupant}
 use Rattle.rbd_session.specs.declared.running.Occupant.TheVariants as occupant
 use Rattle.rbd_session.specs.declared.running.Running.{Running}
-use Rattle.rbd_world.specs.declared.event.Event.{Event}
 use Rattle.rbd_world.specs.declared.event.Event.TheVariants as event
 use Rattle.rbd_world.specs.declared.event.Outcome.{Outcome}
 use Rattle.rbd_world.specs.declared.sites.Sites.{Sites}
 use Rattle.rbd_world.specs.Run.{Waited, outcome_of}
 use Rattle.rbd_world.specs.Sound.{held_of, line_at}
-use Rattle.rbd_world.specs.Step.{BecomesOf, IsStep, done_by, is_begun, names_session, polled, polled_in}
-use Rattle.rbd_world.specs.World.{WorldView, free_in, session_in}
+use Rattle.rbd_world.specs.Step.{IsStep, done_by, polled, polled_in}
+use Rattle.rbd_world.specs.World.{WorldView, session_in}
 use Rattle.rbd_schedule.specs.declared.given.Given.{Given}
 use Rattle.rbd_schedule.specs.Deeds.{Deeds}
 use Rattle.rbd_schedule.specs.Going.{GoesIn, MayGo}
-use Rattle.rbd_schedule.specs.Schedule.{Calm, Comes, Pace, PollsIn, PollsWhere, Round, RoundsOn, Turn, goes_on, is_held}
-use Rattle.rbd_schedule.specs.Starts.{IsQuiet, earliest, is_answered, to_start}
+use Rattle.rbd_schedule.specs.Schedule.{Pace, PollsIn, PollsWhere, Turn, goes_on, is_held}
+use Rattle.rbd_schedule.specs.Starts.{IsQuiet}
 use Rattle.rbd_schedule.proofs.Going.{somebody_goes}
-use Rattle.rbd_schedule.proofs.Idle.{HeldPolls, IsIdleSo, IsSame, idle_poll, idle_polls, idle_where, quiet_poll, quiet_polls, quiet_same, same_back, same_itself, same_then}
+use Rattle.rbd_schedule.proofs.Idle.{HeldPolls, IsIdleSo, IsSame, idle_poll, idle_polls, idle_where, quiet_poll, quiet_polls, same_itself, same_then}
 
 -- ---- who may go on goes on by a poll
 

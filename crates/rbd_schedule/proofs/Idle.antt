@@ -1,6 +1,6 @@
 -- A round in which no request went on: nothing changed, and nobody was there.
-use Rattle.std.proofs.Common.{◌≡◌, ℕ, zero, suc, ◌+◌, ◌<◌, ◌≤◌, ◌==◌, ◌||◌, ◌⊎◌, inl, inr, cond, not, Bool, true, false, List, [], ◌∷◌, ◌++◌, append-nil, is_some, Option, Some, None, refl, sym, ap, ◌∙◌, subst, arith}
-use Rattle.std.proofs.lemmas.Bool.{cases_lt, false≢true, or_parts, true≢false}
+use Rattle.std.proofs.Common.{◌≡◌, ℕ, zero, suc, ◌+◌, ◌==◌, ◌⊎◌, inl, inr, cond, Bool, true, false, List, append-nil, is_some, Option, Some, None, refl, sym, ap, ◌∙◌, subst}
+use Rattle.std.proofs.lemmas.Bool.{or_parts, true≢false}
 use Rattle.std.proofs.lemmas.Option.{none-some}
 use Rattle.rbd_machine.specs.Plan.{Plan, Ask, Await, Note, Return, Goto, Standing}
 use Rattle.rbd_session.specs.Session.{SessionView, held_in}
@@ -16,13 +16,13 @@ use Rattle.rbd_world.specs.declared.event.Event.TheVariants as event
 use Rattle.rbd_world.specs.declared.event.Outcome.{Outcome}
 use Rattle.rbd_world.specs.declared.sites.Sites.{Sites}
 use Rattle.rbd_world.specs.Run.{Happening, Nothing, Waited, outcome_of}
-use Rattle.rbd_world.specs.Step.{BecomesOf, Does, IsStep, done_by, names_session, polled, polled_in}
+use Rattle.rbd_world.specs.Step.{BecomesOf, Does, IsStep, done_by, polled, polled_in}
 use Rattle.rbd_world.specs.World.{WorldView, free_in, session_in}
 use Rattle.rbd_world.specs.Step.{is_begun}
 use Rattle.rbd_schedule.specs.declared.given.Given.{Given}
 use Rattle.rbd_schedule.specs.Deeds.{Deeds}
-use Rattle.rbd_schedule.specs.Schedule.{Comes, Pace, PollsIn, PollsWhere, Round, Starts, StartsAll, Turn, goes_on, is_held}
-use Rattle.rbd_schedule.specs.Starts.{IsIdle, IsQuiet, earliest, is_answered, to_start}
+use Rattle.rbd_schedule.specs.Schedule.{Comes, Pace, PollsIn, PollsWhere, Starts, goes_on, is_held}
+use Rattle.rbd_schedule.specs.Starts.{IsIdle, IsQuiet, earliest, is_answered}
 
 -- the sessions are as they were, and nothing was added to the history
 pub record IsSame {R : Type 0} (old new : WorldView R) : Type 0 where

@@ -1,5 +1,5 @@
 -- How a play ends.
-use Rattle.std.specs.Prelude.{◌≡◌, ◌⊎◌, ℕ, true, List, All, length}
+use Rattle.std.specs.Prelude.{◌≡◌, ℕ, true, List, All, length}
 use Rattle.rbd_flat.specs.declared.entry.Entry.{Entry}
 use Rattle.rbd_machine.specs.Plan.{Standing}
 use Rattle.rbd_script.specs.declared.script.Script.{Script}

@@ -1,5 +1,5 @@
 //! A command that a script gives to a session.
-ghost use Rattle.std.specs.Prelude.{◌≡◌, List, [], ◌∷◌, IfOk, Option, Some, None};
+ghost use Rattle.std.specs.Prelude.{◌≡◌, IfOk};
 ghost use Rattle.rbd_schedule.specs.Given.{given_by as told_by, listed};
 
 use rbd_kinds::{NoMemory, SessionNo, TryClone};

@@ -9,7 +9,7 @@
 //! ```
 //!
 //! Both places only go on, so that all looks together cost as much as there are commands.
-ghost use Rattle.std.specs.Prelude.{◌≡◌, ℕ, ◌+◌, ◌<◌, ◌≤◌, ◌∷◌, ◌++◌, [], Bool, true, false, All, length, take, get_or, slice_get, Some, OnOk, IfSome};
+ghost use Rattle.std.specs.Prelude.{◌≡◌, ◌<◌, ◌≤◌, ◌∷◌, ◌++◌, [], true, false, All, length, take, slice_get, Some, OnOk, IfSome};
 ghost use Rattle.rbd_schedule.specs.declared.given.Given.{Given as Commanded};
 ghost use Rattle.rbd_world.specs.Step.{is_begun};
 ghost use Rattle.rbd_schedule.specs.Playing.{IsQueue, at_place, is_beside, is_over as over, has_line};
@@ -107,7 +107,7 @@ fn first_open<E: Machine + Drop>(
 fn is_over<E: Machine + Drop>(given: &Given, world: &World<E>, answered: &HashSet<u32>) -> bool
     ensures { result ≡ over (λ line. is_begun line world.now.history) (λ line. has_line line answered.now) given.now }
 {
-    world.has_begun(given.line) && answered.contains(&given.line)
+    answered.contains(&given.line) && world.has_begun(given.line)
 }
 
 /// The first place from this one on whose command stands beside the others and wasn't begun, and the

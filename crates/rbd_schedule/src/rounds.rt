@@ -5,11 +5,10 @@
 //! round     turn of session 0, turn of session 1, ..
 //! turn      slot 0, and then each slot that is held at this point
 //! ```
-ghost use Rattle.std.specs.Prelude.{◌≡◌, ℕ, ◌+◌, ◌<◌, ◌≤◌, ◌||◌, if◌then◌else◌, length, is_some, slice_get, Some, IfOk, OnOk};
-ghost use Rattle.rbd_requests.specs.declared.request.SessionRequest.{SessionRequest as Of};
+ghost use Rattle.std.specs.Prelude.{◌≡◌, ℕ, ◌+◌, ◌<◌, ◌≤◌, if◌then◌else◌, length, slice_get, Some, IfOk, OnOk};
 ghost use Rattle.rbd_requests.specs.Session.{stands_of};
 ghost use Rattle.rbd_schedule.specs.Playing.{GoesOn, HasChanger, given_to};
-ghost use Rattle.rbd_schedule.specs.Schedule.{Pace, PollsIn, PollsWhere, Round, Settles, Turn, goes_on as goes_on_by, is_held};
+ghost use Rattle.rbd_schedule.specs.Schedule.{PollsIn, PollsWhere, Round, Settles, Turn, goes_on as goes_on_by, is_held};
 
 use crate::runner::Runner;
 use rbd_kinds::{NoMemory, SessionNo, Slot};

@@ -4,12 +4,9 @@
 //! an event ── step ── is there a reply? ── start ── start ── .. ── nothing may start
 //! ```
 ghost use Rattle.std.specs.Prelude.{◌≡◌, ℕ, ◌<◌, ◌≤◌, ◌||◌, ◌++◌, [], true, All, length, slice_get, IfOk, IfSome, OnOk};
-ghost use Rattle.rbd_requests.specs.declared.request.SessionRequest.{SessionRequest as Of};
 ghost use Rattle.rbd_requests.specs.Session.{stands_of};
-ghost use Rattle.rbd_kinds.specs.declared.id.SiteId.{SiteId as Which};
 ghost use Rattle.rbd_world.specs.Sound.{AreFirstClients, IsNewWorld, IsSoundWorld};
 ghost use Rattle.rbd_world.specs.Step.{AreOfOneClient, IsBuiltEvent, IsStep};
-ghost use Rattle.rbd_world.specs.World.{WorldView};
 ghost use Rattle.rbd_world.specs.declared.event.Event.TheVariants as of_event;
 ghost use Rattle.rbd_world.specs.declared.event.Outcome.{Outcome as Came};
 ghost use Rattle.rbd_schedule.specs.Given.{given_by as told_by, of_session};
@@ -97,7 +94,10 @@ impl<E: Machine + Drop> Runner<E> {
         self.is_due = true;
         match self.queues.get_mut(given.session.0 as usize) {
             Some(queue) => queue.push(given),
-            None => Ok(()),
+            None => {
+                drop(given);
+                Ok(())
+            }
         }
     }
 
@@ -113,10 +113,25 @@ impl<E: Machine + Drop> Runner<E> {
         ensures goes { OnOk result (GoesOn (stands_of E.stands) self.old self.new) }
     {
         let line = self.world.line(session, slot);
-        let outcome = self.step(alloc, Event::Poll { session, slot })?;
+        let outcome = self.poll_alone(alloc, session, slot)?;
         self.note(line, &outcome)?;
         self.start_all(alloc)?;
         Ok(outcome)
+    }
+
+    /// A poll, and nothing else.
+    fn poll_alone(
+        &mut self,
+        alloc: Global,
+        session: SessionNo,
+        slot: Slot,
+    ) -> Result<Outcome, NoMemory>
+        requires one_client { AreOfOneClient self.old.world.calls (of_event.Poll session slot) }
+        ensures step { IfOk result (λ outcome. IsStep (stands_of E.stands) (of_event.Poll session slot) self.old.world outcome self.new.world) }
+        ensures sound { IsSoundWorld (stands_of E.stands) self.new.world }
+        ensures rest { self.new ≡ record self.old { world = self.new.world } }
+    {
+        self.world.poll(alloc, session, slot)
     }
 
     /// One event, and nothing else.

@@ -1,6 +1,5 @@
 //! Plays a script.
-ghost use Rattle.std.specs.Prelude.{◌≡◌, ℕ, ◌↔◌, length, IsTrue, IfOk, OnOk};
-ghost use Rattle.rbd_requests.specs.declared.request.SessionRequest.{SessionRequest as Of};
+ghost use Rattle.std.specs.Prelude.{◌≡◌, ◌↔◌, length, IsTrue, IfOk, OnOk};
 ghost use Rattle.rbd_requests.specs.Session.{stands_of};
 ghost use Rattle.rbd_schedule.specs.Deeds.{Deeds};
 ghost use Rattle.rbd_schedule.specs.Given.{commands_of, given_by};

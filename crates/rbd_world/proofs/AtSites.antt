@@ -1,6 +1,5 @@
 -- What an operation that is permitted does to both sites: they stand, and what is known stays true.
-use Rattle.std.proofs.Common.{◌≡◌, ℕ, cond, Bool, true, false, [], ◌∷◌, length, Option, Some, None, refl, sym, ap, ◌∙◌, subst}
-use Rattle.std.proofs.lemmas.Bool.{true≢false}
+use Rattle.std.proofs.Common.{◌≡◌, ℕ, cond, false, [], ◌∷◌, length, Option, Some, None, refl, sym, ap, ◌∙◌, subst}
 use Rattle.rbd_flat.specs.Flat.{Flat}
 use Rattle.rbd_kinds.specs.declared.answer.Answer.{Answer}
 use Rattle.rbd_kinds.specs.declared.id.Instance.{Instance}
@@ -11,7 +10,7 @@ use Rattle.rbd_kinds.specs.declared.reply.Reply.{Reply}
 use Rattle.rbd_known.specs.Knowing.{known_at_operation, unless_ended}
 use Rattle.rbd_known.proofs.Little.{still_true, still_beside}
 use Rattle.rbd_machine.specs.Answers.{CanGive}
-use Rattle.rbd_machine.specs.Knowledge.{Knowledge, is_drawn, learned, nothing_known, same_site}
+use Rattle.rbd_machine.specs.Knowledge.{Knowledge, learned, nothing_known, same_site}
 use Rattle.rbd_machine.specs.Permits.{Permits}
 use Rattle.rbd_machine.specs.Plan.{Plan, Standing}
 use Rattle.rbd_rely.specs.Beside.{AreBeside, MayLook}
@@ -20,8 +19,9 @@ use Rattle.rbd_rely.proofs.Done.{gives_it, has_its_effect}
 use Rattle.rbd_rely.proofs.Elsewhere.{true_elsewhere, beside_elsewhere}
 use Rattle.rbd_rely.proofs.Kept.{others_keep}
 use Rattle.rbd_rely.proofs.Learned.{own_learned}
+use Rattle.rbd_rely.proofs.Nothing.{nothing_is_beside, nothing_is_true}
 use Rattle.rbd_rely.proofs.Parents.{parentless_stays}
-use Rattle.rbd_rely.proofs.Together.{learned_beside}
+use Rattle.rbd_rely.proofs.Together.{beside_mutual, learned_beside}
 use Rattle.rbd_session.specs.Session.{SessionView}
 use Rattle.rbd_site.specs.Step.{after, answer_to}
 use Rattle.rbd_stands.specs.Site.{StandsFor}
@@ -29,7 +29,6 @@ use Rattle.rbd_world.specs.Run.{Happening, Did, flat_after, records_after}
 use Rattle.rbd_world.specs.Sound.{IsSoundWorld, first_life}
 use Rattle.rbd_world.specs.Step.{DoesAtSites, operation_at}
 use Rattle.rbd_world.specs.World.{WorldView, records_in, session_in, site_in}
-use Rattle.rbd_world.proofs.Beginning.{nothing_is_beside, nothing_is_true}
 use Rattle.rbd_world.proofs.BothSites.{same_site_itself}
 use Rattle.rbd_world.proofs.Carried.{StandFlat}
 use Rattle.rbd_world.proofs.Changed.{IsElsewhere}
@@ -47,16 +46,6 @@ at_either site.B P here other site.B = here
 unless_over : (P : Knowledge → Type 0) (result : Option Reply) (k : Knowledge) → P nothing_known → P k → P (unless_ended result k)
 unless_over P None k nothing goes = goes
 unless_over P (Some reply) k nothing goes = nothing
-
-pub beside_mutual : (t : SiteId) (k j : Knowledge) → AreBeside t k j → AreBeside t j k
-beside_mutual t k j beside = record {
-  shared = λ image mine others. let both = beside.shared image others mine in record { one = both.other; other = both.one };
-  apart = λ image drawn. by image drawn (is_drawn k.drawn t image) refl;
-}
-  where
-    by : (image : ℕ) → is_drawn j.drawn t image ≡ true → (b : Bool) → is_drawn k.drawn t image ≡ b → is_drawn k.drawn t image ≡ false
-    by image drawn true is = absurd (true≢false (sym drawn ∙ beside.apart image is))
-    by image drawn false is = is
 
 -- what a client's request knows is true of the client's instance
 pub client_knows : {R : Type 0} (stands : R → Standing) (old : WorldView R) (w : IsSoundWorld stands old) (session slot : ℕ) (c : SessionView R) → session_in session old.sessions ≡ Some c

@@ -1,41 +1,22 @@
 -- A world in which nothing happened is sound.
 use Rattle.std.proofs.Common.{◌≡◌, ℕ, [], length, Option, Some, None, refl, sym, ap, ◌∙◌, subst}
-use Rattle.std.proofs.lemmas.Bool.{true≢false}
-use Rattle.rbd_kinds.specs.declared.id.Instance.{Instance}
 use Rattle.rbd_kinds.specs.declared.id.SiteId.{SiteId}
 use Rattle.rbd_kinds.specs.declared.id.SiteId.TheVariants as site
 use Rattle.rbd_known.specs.Knowing.{KnowsIn}
-use Rattle.rbd_machine.specs.Knowledge.{Knowledge, nothing_known}
+use Rattle.rbd_machine.specs.Knowledge.{nothing_known}
 use Rattle.rbd_machine.specs.Plan.{Standing}
-use Rattle.rbd_rely.specs.Beside.{AreBeside}
-use Rattle.rbd_rely.specs.Truth.{IsTrueAt, IsParentless}
+use Rattle.rbd_rely.specs.Truth.{IsParentless}
+use Rattle.rbd_rely.proofs.Nothing.{none_parentless, nothing_is_beside, nothing_is_true}
 use Rattle.rbd_session.specs.Session.{SessionView, running_in, script_line}
 use Rattle.rbd_session.proofs.Sound.{no_some}
 use Rattle.rbd_site.specs.InForm.{AreInForm}
 use Rattle.rbd_site.specs.Log.{after_all}
-use Rattle.rbd_site.specs.Records.{Records, no_records}
+use Rattle.rbd_site.specs.Records.{no_records}
 use Rattle.rbd_site.proofs.FormLemmas.{form_at_first}
 use Rattle.rbd_stands.proofs.Nothing.{nothing_stands}
 use Rattle.rbd_world.specs.Sound.{IsHeldRightly, IsNewClient, IsNewWorld, IsSoundClient, IsSoundWorld, held_of, line_at}
 use Rattle.rbd_world.specs.World.{WorldView, session_in}
 use Rattle.rbd_world.proofs.OrderedWorld.{none_in_order}
-
--- ---- who knows nothing
-
-pub nothing_is_true : (s : SiteId) (r : Records) (me : Instance) → IsTrueAt s r me nothing_known
-nothing_is_true s r me = record {
-  owned = λ free image. tt;
-  drawn = λ image drawn. absurd (true≢false (sym drawn));
-  fenced = λ i known. absurd (true≢false (sym known));
-}
-
-pub nothing_is_beside : (s : SiteId) (j : Knowledge) → AreBeside s nothing_known j
-nothing_is_beside s j = record { shared = λ image one other. absurd (true≢false (sym one)); apart = λ image drawn. absurd (true≢false (sym drawn)) }
-
--- ---- empty sites
-
-pub none_parentless : IsParentless no_records
-none_parentless image h is = absurd (no_some h is)
 
 -- ---- sessions without requests
 

@@ -14,7 +14,6 @@ pub mod InOrder
 pub mod KeptAhead
 pub mod Logged
 pub mod Newcomer
-pub mod Noting
 pub mod OneMoreWrite
 pub mod OneSession
 pub mod Operated
@@ -33,6 +32,7 @@ pub mod Stepping
 pub mod Steps
 pub mod Submitted
 pub mod Submitting
+pub mod Told
 pub mod Turned
 pub mod Undone
 pub mod Walks

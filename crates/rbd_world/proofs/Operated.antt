@@ -17,6 +17,7 @@ use Rattle.rbd_machine.specs.Plan.{Plan, Ask, Standing}
 use Rattle.rbd_machine.specs.declared.reason.Reason.{Reason}
 use Rattle.rbd_rely.specs.Beside.{AreBeside, MayLook}
 use Rattle.rbd_rely.specs.Truth.{IsTrueAt}
+use Rattle.rbd_rely.proofs.Together.{beside_mutual}
 use Rattle.rbd_session.specs.declared.running.Occupant.TheVariants as occupant
 use Rattle.rbd_session.specs.declared.running.Running.{Running}
 use Rattle.rbd_session.specs.Advance.{track_of}
@@ -34,7 +35,7 @@ use Rattle.rbd_world.specs.Sound.{IsDone, IsDue, IsHeldRightly, IsInSlot, IsOpen
 use Rattle.rbd_world.specs.Step.{AreOfOneClient, Does, DoesAtSites, Goes, IsSoundIf, next_number, operation_at, reply_at}
 use Rattle.rbd_world.specs.World.{WorldView, records_in, session_in, site_in}
 use Rattle.rbd_world.proofs.Answered.{answer_due, answer_held, answer_line}
-use Rattle.rbd_world.proofs.AtSites.{beside_mutual, can_give, client_knows, others_true, own_beside, own_true, parentless_then, stands_then}
+use Rattle.rbd_world.proofs.AtSites.{can_give, client_knows, others_true, own_beside, own_true, parentless_then, stands_then}
 use Rattle.rbd_world.proofs.Carried.{Carries}
 use Rattle.rbd_world.proofs.Changed.{IsElsewhere, apart_of, client_of, clients_of, has_become, here_or_elsewhere, line_apart, nobody_of, same_or_other}
 use Rattle.rbd_world.proofs.Clients.{looks_beside}

@@ -1,5 +1,5 @@
 -- What an event does to the sites, the sessions and the table of lines, for each kind of event.
-use Rattle.std.proofs.Common.{◌≡◌, ℕ, ◌||◌, Bool, true, false, cond, List, is_some, Option, Some, None, OnErr, OnOk, Result, Ok, Err, refl, sym, ap, ◌∙◌, subst}
+use Rattle.std.proofs.Common.{◌≡◌, ℕ, ◌||◌, Bool, true, false, cond, List, is_some, Option, Some, None, OnErr, Result, Ok, Err, refl, sym, ap, ◌∙◌, subst}
 use Rattle.std.specs.Prelude.{nat_lt}
 use Rattle.std.proofs.lemmas.Bool.{true≢false}
 use Rattle.rbd_kinds.specs.declared.command.Command.{Command}
@@ -72,12 +72,11 @@ module _ {R : Type 0} (stands : R → Standing) where
 
   -- ---- what was done
 
-  pub submission_does : {T F : Type 0} (r : Result T F) (session line : ℕ) (c : Command) (sites : Sites) (old new : List (SessionView R)) (b after : LinesBegun)
-      → OnOk r (DoesToSessions stands (event.Submit session line c) (happens stands (event.Submit session line c) (λ l. has_line l b) sites old) old new)
-      → OnOk r ((l : ℕ) → has_line l after ≡ begun_behind (λ l. has_line l b) (happens stands (event.Submit session line c) (λ l. has_line l b) sites old) l)
-      → OnOk r (DoesToParts stands (event.Submit session line c) (happens stands (event.Submit session line c) (λ l. has_line l b) sites old) sites sites old new b after)
-  submission_does (Err e) session line c sites old new b after sessions begun = tt
-  submission_does (Ok x) session line c sites old new b after sessions begun =
+  pub submission_does : (session line : ℕ) (c : Command) (sites : Sites) (old new : List (SessionView R)) (b after : LinesBegun)
+      → DoesToSessions stands (event.Submit session line c) (happens stands (event.Submit session line c) (λ l. has_line l b) sites old) old new
+      → ((l : ℕ) → has_line l after ≡ begun_behind (λ l. has_line l b) (happens stands (event.Submit session line c) (λ l. has_line l b) sites old) l)
+      → DoesToParts stands (event.Submit session line c) (happens stands (event.Submit session line c) (λ l. has_line l b) sites old) sites sites old new b after
+  submission_does session line c sites old new b after sessions begun =
       let asked : Asked = record { session = session; line = line; command = c } in
       record {
         sites = both_sites (submitted (has_line line b) asked (session_in session old)) sites sites (λ q. left_at q (submitted (has_line line b) asked (session_in session old)) (site_in q sites) (site_in q sites) (submission_at_no_site (has_line line b) asked (session_in session old) q) refl);
@@ -85,22 +84,20 @@ module _ {R : Type 0} (stands : R → Standing) where
         begun = begun;
       }
 
-  pub poll_does : {T F : Type 0} (r : Result T F) (session slot : ℕ) (sites new_sites : Sites) (old new : List (SessionView R)) (b : LinesBegun)
-      → OnOk r (DoesAtSites (polled stands sites slot (session_in session old)) sites new_sites)
-      → OnOk r (DoesToSessions stands (event.Poll session slot) (polled stands sites slot (session_in session old)) old new)
-      → OnOk r (DoesToParts stands (event.Poll session slot) (polled stands sites slot (session_in session old)) sites new_sites old new b b)
-  poll_does (Err e) session slot sites new_sites old new b at_sites sessions = tt
-  poll_does (Ok x) session slot sites new_sites old new b at_sites sessions = record {
+  pub poll_does : (session slot : ℕ) (sites new_sites : Sites) (old new : List (SessionView R)) (b : LinesBegun)
+      → DoesAtSites (polled stands sites slot (session_in session old)) sites new_sites
+      → DoesToSessions stands (event.Poll session slot) (polled stands sites slot (session_in session old)) old new
+      → DoesToParts stands (event.Poll session slot) (polled stands sites slot (session_in session old)) sites new_sites old new b b
+  poll_does session slot sites new_sites old new b at_sites sessions = record {
     sites = at_sites;
     sessions = sessions;
     begun = lines_stay (polled stands sites slot (session_in session old)) b (polled_begins_nothing sites slot (session_in session old));
   }
 
-  pub trim_does : {T F : Type 0} (r : Result T F) (s : SiteId) (image object : ℕ) (sites new_sites : Sites) (sessions : List (SessionView R)) (b : LinesBegun)
-      → OnOk r (DoesAtSites (trimmed_at sites s image object) sites new_sites)
-      → OnOk r (DoesToParts stands (event.Trim s image object) (trimmed_at sites s image object) sites new_sites sessions sessions b b)
-  trim_does (Err e) s image object sites new_sites sessions b at_sites = tt
-  trim_does (Ok x) s image object sites new_sites sessions b at_sites = record {
+  pub trim_does : (s : SiteId) (image object : ℕ) (sites new_sites : Sites) (sessions : List (SessionView R)) (b : LinesBegun)
+      → DoesAtSites (trimmed_at sites s image object) sites new_sites
+      → DoesToParts stands (event.Trim s image object) (trimmed_at sites s image object) sites new_sites sessions sessions b b
+  trim_does s image object sites new_sites sessions b at_sites = record {
     sites = at_sites;
     sessions = record {
       named = λ session named. absurd (true≢false (sym named));

@@ -1,6 +1,6 @@
 -- A poll whose operation was done did what the request's plan says, and nothing at the other site.
-use Rattle.std.proofs.Common.{◌≡◌, ℕ, cond, false, [], ◌∷◌, Option, Some, None, refl, sym, ap, ◌∙◌, subst}
-use Rattle.rbd_flat.specs.declared.effect.Effect.{Effect}
+use Rattle.std.proofs.Common.{◌≡◌, ℕ, cond, false, List, [], ◌∷◌, ◌++◌, is_some, Option, Some, None, refl, sym, ap, ◌∙◌, subst}
+use Rattle.rbd_flat.specs.declared.entry.Entry.{Entry}
 use Rattle.rbd_kinds.specs.declared.answer.Answer.{Answer}
 use Rattle.rbd_kinds.specs.declared.id.SiteId.{SiteId}
 use Rattle.rbd_kinds.specs.declared.machine.Fed.{Fed}
@@ -22,12 +22,13 @@ use Rattle.rbd_session.proofs.Sound.{no_some, some_same}
 use Rattle.rbd_site.specs.Log.{line_of}
 use Rattle.rbd_site.specs.Step.{after, answer_to}
 use Rattle.rbd_world.specs.declared.event.Event.TheVariants as event
-use Rattle.rbd_world.specs.declared.happened.Happened.{Happened}
-use Rattle.rbd_world.specs.declared.happened.Happened.TheVariants as happened
+use Rattle.rbd_world.specs.declared.event.Outcome.{Outcome}
+use Rattle.rbd_world.specs.declared.event.Outcome.TheVariants as outcome
 use Rattle.rbd_world.specs.declared.sites.Sites.{Sites}
-use Rattle.rbd_world.specs.Operate.{IsDone, IsOperatedAt}
-use Rattle.rbd_world.specs.Run.{Happening, Waited, Did, Operation}
-use Rattle.rbd_world.specs.Step.{Becomes, DoesAt, DoesAtSites, Goes, done_by, noted_of, operation_at, polled_in, reply_at, with_lines}
+use Rattle.rbd_world.specs.Noted.{noted_by}
+use Rattle.rbd_world.specs.Operate.{IsOperatedAt}
+use Rattle.rbd_world.specs.Run.{Happening, Waited, Did, Operation, entry_of, outcome_of, reply_entries}
+use Rattle.rbd_world.specs.Step.{Becomes, DoesAt, DoesAtSites, Goes, done_by, operation_at, polled_in, reply_at, with_lines}
 use Rattle.rbd_world.specs.World.{records_in, site_in}
 use Rattle.rbd_world.proofs.BothSites.{IsNothingAt, done_at, left_sites, nothing_done, same_site_itself}
 use Rattle.rbd_world.proofs.Wanting.{Wants, wants}
@@ -39,11 +40,6 @@ nothing_else o reply q other = record {
   lines = ap (λ b. cond b (line_of o.number o.instance o.op o.answer ∷ []) []) other;
   records = λ r. ap (λ b. cond b (after r o.instance o.op) r) other;
 }
-
-same_happened : (l k : ℕ) (s q : SiteId) (n m : ℕ) (e f : Option Effect) (a b : Option Reply) → l ≡ k → s ≡ q → n ≡ m → e ≡ f → a ≡ b → happened.Did l s n e a ≡ happened.Did k q m f b
-same_happened l k s q n m e f a b line site number effect reply =
-    ap (λ x. happened.Did x s n e a) line ∙ ap (λ x. happened.Did k x n e a) site ∙ ap (λ x. happened.Did k q x e a) number
-    ∙ ap (λ x. happened.Did k q m x a) effect ∙ ap (happened.Did k q m f) reply
 
 module _ {R : Type 0} (stands : R → Standing) where
   -- ---- who is refused before any operation
@@ -75,8 +71,9 @@ module _ {R : Type 0} (stands : R → Standing) where
   -- ---- the poll
 
   -- it is noted, and sites and session are as it says
-  pub record IsPolled (before behind : Sites) (slot : ℕ) (s t : SessionView R) (p : Happening) (h : Happened) : Type 0 where
-    pub noted : h ≡ noted_of p
+  pub record IsPolled (before behind : Sites) (slot : ℕ) (s t : SessionView R) (earlier history : List Entry) (p : Happening) (result : Outcome) : Type 0 where
+    pub outcome : result ≡ outcome_of p
+    pub noted : history ≡ noted_by earlier p
     pub sites : DoesAtSites p before behind
     pub becomes : (session : ℕ) → Becomes stands (event.Poll session slot) p s t
 
@@ -104,37 +101,28 @@ module _ {R : Type 0} (stands : R → Standing) where
         (subst (OfRunning (λ r. ComesToIn stands slot s.lines (fed.Answer answers) reply r (held_in slot t.slots) t.lines)) w.is is_fed)
         ∙ ap (λ plan. reply_at (at_operation (stands w.request.request).labels (plan_after plan (fed.Answer answers)))) w.plan
 
-    here : (l : ℕ) (there : SiteId) (n : ℕ) (e : Option Effect) (reply : Option Reply)
-        → IsDone stands slot line site o (site_in site before) (site_in site behind) s t l there n e reply → DoesAt site (Did operates ends) (site_in site before) (site_in site behind)
-    here l there n e reply done = record {
-      site = done.logged.log ∙ sym (ap (λ b. with_lines (cond b (line_of operates.number operates.instance o answers ∷ []) []) (site_in site before)) (same_site_itself site));
-      records = done.logged.records ∙ sym (ap (λ b. cond b (after (records_in site before) s.instance o) (records_in site before)) (same_site_itself site));
-      form = λ form. done.logged.form;
-    }
+    module _ (earlier history : List Entry) (result : Outcome) (is : IsOperatedAt stands slot line site o before behind s t earlier history result) where
+      here : DoesAt site (Did operates ends) (site_in site before) (site_in site behind)
+      here = record {
+        site = is.here.logged.log ∙ sym (ap (λ b. with_lines (cond b (line_of operates.number operates.instance o answers ∷ []) []) (site_in site before)) (same_site_itself site));
+        records = is.here.logged.records ∙ sym (ap (λ b. cond b (after (records_in site before) s.instance o) (records_in site before)) (same_site_itself site));
+        form = λ form. is.here.logged.form;
+      }
 
-    did_so : (l : ℕ) (there : SiteId) (n : ℕ) (e : Option Effect) (reply : Option Reply)
-        → IsDone stands slot line site o (site_in site before) (site_in site behind) s t l there n e reply
-        → ((other : SiteId) → same_site site other ≡ false → site_in other behind ≡ site_in other before)
-        → IsPolled before behind slot s t (Did operates ends) (happened.Did l there n e reply)
-    did_so l there n e reply done elsewhere =
-        let replied = fed_reply reply done.goes.fed in
-        record {
-          noted = same_happened l line there site n operates.number e operates.effect reply ends done.is_line done.is_site done.is_number done.effect replied;
-          sites = done_at site (Did operates ends) before behind (here l there n e reply done) (λ q other. nothing_else operates ends q other) elsewhere;
-          becomes = λ session. subst (λ told. Goes stands slot answers told s t) replied done.goes;
-        }
+      replied : is.here.reply ≡ ends
+      replied = fed_reply is.here.reply is.here.goes.fed
 
-    operated_so : (h : Happened) → IsOperatedAt stands slot line site o before behind s t h → IsPolled before behind slot s t (Did operates ends) h
-    operated_so (happened.Did l there n e reply) is = did_so l there n e reply is.here is.elsewhere
-    operated_so happened.Nothing is = elim is.here [ ]
-    operated_so happened.Waited is = elim is.here [ ]
-    operated_so (happened.Began l who other) is = elim is.here [ ]
-    operated_so (happened.Refused home l reply) is = elim is.here [ ]
-    operated_so happened.Trimmed is = elim is.here [ ]
+      did_so : IsPolled before behind slot s t earlier history (Did operates ends) result
+      did_so = record {
+        outcome = is.here.outcome ∙ ap (λ (r : Option Reply). outcome.Step site operates.number false (is_some r)) replied;
+        noted = is.here.history ∙ ap (λ (r : Option Reply). earlier ++ entry_of operates ∷ reply_entries line r) replied;
+        sites = done_at site (Did operates ends) before behind here (λ q other. nothing_else operates ends q other) is.elsewhere;
+        becomes = λ session. subst (λ told. Goes stands slot answers told s t) replied is.here.goes;
+      }
 
-  pub polled_so : (slot line : ℕ) (site : SiteId) (o : Op) (before behind : Sites) (s t : SessionView R) (h : Happened) → Some line ≡ script_line (held_in slot s.slots)
-      → op_at stands slot s ≡ Some (site, o) → IsOperatedAt stands slot line site o before behind s t h
-      → IsPolled before behind slot s t (polled_in stands before s slot (held_in slot s.slots)) h
-  polled_so slot line site o before behind s t h line_is asks is =
+  pub polled_so : (slot line : ℕ) (site : SiteId) (o : Op) (before behind : Sites) (s t : SessionView R) (earlier history : List Entry) (result : Outcome) → Some line ≡ script_line (held_in slot s.slots)
+      → op_at stands slot s ≡ Some (site, o) → IsOperatedAt stands slot line site o before behind s t earlier history result
+      → IsPolled before behind slot s t earlier history (polled_in stands before s slot (held_in slot s.slots)) result
+  polled_so slot line site o before behind s t earlier history result line_is asks is =
       let w = wants stands slot s.lines site o (held_in slot s.slots) asks in
-      subst (λ p. IsPolled before behind slot s t p h) (sym (polls slot line site o before behind s t line_is w)) (operated_so slot line site o before behind s t line_is w h is)
+      subst (λ p. IsPolled before behind slot s t earlier history p result) (sym (polls slot line site o before behind s t line_is w)) (did_so slot line site o before behind s t line_is w earlier history result is)

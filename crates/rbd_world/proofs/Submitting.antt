@@ -3,14 +3,16 @@ use Rattle.std.proofs.Common.{◌≡◌, ◌⊎◌, inl, inr, ◌<◌, ◌≤◌
 use Rattle.std.specs.Prelude.{OnErr, OnOk, Result, Ok, Err}
 use Rattle.std.proofs.Math.ListN.{get_or}
 use Rattle.std.proofs.lemmas.Option.{slice_get_cases}
+use Rattle.rbd_flat.specs.declared.entry.Entry.{Entry}
 use Rattle.rbd_kinds.specs.declared.command.Command.{Command}
 use Rattle.rbd_machine.specs.Plan.{Standing}
 use Rattle.rbd_session.specs.Session.{SessionView, IsSoundSession}
 use Rattle.rbd_world.specs.declared.event.Event.{Event}
 use Rattle.rbd_world.specs.declared.event.Event.TheVariants as event
-use Rattle.rbd_world.specs.declared.happened.Happened.TheVariants as happened
-use Rattle.rbd_world.specs.Run.{Asked}
-use Rattle.rbd_world.specs.Step.{Becomes, DoesToSessions, noted_of, submitted}
+use Rattle.rbd_world.specs.declared.event.Outcome.TheVariants as outcome
+use Rattle.rbd_world.specs.Noted.{noted_by}
+use Rattle.rbd_world.specs.Run.{Asked, outcome_of}
+use Rattle.rbd_world.specs.Step.{Becomes, DoesToSessions, submitted}
 use Rattle.rbd_world.specs.World.{session_in}
 use Rattle.rbd_world.proofs.OneSession.{does_to_none, does_to_one}
 use Rattle.rbd_world.proofs.Results.{on_ok_then}
@@ -32,8 +34,11 @@ module _ {R : Type 0} (stands : R → Standing) (n line : ℕ) (command : Comman
   submitted_to_none begun asked sessions none =
       does_to_none stands submits (submitted begun asked (session_in n sessions)) n sessions (λ m. refl) none
 
-pub submitted_nothing : {R : Type 0} (begun : Bool) (asked : Asked) (o : Option (SessionView R)) → o ≡ None → happened.Nothing ≡ noted_of (submitted begun asked o)
-submitted_nothing begun asked o none = sym (ap (λ p. noted_of (submitted begun asked p)) none)
+pub submitted_nothing : {R : Type 0} (begun : Bool) (asked : Asked) (o : Option (SessionView R)) → o ≡ None → outcome.Nothing ≡ outcome_of (submitted begun asked o)
+submitted_nothing begun asked o none = sym (ap (λ p. outcome_of (submitted begun asked p)) none)
+
+pub submitted_unnoted : {R : Type 0} (begun : Bool) (asked : Asked) (history : List Entry) (o : Option (SessionView R)) → o ≡ None → history ≡ noted_by history (submitted begun asked o)
+submitted_unnoted begun asked history o none = sym (ap (λ p. noted_by history (submitted begun asked p)) none)
 
 -- ---- what a look-up by number finds
 

@@ -1,6 +1,6 @@
 -- One operation of a session at a site.
-use Rattle.std.specs.Prelude.{◌≡◌, ℕ, ◌+◌, ◌∷◌, [], false, length, Option, Some, None}
-use Rattle.rbd_flat.specs.declared.effect.Effect.{Effect}
+use Rattle.std.specs.Prelude.{◌≡◌, ℕ, ◌+◌, ◌∷◌, ◌++◌, List, [], false, length, is_some, Option, Some, None}
+use Rattle.rbd_flat.specs.declared.entry.Entry.{Entry}
 use Rattle.rbd_kinds.specs.declared.id.Instance.{Instance}
 use Rattle.rbd_kinds.specs.declared.id.SiteId.{SiteId}
 use Rattle.rbd_kinds.specs.declared.operation.Op.{Op}
@@ -12,12 +12,11 @@ use Rattle.rbd_session.specs.Session.{SessionView}
 use Rattle.rbd_site.specs.InForm.{AreInForm}
 use Rattle.rbd_site.specs.Log.{SiteLog, line_of, records_of}
 use Rattle.rbd_site.specs.Step.{after, answer_to}
-use Rattle.rbd_site.specs.declared.done.DoneOp.TheVariants as done
-use Rattle.rbd_stands.specs.Effect.{effect_of}
-use Rattle.rbd_world.specs.declared.happened.Happened.{Happened}
-use Rattle.rbd_world.specs.declared.happened.Happened.TheVariants as happened
+use Rattle.rbd_world.specs.declared.event.Outcome.{Outcome}
+use Rattle.rbd_world.specs.declared.event.Outcome.TheVariants as outcome
 use Rattle.rbd_world.specs.declared.sites.Sites.{Sites}
-use Rattle.rbd_world.specs.Step.{Goes, with_lines}
+use Rattle.rbd_world.specs.Run.{entry_of, reply_entries}
+use Rattle.rbd_world.specs.Step.{Goes, next_number, operation_at, with_lines}
 use Rattle.rbd_world.specs.World.{site_in}
 
 -- the image whose header tells an operation's effect
@@ -34,19 +33,14 @@ pub record IsLogged (who : Instance) (o : Op) (old new : SiteLog) : Type 0 where
 
 module _ {R : Type 0} (stands : R → Standing) where
   -- the operation was done at its site, the request was fed, and this is noted of it
-  pub record IsDone (slot line : ℕ) (s : SiteId) (o : Op) (before behind : SiteLog) (old new : SessionView R) (l : ℕ) (there : SiteId) (n : ℕ) (e : Option Effect) (reply : Option Reply) : Type 0 where
-    pub is_line : l ≡ line
-    pub is_site : there ≡ s
-    pub is_number : n ≡ length before.log + 1
-    pub effect : e ≡ effect_of (records_of before) (done.Op o) (answer_to (records_of before) old.instance o)
+  pub record IsOperated (slot line : ℕ) (s : SiteId) (o : Op) (before behind : SiteLog) (old new : SessionView R) (earlier later : List Entry) (result : Outcome) : Type 0 where
+    pub reply : Option Reply
     pub logged : IsLogged old.instance o before behind
     pub goes : Goes stands slot (answer_to (records_of before) old.instance o) reply old new
-
-  abbrev pub IsOperated : (slot line : ℕ) → SiteId → Op → (before behind : SiteLog) → (old new : SessionView R) → Happened → Type 0
-  IsOperated slot line s o before behind old new (happened.Did l there n e reply) = IsDone slot line s o before behind old new l there n e reply
-  IsOperated slot line s o before behind old new h = ⊥
+    pub history : later ≡ earlier ++ entry_of (operation_at before old.instance line s o) ∷ reply_entries line reply
+    pub outcome : result ≡ outcome.Step s (next_number before) false (is_some reply)
 
   -- at its site, and at no other
-  pub record IsOperatedAt (slot line : ℕ) (s : SiteId) (o : Op) (before behind : Sites) (old new : SessionView R) (h : Happened) : Type 0 where
-    pub here : IsOperated slot line s o (site_in s before) (site_in s behind) old new h
+  pub record IsOperatedAt (slot line : ℕ) (s : SiteId) (o : Op) (before behind : Sites) (old new : SessionView R) (earlier later : List Entry) (result : Outcome) : Type 0 where
+    pub here : IsOperated slot line s o (site_in s before) (site_in s behind) old new earlier later result
     pub elsewhere : (other : SiteId) → same_site s other ≡ false → site_in other behind ≡ site_in other before

@@ -34,8 +34,6 @@ use Rattle.rbd_world.specs.declared.event.Call.{Call}
 use Rattle.rbd_world.specs.declared.event.Event.{Event}
 use Rattle.rbd_world.specs.declared.event.Event.TheVariants as event
 use Rattle.rbd_world.specs.declared.event.Outcome.{Outcome}
-use Rattle.rbd_world.specs.declared.happened.Happened.{Happened}
-use Rattle.rbd_world.specs.declared.happened.Happened.TheVariants as happened
 use Rattle.rbd_world.specs.declared.sites.Sites.{Sites}
 use Rattle.rbd_world.specs.Begun.{LinesBegun, has_line}
 use Rattle.rbd_world.specs.Run.{Asked, Happening, Nothing, Waited, Began, Did, Refused, Trimmed, Operation, entries_of, lines_at, outcome_of, records_behind}
@@ -245,15 +243,6 @@ module _ {R : Type 0} (stands : R → Standing) where
 -- the lines that were begun behind it
 abbrev pub begun_behind : (begun : (line : ℕ) → Bool) → Happening → (line : ℕ) → Bool
 begun_behind begun h line = begun line || is_begun line (entries_of h)
-
--- what is noted of it
-abbrev pub noted_of : Happening → Happened
-noted_of Nothing = happened.Nothing
-noted_of Waited = happened.Waited
-noted_of (Began asked who slot) = happened.Began asked.line who slot
-noted_of (Did o reply) = happened.Did o.line o.site o.number o.effect reply
-noted_of (Refused s line reply) = happened.Refused s line reply
-noted_of (Trimmed s number image object) = happened.Trimmed
 
 module _ {R : Type 0} (stands : R → Standing) where
   -- what an event does to all parts

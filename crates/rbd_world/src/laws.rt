@@ -1,7 +1,7 @@
 //! What holds of every world: each law is the contract of a function that does nothing.
-ghost use Rattle.std.specs.Prelude.{◌≡◌, ℕ, true, [], length, Some, None};
+ghost use Rattle.std.specs.Prelude.{◌≡◌, ℕ, true, Some};
 ghost use Rattle.rbd_kinds.specs.declared.id.SiteId.{SiteId as Which};
-ghost use Rattle.rbd_session.specs.Session.{SessionView, IsSoundSession, held_in};
+ghost use Rattle.rbd_session.specs.Session.{SessionView};
 ghost use Rattle.rbd_world.specs.Order.{IsWriterOf, WritesFirst, found_before};
 ghost use Rattle.rbd_world.specs.Sound.{IsInSlot, IsNewWorld, IsOpen, IsSoundWorld};
 ghost use Rattle.rbd_world.specs.Step.{AreOfOneClient, Does, DoesAtSites, IsBuiltEvent, IsSoundIf, IsUndone, WantsWhatItMay, happening};

@@ -86,9 +86,8 @@
 
 mod begun;
 mod event;
-mod happen;
-mod happened;
 pub mod laws;
+mod noting;
 mod operate;
 mod poll;
 mod sites;

@@ -1,8 +1,9 @@
 //! The store's own step.
 ghost use Rattle.std.specs.Prelude.{◌≡◌, IfOk, OnOk, OnErr};
-ghost use Rattle.rbd_world.specs.Step.{AreSameSites, DoesAt, DoesAtSites, noted_of, trimmed_at, trimmed_of};
+ghost use Rattle.rbd_world.specs.Run.{outcome_of};
+ghost use Rattle.rbd_world.specs.Step.{AreSameSites, DoesAt, DoesAtSites, trimmed_at, trimmed_of};
 
-use crate::happened::Happened;
+use crate::event::Outcome;
 use crate::sites::Sites;
 use rbd_kinds::{ImageId, NoMemory, SiteId};
 use rbd_site::Site;
@@ -14,8 +15,8 @@ pub fn trim(
     site: SiteId,
     image: ImageId,
     object: u64,
-) -> Result<Happened, NoMemory>
-    ensures noted { IfOk result (λ h. h ≡ noted_of (trimmed_at sites.old site image object)) }
+) -> Result<Outcome, NoMemory>
+    ensures outcome { IfOk result (λ o. o ≡ outcome_of (trimmed_at sites.old site image object)) }
     ensures sites { OnOk result (DoesAtSites (trimmed_at sites.old site image object) sites.old sites.new) }
     ensures err { OnErr result (AreSameSites sites.old sites.new) }
 {
@@ -26,13 +27,13 @@ pub fn trim(
 }
 
 /// The same at one site.
-fn trim_at(at: &mut Site, site: SiteId, image: ImageId, object: u64) -> Result<Happened, NoMemory>
-    ensures noted { IfOk result (λ h. h ≡ noted_of (trimmed_of at.old site image object)) }
+fn trim_at(at: &mut Site, site: SiteId, image: ImageId, object: u64) -> Result<Outcome, NoMemory>
+    ensures outcome { IfOk result (λ o. o ≡ outcome_of (trimmed_of at.old site image object)) }
     ensures done { OnOk result (DoesAt site (trimmed_of at.old site image object) at.old at.new) }
     ensures err { OnErr result (at.new ≡ at.old) }
 {
     if at.trim(image, object)? {
-        return Ok(Happened::Trimmed);
+        return Ok(Outcome::Stored);
     }
-    Ok(Happened::Nothing)
+    Ok(Outcome::Nothing)
 }

@@ -4,11 +4,12 @@ ghost use Rattle.rbd_requests.specs.Session.{stands_of};
 ghost use Rattle.rbd_world.specs.Sound.{AreFirstClients, AreNewClients, IsNewWorld, IsSoundWorld, line_at};
 ghost use Rattle.rbd_world.specs.Step.{AreOfOneClient, IsBuiltEvent, IsStep, IsUndone, is_begun};
 ghost use Rattle.rbd_world.specs.World.{free_in, kind_in, session_in, site_in};
+ghost use Rattle.rbd_world.specs.declared.event.Event.TheVariants as of_event;
 
 use crate::begun::BegunLines;
 use crate::event::{Call, Event, Outcome};
 use crate::sites::Sites;
-use crate::step::step_parts;
+use crate::step::{poll_parts, step_parts};
 use rbd_course::Request;
 use rbd_flat::Entry;
 use rbd_kinds::{Instance, NoMemory, OpKind, SessionNo, SiteId, Slot};
@@ -96,6 +97,31 @@ impl<E: Machine + Drop> World<E> {
             &mut self.history,
             &mut self.calls,
             event,
+        )?;
+        Ok(outcome)
+    }
+
+    /// The event of a poll: as [`World::step`], for who has no event at hand.
+    pub fn poll(
+        &mut self,
+        alloc: Global,
+        session: SessionNo,
+        slot: Slot,
+    ) -> Result<Outcome, NoMemory>
+        requires one_client { AreOfOneClient self.old.calls (of_event.Poll session slot) }
+        ensures step { IfOk result (λ outcome. IsStep (stands_of E.stands) (of_event.Poll session slot) self.old outcome self.new) }
+        ensures err { OnErr result (IsUndone (stands_of E.stands) self.old self.new) }
+        ensures sound { IsSoundWorld (stands_of E.stands) self.new }
+    {
+        let outcome = poll_parts(
+            alloc,
+            &mut self.sites,
+            &mut self.mail,
+            &mut self.sessions,
+            &mut self.history,
+            &mut self.calls,
+            session,
+            slot,
         )?;
         Ok(outcome)
     }

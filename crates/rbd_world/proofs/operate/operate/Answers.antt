@@ -1,36 +1,37 @@
-use Rattle.std.proofs.Common.{◌≡◌, ◌+◌, length, refl, sym, ap, ◌∙◌, subst}
-use Rattle.rbd_machine.specs.Answers.{CanGive}
+use Rattle.std.proofs.Common.{◌≡◌, ◌+◌, ◌∷◌, ◌++◌, ℕ, false, length, Option, ap, ◌∙◌, subst}
+use Rattle.rbd_flat.specs.declared.effect.Effect.{Effect}
+use Rattle.rbd_kinds.specs.declared.machine.Fed.{Fed}
+use Rattle.rbd_session.specs.Session.{IsFed}
 use Rattle.rbd_site.specs.Log.{records_of}
 use Rattle.rbd_site.specs.Step.{answer_to}
-use Rattle.rbd_site.specs.declared.done.DoneOp.TheVariants as of_done
-use Rattle.rbd_stands.specs.Effect.{effect_of as effect_there}
-use Rattle.rbd_world.specs.Step.{Goes}
+use Rattle.rbd_world.specs.declared.event.Outcome.TheVariants as outcome
+use Rattle.rbd_world.specs.Run.{entry_by, reply_entries}
 use Rattle.rbd_world.proofs.FedAlike.{goes_alike}
 use Rattle.rbd_world.proofs.Logged.{logged_by}
-use Rattle.rbd_world.proofs.Wanting.{can_be_fed}
 use Rattle.rbd_world.proofs.operate.operate.Goals as goal
 
-pub ready-requires : goal.ready-requires
-ready-requires g c =
-    let answered : c.in_ok-answer.answer ≡ answer_to (records_of c.args.at.now) c.args.client.now.instance c.args.op =
-    c.in_ok-answer.ensures ∙ ap (λ me. answer_to (records_of c.args.at.now) me c.args.op) c.instance.ensures in
-    can_be_fed g.R.Machine.stands c.args.slot c.args.client.now c.args.site c.args.op c.in_ok-answer.answer c.requires.wants
-    (subst (CanGive c.args.op) (sym answered) c.requires.gives)
+pub foresee-requires-clause-wants : goal.foresee-requires-clause-wants
+foresee-requires-clause-wants g c = (c.args.site, c.requires.wants)
 
-pub returns-clause-done : goal.returns-clause-done
-returns-clause-done g c =
-    let answered : c.in_ok-answer.answer ≡ answer_to (records_of c.args.at.now) c.args.client.now.instance c.args.op =
-    c.in_ok-answer.ensures ∙ ap (λ me. answer_to (records_of c.args.at.now) me c.args.op) c.instance.ensures in
+pub returns-in_ok-apply-in-Ok-clause-done : goal.returns-in_ok-apply-in-Ok-clause-done
+returns-in_ok-apply-in-Ok-clause-done g c =
+    let reply = c.feed-reply.result in
+    let number : length c.log.result.now + 1 ≡ length c.args.at.now.log + 1 = ap (λ log. length log + 1) c.log.ensures.log in
     record {
-      is_line = refl;
-      is_site = refl;
-      is_number = ap (λ log. length log + 1) c.log.ensures.log;
-      effect = c.in_ok-effect.ensures ∙ ap (effect_there (records_of c.args.at.now) (of_done.Op c.args.op)) answered;
+      reply = reply;
       logged =
-          logged_by c.args.client.now.instance c.instance-2.result c.args.op c.in_ok-apply.field-0 c.args.at.now c.apply.new.self (c.instance-2.ensures ∙ c.in_ok-ready.ensures.alike.instance)
-          c.in_ok-apply.ensures.answer c.in_ok-apply.ensures.ok c.in_ok-apply.ensures.records c.in_ok-apply.ensures.form;
+          logged_by c.args.client.now.instance c.instance.result c.args.op c.in_ok-apply-in-Ok.field-0 c.args.at.now c.apply.new.self (c.instance.ensures ∙ c.in-Ok.ensures.alike.instance)
+          c.in_ok-apply-in-Ok.ensures.answer c.in_ok-apply-in-Ok.ensures.ok c.in_ok-apply-in-Ok.ensures.records c.in_ok-apply-in-Ok.ensures.form;
       goes =
-          subst (λ a. Goes g.R.Machine.stands c.args.slot a c.feed-reply.result c.args.client.now c.feed-reply.new.self) answered
-          (goes_alike g.R.Machine.stands c.args.slot c.in_ok-answer.answer c.feed-reply.result c.args.client.now c.ready.new.self c.feed-reply.new.self c.in_ok-ready.ensures.alike
-          c.in_ok-ready.ensures.others c.feed-reply.ensures.fed c.feed-reply.ensures.slots c.feed-reply.ensures.others c.feed-reply.ensures.who);
+          goes_alike g.R.Machine.stands c.args.slot (answer_to (records_of c.args.at.now) c.args.client.now.instance c.args.op) reply c.args.client.now c.foresee.new.client c.feed-reply.new.self c.in-Ok.ensures.alike
+          c.in-Ok.ensures.others
+          (subst (λ (f : Fed). IsFed g.R.Machine.stands c.args.slot f reply c.foresee.new.client c.feed-reply.new.self) c.in-Ok.ensures.fed c.feed-reply.ensures.fed)
+          c.feed-reply.ensures.slots c.feed-reply.ensures.others c.feed-reply.ensures.who;
+      history =
+          c.note.ensures
+          ∙ ap (λ (n : ℕ). c.args.history.now.items ++ entry_by c.args.line c.args.site n c.in-Ok.foreseen.effect ∷ reply_entries c.args.line reply) number
+          ∙ ap (λ (e : Option Effect). c.args.history.now.items ++ entry_by c.args.line c.args.site (length c.args.at.now.log + 1) e ∷ reply_entries c.args.line reply) c.in-Ok.ensures.effect;
+      outcome =
+          ap (λ (n : ℕ). outcome.Step c.args.site n false c.is_some.result) number
+          ∙ ap (outcome.Step c.args.site (length c.args.at.now.log + 1) false) c.is_some.ensures;
     }

@@ -1,5 +1,7 @@
 use Rattle.std.proofs.Common.{◌≡◌, IfOk, OnOk, slice_set, Some, None, refl, sym, ap, subst}
-use Rattle.rbd_world.specs.Step.{DoesAtSites, DoesToSessions, noted_of, polled}
+use Rattle.rbd_world.specs.Noted.{noted_by}
+use Rattle.rbd_world.specs.Run.{outcome_of}
+use Rattle.rbd_world.specs.Step.{DoesAtSites, DoesToSessions, polled}
 use Rattle.rbd_world.specs.World.{session_in}
 use Rattle.rbd_world.specs.declared.event.Event.TheVariants as of_event
 use Rattle.rbd_world.proofs.BothSites.{left_sites, nothing_done}
@@ -7,18 +9,22 @@ use Rattle.rbd_world.proofs.OneSession.{does_to_one, does_to_none, leaves_one, l
 use Rattle.rbd_world.proofs.Results.{on_ok_then, on_err_then}
 use Rattle.rbd_world.proofs.poll.poll.Goals as goal
 
-pub poll_in-requires : goal.poll_in-requires
-poll_in-requires g c =
-    c.requires c.in-Some.client.now
+pub poll_in-requires-clause-wants : goal.poll_in-requires-clause-wants
+poll_in-requires-clause-wants g c =
+    c.requires.wants c.in-Some.client.now
     (lent_session c.args.session c.session.inside.0 c.args.sessions.now.items c.in-Some.client.now c.session.view_is c.in-Some.ensures.item.3.0 c.in-Some.ensures.value)
 
 found : (g : _) (c : goal.After-sessions-in-Some-1 g) → session_in c.args.session c.args.sessions.now.items ≡ Some c.in-Some.client.now
 found g c =
     lent_session c.args.session c.session.inside.0 c.args.sessions.now.items c.in-Some.client.now c.session.view_is c.in-Some.ensures.item.3.0 c.in-Some.ensures.value
 
-pub returns-in-Some-clause-noted : goal.returns-in-Some-clause-noted
-returns-in-Some-clause-noted g c =
-    subst (λ o. IfOk c.poll_in.result (λ h. h ≡ noted_of (polled g.R.Machine.stands c.args.sites.now c.args.slot o))) (sym (found g c)) c.poll_in.ensures.noted
+pub returns-in-Some-clause-outcome : goal.returns-in-Some-clause-outcome
+returns-in-Some-clause-outcome g c =
+    subst (λ o. IfOk c.poll_in.result (λ r. r ≡ outcome_of (polled g.R.Machine.stands c.args.sites.now c.args.slot o))) (sym (found g c)) c.poll_in.ensures.outcome
+
+pub returns-in-Some-clause-history : goal.returns-in-Some-clause-history
+returns-in-Some-clause-history g c =
+    subst (λ o. OnOk c.poll_in.result (c.poll_in.new.history.items ≡ noted_by c.args.history.now.items (polled g.R.Machine.stands c.args.sites.now c.args.slot o))) (sym (found g c)) c.poll_in.ensures.history
 
 pub returns-in-Some-clause-sites : goal.returns-in-Some-clause-sites
 returns-in-Some-clause-sites g c =
@@ -46,8 +52,11 @@ returns-in-Some-clause-alike g c =
 none : (g : _) (c : goal.After-sessions-in-None-2-1 g) → session_in c.args.session c.args.sessions.now.items ≡ None
 none g c = no_session c.args.session c.session.inside.0 c.args.sessions.now.items c.session.view_is c.in-None.ensures.item.3
 
-pub returns-in-None-clause-noted : goal.returns-in-None-clause-noted
-returns-in-None-clause-noted g c = sym (ap (λ o. noted_of (polled g.R.Machine.stands c.args.sites.now c.args.slot o)) (none g c))
+pub returns-in-None-clause-outcome : goal.returns-in-None-clause-outcome
+returns-in-None-clause-outcome g c = sym (ap (λ o. outcome_of (polled g.R.Machine.stands c.args.sites.now c.args.slot o)) (none g c))
+
+pub returns-in-None-clause-history : goal.returns-in-None-clause-history
+returns-in-None-clause-history g c = sym (ap (λ o. noted_by c.args.history.now.items (polled g.R.Machine.stands c.args.sites.now c.args.slot o)) (none g c))
 
 pub returns-in-None-clause-sites : goal.returns-in-None-clause-sites
 returns-in-None-clause-sites g c =

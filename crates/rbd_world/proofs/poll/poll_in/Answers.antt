@@ -11,21 +11,24 @@ returns-in-Some-refuse-clause-sites g c =
     refused_sites g.R.Machine.stands c.args.sites.now c.args.client.now c.args.slot c.in-Some-refuse.reply (held_in c.args.slot c.args.client.now.slots) c.in-Some-refuse.ensures.reply
 
 polled_there : (g : _) (c : goal.After-go_on g)
-    → IfOk c.go_on.result (IsPolled g.R.Machine.stands c.args.sites.now c.go_on.new.sites c.args.slot c.args.client.now c.go_on.new.client (polled_in g.R.Machine.stands c.args.sites.now c.args.client.now c.args.slot (held_in c.args.slot c.args.client.now.slots)))
+    → IfOk c.go_on.result (IsPolled g.R.Machine.stands c.args.sites.now c.go_on.new.sites c.args.slot c.args.client.now c.go_on.new.client c.args.history.now.items c.go_on.new.history.items (polled_in g.R.Machine.stands c.args.sites.now c.args.client.now c.args.slot (held_in c.args.slot c.args.client.now.slots)))
 polled_there g c =
     let stays : c.refuse.new.self ≡ c.args.client.now = search rules in
     let asks : op_at g.R.Machine.stands c.args.slot c.args.client.now ≡ Some (c.in-Some-2.site, c.in-Some-2.op) =
     ap (op_at g.R.Machine.stands c.args.slot) (sym stays) ∙ sym c.in_ok-site.ensures.op ∙ c.in-Some-2.is in
-    if_ok_then (IsOperatedAt g.R.Machine.stands c.args.slot c.in-Some.line c.in-Some-2.site c.in-Some-2.op c.args.sites.now c.go_on.new.sites c.args.client.now c.go_on.new.client) _ c.go_on.result
-    (λ h done. polled_so g.R.Machine.stands c.args.slot c.in-Some.line c.in-Some-2.site c.in-Some-2.op c.args.sites.now c.go_on.new.sites c.args.client.now c.go_on.new.client h
+    if_ok_then (IsOperatedAt g.R.Machine.stands c.args.slot c.in-Some.line c.in-Some-2.site c.in-Some-2.op c.args.sites.now c.go_on.new.sites c.args.client.now c.go_on.new.client c.args.history.now.items c.go_on.new.history.items) _ c.go_on.result
+    (λ o done. polled_so g.R.Machine.stands c.args.slot c.in-Some.line c.in-Some-2.site c.in-Some-2.op c.args.sites.now c.go_on.new.sites c.args.client.now c.go_on.new.client c.args.history.now.items c.go_on.new.history.items o
     c.in-Some.ensures.line asks done)
-    (subst (λ s. IfOk c.go_on.result (IsOperatedAt g.R.Machine.stands c.args.slot c.in-Some.line c.in-Some-2.site c.in-Some-2.op c.args.sites.now c.go_on.new.sites s c.go_on.new.client)) stays c.go_on.ensures.done)
+    (subst (λ s. IfOk c.go_on.result (IsOperatedAt g.R.Machine.stands c.args.slot c.in-Some.line c.in-Some-2.site c.in-Some-2.op c.args.sites.now c.go_on.new.sites s c.go_on.new.client c.args.history.now.items c.go_on.new.history.items)) stays c.go_on.ensures.done)
 
-pub returns-clause-noted : goal.returns-clause-noted
-returns-clause-noted g c = if_ok_then _ _ c.go_on.result (λ h is. is.noted) (polled_there g c)
+pub returns-clause-outcome : goal.returns-clause-outcome
+returns-clause-outcome g c = if_ok_then _ _ c.go_on.result (λ o is. is.outcome) (polled_there g c)
+
+pub returns-clause-history : goal.returns-clause-history
+returns-clause-history g c = if_ok_then _ _ c.go_on.result (λ o is. is.noted) (polled_there g c)
 
 pub returns-clause-sites : goal.returns-clause-sites
-returns-clause-sites g c = if_ok_then _ _ c.go_on.result (λ h is. is.sites) (polled_there g c)
+returns-clause-sites g c = if_ok_then _ _ c.go_on.result (λ o is. is.sites) (polled_there g c)
 
 pub returns-clause-becomes : goal.returns-clause-becomes
-returns-clause-becomes g c = if_ok_then _ _ c.go_on.result (λ h is. is.becomes) (polled_there g c)
+returns-clause-becomes g c = if_ok_then _ _ c.go_on.result (λ o is. is.becomes) (polled_there g c)

@@ -10,11 +10,11 @@ use Rattle.rbd_schedule.proofs.runner.Runner.poll.Goals as goal
 pub start_all-requires : goal.start_all-requires
 start_all-requires g c =
     has_changer c.args.self.now c.note.new.self c.requires
-    (goes_by_note (stands_of g.E.Machine.stands) c.args.session c.args.slot c.args.self.now c.step.new.self c.note.new.self c.line-line.result c.in_ok-outcome.outcome c.line-line.ensures.line c.line-line.ensures.sound c.in_ok-outcome.ensures.step c.step.ensures.sound c.step.ensures.rest c.note.ensures.rest c.in_ok-note.ensures.answered c.in_ok-note.ensures.due)
+    (goes_by_note (stands_of g.E.Machine.stands) c.args.session c.args.slot c.args.self.now c.poll_alone.new.self c.note.new.self c.line-line.result c.in_ok-outcome.outcome c.line-line.ensures.line c.line-line.ensures.sound c.in_ok-outcome.ensures.step c.poll_alone.ensures.sound c.poll_alone.ensures.rest c.note.ensures.rest c.in_ok-note.ensures.answered c.in_ok-note.ensures.due)
 
 pub returns-clause-comes : goal.returns-clause-comes
 returns-clause-comes g c =
-    let goes = goes_by_note (stands_of g.E.Machine.stands) c.args.session c.args.slot c.args.self.now c.step.new.self c.note.new.self c.line-line.result c.in_ok-outcome.outcome c.line-line.ensures.line c.line-line.ensures.sound c.in_ok-outcome.ensures.step c.step.ensures.sound c.step.ensures.rest c.note.ensures.rest c.in_ok-note.ensures.answered c.in_ok-note.ensures.due in
+    let goes = goes_by_note (stands_of g.E.Machine.stands) c.args.session c.args.slot c.args.self.now c.poll_alone.new.self c.note.new.self c.line-line.result c.in_ok-outcome.outcome c.line-line.ensures.line c.line-line.ensures.sound c.in_ok-outcome.ensures.step c.poll_alone.ensures.sound c.poll_alone.ensures.rest c.note.ensures.rest c.in_ok-note.ensures.answered c.in_ok-note.ensures.due in
     comes_then (stands_of g.E.Machine.stands) (event.Poll c.args.session c.args.slot) c.in_ok-outcome.outcome c.args.self.now.world c.note.new.self.world c.start_all.new.self.world
     (given_to c.args.self.now) (given_to c.note.new.self) goes.given
     (subst (λ w. IsStep (stands_of g.E.Machine.stands) (event.Poll c.args.session c.args.slot) c.args.self.now.world c.in_ok-outcome.outcome w) (sym (ap (λ (r : Runner g.row.E.Denot). r.world) c.note.ensures.rest)) c.in_ok-outcome.ensures.step)
@@ -23,5 +23,5 @@ returns-clause-comes g c =
 pub returns-clause-goes : goal.returns-clause-goes
 returns-clause-goes g c =
     goes_then c.args.self.now c.note.new.self c.start_all.new.self
-    (goes_by_note (stands_of g.E.Machine.stands) c.args.session c.args.slot c.args.self.now c.step.new.self c.note.new.self c.line-line.result c.in_ok-outcome.outcome c.line-line.ensures.line c.line-line.ensures.sound c.in_ok-outcome.ensures.step c.step.ensures.sound c.step.ensures.rest c.note.ensures.rest c.in_ok-note.ensures.answered c.in_ok-note.ensures.due)
+    (goes_by_note (stands_of g.E.Machine.stands) c.args.session c.args.slot c.args.self.now c.poll_alone.new.self c.note.new.self c.line-line.result c.in_ok-outcome.outcome c.line-line.ensures.line c.line-line.ensures.sound c.in_ok-outcome.ensures.step c.poll_alone.ensures.sound c.poll_alone.ensures.rest c.note.ensures.rest c.in_ok-note.ensures.answered c.in_ok-note.ensures.due)
     c.in_ok-start_all.ensures.goes
