@@ -1,4 +1,4 @@
-ghost use Rattle.std.specs.Prelude.{◌≡◌, ◌+◌, ◌-◌, ◌^◌, ◌<◌, ◌≤◌, ◌↔◌, ℕ, ◌++◌, List, [], length, take, IfOk, OnOk, OnErr, IfSome, IsErrOf, vec_len, Some};
+ghost use Rattle.std.specs.Prelude.{◌≡◌, ◌+◌, ◌-◌, ◌^◌, ◌<◌, ◌≤◌, ◌↔◌, ◌++◌, [], length, take, IfOk, OnOk, OnErr, IfSome, IsErrOf, vec_len, Some};
 ghost use Rattle.rbd_edge.specs.Source.{left_after, IsFurther};
 ghost use Rattle.rbd_edge.specs.Texts.{read_text};
 ghost use Rattle.rbd_edge.specs.declared.read.ReadFault.TheVariants.{Failed, NoMemory};

@@ -1,5 +1,5 @@
 //! Those of an operation's bytes that go to places below the image's size.
-ghost use Rattle.std.specs.Prelude.{◌≡◌, ◌++◌, IsTrue, take, drop, IfOk, OnOk};
+ghost use Rattle.std.specs.Prelude.{◌≡◌, IsTrue, take, drop, IfOk};
 ghost use Rattle.rbd_kinds.specs.Form.{IsHeaderInForm};
 ghost use Rattle.rbd_effect.specs.Kept.{bytes_kept};
 ghost use Rattle.rbd_stands.specs.Effect as of_effect;

@@ -1,6 +1,6 @@
 //! What a blocklist shows after an addition: each law is the contract of a function that does
 //! nothing.
-ghost use Rattle.std.specs.Prelude.{◌≡◌, ◌≢◌, ◌↔◌, ◌⊎◌, IsTrue, IsFalse};
+ghost use Rattle.std.specs.Prelude.{◌≡◌, ◌≢◌, IsTrue, IsFalse};
 ghost use Rattle.std.specs.FinSet.{FinSet, empty, contains, insert};
 ghost use Rattle.rbd_kinds.specs.declared.id.Instance.{Instance};
 ghost use Rattle.rbd_fence.specs.Instances.{instance_cmp};

@@ -1,17 +1,17 @@
 -- The image with an id after one step, as a whole: the laws on bytes, sizes, roles and snapshots
 -- follow.
-use Rattle.std.proofs.Common.{◌≡◌, ◌≢◌, ℕ, Bool, true, false, cond, eqb, not, List, [], ◌∷◌, ◌++◌, map, replicate, Option, Some, None, refl, sym, ◌∙◌, ap, subst}
+use Rattle.std.proofs.Common.{◌≡◌, ℕ, Bool, true, false, cond, eqb, not, List, [], ◌∷◌, ◌++◌, map, replicate, Option, Some, None, refl, sym, ◌∙◌, ap, subst}
 use Rattle.std.specs.List.{filter}
 use Rattle.std.specs.Ordering.{nat_cmp}
 use Rattle.std.specs.Option.{option_map}
 use Rattle.std.specs.Cmp.{nat_cmp_total, unsigned_tied}
 use Rattle.std.specs.FinMap as finmap
-use Rattle.std.proofs.lemmas.Bool.{cases_Bool, eqb-true}
+use Rattle.std.proofs.lemmas.Bool.{eqb-true}
 use Rattle.rbd_kinds.specs.declared.header.Role.TheVariants.{Plain}
 use Rattle.rbd_kinds.specs.declared.header.SnapStatus.TheVariants.{Unprotected}
 use Rattle.rbd_flat.specs.declared.effect.Effect.{Effect}
 use Rattle.rbd_flat.specs.declared.effect.Effect.TheVariants as effect
-use Rattle.rbd_flat.specs.Flat.{Flat, FlatImage, FlatSnap, image_at, snap_of, painted, places_of, resized, changed, with_image, cloned, renamed, with_status, after, id_of}
+use Rattle.rbd_flat.specs.Flat.{Flat, FlatImage, FlatSnap, image_at, painted, places_of, resized, changed, with_image, cloned, renamed, with_status, after, id_of}
 use Rattle.rbd_flat.specs.Laws.{snap_at}
 
 pub get_insert : {X : Type 0} (m : finmap.FinMap nat_cmp X) (k : ℕ) (v : X) (i : ℕ) → finmap.get (finmap.insert m k v) i ≡ cond (eqb i k) (Some v) (finmap.get m i)

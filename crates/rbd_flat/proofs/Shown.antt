@@ -1,5 +1,5 @@
 -- What a read answers, by whether there is an image and a view of it.
-use Rattle.std.proofs.Common.{◌≡◌, ℕ, Bool, true, false, List, length, Option, Some, None, refl, sym, ◌∙◌, ap, subst}
+use Rattle.std.proofs.Common.{◌≡◌, ℕ, false, List, length, Option, Some, None, refl, sym, ◌∙◌, ap, subst}
 use Rattle.std.specs.Prelude.{◌↔◌, Result, Ok, Err, IfOk, IsOk, IsErrOf, IsSome}
 use Rattle.rbd_kinds.specs.declared.layout.Extent.{Extent}
 use Rattle.rbd_flat.specs.declared.fault.FlatFault.{FlatFault}

@@ -1,5 +1,5 @@
 -- One step on a flat site as the code keeps it.
-use Rattle.std.proofs.Common.{◌≡◌, ◌≢◌, ℕ, Bool, true, false, cond, eqb, not, List, [], ◌∷◌, ◌++◌, Option, Some, None, Ordering, refl, sym, ◌∙◌, ap, subst}
+use Rattle.std.proofs.Common.{◌≡◌, ℕ, Bool, true, false, cond, eqb, not, List, Option, Some, None, Ordering, refl, sym, ◌∙◌, ap}
 use Rattle.std.specs.List.{list_any, filter}
 use Rattle.std.specs.Map.{lookup, keys_of}
 use Rattle.std.specs.BTreeMap.{is_at}
@@ -14,9 +14,8 @@ use Rattle.std.proofs.lemmas.Map.Lookups.{CmpEqualImpliesEq, exact_pairs, exact_
 use Rattle.std.specs.List.Sorted.{IsStrictlySortedBy}
 use Rattle.std.specs.FinMap as finmap
 use Rattle.std.specs.FinSet as finset
-use Rattle.rbd_flat.specs.declared.effect.Effect.{Effect}
 use Rattle.rbd_flat.specs.declared.effect.Effect.TheVariants as effect
-use Rattle.rbd_flat.specs.Flat.{Flat, FlatImage, FlatSnap, Link, link_cmp, after, id_of, image_at, snap_of, renamed, with_image, changed}
+use Rattle.rbd_flat.specs.Flat.{Flat, FlatImage, Link, link_cmp, after, id_of, image_at, snap_of, renamed, with_image, changed}
 use Rattle.rbd_flat.specs.Site.{site_of}
 use Rattle.rbd_flat.proofs.Images.{get_insert}
 use Rattle.rbd_kinds.proofs.Ordered.{get_entries, one_given, one_taken, entries_in_order, one_added, one_dropped}

@@ -5,7 +5,7 @@ use Rattle.rbd_kinds.specs.declared.layout.Extent.{Extent}
 use Rattle.rbd_kinds.specs.Extents.{fits}
 use Rattle.rbd_flat.specs.declared.fault.FlatFault.{FlatFault}
 use Rattle.rbd_flat.specs.declared.fault.FlatFault.TheVariants.{NoImage, NoSnap, BadRange}
-use Rattle.rbd_flat.specs.Flat.{Flat, FlatImage, FlatSnap, image_at, snap_in, snap_of}
+use Rattle.rbd_flat.specs.Flat.{Flat, FlatImage, image_at, snap_in, snap_of}
 
 -- the bytes at the extent
 abbrev pub bytes_in : List ℕ → Extent → List ℕ

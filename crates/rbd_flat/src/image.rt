@@ -1,7 +1,6 @@
 //! A flat image and its flat snapshots.
-ghost use Rattle.std.specs.Prelude.{◌≡◌, ◌==◌, ◌++◌, ◌∷◌, [], not, map, replicate, Option, Some, OnOk, OnErr, IfOk, option_copied};
+ghost use Rattle.std.specs.Prelude.{◌≡◌, ◌==◌, ◌++◌, ◌∷◌, [], not, map, replicate, OnOk, OnErr, IfOk, option_copied};
 ghost use Rattle.std.specs.List.{filter};
-ghost use Rattle.std.specs.Option.{option_map};
 ghost use Rattle.rbd_kinds.specs.declared.header.Role.TheVariants.{Plain};
 ghost use Rattle.rbd_kinds.specs.declared.header.SnapStatus.TheVariants.{Unprotected};
 ghost use Rattle.rbd_flat.specs.Flat.{FlatSnap, FlatImage, painted, places_of, resized, snap_in, with_status};

@@ -1,5 +1,5 @@
 //! From the front of some bytes to the event of the frame there.
-ghost use Rattle.std.specs.Prelude.{◌≡◌, ℕ, ◌++◌, List, length, drop, IfOk, IfErr, MatchResult, Ok, Err, Some, None};
+ghost use Rattle.std.specs.Prelude.{◌≡◌, ℕ, ◌++◌, List, length, drop, IfOk, IfErr, MatchResult, Err, Some, None};
 ghost use Rattle.rbd_kinds.specs.declared.journal.Event.{Event};
 ghost use Rattle.rbd_frame.specs.Faults.{IsNoMemory, body_fault, fault_after, first_fault};
 ghost use Rattle.rbd_frame.specs.Parts.{HasBodyAfter, HasHeader};

@@ -1,5 +1,5 @@
 //! The ends of lines, in a table by the line's key. No change takes memory, where there is room.
-ghost use Rattle.std.specs.Prelude.{◌≡◌, ℕ, ◌+◌, ◌-◌, ◌<◌, ◌≤◌, ◌^◌, None, Some, cond, nat_eq};
+ghost use Rattle.std.specs.Prelude.{◌≡◌, ℕ, ◌+◌, ◌-◌, ◌<◌, ◌≤◌, ◌^◌, Some, cond, nat_eq};
 ghost use Rattle.std.specs.HashMap.{get, spare};
 ghost use Rattle.rbd_guard.specs.Order.{no_ends, ends_or};
 ghost use Rattle.rbd_guard.specs.Links.{longer, shorter, or_none, or_else, unless};

@@ -1,4 +1,4 @@
-ghost use Rattle.std.specs.Prelude.{◌≡◌, ℕ, ◌+◌, ◌<◌, ◌≤◌, ◌==◌, [], ◌∷◌, ◌++◌, None, Some, cond, nat_eq, length, slice_get, IsSome, IsNone, IsOk, IfOk, IfSome, OnOk, OnErr};
+ghost use Rattle.std.specs.Prelude.{◌≡◌, ℕ, ◌+◌, ◌<◌, ◌≤◌, ◌==◌, [], ◌∷◌, ◌++◌, None, Some, cond, nat_eq, length, slice_get, IsSome, IsOk, IfOk, IfSome, OnOk, OnErr};
 ghost use Rattle.std.specs.HashMap.{get, spare};
 ghost use Rattle.rbd_guard.specs.Order.{is_in, without};
 ghost use Rattle.rbd_guard.specs.Tickets.{queue, list, object_of, request_of, without_all, AreSame, IsSoundGuard};

@@ -1,5 +1,5 @@
 -- Where an image byte lies (Ceph: RBD striping).
-use Rattle.std.specs.Prelude.{◌≡◌, ◌≢◌, ℕ, ◌+◌, ◌*◌, ◌/◌, ◌%◌, ◌^◌, ◌<◌, ◌≤◌}
+use Rattle.std.specs.Prelude.{◌≡◌, ℕ, ◌+◌, ◌*◌, ◌/◌, ◌%◌, ◌^◌, ◌<◌, ◌≤◌}
 use Rattle.rbd_kinds.specs.declared.layout.Layout.{Layout}
 
 -- The object size is a power of two from 4,096 to 33,554,432, the stripe unit one from 512 to the

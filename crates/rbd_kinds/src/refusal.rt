@@ -1,5 +1,5 @@
 //! Why a command may be refused.
-ghost use Rattle.std.specs.Prelude.{◌≡◌, ◌++◌, ◌∷◌, codes, decimal, Some};
+ghost use Rattle.std.specs.Prelude.{◌≡◌, Some};
 ghost use Rattle.rbd_kinds.specs.Refusal.{errno_of, number_of, word_of, refusal_text};
 
 use std::fmt;

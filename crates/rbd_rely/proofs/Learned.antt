@@ -21,7 +21,7 @@ use Rattle.rbd_machine.specs.Wait as wait
 use Rattle.rbd_machine.specs.Permits.{Permits, PermitsOnHeader, PermitsOnDirectory, OwnsBy, OwnsAlone, MayMake, MayTake, MayRemove}
 use Rattle.rbd_kinds.specs.Header.{snap_named}
 use Rattle.rbd_header.specs.Header.{with_snap, without_snap, snap_in, is_full}
-use Rattle.rbd_registry.specs.Directory.{Listing, added, id_of}
+use Rattle.rbd_registry.specs.Directory.{added, id_of}
 use Rattle.rbd_registry.specs.Directory as listing
 use Rattle.rbd_flat.specs.Flat.{Flat}
 use Rattle.rbd_site.specs.DirectoryStep.{name_added, where_added}
@@ -47,13 +47,6 @@ site_is sites.A sites.A is = refl
 site_is sites.B sites.B is = refl
 site_is sites.A sites.B is = cc
 site_is sites.B sites.A is = cc
-
-site_same : (a : SiteId) → same_site a a ≡ true
-site_same sites.A = refl
-site_same sites.B = refl
-
-at_itself : (site : SiteId) (image : ℕ) → is_at site image site image ≡ true
-at_itself site image = ap (λ b. b && (image == image)) (site_same site) ∙ eq-eqb image image refl
 
 -- a place is that of at most one image
 at_one : (site : SiteId) (image other : ℕ) (there : SiteId) (place : ℕ) → image ≢ other → is_at site image there place ≡ true → is_at site other there place ≡ false

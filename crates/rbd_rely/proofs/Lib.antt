@@ -5,3 +5,4 @@ pub mod Kept
 pub mod Learned
 pub mod Together
 pub mod Parents
+pub mod Nothing

@@ -234,3 +234,15 @@ nobody_knows site k j image holds may = by (known_header j site image) refl
     by : (there : Option HeaderView) → known_header j site image ≡ there → there ≡ None
     by None is = refl
     by (Some h) is = absurd (true≢false (sym (ap is_own_alone holds.is) ∙ (may (ap is_some holds.is) (ap is_some is)).one))
+
+-- ---- each beside the other
+
+pub beside_mutual : (t : SiteId) (k j : Knowledge) → AreBeside t k j → AreBeside t j k
+beside_mutual t k j beside = record {
+  shared = λ image mine others. let both = beside.shared image others mine in record { one = both.other; other = both.one };
+  apart = λ image drawn. by image drawn (is_drawn k.drawn t image) refl;
+}
+  where
+    by : (image : ℕ) → is_drawn j.drawn t image ≡ true → (b : Bool) → is_drawn k.drawn t image ≡ b → is_drawn k.drawn t image ≡ false
+    by image drawn true is = absurd (true≢false (sym drawn ∙ beside.apart image is))
+    by image drawn false is = is

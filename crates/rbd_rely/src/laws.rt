@@ -1,6 +1,6 @@
 //! What requests may rely on, whatever the others do: each law is the contract of a function that
 //! does nothing. A law speaks of any records of a site, and of what is known there.
-ghost use Rattle.std.specs.Prelude.{◌≡◌, ℕ, [], IsFalse, IsSome, None, true};
+ghost use Rattle.std.specs.Prelude.{◌≡◌, ℕ, [], IsFalse, None, true};
 ghost use Rattle.rbd_kinds.specs.declared.answer.Answer.{Answer};
 ghost use Rattle.rbd_kinds.specs.declared.answer.Answer.TheVariants as answered;
 ghost use Rattle.rbd_kinds.specs.declared.id.Instance.{Instance};

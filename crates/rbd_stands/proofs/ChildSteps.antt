@@ -1,10 +1,11 @@
 -- Changes of the list of children, and of the flat site's links; and clones that are being made.
-use Rattle.std.proofs.Common.{◌≡◌, ℕ, Bool, true, false, cond, not, ◌&&◌, ◌||◌, List, [], ◌∷◌, Option, Some, None, Ordering, refl, sym, ◌∙◌, ap, subst, zero, suc}
+use Rattle.std.proofs.Common.{◌≡◌, ℕ, true, false, cond, not, ◌&&◌, ◌||◌, List, [], ◌∷◌, Option, Some, None, Ordering, refl, sym, ◌∙◌, ap, subst, zero, suc}
 use Rattle.std.specs.declared.cmp.Ordering.TheVariants.{Less, Equal, Greater}
 use Rattle.std.specs.FinSet as finset
 use Rattle.std.specs.List.{slice_get}
 use Rattle.std.specs.Ordering.{nat_cmp, ordering_then, eq_by_cmp, is_eq}
 use Rattle.std.specs.Cmp.{IsTotalOrder, nat_cmp_total}
+use Rattle.std.proofs.lemmas.Bool.{or_right}
 use Rattle.std.proofs.lemmas.Option.{same_Some}
 use Rattle.std.proofs.lemmas.Cmp.{on_total, then_total}
 use Rattle.std.proofs.lemmas.Map.Lookups.{exact_unsigned}
@@ -23,7 +24,6 @@ use Rattle.rbd_flat.specs.declared.effect.Effect.TheVariants as effect
 use Rattle.rbd_flat.specs.Flat.{Flat, FlatImage, Link, link_cmp, image_at}
 use Rattle.rbd_flat.specs.Flat as flat
 use Rattle.rbd_site.specs.ChildrenStep.{entry}
-use Rattle.rbd_site.specs.Found.{done_where}
 use Rattle.rbd_site.specs.Records.{Records, object_at, with_children}
 use Rattle.rbd_site.specs.Step.{answer_to, answer_served, after, after_served}
 use Rattle.rbd_stands.specs.Condition.{IsFree, NamesOther}
@@ -32,7 +32,7 @@ use Rattle.rbd_stands.specs.Reading.{AreLinkedTo}
 use Rattle.rbd_stands.specs.Shown.{Snapshots, Links, HasParent, links_of, snapshots_of}
 use Rattle.rbd_stands.specs.Site.{StandsAt, StandsFor, Pending, IsAwaited}
 use Rattle.rbd_stands.specs.View.{EachView}
-use Rattle.rbd_stands.proofs.Served.{where_served}
+use Rattle.rbd_stands.proofs.Served.{was_there, where_served}
 
 -- ---- other links, where those stay that views name
 
@@ -98,10 +98,6 @@ link_total = then_total (on_total (λ (l : Link). l.parent) nat_cmp_total) (then
 abbrev link : (parent snap child : ℕ) → Link
 link parent snap child = record { parent = parent; snap = snap; child = child }
 
-or_true : (b c : Bool) → c ≡ true → (b || c) ≡ true
-or_true true c e = refl
-or_true false c e = e
-
 link_served : (pending : List Pending) (r : Records) (f : Flat) (me : Instance) (parent snap child : ℕ) → StandsFor pending r f
     → answer_served r me (op.Children (children_op.Add parent snap child)) ≡ answer.Done
     → StandsFor pending (after_served r me (op.Children (children_op.Add parent snap child))) (flat.after f (effect.Link parent snap child))
@@ -118,7 +114,7 @@ link_served pending r f me parent snap child stands done =
     stays c None = tt
     stays c (Some l) = λ e.
         finset.contains-insert link_total f.links (link parent snap child) (link l.image l.snap c)
-        ∙ or_true (eq_by_cmp link_cmp (link l.image l.snap c) (link parent snap child)) (finset.contains f.links (link l.image l.snap c)) e
+        ∙ or_right (eq_by_cmp link_cmp (link l.image l.snap c) (link parent snap child)) (finset.contains f.links (link l.image l.snap c)) e
 
 pub link_stands : (pending : List Pending) (r : Records) (f : Flat) (me : Instance) (parent snap child : ℕ) → StandsFor pending r f
     → answer_to r me (op.Children (children_op.Add parent snap child)) ≡ answer.Done
@@ -142,16 +138,12 @@ apart p s c p' s' c' differ = go (nat_cmp p p') refl (nat_cmp s s') refl (nat_cm
     go Equal x Equal y Greater z = refl
     go Equal x Equal y Equal z = absurd (differ (exact_unsigned p p' x) (exact_unsigned s s' y) (exact_unsigned c c' z))
 
-was_held : (b : Bool) → done_where b ≡ answer.Done → b ≡ true
-was_held true e = refl
-was_held false e = absurd (cc)
-
 unlink_served : (pending : List Pending) (r : Records) (f : Flat) (me : Instance) (parent snap child : ℕ) → StandsFor pending r f → IsFree pending r parent snap child
     → answer_served r me (op.Children (children_op.Remove parent snap child)) ≡ answer.Done
     → StandsFor pending (after_served r me (op.Children (children_op.Remove parent snap child))) (flat.after f (effect.Unlink parent snap child))
 unlink_served pending r f me parent snap child stands free done =
     let gone = finset.remove r.children (entry parent snap child) in
-    subst (λ b. StandsFor pending (with_children (cond b gone r.children) r) (flat.after f (effect.Unlink parent snap child))) (sym (was_held (finset.contains r.children (entry parent snap child)) done))
+    subst (λ b. StandsFor pending (with_children (cond b gone r.children) r) (flat.after f (effect.Unlink parent snap child))) (sym (was_there (finset.contains r.children (entry parent snap child)) done))
     (links_stand pending r f gone (finset.remove f.links (link parent snap child)) stands
     (λ p s c.
     finset.contains-remove entry_total r.children (entry parent snap child) (entry p s c)

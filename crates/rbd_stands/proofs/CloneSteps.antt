@@ -212,10 +212,6 @@ clone_served pending r f me image k view link stands at drawn untouched made don
     (clone_made (snapshots_of g) (links_of g image) view link (object_at r image) waits.snap made untouched.blank there waits.long waits_now))
     (λ above. absurd (omega (arith, above, drawn)))
   where
-    unless : (b : Bool) (o : Option FlatSnap) (s : FlatSnap) → (b ≡ true → ⊥) → o ≡ Some s → cond b None o ≡ Some s
-    unless true o s not_this is = absurd (not_this refl)
-    unless false o s not_this is = is
-
     kept : (i t : ℕ) (s : FlatSnap) → snap_at f i t ≡ Some s → (b : Bool) → eqb i image ≡ b → cond (b && is_some (snap_at f link.image link.snap)) None (snap_at f i t) ≡ Some s
     kept i t s is true e = absurd (none-some s (sym (ap (λ o. snap_of o t) (ap (image_at f) (eqb-true i image e) ∙ untouched.flat)) ∙ is))
     kept i t s is false e = is

@@ -13,15 +13,14 @@ use Rattle.rbd_kinds.specs.declared.id.Instance.{Instance}
 use Rattle.rbd_kinds.specs.declared.operation.Op.TheVariants as op
 use Rattle.rbd_registry.specs.Directory.{Listing, id_of, is_full, added, freed, holds, renamed}
 use Rattle.rbd_flat.specs.declared.effect.Effect.TheVariants as effect
-use Rattle.rbd_flat.specs.Flat.{Flat, FlatImage, image_at}
+use Rattle.rbd_flat.specs.Flat.{Flat}
 use Rattle.rbd_flat.specs.Flat as flat
 use Rattle.rbd_site.specs.Records.{Records, with_directory}
-use Rattle.rbd_site.specs.Found.{done_where}
 use Rattle.rbd_site.specs.DirectoryStep.{image_found, name_added, name_changed, where_added, where_done}
 use Rattle.rbd_site.specs.Step.{is_fenced, answer_to, answer_served, after, after_served}
 use Rattle.rbd_stands.specs.Condition.{IsDrawn}
 use Rattle.rbd_stands.specs.Site.{StandsFor, IsUntouched, Pending}
-use Rattle.rbd_stands.proofs.Served.{free_answer, where_served}
+use Rattle.rbd_stands.proofs.Served.{free_answer, was_there, where_served}
 
 -- ---- a name is added
 
@@ -127,16 +126,12 @@ rename_stands pending r f me from to stands =
 
 -- ---- a name is freed
 
-held : (b : Bool) → done_where b ≡ answer.Done → b ≡ true
-held true e = refl
-held false e = absurd (cc)
-
 free_served : (pending : List Pending) (r : Records) (f : Flat) (me : Instance) (image : ℕ) → StandsFor pending r f
     → answer_served r me (op.Directory (directory_op.Remove image)) ≡ answer.Done
     → StandsFor pending (after_served r me (op.Directory (directory_op.Remove image))) (flat.after f (effect.NameFree image))
 free_served pending r f me image stands e =
     let g : Flat = flat.after f (effect.NameFree image) in
-    subst (λ (b : Bool). StandsFor pending (with_directory (cond b (freed image r.directory) r.directory) r) g) (sym (held (holds image r.directory) e))
+    subst (λ (b : Bool). StandsFor pending (with_directory (cond b (freed image r.directory) r.directory) r) g) (sym (was_there (holds image r.directory) e))
     (other_names pending r f (freed image r.directory) g.names stands refl
     (ap (λ (m : finmap.FinMap (slice_cmp nat_cmp) ℕ). finmap.from_entries (filter (λ e. not (eqb e.1 image)) (finmap.entries m))) stands.names))
 

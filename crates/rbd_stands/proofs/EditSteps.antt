@@ -1,7 +1,7 @@
 -- Size, status, role and parent are set and a header is removed, at the site; and what an id needs
 -- that has no header yet.
 use Rattle.std.proofs.Common.{◌≡◌, ◌≢◌, ℕ, ◌≤◌, Bool, true, false, cond, eqb, ◌&&◌, List, [], map, Option, Some, None, option_map, is_some, refl, sym, ◌∙◌, ap, arith}
-use Rattle.std.proofs.lemmas.Bool.{eq-eqb, eqb-true, eqb-false}
+use Rattle.std.proofs.lemmas.Bool.{and_parts, eq-eqb, eqb-true, eqb-false}
 use Rattle.std.proofs.lemmas.Option.{none-some, same_Some}
 use Rattle.rbd_kinds.specs.declared.answer.Answer.{Answer}
 use Rattle.rbd_kinds.specs.declared.answer.Answer.TheVariants as answer
@@ -21,7 +21,7 @@ use Rattle.rbd_header.specs.Header.{snap_in, with_size, with_status, with_role, 
 use Rattle.rbd_registry.specs.Directory.{Listing, id_of, added, renamed, freed, holds}
 use Rattle.rbd_flat.specs.declared.effect.Effect.{Effect}
 use Rattle.rbd_flat.specs.declared.effect.Effect.TheVariants as effect
-use Rattle.rbd_flat.specs.Flat.{Flat, FlatImage, FlatSnap, image_at, snap_of, resized}
+use Rattle.rbd_flat.specs.Flat.{Flat, FlatSnap, image_at, snap_of, resized}
 use Rattle.rbd_flat.specs.Flat as flat
 use Rattle.rbd_flat.specs.Laws.{snap_at}
 use Rattle.rbd_flat.proofs.Images.{image_law}
@@ -40,11 +40,11 @@ use Rattle.rbd_stands.specs.Site.{StandsFor, IsUntouched, Pending, IsAwaited}
 use Rattle.rbd_stands.specs.Condition.{IsCopiedUp, IsZeroedFrom, IsUnnamed, IsDrawn, NamesOther}
 use Rattle.rbd_stands.proofs.Frame.{KeepsParent}
 use Rattle.rbd_stands.proofs.HeaderEdits.{size_set, role_set, status_set, parent_taken}
-use Rattle.rbd_stands.proofs.ImageSteps.{header_change, was_there}
-use Rattle.rbd_stands.proofs.Lookups.{both_tests, flat_missing, line_at}
+use Rattle.rbd_stands.proofs.ImageSteps.{header_change}
+use Rattle.rbd_stands.proofs.Lookups.{flat_missing, line_at}
 use Rattle.rbd_stands.proofs.ObjectSteps.{put_there, put_elsewhere}
 use Rattle.rbd_stands.proofs.SiteSteps.{Here, here, stands_without, keep_all, site_change, is_drawn, other_header, with_headed, flat_there, flat_elsewhere}
-use Rattle.rbd_stands.proofs.Served.{where_served}
+use Rattle.rbd_stands.proofs.Served.{was_there, where_served}
 
 -- ---- a size
 
@@ -113,7 +113,7 @@ status_served pending r f me image snap status stands free answered = go (r.head
     kept None other = tt
     kept (Some link) other = λ s is.
         let found = given (eqb link.image image && eqb link.snap snap) (snap_at f link.image link.snap) s is
-        (λ both unprotected. let t = both_tests (eqb link.image image) (eqb link.snap snap) both in other unprotected (eqb-true link.image image t.0) (eqb-true link.snap snap t.1)) in
+        (λ both unprotected. let t = and_parts (eqb link.image image) (eqb link.snap snap) both in other unprotected (eqb-true link.image image t.0) (eqb-true link.snap snap t.1)) in
         record { snap = found.0; is = snap_law f (effect.Status image snap status) link.image link.snap ∙ found.1; bytes = found.2; kept = found.3 }
 
     go : (header : Option HeaderView) → r.headers image ≡ header → StandsFor pending (after_served r me (op.Header image (header_op.SnapStatus snap status))) (flat.after f (effect.Status image snap status))

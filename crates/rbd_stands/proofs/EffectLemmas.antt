@@ -3,7 +3,9 @@ use Rattle.std.proofs.Common.{◌≡◌, ℕ, ◌+◌, ◌<◌, ◌≤◌, Bool,
 use Rattle.std.specs.List.{filter, range_with_len}
 use Rattle.std.proofs.lemmas.Bool.{lt-ltb}
 use Rattle.std.proofs.lemmas.Bool.{eq-eqb}
+use Rattle.std.proofs.lemmas.List.{take-append-drop}
 use Rattle.std.proofs.lemmas.List.Elements.{All-head, All-tail}
+use Rattle.std.proofs.lemmas.List.FromFn.{length-range_with_len}
 use Rattle.rbd_kinds.specs.declared.data_op.DataOp.TheVariants as data_op
 use Rattle.rbd_kinds.specs.declared.header.HeaderView.{HeaderView}
 use Rattle.rbd_kinds.specs.declared.header.SnapContext.{SnapContext}
@@ -72,15 +74,6 @@ parts_extents h laid n (p ∷ parts) are =
     let first = All-head (IsPartBelow h h.size n) p parts are in
     (λ i. part_extent h.layout laid h.size n p first.part first.below i ++ parts_extents h laid n parts (All-tail (IsPartBelow h h.size n) p parts are) i)
 
-range_long : (at len : ℕ) → length (range_with_len at len) ≡ len
-range_long at zero = refl
-range_long at (suc len) = ap suc (range_long (at + 1) len)
-
-take_drop : (n : ℕ) (xs : List ℕ) → take n xs ++ drop n xs ≡ xs
-take_drop zero xs = refl
-take_drop (suc n) [] = refl
-take_drop (suc n) (x ∷ xs) = ap (λ ys. x ∷ ys) (take_drop n xs)
-
 drop_long : (n : ℕ) (xs : List ℕ) (m : ℕ) → length xs ≡ n + m → length (drop n xs) ≡ m
 drop_long zero xs m is = is ∙ (omega arith)
 drop_long (suc n) [] m is = absurd (omega arith)
@@ -92,9 +85,9 @@ parts_bytes h laid n [] [] are long = refl
 parts_bytes h laid n [] (b ∷ bytes) are long = absurd (omega arith)
 parts_bytes h laid n (p ∷ parts) bytes are long =
     let first = All-head (IsPartBelow h h.size n) p parts are in
-    let many : length (places_below h.layout h.size n p) ≡ p.len = ap length (below_range h.layout laid h.size n p first.part first.below) ∙ range_long p.at p.len in
+    let many : length (places_below h.layout h.size n p) ≡ p.len = ap length (below_range h.layout laid h.size n p first.part first.below) ∙ length-range_with_len p.at p.len in
     (λ i. take (many i) bytes ++ parts_bytes h laid n parts (drop p.len bytes) (All-tail (IsPartBelow h h.size n) p parts are) (drop_long p.len bytes (parts_len parts) long) i)
-    ∙ take_drop p.len bytes
+    ∙ take-append-drop p.len bytes
 
 whole_extents : (h : HeaderView) → IsLayout h.layout → (n : ℕ) (parts : List Part) → AreWhole h n parts → whole_object h.layout h.size n ≡ extents_of parts
 whole_extents h laid n parts are =

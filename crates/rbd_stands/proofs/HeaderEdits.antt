@@ -12,7 +12,7 @@ use Rattle.rbd_kinds.specs.Striping.{object_of, offset_of, byte_at}
 use Rattle.rbd_layout.proofs.Places.{first_below}
 use Rattle.rbd_header.specs.Header.{cut, with_size, with_status, with_role, detached}
 use Rattle.rbd_object.specs.Mapped.{Mapped}
-use Rattle.rbd_flat.specs.Flat.{FlatImage, FlatSnap, resized}
+use Rattle.rbd_flat.specs.Flat.{FlatImage, resized}
 use Rattle.rbd_flat.specs.Flat as flat
 use Rattle.rbd_flat.specs.Laws.{snap_byte}
 use Rattle.rbd_stands.specs.View.{flat_bytes}

@@ -1,6 +1,7 @@
 -- Changes of a header, and what it then stands for.
-use Rattle.std.proofs.Common.{◌≡◌, ◌≢◌, ℕ, ◌+◌, cond, eqb, List, [], ◌∷◌, ◌++◌, length, filter, not, map, get_or, Option, Some, None, option_map, unwrap_or, refl, sym, ◌∙◌, ap, arith}
+use Rattle.std.proofs.Common.{◌≡◌, ◌≢◌, ℕ, ◌+◌, cond, eqb, List, [], ◌∷◌, ◌++◌, length, filter, not, get_or, Option, Some, None, option_map, unwrap_or, refl, sym, ◌∙◌, ap, arith}
 use Rattle.std.proofs.lemmas.Bool.{lt-ltb}
+use Rattle.std.proofs.lemmas.List.{map_push}
 use Rattle.rbd_kinds.specs.declared.header.HeaderView.{HeaderView}
 use Rattle.rbd_kinds.specs.declared.header.SnapStatus.TheVariants.{Unprotected}
 use Rattle.rbd_kinds.specs.declared.header.SnapView.{SnapView}
@@ -14,10 +15,6 @@ use Rattle.rbd_stands.specs.Shown.{Snapshots, shown, Links}
 use Rattle.rbd_stands.specs.Image.{ImageStands, line_of_snap, line_of_flat}
 use Rattle.rbd_stands.proofs.Lookups.{flat_there, flat_missing, flat_older, flat_last, flat_left, lines_left}
 use Rattle.rbd_stands.proofs.Views.{each_added, each_removed}
-
-map_push : {X Y : Type 0} (g : X → Y) (xs : List X) (x : X) → map g (xs ++ x ∷ []) ≡ map g xs ++ g x ∷ []
-map_push g [] x = refl
-map_push g (y ∷ xs) x = ap (λ zs. g y ∷ zs) (map_push g xs x)
 
 -- ---- a snapshot is taken
 

@@ -3,7 +3,7 @@ use Rattle.std.proofs.Common.{◌≡◌, ◌≢◌, ℕ, ◌+◌, Bool, true, fa
 use Rattle.std.specs.Option.{option_or}
 use Rattle.std.specs.FinMap as finmap
 use Rattle.std.specs.Ordering.{nat_cmp}
-use Rattle.std.proofs.lemmas.Bool.{eq-eqb, eqb-true}
+use Rattle.std.proofs.lemmas.Bool.{and_parts, eq-eqb, eqb-true}
 use Rattle.std.proofs.lemmas.Option.{none-some}
 use Rattle.std.proofs.lemmas.List.{length-replicate, get_or-replicate}
 use Rattle.rbd_kinds.specs.declared.answer.Answer.TheVariants as answer
@@ -27,7 +27,6 @@ use Rattle.rbd_flat.specs.Flat as flat
 use Rattle.rbd_flat.specs.Laws.{snap_at}
 use Rattle.rbd_flat.proofs.Images.{image_law}
 use Rattle.rbd_flat.proofs.Steps.{snap_law, names_stay, links_stay}
-use Rattle.rbd_site.specs.Found.{done_where}
 use Rattle.rbd_site.specs.HeaderStep.{header_answer, header_after, there_after, snap_added, where_made}
 use Rattle.rbd_site.specs.Records.{Records, object_at}
 use Rattle.rbd_site.specs.WatchStep.{watchers_after}
@@ -40,8 +39,8 @@ use Rattle.rbd_stands.proofs.Frame.{KeepsParent}
 use Rattle.rbd_stands.proofs.HeaderSteps as header
 use Rattle.rbd_stands.proofs.ObjectSteps.{put_there}
 use Rattle.rbd_stands.proofs.SiteSteps.{here, stands_at, KeepsParents, keep_all, site_change, is_drawn, other_header, with_headed, flat_there, flat_elsewhere}
-use Rattle.rbd_stands.proofs.Lookups.{both_tests}
-use Rattle.rbd_stands.proofs.Served.{where_served}
+use Rattle.rbd_stands.proofs.Lookups.{unless}
+use Rattle.rbd_stands.proofs.Served.{was_there, where_served}
 
 -- what an image stands for after a change
 pub record After (below : Snapshots) (linked : Links) (k : HeaderView) (objects : ℕ → Mapped) (o : Option FlatImage) : Type 0 where
@@ -180,14 +179,6 @@ snap_stands pending r f me image snap name stands =
 
 -- ---- a snapshot is removed
 
-pub was_there : (there : Bool) → done_where there ≡ answer.Done → there ≡ true
-was_there true e = refl
-was_there false e = absurd (cc)
-
-unless : (b : Bool) (o : Option FlatSnap) (s : FlatSnap) → (b ≡ true → ⊥) → o ≡ Some s → cond b None o ≡ Some s
-unless true o s not_this is = absurd (not_this refl)
-unless false o s not_this is = is
-
 unsnap_served : (pending : List Pending) (r : Records) (f : Flat) (me : Instance) (image snap : ℕ) → StandsFor pending r f → IsUnnamed pending r image snap
     → answer_served r me (op.Header image (header_op.SnapRemove snap)) ≡ answer.Done
     → StandsFor pending (after_served r me (op.Header image (header_op.SnapRemove snap))) (flat.after f (effect.Unsnap image snap))
@@ -199,7 +190,7 @@ unsnap_served pending r f me image snap stands unnamed answered = go (r.headers 
       snap = s;
       is = snap_law f (effect.Unsnap image snap) link.image link.snap
           ∙ unless (eqb link.image image && eqb link.snap snap) (snap_at f link.image link.snap) s
-          (λ both. let t = both_tests (eqb link.image image) (eqb link.snap snap) both in other (eqb-true link.image image t.0) (eqb-true link.snap snap t.1)) is;
+          (λ both. let t = and_parts (eqb link.image image) (eqb link.snap snap) both in other (eqb-true link.image image t.0) (eqb-true link.snap snap t.1)) is;
       bytes = refl;
       kept = λ k. k;
     }

@@ -1,5 +1,5 @@
 -- Snapshots looked up by id, in a header's list and in a flat image's.
-use Rattle.std.proofs.Common.{◌≡◌, ◌≢◌, ℕ, Bool, true, false, ◌&&◌, cond, eqb, not, ◌⊎◌, inl, inr, List, [], ◌∷◌, ◌++◌, filter, map, Option, Some, None, option_map, refl, sym, ◌∙◌, ap}
+use Rattle.std.proofs.Common.{◌≡◌, ◌≢◌, ℕ, Bool, true, false, cond, eqb, not, ◌⊎◌, inl, inr, List, [], ◌∷◌, ◌++◌, filter, map, Option, Some, None, option_map, refl, sym, ◌∙◌, ap}
 use Rattle.std.proofs.lemmas.Bool.{eqb-true, eq-eqb, ne_eqb, true≢false}
 use Rattle.std.proofs.lemmas.Option.{none-some, same_Some}
 use Rattle.rbd_kinds.specs.declared.header.SnapView.{SnapView}
@@ -24,9 +24,10 @@ pub map_cond : {X Y : Type 0} (g : X → Y) (b : Bool) (x : X) (o : Option X) �
 map_cond g true x o = refl
 map_cond g false x o = refl
 
-pub both_tests : (b c : Bool) → (b && c) ≡ true → (b ≡ true) × (c ≡ true)
-both_tests true c e = (refl, e)
-both_tests false c e = absurd (true≢false (sym e))
+-- what stays where another thing goes
+pub unless : {X : Type 0} (b : Bool) (o : Option X) (x : X) → (b ≡ true → ⊥) → o ≡ Some x → cond b None o ≡ Some x
+unless true o x not_this is = absurd (not_this refl)
+unless false o x not_this is = is
 
 -- ---- what both tell of a snapshot
 

@@ -2,7 +2,7 @@
 -- image places.
 use Rattle.std.proofs.Common.{◌≡◌, ◌≢◌, ℕ, ◌+◌, ◌-◌, ◌<◌, ◌≤◌, Bool, true, false, cond, ltb, leb, ◌&&◌, ◌||◌, zero, suc, List, [], ◌∷◌, length, get_or, take, drop, refl, sym, ◌∙◌, ap, arith, length-take, length-drop}
 use Rattle.std.specs.Prelude.{All}
-use Rattle.std.proofs.lemmas.Bool.{ltb-true, leb-true, le-leb, lt-ltb}
+use Rattle.std.proofs.lemmas.Bool.{and_parts, false_from_ne_true, or_right, ltb-true, leb-true, le-leb, lt-ltb}
 use Rattle.std.proofs.lemmas.List.{get_or-take}
 use Rattle.std.proofs.lemmas.List.Elements.{All-head, All-tail}
 use Rattle.rbd_kinds.specs.declared.header.HeaderView.{HeaderView}
@@ -17,7 +17,6 @@ use Rattle.rbd_flat.specs.Laws.{covers, covered, painted_at}
 use Rattle.rbd_kinds.specs.Parts.{parts_len}
 use Rattle.rbd_object.specs.Parts.{parts_written, parts_zeroed}
 use Rattle.rbd_stands.specs.Condition.{ArePartsBelow, extent_of, extents_of}
-use Rattle.rbd_stands.proofs.Lookups.{both_tests}
 
 -- ---- a part's place in the object, and in the image
 
@@ -27,7 +26,7 @@ same_test false true forth back = back refl
 same_test false false forth back = refl
 
 from_test : (a x b : ℕ) → (leb a x && ltb x b) ≡ true → (a ≤ x) × (x < b)
-from_test a x b e = let t = both_tests (leb a x) (ltb x b) e in (leb-true a x t.0, ltb-true x b t.1)
+from_test a x b e = let t = and_parts (leb a x) (ltb x b) e in (leb-true a x t.0, ltb-true x b t.1)
 
 to_test : (a x b : ℕ) → a ≤ x → x < b → (leb a x && ltb x b) ≡ true
 to_test a x b low high = ap (λ c. c && ltb x b) (le-leb a x low) ∙ lt-ltb x b high
@@ -94,16 +93,12 @@ painted_beside (p ∷ parts) bytes old x beside =
     ap (λ b. painted_at (extents_of parts) (drop p.len bytes) (cond b (get_or bytes (x - p.at) 0) old) x) (All-head (λ q. covers (extent_of q) x ≡ false) p parts beside)
     ∙ painted_beside parts (drop p.len bytes) old x (All-tail (λ q. covers (extent_of q) x ≡ false) p parts beside)
 
-not_true : (b : Bool) → (b ≡ true → ⊥) → b ≡ false
-not_true true no_ = absurd (no_ refl)
-not_true false no_ = refl
-
 -- neither in another object, nor past the size
 pub beside_elsewhere : (l : Layout) → IsLayout l → (n : ℕ) (parts : List Part) → All (IsPart l n) parts → (x : ℕ) → object_of l x ≢ n
     → All (λ p. covers (extent_of p) x ≡ false) parts
 beside_elsewhere l laid n parts lie x other k d less =
     let p = get_or parts k d in
-    not_true (covers (extent_of p) x) (λ e.
+    false_from_ne_true (covers (extent_of p) x) (λ e.
     let t = from_test p.at x (p.at + p.len) e in
     other (place_covered l laid n p (lie k d less) x t.0 t.1).0)
 
@@ -111,7 +106,7 @@ pub beside_past : (h : HeaderView) (size n : ℕ) (parts : List Part) → ArePar
     → All (λ p. covers (extent_of p) x ≡ false) parts
 beside_past h size n parts lie x past k d less =
     let p = get_or parts k d in
-    not_true (covers (extent_of p) x) (λ e. let t = from_test p.at x (p.at + p.len) e in
+    false_from_ne_true (covers (extent_of p) x) (λ e. let t = from_test p.at x (p.at + p.len) e in
     omega (arith, t.1, (lie k d less).below))
 
 -- ---- zeros
@@ -131,14 +126,10 @@ zeros_at l laid n (p ∷ parts) lie head x here =
     ∙ zeroed_next (covers (extent_of p) x) (covered (extents_of parts) x) (get_or head (offset_of l x) 0)
 
 -- a place of one of the parts is covered
-or_true : (b : Bool) → (b || true) ≡ true
-or_true true = refl
-or_true false = refl
-
 pub any_covered : (parts : List Part) (x k : ℕ) (p : Part) → k < length parts → get_or parts k p ≡ p → p.at ≤ x → x < p.at + p.len → covered (extents_of parts) x ≡ true
 any_covered [] x k p less is low high = absurd (omega arith)
 any_covered (q ∷ parts) x zero p less is low high =
     ap (λ (e : Part). covers (extent_of e) x || covered (extents_of parts) x) is
     ∙ ap (λ b. b || covered (extents_of parts) x) (to_test p.at x (p.at + p.len) low high)
 any_covered (q ∷ parts) x (suc k) p less is low high =
-    ap (λ b. covers (extent_of q) x || b) (any_covered parts x k p (omega arith) is low high) ∙ or_true (covers (extent_of q) x)
+    ap (λ b. covers (extent_of q) x || b) (any_covered parts x k p (omega arith) is low high) ∙ or_right (covers (extent_of q) x) true refl

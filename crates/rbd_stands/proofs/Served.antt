@@ -1,14 +1,20 @@
 -- From what is served to what any instance does: a fenced one leaves the records, and is answered
 -- fenced.
-use Rattle.std.proofs.Common.{◌≡◌, Bool, true, false, cond, sym, ap, ◌∙◌}
+use Rattle.std.proofs.Common.{◌≡◌, Bool, true, false, cond, refl, sym, ap, ◌∙◌}
 use Rattle.std.specs.Prelude.{IsFalse, IsTrue}
 use Rattle.std.proofs.lemmas.Bool.{true≢false}
 use Rattle.rbd_kinds.specs.declared.answer.Answer.{Answer}
 use Rattle.rbd_kinds.specs.declared.answer.Answer.TheVariants as answer
 use Rattle.rbd_kinds.specs.declared.id.Instance.{Instance}
 use Rattle.rbd_kinds.specs.declared.operation.Op.{Op}
+use Rattle.rbd_site.specs.Found.{done_where}
 use Rattle.rbd_site.specs.Records.{Records}
 use Rattle.rbd_site.specs.Step.{is_fenced, answer_to, answer_served, after, after_served}
+
+-- what was done where a thing is there was done where it is
+pub was_there : (there : Bool) → done_where there ≡ answer.Done → there ≡ true
+was_there true e = refl
+was_there false e = absurd (cc)
 
 abbrev pub is_served : Answer → Bool
 is_served answer.Fenced = false

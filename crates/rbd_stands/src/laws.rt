@@ -1,6 +1,6 @@
 //! What each operation does to the relation `StandsFor`: laws, each the contract of a function that
 //! does nothing. A law speaks of any records, and of any flat site that they stand for.
-ghost use Rattle.std.specs.Prelude.{◌≡◌, ℕ, ◌≤◌, ◌↔◌, List, [], All, Option, Some, None, Bool, true, false, IsTrue, IsFalse, IsSome, ◌∷◌, slice_get};
+ghost use Rattle.std.specs.Prelude.{◌≡◌, ℕ, ◌↔◌, List, [], All, Option, Some, None, Bool, true, false, IsTrue, IsFalse, IsSome, ◌∷◌, slice_get};
 ghost use Rattle.std.specs.FinMap as finmap;
 ghost use Rattle.rbd_kinds.specs.declared.answer.Answer.{Answer};
 ghost use Rattle.rbd_kinds.specs.declared.answer.Answer.TheVariants as answer;

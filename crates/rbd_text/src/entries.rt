@@ -1,6 +1,6 @@
 //! The lines of a history.
 ghost use Rattle.std.specs.Prelude.{◌≡◌, ◌++◌, OnOk, codes, decimal};
-ghost use Rattle.rbd_text.specs.Names.{instance_text, numbered};
+ghost use Rattle.rbd_text.specs.Names.{instance_text};
 ghost use Rattle.rbd_text.specs.Entries.{cause_text, effect_word, entry_text, entry_line, history_text};
 
 use crate::names::{push_instance, push_numbered, push_session};

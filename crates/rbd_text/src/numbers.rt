@@ -1,5 +1,5 @@
 //! Numbers, as they are printed.
-ghost use Rattle.std.specs.Prelude.{◌≡◌, ◌++◌, ◌<◌, OnOk, decimal, map, slice_index};
+ghost use Rattle.std.specs.Prelude.{◌≡◌, ◌++◌, ◌<◌, OnOk, map, slice_index};
 ghost use Rattle.std.specs.Int.Digits.{digits_of};
 ghost use Rattle.hex.specs.Hex.{lower_digits};
 ghost use Rattle.rbd_text.specs.Numbers.{hexadecimal, sixteen_digits};

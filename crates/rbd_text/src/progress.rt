@@ -16,8 +16,11 @@ use std::collections::{BTreeMap, BTreeSet};
 /// What a history tells of one command.
 #[derive(Clone, Copy, Debug)]
 pub struct Progress {
+    /// It was begun.
     pub started: bool,
+    /// It has its reply.
     pub answered: bool,
+    /// It was under way in a session that was stopped.
     pub lost: bool,
     /// Whom its last attempt at a lock found to have it.
     pub holder: Option<Instance>,

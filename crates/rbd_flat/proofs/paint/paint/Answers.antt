@@ -1,4 +1,4 @@
-use Rattle.std.proofs.Common.{◌≡◌, ◌+◌, ℕ, List, length, drop, get_or, ap, ◌∙◌, sym}
+use Rattle.std.proofs.Common.{◌+◌, ℕ, List, drop, get_or, ap, ◌∙◌, sym}
 use Rattle.rbd_kinds.specs.declared.layout.Extent.{Extent}
 use Rattle.rbd_flat.specs.Flat.{painted, places_of}
 use Rattle.rbd_flat.proofs.Painted.{painted_step}

@@ -1,6 +1,6 @@
-use Rattle.std.proofs.Common.{Option, None, Some, ap, ◌∙◌, sym}
+use Rattle.std.proofs.Common.{None, Some, ap, ◌∙◌}
 use Rattle.std.specs.FinMap as finmap
-use Rattle.rbd_flat.specs.Flat.{Flat, FlatImage, FlatSnap, image_at, snap_of, cloned}
+use Rattle.rbd_flat.specs.Flat.{Flat, FlatImage, cloned}
 use Rattle.rbd_flat.proofs.SiteSteps.{image_given, snap_there}
 use Rattle.rbd_flat.proofs.site.FlatSite.copy_of_snapshot.Goals as goal
 

@@ -1,7 +1,6 @@
 use Rattle.std.proofs.Common.{ap, ◌∙◌}
 use Rattle.std.specs.FinMap as finmap
-use Rattle.rbd_flat.specs.declared.effect.Effect.TheVariants as effect
-use Rattle.rbd_flat.specs.Flat.{Flat, FlatImage, after}
+use Rattle.rbd_flat.specs.Flat.{Flat, FlatImage}
 use Rattle.rbd_flat.proofs.SiteSteps.{image_given}
 use Rattle.rbd_flat.proofs.site.FlatSite.create.Goals as goal
 

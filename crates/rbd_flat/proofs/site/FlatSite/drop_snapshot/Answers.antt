@@ -1,6 +1,5 @@
 use Rattle.std.proofs.Common.{is_some, ap, sym, not, eqb}
 use Rattle.std.specs.List.{filter}
-use Rattle.rbd_flat.specs.Flat.{FlatImage, FlatSnap, painted, places_of, resized, with_status}
 use Rattle.rbd_flat.proofs.SiteSteps.{image_written, image_missing}
 use Rattle.rbd_flat.proofs.site.FlatSite.drop_snapshot.Goals as goal
 

@@ -1,5 +1,5 @@
 use Rattle.std.proofs.Common.{is_some, ap, sym, map}
-use Rattle.rbd_flat.specs.Flat.{FlatImage, FlatSnap, painted, places_of, resized, with_status}
+use Rattle.rbd_flat.specs.Flat.{with_status}
 use Rattle.rbd_flat.proofs.SiteSteps.{image_written, image_missing}
 use Rattle.rbd_flat.proofs.site.FlatSite.mark_snapshot.Goals as goal
 

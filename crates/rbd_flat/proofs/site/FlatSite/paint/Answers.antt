@@ -1,5 +1,5 @@
 use Rattle.std.proofs.Common.{is_some, ap, sym}
-use Rattle.rbd_flat.specs.Flat.{FlatImage, FlatSnap, painted, places_of, resized, with_status}
+use Rattle.rbd_flat.specs.Flat.{painted, places_of}
 use Rattle.rbd_flat.proofs.SiteSteps.{image_written, image_missing}
 use Rattle.rbd_flat.proofs.site.FlatSite.paint.Goals as goal
 

@@ -1,5 +1,5 @@
-use Rattle.std.proofs.Common.{Option, None, Some, sym, ap, ◌∙◌}
-use Rattle.rbd_flat.specs.Flat.{Flat, FlatImage, image_at}
+use Rattle.std.proofs.Common.{None, Some, sym, ap, ◌∙◌}
+use Rattle.rbd_flat.specs.Flat.{Flat, image_at}
 use Rattle.rbd_flat.proofs.SiteSteps.{image_there}
 use Rattle.rbd_flat.proofs.Shown.{without_image, without_snap, with_view, at_image}
 use Rattle.rbd_flat.proofs.site.FlatSite.read.Goals as goal

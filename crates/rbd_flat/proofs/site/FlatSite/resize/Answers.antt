@@ -1,5 +1,5 @@
 use Rattle.std.proofs.Common.{is_some, ap, sym}
-use Rattle.rbd_flat.specs.Flat.{FlatImage, FlatSnap, painted, places_of, resized, with_status}
+use Rattle.rbd_flat.specs.Flat.{resized}
 use Rattle.rbd_flat.proofs.Parts.{on_err_always}
 use Rattle.rbd_flat.proofs.SiteSteps.{image_written, image_missing, image_kept}
 use Rattle.rbd_flat.proofs.site.FlatSite.resize.Goals as goal

@@ -1,6 +1,5 @@
 use Rattle.std.proofs.Common.{is_some, ap, sym, ◌++◌, ◌∷◌, []}
 use Rattle.rbd_kinds.specs.declared.header.SnapStatus.TheVariants.{Unprotected}
-use Rattle.rbd_flat.specs.Flat.{FlatImage, FlatSnap, painted, places_of, resized, with_status}
 use Rattle.rbd_flat.proofs.Parts.{on_err_always}
 use Rattle.rbd_flat.proofs.SiteSteps.{image_written, image_missing, image_kept}
 use Rattle.rbd_flat.proofs.site.FlatSite.take_snapshot.Goals as goal

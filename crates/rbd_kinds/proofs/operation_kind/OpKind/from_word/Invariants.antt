@@ -1,5 +1,4 @@
-use Rattle.std.proofs.Common.{◌≡◌, ◌≢◌, ℕ, ◌<◌, get_or}
-use Rattle.rbd_kinds.specs.declared.operation_kind.OpKind.{OpKind}
+use Rattle.std.proofs.Common.{◌≢◌, ℕ, ◌<◌, get_or}
 use Rattle.rbd_kinds.specs.declared.operation_kind.OpKind.TheVariants.{DirFind}
 use Rattle.rbd_kinds.specs.Operation.{op_word}
 use Rattle.rbd_kinds.proofs.operation_kind.OpKind.from_word.Given as goal
