@@ -1,6 +1,6 @@
 //! What the definitions of a site's operations mean: each law is the contract of a function that
 //! does nothing.
-ghost use Rattle.std.specs.Prelude.{◌≡◌, ◌≢◌, ℕ, ◌+◌, ◌≤◌, List, Some, IsFalse, IsTrue};
+ghost use Rattle.std.specs.Prelude.{◌≡◌, ◌≢◌, ℕ, ◌+◌, ◌≤◌, List, Option, Some, IsFalse, IsTrue};
 ghost use Rattle.rbd_kinds.specs.declared.answer.Answer.TheVariants as answer;
 ghost use Rattle.rbd_kinds.specs.declared.header.HeaderView.{HeaderView};
 ghost use Rattle.rbd_kinds.specs.declared.id.Instance.{Instance};
@@ -11,7 +11,7 @@ ghost use Rattle.rbd_kinds.specs.declared.operation.Op.TheVariants as op_on;
 ghost use Rattle.rbd_object.specs.Mapped.{looked};
 ghost use Rattle.rbd_object.specs.Versioned.{view};
 ghost use Rattle.rbd_site.specs.InForm.{AreInForm};
-ghost use Rattle.rbd_site.specs.Laws.{is_block_add, is_change, is_look, is_on_children, is_on_directory, is_on_header, is_on_lock, is_on_object};
+ghost use Rattle.rbd_site.specs.Laws.{is_block_add, is_change, is_look, is_on_children, is_on_directory, is_on_header, is_on_lock, is_on_map, is_on_object};
 ghost use Rattle.rbd_site.specs.Log.{expired, trimmed};
 ghost use Rattle.rbd_site.specs.Records.{Records, no_records, object_at};
 ghost use Rattle.rbd_site.specs.Step.{MayDo, is_fenced, answer_to, after, mail_after};
@@ -32,6 +32,9 @@ pub fn operations_change_one_object()
 
     ensures watchers { (r : Records) (me : Instance) (op : Op) (image : ℕ)
         → IsFalse (is_on_header image op) → (after r me op).watchers image ≡ r.watchers image }
+
+    ensures map { (r : Records) (me : Instance) (op : Op) (image : ℕ) (view : Option ℕ)
+        → IsFalse (is_on_map image view op) → (after r me op).maps image view ≡ r.maps image view }
 
     ensures object { (r : Records) (me : Instance) (op : Op) (image number : ℕ)
         → IsFalse (is_on_object image number op) → (after r me op).objects image number ≡ r.objects image number }

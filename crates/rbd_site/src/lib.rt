@@ -76,6 +76,8 @@ mod done;
 mod found;
 mod header;
 pub mod laws;
+mod map;
+mod map_key;
 mod object_key;
 mod site;
 mod store;

@@ -52,3 +52,4 @@
 
 pub mod fencing;
 pub mod laws;
+pub mod maps;
