@@ -7,15 +7,16 @@ use Rattle.std.specs.List.{list_all, range_with_len}
 use Rattle.std.proofs.Math.Path.{fun_ext}
 use Rattle.std.proofs.lemmas.Bool.{eqb-true}
 use Rattle.std.proofs.lemmas.List.{length-replicate, length-set}
+use Rattle.rbd_kinds.specs.declared.answer.Answer.TheVariants as answer
 use Rattle.rbd_kinds.specs.declared.map_op.MapOp.{MapOp}
 use Rattle.rbd_kinds.specs.declared.map_op.MapOp.TheVariants.{Resize, Get, Put, Set, Remove}
 use Rattle.rbd_kinds.specs.States.{HoldStates, is_state, state_at}
-use Rattle.rbd_map.specs.States.{AreStates, states_of}
-use Rattle.rbd_map.proofs.Packing.{are_states-padded, are_states-set, length-states_of}
+use Rattle.rbd_map.specs.States.{AreStates, bits_of, states_of}
+use Rattle.rbd_map.proofs.Packing.{are_states-padded, are_states-set, hold_states, length-bits_of, length-states_of}
 use Rattle.rbd_site.specs.declared.map_key.MapKey.{MapKey}
 use Rattle.rbd_site.specs.InForm.{IsMapInForm}
 use Rattle.rbd_site.specs.Maps.{map_in, map_key, map_key_cmp}
-use Rattle.rbd_site.specs.MapStep.{MayDoOnMap, lengthened, map_after}
+use Rattle.rbd_site.specs.MapStep.{AreBits, MayDoOnMap, lengthened, map_after, states_told}
 use Rattle.rbd_site.specs.Records.{Records, put_map, with_map}
 use Rattle.rbd_site.proofs.OneChange.{is_eq-nat_cmp, is_eq-then}
 
@@ -130,3 +131,15 @@ map_form_after (Some s) (Set snap object state) form may states is =
     subst IsMapInForm (let same : set s object state ≡ states = cc in same)
     (record { are = are_states-set s object state (form s refl).are may.1; few = rw length-set (form s refl).few })
 map_form_after old (Remove snap) form may states is = cc
+
+-- ---- what is told
+
+pub told_bits : (held : Option (List ℕ)) (bits : List ℕ) → ((states : List ℕ) → held ≡ Some states → IsMapInForm states) → states_told held ≡ answer.Bits bits → AreBits bits
+told_bits None bits form is = absurd (cc)
+told_bits (Some states) bits form is =
+    let same : bits_of states ≡ bits = cc in
+    subst AreBits same
+    (record {
+      states = hold_states states (form states refl).are;
+      long = rw (length-bits_of states) (omega (arith, (form states refl).few));
+    })

@@ -28,11 +28,12 @@ use Rattle.rbd_site.specs.DataStep.{blank_answer, data_change, where_object_done
 use Rattle.rbd_site.specs.DirectoryStep.{directory_answer, directory_after, name_added, name_changed, where_added, where_done}
 use Rattle.rbd_site.specs.HeaderStep.{header_answer, header_after, is_owner, lock_taken, snap_added, where_made}
 use Rattle.rbd_site.specs.Laws.{is_block_add, is_change, is_on_children, is_on_directory, is_on_header, is_on_map, is_on_object}
-use Rattle.rbd_site.specs.MapStep.{map_after, map_answer, view_of}
+use Rattle.rbd_site.specs.InForm.{AreInForm}
+use Rattle.rbd_site.specs.MapStep.{AreBits, map_after, map_answer, states_told, view_of}
 use Rattle.rbd_site.specs.Records.{Records, or_blank, put, with_children, with_directory, with_watchers}
 use Rattle.rbd_site.specs.Step.{is_fenced, answer_to, answer_served, after, after_served}
 use Rattle.rbd_site.specs.WatchStep.{watchers_after}
-use Rattle.rbd_site.proofs.MapLemmas.{put_map_other, with_map_same}
+use Rattle.rbd_site.proofs.MapLemmas.{put_map_other, told_bits, with_map_same}
 use Rattle.rbd_site.proofs.TrimLemmas.{with_header_same, with_object_same, with_watchers_same}
 
 -- A fenced instance leaves the records, so what holds of them and after what is served holds after
@@ -204,3 +205,12 @@ refused r me op = go (is_fenced r me)
     go : (b : Bool) → is_change (cond b answer.Fenced (answer_served r me op)) ≡ false → cond b r (after_served r me op) ≡ r
     go true other = refl
     go false other = served_refused r me op other
+
+-- what is told of a map, which a fenced instance isn't
+pub told_map : (r : Records) (me : Instance) (image most : ℕ) (view : Option ℕ) (bits : List ℕ) → AreInForm r most
+    → answer_to r me (on.Map image (states.Get view)) ≡ answer.Bits bits → AreBits bits
+told_map r me image most view bits form = go (is_fenced r me)
+  where
+    go : (b : Bool) → cond b answer.Fenced (states_told (r.maps image view)) ≡ answer.Bits bits → AreBits bits
+    go true told = absurd (cc)
+    go false told = told_bits (r.maps image view) bits (form.maps image view) told

@@ -81,12 +81,12 @@ pub fn change(
     }
 }
 
-/// The states of a map, if it is there.
+/// The states of a map, if it is there. They are copied once: copies of the answer share them.
 fn states(maps: &BTreeMap<MapKey, ObjectMap>, key: MapKey) -> Result<Answer, NoMemory>
     ensures { IfOk result (λ answer. answer ≡ states_told (map_in maps.now key.image key.snap)) }
 {
     match maps.get(&key) {
-        Some(map) => Ok(Answer::Bits(map.bits()?)),
+        Some(map) => Ok(Answer::Bits(map.bits()?.share()?)),
         None => Ok(Answer::Absent),
     }
 }
