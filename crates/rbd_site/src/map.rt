@@ -1,5 +1,5 @@
 //! Operations on the object maps of images.
-ghost use Rattle.std.specs.Prelude.{◌≡◌, ℕ, ◌+◌, ◌*◌, ◌^◌, ◌≤◌, List, [], Option, Some, None, length, option_map, unwrap_or, slice_set, IfOk, OnOk, OnErr};
+ghost use Rattle.std.specs.Prelude.{◌≡◌, ℕ, ◌*◌, ◌^◌, ◌≤◌, [], Option, Some, length, option_map, unwrap_or, slice_set, IfOk, OnOk, OnErr};
 ghost use Rattle.rbd_kinds.specs.States.{HoldStates};
 ghost use Rattle.rbd_map.specs.States.{states_of};
 ghost use Rattle.rbd_site.specs.Maps.{map_in};
