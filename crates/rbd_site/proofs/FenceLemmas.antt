@@ -18,6 +18,8 @@ use Rattle.rbd_kinds.specs.declared.header.HeaderView.{HeaderView}
 use Rattle.rbd_kinds.specs.declared.header_op.HeaderOp.{HeaderOp}
 use Rattle.rbd_kinds.specs.declared.header_op.HeaderOp.TheVariants as head
 use Rattle.rbd_kinds.specs.declared.id.Instance.{Instance}
+use Rattle.rbd_kinds.specs.declared.map_op.MapOp.{MapOp}
+use Rattle.rbd_kinds.specs.declared.map_op.MapOp.TheVariants as states
 use Rattle.rbd_kinds.specs.declared.operation.Op.{Op}
 use Rattle.rbd_kinds.specs.declared.operation.Op.TheVariants as on
 use Rattle.rbd_kinds.specs.Header.{snap_named}
@@ -30,6 +32,7 @@ use Rattle.rbd_site.specs.DataStep.{blank_answer, finds, parts_read}
 use Rattle.rbd_site.specs.DirectoryStep.{directory_answer, image_found, name_added, name_changed}
 use Rattle.rbd_site.specs.Found.{done_where}
 use Rattle.rbd_site.specs.HeaderStep.{header_answer, is_owner, lock_taken, same_instance, snap_added}
+use Rattle.rbd_site.specs.MapStep.{map_answer, view_of}
 use Rattle.rbd_site.specs.Records.{Records, or_blank}
 use Rattle.rbd_site.specs.Step.{is_fenced, answer_served, answer_to, after, after_served}
 use Rattle.rbd_site.proofs.StepLemmas.{other_blocklist, where_fenced}
@@ -107,13 +110,22 @@ data_serves o (data_op.Empty c) = refl
 data_serves o (data_op.Remove c) = refl
 data_serves o (data_op.CopyUp bytes) = of_two (is_some o.head) answer.Exists answer.Done refl refl
 
+map_serves : (held : Option (List ℕ)) (o : MapOp) → is_refusal (map_answer held o) ≡ false
+map_serves held (states.Resize count) = refl
+map_serves None (states.Get snap) = refl
+map_serves (Some s) (states.Get snap) = refl
+map_serves held (states.Put snap bits) = refl
+map_serves held (states.Set snap object state) = of_done (is_some held)
+map_serves held (states.Remove snap) = of_done (is_some held)
+
 serves : (r : Records) (me : Instance) (op : Op) → is_refusal (answer_served r me op) ≡ false
 serves r me (on.Directory o) = directory_serves r.directory o
 serves r me (on.Children o) = children_serve r.children o
 serves r me (on.BlockAdd i) = refl
 serves r me (on.Header image o) = header_serves me (r.headers image) (r.watchers image) o
 serves r me (on.Data image number o) = data_serves (or_blank (r.objects image number)) o
-serves r me op = refl
+serves r me (on.Map image o) = map_serves (r.maps image (view_of o)) o
+serves r me (on.Journal image o) = refl
 
 pub refused_is_fenced : (r : Records) (me : Instance) (op : Op) → answer_to r me op ≡ answer.Fenced → IsTrue (is_fenced r me)
 refused_is_fenced r me op = go (is_fenced r me)

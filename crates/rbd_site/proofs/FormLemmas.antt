@@ -1,5 +1,5 @@
 -- Each operation that may be done leaves each header in form.
-use Rattle.std.proofs.Common.{◌≡◌, ℕ, ◌+◌, ◌≤◌, Bool, true, false, ◌||◌, cond, eqb, not, length, Option, Some, None, is_some, refl, sym, ap, ◌∙◌, subst, arith, [], length-append}
+use Rattle.std.proofs.Common.{◌≡◌, ℕ, ◌+◌, ◌≤◌, Bool, true, false, ◌||◌, cond, eqb, not, length, List, Option, Some, None, is_some, refl, sym, ap, ◌∙◌, subst, arith, [], length-append}
 use Rattle.std.proofs.lemmas.List.{length-map}
 use Rattle.std.specs.Prelude.{nat_le}
 use Rattle.rbd_kinds.specs.declared.header.HeaderView.{HeaderView}
@@ -18,12 +18,14 @@ use Rattle.rbd_site.specs.HeaderStep.{MayDoOnHeader, header_then, header_after, 
 use Rattle.rbd_kinds.specs.declared.operation.Op.{Op}
 use Rattle.rbd_kinds.specs.declared.operation.Op.TheVariants as on
 use Rattle.rbd_site.specs.Records.{Records, no_records, put}
-use Rattle.rbd_site.specs.InForm.{AreInForm}
+use Rattle.rbd_site.specs.InForm.{AreInForm, IsMapInForm}
+use Rattle.rbd_site.specs.MapStep.{map_after, view_of}
 use Rattle.rbd_site.specs.Log.{expired}
 use Rattle.rbd_site.specs.Step.{MayDo, MayServe, is_fenced, after, after_served}
 use Rattle.rbd_site.specs.WatchStep.{watchers_after}
 use Rattle.rbd_watch.specs.Watching.{same, without}
 use Rattle.std.specs.List.{IsDistinct}
+use Rattle.rbd_site.proofs.MapLemmas.{map_form_after, put_map_each}
 use Rattle.rbd_site.proofs.WatchLemmas.{distinct_after, distinct_none, distinct_without, for_each, unwatched_after, watched_at}
 use Rattle.rbd_site.proofs.SnapLists.{each_appended, each_mapped, each_filtered, fewer, risen_appended, risen_filtered, risen_marked}
 
@@ -205,18 +207,28 @@ form_served r me (on.Header image op) most held may =
           (after_generation me (r.headers image) op most (held.generation image) may) (λ i h is. omega (arith, held.generation i h is));
       unwatched = for_each (λ h w. h ≡ None → w ≡ []) r.headers r.watchers image h w (unwatched_after me (r.headers image) (r.watchers image) op (held.unwatched image)) held.unwatched;
       distinct = for_each (λ h w. IsDistinct same w) r.headers r.watchers image h w (distinct_after me (r.headers image) (r.watchers image) op (held.distinct image)) held.distinct;
+      maps = held.maps;
     }
-form_served r me (on.Directory op) most held may = record { form = held.form; generation = λ i h is. omega (arith, held.generation i h is); unwatched = held.unwatched; distinct = held.distinct }
-form_served r me (on.Children op) most held may = record { form = held.form; generation = λ i h is. omega (arith, held.generation i h is); unwatched = held.unwatched; distinct = held.distinct }
-form_served r me (on.BlockAdd i) most held may = record { form = held.form; generation = λ i h is. omega (arith, held.generation i h is); unwatched = held.unwatched; distinct = held.distinct }
-form_served r me (on.Data image number op) most held may = record { form = held.form; generation = λ i h is. omega (arith, held.generation i h is); unwatched = held.unwatched; distinct = held.distinct }
-form_served r me op most held may = absurd may
+form_served r me (on.Directory op) most held may = record { form = held.form; generation = λ i h is. omega (arith, held.generation i h is); unwatched = held.unwatched; distinct = held.distinct; maps = held.maps }
+form_served r me (on.Children op) most held may = record { form = held.form; generation = λ i h is. omega (arith, held.generation i h is); unwatched = held.unwatched; distinct = held.distinct; maps = held.maps }
+form_served r me (on.BlockAdd i) most held may = record { form = held.form; generation = λ i h is. omega (arith, held.generation i h is); unwatched = held.unwatched; distinct = held.distinct; maps = held.maps }
+form_served r me (on.Data image number op) most held may = record { form = held.form; generation = λ i h is. omega (arith, held.generation i h is); unwatched = held.unwatched; distinct = held.distinct; maps = held.maps }
+form_served r me (on.Map image op) most held may = record {
+  form = held.form;
+  generation = λ i h is. omega (arith, held.generation i h is);
+  unwatched = held.unwatched;
+  distinct = held.distinct;
+  maps =
+      put_map_each (λ i v held. (states : List ℕ) → held ≡ Some states → IsMapInForm states) r.maps image (view_of op) (map_after (r.maps image (view_of op)) op)
+      (map_form_after (r.maps image (view_of op)) op (held.maps image (view_of op)) may) held.maps;
+}
+form_served r me (on.Journal image op) most held may = absurd may
 
 pub form_after : (r : Records) (me : Instance) (op : Op) (most : ℕ) → AreInForm r most → MayDo r me op → AreInForm (after r me op) (most + 1)
 form_after r me op most held may = go (is_fenced r me) refl
   where
     go : (b : Bool) → is_fenced r me ≡ b → AreInForm (cond b r (after_served r me op)) (most + 1)
-    go true is = record { form = held.form; generation = λ i h is. omega (arith, held.generation i h is); unwatched = held.unwatched; distinct = held.distinct }
+    go true is = record { form = held.form; generation = λ i h is. omega (arith, held.generation i h is); unwatched = held.unwatched; distinct = held.distinct; maps = held.maps }
     go false is = form_served r me op most held (may is)
 
 pub form_expired : (r : Records) (image most : ℕ) (i : Instance) → AreInForm r most → AreInForm (expired image i r) (most + 1)
@@ -227,7 +239,8 @@ form_expired r image most i held = record {
       λ j none. watched_at (λ w. w ≡ []) r.watchers image (without i (r.watchers image)) j (λ at. ap (without i) (held.unwatched image (ap r.headers (sym at) ∙ none))) (held.unwatched j none);
   distinct =
       λ j. watched_at (IsDistinct same) r.watchers image (without i (r.watchers image)) j (λ at. distinct_without i (r.watchers image) (held.distinct image)) (held.distinct j);
+  maps = held.maps;
 }
 
 pub form_at_first : AreInForm no_records 0
-form_at_first = record { form = λ i h is. cc; generation = λ i h is. cc; unwatched = λ i is. refl; distinct = λ i. distinct_none }
+form_at_first = record { form = λ i h is. cc; generation = λ i h is. cc; unwatched = λ i is. refl; distinct = λ i. distinct_none; maps = λ i v states is. cc }

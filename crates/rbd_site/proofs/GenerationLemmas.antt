@@ -9,6 +9,7 @@ use Rattle.rbd_kinds.specs.declared.header.HeaderView.{HeaderView}
 use Rattle.rbd_kinds.specs.declared.header_op.HeaderOp.{HeaderOp}
 use Rattle.rbd_kinds.specs.declared.header_op.HeaderOp.TheVariants as head
 use Rattle.rbd_kinds.specs.declared.id.Instance.{Instance}
+use Rattle.rbd_kinds.specs.declared.map_op.MapOp.TheVariants as states
 use Rattle.rbd_kinds.specs.declared.notice.NoticeKind.{NoticeKind}
 use Rattle.rbd_kinds.specs.declared.operation.Op.{Op}
 use Rattle.rbd_kinds.specs.declared.operation.Op.TheVariants as on
@@ -23,6 +24,7 @@ use Rattle.rbd_site.specs.Laws.{is_look, is_on_header, is_on_lock}
 use Rattle.rbd_site.specs.Records.{Records, or_blank, with_watchers}
 use Rattle.rbd_site.specs.Step.{after, after_served}
 use Rattle.rbd_site.specs.WatchStep.{watchers_after}
+use Rattle.rbd_site.proofs.MapLemmas.{with_map_same}
 use Rattle.rbd_site.proofs.StepLemmas.{served_header, where_fenced}
 use Rattle.rbd_site.proofs.TrimLemmas.{with_header_same, with_object_same, with_watchers_same}
 
@@ -75,6 +77,7 @@ look_served r me (on.Header image (head.Notify kind)) look =
 look_served r me (on.Data image number (data_op.Read snap parts)) look =
     with_object_same image number (where_object_done (parts_read parts (view (looked (or_blank (r.objects image number))) snap)) (or_blank (r.objects image number)) (r.objects image number)) r
     (object_read parts (view (looked (or_blank (r.objects image number))) snap) (or_blank (r.objects image number)) (r.objects image number))
+look_served r me (on.Map image (states.Get snap)) look = with_map_same image snap (r.maps image snap) r refl
 look_served r me op look = absurd (true≢false (sym look))
 
 pub looked_at : (r : Records) (me : Instance) (op : Op) → IsTrue (is_look op) → after r me op ≡ r

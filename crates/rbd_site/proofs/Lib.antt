@@ -3,6 +3,7 @@ pub mod GenerationLemmas
 pub mod FormLemmas
 pub mod HeaderLemmas
 pub mod LogLemmas
+pub mod MapLemmas
 pub mod OneChange
 pub mod SnapLists
 pub mod SnapshotLemmas

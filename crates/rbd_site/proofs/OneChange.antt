@@ -13,7 +13,7 @@ use Rattle.rbd_site.specs.declared.object_key.ObjectKey.{ObjectKey}
 use Rattle.rbd_site.specs.Records.{put}
 use Rattle.rbd_site.specs.Maps.{key, key_cmp, header_in, object_in}
 
-is_eq-then : (a b : Ordering) → is_eq (ordering_then a b) ≡ (is_eq a && is_eq b)
+pub is_eq-then : (a b : Ordering) → is_eq (ordering_then a b) ≡ (is_eq a && is_eq b)
 is_eq-then Less b = refl
 is_eq-then Equal b = refl
 is_eq-then Greater b = refl

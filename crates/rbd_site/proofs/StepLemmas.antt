@@ -11,6 +11,8 @@ use Rattle.rbd_kinds.specs.declared.header.HeaderView.{HeaderView}
 use Rattle.rbd_kinds.specs.declared.header_op.HeaderOp.{HeaderOp}
 use Rattle.rbd_kinds.specs.declared.header_op.HeaderOp.TheVariants as head
 use Rattle.rbd_kinds.specs.declared.id.Instance.{Instance}
+use Rattle.rbd_kinds.specs.declared.map_op.MapOp.{MapOp}
+use Rattle.rbd_kinds.specs.declared.map_op.MapOp.TheVariants as states
 use Rattle.rbd_kinds.specs.declared.operation.Op.{Op}
 use Rattle.rbd_kinds.specs.declared.operation.Op.TheVariants as on
 use Rattle.rbd_kinds.specs.Header.{snap_named}
@@ -25,10 +27,13 @@ use Rattle.rbd_site.specs.Found.{done_where}
 use Rattle.rbd_site.specs.DataStep.{blank_answer, data_change, where_object_done, data_after}
 use Rattle.rbd_site.specs.DirectoryStep.{directory_answer, directory_after, name_added, name_changed, where_added, where_done}
 use Rattle.rbd_site.specs.HeaderStep.{header_answer, header_after, is_owner, lock_taken, snap_added, where_made}
-use Rattle.rbd_site.specs.Laws.{is_block_add, is_change, is_on_children, is_on_directory, is_on_header, is_on_object}
+use Rattle.rbd_site.specs.Laws.{is_block_add, is_change, is_on_children, is_on_directory, is_on_header, is_on_map, is_on_object}
+use Rattle.rbd_site.specs.InForm.{AreInForm}
+use Rattle.rbd_site.specs.MapStep.{AreBits, map_after, map_answer, states_told, view_of}
 use Rattle.rbd_site.specs.Records.{Records, or_blank, put, with_children, with_directory, with_watchers}
 use Rattle.rbd_site.specs.Step.{is_fenced, answer_to, answer_served, after, after_served}
 use Rattle.rbd_site.specs.WatchStep.{watchers_after}
+use Rattle.rbd_site.proofs.MapLemmas.{put_map_other, told_bits, with_map_same}
 use Rattle.rbd_site.proofs.TrimLemmas.{with_header_same, with_object_same, with_watchers_same}
 
 -- A fenced instance leaves the records, so what holds of them and after what is served holds after
@@ -85,6 +90,13 @@ served_object r me op i n other = refl
 
 pub other_object : (r : Records) (me : Instance) (op : Op) (image number : ℕ) → IsFalse (is_on_object image number op) → (after r me op).objects image number ≡ r.objects image number
 other_object r me op i n other = where_fenced (λ s. s.objects i n ≡ r.objects i n) r me op refl (served_object r me op i n other)
+
+served_map : (r : Records) (me : Instance) (op : Op) (image : ℕ) (view : Option ℕ) → IsFalse (is_on_map image view op) → (after_served r me op).maps image view ≡ r.maps image view
+served_map r me (on.Map image op) i v other = put_map_other r.maps image (view_of op) (map_after (r.maps image (view_of op)) op) i v other
+served_map r me op i v other = refl
+
+pub other_map : (r : Records) (me : Instance) (op : Op) (image : ℕ) (view : Option ℕ) → IsFalse (is_on_map image view op) → (after r me op).maps image view ≡ r.maps image view
+other_map r me op i v other = where_fenced (λ s. s.maps i v ≡ r.maps i v) r me op refl (served_map r me op i v other)
 
 served_children : (r : Records) (me : Instance) (op : Op) → IsFalse (is_on_children op) → (after_served r me op).children ≡ r.children
 served_children r me (on.Children op) other = cc
@@ -164,6 +176,15 @@ refused_object o op other = go (blank_answer (or_blank o) op) other
     go answer.Done other = cc
     go a other = refl
 
+pub refused_map : (held : Option (List ℕ)) (op : MapOp) → IsFalse (is_change (map_answer held op)) → map_after held op ≡ held
+refused_map held (states.Resize count) other = cc
+refused_map held (states.Get snap) other = refl
+refused_map held (states.Put snap bits) other = cc
+refused_map None (states.Set snap object state) other = refl
+refused_map (Some s) (states.Set snap object state) other = cc
+refused_map None (states.Remove snap) other = refl
+refused_map (Some s) (states.Remove snap) other = cc
+
 served_refused : (r : Records) (me : Instance) (op : Op) → IsFalse (is_change (answer_served r me op)) → after_served r me op ≡ r
 served_refused r me (on.Directory op) other = ap (λ d. with_directory d r) (refused_directory r.directory op other)
 served_refused r me (on.Children op) other = ap (λ entries. with_children entries r) (refused_children r.children op other)
@@ -174,7 +195,9 @@ served_refused r me (on.Header image op) other =
     ∙ with_watchers_same image w r (refused_watchers me (r.headers image) (r.watchers image) op other)
 served_refused r me (on.Data image number op) other =
     with_object_same image number (data_after (r.objects image number) op) r (refused_object (r.objects image number) op other)
-served_refused r me op other = refl
+served_refused r me (on.Map image op) other =
+    with_map_same image (view_of op) (map_after (r.maps image (view_of op)) op) r (refused_map (r.maps image (view_of op)) op other)
+served_refused r me (on.Journal image op) other = refl
 
 pub refused : (r : Records) (me : Instance) (op : Op) → IsFalse (is_change (answer_to r me op)) → after r me op ≡ r
 refused r me op = go (is_fenced r me)
@@ -182,3 +205,12 @@ refused r me op = go (is_fenced r me)
     go : (b : Bool) → is_change (cond b answer.Fenced (answer_served r me op)) ≡ false → cond b r (after_served r me op) ≡ r
     go true other = refl
     go false other = served_refused r me op other
+
+-- what is told of a map, which a fenced instance isn't
+pub told_map : (r : Records) (me : Instance) (image most : ℕ) (view : Option ℕ) (bits : List ℕ) → AreInForm r most
+    → answer_to r me (on.Map image (states.Get view)) ≡ answer.Bits bits → AreBits bits
+told_map r me image most view bits form = go (is_fenced r me)
+  where
+    go : (b : Bool) → cond b answer.Fenced (states_told (r.maps image view)) ≡ answer.Bits bits → AreBits bits
+    go true told = absurd (cc)
+    go false told = told_bits (r.maps image view) bits (form.maps image view) told

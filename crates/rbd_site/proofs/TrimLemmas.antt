@@ -40,4 +40,5 @@ form_trimmed image number r most held = record {
   generation = λ i h is. omega (arith, held.generation i h is);
   unwatched = held.unwatched;
   distinct = held.distinct;
+  maps = held.maps;
 }

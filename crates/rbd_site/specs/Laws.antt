@@ -1,13 +1,16 @@
 -- What the laws of operations speak of.
-use Rattle.std.specs.Prelude.{ℕ, ◌==◌, ◌&&◌, Bool, true, false}
+use Rattle.std.specs.Prelude.{ℕ, ◌==◌, ◌&&◌, nat_eq, Bool, true, false, Option}
+use Rattle.std.specs.Option.{option_eq}
 use Rattle.rbd_kinds.specs.declared.answer.Answer.{Answer}
 use Rattle.rbd_kinds.specs.declared.answer.Answer.TheVariants as answer
 use Rattle.rbd_kinds.specs.declared.children_op.ChildrenOp.TheVariants as children
 use Rattle.rbd_kinds.specs.declared.data_op.DataOp.TheVariants as object
 use Rattle.rbd_kinds.specs.declared.directory_op.DirectoryOp.TheVariants as directory
 use Rattle.rbd_kinds.specs.declared.header_op.HeaderOp.TheVariants as header
+use Rattle.rbd_kinds.specs.declared.map_op.MapOp.TheVariants as states
 use Rattle.rbd_kinds.specs.declared.operation.Op.{Op}
 use Rattle.rbd_kinds.specs.declared.operation.Op.TheVariants as on
+use Rattle.rbd_site.specs.MapStep.{view_of}
 
 abbrev pub is_on_directory : Op → Bool
 is_on_directory (on.Directory op) = true
@@ -24,6 +27,11 @@ is_on_header i op = false
 abbrev pub is_on_object : (image number : ℕ) → Op → Bool
 is_on_object i n (on.Data image number op) = (i == image) && (n == number)
 is_on_object i n op = false
+
+-- of the head (None) or of a snapshot
+abbrev pub is_on_map : (image : ℕ) (view : Option ℕ) → Op → Bool
+is_on_map i v (on.Map image op) = (i == image) && option_eq nat_eq v (view_of op)
+is_on_map i v op = false
 
 abbrev pub is_block_add : Op → Bool
 is_block_add (on.BlockAdd instance) = true
@@ -45,6 +53,7 @@ is_look (on.Header image header.Get) = true
 is_look (on.Header image header.WatchersGet) = true
 is_look (on.Header image (header.Notify kind)) = true
 is_look (on.Data image number (object.Read snap parts)) = true
+is_look (on.Map image (states.Get snap)) = true
 is_look _ = false
 
 -- an operation on the lock of an image

@@ -6,6 +6,7 @@ pub mod HeaderStep
 pub mod InForm
 pub mod Laws
 pub mod Log
+pub mod MapStep
 pub mod Maps
 pub mod Records
 pub mod Step

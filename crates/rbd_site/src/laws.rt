@@ -1,18 +1,20 @@
 //! What the definitions of a site's operations mean: each law is the contract of a function that
 //! does nothing.
-ghost use Rattle.std.specs.Prelude.{◌≡◌, ◌≢◌, ℕ, ◌+◌, ◌≤◌, List, Some, IsFalse, IsTrue};
+ghost use Rattle.std.specs.Prelude.{◌≡◌, ◌≢◌, ℕ, ◌+◌, ◌≤◌, List, Option, Some, IsFalse, IsTrue};
 ghost use Rattle.rbd_kinds.specs.declared.answer.Answer.TheVariants as answer;
 ghost use Rattle.rbd_kinds.specs.declared.header.HeaderView.{HeaderView};
 ghost use Rattle.rbd_kinds.specs.declared.id.Instance.{Instance};
 ghost use Rattle.rbd_kinds.specs.declared.id.SiteId.{SiteId};
+ghost use Rattle.rbd_kinds.specs.declared.map_op.MapOp.TheVariants as map_op;
 ghost use Rattle.rbd_kinds.specs.declared.notice.Notice.{Notice};
 ghost use Rattle.rbd_kinds.specs.declared.operation.Op.{Op};
 ghost use Rattle.rbd_kinds.specs.declared.operation.Op.TheVariants as op_on;
 ghost use Rattle.rbd_object.specs.Mapped.{looked};
 ghost use Rattle.rbd_object.specs.Versioned.{view};
 ghost use Rattle.rbd_site.specs.InForm.{AreInForm};
-ghost use Rattle.rbd_site.specs.Laws.{is_block_add, is_change, is_look, is_on_children, is_on_directory, is_on_header, is_on_lock, is_on_object};
+ghost use Rattle.rbd_site.specs.Laws.{is_block_add, is_change, is_look, is_on_children, is_on_directory, is_on_header, is_on_lock, is_on_map, is_on_object};
 ghost use Rattle.rbd_site.specs.Log.{expired, trimmed};
+ghost use Rattle.rbd_site.specs.MapStep.{AreBits};
 ghost use Rattle.rbd_site.specs.Records.{Records, no_records, object_at};
 ghost use Rattle.rbd_site.specs.Step.{MayDo, is_fenced, answer_to, after, mail_after};
 
@@ -32,6 +34,9 @@ pub fn operations_change_one_object()
 
     ensures watchers { (r : Records) (me : Instance) (op : Op) (image : ℕ)
         → IsFalse (is_on_header image op) → (after r me op).watchers image ≡ r.watchers image }
+
+    ensures map { (r : Records) (me : Instance) (op : Op) (image : ℕ) (view : Option ℕ)
+        → IsFalse (is_on_map image view op) → (after r me op).maps image view ≡ r.maps image view }
 
     ensures object { (r : Records) (me : Instance) (op : Op) (image number : ℕ)
         → IsFalse (is_on_object image number op) → (after r me op).objects image number ≡ r.objects image number }
@@ -94,8 +99,8 @@ pub fn operations_leave_snapshots()
         → view (looked (object_at (after r me op) image number)) (Some snap) ≡ view (looked (object_at r image number)) (Some snap) }
 {}
 
-/// Headers are in form at first, and each operation that may be done, each trim and each end of a
-/// watch leaves them so. Nobody watches a header that isn't there, and nobody watches one twice.
+/// Headers and maps are in form at first, and each operation that may be done, each trim and each
+/// end of a watch leaves them so. Nobody watches a header that isn't there, and nobody watches one twice.
 /// No operation raises a generation by more than one.
 pub fn headers_stay_in_form()
     ensures first { AreInForm no_records 0 }
@@ -106,4 +111,11 @@ pub fn headers_stay_in_form()
     ensures trim { (r : Records) (image number most : ℕ) → AreInForm r most → AreInForm (trimmed image number r) (most + 1) }
 
     ensures expiry { (r : Records) (image most : ℕ) (i : Instance) → AreInForm r most → AreInForm (expired image i r) (most + 1) }
+{}
+
+/// What a look at an object map tells holds no state 3, and is of at most 2^20 objects. So it may be
+/// put as the map of a snapshot.
+pub fn what_a_map_tells_may_be_put()
+    ensures { (r : Records) (me : Instance) (image most : ℕ) (view : Option ℕ) (bits : List ℕ)
+        → AreInForm r most → answer_to r me (op_on.Map image (map_op.Get view)) ≡ answer.Bits bits → AreBits bits }
 {}

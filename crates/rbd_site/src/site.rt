@@ -57,8 +57,8 @@ impl Site {
     }
 
     /// The operations that were done, numbered from 1. Each has the answer and the change that the
-    /// records have for it which the earlier ones left, and each header of these records is in
-    /// form.
+    /// records have for it which the earlier ones left, and each header and each map of these
+    /// records is in form.
     pub fn log(&self) -> &[Done]
         ensures log { result.now ≡ self.now.log }
         ensures answered { AreAnswered no_records self.now.log }

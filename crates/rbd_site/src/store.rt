@@ -6,19 +6,22 @@ ghost use Rattle.rbd_kinds.specs.declared.header_op.HeaderOp.TheVariants as head
 ghost use Rattle.rbd_watch.specs.Watching.{oldest_of};
 ghost use Rattle.rbd_site.specs.HeaderStep.{MayDoOnHeader, header_answer, header_after};
 ghost use Rattle.rbd_site.specs.WatchStep.{notified, receivers, watchers_after};
-ghost use Rattle.rbd_site.specs.Records.{no_records, with_header, with_object, with_watchers};
+ghost use Rattle.rbd_site.specs.MapStep.{MayDoOnMap, map_answer, map_after, view_of};
+ghost use Rattle.rbd_site.specs.Records.{no_records, with_header, with_map, with_object, with_watchers};
 ghost use Rattle.rbd_site.specs.Log.{expired, live_in};
 ghost use Rattle.rbd_site.specs.Maps.{kept};
 ghost use Rattle.rbd_site.specs.Step.{MayDo, MayServe, answer_to, answer_served, after, after_served, mail_after, mail_served};
 
+use crate::map_key::MapKey;
 use crate::object_key::ObjectKey;
-use crate::{children, data, directory, header, watch};
+use crate::{children, data, directory, header, map, watch};
 use rbd_fence::Blocklist;
 use rbd_header::Header;
 use rbd_kinds::{
-    Answer, HeaderOp, HeaderView, ImageId, Instance, NoMemory, NoticeKind, Op, SessionNo, SiteId,
-    SnapId, TryClone,
+    Answer, HeaderOp, HeaderView, ImageId, Instance, MapOp, NoMemory, NoticeKind, Op, SessionNo,
+    SiteId, SnapId, TryClone,
 };
+use rbd_map::ObjectMap;
 use rbd_object::Object;
 use rbd_registry::{Children, Directory};
 use rbd_watch::{Mail, Watchers};
@@ -26,7 +29,7 @@ use std::alloc::Global;
 use std::collections::BTreeMap;
 
 /// The records of a site: its directory, the children of its snapshots, its blocklist, and the
-/// headers of its images, with who watches them, and their data objects.
+/// headers of its images, with who watches them, their object maps and their data objects.
 #[derive(Debug, Drop)]
 pub struct Store {
     pub alloc: Global,
@@ -35,6 +38,7 @@ pub struct Store {
     pub blocklist: Blocklist,
     pub headers: BTreeMap<ImageId, Header>,
     pub watchers: BTreeMap<ImageId, Watchers>,
+    pub maps: BTreeMap<MapKey, ObjectMap>,
     pub objects: BTreeMap<ObjectKey, Object>,
 }
 
@@ -50,6 +54,7 @@ impl Store {
             blocklist: Blocklist::new(alloc),
             headers: BTreeMap::new(alloc),
             watchers: BTreeMap::new(alloc),
+            maps: BTreeMap::new(alloc),
             objects: BTreeMap::new(alloc),
         }
     }
@@ -82,7 +87,8 @@ impl Store {
                 };
                 data::answer(self.alloc, &self.objects, key, op)
             }
-            _ => unreachable!(),
+            Op::Map { image, op } => self.answer_on_map(*image, op),
+            Op::Journal { image: _, op: _ } => unreachable!(),
         }
     }
 
@@ -99,6 +105,16 @@ impl Store {
             HeaderOp::WatchersGet => self.who_watches(image),
             _ => header::answer(&self.headers, image, instance, op),
         }
+    }
+
+    fn answer_on_map(&self, image: ImageId, op: &MapOp) -> Result<Answer, NoMemory>
+        ensures { IfOk result (λ answer. answer ≡ map_answer ((kept self.now).maps image (view_of op.now)) op.now) }
+    {
+        let key = MapKey {
+            image,
+            snap: map::view_of(op),
+        };
+        map::answer(&self.maps, key, op)
     }
 
     /// Who watches the header of an image, if it is there.
@@ -190,7 +206,8 @@ impl Store {
                 };
                 data::change(self.alloc, &mut self.objects, key, op)
             }
-            _ => unreachable!(),
+            Op::Map { image, op } => self.serve_on_map(*image, op),
+            Op::Journal { image: _, op: _ } => unreachable!(),
         }
     }
 
@@ -225,6 +242,20 @@ impl Store {
             HeaderOp::Notify { kind } => self.notify(site, me, image, kind, mail),
             _ => header::change(&mut self.headers, image, *me, op),
         }
+    }
+
+    /// Does an operation on an object map of an image, or nothing at all.
+    fn serve_on_map(&mut self, image: ImageId, op: &MapOp) -> Result<(), NoMemory>
+        requires { MayDoOnMap ((kept self.old).maps image (view_of op.now)) op.now }
+        ensures ok { let there = (kept self.old).maps image (view_of op.now) in
+            OnOk result (kept self.new ≡ with_map image (view_of op.now) (map_after there op.now) (kept self.old)) }
+        ensures err { OnErr result (kept self.new ≡ kept self.old) }
+    {
+        let key = MapKey {
+            image,
+            snap: map::view_of(op),
+        };
+        map::change(self.alloc, &mut self.maps, key, op)
     }
 
     /// An instance watches the header of an image, where it is there.

@@ -12,6 +12,8 @@ pub mod Whole
 pub mod SiteSteps
 pub mod Nothing
 pub mod StoreSteps
+pub mod CoverSteps
+pub mod MapSteps
 pub mod Contexts
 pub mod DirectorySteps
 pub mod ImageSteps

@@ -12,6 +12,8 @@ use Rattle.rbd_kinds.specs.declared.header.HeaderView.{HeaderView}
 use Rattle.rbd_kinds.specs.declared.header_op.HeaderOp.{HeaderOp}
 use Rattle.rbd_kinds.specs.declared.header_op.HeaderOp.TheVariants as header
 use Rattle.rbd_kinds.specs.declared.id.Instance.{Instance}
+use Rattle.rbd_kinds.specs.declared.map_op.MapOp.{MapOp}
+use Rattle.rbd_kinds.specs.declared.map_op.MapOp.TheVariants as states
 use Rattle.rbd_kinds.specs.declared.operation.Op.{Op}
 use Rattle.rbd_kinds.specs.declared.operation.Op.TheVariants as on
 use Rattle.rbd_site.specs.declared.done.Done.{Done}
@@ -54,11 +56,15 @@ object_looks : (image other number : ℕ) (o : DataOp) → is_look (on.Data othe
 object_looks image other number (object.Read snap parts) look changes = true≢false (sym (and_parts (image == other) false changes).1)
 object_looks image other number o look changes = true≢false (sym look)
 
+map_looks : (image other : ℕ) (o : MapOp) → is_look (on.Map other o) ≡ true → changes_image image (on.Map other o) ≡ true → ⊥
+map_looks image other (states.Get snap) look changes = true≢false (sym (and_parts (image == other) false changes).1)
+map_looks image other o look changes = true≢false (sym look)
+
 -- a look changes no image
 looks_change_none : (image : ℕ) (op : Op) → is_look op ≡ true → changes_image image op ≡ true → ⊥
 looks_change_none image (on.Header other o) look changes = header_looks image other o look changes
 looks_change_none image (on.Data other number o) look changes = object_looks image other number o look changes
-looks_change_none image (on.Map other o) look changes = true≢false (sym look)
+looks_change_none image (on.Map other o) look changes = map_looks image other o look changes
 looks_change_none image (on.Journal other o) look changes = true≢false (sym look)
 looks_change_none image op look changes = true≢false (sym changes)
 

@@ -12,6 +12,8 @@ use Rattle.rbd_kinds.specs.declared.header.HeaderView.{HeaderView}
 use Rattle.rbd_kinds.specs.declared.header_op.HeaderOp.{HeaderOp}
 use Rattle.rbd_kinds.specs.declared.header_op.HeaderOp.TheVariants as header_op
 use Rattle.rbd_kinds.specs.declared.id.Instance.{Instance}
+use Rattle.rbd_kinds.specs.declared.map_op.MapOp.{MapOp}
+use Rattle.rbd_kinds.specs.declared.map_op.MapOp.TheVariants as map_op
 use Rattle.rbd_kinds.specs.declared.operation.Op.{Op}
 use Rattle.rbd_kinds.specs.declared.operation.Op.TheVariants as op
 use Rattle.rbd_site.specs.declared.done.DoneOp.TheVariants as done
@@ -32,6 +34,7 @@ look_at header (op.Header image (header_op.Notify kind)) a look = refl
 look_at None (op.Data image number (data_op.Read snap parts)) a look = refl
 look_at (Some h) (op.Data image number (data_op.Read snap parts)) answer.Done look = refl
 look_at (Some h) (op.Data image number (data_op.Read snap parts)) a look = refl
+look_at header (op.Map image (map_op.Get snap)) a look = refl
 look_at header o a look = absurd (true≢false (sym look))
 
 pub look_none : (r : Records) (o : Op) (a : Answer) → IsTrue (is_look o) → effect_of r (done.Op o) a ≡ None
@@ -88,6 +91,9 @@ unseen_none r image o a e = unseen_at (r.headers image) image o a e
 
 pub listed_none : (r : Records) (i : Instance) (a : Answer) → effect_of r (done.Op (op.BlockAdd i)) a ≡ None
 listed_none r i a = refl
+
+pub mapped_none : (r : Records) (image : ℕ) (o : MapOp) (a : Answer) → effect_of r (done.Op (op.Map image o)) a ≡ None
+mapped_none r image o a = refl
 
 -- ---- objects
 

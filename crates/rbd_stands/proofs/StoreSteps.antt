@@ -159,7 +159,7 @@ data_of_none pending r f me image number o stands none drawn =
 
 -- ---- the store's trim
 
-listed_by_id : (snaps : List SnapView) (t : ℕ) (s : SnapView) → snap_in snaps t ≡ Some s → is_listed (map (λ (u : SnapView). u.id) snaps) t ≡ true
+pub listed_by_id : (snaps : List SnapView) (t : ℕ) (s : SnapView) → snap_in snaps t ≡ Some s → is_listed (map (λ (u : SnapView). u.id) snaps) t ≡ true
 listed_by_id [] t s e = absurd (none-some s e)
 listed_by_id (u ∷ snaps) t s e = found (eqb u.id t) (snap_in snaps t) e (listed_by_id snaps t s)
   where
@@ -171,7 +171,7 @@ pub context_from : (h : HeaderView) (context : SnapContext) → context.seq ≡ 
     → ((snap : ℕ) → is_listed (live_in (Some h)) snap ≡ true → is_listed context.snaps snap ≡ true) → IsContextOf h context
 context_from h context seq each = record { seq = seq; lists = λ t s is. each t (listed_by_id h.snaps t s is) }
 
-view_trimmed : (live : List ℕ) (t : ℕ) (o : Mapped) → is_listed live t ≡ true → view (looked (mapped_trim live o)) (Some t) ≡ view (looked o) (Some t)
+pub view_trimmed : (live : List ℕ) (t : ℕ) (o : Mapped) → is_listed live t ≡ true → view (looked (mapped_trim live o)) (Some t) ≡ view (looked o) (Some t)
 view_trimmed live t o listed =
     ap (λ v. view v (Some t)) (looked-mapped_trim live o)
     ∙ ap (λ b. cond (ltb o.seq t) o.head (cond b ((looked o).kept t) None)) listed

@@ -3,6 +3,7 @@ pub mod Shown
 pub mod Image
 pub mod Site
 pub mod Condition
+pub mod Covering
 pub mod Effect
 pub mod Unseen
 pub mod Reading

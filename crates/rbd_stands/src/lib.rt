@@ -25,10 +25,11 @@
 //! What is read needs no law but those of the section "what is told" in [`laws`]: a header tells
 //! the flat image, and an object's bytes are the flat image's.
 //!
-//! A flat site has no locks, no watchers and no blocklist: what is done to them leaves it as it is,
-//! and so does whatever a fenced instance does. [`fencing`] says what the log of a site says of
-//! them: who is listed does nothing any more, and who loses a lock let go of it or is listed, where
-//! each change of an image was by its owner (specs/Owned.antt).
+//! A flat site has no locks, no watchers, no object maps and no blocklist: what is done to them
+//! leaves it as it is, and so does whatever a fenced instance does. [`maps`] says that state 0 goes
+//! on to mean that an object is absent (specs/Covering.antt). [`fencing`] says what the log of a
+//! site says of them: who is listed does nothing any more, and who loses a lock let go of it or is
+//! listed, where each change of an image was by its owner (specs/Owned.antt).
 //!
 //! # How it works
 //!
@@ -52,3 +53,4 @@
 
 pub mod fencing;
 pub mod laws;
+pub mod maps;

@@ -2,6 +2,7 @@ mod bench;
 mod edge;
 mod fence;
 mod flat;
+mod maps;
 mod site;
 
 use rbd_kinds::NoMemory;

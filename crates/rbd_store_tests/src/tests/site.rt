@@ -29,7 +29,7 @@ fn front(alloc: Global, len: u64) -> Result<Parts, NoMemory>
     Ok(Parts::from_vec(parts))
 }
 
-fn take_snap(bench: &mut Bench, name: Name) -> Result<Answer, NoMemory> {
+pub fn take_snap(bench: &mut Bench, name: Name) -> Result<Answer, NoMemory> {
     bench.apply(
         C1,
         Op::Header {
@@ -41,7 +41,7 @@ fn take_snap(bench: &mut Bench, name: Name) -> Result<Answer, NoMemory> {
 
 /// The context of a change while there are the snapshots from 1 up to a number, of which there is
 /// one at most.
-fn context(alloc: Global, number: u32) -> Result<SnapContext, NoMemory> {
+pub fn context(alloc: Global, number: u32) -> Result<SnapContext, NoMemory> {
     let mut snaps = Vec::new(alloc);
     if number > 0 {
         snaps.push(SnapId(number))?;
@@ -52,7 +52,7 @@ fn context(alloc: Global, number: u32) -> Result<SnapContext, NoMemory> {
     })
 }
 
-fn on_object(bench: &mut Bench, object: u64, op: DataOp) -> Result<Answer, NoMemory>
+pub fn on_object(bench: &mut Bench, object: u64, op: DataOp) -> Result<Answer, NoMemory>
     requires { MayDoOnData op }
 {
     bench.apply(
@@ -101,7 +101,7 @@ fn read(
 
 // Each of these lets the answer go that it looks at, so that no caller does.
 
-fn is_done(answer: Answer) -> bool {
+pub fn is_done(answer: Answer) -> bool {
     let same = matches!(&answer, Answer::Done);
     drop(answer);
     same

@@ -12,3 +12,6 @@ returns-in-Data-clause-ok c =
     (λ each. ap (λ (objects : ℕ → ℕ → Option Mapped). record (kept c.args.self.now) { objects = objects })
     (fun_ext (λ image. fun_ext (each image))))
     c.change-in-Data.ensures.ok)
+
+pub returns-in-Map-clause-ok : goal.returns-in-Map-clause-ok
+returns-in-Map-clause-ok c = rw c.in-Map.is c.serve_on_map.ensures.ok
