@@ -48,7 +48,8 @@
 //! Contracts see a [`Site`] as its id and its log: the records are what the log leaves, line by
 //! line, of none (`records_of`). [`Site::apply`] answers what the definitions say of these records
 //! (`answer_to`), adds the one line that makes them what the definitions say they become (`after`),
-//! and posts into the mail what they say is told (`mail_after`). [`Site::log`] says that each line
+//! and posts into the mail what they say is told (`mail_after`). [`Site::apply_answered`] is the
+//! same for who has this answer from [`Site::answer`]. [`Site::log`] says that each line
 //! has the answer of the records before it, that the lines are numbered from 1, and that each
 //! header and each map is in form. [`laws`] says what the definitions mean: one object changes,
 //! snapshots stay as they were, and a fenced instance does nothing.
@@ -61,17 +62,18 @@
 //! costs its receivers; a look at the watchers copies them. `map-set` touches one byte, and a look
 //! at a map and a `map-put` copy it once, a quarter of a byte an object. The log keeps the
 //! operation itself, and a copy of its answer, in which bytes and the list of a header's snapshots
-//! are shared. Such a list is copied once after each of its changes, and by no look. A trim reads
-//! the list of snapshots of one header.
+//! are shared. Such a list is copied once after each of its changes, and by no look, unless memory
+//! was refused to that copy. A trim reads the list of snapshots of one header.
 //!
 //! # How it works
 //!
 //! A directory, a list of children, a blocklist and four tables, and one file for each kind of
-//! object, with what an operation is answered and what it changes. `apply` takes the memory for the
-//! line, asks for the answer, changes the object or posts the notices, and then logs it: only the
-//! change or the post could still be refused, and does all or nothing. Before a look at a header it
-//! has the header share its list, and behind a change of one too, where there is memory: that is no
-//! part of the records.
+//! object, with what an operation is answered and what it changes. `apply` asks for the answer, and
+//! goes on as `apply_answered`, which copies it and takes the memory for the line, changes the
+//! object or posts the notices, and then logs it: only the change or the post could still be
+//! refused, and does all or nothing. At a look at a header it has the header share its list, for
+//! the looks behind it, and behind a change of one too, where there is memory: that is no part of
+//! the records.
 #![tactic(auto)]
 
 mod children;

@@ -12,7 +12,7 @@ ghost use Rattle.rbd_site.specs.Step.{MayDo, answer_to, after, mail_after};
 use crate::done::{Done, DoneOp};
 use crate::object_key::ObjectKey;
 use crate::store::Store;
-use rbd_kinds::{Answer, HeaderView, ImageId, Instance, NoMemory, Op, SessionNo, SiteId};
+use rbd_kinds::{Answer, HeaderView, ImageId, Instance, NoMemory, Op, SessionNo, SiteId, TryClone};
 use rbd_watch::Mail;
 use std::alloc::Global;
 use std::marker::Model;
@@ -98,7 +98,41 @@ impl Site {
         ensures err { OnErr result (self.new ≡ self.old) }
         ensures unsent { OnErr result (mail.new ≡ mail.old) }
     {
+        let Ok(answer) = self.store.answer(&instance, &op) else {
+            drop(op);
+            return Err(NoMemory);
+        };
+        if let Err(fault) = self.apply_answered(instance, op, &answer, mail) {
+            drop(answer);
+            return Err(fault);
+        }
+        Ok(answer)
+    }
+
+    /// As [`Site::apply`], for who has asked for the operation's answer already. The log has a copy
+    /// of it.
+    pub fn apply_answered(
+        &mut self,
+        instance: Instance,
+        op: Op,
+        answer: &Answer,
+        mail: &mut Mail,
+    ) -> Result<(), NoMemory>
+        requires may { MayDo (records_of self.old) instance op }
+        requires answer { answer.now ≡ answer_to (records_of self.old) instance op }
+        ensures ok { let number = length self.old.log + 1 in
+            OnOk result (self.new ≡ record self.old { log = self.old.log ++ line_of number instance op answer.now ∷ [] }) }
+        ensures records { OnOk result (records_of self.new ≡ after (records_of self.old) instance op) }
+        ensures mail { OnOk result (mail.new ≡ mail_after self.old.id (records_of self.old) instance op mail.old) }
+        ensures form { AreInForm (records_of self.new) (length self.new.log) }
+        ensures err { OnErr result (self.new ≡ self.old) }
+        ensures unsent { OnErr result (mail.new ≡ mail.old) }
+    {
         let number = self.next_number();
+        let Ok(logged) = answer.try_clone() else {
+            drop(op);
+            return Err(NoMemory);
+        };
         match perform(
             &mut self.store,
             &mut self.log,
@@ -107,19 +141,18 @@ impl Site {
             &op,
             mail,
         ) {
-            Ok(told) => {
-                let (answer, kept) = told;
-                let line = Done {
+            Ok(()) => {
+                self.log.push_reserved(Done {
                     number,
                     instance: Some(instance),
                     op: DoneOp::Op(op),
-                    answer: kept,
-                };
-                self.log.push_reserved(line);
-                Ok(answer)
+                    answer: logged,
+                });
+                Ok(())
             }
             Err(fault) => {
                 drop(op);
+                drop(logged);
                 Err(fault)
             }
         }
@@ -205,11 +238,9 @@ fn perform(
     me: &Instance,
     op: &Op,
     mail: &mut Mail,
-) -> Result<(Answer, Answer), NoMemory>
+) -> Result<(), NoMemory>
     requires may { MayDo (kept store.old) me.now op.now }
     requires generation { (image : ℕ) (h : HeaderShown) → (kept store.old).headers image ≡ Some h → h.generation + 1 < 2 ^ 64 }
-    ensures answer { IfOk result (λ told. told.0 ≡ answer_to (kept store.old) me.now op.now) }
-    ensures copy { IfOk result (λ told. told.1 ≡ answer_to (kept store.old) me.now op.now) }
     ensures ok { OnOk result (kept store.new ≡ after (kept store.old) me.now op.now) }
     ensures mail { OnOk result (mail.new ≡ mail_after site (kept store.old) me.now op.now mail.old) }
     ensures log { log.new.items ≡ log.old.items }

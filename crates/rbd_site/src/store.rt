@@ -19,7 +19,7 @@ use rbd_fence::Blocklist;
 use rbd_header::Header;
 use rbd_kinds::{
     Answer, HeaderOp, HeaderView, ImageId, Instance, MapOp, NoMemory, NoticeKind, Op, SessionNo,
-    SiteId, SnapId, TryClone,
+    SiteId, SnapId,
 };
 use rbd_map::ObjectMap;
 use rbd_object::Object;
@@ -127,45 +127,26 @@ impl Store {
         Ok(Answer::Instances(watch::list(self.alloc, &self.watchers, image)?))
     }
 
-    /// Does an operation, or nothing at all, and gives its answer twice: for who asked, and for the
-    /// log. A notice is posted into the mail.
+    /// Does an operation, or nothing at all. A notice is posted into the mail.
     pub fn perform(
         &mut self,
         site: SiteId,
         me: &Instance,
         op: &Op,
         mail: &mut Mail,
-    ) -> Result<(Answer, Answer), NoMemory>
+    ) -> Result<(), NoMemory>
         requires may { MayDo (kept self.old) me.now op.now }
         requires generation { (image : ℕ) (h : HeaderView) → (kept self.old).headers image ≡ Some h → h.generation + 1 < 2 ^ 64 }
-        ensures answer { IfOk result (λ told. told.0 ≡ answer_to (kept self.old) me.now op.now) }
-        ensures copy { IfOk result (λ told. told.1 ≡ answer_to (kept self.old) me.now op.now) }
         ensures ok { OnOk result (kept self.new ≡ after (kept self.old) me.now op.now) }
         ensures mail { OnOk result (mail.new ≡ mail_after site (kept self.old) me.now op.now mail.old) }
         ensures err { OnErr result (kept self.new ≡ kept self.old) }
         ensures unsent { OnErr result (mail.new ≡ mail.old) }
     {
         if self.blocklist.has(*me) {
-            return Ok((Answer::Fenced, Answer::Fenced));
+            return Ok(());
         }
         self.share(op)?;
-        let told = self.answer_twice(*me, op)?;
-        if let Err(refused) = self.serve(site, me, op, mail) {
-            drop(told);
-            return Err(refused);
-        }
-        Ok(told)
-    }
-
-    /// The same answer twice, of an operation of an instance that isn't fenced.
-    fn answer_twice(&self, instance: Instance, op: &Op) -> Result<(Answer, Answer), NoMemory>
-        requires { MayServe (kept self.now) op.now }
-        ensures answer { IfOk result (λ told. told.0 ≡ answer_served (kept self.now) instance op.now) }
-        ensures copy { IfOk result (λ told. told.1 ≡ answer_served (kept self.now) instance op.now) }
-    {
-        let answer = self.answer_served(instance, op)?;
-        let copy = answer.try_clone()?;
-        Ok((answer, copy))
+        self.serve(site, me, op, mail)
     }
 
     /// Before a look at a header: from now on, the answers to such looks share one list of its

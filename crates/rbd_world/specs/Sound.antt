@@ -226,6 +226,7 @@ AreNewClients {R} stands sessions = (session : ℕ) (c : SessionView R) → sess
 
 pub record IsNewWorld {R : Type 0} (stands : R → Standing) (w : WorldView R) : Type 0 where
   pub sites : (s : SiteId) → (site_in s w.sites).log ≡ []
+  pub ids : (s : SiteId) → (site_in s w.sites).id ≡ s
   pub clients : AreNewClients stands w.sessions
   pub history : w.history ≡ []
   pub calls : w.calls ≡ []

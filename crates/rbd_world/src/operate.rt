@@ -3,10 +3,10 @@
 //! ```text
 //! next ── answer ── ready ── apply ── feed ── next
 //!   what it wants     │        │        └ goes on, or ends; takes no memory
-//!   what the site     │        └ one operation, or nothing at all
+//!   what the site     │        └ one operation, logged with that answer, or nothing at all
 //!   would answer      └ all memory that the answer needs
 //! ```
-ghost use Rattle.std.specs.Prelude.{◌≡◌, ◌≢◌, ℕ, ◌+◌, ◌≤◌, Some, IfOk, IfSome, OnErr};
+ghost use Rattle.std.specs.Prelude.{◌≡◌, ◌≢◌, ℕ, ◌+◌, ◌≤◌, Some, IfOk, IfSome, OnOk, OnErr};
 ghost use Rattle.std.specs.Vec.{vec_capacity, vec_len};
 ghost use Rattle.rbd_kinds.specs.Form.{IsHeaderInForm};
 ghost use Rattle.rbd_kinds.specs.declared.id.SiteId.{SiteId as Which};
@@ -17,14 +17,14 @@ ghost use Rattle.rbd_site.specs.Log.{records_of};
 ghost use Rattle.rbd_site.specs.Step.{MayDo, answer_to};
 ghost use Rattle.rbd_site.specs.declared.done.DoneOp.TheVariants as of_done;
 ghost use Rattle.rbd_stands.specs.Effect.{effect_of as effect_there};
-ghost use Rattle.rbd_world.specs.Operate.{IsOperated, image_of_op};
+ghost use Rattle.rbd_world.specs.Operate.{IsLogged, IsOperated, image_of_op};
 
 use crate::event::Outcome;
 use crate::noting::note;
 use rbd_course::Request;
 use rbd_effect::effect_of;
 use rbd_flat::{Effect, Entry};
-use rbd_kinds::{Answer, Fed, HeaderView, ImageId, NoMemory, Op, SiteId, Slot};
+use rbd_kinds::{Answer, Fed, HeaderView, ImageId, Instance, NoMemory, Op, SiteId, Slot};
 use rbd_session::Session;
 use rbd_site::Site;
 use rbd_watch::Mail;
@@ -58,7 +58,7 @@ pub fn operate<R: Request>(
     match foresee(alloc, at, client, slot, &op) {
         Ok(foreseen) => {
             let Foreseen { fed, effect } = foreseen;
-            at.apply(client.instance(), op, mail)?;
+            apply_fed(at, client.instance(), op, &fed, mail)?;
             let reply = client.feed(slot, &fed);
             drop(fed);
             let outcome = Outcome::Step {
@@ -74,6 +74,26 @@ pub fn operate<R: Request>(
             drop(op);
             Err(fault)
         }
+    }
+}
+
+/// The site does an operation, whose answer is what its request is fed. Refused memory, nothing was
+/// done.
+fn apply_fed(
+    at: &mut Site,
+    instance: Instance,
+    op: Op,
+    fed: &Fed,
+    mail: &mut Mail,
+) -> Result<(), NoMemory>
+    requires may { MayDo (records_of at.old) instance op }
+    requires fed { fed.now ≡ of_fed.Answer (answer_to (records_of at.old) instance op) }
+    ensures done { OnOk result (IsLogged instance op at.old at.new) }
+    ensures err { OnErr result (at.new ≡ at.old) }
+{
+    match fed {
+        Fed::Answer(answer) => at.apply_answered(instance, op, answer, mail),
+        Fed::Passed => unreachable!(),
     }
 }
 

@@ -15,9 +15,10 @@ pub struct Sites {
 }
 
 impl Sites {
-    /// Sites without images, and with empty logs.
+    /// Both sites, without images, and with empty logs.
     pub fn new(alloc: Global) -> Result<Self, NoMemory>
-        ensures { IfOk result (λ sites. (s : Which) → (site_in s sites).log ≡ []) }
+        ensures logs { IfOk result (λ sites. (s : Which) → (site_in s sites).log ≡ []) }
+        ensures ids { IfOk result (λ sites. (s : Which) → (site_in s sites).id ≡ s) }
     {
         let a = Site::new(alloc, SiteId::A)?;
         let b = Site::new(alloc, SiteId::B)?;
