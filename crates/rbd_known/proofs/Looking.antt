@@ -7,6 +7,7 @@ use Rattle.rbd_course.specs.Course.{is_waiting}
 use Rattle.rbd_course.specs.declared.stage.Stage.{Stage}
 use Rattle.rbd_course.specs.declared.stage.Stage.TheVariants as stage
 use Rattle.rbd_kinds.specs.declared.header_op.HeaderOp.TheVariants as header
+use Rattle.rbd_kinds.specs.declared.id.Instance.{Instance}
 use Rattle.rbd_kinds.specs.declared.id.SiteId.{SiteId}
 use Rattle.rbd_kinds.specs.declared.operation.Op.{Op}
 use Rattle.rbd_kinds.specs.declared.operation.Op.TheVariants as op
@@ -27,6 +28,7 @@ use Rattle.rbd_session.specs.Waits.{waits, awaits_line, awaits_turn, is_at_own}
 use Rattle.rbd_session.proofs.Members.{at_own_slot}
 use Rattle.rbd_session.proofs.Sound.{no_some}
 use Rattle.rbd_session.proofs.Way.{nowhere_course, place_there}
+use Rattle.rbd_site.specs.Records.{Records}
 use Rattle.rbd_known.specs.Knowing.{KnowsIn, AllKnow}
 use Rattle.rbd_known.specs.Tied.{OwnsIn, has_just_joined}
 use Rattle.rbd_known.proofs.Behind.{knows_there}
@@ -147,13 +149,13 @@ module _ {R : Type 0} (stands : R → Standing) (s : SessionView R) (knows : ℕ
     header_shared (Some o) None is that some told = absurd (true≢false (sym told))
     header_shared (Some o) (Some p) is that some told = owners_shared o p is that told
 
-    lock_shared : SharesLock site image (knows slot) (knows other)
-    lock_shared some told =
+    lock_shared : (records : Records) (me you : Instance) → SharesLock site image records me you (knows slot) (knows other)
+    lock_shared records me you free some told =
         let shared = header_shared (own_of (knows slot).owns site image) (own_of (knows other).owns site image) refl refl some told in
         record { one = shared.0; other = shared.1 }
 
   pub may_look : (slot other : ℕ) (r : Running R) (site : SiteId) (o : Op) → slot ≢ other → running_at slot s ≡ Some r → waits slot (track_of r s.lines) ≡ false
-      → MayLook site (knows slot) (knows other) o
-  may_look slot other r site (op.Header image header.Get) differ runs goes = lock_shared slot other differ r runs goes site image
-  may_look slot other r site (op.Header image header.LockDrop) differ runs goes = lock_shared slot other differ r runs goes site image
-  may_look slot other r site _ differ runs goes = tt
+      → (records : Records) (me you : Instance) → MayLook site records me you (knows slot) (knows other) o
+  may_look slot other r site (op.Header image header.Get) differ runs goes records me you = lock_shared slot other differ r runs goes site image records me you
+  may_look slot other r site (op.Header image header.LockDrop) differ runs goes records me you = λ lock. lock_shared slot other differ r runs goes site image records me you
+  may_look slot other r site _ differ runs goes records me you = tt
