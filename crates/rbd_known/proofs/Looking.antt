@@ -67,7 +67,7 @@ may_shared line slot other m n fair differ here there may behind =
 -- ---- where they are
 
 -- who owns an image is a member of its line
-record IsMemberFor (slot : ℕ) (site : SiteId) (image : ℕ) (o : Own) (t : Track) : Type 0 where
+pub record IsMemberFor (slot : ℕ) (site : SiteId) (image : ℕ) (o : Own) (t : Track) : Type 0 where
   pub member : Member
   pub found : member_of slot (t.lines site image) ≡ Some member
   pub line : line_in t.place t.lines ≡ t.lines site image
@@ -96,7 +96,7 @@ owner_there slot site image o t (inr (p, m, there)) owns =
 
 -- ---- who doesn't wait
 
-may_of : (own may : Bool) → own ≡ true → (own && not may) ≡ false → may ≡ true
+pub may_of : (own may : Bool) → own ≡ true → (own && not may) ≡ false → may ≡ true
 may_of true true is waits = refl
 may_of true false is waits = absurd (true≢false waits)
 may_of false may is waits = absurd (true≢false (sym is))
@@ -123,13 +123,13 @@ module _ (slot other : ℕ) (site : SiteId) (image : ℕ) (o p : Own) (t u : Tra
 
 module _ {R : Type 0} (stands : R → Standing) (s : SessionView R) (knows : ℕ → Knowledge) (sound : IsSoundSession stands s) (all : AllKnow stands knows s) where
   -- the own of a request that runs
-  owner_runs : (slot : ℕ) (r : Running R) → running_at slot s ≡ Some r → (site : SiteId) (image : ℕ) (o : Own) → own_of (knows slot).owns site image ≡ Some o
+  pub owner_runs : (slot : ℕ) (r : Running R) → running_at slot s ≡ Some r → (site : SiteId) (image : ℕ) (o : Own) → own_of (knows slot).owns site image ≡ Some o
       → IsMemberFor slot site image o (track_of r s.lines)
   owner_runs slot r runs site image o is =
       owner_there slot site image o (track_of r s.lines) (sound.runs slot r runs).somewhere ((knows_there stands s knows slot r runs all).tied.owns site image o is)
 
   -- who owns anything runs
-  runs_who_owns : (slot : ℕ) (site : SiteId) (image : ℕ) (o : Own) → own_of (knows slot).owns site image ≡ Some o → (r : Running R) × (running_at slot s ≡ Some r)
+  pub runs_who_owns : (slot : ℕ) (site : SiteId) (image : ℕ) (o : Own) → own_of (knows slot).owns site image ≡ Some o → (r : Running R) × (running_at slot s ≡ Some r)
   runs_who_owns slot site image o is = by (running_at slot s) refl (all slot)
     where
       by : (q : Option (Running R)) → running_at slot s ≡ q → KnowsIn stands slot q s.lines (knows slot) → (r : Running R) × (running_at slot s ≡ Some r)

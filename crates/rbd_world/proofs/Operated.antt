@@ -63,8 +63,8 @@ module _ {R : Type 0} (stands : R → Standing) (old new : WorldView R) (w : IsS
   abbrev know : Knowledge
   know = w.knows session slot
 
-  mine : c.instance ≡ first_life session
-  mine = (w.clients session c there).who
+  my_life : c.instance ≡ first_life session
+  my_life = (w.clients session c there).who
 
   runs : running_at slot c ≡ Some r
   runs = ap running_in holds
@@ -145,10 +145,10 @@ module _ {R : Type 0} (stands : R → Standing) (old new : WorldView R) (w : IsS
         by (inl (same, at)) =
             subst (λ i. IsTrueAt t (records_in t new.sites) i (knows_then m x)) (is_client same)
             (subst (IsTrueAt t (records_in t new.sites) c.instance) (sym (own_known m x same at))
-            (own_true stands old new w session slot r.line c.instance s o result mine knows_truly permits at_sites (next a) t))
+            (own_true stands old new w session slot r.line c.instance s o result my_life knows_truly permits at_sites (next a) t))
         by (inr where_else) =
             subst (IsTrueAt t (records_in t new.sites) (first_life m)) (sym (elsewhere m x where_else))
-            (others_true stands old new w session slot r.line c.instance s o result mine knows_truly permits at_sites m x where_else t)
+            (others_true stands old new w session slot r.line c.instance s o result my_life knows_truly permits at_sites m x where_else t)
 
     may : (m x : ℕ) → IsElsewhere session slot m x → MayLook s (records_in s old.sites) c.instance (first_life m) know (w.knows m x) o
     may m x where_else = looks_beside stands old w one.client one.before session slot c there r holds goes way s o (records_in s old.sites) c.instance (first_life m) m x where_else
@@ -159,10 +159,10 @@ module _ {R : Type 0} (stands : R → Standing) (old new : WorldView R) (w : IsS
 
     own_beside_then : (m x y z : ℕ) → m ≡ session → x ≡ slot → IsElsewhere session slot y z → (t : SiteId) → Beside m x y z t
     own_beside_then m x y z same at where_else t =
-        subst (λ i. AreBeside t (records_in t new.sites) i (first_life y) (knows_then m x) (knows_then y z)) (mine ∙ sym (ap first_life same))
+        subst (λ i. AreBeside t (records_in t new.sites) i (first_life y) (knows_then m x) (knows_then y z)) (my_life ∙ sym (ap first_life same))
         (subst (λ k. AreBeside t (records_in t new.sites) c.instance (first_life y) k (knows_then y z)) (sym (own_known m x same at))
         (subst (AreBeside t (records_in t new.sites) c.instance (first_life y) (unless_ended result (known_behind know (Ask s why o next) (fed.Answer a)))) (sym (elsewhere y z where_else))
-        (own_beside stands old new w session slot r.line c.instance s o result mine knows_truly permits at_sites (next a) y z where_else (may y z where_else) t)))
+        (own_beside stands old new w session slot r.line c.instance s o result my_life knows_truly permits at_sites (next a) y z where_else (may y z where_else) t)))
 
     beside_then : (m x y z : ℕ) → (m ≢ y) ⊎ (x ≢ z) → (t : SiteId) → Beside m x y z t
     beside_then m x y z apart t = by (here_or_elsewhere session slot m x) (here_or_elsewhere session slot y z) apart
@@ -177,12 +177,12 @@ module _ {R : Type 0} (stands : R → Standing) (old new : WorldView R) (w : IsS
         by (inr this) (inr that) apart =
             subst (λ k. AreBeside t (records_in t new.sites) (first_life m) (first_life y) k (knows_then y z)) (sym (elsewhere m x this))
             (subst (AreBeside t (records_in t new.sites) (first_life m) (first_life y) (w.knows m x)) (sym (elsewhere y z that))
-            (others_beside stands old new w session slot r.line c.instance s o result mine knows_truly permits at_sites m x y z apart t))
+            (others_beside stands old new w session slot r.line c.instance s o result my_life knows_truly permits at_sites m x y z apart t))
 
     -- ---- the world
 
     can : CanGive o a
-    can = can_give stands old new w session slot r.line c.instance s o result mine knows_truly permits at_sites
+    can = can_give stands old new w session slot r.line c.instance s o result my_life knows_truly permits at_sites
 
     module _ (d : SessionView R) (after : session_in session new.sessions ≡ Some d) (others : (m : ℕ) → m ≢ session → session_in m new.sessions ≡ session_in m old.sessions)
         (became : Goes stands slot a result c d) where
@@ -249,9 +249,9 @@ module _ {R : Type 0} (stands : R → Standing) (old new : WorldView R) (w : IsS
 
       goes_carries : ((m : ℕ) → IsSoundIf stands (session_in m new.sessions)) → Carries stands old new w does_it knows_then
       goes_carries sound = record {
-        standing = stands_then stands old new w session slot r.line c.instance s o result mine knows_truly permits at_sites;
+        standing = stands_then stands old new w session slot r.line c.instance s o result my_life knows_truly permits at_sites;
         due = due_now;
-        parentless = parentless_then stands old new w session slot r.line c.instance s o result mine knows_truly permits at_sites;
+        parentless = parentless_then stands old new w session slot r.line c.instance s o result my_life knows_truly permits at_sites;
         clients = clients_of stands old new w does_it session slot c d there after others became.slots knows_then in_others quiet (own sound);
         nobody = nobody_of stands old new w does_it session slot c d there after others became.slots knows_then in_others;
         apart =
