@@ -18,10 +18,10 @@ abbrev pub IsWayTrue : SiteId → Records → Instance → Way → Type 0
 IsWayTrue site r me (way.On a) = IsTrueAt site r me (known_on_way a)
 IsWayTrue site r me w = Unit {0}
 
--- What its requests know is true, and they are beside each other; what its ways know is true; and a
--- lock that it counts as its own is its own, unless the client is fenced.
-pub record IsTrueOf {R : Type 0} (site : SiteId) (r : Records) (knows : (slot : ℕ) → Knowledge) (c : ClientView R) : Type 0 where
-  pub requests : (slot : ℕ) → IsTrueAt site r c.session.instance (knows slot)
-  pub beside : (slot other : ℕ) → slot ≢ other → AreBeside site r c.session.instance c.session.instance (knows slot) (knows other)
-  pub ways : (slot : ℕ) → IsWayTrue site r c.session.instance (state_in slot c.slots).way
-  pub locks : (image : ℕ) → IsOwned site image c.locks → HasLockWhileFree r c.session.instance image
+-- What the requests of a client know is true of its instance, and they are beside each other; what
+-- its ways know is true; and a lock that it counts as its own is its own, unless it is fenced.
+pub record IsTrueOf {R : Type 0} (site : SiteId) (r : Records) (me : Instance) (knows : (slot : ℕ) → Knowledge) (c : ClientView R) : Type 0 where
+  pub requests : (slot : ℕ) → IsTrueAt site r me (knows slot)
+  pub beside : (slot other : ℕ) → slot ≢ other → AreBeside site r me me (knows slot) (knows other)
+  pub ways : (slot : ℕ) → IsWayTrue site r me (state_in slot c.slots).way
+  pub locks : (image : ℕ) → IsOwned site image c.locks → HasLockWhileFree r me image
