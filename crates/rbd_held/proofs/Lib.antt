@@ -8,3 +8,4 @@ pub mod LocksHeld
 pub mod Answered
 pub mod Others
 pub mod Calls
+pub mod Drops

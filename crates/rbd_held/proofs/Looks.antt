@@ -14,7 +14,7 @@ use Rattle.rbd_client.specs.Feeding.{IsAtRest}
 use Rattle.rbd_client.specs.Sound.{IsOwned, IsSoundClient}
 use Rattle.rbd_client.proofs.OnWay.{is_release, release_rests}
 use Rattle.rbd_client.proofs.Requests.{request_owns}
-use Rattle.rbd_course.specs.Course.{is_waiting}
+use Rattle.rbd_course.specs.Course.{is_waiting, has_just_joined}
 use Rattle.rbd_course.specs.declared.stage.Stage.{Stage}
 use Rattle.rbd_course.specs.declared.stage.Stage.TheVariants as stage
 use Rattle.rbd_held.specs.Knowing.{known_to, known_to_release}
@@ -29,7 +29,7 @@ use Rattle.rbd_kinds.specs.declared.operation.Op.{Op}
 use Rattle.rbd_kinds.specs.declared.operation.Op.TheVariants as op
 use Rattle.rbd_kinds.specs.declared.operation_kind.OpKind.TheVariants as kind
 use Rattle.rbd_known.specs.Knowing.{AllKnow}
-use Rattle.rbd_known.specs.Tied.{has_just_joined}
+
 use Rattle.rbd_known.proofs.Looking.{IsMemberFor, may_look, owner_runs}
 use Rattle.rbd_known.proofs.Wanting.{Wants, wants}
 use Rattle.rbd_line.specs.Line.{Member, any_past, is_past, member_of}

@@ -2,7 +2,7 @@
 ghost use Rattle.std.specs.Prelude.{◌≡◌, ◌≢◌, ℕ, Some, None, IsFalse, Option, []};
 ghost use Rattle.rbd_client.specs.Actor.{actor_at, op_wanted};
 ghost use Rattle.rbd_client.specs.Client.{ClientView, newcomer, state_in};
-ghost use Rattle.rbd_client.specs.Feeding.{AreStatesAlike, CanGet, IsFedBy};
+ghost use Rattle.rbd_client.specs.Feeding.{AreStatesAlike, CanGet, DropsAtRest, IsFedBy};
 ghost use Rattle.rbd_client.specs.Sound.{IsSoundClient};
 ghost use Rattle.rbd_client.specs.declared.slot_state.Quiescing.{Quiescing as Quiesces};
 ghost use Rattle.rbd_flat.specs.Flat.{Flat};
@@ -65,6 +65,14 @@ pub fn whoever_acts_may_look<R: Request>()
         → IsTrueOf site r me knows c → me ≢ you → KnowsByLock site r you j
         → MayLook site r me you (known_to (knows slot) (actor_at R.stands slot c)) j op }
     ensures way { (site : Site) (r : Records) (me you : Instance) (k j : Knowledge) (a : Acquire) → MayLook site r me you k j (op_of a) }
+{}
+
+/// A request of a client drops the lock of an image only where no other one relies on it: none is
+/// past own, and none has taken the lock itself. So a client may be fed whatever is wanted of it.
+pub fn locks_are_dropped_at_rest<R: Request>()
+    ensures { (c : ClientView R) (knows : ℕ → Knowledge) (slot : ℕ) (site : Site) (op : Op)
+        → IsSoundClient R.stands c → AllKnow R.stands knows c.session → op_wanted R.stands slot c ≡ Some (site, op)
+        → DropsAtRest (actor_at R.stands slot c) site op c }
 {}
 
 /// Once who acts at a slot was answered, each request of the client knows what is said of it: a

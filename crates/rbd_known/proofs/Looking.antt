@@ -3,7 +3,7 @@ use Rattle.std.proofs.Common.{◌≡◌, ◌≢◌, inl, inr, ℕ, ◌&&◌, not
 use Rattle.std.specs.Prelude.{IsSome}
 use Rattle.std.specs.Option.{option_map}
 use Rattle.std.proofs.lemmas.Bool.{true≢false, or_parts}
-use Rattle.rbd_course.specs.Course.{is_waiting}
+use Rattle.rbd_course.specs.Course.{is_waiting, has_just_joined}
 use Rattle.rbd_course.specs.declared.stage.Stage.{Stage}
 use Rattle.rbd_course.specs.declared.stage.Stage.TheVariants as stage
 use Rattle.rbd_kinds.specs.declared.header_op.HeaderOp.TheVariants as header
@@ -30,7 +30,7 @@ use Rattle.rbd_session.proofs.Sound.{no_some}
 use Rattle.rbd_session.proofs.Way.{nowhere_course, place_there}
 use Rattle.rbd_site.specs.Records.{Records}
 use Rattle.rbd_known.specs.Knowing.{KnowsIn, AllKnow}
-use Rattle.rbd_known.specs.Tied.{OwnsIn, has_just_joined}
+use Rattle.rbd_known.specs.Tied.{OwnsIn}
 use Rattle.rbd_known.proofs.Behind.{knows_there}
 
 -- ---- in one line
@@ -56,7 +56,7 @@ both_shared line slot other m n fair differ here there past behind =
     )
 
 -- one that may pass is as one that is past
-may_shared : (line : List Member) (slot other : ℕ) (m n : Member) → IsFairLine line → slot ≢ other → member_of slot line ≡ Some m → member_of other line ≡ Some n
+pub may_shared : (line : List Member) (slot other : ℕ) (m n : Member) → IsFairLine line → slot ≢ other → member_of slot line ≡ Some m → member_of other line ≡ Some n
     → may_pass slot line ≡ true → is_past n.stage ≡ true → (m.alone ≡ false) × (n.alone ≡ false)
 may_shared line slot other m n fair differ here there may behind =
     both_shared (changed slot passed line) slot other (passed m) n (passed_fair slot line fair may) differ
@@ -75,6 +75,7 @@ pub record IsMemberFor (slot : ℕ) (site : SiteId) (image : ℕ) (o : Own) (t :
   pub alone : o.alone ≡ member.alone
   pub waits : has_just_joined member.stage ≡ false
   pub past : IsSome o.header → is_past member.stage ≡ true
+  pub told : is_past member.stage ≡ true → IsSome o.header
 
 owner_there : (slot : ℕ) (site : SiteId) (image : ℕ) (o : Own) (t : Track) → IsSomewhere slot t → OwnsIn site image o (course_of slot t).place → IsMemberFor slot site image o t
 owner_there slot site image o t (inl nowhere) owns = absurd (subst (OwnsIn site image o) (nowhere_course slot t nowhere) owns)
@@ -92,6 +93,7 @@ owner_there slot site image o t (inr (p, m, there)) owns =
       alone = at.alone;
       waits = at.waits;
       past = at.past;
+      told = at.told;
     }
 
 -- ---- who doesn't wait
