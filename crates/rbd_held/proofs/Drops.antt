@@ -12,7 +12,7 @@ use Rattle.rbd_client.specs.Actor.{actor_at, any_taken, has_taken, is_at_rest, o
 use Rattle.rbd_client.specs.Client.{ClientView, state_in}
 use Rattle.rbd_client.specs.Feeding.{DropsAtRest, IsAtRest}
 use Rattle.rbd_client.specs.Sound.{IsSoundClient, IsWellOnWay}
-use Rattle.rbd_client.proofs.Past.{past_found}
+use Rattle.rbd_client.proofs.Past.{IsPastIn, past_found}
 use Rattle.rbd_client.proofs.Requests.{look_drops_nothing}
 use Rattle.rbd_course.specs.Course.{has_just_joined, is_waiting}
 use Rattle.rbd_course.specs.declared.stage.Stage.{Stage}
@@ -27,6 +27,7 @@ use Rattle.rbd_known.proofs.Looking.{IsMemberFor, may_of, may_shared, owner_runs
 use Rattle.rbd_known.proofs.Wanting.{Wants, wants}
 use Rattle.rbd_line.specs.Line.{Member, ahead, any_past, is_let_pass, is_past, is_shared_past, lets_pass, may_pass, member_of}
 use Rattle.rbd_locks.specs.declared.image_at.ImageAt.{ImageAt}
+use Rattle.rbd_session.specs.declared.image_at.ImageAt.{ImageAt as LineAt}
 use Rattle.rbd_locks.specs.Places.{is_same}
 use Rattle.rbd_locks.proofs.Keys.{where_same}
 use Rattle.rbd_locks.proofs.Lasting.{same_itself}
@@ -35,7 +36,7 @@ use Rattle.rbd_machine.specs.Permits.{HoldsUnlooked, Permits}
 use Rattle.rbd_machine.specs.Plan.{Standing}
 use Rattle.rbd_session.specs.Advance.{track_of}
 use Rattle.rbd_session.specs.Lines.{lines_of}
-use Rattle.rbd_session.specs.Session.{held_in, running_in}
+use Rattle.rbd_session.specs.Session.{held_in, own_look_at, running_in}
 use Rattle.rbd_session.specs.Track.{Track, course_of, line_in}
 use Rattle.rbd_session.specs.Waits.{awaits_line, awaits_turn, is_at_own, waits}
 use Rattle.rbd_session.proofs.OwnLooks.{at_own_look}
@@ -140,7 +141,7 @@ module _ {R : Type 0} (stands : R → Standing) (c : ClientView R) (knows : ℕ 
   nobody_past false is = refl
   nobody_past true is = absurd (by (past_found line (sound.session.fair site image).apart is))
     where
-      by : (p : _) → ⊥
+      by : IsPastIn line → ⊥
       by p = go (cases_eq p.member.slot slot)
         where
           go : (p.member.slot ≡ slot) ⊎ (p.member.slot ≢ slot) → ⊥
@@ -157,15 +158,19 @@ module _ {R : Type 0} (stands : R → Standing) (c : ClientView R) (knows : ℕ 
       by : HasTaken site image c.slots → ⊥
       by t = go (cases_eq slot t.slot)
         where
+          there : LineAt
+          there = record { site = t.place.site; image = t.place.image }
+
           well : IsWellOnWay stands t.slot (way.Taken t.place) c.session c.locks
           well = subst (λ w. IsWellOnWay stands t.slot w c.session c.locks) t.way (sound.ways t.slot)
 
           go : (slot ≡ t.slot) ⊎ (slot ≢ t.slot) → ⊥
           go (inl same) =
               true≢false (sym (same_itself site image)
-              ∙ look_drops_nothing stands slot site (op.Header image header.LockDrop) c.session _ (subst (λ n. _) same well.0.at_look) wanted site image)
+              ∙ look_drops_nothing stands slot site (op.Header image header.LockDrop) c.session there
+              (subst (λ n. own_look_at stands n c.session ≡ Some there) (sym same) well.0.at_look) wanted site image)
           go (inr differ) =
-              let look = at_own_look stands c.session t.slot _ well.0.at_look in
+              let look = at_own_look stands c.session t.slot there well.0.at_look in
               where_same (λ s i. (n : Member) → member_of t.slot (lines_of c.session.lines s i) ≡ Some n → may_pass t.slot (lines_of c.session.lines s i) ≡ true → ⊥)
               site image t.place.site t.place.image t.same
               (λ n found may_also. alone_goes_first line slot t.slot m.member n differ m.found found (sym m.alone) (ap is_past waiting) may may_also)
