@@ -160,6 +160,7 @@ module _ {R : Type 0} (stands : R → Standing) where
         member = w.member;
         found = ap (λ (ls : Lines). member_of slot (ls site image)) alike.lines ∙ w.found;
         waits = w.waits;
+        at_look = look_alike slot old new alike ∙ w.at_look;
       }
 
   pub sound_alike : (old new : ClientView R) → IsSoundClient stands old → IsSoundSession stands new.session → IsClientAlike stands old new → IsSoundClient stands new

@@ -20,7 +20,7 @@ use Rattle.rbd_locks.specs.States.{told}
 use Rattle.rbd_machine.specs.Plan.{Standing}
 use Rattle.rbd_session.specs.Lines.{LinesView, lines_of}
 use Rattle.rbd_session.specs.declared.running.Occupant.{Occupant}
-use Rattle.rbd_session.specs.Session.{SessionView, IsNewcomer, IsSoundSession, held_in}
+use Rattle.rbd_session.specs.Session.{SessionView, IsNewcomer, IsSoundSession, going_in, held_in, own_look_in}
 use Rattle.rbd_session.proofs.Sound.{no_some}
 
 all_blank : (n slot : ℕ) → state_in slot (replicate n blank) ≡ blank
@@ -70,7 +70,10 @@ module _ {R : Type 0} (stands : R → Standing) where
           go (inr differ) =
               subst (λ (s : SlotState). IsWellOnWay stands k s.way new.session new.locks) (sym (there k differ))
               (way_kept stands k (state_in k old.slots).way old.session new.session old.locks new.locks
-              (waits_kept stands k slot differ old.session new.session (held k differ) (λ other apart site image. ap (λ (ls : LinesView). member_of other (lines_of ls site image)) lines))
+              (waits_kept stands k slot differ old.session new.session (held k differ) (λ other apart site image. ap (λ (ls : LinesView). member_of other (lines_of ls site image)) lines)
+              (λ p at.
+              ap (λ ls. own_look_in stands k ls (going_in k (held_in k new.session.slots) ls)) lines
+              ∙ ap (λ h. own_look_in stands k old.session.lines (going_in k h old.session.lines)) (held k differ) ∙ at))
               (λ p is. subst (IsOwned p.site p.image) (sym locks))
               (sound.ways k))
 

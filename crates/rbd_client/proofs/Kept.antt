@@ -1,5 +1,5 @@
 -- What holds of each client is kept, whatever one slot does.
-use Rattle.std.proofs.Common.{◌≡◌, ◌≢◌, ◌⊎◌, inl, inr, ℕ, Bool, true, false, ◌||◌, length, Option, None, refl, sym, ap, ◌∙◌, subst}
+use Rattle.std.proofs.Common.{◌≡◌, ◌≢◌, ◌⊎◌, inl, inr, ℕ, Bool, true, false, ◌||◌, length, Option, Some, None, refl, sym, ap, ◌∙◌, subst}
 use Rattle.std.proofs.lemmas.Bool.{cases_eq}
 use Rattle.rbd_client.specs.declared.slot_state.Quiescing.{Quiescing}
 use Rattle.rbd_client.specs.declared.slot_state.SlotState.{SlotState}
@@ -20,7 +20,7 @@ use Rattle.rbd_machine.specs.Plan.{Standing}
 use Rattle.rbd_session.specs.declared.image_at.ImageAt.{ImageAt as LineAt}
 use Rattle.rbd_session.specs.Lines.{lines_of}
 use Rattle.rbd_session.specs.OnTrack.{LeavesOthers}
-use Rattle.rbd_session.specs.Session.{SessionView, IsSoundSession, held_in, running_in}
+use Rattle.rbd_session.specs.Session.{SessionView, IsSoundSession, held_in, own_look_at, running_in}
 
 module _ {R : Type 0} (stands : R → Standing) where
   -- the other slots stay as they were
@@ -30,8 +30,9 @@ module _ {R : Type 0} (stands : R → Standing) where
     pub lines : LeavesOthers slot (lines_of old.session.lines) (lines_of new.session.lines)
 
   pub waits_kept : (k slot : ℕ) → k ≢ slot → (old new : SessionView R) → held_in k new.slots ≡ held_in k old.slots → LeavesOthers slot (lines_of old.lines) (lines_of new.lines)
+      → ((p : LineAt) → own_look_at stands k old ≡ Some p → own_look_at stands k new ≡ Some p)
       → (site : SiteId) (image : ℕ) → WaitsForLook stands k site image old → WaitsForLook stands k site image new
-  waits_kept k slot differ old new held lines site image w = record {
+  waits_kept k slot differ old new held lines stays site image w = record {
     request = w.request;
     runs = ap running_in held ∙ w.runs;
     place = w.place;
@@ -39,6 +40,7 @@ module _ {R : Type 0} (stands : R → Standing) where
     member = w.member;
     found = lines k differ site image ∙ w.found;
     waits = w.waits;
+    at_look = stays (record { site = site; image = image }) w.at_look;
   }
 
   -- a way is kept where its request waits still, and the lock that it has taken counts as owned
@@ -64,8 +66,9 @@ module _ {R : Type 0} (stands : R → Standing) where
       → (held_in slot new.session.slots ≡ None → state_in slot new.slots ≡ blank)
       → IsWellOnWay stands slot (state_in slot new.slots).way new.session new.locks
       → ((there : SiteId) (image : ℕ) → any_past (lines_of new.session.lines there image) ≡ true → (any_past (lines_of old.session.lines there image) ≡ true) ⊎ IsOwned there image new.locks)
+      → ((k : ℕ) → k ≢ slot → (p : LineAt) → own_look_at stands k old.session ≡ Some p → own_look_at stands k new.session ≡ Some p)
       → IsSoundClient stands new
-  sound_behind slot site o f q look old new sound session leaves slots telling counts rest free way_there past = record {
+  sound_behind slot site o f q look old new sound session leaves slots telling counts rest free way_there past looks = record {
     session = session;
     slots = slots;
     free = free_at;
@@ -96,6 +99,6 @@ module _ {R : Type 0} (stands : R → Standing) where
           go (inr differ) =
               subst (λ (s : SlotState). IsWellOnWay stands k s.way new.session new.locks) (sym (leaves.states k differ))
               (way_kept k (state_in k old.slots).way old.session new.session old.locks new.locks
-              (waits_kept k slot differ old.session new.session (leaves.held k differ) leaves.lines)
+              (waits_kept k slot differ old.session new.session (leaves.held k differ) leaves.lines (looks k differ))
               (λ p is. kept p.site p.image (or_right (any_past (lines_of old.session.lines p.site p.image)) (any_taken p.site p.image old.slots) (taken_at k old.slots p is)))
               (sound.ways k))

@@ -39,10 +39,14 @@ use Rattle.rbd_owner.specs.declared.release.Release.{Release}
 use Rattle.rbd_owner.specs.declared.release.Stage.{Stage as ReleaseStage}
 use Rattle.rbd_owner.specs.declared.release.Stage.TheVariants as telling
 use Rattle.rbd_session.specs.declared.image_at.ImageAt.{ImageAt as LineAt}
+use Rattle.rbd_session.specs.declared.running.Running.{Running}
+use Rattle.rbd_session.specs.Advance.{track_of}
 use Rattle.rbd_session.specs.Lines.{lines_of}
 use Rattle.rbd_session.specs.OnTrack.{LeavesOthers}
+use Rattle.rbd_session.specs.Track.{ended_by}
 use Rattle.rbd_session.specs.Session.{SessionView, IsSoundSession, held_in, own_look_at, running_at, running_in}
 use Rattle.rbd_session.proofs.OwnLooks.{at_own_look}
+use Rattle.rbd_session.proofs.OwnLooksStay.{stays_behind_end}
 use Rattle.rbd_session.proofs.Sound.{no_some, some_same}
 
 -- ---- what a way comes to is what is kept of its slot
@@ -108,6 +112,7 @@ module _ {R : Type 0} (stands : R → Standing) where
         member = look.member;
         found = look.found;
         waits = look.awaits;
+        at_look = at;
       }
 
   -- the request whose way acts waits for its own look
@@ -182,10 +187,11 @@ module _ {R : Type 0} (stands : R → Standing) where
       → LeavesSlots stands slot old new → length new.slots ≡ 65 → new.release ≡ old.release
       → CountsAll (comings_of quiescing.Leaves None a.site (op_of a) f) old.locks new.locks
       → state_in slot new.slots ≡ state_on_way (is_some result) (state_in slot new.slots).way (state_in slot old.slots)
+      → (is_some result ≡ true → (r : Running R) → running_at slot old.session ≡ Some r → lines_of new.session.lines ≡ (ended_by slot (track_of r old.session.lines)).lines)
       → IsSoundClient stands new
-  way_sound slot a f result old new sound session acts comes stays gone leaves slots release counts state =
+  way_sound slot a f result old new sound session acts comes stays gone leaves slots release counts state left =
       sound_behind stands slot a.site (op_of a) f quiescing.Leaves None old new sound session leaves slots (subst IsTelling (sym release) sound.telling) counts (way_rests a.site a old)
-      (free result stays state) (on_way result (state_in slot new.slots).way comes stays) (past result stays gone)
+      (free result stays state) (on_way result (state_in slot new.slots).way comes stays) (past result stays gone) (looks result stays left)
     where
       waiting : WaitsForLook stands slot a.site a.image old.session
       waiting = way_waits slot old a sound acts
@@ -196,6 +202,13 @@ module _ {R : Type 0} (stands : R → Standing) where
       free None stays state none =
           absurd (no_some waiting.request (
           sym (ap running_in (ap (λ (s : SessionView R). held_in slot s.slots) (sym (stays refl)) ∙ none)) ∙ waiting.runs))
+
+      looks : (r : Option Reply) → (is_some r ≡ false → new.session ≡ old.session)
+          → (is_some r ≡ true → (r : Running R) → running_at slot old.session ≡ Some r → lines_of new.session.lines ≡ (ended_by slot (track_of r old.session.lines)).lines)
+          → (k : ℕ) → k ≢ slot → (p : LineAt) → own_look_at stands k old.session ≡ Some p → own_look_at stands k new.session ≡ Some p
+      looks None stays left k differ p at = ap (own_look_at stands k) (stays refl) ∙ at
+      looks (Some x) stays left k differ p at =
+          stays_behind_end stands old.session new.session k slot p sound.session differ (leaves.held k differ) at waiting.request (left refl waiting.request waiting.runs)
 
       kept : new.session ≡ old.session → (site : SiteId) (image : ℕ) → WaitsForLook stands slot site image old.session → WaitsForLook stands slot site image new.session
       kept same site image w = subst (WaitsForLook stands slot site image) (sym same) w
@@ -271,6 +284,7 @@ module _ {R : Type 0} (stands : R → Standing) where
       (λ none. ap (state_in 0) slots ∙ sound.free 0 (ap (λ (s : SessionView R). held_in 0 s.slots) (sym same) ∙ none))
       (subst (λ w. IsWellOnWay stands 0 w new.session new.locks) (sym (ap (λ xs. (state_in 0 xs).way) slots ∙ none_at_first)) tt)
       (λ there image any. inl (ap (λ (s : SessionView R). any_past (lines_of s.lines there image)) (sym same) ∙ any))
+      (λ k differ p at. ap (own_look_at stands k) same ∙ at)
     where
       none_at_first : (state_in 0 old.slots).way ≡ way.Unbegun
       none_at_first = ap (λ (s : SlotState). s.way) (sound.free 0 sound.session.zero)

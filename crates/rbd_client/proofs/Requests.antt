@@ -38,6 +38,7 @@ use Rattle.rbd_session.specs.Lines.{lines_of}
 use Rattle.rbd_session.specs.Session.{SessionView, ComesToIn, IsAtOwnLook, IsFed, IsReadied, IsSoundSession, OfRunning, going_in, held_in, is_look_at, kind_asked, op_asked, op_at, of_going, own_look_at, own_look_in, own_look_of, running_in}
 use Rattle.rbd_session.specs.Waits.{waits, waits_at}
 use Rattle.rbd_session.proofs.OwnLooks.{at_own_look, passes_by_own_look}
+use Rattle.rbd_session.proofs.OwnLooksStay.{stays_behind_feeding}
 use Rattle.rbd_session.proofs.Sound.{no_some, some_same}
 
 -- ---- who acts
@@ -198,6 +199,7 @@ module _ {R : Type 0} (stands : R → Standing) where
         (λ none. state ∙ ap (λ b. state_behind b (is_some (own_look_at stands slot old.session)) (state_in slot old.slots)) (fed_free slot f result old.session new.session is_fed none))
         (subst (λ (s : SlotState). IsWellOnWay stands slot s.way new.session new.locks) (sym state) (way_over slot f old sound acts ready new.session new.locks (is_some result)))
         past
+        (λ k differ p at. stays_behind_feeding stands old.session new.session k slot p sound.session differ (leaves.held k differ) at f result is_fed leaves.lines)
       where
         past : (there : SiteId) (image : ℕ) → any_past (lines_of new.session.lines there image) ≡ true → (any_past (lines_of old.session.lines there image) ≡ true) ⊎ IsOwned there image new.locks
         past there image any =

@@ -12,9 +12,10 @@ use Rattle.rbd_owner.specs.declared.release.Release.{Release}
 use Rattle.rbd_owner.specs.declared.release.Stage.TheVariants as releasing
 use Rattle.rbd_session.specs.declared.running.Running.{Running}
 use Rattle.rbd_session.specs.Lines.{lines_of}
-use Rattle.rbd_session.specs.Session.{SessionView, IsSoundSession, held_in, is_look_at, kind_asked, running_at}
+use Rattle.rbd_session.specs.Session.{SessionView, IsSoundSession, held_in, is_look_at, kind_asked, own_look_at, running_at}
 
--- the request in a slot waits for its own look, in the line of an image, and wants that look
+-- The request in a slot waits for its own look, in the line of an image, and wants that look; and
+-- the line lets it go past.
 pub record WaitsForLook {R : Type 0} (stands : R → Standing) (slot : ℕ) (site : SiteId) (image : ℕ) (s : SessionView R) : Type 0 where
   pub request : Running R
   pub runs : running_at slot s ≡ Some request
@@ -23,6 +24,7 @@ pub record WaitsForLook {R : Type 0} (stands : R → Standing) (slot : ℕ) (sit
   pub member : Member
   pub found : member_of slot (lines_of s.lines site image) ≡ Some member
   pub waits : member.stage ≡ stage.Waiting
+  pub at_look : own_look_at stands slot s ≡ Some (record { site = site; image = image })
 
 abbrev pub IsOwned : SiteId → (image : ℕ) → LocksView → Type 0
 IsOwned site image locks = IsTrue (state_at site image locks).owned

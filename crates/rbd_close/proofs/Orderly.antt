@@ -37,7 +37,7 @@ orderly_close site name = (
   refl,
   λ found can.
       orderly_on_id None starts beginning (joining site) (λ image.
-      ((refl, refl), (at_itself site image, (refl, λ a can. orderly_on_dropped site image a)))) found,
+      ((refl, refl), ((at_itself site image, refl), (refl, λ a can. orderly_on_dropped site image a)))) found,
 )
 
 orderly_plan : (site : SiteId) (c : Command) → IsOrderly None starts true beginning (close_plan site c)

@@ -89,7 +89,7 @@ module _ (e : Option Extent) (at : Label → Course) where
             orderly_on_header image (answered e (course_at alone s image stage.Joined) s (op.Header image header.Get)) (steps.looked s refuses act image) (λ h form.
                 subst (λ c. IsOrderly e at true c (steps.looked s refuses act image h)) (sym (first_told e alone s image h))
                 (orderly_unless (course_at alone s image stage.Joined) (refuses h) (steps.holding s refuses act image) (λ may_wait. (
-                  at_itself s image,
+                  (at_itself s image, refl),
                   (
                     refl,
                     orderly_on_header image (answered e (course_at alone s image stage.Waiting) s (op.Header image header.Get)) (steps.owned refuses act image) (λ own form.

@@ -58,6 +58,15 @@ abbrev pub is_waiting : Stage → Bool
 is_waiting stage.Waiting = true
 is_waiting _ = false
 
+abbrev pub has_just_joined : Stage → Bool
+has_just_joined stage.Joined = true
+has_just_joined _ = false
+
+-- it has just joined its line, and waits for nothing there yet
+abbrev pub is_newcomer_at : Option Place → Bool
+is_newcomer_at None = false
+is_newcomer_at (Some p) = has_just_joined p.stage
+
 -- its next look at the image's header is its own
 abbrev pub is_own_at : SiteId → (image : ℕ) → Option Place → Bool
 is_own_at site image None = false

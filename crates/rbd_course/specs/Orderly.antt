@@ -1,6 +1,6 @@
 -- Requests that keep to their line: what they may wait for where.
 use Rattle.std.specs.Prelude.{◌≡◌, ℕ, Bool, true, false, List, [], ◌∷◌, Option, Some, None}
-use Rattle.rbd_course.specs.Course.{Course, Place, answered, waited, noted, behind}
+use Rattle.rbd_course.specs.Course.{Course, Place, answered, waited, noted, behind, is_newcomer_at}
 use Rattle.rbd_kinds.specs.declared.answer.Answer.{Answer}
 use Rattle.rbd_kinds.specs.declared.id.SiteId.{SiteId}
 use Rattle.rbd_kinds.specs.declared.layout.Extent.{Extent}
@@ -21,12 +21,12 @@ abbrev pub BeginsWith : (object : ℕ) → List ℕ → Type 0
 BeginsWith object [] = ⊥
 BeginsWith object (first ∷ objects) = object ≡ first
 
--- It joins one line at a time, as the first thing behind an answer; it waits for a lock and leaves
--- where it is in the line; and it takes its turns at the objects that it has tickets for, in their
--- order.
+-- It joins one line at a time, as the first thing behind an answer; it waits for a lock where it is
+-- in the line, once, before anything else there, and leaves where it is in the line; and it takes its
+-- turns at the objects that it has tickets for, in their order.
 abbrev pub MayWait : (answered : Bool) → Course → Wait → Type 0
 MayWait fresh c (wait.Join site image alone) = (fresh ≡ true) × (c.place ≡ None)
-MayWait fresh c (wait.Hold site image) = IsInLine site image c.place
+MayWait fresh c (wait.Hold site image) = IsInLine site image c.place × (is_newcomer_at c.place ≡ true)
 MayWait fresh c (wait.Turn object) = BeginsWith object (behind c.turn c.objects)
 MayWait fresh c (wait.Applied site image) = IsInLine site image c.place
 MayWait fresh c (wait.Leave site image) = IsInLine site image c.place

@@ -1,8 +1,8 @@
 -- What a request knows goes with its place, whatever it is answered and waits for.
 use Rattle.std.proofs.Common.{◌≡◌, ℕ, ◌&&◌, cond, Bool, true, false, Option, Some, None, option_map, refl, sym, ap, ◌∙◌, subst}
-use Rattle.std.specs.Prelude.{IsSome}
-use Rattle.std.proofs.lemmas.Bool.{true≢false}
-use Rattle.rbd_course.specs.Course.{Course, Place, answered, waited, noted, looked, past, is_own_at, is_waiting, held_stage}
+use Rattle.std.specs.Prelude.{IsSome, is_some}
+use Rattle.std.proofs.lemmas.Bool.{true≢false, and_parts}
+use Rattle.rbd_course.specs.Course.{Course, Place, answered, waited, noted, looked, past, is_newcomer_at, is_own_at, is_waiting, has_just_joined, held_stage}
 use Rattle.rbd_course.specs.Course as course
 use Rattle.rbd_course.specs.Orderly.{IsInLine, MayWait}
 use Rattle.rbd_course.specs.declared.stage.Stage.{Stage}
@@ -25,7 +25,7 @@ use Rattle.rbd_machine.specs.Knowledge.{Knowledge, Own, own_of, is_at, told_of, 
 use Rattle.rbd_machine.specs.Wait.{Wait}
 use Rattle.rbd_machine.specs.Wait as wait
 use Rattle.rbd_session.proofs.Sound.{no_some, some_same}
-use Rattle.rbd_known.specs.Tied.{IsTied, OwnsAt, OwnsIn, has_just_joined}
+use Rattle.rbd_known.specs.Tied.{IsTied, OwnsAt, OwnsIn}
 use Rattle.rbd_known.proofs.Owned.{meets, at_through, own_there, own_told, from_told, left_before}
 
 -- ---- stages
@@ -45,43 +45,65 @@ held_past stage.Joined is = is
 held_past stage.Waiting is = is
 held_past stage.Past is = is
 
+-- a newcomer that waits isn't past
+held_behind : (s : Stage) → has_just_joined s ≡ true → is_past (held_stage s) ≡ true → ⊥
+held_behind stage.Joined joined past = true≢false (sym past)
+held_behind stage.Waiting joined past = true≢false (sym joined)
+held_behind stage.Past joined past = true≢false (sym joined)
+
 -- ---- what it is told of the image that it owns
 
 told_alone : (change : Option HeaderView → Option HeaderView) (o : Own) (b : Bool) → (cond b (with_header change o) o).alone ≡ o.alone
 told_alone change o true = refl
 told_alone change o false = refl
 
+first_some : (h : HeaderView) (known : Option HeaderView) → is_some (first_told h known) ≡ true
+first_some h None = refl
+first_some h (Some own) = refl
+
 module _ (site : SiteId) (image : ℕ) (o : Own) where
   -- an edit of a header that it knows
   edited_in : (s : SiteId) (i : ℕ) (change : Option HeaderView → Option HeaderView) → ((h : Option HeaderView) → IsSome (change h) → IsSome h)
+      → ((h : Option HeaderView) → IsSome h → IsSome (change h))
       → (place : Option Place) → OwnsIn site image o place → OwnsIn site image (told_of s i change o) place
-  edited_in s i change keeps None owns = owns
-  edited_in s i change keeps (Some p) owns = by (is_at s i o.site o.image)
+  edited_in s i change keeps makes None owns = owns
+  edited_in s i change keeps makes (Some p) owns = by (is_at s i o.site o.image)
     where
       by : (b : Bool) → OwnsAt site image (cond b (with_header change o) o) p
-      by true = record { there = owns.there; alone = owns.alone; waits = owns.waits; past = λ some. owns.past (keeps o.header some) }
+      by true = record {
+        there = owns.there;
+        alone = owns.alone;
+        waits = owns.waits;
+        past = λ some. owns.past (keeps o.header some);
+        told = λ past. makes o.header (owns.told past);
+      }
       by false = owns
 
   -- at its own look it is past it
-  looked_in : (s : SiteId) (i : ℕ) (change : Option HeaderView → Option HeaderView) (place : Option Place) → OwnsIn site image o place → OwnsIn site image (told_of s i change o) (past place)
-  looked_in s i change None owns = owns
-  looked_in s i change (Some p) owns = record {
+  looked_in : (s : SiteId) (i : ℕ) (h : HeaderView) (place : Option Place) → is_own_at s i place ≡ true → is_at site image o.site o.image ≡ true → OwnsIn site image o place
+      → OwnsIn site image (told_of s i (first_told h) o) (past place)
+  looked_in s i h None own there owns = owns
+  looked_in s i h (Some p) own there owns = record {
     there = owns.there;
-    alone = told_alone change o (is_at s i o.site o.image) ∙ owns.alone;
+    alone = told_alone (first_told h) o (is_at s i o.site o.image) ∙ owns.alone;
     waits = refl;
     past = λ some. refl;
+    told = λ past. ap (λ b. is_some (cond b (with_header (first_told h) o) o).header) here ∙ first_some h o.header;
   }
+    where
+      here : is_at s i o.site o.image ≡ true
+      here = at_through s site o.site i image o.image (meets s site p.site i image p.image (and_parts (is_at s i p.site p.image) (is_waiting p.stage) own).0 owns.there) there
 
   -- another look tells of the image only where it is past its own
-  seen_in : (s : SiteId) (i : ℕ) (change : Option HeaderView → Option HeaderView) (place : Option Place) → is_own_at s i place ≡ false → is_at site image o.site o.image ≡ true
-      → OwnsIn site image o place → OwnsIn site image (told_of s i change o) place
-  seen_in s i change None other there owns = owns
-  seen_in s i change (Some p) other there owns = by (is_at s i o.site o.image) refl
+  seen_in : (s : SiteId) (i : ℕ) (h : HeaderView) (place : Option Place) → is_own_at s i place ≡ false → is_at site image o.site o.image ≡ true
+      → OwnsIn site image o place → OwnsIn site image (told_of s i (first_told h) o) place
+  seen_in s i h None other there owns = owns
+  seen_in s i h (Some p) other there owns = by (is_at s i o.site o.image) refl
     where
       not_waiting : is_at s i p.site p.image ≡ true → is_waiting p.stage ≡ false
       not_waiting here = sym (ap (λ b. b && is_waiting p.stage) here) ∙ other
 
-      by : (b : Bool) → is_at s i o.site o.image ≡ b → OwnsAt site image (cond b (with_header change o) o) p
+      by : (b : Bool) → is_at s i o.site o.image ≡ b → OwnsAt site image (cond b (with_header (first_told h) o) o) p
       by false elsewhere = owns
       by true here =
           let at_place : is_at s i p.site p.image ≡ true =
@@ -91,6 +113,7 @@ module _ (site : SiteId) (image : ℕ) (o : Own) where
             alone = owns.alone;
             waits = owns.waits;
             past = λ some. past_else p.stage owns.waits (not_waiting at_place);
+            told = λ past. first_some h o.header;
           }
 
 -- ---- answers
@@ -98,6 +121,10 @@ module _ (site : SiteId) (image : ℕ) (o : Own) where
 of_edit : (edit : HeaderView → HeaderView) (h : Option HeaderView) → IsSome (option_map edit h) → IsSome h
 of_edit edit None some = some
 of_edit edit (Some h) some = refl
+
+by_edit : (edit : HeaderView → HeaderView) (h : Option HeaderView) → IsSome h → IsSome (option_map edit h)
+by_edit edit None some = some
+by_edit edit (Some h) some = refl
 
 past_alone : (k : Knowledge) (place : Option Place) (p : Place) → ((q : Place) → place ≡ Some q → k.alone ≡ q.alone) → past place ≡ Some p → k.alone ≡ p.alone
 past_alone k None p alone is = absurd (no_some p is)
@@ -113,25 +140,26 @@ module _ (e : Option Extent) (k : Knowledge) (c : Course) (t : IsTied k c) where
 
   edited_tied : (s : SiteId) (i : ℕ) (edit : HeaderView → HeaderView) → IsTied (header_told s i (option_map edit) k) c
   edited_tied s i edit = record {
-    owns = told_owns s i (option_map edit) c.place (λ site image o is. edited_in site image o s i (option_map edit) (of_edit edit) c.place (t.owns site image o is));
+    owns = told_owns s i (option_map edit) c.place (λ site image o is. edited_in site image o s i (option_map edit) (of_edit edit) (by_edit edit) c.place (t.owns site image o is));
     alone = t.alone;
   }
 
-  looked_tied : (s : SiteId) (i : ℕ) (h : HeaderView) → IsTied (header_told s i (first_told h) k) (looked e h c)
-  looked_tied s i h = record {
-    owns = told_owns s i (first_told h) (past c.place) (λ site image o is. looked_in site image o s i (first_told h) c.place (t.owns site image o is));
+  looked_tied : (s : SiteId) (i : ℕ) (h : HeaderView) → is_own_at s i c.place ≡ true → IsTied (header_told s i (first_told h) k) (looked e h c)
+  looked_tied s i h own = record {
+    owns = told_owns s i (first_told h) (past c.place)
+        (λ site image o is. looked_in site image o s i h c.place own (own_there k.owns site image o is) (t.owns site image o is));
     alone = λ p is. past_alone k c.place p t.alone is;
   }
 
   seen_tied : (s : SiteId) (i : ℕ) (h : HeaderView) → is_own_at s i c.place ≡ false → IsTied (header_told s i (first_told h) k) c
   seen_tied s i h other = record {
     owns = told_owns s i (first_told h) c.place
-        (λ site image o is. seen_in site image o s i (first_told h) c.place other (own_there k.owns site image o is) (t.owns site image o is));
+        (λ site image o is. seen_in site image o s i h c.place other (own_there k.owns site image o is) (t.owns site image o is));
     alone = t.alone;
   }
 
   got_tied : (s : SiteId) (i : ℕ) (h : HeaderView) (b : Bool) → is_own_at s i c.place ≡ b → IsTied (header_told s i (first_told h) k) (cond b (looked e h c) c)
-  got_tied s i h true own = looked_tied s i h
+  got_tied s i h true own = looked_tied s i h own
   got_tied s i h false other = seen_tied s i h other
 
   header_tied : (s : SiteId) (i : ℕ) (o : HeaderOp) (a : Answer) → IsTied (learned_of_header k s i o a) (answered e c s (op.Header i o) a)
@@ -170,30 +198,33 @@ module _ (k : Knowledge) (c : Course) (t : IsTied k c) (site : SiteId) (image : 
   waiting = record { site = site; image = image; alone = k.alone; header = None }
 
   -- the image whose lock it waits for is that of its line
-  waiting_in : (s : SiteId) (i : ℕ) → is_at s i site image ≡ true → (place : Option Place) → c.place ≡ place → IsInLine site image place → OwnsIn s i waiting (course.held place)
-  waiting_in s i here None is in_line = in_line
-  waiting_in s i here (Some p) is in_line = record {
+  waiting_in : (s : SiteId) (i : ℕ) → is_at s i site image ≡ true → (place : Option Place) → c.place ≡ place → IsInLine site image place → is_newcomer_at place ≡ true
+      → OwnsIn s i waiting (course.held place)
+  waiting_in s i here None is in_line new = in_line
+  waiting_in s i here (Some p) is in_line new = record {
     there = at_through s site p.site i image p.image here in_line;
     alone = t.alone p is;
     waits = held_waits p.stage;
     past = λ some. absurd (true≢false (sym some));
+    told = λ past. absurd (held_behind p.stage new past);
   }
 
-  still_in : (s : SiteId) (i : ℕ) (o : Own) (place : Option Place) → OwnsIn s i o place → OwnsIn s i o (course.held place)
-  still_in s i o None owns = owns
-  still_in s i o (Some p) owns = record {
+  still_in : (s : SiteId) (i : ℕ) (o : Own) (place : Option Place) → is_newcomer_at place ≡ true → OwnsIn s i o place → OwnsIn s i o (course.held place)
+  still_in s i o None new owns = owns
+  still_in s i o (Some p) new owns = record {
     there = owns.there;
     alone = owns.alone;
     waits = held_waits p.stage;
     past = λ some. held_past p.stage (owns.past some);
+    told = λ past. absurd (held_behind p.stage new past);
   }
 
-  held_owns : IsInLine site image c.place → (s : SiteId) (i : ℕ) (o : Own) → own_of (held k site image) s i ≡ Some o → OwnsIn s i o (course.held c.place)
-  held_owns in_line s i o is = by (is_at s i site image) refl is
+  held_owns : IsInLine site image c.place → is_newcomer_at c.place ≡ true → (s : SiteId) (i : ℕ) (o : Own) → own_of (held k site image) s i ≡ Some o → OwnsIn s i o (course.held c.place)
+  held_owns in_line new s i o is = by (is_at s i site image) refl is
     where
       by : (b : Bool) → is_at s i site image ≡ b → cond b (Some waiting) (own_of (left site image k.owns) s i) ≡ Some o → OwnsIn s i o (course.held c.place)
-      by true here found = subst (λ x. OwnsIn s i x (course.held c.place)) (some_same waiting o found) (waiting_in s i here c.place refl in_line)
-      by false other found = still_in s i o c.place (t.owns s i o (left_before site s image i k.owns o found).0)
+      by true here found = subst (λ x. OwnsIn s i x (course.held c.place)) (some_same waiting o found) (waiting_in s i here c.place refl in_line new)
+      by false other found = still_in s i o c.place new (t.owns s i o (left_before site s image i k.owns o found).0)
 
   held_alone : (place : Option Place) (p : Place) → c.place ≡ place → course.held place ≡ Some p → k.alone ≡ p.alone
   held_alone None p at is = absurd (no_some p is)
@@ -215,7 +246,7 @@ waited_tied fresh k c (wait.Join site image alone) may t = record {
   alone = λ p is. ap (λ (x : Place). x.alone) (some_same (record { site = site; image = image; alone = alone; stage = stage.Joined }) p is);
 }
 waited_tied fresh k c (wait.Hold site image) may t = record {
-  owns = held_owns k c t site image may;
+  owns = held_owns k c t site image may.0 may.1;
   alone = λ p is. held_alone k c t site image c.place p refl is;
 }
 waited_tied fresh k c (wait.Turn object) may t = record { owns = t.owns; alone = t.alone }

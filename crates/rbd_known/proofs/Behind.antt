@@ -83,7 +83,7 @@ module _ {R : Type 0} (stands : R → Standing) where
 
   -- ---- the others
 
-  others_know : (slot : ℕ) (o : Option (Running R)) (old new : LinesView) (k : Knowledge)
+  pub others_know : (slot : ℕ) (o : Option (Running R)) (old new : LinesView) (k : Knowledge)
       → ((site : SiteId) (image : ℕ) → member_of slot (lines_of new site image) ≡ member_of slot (lines_of old site image)) → KnowsIn stands slot o old k → KnowsIn stands slot o new k
   others_know slot None old new k same knows = knows
   others_know slot (Some r) old new k same knows = record {

@@ -7,3 +7,4 @@ pub mod Newcomers
 pub mod Onward
 pub mod Owned
 pub mod Unowned
+pub mod Wanting

@@ -17,9 +17,9 @@ still_true site r me (Note there image event next) k t = still_true site r me ne
 still_true site r me (Return reply) k t = t
 still_true site r me (Goto label) k t = t
 
-pub still_beside : (site : SiteId) (j : Knowledge) (plan : Plan) (k : Knowledge) → AreBeside site k j → AreBeside site (known_at_operation k plan) j
-still_beside site j (Ask there why op next) k beside = beside
-still_beside site j (Await w next) k beside = still_beside site j next (passed k w) (waited_beside site k j beside w)
-still_beside site j (Note there image event next) k beside = still_beside site j next k beside
-still_beside site j (Return reply) k beside = beside
-still_beside site j (Goto label) k beside = beside
+pub still_beside : (site : SiteId) (r : Records) (me you : Instance) (j : Knowledge) (plan : Plan) (k : Knowledge) → AreBeside site r me you k j → AreBeside site r me you (known_at_operation k plan) j
+still_beside site r me you j (Ask there why op next) k beside = beside
+still_beside site r me you j (Await w next) k beside = still_beside site r me you j next (passed k w) (waited_beside site r me you k j beside w)
+still_beside site r me you j (Note there image event next) k beside = still_beside site r me you j next k beside
+still_beside site r me you j (Return reply) k beside = beside
+still_beside site r me you j (Goto label) k beside = beside

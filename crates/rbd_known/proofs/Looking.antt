@@ -3,10 +3,11 @@ use Rattle.std.proofs.Common.{◌≡◌, ◌≢◌, inl, inr, ℕ, ◌&&◌, not
 use Rattle.std.specs.Prelude.{IsSome}
 use Rattle.std.specs.Option.{option_map}
 use Rattle.std.proofs.lemmas.Bool.{true≢false, or_parts}
-use Rattle.rbd_course.specs.Course.{is_waiting}
+use Rattle.rbd_course.specs.Course.{is_waiting, has_just_joined}
 use Rattle.rbd_course.specs.declared.stage.Stage.{Stage}
 use Rattle.rbd_course.specs.declared.stage.Stage.TheVariants as stage
 use Rattle.rbd_kinds.specs.declared.header_op.HeaderOp.TheVariants as header
+use Rattle.rbd_kinds.specs.declared.id.Instance.{Instance}
 use Rattle.rbd_kinds.specs.declared.id.SiteId.{SiteId}
 use Rattle.rbd_kinds.specs.declared.operation.Op.{Op}
 use Rattle.rbd_kinds.specs.declared.operation.Op.TheVariants as op
@@ -27,8 +28,9 @@ use Rattle.rbd_session.specs.Waits.{waits, awaits_line, awaits_turn, is_at_own}
 use Rattle.rbd_session.proofs.Members.{at_own_slot}
 use Rattle.rbd_session.proofs.Sound.{no_some}
 use Rattle.rbd_session.proofs.Way.{nowhere_course, place_there}
+use Rattle.rbd_site.specs.Records.{Records}
 use Rattle.rbd_known.specs.Knowing.{KnowsIn, AllKnow}
-use Rattle.rbd_known.specs.Tied.{OwnsIn, has_just_joined}
+use Rattle.rbd_known.specs.Tied.{OwnsIn}
 use Rattle.rbd_known.proofs.Behind.{knows_there}
 
 -- ---- in one line
@@ -54,7 +56,7 @@ both_shared line slot other m n fair differ here there past behind =
     )
 
 -- one that may pass is as one that is past
-may_shared : (line : List Member) (slot other : ℕ) (m n : Member) → IsFairLine line → slot ≢ other → member_of slot line ≡ Some m → member_of other line ≡ Some n
+pub may_shared : (line : List Member) (slot other : ℕ) (m n : Member) → IsFairLine line → slot ≢ other → member_of slot line ≡ Some m → member_of other line ≡ Some n
     → may_pass slot line ≡ true → is_past n.stage ≡ true → (m.alone ≡ false) × (n.alone ≡ false)
 may_shared line slot other m n fair differ here there may behind =
     both_shared (changed slot passed line) slot other (passed m) n (passed_fair slot line fair may) differ
@@ -65,7 +67,7 @@ may_shared line slot other m n fair differ here there may behind =
 -- ---- where they are
 
 -- who owns an image is a member of its line
-record IsMemberFor (slot : ℕ) (site : SiteId) (image : ℕ) (o : Own) (t : Track) : Type 0 where
+pub record IsMemberFor (slot : ℕ) (site : SiteId) (image : ℕ) (o : Own) (t : Track) : Type 0 where
   pub member : Member
   pub found : member_of slot (t.lines site image) ≡ Some member
   pub line : line_in t.place t.lines ≡ t.lines site image
@@ -73,6 +75,7 @@ record IsMemberFor (slot : ℕ) (site : SiteId) (image : ℕ) (o : Own) (t : Tra
   pub alone : o.alone ≡ member.alone
   pub waits : has_just_joined member.stage ≡ false
   pub past : IsSome o.header → is_past member.stage ≡ true
+  pub told : is_past member.stage ≡ true → IsSome o.header
 
 owner_there : (slot : ℕ) (site : SiteId) (image : ℕ) (o : Own) (t : Track) → IsSomewhere slot t → OwnsIn site image o (course_of slot t).place → IsMemberFor slot site image o t
 owner_there slot site image o t (inl nowhere) owns = absurd (subst (OwnsIn site image o) (nowhere_course slot t nowhere) owns)
@@ -90,11 +93,12 @@ owner_there slot site image o t (inr (p, m, there)) owns =
       alone = at.alone;
       waits = at.waits;
       past = at.past;
+      told = at.told;
     }
 
 -- ---- who doesn't wait
 
-may_of : (own may : Bool) → own ≡ true → (own && not may) ≡ false → may ≡ true
+pub may_of : (own may : Bool) → own ≡ true → (own && not may) ≡ false → may ≡ true
 may_of true true is waits = refl
 may_of true false is waits = absurd (true≢false waits)
 may_of false may is waits = absurd (true≢false (sym is))
@@ -121,13 +125,13 @@ module _ (slot other : ℕ) (site : SiteId) (image : ℕ) (o p : Own) (t u : Tra
 
 module _ {R : Type 0} (stands : R → Standing) (s : SessionView R) (knows : ℕ → Knowledge) (sound : IsSoundSession stands s) (all : AllKnow stands knows s) where
   -- the own of a request that runs
-  owner_runs : (slot : ℕ) (r : Running R) → running_at slot s ≡ Some r → (site : SiteId) (image : ℕ) (o : Own) → own_of (knows slot).owns site image ≡ Some o
+  pub owner_runs : (slot : ℕ) (r : Running R) → running_at slot s ≡ Some r → (site : SiteId) (image : ℕ) (o : Own) → own_of (knows slot).owns site image ≡ Some o
       → IsMemberFor slot site image o (track_of r s.lines)
   owner_runs slot r runs site image o is =
       owner_there slot site image o (track_of r s.lines) (sound.runs slot r runs).somewhere ((knows_there stands s knows slot r runs all).tied.owns site image o is)
 
   -- who owns anything runs
-  runs_who_owns : (slot : ℕ) (site : SiteId) (image : ℕ) (o : Own) → own_of (knows slot).owns site image ≡ Some o → (r : Running R) × (running_at slot s ≡ Some r)
+  pub runs_who_owns : (slot : ℕ) (site : SiteId) (image : ℕ) (o : Own) → own_of (knows slot).owns site image ≡ Some o → (r : Running R) × (running_at slot s ≡ Some r)
   runs_who_owns slot site image o is = by (running_at slot s) refl (all slot)
     where
       by : (q : Option (Running R)) → running_at slot s ≡ q → KnowsIn stands slot q s.lines (knows slot) → (r : Running R) × (running_at slot s ≡ Some r)
@@ -147,13 +151,13 @@ module _ {R : Type 0} (stands : R → Standing) (s : SessionView R) (knows : ℕ
     header_shared (Some o) None is that some told = absurd (true≢false (sym told))
     header_shared (Some o) (Some p) is that some told = owners_shared o p is that told
 
-    lock_shared : SharesLock site image (knows slot) (knows other)
-    lock_shared some told =
+    lock_shared : (records : Records) (me you : Instance) → SharesLock site image records me you (knows slot) (knows other)
+    lock_shared records me you free some told =
         let shared = header_shared (own_of (knows slot).owns site image) (own_of (knows other).owns site image) refl refl some told in
         record { one = shared.0; other = shared.1 }
 
   pub may_look : (slot other : ℕ) (r : Running R) (site : SiteId) (o : Op) → slot ≢ other → running_at slot s ≡ Some r → waits slot (track_of r s.lines) ≡ false
-      → MayLook site (knows slot) (knows other) o
-  may_look slot other r site (op.Header image header.Get) differ runs goes = lock_shared slot other differ r runs goes site image
-  may_look slot other r site (op.Header image header.LockDrop) differ runs goes = lock_shared slot other differ r runs goes site image
-  may_look slot other r site _ differ runs goes = tt
+      → (records : Records) (me you : Instance) → MayLook site records me you (knows slot) (knows other) o
+  may_look slot other r site (op.Header image header.Get) differ runs goes records me you = lock_shared slot other differ r runs goes site image records me you
+  may_look slot other r site (op.Header image header.LockDrop) differ runs goes records me you = λ lock. lock_shared slot other differ r runs goes site image records me you
+  may_look slot other r site _ differ runs goes records me you = tt

@@ -69,7 +69,7 @@ module _ (slot : ℕ) (e : Option Extent) (fresh : Bool) (s : Standing) (t : Tra
   waited_course : (w : Wait) → MayWait fresh (course_of slot t) w → course_of slot (waited_by slot t w) ≡ waited (course_of slot t) w
   waited_course (wait.Join site image alone) may = joined_course site image alone may.1 on.somewhere
   waited_course (wait.Turn object) may = turned_course object may on.somewhere
-  waited_course (wait.Hold site image) may = let (p, m, there) = in_line_there slot t site image on.somewhere may in course_held slot p m t there site image
+  waited_course (wait.Hold site image) may = let (p, m, there) = in_line_there slot t site image on.somewhere may.0 in course_held slot p m t there site image
   waited_course (wait.Applied site image) may = let (p, m, there) = in_line_there slot t site image on.somewhere may in course_applied slot p m t there site image
   waited_course (wait.Leave site image) may = course_left slot t site image
 

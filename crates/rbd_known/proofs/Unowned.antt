@@ -23,6 +23,7 @@ use Rattle.rbd_machine.specs.Path.{at_operation}
 use Rattle.rbd_machine.specs.Plan.{Plan, Ask, Await, Note, Return, Goto, plan_after}
 use Rattle.rbd_rely.specs.Beside.{AreBeside, MayLook, SharesLock}
 use Rattle.rbd_rely.specs.Truth.{header_of_own}
+use Rattle.rbd_site.specs.Records.{Records}
 use Rattle.rbd_known.specs.Calm.{IsCalm, OwnsNothing}
 use Rattle.rbd_known.specs.Knowing.{known_at_operation, known_behind}
 use Rattle.rbd_known.proofs.Owned.{own_told}
@@ -94,24 +95,25 @@ module _ (labels : Label → Plan) (there : (label : Label) → IsCalm (labels l
 
 -- ---- beside others
 
-pub calm_beside : (site : SiteId) (k j : Knowledge) → OwnsNothing k → ((image : ℕ) → is_drawn k.drawn site image ≡ true → is_drawn j.drawn site image ≡ false) → AreBeside site k j
-calm_beside site k j none apart = record {
-  shared = λ image mine others. absurd (true≢false (sym mine ∙ ap (λ q. is_some (header_of_own q)) (none site image)));
-  apart = apart;
-}
+module _ (site : SiteId) (r : Records) (me you : Instance) (k j : Knowledge) where
+  pub calm_beside : OwnsNothing k → ((image : ℕ) → is_drawn k.drawn site image ≡ true → is_drawn j.drawn site image ≡ false) → AreBeside site r me you k j
+  calm_beside none apart = record {
+    shared = λ free image mine others. absurd (true≢false (sym mine ∙ ap (λ q. is_some (header_of_own q)) (none site image)));
+    apart = apart;
+  }
 
-calm_shares : (site : SiteId) (k j : Knowledge) (image : ℕ) → OwnsNothing k → SharesLock site image k j
-calm_shares site k j image none = λ some told. absurd (true≢false (sym some ∙ ap is_some (none site image)))
+  calm_shares : (image : ℕ) → OwnsNothing k → SharesLock site image r me you k j
+  calm_shares image none = λ free some told. absurd (true≢false (sym some ∙ ap is_some (none site image)))
 
-pub calm_looks : (site : SiteId) (k j : Knowledge) (o : Op) → OwnsNothing k → MayLook site k j o
-calm_looks site k j (op.Header image header.Get) none = calm_shares site k j image none
-calm_looks site k j (op.Header image header.LockDrop) none = calm_shares site k j image none
-calm_looks site k j _ none = tt
+  pub calm_looks : (o : Op) → OwnsNothing k → MayLook site r me you k j o
+  calm_looks (op.Header image header.Get) none = calm_shares image none
+  calm_looks (op.Header image header.LockDrop) none = λ lock. calm_shares image none
+  calm_looks _ none = tt
 
-shares_with_calm : (site : SiteId) (k j : Knowledge) (image : ℕ) → OwnsNothing j → SharesLock site image k j
-shares_with_calm site k j image none = λ some told. absurd (true≢false (sym told ∙ ap (λ q. is_some (header_of_own q)) (none site image)))
+  shares_with_calm : (image : ℕ) → OwnsNothing j → SharesLock site image r me you k j
+  shares_with_calm image none = λ free some told. absurd (true≢false (sym told ∙ ap (λ q. is_some (header_of_own q)) (none site image)))
 
-pub looked_beside_calm : (site : SiteId) (k j : Knowledge) (o : Op) → OwnsNothing j → MayLook site k j o
-looked_beside_calm site k j (op.Header image header.Get) none = shares_with_calm site k j image none
-looked_beside_calm site k j (op.Header image header.LockDrop) none = shares_with_calm site k j image none
-looked_beside_calm site k j _ none = tt
+  pub looked_beside_calm : (o : Op) → OwnsNothing j → MayLook site r me you k j o
+  looked_beside_calm (op.Header image header.Get) none = shares_with_calm image none
+  looked_beside_calm (op.Header image header.LockDrop) none = λ lock. shares_with_calm image none
+  looked_beside_calm _ none = tt

@@ -1,23 +1,18 @@
 -- What a request knows goes with where it stands in its line.
-use Rattle.std.specs.Prelude.{◌≡◌, ℕ, Bool, true, false, Option, Some, None, IsSome}
-use Rattle.rbd_course.specs.Course.{Course, Place}
-use Rattle.rbd_course.specs.declared.stage.Stage.{Stage}
-use Rattle.rbd_course.specs.declared.stage.Stage.TheVariants as stage
+use Rattle.std.specs.Prelude.{◌≡◌, ℕ, true, false, Option, Some, None, IsSome}
+use Rattle.rbd_course.specs.Course.{Course, Place, has_just_joined}
 use Rattle.rbd_kinds.specs.declared.id.SiteId.{SiteId}
 use Rattle.rbd_line.specs.Line.{is_past}
 use Rattle.rbd_machine.specs.Knowledge.{Knowledge, Own, own_of, is_at}
 
-abbrev pub has_just_joined : Stage → Bool
-has_just_joined stage.Joined = true
-has_just_joined _ = false
-
 -- It is in this image's line, alone there exactly where it owns alone, and waits for its own look
--- or is past it. A header that it knows was told by that look: it is past it.
+-- or is past it. It is past it exactly where it knows the header, which that look told.
 pub record OwnsAt (site : SiteId) (image : ℕ) (o : Own) (p : Place) : Type 0 where
   pub there : is_at site image p.site p.image ≡ true
   pub alone : o.alone ≡ p.alone
   pub waits : has_just_joined p.stage ≡ false
   pub past : IsSome o.header → is_past p.stage ≡ true
+  pub told : is_past p.stage ≡ true → IsSome o.header
 
 abbrev pub OwnsIn : SiteId → (image : ℕ) → Own → Option Place → Type 0
 OwnsIn site image o None = ⊥

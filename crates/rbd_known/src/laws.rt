@@ -59,7 +59,7 @@ pub fn who_may_go_on_may_look<R: Request>()
     ensures { (s : SessionView R) (slot other : ℕ) (r : Running R) (knows : ℕ → Knowledge) (site : Site) (why : Reason) (op : Op) (next : Answer → Plan)
         → IsSoundSession R.stands s → AllKnow R.stands knows s → slot ≢ other
         → running_at slot s ≡ Some r → waits slot (track_of r s.lines) ≡ false → (R.stands r.request).plan ≡ Ask site why op next
-        → MayLook site (knows slot) (knows other) op }
+        → (r : Records) (me you : Instance) → MayLook site r me you (knows slot) (knows other) op }
 {}
 
 /// What a request knows at its next operation is lawful for it to go by, and is true and beside
@@ -68,7 +68,7 @@ pub fn waits_change_little()
     ensures lawful { (labels : Label → Plan) (known_at : Label → Knowledge) → ((label : Label) → IsLawful known_at (known_at label) (labels label))
         → (k : Knowledge) (plan : Plan) → IsLawful known_at k plan → IsLawful known_at (known_at_operation k plan) (at_operation labels plan) }
     ensures truth { (site : Site) (r : Records) (me : Instance) (k : Knowledge) (plan : Plan) → IsTrueAt site r me k → IsTrueAt site r me (known_at_operation k plan) }
-    ensures beside { (site : Site) (k j : Knowledge) (plan : Plan) → AreBeside site k j → AreBeside site (known_at_operation k plan) j }
+    ensures beside { (site : Site) (r : Records) (me you : Instance) (k j : Knowledge) (plan : Plan) → AreBeside site r me you k j → AreBeside site r me you (known_at_operation k plan) j }
 {}
 
 /// A request that waits for nothing owns nothing, and so is beside each other one that drew no id
@@ -81,10 +81,10 @@ pub fn calm_requests_own_nothing()
     ensures stays { (labels : Label → Plan) (plan : Plan) (f : Fed)
         → IsCalmRequest (record { labels = labels; plan = plan }) → CanBeFed plan f
         → IsCalmRequest (record { labels = labels; plan = at_operation labels (plan_after plan f) }) }
-    ensures beside { (site : Site) (k j : Knowledge) → OwnsNothing k
-        → ((image : ℕ) → is_drawn k.drawn site image ≡ true → is_drawn j.drawn site image ≡ false) → AreBeside site k j }
-    ensures looks { (site : Site) (k j : Knowledge) (op : Op) → OwnsNothing k → MayLook site k j op }
-    ensures looked_beside { (site : Site) (k j : Knowledge) (op : Op) → OwnsNothing j → MayLook site k j op }
+    ensures beside { (site : Site) (r : Records) (me you : Instance) (k j : Knowledge) → OwnsNothing k
+        → ((image : ℕ) → is_drawn k.drawn site image ≡ true → is_drawn j.drawn site image ≡ false) → AreBeside site r me you k j }
+    ensures looks { (site : Site) (r : Records) (me you : Instance) (k j : Knowledge) (op : Op) → OwnsNothing k → MayLook site r me you k j op }
+    ensures looked_beside { (site : Site) (r : Records) (me you : Instance) (k j : Knowledge) (op : Op) → OwnsNothing j → MayLook site r me you k j op }
 {}
 
 /// Only a `write`, a `fill`, a `snap create` and a `snap rm` wait for anything.

@@ -121,12 +121,12 @@ module _ (s t : SiteId) (differ : same_site s t ≡ false) where
         fenced = λ i known. holds.fenced i (same.fenced i known);
       }
 
-  pub beside_elsewhere : (k j : Knowledge) (o : Op) (a : Answer) → AreBeside t k j → AreBeside t (learned k s o a) j
-  beside_elsewhere k j o a beside =
+  pub beside_elsewhere : (r : Records) (me you : Instance) (k j : Knowledge) (o : Op) (a : Answer) → AreBeside t r me you k j → AreBeside t r me you (learned k s o a) j
+  beside_elsewhere r me you k j o a beside =
       let same = learned_same k o a in
       record {
-        shared = λ image mine others.
-            let both = beside.shared image (ap (λ own. is_some (header_of_own own)) (sym (same.owns image)) ∙ mine) others in
+        shared = λ free image mine others.
+            let both = beside.shared free image (ap (λ own. is_some (header_of_own own)) (sym (same.owns image)) ∙ mine) others in
             record { one = ap is_own_alone (same.owns image) ∙ both.one; other = both.other };
         apart = λ image drawn. beside.apart image (sym (same.drawn image) ∙ drawn);
       }

@@ -30,7 +30,7 @@ use Rattle.rbd_stands.specs.Unseen.{is_about}
 use Rattle.rbd_stands.proofs.EditSteps.{untouched_served, drawn_served}
 use Rattle.rbd_stands.proofs.StoreSteps.{blank_trimmed}
 use Rattle.rbd_flat.specs.Flat.{no_images}
-use Rattle.rbd_rely.specs.Beside.{AreBeside, is_own_alone}
+use Rattle.rbd_rely.specs.Beside.{AreBeside, AreShared, is_own_alone}
 use Rattle.rbd_rely.specs.Truth.{IsTrueAt, IsStill, IsWaiting, header_of_own, known_header}
 use Rattle.rbd_rely.proofs.Fenced.{after_free, was_free}
 
@@ -67,17 +67,21 @@ pub unknown_of_none : (known there : Option HeaderView) → IsStill known None �
 unknown_of_none None there still = tt
 unknown_of_none (Some h) there still = elim still [ ]
 
+-- where both know the header of an image, neither is alone on it
+abbrev AreBothShared : SiteId → (k j : Knowledge) → Type 0
+AreBothShared site k j = (image : ℕ) → IsSome (known_header k site image) → IsSome (known_header j site image) → AreShared site image k j
+
 -- who is alone on an image isn't beside one that knows its header
-pub alone_beside : (site : SiteId) (k j : Knowledge) (image : ℕ) (condition : HeaderView → Type 0) → AreBeside site k j
+pub alone_beside : (site : SiteId) (k j : Knowledge) (image : ℕ) (condition : HeaderView → Type 0) → AreBothShared site k j
     → OwnsBy j site image (λ alone h. (alone ≡ true) × condition h) → (there : Option HeaderView) → IsStill (known_header k site image) there
-alone_beside site k j image condition beside owns there = go (known_header k site image) refl
+alone_beside site k j image condition shared owns there = go (known_header k site image) refl
   where
     go : (known : Option HeaderView) → known_header k site image ≡ known → IsStill known there
     go None is = tt
     go (Some h) is =
         let mine : IsSome (known_header k site image) = ap is_some is in
         let others : IsSome (known_header j site image) = ap is_some (own_known j site image (λ alone h. (alone ≡ true) × condition h) owns) in
-        absurd (true≢false (sym owns.meets.0 ∙ sym (ap is_own_alone owns.is) ∙ (beside.shared image mine others).other))
+        absurd (true≢false (sym owns.meets.0 ∙ sym (ap is_own_alone owns.is) ∙ (shared image mine others).other))
 
 -- ---- what leaves a header but for its owner
 
@@ -154,14 +158,14 @@ get_same you (Some h) = refl
 
 -- What isn't fenced on either side: one knows the headers, and another changes them.
 module _ (site : SiteId) (r : Records) (k j : Knowledge) (you : Instance) (still : (image : ℕ) → IsStill (known_header k site image) (r.headers image)) (u : IsTrueAt site r you j)
-    (beside : AreBeside site k j) where
+    (shared : AreBothShared site k j) where
   header_kept : (image : ℕ) (o : HeaderOp) → PermitsOnHeader j site image o → IsStill (known_header k site image) (header_after you (r.headers image) o)
   header_kept image header.Get permits = subst (IsStill (known_header k site image)) (sym (get_same you (r.headers image))) (still image)
   header_kept image (header.Create view) permits =
       unknown_of_none (known_header k site image) (header_after you (r.headers image) (header.Create view))
       (subst (IsStill (known_header k site image)) (u.drawn image permits.drawn).header (still image))
-  header_kept image (header.SnapAdd name) permits = alone_beside site k j image _ beside permits (header_after you (r.headers image) (header.SnapAdd name))
-  header_kept image (header.SnapRemove snap) permits = alone_beside site k j image _ beside permits (header_after you (r.headers image) (header.SnapRemove snap))
+  header_kept image (header.SnapAdd name) permits = alone_beside site k j image _ shared permits (header_after you (r.headers image) (header.SnapAdd name))
+  header_kept image (header.SnapRemove snap) permits = alone_beside site k j image _ shared permits (header_after you (r.headers image) (header.SnapRemove snap))
   header_kept image header.LockTake permits = still_behind you header.LockTake refl (known_header k site image) (r.headers image) (still image)
   header_kept image header.LockDrop permits = still_behind you header.LockDrop refl (known_header k site image) (r.headers image) (still image)
   header_kept image (header.LockBreak owner) permits = still_behind you (header.LockBreak owner) refl (known_header k site image) (r.headers image) (still image)
@@ -182,8 +186,12 @@ module _ (site : SiteId) (r : Records) (k j : Knowledge) (you : Instance) (still
       go false differ = still image
   owned_served _ permits image = elim permits [ ]
 
-  owned_kept : (o : Op) → Permits j site o → (image : ℕ) → IsStill (known_header k site image) ((after r you o).headers image)
-  owned_kept o permits image = where_fenced (λ s. IsStill (known_header k site image) (s.headers image)) r you o (still image) (owned_served o permits image)
+-- One that is fenced changes nothing.
+owned_kept : (site : SiteId) (r : Records) (k j : Knowledge) (me you : Instance) (o : Op) → ((image : ℕ) → IsStill (known_header k site image) (r.headers image)) → IsTrueAt site r you j
+    → IsFalse (is_fenced r me) → AreBeside site r me you k j → Permits j site o → (image : ℕ) → IsStill (known_header k site image) ((after r you o).headers image)
+owned_kept site r k j me you o still u free beside permits image =
+    after_free (λ s. IsStill (known_header k site image) (s.headers image)) r you o (still image)
+    (λ served. owned_served site r k j you still u (beside.shared (free, served)) o permits image)
 
 -- an id that waits still does, where the operation isn't about it
 pub waits_served : (r : Records) (you : Instance) (o : Op) (image : ℕ) → is_about image o ≡ false → IsWaiting r image → IsWaiting (after_served r you o) image
@@ -243,10 +251,10 @@ module _ (site : SiteId) (r : Records) (j : Knowledge) (you : Instance) (u : IsT
   waits_still (op.Data other number o) permits apart = waits_object other number o permits
   waits_still _ permits apart = elim permits [ ]
 
-pub others_keep : (site : SiteId) (r : Records) (k j : Knowledge) (me you : Instance) (o : Op) → IsTrueAt site r me k → IsTrueAt site r you j → AreBeside site k j → Permits j site o
+pub others_keep : (site : SiteId) (r : Records) (k j : Knowledge) (me you : Instance) (o : Op) → IsTrueAt site r me k → IsTrueAt site r you j → AreBeside site r me you k j → Permits j site o
     → IsTrueAt site (after r you o) me k
 others_keep site r k j me you o t u beside permits = record {
-  owned = λ free. owned_kept site r k j you (t.owned (was_free r you me o free)) u beside o permits;
+  owned = λ free. let before = was_free r you me o free in owned_kept site r k j me you o (t.owned before) u before beside permits;
   drawn = λ image drawn. waits_still site r j you u image (t.drawn image drawn) o permits (beside.apart image drawn);
   fenced = λ i known. fence_stays r you i o (t.fenced i known);
 }

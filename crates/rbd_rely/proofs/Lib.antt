@@ -3,6 +3,7 @@ pub mod Fenced
 pub mod Elsewhere
 pub mod Kept
 pub mod Learned
+pub mod Locks
 pub mod Together
 pub mod Parents
 pub mod Nothing

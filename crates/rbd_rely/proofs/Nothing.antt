@@ -15,8 +15,8 @@ nothing_is_true s r me = record {
   fenced = λ i known. absurd (true≢false (sym known));
 }
 
-pub nothing_is_beside : (s : SiteId) (j : Knowledge) → AreBeside s nothing_known j
-nothing_is_beside s j = record { shared = λ image one other. absurd (true≢false (sym one)); apart = λ image drawn. absurd (true≢false (sym drawn)) }
+pub nothing_is_beside : (s : SiteId) (r : Records) (me you : Instance) (j : Knowledge) → AreBeside s r me you nothing_known j
+nothing_is_beside s r me you j = record { shared = λ free image one other. absurd (true≢false (sym one)); apart = λ image drawn. absurd (true≢false (sym drawn)) }
 
 pub none_parentless : IsParentless no_records
 none_parentless image h is = cc

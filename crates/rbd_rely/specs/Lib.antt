@@ -1,2 +1,3 @@
-pub mod Beside
 pub mod Truth
+pub mod Locks
+pub mod Beside

@@ -1,6 +1,6 @@
 //! What requests may rely on, whatever the others do: each law is the contract of a function that
 //! does nothing. A law speaks of any records of a site, and of what is known there.
-ghost use Rattle.std.specs.Prelude.{◌≡◌, ℕ, [], IsFalse, None, true};
+ghost use Rattle.std.specs.Prelude.{◌≡◌, ◌≢◌, ℕ, [], IsFalse, None, true, false};
 ghost use Rattle.rbd_kinds.specs.declared.answer.Answer.{Answer};
 ghost use Rattle.rbd_kinds.specs.declared.answer.Answer.TheVariants as answered;
 ghost use Rattle.rbd_kinds.specs.declared.id.Instance.{Instance};
@@ -10,7 +10,7 @@ ghost use Rattle.rbd_kinds.specs.declared.operation.Op.{Op};
 ghost use Rattle.rbd_kinds.specs.declared.operation.Op.TheVariants as on;
 ghost use Rattle.rbd_flat.specs.Flat.{Flat};
 ghost use Rattle.rbd_machine.specs.Answers.{CanGive};
-ghost use Rattle.rbd_machine.specs.Knowledge.{Knowledge, nothing_known, learned, passed, same_site};
+ghost use Rattle.rbd_machine.specs.Knowledge.{Knowledge, nothing_known, is_drawn, learned, passed, same_site};
 ghost use Rattle.rbd_machine.specs.Permits.{Permits};
 ghost use Rattle.rbd_machine.specs.Wait.{Wait};
 ghost use Rattle.rbd_site.specs.InForm.{AreInForm};
@@ -20,7 +20,9 @@ ghost use Rattle.rbd_site.specs.Step.{MayDo, is_fenced, answer_to, after};
 ghost use Rattle.rbd_site.specs.declared.done.DoneOp.TheVariants as done;
 ghost use Rattle.rbd_stands.specs.Effect.{effect_of};
 ghost use Rattle.rbd_stands.specs.Site.{StandsFor};
-ghost use Rattle.rbd_rely.specs.Beside.{AreBeside, MayLook};
+ghost use Rattle.rbd_rely.specs.Beside.{AreBeside, AreFree, MayLook};
+ghost use Rattle.rbd_rely.specs.Locks.{HasLockWhileFree, KnowsByLock, gives_up};
+ghost use Rattle.rbd_stands.specs.Owned.{HasLock};
 ghost use Rattle.rbd_rely.specs.Truth.{IsTrueAt, IsParentless, changed_by, known_header};
 
 /// Who knows nothing knows nothing false.
@@ -32,7 +34,7 @@ pub fn nothing_is_false_at_first()
 /// it, by what that one knows truly. `you` is the instance that does it, which may be the same.
 pub fn others_keep_what_is_known()
     ensures { (site : Site) (r : Records) (k j : Knowledge) (me you : Instance) (op : Op)
-        → IsTrueAt site r me k → IsTrueAt site r you j → AreBeside site k j → Permits j site op
+        → IsTrueAt site r me k → IsTrueAt site r you j → AreBeside site r me you k j → Permits j site op
         → IsTrueAt site (after r you op) me k }
 {}
 
@@ -68,30 +70,58 @@ pub fn waits_teach_what_is_true()
 pub fn sites_are_known_apart()
     ensures truth { (site other : Site) (r : Records) (me : Instance) (k : Knowledge) (op : Op) (answer : Answer)
         → IsFalse (same_site site other) → IsTrueAt other r me k → IsTrueAt other r me (learned k site op answer) }
-    ensures beside { (site other : Site) (k j : Knowledge) (op : Op) (answer : Answer)
-        → IsFalse (same_site site other) → AreBeside other k j → AreBeside other (learned k site op answer) j }
+    ensures beside { (site other : Site) (r : Records) (me you : Instance) (k j : Knowledge) (op : Op) (answer : Answer)
+        → IsFalse (same_site site other) → AreBeside other r me you k j → AreBeside other r me you (learned k site op answer) j }
 {}
 
 /// Two requests stay beside each other: whatever one of them learns by an operation that is
-/// permitted to it, if it may look at what it looks at; whatever it waited for; and it doesn't
-/// matter which is named first.
+/// permitted to it, if it may look at what it looks at; whatever it waited for; whatever anybody
+/// does, and the store; and it doesn't matter which is named first.
 pub fn requests_stay_beside()
     ensures answered { (site : Site) (r : Records) (k j : Knowledge) (me you : Instance) (op : Op)
-        → IsTrueAt site r you j → AreBeside site k j → Permits k site op → MayLook site k j op
-        → AreBeside site (learned k site op (answer_to r me op)) j }
-    ensures waited { (site : Site) (k j : Knowledge) (wait : Wait) → AreBeside site k j → AreBeside site (passed k wait) j }
-    ensures first { (site : Site) (j : Knowledge) → AreBeside site nothing_known j }
-    ensures mutual { (site : Site) (k j : Knowledge) → AreBeside site k j → AreBeside site j k }
+        → IsTrueAt site r you j → AreBeside site r me you k j → Permits k site op → MayLook site r me you k j op
+        → AreBeside site (after r me op) me you (learned k site op (answer_to r me op)) j }
+    ensures waited { (site : Site) (r : Records) (me you : Instance) (k j : Knowledge) (wait : Wait) → AreBeside site r me you k j → AreBeside site r me you (passed k wait) j }
+    ensures others { (site : Site) (r : Records) (him me you : Instance) (k j : Knowledge) (op : Op) → AreBeside site r me you k j → AreBeside site (after r him op) me you k j }
+    ensures trim { (site : Site) (r : Records) (me you : Instance) (k j : Knowledge) (image number : ℕ) → AreBeside site r me you k j → AreBeside site (trimmed image number r) me you k j }
+    ensures expiry { (site : Site) (r : Records) (me you i : Instance) (k j : Knowledge) (image : ℕ) → AreBeside site r me you k j → AreBeside site (expired image i r) me you k j }
+    ensures first { (site : Site) (r : Records) (me you : Instance) (j : Knowledge) → AreBeside site r me you nothing_known j }
+    ensures mutual { (site : Site) (r : Records) (me you : Instance) (k j : Knowledge) → AreBeside site r me you k j → AreBeside site r you me j k }
 {}
 
 /// A lock is broken only where its owner is fenced, so that what the owner knew of the image rests
-/// on the lock no more. And where one gives up a lock, no request that goes beside it relies on the
-/// image's header.
+/// on the lock no more. And where one gives up a lock that is its own, no request that goes beside
+/// it relies on the image's header.
 pub fn nobody_relies_on_a_lock_that_ends()
     ensures broken { (site : Site) (r : Records) (me owner : Instance) (k : Knowledge) (image : ℕ)
         → IsTrueAt site r me k → Permits k site (on.Header image (header.LockBreak owner)) → is_fenced r owner ≡ true }
-    ensures dropped { (site : Site) (k j : Knowledge) (image : ℕ)
-        → Permits k site (on.Header image header.LockDrop) → MayLook site k j (on.Header image header.LockDrop) → known_header j site image ≡ None }
+    ensures dropped { (site : Site) (r : Records) (me you : Instance) (k j : Knowledge) (image : ℕ)
+        → AreFree r me you → HasLock image me r
+        → Permits k site (on.Header image header.LockDrop) → MayLook site r me you k j (on.Header image header.LockDrop) → known_header j site image ≡ None }
+{}
+
+/// A lock has one owner, as long as nobody is fenced. So two instances that each know headers by
+/// their locks go beside each other; and who has the lock that it waited for may look.
+pub fn a_lock_has_one_owner()
+    ensures one { (r : Records) (me you : Instance) (image : ℕ) → AreFree r me you → HasLockWhileFree r me image → HasLockWhileFree r you image → me ≡ you }
+    ensures beside { (site : Site) (r : Records) (me you : Instance) (k j : Knowledge)
+        → me ≢ you → KnowsByLock site r me k → KnowsByLock site r you j
+        → ((image : ℕ) → is_drawn k.drawn site image ≡ true → is_drawn j.drawn site image ≡ false) → AreBeside site r me you k j }
+    ensures looks { (site : Site) (r : Records) (me you : Instance) (k j : Knowledge) (image : ℕ)
+        → me ≢ you → HasLockWhileFree r me image → KnowsByLock site r you j → MayLook site r me you k j (on.Header image header.Get) }
+    ensures drops { (site : Site) (r : Records) (me you : Instance) (k j : Knowledge) (image : ℕ)
+        → me ≢ you → KnowsByLock site r you j → MayLook site r me you k j (on.Header image header.LockDrop) }
+{}
+
+/// A lock is taken where the answer says so, and lasts: nobody ends it by what is permitted to him,
+/// but who gives up his own, and who breaks that of a fenced owner.
+pub fn locks_last()
+    ensures taken { (r : Records) (me : Instance) (image : ℕ) → answer_to r me (on.Header image header.LockTake) ≡ answered.Done → HasLockWhileFree (after r me (on.Header image header.LockTake)) me image }
+    ensures operation { (site : Site) (r : Records) (me you : Instance) (j : Knowledge) (image : ℕ) (op : Op)
+        → IsTrueAt site r you j → Permits j site op → (you ≡ me → gives_up image op ≡ false)
+        → HasLockWhileFree r me image → HasLockWhileFree (after r you op) me image }
+    ensures trim { (r : Records) (me : Instance) (image other number : ℕ) → HasLockWhileFree r me image → HasLockWhileFree (trimmed other number r) me image }
+    ensures expiry { (r : Records) (me i : Instance) (image other : ℕ) → HasLockWhileFree r me image → HasLockWhileFree (expired other i r) me image }
 {}
 
 /// What is permitted by true knowledge meets the site's condition, and its answer is one that the

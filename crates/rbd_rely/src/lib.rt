@@ -29,8 +29,9 @@
 //!   lock may be broken, and another instance changes the image. It does nothing by them, since
 //!   each of its operations is refused. The ids that it drew still wait.
 //! - Two requests are *beside* each other where neither is alone on an image whose header both
-//!   know, and no id was drawn by both. The line of a session sees to the first (`rbd_line`), and
-//!   the lock between sessions, which isn't built.
+//!   know, unless the instance of one is fenced, and no id was drawn by both. The line of a session
+//!   sees to the first (`rbd_line`), and the lock between clients: it has one owner, who keeps it
+//!   until he gives it up or is fenced.
 //! - A request that has its image's lock may look at its header, the first time, only where it is
 //!   so (`MayLook`), and give the lock up only where it is so: it is alone then, so nobody else of
 //!   its session relies on the header. All else keeps two requests beside each other.
@@ -40,6 +41,7 @@
 //! | file | what it says |
 //! |---|---|
 //! | `specs/Truth.antt` | when knowledge is true at a site (`IsTrueAt`), and the flat site behind an effect |
+//! | `specs/Locks.antt` | what an instance may count on of a lock that is its own |
 //! | `specs/Beside.antt` | which two requests are beside each other, and when one may look |
 //!
 //! [`laws`] says, of any records:
@@ -54,7 +56,7 @@
 //!   no other; so the records stand for a flat site behind it too;
 //! - two requests that are beside each other stay so;
 //! - a lock is broken only where its owner is fenced, and given up only where no request beside
-//!   knows the header.
+//!   knows the header; it has one owner, and lasts.
 //!
 //! With these a world of several clients goes on step by step: whatever request comes next, what
 //! all know is true, what it wants may be done, and the step is one of the flat-copy machine, or

@@ -191,7 +191,7 @@ module _ (slot : ℕ) (e : Option Extent) (labels : Label → Plan) where
           → MayWait fresh (course_of slot t) w × IsOnTrack slot e false (at (settled labels next)) (waited_by slot t w)
       go (wait.Join site image alone) (may, orderly) = (may, joined_on_track site image alone next t fresh (at (Await w next)) on may.1 orderly)
       go (wait.Hold site image) (may, orderly) =
-          let (p, m, there) = in_line_there slot t site image on.somewhere may in (
+          let (p, m, there) = in_line_there slot t site image on.somewhere may.0 in (
             may,
             changed_on_track slot e false (at (settled labels next)) t held held_is_steady p m there on.elsewhere t.turn t.due
                 (subst (λ c. IsOrderlyFrom e false c (at (settled labels next))) (sym (course_held slot p m t there site image)) orderly)

@@ -1,5 +1,5 @@
 -- What an operation that is permitted does to both sites: they stand, and what is known stays true.
-use Rattle.std.proofs.Common.{◌≡◌, ℕ, cond, false, [], ◌∷◌, length, Option, Some, None, refl, sym, ap, ◌∙◌, subst}
+use Rattle.std.proofs.Common.{◌≡◌, ◌≢◌, ◌⊎◌, ℕ, cond, false, [], ◌∷◌, length, Option, Some, None, refl, sym, ap, ◌∙◌, subst}
 use Rattle.rbd_flat.specs.Flat.{Flat}
 use Rattle.rbd_kinds.specs.declared.answer.Answer.{Answer}
 use Rattle.rbd_kinds.specs.declared.id.Instance.{Instance}
@@ -21,7 +21,7 @@ use Rattle.rbd_rely.proofs.Kept.{others_keep}
 use Rattle.rbd_rely.proofs.Learned.{own_learned}
 use Rattle.rbd_rely.proofs.Nothing.{nothing_is_beside, nothing_is_true}
 use Rattle.rbd_rely.proofs.Parents.{parentless_stays}
-use Rattle.rbd_rely.proofs.Together.{beside_mutual, learned_beside}
+use Rattle.rbd_rely.proofs.Together.{beside_mutual, beside_stays, learned_beside}
 use Rattle.rbd_session.specs.Session.{SessionView}
 use Rattle.rbd_site.specs.Step.{after, answer_to}
 use Rattle.rbd_stands.specs.Site.{StandsFor}
@@ -52,7 +52,7 @@ pub client_knows : {R : Type 0} (stands : R → Standing) (old : WorldView R) (w
     → (t : SiteId) → IsTrueAt t (records_in t old.sites) c.instance (w.knows session slot)
 client_knows stands old w session slot c there t = subst (λ i. IsTrueAt t (records_in t old.sites) i (w.knows session slot)) (sym (w.clients session c there).who) (w.truth session slot t)
 
-module _ {R : Type 0} (stands : R → Standing) (old new : WorldView R) (w : IsSoundWorld stands old) (session slot line : ℕ) (who : Instance) (s : SiteId) (o : Op) (result : Option Reply)
+module _ {R : Type 0} (stands : R → Standing) (old new : WorldView R) (w : IsSoundWorld stands old) (session slot line : ℕ) (who : Instance) (s : SiteId) (o : Op) (result : Option Reply) (mine : who ≡ first_life session)
     (knows_truly : (t : SiteId) → IsTrueAt t (records_in t old.sites) who (w.knows session slot)) (permits : Permits (w.knows session slot) s o)
     (at_sites : DoesAtSites (Did (operation_at (site_in s old.sites) who line s o) result) old.sites new.sites) where
   abbrev pub does_it : Happening
@@ -107,12 +107,24 @@ module _ {R : Type 0} (stands : R → Standing) (old new : WorldView R) (w : IsS
 
   -- ---- what is known
 
+  -- another request is beside it
+  they_are_beside : (m x : ℕ) → IsElsewhere session slot m x → (t : SiteId) → AreBeside t (records_in t old.sites) (first_life m) who (w.knows m x) know
+  they_are_beside m x where_else t = subst (λ i. AreBeside t (records_in t old.sites) (first_life m) i (w.knows m x) know) (sym mine) (w.beside m x session slot where_else t)
+
   pub others_true : (m x : ℕ) → IsElsewhere session slot m x → (t : SiteId) → IsTrueAt t (records_in t new.sites) (first_life m) (w.knows m x)
   others_true m x where_else =
       at_either s (λ t. IsTrueAt t (records_in t new.sites) (first_life m) (w.knows m x))
       (subst (λ r. IsTrueAt s r (first_life m) (w.knows m x)) (sym here_now)
-      (others_keep s (records_in s old.sites) (w.knows m x) know (first_life m) who o (w.truth m x s) (knows_truly s) (w.beside m x session slot where_else s) permits))
+      (others_keep s (records_in s old.sites) (w.knows m x) know (first_life m) who o (w.truth m x s) (knows_truly s) (they_are_beside m x where_else s) permits))
       (λ t differ. subst (λ r. IsTrueAt t r (first_life m) (w.knows m x)) (sym (elsewhere_now t differ)) (w.truth m x t))
+
+  -- two others stay beside each other
+  pub others_beside : (m x y z : ℕ) → (m ≢ y) ⊎ (x ≢ z) → (t : SiteId) → AreBeside t (records_in t new.sites) (first_life m) (first_life y) (w.knows m x) (w.knows y z)
+  others_beside m x y z apart =
+      at_either s (λ t. AreBeside t (records_in t new.sites) (first_life m) (first_life y) (w.knows m x) (w.knows y z))
+      (subst (λ r. AreBeside s r (first_life m) (first_life y) (w.knows m x) (w.knows y z)) (sym here_now)
+      (beside_stays s (records_in s old.sites) who (first_life m) (first_life y) (w.knows m x) (w.knows y z) o (w.beside m x y z apart s)))
+      (λ t differ. subst (λ r. AreBeside t r (first_life m) (first_life y) (w.knows m x) (w.knows y z)) (sym (elsewhere_now t differ)) (w.beside m x y z apart t))
 
   module _ (to : Plan) where
     -- what it knows once it is past what it waits for
@@ -131,16 +143,20 @@ module _ {R : Type 0} (stands : R → Standing) (old new : WorldView R) (w : IsS
             (own_learned s (records_in s old.sites) (flat_after s w.run) know who o (stands_in s) (knows_truly s) permits))
             (λ t differ. subst (λ r. IsTrueAt t r who (learned know s o answered)) (sym (elsewhere_now t differ)) (true_elsewhere s t differ (records_in t old.sites) who know o answered (knows_truly t)))
 
-    pub own_beside : (m x : ℕ) → IsElsewhere session slot m x → MayLook s know (w.knows m x) o → (t : SiteId) → AreBeside t learns (w.knows m x)
+    pub own_beside : (m x : ℕ) → IsElsewhere session slot m x → MayLook s (records_in s old.sites) who (first_life m) know (w.knows m x) o
+        → (t : SiteId) → AreBeside t (records_in t new.sites) who (first_life m) learns (w.knows m x)
     own_beside m x where_else may t =
-        unless_over (λ k. AreBeside t k (w.knows m x)) result (known_at_operation (learned know s o answered) to) (nothing_is_beside t (w.knows m x))
-        (still_beside t (w.knows m x) to (learned know s o answered) (told t))
+        unless_over (λ k. AreBeside t (records_in t new.sites) who (first_life m) k (w.knows m x)) result (known_at_operation (learned know s o answered) to)
+        (nothing_is_beside t (records_in t new.sites) who (first_life m) (w.knows m x))
+        (still_beside t (records_in t new.sites) who (first_life m) (w.knows m x) to (learned know s o answered) (told t))
       where
-        were : (t : SiteId) → AreBeside t know (w.knows m x)
-        were t = beside_mutual t (w.knows m x) know (w.beside m x session slot where_else t)
+        were : (t : SiteId) → AreBeside t (records_in t old.sites) who (first_life m) know (w.knows m x)
+        were t = beside_mutual t (records_in t old.sites) (first_life m) who (w.knows m x) know (they_are_beside m x where_else t)
 
-        told : (t : SiteId) → AreBeside t (learned know s o answered) (w.knows m x)
+        told : (t : SiteId) → AreBeside t (records_in t new.sites) who (first_life m) (learned know s o answered) (w.knows m x)
         told =
-            at_either s (λ t. AreBeside t (learned know s o answered) (w.knows m x))
-            (learned_beside s know (w.knows m x) (were s) (records_in s old.sites) who (first_life m) o (w.truth m x s) permits may)
-            (λ t differ. beside_elsewhere s t differ know (w.knows m x) o answered (were t))
+            at_either s (λ t. AreBeside t (records_in t new.sites) who (first_life m) (learned know s o answered) (w.knows m x))
+            (subst (λ r. AreBeside s r who (first_life m) (learned know s o answered) (w.knows m x)) (sym here_now)
+            (learned_beside s (records_in s old.sites) who (first_life m) know (w.knows m x) (were s) o (w.truth m x s) permits may))
+            (λ t differ. subst (λ r. AreBeside t r who (first_life m) (learned know s o answered) (w.knows m x)) (sym (elsewhere_now t differ))
+            (beside_elsewhere s t differ (records_in t old.sites) who (first_life m) know (w.knows m x) o answered (were t)))

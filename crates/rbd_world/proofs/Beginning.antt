@@ -58,7 +58,7 @@ module _ {R : Type 0} (stands : R → Standing) where
     apart = λ line session slot other there is also. absurd (no_some line (sym (no_line w session slot new) ∙ is));
     slots = λ line begun. absurd (no_some begun.asked begun.is);
     truth = λ session slot s. nothing_is_true s _ _;
-    beside = λ session slot other there differ s. nothing_is_beside s nothing_known;
+    beside = λ session slot other there differ s. nothing_is_beside s _ _ _ nothing_known;
     order = tt;
     in_order = λ session c is. none_in_order stands (home_of (session_in session w.sessions)) session [] c (λ x. ap running_in ((new.clients session c is).slots x));
   }

@@ -81,7 +81,8 @@ module _ {R : Type 0} (stands : R → Standing) where
     pub apart : AreApart new.sessions
     pub slots : AreInSlots (h ∷ w.run) new.sessions
     pub truth : (session slot : ℕ) (s : SiteId) → IsTrueAt s (records_in s new.sites) (first_life session) (knows session slot)
-    pub beside : (session slot other there : ℕ) → (session ≢ other) ⊎ (slot ≢ there) → (s : SiteId) → AreBeside s (knows session slot) (knows other there)
+    pub beside : (session slot other there : ℕ) → (session ≢ other) ⊎ (slot ≢ there) → (s : SiteId)
+        → AreBeside s (records_in s new.sites) (first_life session) (first_life other) (knows session slot) (knows other there)
     pub turn : IsInTurn h w.run
     pub in_order : (session : ℕ) (c : SessionView R) → session_in session new.sessions ≡ Some c → IsInOrder stands (w.homes session) session (h ∷ w.run) c
 

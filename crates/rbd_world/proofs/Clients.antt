@@ -3,6 +3,7 @@ use Rattle.std.proofs.Common.{◌≡◌, ◌≢◌, ◌⊎◌, inl, inr, ℕ, �
 use Rattle.std.proofs.lemmas.List.Elements.{All-pop}
 use Rattle.rbd_kinds.specs.declared.id.SiteId.{SiteId}
 use Rattle.rbd_kinds.specs.declared.operation.Op.{Op}
+use Rattle.rbd_kinds.specs.declared.id.Instance.{Instance}
 use Rattle.rbd_known.specs.Calm.{is_change}
 use Rattle.rbd_known.specs.Knowing.{KnowsIn}
 use Rattle.rbd_known.proofs.Looking.{may_look}
@@ -18,6 +19,7 @@ use Rattle.rbd_session.specs.Lines.{LinesView}
 use Rattle.rbd_session.specs.Session.{SessionView, held_in, running_in}
 use Rattle.rbd_session.specs.Waits.{waits}
 use Rattle.rbd_session.proofs.Sound.{no_some, some_same}
+use Rattle.rbd_site.specs.Records.{Records}
 use Rattle.rbd_world.specs.declared.event.Call.{Call}
 use Rattle.rbd_world.specs.declared.event.Event.{Event}
 use Rattle.rbd_world.specs.declared.event.Event.TheVariants as event
@@ -73,32 +75,33 @@ module _ {R : Type 0} (stands : R → Standing) (old : WorldView R) (w : IsSound
           ∙ sym (changes_of_client client w.run old.calls w.calls all r.line way.begun.asked way.begun.is one) ∙ way.mine))
 
   module _ (session slot : ℕ) (c : SessionView R) (there : session_in session old.sessions ≡ Some c) (r : Running R) (holds : held_in slot c.slots ≡ Some (occupant.Running r))
-      (goes : waits slot (track_of r c.lines) ≡ false) (way : IsUnderWay stands (w.homes session) session w.run (w.knows session slot) r) (s : SiteId) (o : Op) where
-    beside_nothing : (j : Knowledge) → j ≡ nothing_known → MayLook s (w.knows session slot) j o
-    beside_nothing j nothing = subst (λ k. MayLook s (w.knows session slot) k o) (sym nothing) (looked_beside_calm s (w.knows session slot) nothing_known o (λ site image. refl))
+      (goes : waits slot (track_of r c.lines) ≡ false) (way : IsUnderWay stands (w.homes session) session w.run (w.knows session slot) r) (s : SiteId) (o : Op)
+      (records : Records) (me you : Instance) where
+    beside_nothing : (j : Knowledge) → j ≡ nothing_known → MayLook s records me you (w.knows session slot) j o
+    beside_nothing j nothing = subst (λ k. MayLook s records me you (w.knows session slot) k o) (sym nothing) (looked_beside_calm s records me you (w.knows session slot) nothing_known o (λ site image. refl))
 
     beside_held : (m : ℕ) (j : Knowledge) (p : Option (Occupant R)) (lines : LinesView) → m ≢ session → (x : ℕ) → KnowsIn stands x (running_in p) lines j
-        → IsHeldRightly stands (w.homes m) m w.run j p → MayLook s (w.knows session slot) j o
+        → IsHeldRightly stands (w.homes m) m w.run j p → MayLook s records me you (w.knows session slot) j o
     beside_held m j None lines differ x nothing held = beside_nothing j nothing
     beside_held m j (Some (occupant.Refused line refusal)) lines differ x nothing held = beside_nothing j nothing
     beside_held m j (Some (occupant.Running q)) lines differ x knows other = by (one_is_calm session m (w.knows session slot) j r q differ way other)
       where
-        by : (is_change way.begun.asked.command ≡ false) ⊎ (is_change other.begun.asked.command ≡ false) → MayLook s (w.knows session slot) j o
-        by (inl mine) = calm_looks s (w.knows session slot) j o (way.calm mine).1
-        by (inr others) = looked_beside_calm s (w.knows session slot) j o (other.calm others).1
+        by : (is_change way.begun.asked.command ≡ false) ⊎ (is_change other.begun.asked.command ≡ false) → MayLook s records me you (w.knows session slot) j o
+        by (inl mine) = calm_looks s records me you (w.knows session slot) j o (way.calm mine).1
+        by (inr others) = looked_beside_calm s records me you (w.knows session slot) j o (other.calm others).1
 
-    pub looks_beside : (m x : ℕ) → IsElsewhere session slot m x → MayLook s (w.knows session slot) (w.knows m x) o
+    pub looks_beside : (m x : ℕ) → IsElsewhere session slot m x → MayLook s records me you (w.knows session slot) (w.knows m x) o
     looks_beside m x where_else = by (same_or_other m session) where_else
       where
-        other_session : m ≢ session → (q : Option (SessionView R)) → session_in m old.sessions ≡ q → MayLook s (w.knows session slot) (w.knows m x) o
+        other_session : m ≢ session → (q : Option (SessionView R)) → session_in m old.sessions ≡ q → MayLook s records me you (w.knows session slot) (w.knows m x) o
         other_session differ None is = beside_nothing (w.knows m x) (w.nobody m is x)
         other_session differ (Some v) is =
             let theirs = w.clients m v is in beside_held m (w.knows m x) (held_in x v.slots) v.lines differ x (theirs.know x) (theirs.held x)
 
-        by : (m ≡ session) ⊎ (m ≢ session) → IsElsewhere session slot m x → MayLook s (w.knows session slot) (w.knows m x) o
+        by : (m ≡ session) ⊎ (m ≢ session) → IsElsewhere session slot m x → MayLook s records me you (w.knows session slot) (w.knows m x) o
         by (inr differ) either = other_session differ (session_in m old.sessions) refl
         by (inl same) (inl differ) = absurd (differ same)
         by (inl same) (inr differ) =
             let mine = w.clients session c there in
-            subst (λ i. MayLook s (w.knows session slot) (w.knows i x) o) (sym same)
-            (may_look stands c (w.knows session) mine.sound mine.know slot x r s o (λ e. differ (sym e)) (ap running_in holds) goes)
+            subst (λ i. MayLook s records me you (w.knows session slot) (w.knows i x) o) (sym same)
+            (may_look stands c (w.knows session) mine.sound mine.know slot x r s o (λ e. differ (sym e)) (ap running_in holds) goes records me you)

@@ -37,6 +37,5 @@ pub mod Turned
 pub mod Undone
 pub mod Walks
 pub mod Wanted
-pub mod Wanting
 pub mod WritesFirst
 pub mod Writing

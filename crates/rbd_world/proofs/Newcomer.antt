@@ -31,7 +31,7 @@ use Rattle.rbd_world.proofs.Changed.{IsElsewhere, all_but, client_of, clients_of
 use Rattle.rbd_world.proofs.OneMoreWrite.{begun_order}
 use Rattle.rbd_world.proofs.OrderedWorld.{freed_order, order_beside, orders_of}
 use Rattle.rbd_world.proofs.Quiet.{lines_differ, quiet_began}
-use Rattle.rbd_world.proofs.Rest.{where_standing}
+use Rattle.rbd_world.proofs.Rest.{stay_beside, where_standing}
 use Rattle.rbd_world.proofs.Slots.{in_this_slot, open_back, other_slots}
 use Rattle.rbd_world.proofs.Runs.{IsUnheard, begun_is_asked, unheard}
 
@@ -197,7 +197,7 @@ module _ {R : Type 0} (stands : R → Standing) (old new : WorldView R) (w : IsS
           apart = begun_apart;
           slots = λ l now. slots_then l now (line == l) refl;
           truth = λ m x s. subst (λ r. IsTrueAt s r (first_life m) (w.knows m x)) (sym (at_sites.records s)) (w.truth m x s);
-          beside = w.beside;
+          beside = stay_beside stands old new w at_sites.records;
           turn = tt;
           in_order =
               orders_of stands old new w does_begin unasked session c.lowest c there quiet d after others (λ m differ other writer. refl)

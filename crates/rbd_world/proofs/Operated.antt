@@ -35,7 +35,7 @@ use Rattle.rbd_world.specs.Sound.{IsDone, IsDue, IsHeldRightly, IsInSlot, IsOpen
 use Rattle.rbd_world.specs.Step.{AreOfOneClient, Does, DoesAtSites, Goes, IsSoundIf, next_number, operation_at, reply_at}
 use Rattle.rbd_world.specs.World.{WorldView, records_in, session_in, site_in}
 use Rattle.rbd_world.proofs.Answered.{answer_due, answer_held, answer_line}
-use Rattle.rbd_world.proofs.AtSites.{can_give, client_knows, others_true, own_beside, own_true, parentless_then, stands_then}
+use Rattle.rbd_world.proofs.AtSites.{can_give, client_knows, others_beside, others_true, own_beside, own_true, parentless_then, stands_then}
 use Rattle.rbd_world.proofs.Carried.{Carries}
 use Rattle.rbd_world.proofs.Changed.{IsElsewhere, apart_of, client_of, clients_of, has_become, here_or_elsewhere, line_apart, nobody_of, same_or_other}
 use Rattle.rbd_world.proofs.Clients.{looks_beside}
@@ -63,6 +63,9 @@ module _ {R : Type 0} (stands : R → Standing) (old new : WorldView R) (w : IsS
   abbrev know : Knowledge
   know = w.knows session slot
 
+  my_life : c.instance ≡ first_life session
+  my_life = (w.clients session c there).who
+
   runs : running_at slot c ≡ Some r
   runs = ap running_in holds
 
@@ -70,7 +73,7 @@ module _ {R : Type 0} (stands : R → Standing) (old new : WorldView R) (w : IsS
   way = subst (IsHeldRightly stands (w.homes session) session w.run know) holds ((w.clients session c there).held slot)
 
   permits : Permits know s o
-  permits = let mine = knows_there stands c (w.knows session) slot r runs (w.clients session c there).know in (subst (IsLawful mine.known_at know) asks mine.lawful).0
+  permits = let known = knows_there stands c (w.knows session) slot r runs (w.clients session c there).know in (subst (IsLawful known.known_at know) asks known.lawful).0
 
   knows_truly : (t : SiteId) → IsTrueAt t (records_in t old.sites) c.instance know
   knows_truly = client_knows stands old w session slot c there
@@ -142,37 +145,44 @@ module _ {R : Type 0} (stands : R → Standing) (old new : WorldView R) (w : IsS
         by (inl (same, at)) =
             subst (λ i. IsTrueAt t (records_in t new.sites) i (knows_then m x)) (is_client same)
             (subst (IsTrueAt t (records_in t new.sites) c.instance) (sym (own_known m x same at))
-            (own_true stands old new w session slot r.line c.instance s o result knows_truly permits at_sites (next a) t))
+            (own_true stands old new w session slot r.line c.instance s o result my_life knows_truly permits at_sites (next a) t))
         by (inr where_else) =
             subst (IsTrueAt t (records_in t new.sites) (first_life m)) (sym (elsewhere m x where_else))
-            (others_true stands old new w session slot r.line c.instance s o result knows_truly permits at_sites m x where_else t)
+            (others_true stands old new w session slot r.line c.instance s o result my_life knows_truly permits at_sites m x where_else t)
 
-    may : (m x : ℕ) → IsElsewhere session slot m x → MayLook s know (w.knows m x) o
-    may m x where_else = looks_beside stands old w one.client one.before session slot c there r holds goes way s o m x where_else
+    may : (m x : ℕ) → IsElsewhere session slot m x → MayLook s (records_in s old.sites) c.instance (first_life m) know (w.knows m x) o
+    may m x where_else = looks_beside stands old w one.client one.before session slot c there r holds goes way s o (records_in s old.sites) c.instance (first_life m) m x where_else
 
-    own_beside_then : (m x y z : ℕ) → m ≡ session → x ≡ slot → IsElsewhere session slot y z → (t : SiteId) → AreBeside t (knows_then m x) (knows_then y z)
+    -- of two sessions, what is known in a slot of each
+    abbrev pub Beside : (m x y z : ℕ) → SiteId → Type 0
+    Beside m x y z t = AreBeside t (records_in t new.sites) (first_life m) (first_life y) (knows_then m x) (knows_then y z)
+
+    own_beside_then : (m x y z : ℕ) → m ≡ session → x ≡ slot → IsElsewhere session slot y z → (t : SiteId) → Beside m x y z t
     own_beside_then m x y z same at where_else t =
-        subst (λ k. AreBeside t k (knows_then y z)) (sym (own_known m x same at))
-        (subst (AreBeside t (unless_ended result (known_behind know (Ask s why o next) (fed.Answer a)))) (sym (elsewhere y z where_else))
-        (own_beside stands old new w session slot r.line c.instance s o result knows_truly permits at_sites (next a) y z where_else (may y z where_else) t))
+        subst (λ i. AreBeside t (records_in t new.sites) i (first_life y) (knows_then m x) (knows_then y z)) (my_life ∙ sym (ap first_life same))
+        (subst (λ k. AreBeside t (records_in t new.sites) c.instance (first_life y) k (knows_then y z)) (sym (own_known m x same at))
+        (subst (AreBeside t (records_in t new.sites) c.instance (first_life y) (unless_ended result (known_behind know (Ask s why o next) (fed.Answer a)))) (sym (elsewhere y z where_else))
+        (own_beside stands old new w session slot r.line c.instance s o result my_life knows_truly permits at_sites (next a) y z where_else (may y z where_else) t)))
 
-    beside_then : (m x y z : ℕ) → (m ≢ y) ⊎ (x ≢ z) → (t : SiteId) → AreBeside t (knows_then m x) (knows_then y z)
+    beside_then : (m x y z : ℕ) → (m ≢ y) ⊎ (x ≢ z) → (t : SiteId) → Beside m x y z t
     beside_then m x y z apart t = by (here_or_elsewhere session slot m x) (here_or_elsewhere session slot y z) apart
       where
         by : ((m ≡ session) × (x ≡ slot)) ⊎ IsElsewhere session slot m x → ((y ≡ session) × (z ≡ slot)) ⊎ IsElsewhere session slot y z → (m ≢ y) ⊎ (x ≢ z)
-            → AreBeside t (knows_then m x) (knows_then y z)
+            → Beside m x y z t
         by (inl (one, two)) (inl (three, four)) (inl differ) = absurd (differ (one ∙ sym three))
         by (inl (one, two)) (inl (three, four)) (inr differ) = absurd (differ (two ∙ sym four))
         by (inl (one, two)) (inr where_else) apart = own_beside_then m x y z one two where_else t
-        by (inr where_else) (inl (one, two)) apart = beside_mutual t (knows_then y z) (knows_then m x) (own_beside_then y z m x one two where_else t)
+        by (inr where_else) (inl (one, two)) apart =
+            beside_mutual t (records_in t new.sites) (first_life y) (first_life m) (knows_then y z) (knows_then m x) (own_beside_then y z m x one two where_else t)
         by (inr this) (inr that) apart =
-            subst (λ k. AreBeside t k (knows_then y z)) (sym (elsewhere m x this))
-            (subst (AreBeside t (w.knows m x)) (sym (elsewhere y z that)) (w.beside m x y z apart t))
+            subst (λ k. AreBeside t (records_in t new.sites) (first_life m) (first_life y) k (knows_then y z)) (sym (elsewhere m x this))
+            (subst (AreBeside t (records_in t new.sites) (first_life m) (first_life y) (w.knows m x)) (sym (elsewhere y z that))
+            (others_beside stands old new w session slot r.line c.instance s o result my_life knows_truly permits at_sites m x y z apart t))
 
     -- ---- the world
 
     can : CanGive o a
-    can = can_give stands old new w session slot r.line c.instance s o result knows_truly permits at_sites
+    can = can_give stands old new w session slot r.line c.instance s o result my_life knows_truly permits at_sites
 
     module _ (d : SessionView R) (after : session_in session new.sessions ≡ Some d) (others : (m : ℕ) → m ≢ session → session_in m new.sessions ≡ session_in m old.sessions)
         (became : Goes stands slot a result c d) where
@@ -239,9 +249,9 @@ module _ {R : Type 0} (stands : R → Standing) (old new : WorldView R) (w : IsS
 
       goes_carries : ((m : ℕ) → IsSoundIf stands (session_in m new.sessions)) → Carries stands old new w does_it knows_then
       goes_carries sound = record {
-        standing = stands_then stands old new w session slot r.line c.instance s o result knows_truly permits at_sites;
+        standing = stands_then stands old new w session slot r.line c.instance s o result my_life knows_truly permits at_sites;
         due = due_now;
-        parentless = parentless_then stands old new w session slot r.line c.instance s o result knows_truly permits at_sites;
+        parentless = parentless_then stands old new w session slot r.line c.instance s o result my_life knows_truly permits at_sites;
         clients = clients_of stands old new w does_it session slot c d there after others became.slots knows_then in_others quiet (own sound);
         nobody = nobody_of stands old new w does_it session slot c d there after others became.slots knows_then in_others;
         apart =

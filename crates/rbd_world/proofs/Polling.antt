@@ -31,7 +31,7 @@ use Rattle.rbd_world.specs.Run.{Happening, Waited, Did, Operation, entry_of, out
 use Rattle.rbd_world.specs.Step.{Becomes, DoesAt, DoesAtSites, Goes, done_by, operation_at, polled_in, reply_at, with_lines}
 use Rattle.rbd_world.specs.World.{records_in, site_in}
 use Rattle.rbd_world.proofs.BothSites.{IsNothingAt, done_at, left_sites, nothing_done, same_site_itself}
-use Rattle.rbd_world.proofs.Wanting.{Wants, wants}
+use Rattle.rbd_known.proofs.Wanting.{Wants, wants}
 
 -- ---- the sites
 

@@ -22,7 +22,7 @@ use Rattle.rbd_world.proofs.Changed.{HasBecome, IsElsewhere, all_but, apart_of, 
 use Rattle.rbd_world.proofs.OrderedWorld.{freed_order, order_beside, orders_of}
 use Rattle.rbd_world.proofs.Quiet.{quiet_refused}
 use Rattle.rbd_world.proofs.Slots.{not_open, open_back, other_slots}
-use Rattle.rbd_world.proofs.Rest.{where_standing}
+use Rattle.rbd_world.proofs.Rest.{stay_beside, where_standing}
 
 module _ {R : Type 0} (stands : R → Standing) (old new : WorldView R) (w : IsSoundWorld stands old) (session slot : ℕ) (c : SessionView R) (there : session_in session old.sessions ≡ Some c)
     (line : ℕ) (refusal : Refusal) (holds : held_in slot c.slots ≡ Some (occupant.Refused line refusal)) where
@@ -85,7 +85,7 @@ module _ {R : Type 0} (stands : R → Standing) (old new : WorldView R) (w : IsS
                 (λ l is. absurd (no_some l (sym (ap script_line serves.held) ∙ is)));
             slots = λ l begun. slots_then d become.there become.others serves.slots l begun (line == l) refl;
             truth = λ m x s. subst (λ r. IsTrueAt s r (first_life m) (w.knows m x)) (sym (at_sites.records s)) (w.truth m x s);
-            beside = w.beside;
+            beside = stay_beside stands old new w at_sites.records;
             turn = tt;
             in_order =
                 orders_of stands old new w does_refuse refusal_meant session slot c there quiet d become.there become.others (λ m differ other writer. refl)

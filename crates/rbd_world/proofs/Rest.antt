@@ -1,8 +1,9 @@
 -- Where no session changes: nothing happened, a request waits, or the store trimmed an object.
-use Rattle.std.proofs.Common.{◌≡◌, ℕ, Bool, true, false, cond, List, [], ◌∷◌, length, ◌+◌, is_some, Option, Some, None, refl, sym, ap, ◌∙◌, subst}
+use Rattle.std.proofs.Common.{◌≡◌, ◌≢◌, ◌⊎◌, ℕ, Bool, true, false, cond, List, [], ◌∷◌, length, ◌+◌, is_some, Option, Some, None, refl, sym, ap, ◌∙◌, subst}
 use Rattle.rbd_kinds.specs.declared.id.SiteId.{SiteId}
 use Rattle.rbd_machine.specs.Knowledge.{same_site}
 use Rattle.rbd_machine.specs.Plan.{Standing}
+use Rattle.rbd_rely.specs.Beside.{AreBeside}
 use Rattle.rbd_rely.specs.Truth.{IsTrueAt, IsParentless}
 use Rattle.rbd_rely.proofs.Kept.{trims_keep}
 use Rattle.rbd_session.specs.Session.{SessionView, script_line}
@@ -48,10 +49,20 @@ module _ {R : Type 0} (stands : R → Standing) where
         by true is = same_of e h (session_in session old.sessions) (session_in session new.sessions) leaves (does.named session is)
         by false is = does.others session is
 
+    -- the requests are beside each other again
+    abbrev StayBeside : Type 0
+    StayBeside = (session slot other there : ℕ) → (session ≢ other) ⊎ (slot ≢ there) → (s : SiteId)
+        → AreBeside s (records_in s new.sites) (first_life session) (first_life other) (w.knows session slot) (w.knows other there)
+
+    -- where no records changed
+    pub stay_beside : ((s : SiteId) → records_in s new.sites ≡ records_in s old.sites) → StayBeside
+    stay_beside same session slot other there apart s =
+        subst (λ r. AreBeside s r (first_life session) (first_life other) (w.knows session slot) (w.knows other there)) (sym (same s)) (w.beside session slot other there apart s)
+
     rested : (h : Happening) → ((line : ℕ) → IsQuiet line h) → AreSame → StandFlat (h ∷ w.run) → IsDue w.homes h w.run → IsInTurn h w.run
         → ((s : SiteId) → IsParentless (records_in s new.sites)) → ((session slot : ℕ) (s : SiteId) → IsTrueAt s (records_in s new.sites) (first_life session) (w.knows session slot))
-        → Carries stands old new w h w.knows
-    rested h quiet same standing due turn parentless truth = record {
+        → StayBeside → Carries stands old new w h w.knows
+    rested h quiet same standing due turn parentless truth beside = record {
       standing = standing;
       due = due;
       parentless = parentless;
@@ -61,7 +72,7 @@ module _ {R : Type 0} (stands : R → Standing) where
       apart = λ line session slot other there one two. w.apart line session slot other there (sym (line_same session slot) ∙ one) (sym (line_same other there) ∙ two);
       slots = λ line begun. same_slots old.sessions new.sessions line_same line (w.slots line (open_back line h w.run (quiet line) begun));
       truth = truth;
-      beside = w.beside;
+      beside = beside;
       turn = turn;
       in_order = λ session c there.
           order_on stands old new w h due session c (sym (same session) ∙ there) (λ slot line is. quiet line) (λ other writer. (quiet other).steps);
@@ -75,12 +86,14 @@ module _ {R : Type 0} (stands : R → Standing) where
         rested Nothing quiet_nothing (sessions_stay e Nothing leaves does) (where_standing w.homes w.run w.right) tt tt
         (λ s. subst IsParentless (sym (at_sites.records s)) (w.parentless s))
         (λ session slot s. subst (λ r. IsTrueAt s r (first_life session) (w.knows session slot)) (sym (at_sites.records s)) (w.truth session slot s))
+        (stay_beside at_sites.records)
 
     pub waited_keeps : (e : Event) → Leaves e Waited → Does stands e Waited old new → DoesAtSites Waited old.sites new.sites → Carries stands old new w Waited w.knows
     waited_keeps e leaves does at_sites =
         rested Waited quiet_waited (sessions_stay e Waited leaves does) (where_standing w.homes w.run w.right) tt tt
         (λ s. subst IsParentless (sym (at_sites.records s)) (w.parentless s))
         (λ session slot s. subst (λ r. IsTrueAt s r (first_life session) (w.knows session slot)) (sym (at_sites.records s)) (w.truth session slot s))
+        (stay_beside at_sites.records)
 
     -- the store trims an object that is there
     pub trim_due : (s : SiteId) (image object : ℕ) → is_some ((records_in s old.sites).objects image object) ≡ true
@@ -97,6 +110,9 @@ module _ {R : Type 0} (stands : R → Standing) where
         (λ s. stands_there s (same_site site s) (where_standing w.homes w.run w.right s)) due tt
         (λ s. subst IsParentless (sym (at_sites.records s)) (parentless_there s (same_site site s)))
         (λ session slot s. subst (λ r. IsTrueAt s r (first_life session) (w.knows session slot)) (sym (at_sites.records s)) (true_there session slot s (same_site site s)))
+        (λ session slot other there apart s.
+        subst (λ r. AreBeside s r (first_life session) (first_life other) (w.knows session slot) (w.knows other there)) (sym (at_sites.records s))
+        (beside_there session slot other there apart s (same_site site s)))
       where
         stands_there : (s : SiteId) (b : Bool) → StandsFor [] (records_after s w.run) (flat_after s w.run)
             → StandsFor [] (cond b (trimmed image object (records_after s w.run)) (records_after s w.run)) (flat_after s w.run)
@@ -110,3 +126,8 @@ module _ {R : Type 0} (stands : R → Standing) where
         true_there : (session slot : ℕ) (s : SiteId) (b : Bool) → IsTrueAt s (cond b (trimmed image object (records_in s old.sites)) (records_in s old.sites)) (first_life session) (w.knows session slot)
         true_there session slot s true = trims_keep s (records_in s old.sites) (first_life session) (w.knows session slot) image object (w.truth session slot s)
         true_there session slot s false = w.truth session slot s
+
+        beside_there : (session slot other there : ℕ) → (session ≢ other) ⊎ (slot ≢ there) → (s : SiteId) (b : Bool)
+            → AreBeside s (cond b (trimmed image object (records_in s old.sites)) (records_in s old.sites)) (first_life session) (first_life other) (w.knows session slot) (w.knows other there)
+        beside_there session slot other there apart s true = let beside = w.beside session slot other there apart s in record { shared = beside.shared; apart = beside.apart }
+        beside_there session slot other there apart s false = w.beside session slot other there apart s

@@ -1,5 +1,5 @@
 -- A step that is refused memory leaves a sound world sound.
-use Rattle.std.proofs.Common.{◌≡◌, ℕ, List, length, Option, Some, None, refl, sym, ap, ◌∙◌, subst}
+use Rattle.std.proofs.Common.{◌≡◌, ◌≢◌, ◌⊎◌, ℕ, List, length, Option, Some, None, refl, sym, ap, ◌∙◌, subst}
 use Rattle.rbd_kinds.specs.declared.id.SiteId.{SiteId}
 use Rattle.rbd_known.specs.Calm.{IsCalmRequest}
 use Rattle.rbd_known.proofs.Behind.{alike_know}
@@ -7,6 +7,7 @@ use Rattle.rbd_machine.specs.Knowledge.{Knowledge}
 use Rattle.rbd_machine.specs.Path.{IsWalk}
 use Rattle.rbd_machine.specs.Plan.{Standing}
 use Rattle.rbd_machine.specs.Refused.{AreGiven}
+use Rattle.rbd_rely.specs.Beside.{AreBeside}
 use Rattle.rbd_rely.specs.Truth.{IsTrueAt, IsParentless}
 use Rattle.rbd_session.specs.declared.running.Occupant.{Occupant}
 use Rattle.rbd_session.specs.declared.running.Occupant.TheVariants as occupant
@@ -113,7 +114,10 @@ module _ {R : Type 0} (stands : R → Standing) where
         w.apart line session slot other there (sym (line_was session slot) ∙ is) (sym (line_was other there) ∙ also);
     slots = λ line begun. same_slots old.sessions new.sessions line_was line (w.slots line begun);
     truth = subst (λ (sites : Sites). (session slot : ℕ) (s : SiteId) → IsTrueAt s (records_in s sites) (first_life session) (w.knows session slot)) (sym undone.sites) w.truth;
-    beside = w.beside;
+    beside =
+        subst
+        (λ (sites : Sites). (session slot other there : ℕ) → (session ≢ other) ⊎ (slot ≢ there) → (s : SiteId)
+        → AreBeside s (records_in s sites) (first_life session) (first_life other) (w.knows session slot) (w.knows other there)) (sym undone.sites) w.beside;
     order = w.order;
     in_order = λ session.
         alike_order_if stands (w.homes session) session w.run (session_in session old.sessions) (session_in session new.sessions) (undone.sessions session) (w.in_order session);

@@ -191,7 +191,8 @@ pub record IsSoundWorld {R : Type 0} (stands : R → Standing) (w : WorldView R)
   -- what is known is true of the instance that knows it, and no two requests are in each other's
   -- way
   pub truth : (session slot : ℕ) (s : SiteId) → IsTrueAt s (records_in s w.sites) (first_life session) (knows session slot)
-  pub beside : (session slot other there : ℕ) → (session ≢ other) ⊎ (slot ≢ there) → (s : SiteId) → AreBeside s (knows session slot) (knows other there)
+  pub beside : (session slot other there : ℕ) → (session ≢ other) ⊎ (slot ≢ there) → (s : SiteId)
+      → AreBeside s (records_in s w.sites) (first_life session) (first_life other) (knows session slot) (knows other there)
   -- the writes of each session change an image in the order in which they found it
   pub order : KeepsOrder run
   pub in_order : (session : ℕ) (c : SessionView R) → session_in session w.sessions ≡ Some c → IsInOrder stands (homes session) session run c

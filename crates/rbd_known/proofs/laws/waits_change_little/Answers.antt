@@ -9,4 +9,4 @@ pub returns-clause-truth : goal.returns-clause-truth
 returns-clause-truth c = λ site r me k plan t. still_true site r me plan k t
 
 pub returns-clause-beside : goal.returns-clause-beside
-returns-clause-beside c = λ site k j plan beside. still_beside site j plan k beside
+returns-clause-beside c = λ site r me you k j plan beside. still_beside site r me you j plan k beside

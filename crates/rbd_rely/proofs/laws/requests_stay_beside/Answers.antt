@@ -1,8 +1,17 @@
-use Rattle.rbd_rely.proofs.Together.{learned_beside, waited_beside}
+use Rattle.rbd_rely.proofs.Together.{beside_stays, learned_beside, waited_beside}
 use Rattle.rbd_rely.proofs.laws.requests_stay_beside.Goals as goal
 
 pub returns-clause-answered : goal.returns-clause-answered
-returns-clause-answered c = λ site r k j me you o u beside permits may. learned_beside site k j beside r me you o u permits may
+returns-clause-answered c = λ site r k j me you o u beside permits may. learned_beside site r me you k j beside o u permits may
 
 pub returns-clause-waited : goal.returns-clause-waited
-returns-clause-waited c = λ site k j w beside. waited_beside site k j beside w
+returns-clause-waited c = λ site r me you k j w beside. waited_beside site r me you k j beside w
+
+pub returns-clause-others : goal.returns-clause-others
+returns-clause-others c = beside_stays
+
+pub returns-clause-trim : goal.returns-clause-trim
+returns-clause-trim c = λ site r me you k j image number beside. record { shared = beside.shared; apart = beside.apart }
+
+pub returns-clause-expiry : goal.returns-clause-expiry
+returns-clause-expiry c = λ site r me you i k j image beside. record { shared = beside.shared; apart = beside.apart }

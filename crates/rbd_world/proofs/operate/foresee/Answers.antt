@@ -5,7 +5,7 @@ use Rattle.rbd_site.specs.Log.{records_of}
 use Rattle.rbd_site.specs.Step.{answer_to}
 use Rattle.rbd_site.specs.declared.done.DoneOp.TheVariants as of_done
 use Rattle.rbd_stands.specs.Effect.{effect_of as effect_there}
-use Rattle.rbd_world.proofs.Wanting.{can_be_fed}
+use Rattle.rbd_known.proofs.Wanting.{can_be_fed}
 use Rattle.rbd_world.proofs.operate.foresee.Goals as goal
 
 pub ready-requires : goal.ready-requires

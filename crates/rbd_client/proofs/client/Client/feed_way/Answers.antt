@@ -31,6 +31,7 @@ invariant_of-self g c =
     c.set_state.ensures.length refl
     (subst (λ x. CountsAll (comings_of quiescing.Leaves None x.0 x.1 c.args.fed.now) c.self.inside.locks c.count.new.locks) (sym same) c.count.ensures)
     both.1
+    (λ some r runs. (c.settle.ensures.left (c.is_some.ensures ∙ some)).left r runs)
 
 pub returns-clause-sound : goal.returns-clause-sound
 returns-clause-sound g c = invariant_of-self g c

@@ -1,0 +1,61 @@
+-- The other calls of a client leave what it knows and counts true.
+use Rattle.std.proofs.Common.{◌≡◌, ◌≢◌, ◌⊎◌, inl, inr, ℕ, cond, Bool, true, false, [], ◌∷◌, refl, sym, ap, ◌∙◌, subst, true≢false, None}
+use Rattle.std.proofs.lemmas.Bool.{cases_eq}
+use Rattle.rbd_client.specs.declared.slot_state.Quiescing.{Quiescing}
+use Rattle.rbd_client.specs.declared.slot_state.SlotState.{SlotState}
+use Rattle.rbd_client.specs.declared.slot_state.Way.{Way}
+use Rattle.rbd_client.specs.declared.slot_state.Way.TheVariants as way
+use Rattle.rbd_client.specs.Client.{ClientView, blank, newcomer, state_in}
+use Rattle.rbd_client.specs.Feeding.{AreStatesAlike}
+use Rattle.rbd_client.specs.Sound.{IsOwned, IsSoundClient}
+use Rattle.rbd_held.specs.Truth.{IsTrueOf, IsWayTrue}
+use Rattle.rbd_kinds.specs.declared.id.Instance.{Instance}
+use Rattle.rbd_kinds.specs.declared.id.SiteId.{SiteId}
+use Rattle.rbd_kinds.specs.declared.notice.Notice.{Notice}
+use Rattle.rbd_locks.specs.declared.lock_state.LockState.{LockState}
+use Rattle.rbd_locks.specs.Comings.{ByNotice}
+use Rattle.rbd_locks.specs.Locks.{heard, state_at}
+use Rattle.rbd_locks.specs.States.{blank as unknown}
+use Rattle.rbd_locks.proofs.Lasting.{owned_is}
+use Rattle.rbd_machine.specs.Knowledge.{Knowledge, nothing_known}
+use Rattle.rbd_machine.specs.Plan.{Standing}
+use Rattle.rbd_rely.proofs.Nothing.{nothing_is_beside, nothing_is_true}
+use Rattle.rbd_session.specs.Session.{held_in}
+use Rattle.rbd_site.specs.Records.{Records}
+
+no_way : (site : SiteId) (r : Records) (me : Instance) (w : Way) → w ≡ way.Unbegun → IsWayTrue site r me w
+no_way site r me w is = subst (IsWayTrue site r me) (sym is) tt
+
+module _ {R : Type 0} (site : SiteId) (r : Records) (me : Instance) where
+  -- a client without requests, which counts no lock
+  pub new_client_is_true : (stands : R → Standing) (c : ClientView R) → IsSoundClient stands c → ((slot : ℕ) → held_in slot c.session.slots ≡ None)
+      → ((image : ℕ) → state_at site image c.locks ≡ unknown) → IsTrueOf site r me (λ slot. nothing_known) c
+  new_client_is_true stands c sound none locks = record {
+    requests = λ slot. nothing_is_true site r me;
+    beside = λ slot other differ. nothing_is_beside site r me me nothing_known;
+    ways = λ slot. no_way site r me (state_in slot c.slots).way (ap (λ (s : SlotState). s.way) (sound.free slot (none slot)));
+    locks = λ image owned. absurd (true≢false (sym owned ∙ ap (λ (s : LockState). s.owned) (locks image)));
+  }
+
+  module _ (knows : ℕ → Knowledge) (c d : ClientView R) (t : IsTrueOf site r me knows c) where
+    -- who counts no lock more, and begins no way
+    counts_no_more : ((slot : ℕ) → IsWayTrue site r me (state_in slot d.slots).way) → ((image : ℕ) → IsOwned site image d.locks → IsOwned site image c.locks) → IsTrueOf site r me knows d
+    counts_no_more ways owned = record { requests = t.requests; beside = t.beside; ways = ways; locks = λ image is. t.locks image (owned image is) }
+
+    pub submitted_is_true : (slot : ℕ) (q : Quiescing) → state_in slot d.slots ≡ newcomer q → ((other : ℕ) → other ≢ slot → state_in other d.slots ≡ state_in other c.slots) → d.locks ≡ c.locks
+        → IsTrueOf site r me knows d
+    submitted_is_true slot q new others locks = counts_no_more (λ x. by x (cases_eq x slot)) (λ image is. subst (λ l. IsOwned site image l) locks is)
+      where
+        by : (x : ℕ) → (x ≡ slot) ⊎ (x ≢ slot) → IsWayTrue site r me (state_in x d.slots).way
+        by x (inl same) = no_way site r me (state_in x d.slots).way (ap (λ n. (state_in n d.slots).way) same ∙ ap (λ (s : SlotState). s.way) new)
+        by x (inr differ) = subst (λ (s : SlotState). IsWayTrue site r me s.way) (sym (others x differ)) (t.ways x)
+
+    pub readied_is_true : d.slots ≡ c.slots → AreStatesAlike c.locks d.locks → IsTrueOf site r me knows d
+    readied_is_true slots locks =
+        counts_no_more (λ x. subst (λ xs. IsWayTrue site r me (state_in x xs).way) (sym slots) (t.ways x))
+        (λ image is. sym (ap (λ (s : LockState). s.owned) (locks site image)) ∙ is)
+
+    pub heard_is_true : (n : Notice) → d.slots ≡ c.slots → ((image : ℕ) → state_at site image d.locks ≡ heard n site image (state_at site image c.locks)) → IsTrueOf site r me knows d
+    heard_is_true n slots locks =
+        counts_no_more (λ x. subst (λ xs. IsWayTrue site r me (state_in x xs).way) (sym slots) (t.ways x))
+        (λ image is. sym (ap (λ (s : LockState). s.owned) (locks image) ∙ owned_is site image (ByNotice n ∷ []) (state_at site image c.locks)) ∙ is)

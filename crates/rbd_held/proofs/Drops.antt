@@ -1,0 +1,197 @@
+-- A request drops a lock only where its image is at rest: nobody of the client relies on the lock.
+use Rattle.std.proofs.Common.{◌≡◌, ◌≢◌, ◌⊎◌, inl, inr, ℕ, zero, suc, ◌==◌, ◌&&◌, ◌||◌, not, cond, Bool, true, false, List, [], ◌∷◌, Option, Some, None, refl, sym, ap, ◌∙◌, subst, true≢false}
+use Rattle.std.specs.List.{list_all, list_any}
+use Rattle.std.specs.Option.{option_map}
+use Rattle.std.proofs.lemmas.Bool.{and_parts, cases_eq, eqb-true, or_parts}
+use Rattle.rbd_client.specs.declared.actor.Actor.{Actor}
+use Rattle.rbd_client.specs.declared.actor.Actor.TheVariants as actor
+use Rattle.rbd_client.specs.declared.slot_state.SlotState.{SlotState}
+use Rattle.rbd_client.specs.declared.slot_state.Way.{Way}
+use Rattle.rbd_client.specs.declared.slot_state.Way.TheVariants as way
+use Rattle.rbd_client.specs.Actor.{actor_at, any_taken, has_taken, is_at_rest, op_by, op_wanted}
+use Rattle.rbd_client.specs.Client.{ClientView, state_in}
+use Rattle.rbd_client.specs.Feeding.{DropsAtRest, IsAtRest}
+use Rattle.rbd_client.specs.Sound.{IsSoundClient, IsWellOnWay}
+use Rattle.rbd_client.proofs.Past.{IsPastIn, past_found}
+use Rattle.rbd_client.proofs.Requests.{look_drops_nothing}
+use Rattle.rbd_course.specs.Course.{has_just_joined, is_waiting}
+use Rattle.rbd_course.specs.declared.stage.Stage.{Stage}
+use Rattle.rbd_course.specs.declared.stage.Stage.TheVariants as stage
+use Rattle.rbd_held.specs.Knowing.{known_to, unlooked}
+use Rattle.rbd_kinds.specs.declared.header_op.HeaderOp.TheVariants as header
+use Rattle.rbd_kinds.specs.declared.id.SiteId.{SiteId}
+use Rattle.rbd_kinds.specs.declared.operation.Op.{Op}
+use Rattle.rbd_kinds.specs.declared.operation.Op.TheVariants as op
+use Rattle.rbd_known.specs.Knowing.{AllKnow}
+use Rattle.rbd_known.proofs.Looking.{IsMemberFor, may_of, may_shared, owner_runs}
+use Rattle.rbd_known.proofs.Wanting.{Wants, wants}
+use Rattle.rbd_line.specs.Line.{Member, ahead, any_past, is_let_pass, is_past, is_shared_past, lets_pass, may_pass, member_of}
+use Rattle.rbd_locks.specs.declared.image_at.ImageAt.{ImageAt}
+use Rattle.rbd_session.specs.declared.image_at.ImageAt.{ImageAt as LineAt}
+use Rattle.rbd_locks.specs.Places.{is_same}
+use Rattle.rbd_locks.proofs.Keys.{where_same}
+use Rattle.rbd_locks.proofs.Lasting.{same_itself}
+use Rattle.rbd_machine.specs.Knowledge.{Knowledge}
+use Rattle.rbd_machine.specs.Permits.{HoldsUnlooked, Permits}
+use Rattle.rbd_machine.specs.Plan.{Standing}
+use Rattle.rbd_session.specs.Advance.{track_of}
+use Rattle.rbd_session.specs.Lines.{lines_of}
+use Rattle.rbd_session.specs.Session.{held_in, own_look_at, running_in}
+use Rattle.rbd_session.specs.Track.{Track, course_of, line_in}
+use Rattle.rbd_session.specs.Waits.{awaits_line, awaits_turn, is_at_own, waits}
+use Rattle.rbd_session.proofs.OwnLooks.{at_own_look}
+use Rattle.rbd_session.proofs.Sound.{no_some, some_same}
+
+-- ---- in one line
+
+never_alone : (b : Bool) → (b && false) ≡ true → ⊥
+never_alone true is = true≢false (sym is)
+never_alone false is = true≢false (sym is)
+
+-- One that is alone and may pass is the first. Behind it nobody may, until it is past own.
+alone_goes_first : (line : List Member) (slot other : ℕ) (m n : Member) → slot ≢ other → member_of slot line ≡ Some m → member_of other line ≡ Some n → m.alone ≡ true → is_past m.stage ≡ false
+    → may_pass slot line ≡ true → may_pass other line ≡ true → ⊥
+alone_goes_first [] slot other m n differ here there alone waits may also = no_some m here
+alone_goes_first (x ∷ line) slot other m n differ here there alone waits may also = by (x.slot == slot) refl
+  where
+    -- it would have to let pass whoever is ahead of it
+    behind_one : (b : Bool) → (x.slot == slot) ≡ b → b ≡ false → ⊥
+    behind_one b is none =
+        never_alone (is_shared_past x)
+        (sym (ap (λ a. is_shared_past x && not a) alone)
+        ∙ (and_parts (lets_pass m.alone x) (list_all (lets_pass m.alone) (ahead slot line))
+        (sym (ap (λ o. is_let_pass o (ahead slot (x ∷ line))) here ∙ ap (λ c. is_let_pass (Some m) (cond c [] (x ∷ ahead slot line))) (is ∙ none)) ∙ may)).0)
+
+    first : x ≡ m → (x.slot == other) ≡ false → ⊥
+    first same apart =
+        let lets =
+        (and_parts (lets_pass n.alone x) (list_all (lets_pass n.alone) (ahead other line))
+        (sym (ap (λ o. is_let_pass o (ahead other (x ∷ line))) there ∙ ap (λ c. is_let_pass (Some n) (cond c [] (x ∷ ahead other line))) apart) ∙ also)).0 in
+        let shared = (and_parts (is_shared_past x) (not n.alone) lets).0 in
+        true≢false (sym (and_parts (is_past x.stage) (not x.alone) shared).0 ∙ ap (λ (y : Member). is_past y.stage) same ∙ waits)
+
+    by : (b : Bool) → (x.slot == slot) ≡ b → ⊥
+    by false is = behind_one false is refl
+    by true is = go (x.slot == other) refl
+      where
+        found : x ≡ m
+        found = some_same x m (sym (ap (λ c. cond c (Some x) (member_of slot line)) is) ∙ here)
+
+        go : (b : Bool) → (x.slot == other) ≡ b → ⊥
+        go true also_is = differ (sym (eqb-true x.slot slot is) ∙ eqb-true x.slot other also_is)
+        go false apart = first found apart
+
+-- ---- who has taken a lock
+
+record HasTaken (site : SiteId) (image : ℕ) (slots : List SlotState) : Type 0 where
+  pub slot : ℕ
+  pub place : ImageAt
+  pub way : (state_in slot slots).way ≡ way.Taken place
+  pub same : is_same site image place.site place.image ≡ true
+
+taken_found : (site : SiteId) (image : ℕ) (slots : List SlotState) → any_taken site image slots ≡ true → HasTaken site image slots
+taken_found site image [] any = absurd (true≢false (sym any))
+taken_found site image (s ∷ slots) any = by s.way refl any (taken_found site image slots)
+  where
+    later : HasTaken site image slots → HasTaken site image (s ∷ slots)
+    later t = record { slot = suc t.slot; place = t.place; way = t.way; same = t.same }
+
+    here : (p : ImageAt) → s.way ≡ way.Taken p → (b : Bool) → is_same site image p.site p.image ≡ b → (b || any_taken site image slots) ≡ true
+        → (any_taken site image slots ≡ true → HasTaken site image slots) → HasTaken site image (s ∷ slots)
+    here p at true same any rest = record { slot = 0; place = p; way = at; same = same }
+    here p at false same any rest = later (rest any)
+
+    by : (w : Way) → s.way ≡ w → (has_taken site image w || any_taken site image slots) ≡ true → (any_taken site image slots ≡ true → HasTaken site image slots) → HasTaken site image (s ∷ slots)
+    by (way.Taken p) at any rest = here p at (is_same site image p.site p.image) refl any rest
+    by way.Unbegun at any rest = later (rest any)
+    by (way.On a) at any rest = later (rest any)
+
+-- ---- a drop
+
+module _ {R : Type 0} (stands : R → Standing) (c : ClientView R) (knows : ℕ → Knowledge) (sound : IsSoundClient stands c) (all : AllKnow stands knows c.session)
+    (slot : ℕ) (site : SiteId) (image : ℕ) (wanted : op_by stands slot c.session actor.Request ≡ Some (site, op.Header image header.LockDrop)) (holds : HoldsUnlooked (knows slot) site image) where
+  w : Wants stands slot c.session.lines site (op.Header image header.LockDrop) (held_in slot c.session.slots)
+  w = wants stands slot c.session.lines site (op.Header image header.LockDrop) (held_in slot c.session.slots) wanted
+
+  abbrev track : Track
+  track = track_of w.request c.session.lines
+
+  abbrev line : List Member
+  line = lines_of c.session.lines site image
+
+  -- it waits in the image's line, alone
+  m : IsMemberFor slot site image (unlooked site image) track
+  m = owner_runs stands c.session knows sound.session all slot w.request (ap running_in w.is) site image (unlooked site image) holds.is
+
+  waiting : m.member.stage ≡ stage.Waiting
+  waiting = by m.member.stage refl
+    where
+      by : (s : Stage) → m.member.stage ≡ s → s ≡ stage.Waiting
+      by stage.Joined is = absurd (true≢false (sym (ap has_just_joined is) ∙ m.waits))
+      by stage.Waiting is = refl
+      by stage.Past is = absurd (true≢false (sym (m.told (ap is_past is))))
+
+  may : may_pass slot line ≡ true
+  may =
+      sym (ap (may_pass slot) m.line)
+      ∙ may_of (is_at_own (course_of slot track).place) (may_pass slot (line_in track.place track.lines)) (ap is_at_own m.place ∙ ap is_waiting waiting)
+      (or_parts (awaits_line slot track) (awaits_turn slot track) w.goes).0
+
+  nobody_past : (b : Bool) → any_past line ≡ b → b ≡ false
+  nobody_past false is = refl
+  nobody_past true is = absurd (by (past_found line (sound.session.fair site image).apart is))
+    where
+      by : IsPastIn line → ⊥
+      by p = go (cases_eq p.member.slot slot)
+        where
+          go : (p.member.slot ≡ slot) ⊎ (p.member.slot ≢ slot) → ⊥
+          go (inl same) =
+              let one = some_same m.member p.member (sym m.found ∙ sym (ap (λ n. member_of n line) same) ∙ p.found) in
+              true≢false (sym p.past ∙ sym (ap (λ (x : Member). is_past x.stage) one) ∙ ap is_past waiting)
+          go (inr differ) =
+              true≢false (m.alone ∙ (may_shared line slot p.member.slot m.member p.member (sound.session.fair site image) (λ same. differ (sym same)) m.found p.found may p.past).0)
+
+  nobody_taken : (b : Bool) → any_taken site image c.slots ≡ b → b ≡ false
+  nobody_taken false is = refl
+  nobody_taken true is = absurd (by (taken_found site image c.slots is))
+    where
+      by : HasTaken site image c.slots → ⊥
+      by t = go (cases_eq slot t.slot)
+        where
+          there : LineAt
+          there = record { site = t.place.site; image = t.place.image }
+
+          well : IsWellOnWay stands t.slot (way.Taken t.place) c.session c.locks
+          well = subst (λ w. IsWellOnWay stands t.slot w c.session c.locks) t.way (sound.ways t.slot)
+
+          go : (slot ≡ t.slot) ⊎ (slot ≢ t.slot) → ⊥
+          go (inl same) =
+              true≢false (sym (same_itself site image)
+              ∙ look_drops_nothing stands slot site (op.Header image header.LockDrop) c.session there
+              (subst (λ n. own_look_at stands n c.session ≡ Some there) (sym same) well.0.at_look) wanted site image)
+          go (inr differ) =
+              let look = at_own_look stands c.session t.slot there well.0.at_look in
+              where_same (λ s i. (n : Member) → member_of t.slot (lines_of c.session.lines s i) ≡ Some n → may_pass t.slot (lines_of c.session.lines s i) ≡ true → ⊥)
+              site image t.place.site t.place.image t.same
+              (λ n found may_also. alone_goes_first line slot t.slot m.member n differ m.found found (sym m.alone) (ap is_past waiting) may may_also)
+              look.member look.found look.may
+
+  pub rests : is_at_rest site image c ≡ true
+  rests =
+      ap (λ a. not a && not (any_taken site image c.slots)) (nobody_past (any_past line) refl)
+      ∙ ap not (nobody_taken (any_taken site image c.slots) refl)
+
+module _ {R : Type 0} (stands : R → Standing) (c : ClientView R) (knows : ℕ → Knowledge) (sound : IsSoundClient stands c) (all : AllKnow stands knows c.session) where
+  request_rests : (slot : ℕ) (site : SiteId) (o : Op) → op_by stands slot c.session actor.Request ≡ Some (site, o) → Permits (knows slot) site o → IsAtRest site o c
+  request_rests slot site (op.Header image header.LockDrop) wanted permits = rests stands c knows sound all slot site image wanted permits
+  request_rests slot site _ wanted permits = tt
+
+  pub drops_rest : (slot : ℕ) (site : SiteId) (o : Op) → op_wanted stands slot c ≡ Some (site, o) → Permits (known_to (knows slot) (actor_at stands slot c)) site o
+      → DropsAtRest (actor_at stands slot c) site o c
+  drops_rest slot site o wanted permits = by (actor_at stands slot c) wanted permits
+    where
+      by : (who : Actor) → op_by stands slot c.session who ≡ Some (site, o) → Permits (known_to (knows slot) who) site o → DropsAtRest who site o c
+      by actor.Nobody wanted permits = tt
+      by actor.Request wanted permits = request_rests slot site o wanted permits
+      by (actor.Way a) wanted permits = tt
+      by (actor.Release x) wanted permits = tt

@@ -1,0 +1,11 @@
+pub mod Ways
+pub mod Releases
+pub mod Permitted
+pub mod Owned
+pub mod Looks
+pub mod Fed
+pub mod LocksHeld
+pub mod Answered
+pub mod Others
+pub mod Calls
+pub mod Drops

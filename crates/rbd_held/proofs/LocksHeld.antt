@@ -1,0 +1,117 @@
+-- A lock that counts as the client's behind an answer is the client's, unless it is fenced.
+use Rattle.std.proofs.Common.{◌≡◌, ◌≢◌, ℕ, ◌==◌, cond, Bool, true, false, List, [], ◌∷◌, Option, Some, None, refl, sym, ap, ◌∙◌, subst, true≢false}
+use Rattle.std.proofs.lemmas.Bool.{eqb-true}
+use Rattle.rbd_client.specs.declared.slot_state.Quiescing.{Quiescing}
+use Rattle.rbd_client.specs.declared.slot_state.Quiescing.TheVariants as quiescing
+use Rattle.rbd_client.specs.Feeding.{comings_of, quiesced_by, resumes, CountsAll}
+use Rattle.rbd_client.specs.Sound.{IsOwned}
+use Rattle.rbd_kinds.specs.declared.answer.Answer.{Answer}
+use Rattle.rbd_kinds.specs.declared.answer.Answer.TheVariants as answer
+use Rattle.rbd_kinds.specs.declared.directory_op.DirectoryOp.TheVariants as directory
+use Rattle.rbd_kinds.specs.declared.header_op.HeaderOp.{HeaderOp}
+use Rattle.rbd_kinds.specs.declared.header_op.HeaderOp.TheVariants as header
+use Rattle.rbd_kinds.specs.declared.id.Instance.{Instance}
+use Rattle.rbd_kinds.specs.declared.id.SiteId.{SiteId}
+use Rattle.rbd_kinds.specs.declared.id.SiteId.TheVariants as site
+use Rattle.rbd_kinds.specs.declared.machine.Fed.TheVariants as fed
+use Rattle.rbd_kinds.specs.declared.operation.Op.{Op}
+use Rattle.rbd_kinds.specs.declared.operation.Op.TheVariants as op
+use Rattle.rbd_locks.specs.declared.lock_state.LockState.{LockState}
+use Rattle.rbd_locks.specs.Comings.{ByAnswer, owned_since, owns_after}
+use Rattle.rbd_locks.specs.Locks.{LocksView, state_at}
+use Rattle.rbd_locks.specs.Places.{is_same}
+use Rattle.rbd_locks.proofs.Lasting.{owned_is}
+use Rattle.rbd_machine.specs.Knowledge.{Knowledge, same_site}
+use Rattle.rbd_machine.specs.Permits.{Permits}
+use Rattle.rbd_rely.specs.Locks.{HasLockWhileFree, gives_up}
+use Rattle.rbd_rely.specs.Truth.{IsTrueAt}
+use Rattle.rbd_rely.proofs.Locks.{lock_is_taken, lock_lasts}
+use Rattle.rbd_session.specs.declared.image_at.ImageAt.{ImageAt}
+use Rattle.rbd_site.specs.Records.{Records}
+use Rattle.rbd_site.specs.Step.{after, answer_to}
+
+-- a quiesce, and the end of one, leave who owns the lock
+quiet_resume : (s t : SiteId) (o : Op) (i image : ℕ) (b : Bool) → owned_since t image b (resumes s o i) ≡ b
+quiet_resume s t (op.Directory (directory.Find name)) i image b = refl
+quiet_resume s t _ i image b = refl
+
+quiet_rest : (q : Quiescing) (look : Option ImageAt) (s t : SiteId) (o : Op) (a : Answer) (image : ℕ) (b : Bool) → owned_since t image b (quiesced_by q look s o a) ≡ b
+quiet_rest quiescing.Begins None s t o (answer.Header h) image b = refl
+quiet_rest quiescing.Begins (Some p) s t o (answer.Header h) image b = refl
+quiet_rest quiescing.Ends look s t o (answer.Id i) image b = quiet_resume s t o i image b
+quiet_rest q look s t o a image b = refl
+
+-- whether the lock counts as owned behind one answer
+abbrev pub owned_then : SiteId → SiteId → (image : ℕ) → Op → Answer → Bool → Bool
+owned_then s t image (op.Header on o) a b = cond (is_same s on t image) (owns_after b (op.Header on o) a) b
+owned_then s t image o a b = b
+
+counted_since : (q : Quiescing) (look : Option ImageAt) (s t : SiteId) (o : Op) (a : Answer) (image : ℕ) (b : Bool)
+    → owned_since t image b (comings_of q look s o (fed.Answer a)) ≡ owned_then s t image o a b
+counted_since q look s t (op.Header on o) a image b = quiet_rest q look s t (op.Header on o) a image (cond (is_same s on t image) (owns_after b (op.Header on o) a) b)
+counted_since q look s t o a image b = quiet_rest q look s t o a image b
+
+pub is_counted : (q : Quiescing) (look : Option ImageAt) (s t : SiteId) (o : Op) (a : Answer) (old new : LocksView) → CountsAll (comings_of q look s o (fed.Answer a)) old new
+    → (image : ℕ) → IsOwned t image new → owned_then s t image o a (state_at t image old).owned ≡ true
+is_counted q look s t o a old new counts image owned =
+    sym (ap (λ (x : LockState). x.owned) (counts t image) ∙ owned_is t image (comings_of q look s o (fed.Answer a)) (state_at t image old)
+    ∙ counted_since q look s t o a image (state_at t image old).owned) ∙ owned
+
+-- at one site images are told apart by their numbers
+same_there : (s : SiteId) (on image : ℕ) → is_same s on s image ≡ (on == image)
+same_there site.A on image = refl
+same_there site.B on image = refl
+
+never_elsewhere : (s t : SiteId) (on image : ℕ) → same_site s t ≡ false → is_same s on t image ≡ false
+never_elsewhere site.A site.A on image differ = absurd (true≢false differ)
+never_elsewhere site.B site.B on image differ = absurd (true≢false differ)
+never_elsewhere site.A site.B on image differ = refl
+never_elsewhere site.B site.A on image differ = refl
+
+-- ---- at the other site
+
+pub owned_elsewhere : (s t : SiteId) (image : ℕ) (o : Op) (a : Answer) (b : Bool) → same_site s t ≡ false → owned_then s t image o a b ≡ true → b ≡ true
+owned_elsewhere s t image (op.Header on o) a b differ is = sym (ap (λ x. cond x (owns_after b (op.Header on o) a) b) (never_elsewhere s t on image differ)) ∙ is
+owned_elsewhere s t image _ a b differ is = is
+
+-- ---- at this one
+
+module _ (s : SiteId) (r : Records) (me : Instance) (k : Knowledge) (truth : IsTrueAt s r me k) (image : ℕ) (b : Bool) (held : b ≡ true → HasLockWhileFree r me image) where
+  lasts : (o : Op) → Permits k s o → gives_up image o ≡ false → b ≡ true → HasLockWhileFree (after r me o) me image
+  lasts o permits keeps owned = lock_lasts s r me me k image o truth permits (λ same. keeps) (held owned)
+
+  answered_here : (o : HeaderOp) (a : Answer) → a ≡ answer_to r me (op.Header image o) → Permits k s (op.Header image o) → owns_after b (op.Header image o) a ≡ true
+      → HasLockWhileFree (after r me (op.Header image o)) me image
+  answered_here header.LockTake answer.Done is permits owned = lock_is_taken r me image (sym is)
+  answered_here header.LockTake _ is permits owned = lasts (op.Header image header.LockTake) permits refl owned
+  answered_here header.LockDrop a is permits owned = absurd (true≢false (sym owned))
+  answered_here o a is permits owned = lasts (op.Header image o) permits refl owned
+
+  pub held_behind : (o : Op) → Permits k s o → owned_then s s image o (answer_to r me o) b ≡ true → HasLockWhileFree (after r me o) me image
+  held_behind (op.Header on o) permits owned = by (on == image) refl (sym (ap (λ x. cond x (owns_after b (op.Header on o) (answer_to r me (op.Header on o))) b) (same_there s on image)) ∙ owned)
+    where
+      gives : (h : HeaderOp) → (image == on) ≡ false → gives_up image (op.Header on h) ≡ false
+      gives header.LockDrop differ = differ
+      gives _ differ = refl
+
+      other_way : (on == image) ≡ false → (image == on) ≡ false
+      other_way differ = go (image == on) refl
+        where
+          go : (x : Bool) → (image == on) ≡ x → x ≡ false
+          go false is = refl
+          go true is = absurd (true≢false (sym (ap (λ n. n == image) (sym (eqb-true image on is)) ∙ itself) ∙ differ))
+            where
+              itself : (image == image) ≡ true
+              itself = ap (λ n. image == n) (eqb-true image on is) ∙ is
+
+      by : (x : Bool) → (on == image) ≡ x → cond x (owns_after b (op.Header on o) (answer_to r me (op.Header on o))) b ≡ true → HasLockWhileFree (after r me (op.Header on o)) me image
+      by true same owned =
+          let at = eqb-true on image same in
+          subst (λ n. HasLockWhileFree (after r me (op.Header n o)) me image) (sym at)
+          (answered_here o (answer_to r me (op.Header image o)) refl (subst (λ n. Permits k s (op.Header n o)) at permits)
+          (ap (λ n. owns_after b (op.Header n o) (answer_to r me (op.Header n o))) (sym at) ∙ owned))
+      by false differ owned = lasts (op.Header on o) permits (gives o (other_way differ)) owned
+  held_behind (op.Directory o) permits owned = lasts (op.Directory o) permits refl owned
+  held_behind (op.BlockAdd i) permits owned = lasts (op.BlockAdd i) permits refl owned
+  held_behind (op.Data i number o) permits owned = lasts (op.Data i number o) permits refl owned
+  held_behind _ permits owned = elim permits [ ]
