@@ -1,2 +1,3 @@
 mod EachKind
 pub mod Ordered
+pub mod Results
