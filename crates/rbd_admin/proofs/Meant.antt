@@ -12,8 +12,8 @@ use Rattle.rbd_kinds.specs.declared.header_op.HeaderOp.TheVariants as header
 use Rattle.rbd_kinds.specs.declared.id.SiteId.{SiteId}
 use Rattle.rbd_kinds.specs.declared.machine.Fed.{Fed}
 use Rattle.rbd_kinds.specs.declared.operation.Op.TheVariants as op
-use Rattle.rbd_kinds.specs.declared.refusal.Refusal.{Refusal}
 use Rattle.rbd_kinds.specs.declared.refusal.Refusal.TheVariants as refusal
+use Rattle.rbd_kinds.proofs.Results.{same_refusal}
 use Rattle.rbd_kinds.specs.declared.reply.Reply.{Reply}
 use Rattle.rbd_kinds.specs.declared.reply.Reply.TheVariants as reply
 use Rattle.rbd_kinds.specs.Header.{snap_named}
@@ -56,9 +56,6 @@ TellsInfo _ = ⊥
 abbrev TellsSnaps : Reply → Type 0
 TellsSnaps (reply.Snaps snaps) = Unit {0}
 TellsSnaps _ = ⊥
-
-same_refusal : (x y : Refusal) → reply.Refused x ≡ reply.Refused y → y ≡ x
-same_refusal x y is = cc
 
 -- ---- create
 

@@ -15,11 +15,10 @@ use Rattle.rbd_kinds.specs.declared.id.SiteId.{SiteId}
 use Rattle.rbd_kinds.specs.declared.machine.Fed.{Fed}
 use Rattle.rbd_kinds.specs.declared.operation_kind.OpKind.{OpKind}
 use Rattle.rbd_line.specs.Line.{Member, any_past, member_of}
-use Rattle.rbd_locks.specs.declared.image_at.ImageAt.{ImageAt}
+use Rattle.rbd_kinds.specs.declared.image_at.ImageAt.{ImageAt}
 use Rattle.rbd_locks.specs.declared.lock_state.LockState.{LockState}
 use Rattle.rbd_locks.specs.Locks.{LocksView, state_at}
 use Rattle.rbd_machine.specs.Plan.{Standing}
-use Rattle.rbd_session.specs.declared.image_at.ImageAt.{ImageAt as LineAt}
 use Rattle.rbd_session.specs.declared.running.Occupant.{Occupant}
 use Rattle.rbd_session.specs.declared.running.Occupant.TheVariants as occupant
 use Rattle.rbd_session.specs.declared.running.Running.{Running}
@@ -31,7 +30,7 @@ use Rattle.rbd_session.specs.Waits.{waits, waits_at}
 use Rattle.rbd_session.proofs.Readied.{same_track}
 use Rattle.rbd_session.proofs.Sound.{no_some, some_same}
 
-look_by : (slot : ℕ) (wanted : Option (SiteId × OpKind)) (place : Option LineAt) (old new : LinesView) → lines_of new ≡ lines_of old → own_look_of slot wanted place new ≡ own_look_of slot wanted place old
+look_by : (slot : ℕ) (wanted : Option (SiteId × OpKind)) (place : Option ImageAt) (old new : LinesView) → lines_of new ≡ lines_of old → own_look_of slot wanted place new ≡ own_look_of slot wanted place old
 look_by slot wanted None old new lines = refl
 look_by slot wanted (Some p) old new lines =
     ap (λ (ls : Lines). cond (is_look_at p.site wanted && waits_at (option_map (λ (m : Member). m.stage) (member_of slot (ls p.site p.image)))) (Some p) None) lines
@@ -100,22 +99,13 @@ module _ {R : Type 0} (stands : R → Standing) where
       go (Some (occupant.Refused line x)) n same = none_of n (ap running_in same) new.lines
       go None n same = none_of n (ap running_in same) new.lines
 
-  -- a session is as itself
-  pub itself_alike : (s : SessionView R) → IsAlike stands s s
-  itself_alike s = record { instance = refl; home = refl; lowest = refl; slots = λ slot. by (held_in slot s.slots); lines = refl }
-    where
-      by : (o : Option (Occupant R)) → IsAlikeIn stands o o
-      by (Some (occupant.Running r)) = record { same = refl; line = refl; extent = refl; place = refl; turn = refl }
-      by (Some (occupant.Refused line x)) = refl
-      by None = refl
-
   -- ---- who acts
 
-  at_look_alike : (look : Option LineAt) (old new : LocksView) → AreStatesAlike old new → actor_at_look look new ≡ actor_at_look look old
+  at_look_alike : (look : Option ImageAt) (old new : LocksView) → AreStatesAlike old new → actor_at_look look new ≡ actor_at_look look old
   at_look_alike None old new alike = refl
   at_look_alike (Some p) old new alike = ap (λ s. actor_by s p.site p.image) (alike p.site p.image)
 
-  on_alike : (w : Way) (look : Option LineAt) (old new : LocksView) → AreStatesAlike old new → actor_on w look new ≡ actor_on w look old
+  on_alike : (w : Way) (look : Option ImageAt) (old new : LocksView) → AreStatesAlike old new → actor_on w look new ≡ actor_on w look old
   on_alike way.Unbegun look old new alike = at_look_alike look old new alike
   on_alike (way.On a) look old new alike = refl
   on_alike (way.Taken p) look old new alike = refl

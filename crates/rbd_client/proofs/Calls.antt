@@ -15,7 +15,7 @@ use Rattle.rbd_kinds.specs.declared.notice.NoticeKind.TheVariants as notice
 use Rattle.rbd_line.specs.Line.{any_past, member_of}
 use Rattle.rbd_locks.specs.declared.lock_state.LockState.{LockState}
 use Rattle.rbd_locks.specs.Locks.{LocksView, heard, state_at}
-use Rattle.rbd_locks.specs.Places.{is_same}
+use Rattle.rbd_kinds.specs.Images.{is_at}
 use Rattle.rbd_locks.specs.States.{told}
 use Rattle.rbd_machine.specs.Plan.{Standing}
 use Rattle.rbd_session.specs.Lines.{LinesView, lines_of}
@@ -97,7 +97,7 @@ module _ {R : Type 0} (stands : R → Standing) where
 
   pub heard_owned : (n : Notice) (old new : LocksView) → ((site : SiteId) (image : ℕ) → state_at site image new ≡ heard n site image (state_at site image old))
       → (site : SiteId) (image : ℕ) → IsOwned site image old → IsOwned site image new
-  heard_owned n old new is site image owned = ap (λ (s : LockState). s.owned) (is site image) ∙ by (is_same n.site n.image site image)
+  heard_owned n old new is site image owned = ap (λ (s : LockState). s.owned) (is site image) ∙ by (is_at n.site n.image site image)
     where
       by : (b : Bool) → (cond b (told n.kind (state_at site image old)) (state_at site image old)).owned ≡ true
       by true = told_owned n.kind (state_at site image old) ∙ owned

@@ -11,18 +11,18 @@ use Rattle.rbd_client.specs.Client.{ClientView, state_in}
 use Rattle.rbd_client.specs.Laws.{DropsALock, IsHeldBack}
 use Rattle.rbd_client.specs.Sound.{IsOwned, IsSoundClient, IsTelling}
 use Rattle.rbd_client.proofs.OnWay.{found_may, is_telling}
-use Rattle.rbd_client.proofs.Past.{found_past}
+use Rattle.rbd_line.proofs.Past.{found_past}
 use Rattle.rbd_kinds.specs.declared.id.SiteId.{SiteId}
 use Rattle.rbd_line.specs.Line.{Member, is_past, member_of}
-use Rattle.rbd_locks.specs.declared.image_at.ImageAt.{ImageAt}
+use Rattle.rbd_kinds.specs.declared.image_at.ImageAt.{ImageAt}
 use Rattle.rbd_locks.specs.declared.lock_state.LockState.{LockState}
 use Rattle.rbd_locks.specs.Locks.{state_at}
-use Rattle.rbd_locks.specs.Places.{is_among, is_same}
+use Rattle.rbd_kinds.specs.Images.{is_at}
+use Rattle.rbd_locks.specs.Places.{is_among}
 use Rattle.rbd_locks.proofs.Lasting.{same_itself}
 use Rattle.rbd_machine.specs.Plan.{Standing}
 use Rattle.rbd_owner.specs.Acquire.{begun}
 use Rattle.rbd_owner.specs.declared.release.Release.{Release}
-use Rattle.rbd_session.specs.declared.image_at.ImageAt.{ImageAt as LineAt}
 use Rattle.rbd_session.specs.Lines.{lines_of}
 use Rattle.rbd_session.specs.Session.{held_in, own_look_at, running_in}
 use Rattle.rbd_session.proofs.OwnLooks.{at_own_look}
@@ -35,7 +35,7 @@ module _ {R : Type 0} (stands : R → Standing) where
 
   -- ---- held back
 
-  pub held_back : (c : ClientView R) (slot : ℕ) (p : LineAt) → IsSoundClient stands c → own_look_at stands slot c.session ≡ Some p → (state_in slot c.slots).way ≡ way.Unbegun
+  pub held_back : (c : ClientView R) (slot : ℕ) (p : ImageAt) → IsSoundClient stands c → own_look_at stands slot c.session ≡ Some p → (state_in slot c.slots).way ≡ way.Unbegun
       → IsHeldBack p.site p.image c.locks → kind_wanted stands slot c ≡ None
   held_back c slot p sound at unbegun held = by (slot == 0) refl
     where
@@ -72,11 +72,11 @@ module _ {R : Type 0} (stands : R → Standing) where
       or_true true b is = refl
       or_true false b is = is
 
-      go : (b : Bool) → cond b (Some q) (find f ps) ≡ Some p → (find f ps ≡ Some p → is_among p.site p.image ps ≡ true) → (is_same p.site p.image q.site q.image || is_among p.site p.image ps) ≡ true
+      go : (b : Bool) → cond b (Some q) (find f ps) ≡ Some p → (find f ps ≡ Some p → is_among p.site p.image ps ≡ true) → (is_at p.site p.image q.site q.image || is_among p.site p.image ps) ≡ true
       go true is rest =
           ap (λ b. b || is_among p.site p.image ps)
-          (subst (λ (x : ImageAt). is_same p.site p.image x.site x.image ≡ true) (sym (some_same q p is)) (same_itself p.site p.image))
-      go false is rest = or_true (is_same p.site p.image q.site q.image) (is_among p.site p.image ps) (rest is)
+          (subst (λ (x : ImageAt). is_at p.site p.image x.site x.image ≡ true) (sym (some_same q p is)) (same_itself p.site p.image))
+      go false is rest = or_true (is_at p.site p.image q.site q.image) (is_among p.site p.image ps) (rest is)
 
   not_true : (b : Bool) → not b ≡ true → b ≡ false
   not_true true is = absurd (true≢false (sym is))

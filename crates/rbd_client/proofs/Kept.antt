@@ -14,10 +14,9 @@ use Rattle.rbd_kinds.specs.declared.id.SiteId.{SiteId}
 use Rattle.rbd_kinds.specs.declared.machine.Fed.{Fed}
 use Rattle.rbd_kinds.specs.declared.operation.Op.{Op}
 use Rattle.rbd_line.specs.Line.{any_past}
-use Rattle.rbd_locks.specs.declared.image_at.ImageAt.{ImageAt}
+use Rattle.rbd_kinds.specs.declared.image_at.ImageAt.{ImageAt}
 use Rattle.rbd_locks.specs.Locks.{LocksView}
 use Rattle.rbd_machine.specs.Plan.{Standing}
-use Rattle.rbd_session.specs.declared.image_at.ImageAt.{ImageAt as LineAt}
 use Rattle.rbd_session.specs.Lines.{lines_of}
 use Rattle.rbd_session.specs.OnTrack.{LeavesOthers}
 use Rattle.rbd_session.specs.Session.{SessionView, IsSoundSession, held_in, own_look_at, running_in}
@@ -60,7 +59,7 @@ module _ {R : Type 0} (stands : R → Standing) where
   or_right false b is = is
 
   -- What one slot did: its operation was answered.
-  pub sound_behind : (slot : ℕ) (site : SiteId) (o : Op) (f : Fed) (q : Quiescing) (look : Option LineAt) (old new : ClientView R)
+  pub sound_behind : (slot : ℕ) (site : SiteId) (o : Op) (f : Fed) (q : Quiescing) (look : Option ImageAt) (old new : ClientView R)
       → IsSoundClient stands old → IsSoundSession stands new.session → LeavesSlots slot old new → length new.slots ≡ 65 → IsTelling new.release
       → CountsAll (comings_of q look site o f) old.locks new.locks → IsAtRest site o old
       → (held_in slot new.session.slots ≡ None → state_in slot new.slots ≡ blank)

@@ -1,8 +1,6 @@
-pub mod Past
 pub mod Owning
 pub mod Kept
 pub mod Looks
-pub mod Ways
 pub mod Alike
 pub mod Requests
 pub mod OnWay

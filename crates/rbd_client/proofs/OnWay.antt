@@ -15,7 +15,7 @@ use Rattle.rbd_client.specs.Feeding.{comings_of, released_by, state_on_way, Coun
 use Rattle.rbd_client.specs.Sound.{IsOwned, IsSoundClient, IsTelling, IsWellOnWay, WaitsForLook}
 use Rattle.rbd_client.proofs.Kept.{sound_behind, LeavesSlots}
 use Rattle.rbd_client.proofs.Looks.{looks_there}
-use Rattle.rbd_client.proofs.Past.{found_past, past_found}
+use Rattle.rbd_line.proofs.Past.{found_past, past_found}
 use Rattle.rbd_kinds.specs.declared.answer.Answer.TheVariants as answer
 use Rattle.rbd_kinds.specs.declared.header_op.HeaderOp.TheVariants as header
 use Rattle.rbd_kinds.specs.declared.id.SiteId.{SiteId}
@@ -23,7 +23,7 @@ use Rattle.rbd_kinds.specs.declared.machine.Fed.{Fed}
 use Rattle.rbd_kinds.specs.declared.machine.Fed.TheVariants as fed
 use Rattle.rbd_kinds.specs.declared.reply.Reply.{Reply}
 use Rattle.rbd_line.specs.Line.{Member, any_past, is_past, member_of}
-use Rattle.rbd_locks.specs.declared.image_at.ImageAt.{ImageAt}
+use Rattle.rbd_kinds.specs.declared.image_at.ImageAt.{ImageAt}
 use Rattle.rbd_locks.specs.declared.lock_state.LockState.{LockState}
 use Rattle.rbd_locks.specs.Comings.{after_all}
 use Rattle.rbd_locks.specs.Locks.{LocksView, state_at}
@@ -38,7 +38,6 @@ use Rattle.rbd_owner.specs.declared.acquire.Stage.TheVariants as stage
 use Rattle.rbd_owner.specs.declared.release.Release.{Release}
 use Rattle.rbd_owner.specs.declared.release.Stage.{Stage as ReleaseStage}
 use Rattle.rbd_owner.specs.declared.release.Stage.TheVariants as telling
-use Rattle.rbd_session.specs.declared.image_at.ImageAt.{ImageAt as LineAt}
 use Rattle.rbd_session.specs.declared.running.Running.{Running}
 use Rattle.rbd_session.specs.Advance.{track_of}
 use Rattle.rbd_session.specs.Lines.{lines_of}
@@ -90,7 +89,7 @@ releases_no_way None (Some p) = refl
 releases_no_way None None = refl
 
 -- a way that begins is to the image looked at
-begins_there : (s : LockState) (p : LineAt) (a : Acquire) → actor_by s p.site p.image ≡ actor.Way a → (p.site ≡ a.site) × (p.image ≡ a.image)
+begins_there : (s : LockState) (p : ImageAt) (a : Acquire) → actor_by s p.site p.image ≡ actor.Way a → (p.site ≡ a.site) × (p.image ≡ a.image)
 begins_there s p a = go (s.quiesced || s.asked) s.owned
   where
     go : (held o : Bool) → cond held actor.Nobody (cond o actor.Request (actor.Way (begun p.site p.image s.watched))) ≡ actor.Way a → (p.site ≡ a.site) × (p.image ≡ a.image)
@@ -101,7 +100,7 @@ begins_there s p a = go (s.quiesced || s.asked) s.owned
         (ap (λ (x : Acquire). x.site) same, ap (λ (x : Acquire). x.image) same)
 
 module _ {R : Type 0} (stands : R → Standing) where
-  looks_and_waits : (slot : ℕ) (p : LineAt) (s : SessionView R) → own_look_at stands slot s ≡ Some p → WaitsForLook stands slot p.site p.image s
+  looks_and_waits : (slot : ℕ) (p : ImageAt) (s : SessionView R) → own_look_at stands slot s ≡ Some p → WaitsForLook stands slot p.site p.image s
   looks_and_waits slot p s at =
       let look = at_own_look stands s slot p at in
       record {
@@ -119,7 +118,7 @@ module _ {R : Type 0} (stands : R → Standing) where
   pub way_waits : (slot : ℕ) (c : ClientView R) (a : Acquire) → IsSoundClient stands c → actor_at stands slot c ≡ actor.Way a → WaitsForLook stands slot a.site a.image c.session
   way_waits slot c a sound acts = by (slot == 0) acts
     where
-      looking : (look : Option LineAt) → own_look_at stands slot c.session ≡ look → actor_at_look look c.locks ≡ actor.Way a → WaitsForLook stands slot a.site a.image c.session
+      looking : (look : Option ImageAt) → own_look_at stands slot c.session ≡ look → actor_at_look look c.locks ≡ actor.Way a → WaitsForLook stands slot a.site a.image c.session
       looking None at is = absurd (true≢false (sym (ap is_way is)))
       looking (Some p) at is =
           let there = begins_there (state_at p.site p.image c.locks) p a is in

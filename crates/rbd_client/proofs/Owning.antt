@@ -20,15 +20,14 @@ use Rattle.rbd_kinds.specs.declared.machine.Fed.TheVariants as fed
 use Rattle.rbd_kinds.specs.declared.operation.Op.{Op}
 use Rattle.rbd_kinds.specs.declared.operation.Op.TheVariants as op
 use Rattle.rbd_line.specs.Line.{any_past}
-use Rattle.rbd_locks.specs.declared.image_at.ImageAt.{ImageAt}
+use Rattle.rbd_kinds.specs.declared.image_at.ImageAt.{ImageAt}
 use Rattle.rbd_locks.specs.declared.lock_state.LockState.{LockState}
 use Rattle.rbd_locks.specs.Comings.{after_all}
 use Rattle.rbd_locks.specs.Locks.{LocksView, counted, state_at}
-use Rattle.rbd_locks.specs.Places.{is_same}
+use Rattle.rbd_kinds.specs.Images.{is_at}
 use Rattle.rbd_locks.specs.States.{answered, quieted, resumed}
 use Rattle.rbd_locks.proofs.Keys.{where_same}
 use Rattle.rbd_locks.proofs.Lasting.{same_itself}
-use Rattle.rbd_session.specs.declared.image_at.ImageAt.{ImageAt as LineAt}
 use Rattle.rbd_session.specs.Lines.{lines_of}
 
 -- ---- one image
@@ -39,7 +38,7 @@ is_drop o = false
 
 -- an operation drops the lock of an image
 abbrev pub drops : SiteId → Op → SiteId → (image : ℕ) → Bool
-drops site (op.Header on o) there image = is_drop o && is_same site on there image
+drops site (op.Header on o) there image = is_drop o && is_at site on there image
 drops site o there image = false
 
 owned_answered : (o : HeaderOp) (a : Answer) (s : LockState) → is_drop o ≡ false → s.owned ≡ true → (answered o a s).owned ≡ true
@@ -51,13 +50,13 @@ owned_answered o a s stays owned = owned
 
 owned_counted : (site : SiteId) (o : Op) (a : Answer) (there : SiteId) (image : ℕ) (s : LockState) → drops site o there image ≡ false → s.owned ≡ true
     → (counted site o a there image s).owned ≡ true
-owned_counted site (op.Header on o) a there image s stays owned = go (is_same site on there image) refl
+owned_counted site (op.Header on o) a there image s stays owned = go (is_at site on there image) refl
   where
     and_true : (b : Bool) → (b && true) ≡ false → b ≡ false
     and_true true is = is
     and_true false is = refl
 
-    go : (b : Bool) → is_same site on there image ≡ b → (cond b (answered o a s) s).owned ≡ true
+    go : (b : Bool) → is_at site on there image ≡ b → (cond b (answered o a s) s).owned ≡ true
     go true same = owned_answered o a s (and_true (is_drop o) (ap (λ b. is_drop o && b) (sym same) ∙ stays)) owned
     go false other = owned
 owned_counted site o a there image s stays owned = owned
@@ -67,23 +66,23 @@ owned_by true change s same owned = same ∙ owned
 owned_by false change s same owned = owned
 
 owned_resumed : (site : SiteId) (o : Op) (i : ℕ) (there : SiteId) (image : ℕ) (s : LockState) → s.owned ≡ true → (after_all (resumes site o i) there image s).owned ≡ true
-owned_resumed site (op.Directory (directory.Find name)) i there image s owned = owned_by (is_same site i there image) resumed s refl owned
+owned_resumed site (op.Directory (directory.Find name)) i there image s owned = owned_by (is_at site i there image) resumed s refl owned
 owned_resumed site o i there image s owned = owned
 
-owned_quiesced : (q : Quiescing) (look : Option LineAt) (site : SiteId) (o : Op) (a : Answer) (there : SiteId) (image : ℕ) (s : LockState) → s.owned ≡ true
+owned_quiesced : (q : Quiescing) (look : Option ImageAt) (site : SiteId) (o : Op) (a : Answer) (there : SiteId) (image : ℕ) (s : LockState) → s.owned ≡ true
     → (after_all (quiesced_by q look site o a) there image s).owned ≡ true
 owned_quiesced quiescing.Begins None site o (answer.Header h) there image s owned = owned
-owned_quiesced quiescing.Begins (Some p) site o (answer.Header h) there image s owned = owned_by (is_same p.site p.image there image) quieted s refl owned
+owned_quiesced quiescing.Begins (Some p) site o (answer.Header h) there image s owned = owned_by (is_at p.site p.image there image) quieted s refl owned
 owned_quiesced quiescing.Ends look site o (answer.Id i) there image s owned = owned_resumed site o i there image s owned
 owned_quiesced q look site o a there image s owned = owned
 
-pub owned_behind : (q : Quiescing) (look : Option LineAt) (site : SiteId) (o : Op) (f : Fed) (there : SiteId) (image : ℕ) (s : LockState) → drops site o there image ≡ false
+pub owned_behind : (q : Quiescing) (look : Option ImageAt) (site : SiteId) (o : Op) (f : Fed) (there : SiteId) (image : ℕ) (s : LockState) → drops site o there image ≡ false
     → s.owned ≡ true → (after_all (comings_of q look site o f) there image s).owned ≡ true
 owned_behind q look site o (fed.Answer a) there image s stays owned =
     owned_quiesced q look site o a there image (counted site o a there image s) (owned_counted site o a there image s stays owned)
 owned_behind q look site o fed.Passed there image s stays owned = owned
 
-pub keeps_owned : (q : Quiescing) (look : Option LineAt) (site : SiteId) (o : Op) (f : Fed) (old new : LocksView) → CountsAll (comings_of q look site o f) old new
+pub keeps_owned : (q : Quiescing) (look : Option ImageAt) (site : SiteId) (o : Op) (f : Fed) (old new : LocksView) → CountsAll (comings_of q look site o f) old new
     → (there : SiteId) (image : ℕ) → drops site o there image ≡ false → IsOwned there image old → IsOwned there image new
 keeps_owned q look site o f old new counts there image stays owned =
     ap (λ (s : LockState). s.owned) (counts there image) ∙ owned_behind q look site o f there image (state_at there image old) stays owned
@@ -118,9 +117,9 @@ module _ {R : Type 0} (c : ClientView R) where
       go false false is = refl
 
   pub not_dropped : (site : SiteId) (o : Op) (there : SiteId) (image : ℕ) → IsAtRest site o c → relies there image ≡ true → drops site o there image ≡ false
-  not_dropped site (op.Header on header.LockDrop) there image rest relied = go (is_same site on there image) refl
+  not_dropped site (op.Header on header.LockDrop) there image rest relied = go (is_at site on there image) refl
     where
-      go : (b : Bool) → is_same site on there image ≡ b → b ≡ false
+      go : (b : Bool) → is_at site on there image ≡ b → b ≡ false
       go true same = absurd (true≢false (sym relied ∙ where_same (λ s i. relies s i ≡ false) site on there image same (rests site on rest)))
       go false other = refl
   not_dropped site (op.Header on o) there image rest relied = refl

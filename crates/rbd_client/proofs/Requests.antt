@@ -12,7 +12,7 @@ use Rattle.rbd_client.specs.Feeding.{comings_of, state_behind, CountsAll, IsAtRe
 use Rattle.rbd_client.specs.Sound.{IsOwned, IsSoundClient, IsTelling, IsWellOnWay, WaitsForLook}
 use Rattle.rbd_client.proofs.Kept.{sound_behind, LeavesSlots}
 use Rattle.rbd_client.proofs.Owning.{drops, keeps_owned}
-use Rattle.rbd_client.proofs.Past.{found_past, past_found}
+use Rattle.rbd_line.proofs.Past.{found_past, past_found}
 use Rattle.rbd_course.specs.declared.stage.Stage.{Stage}
 use Rattle.rbd_kinds.specs.declared.answer.Answer.{Answer}
 use Rattle.rbd_kinds.specs.declared.header_op.HeaderOp.TheVariants as header
@@ -23,13 +23,12 @@ use Rattle.rbd_kinds.specs.declared.operation.Op.TheVariants as op
 use Rattle.rbd_kinds.specs.declared.reply.Reply.{Reply}
 use Rattle.rbd_kinds.specs.OperationKind.{kind_of}
 use Rattle.rbd_line.specs.Line.{Member, any_past, is_past_in, member_of}
-use Rattle.rbd_locks.specs.declared.image_at.ImageAt.{ImageAt}
+use Rattle.rbd_kinds.specs.declared.image_at.ImageAt.{ImageAt}
 use Rattle.rbd_locks.specs.declared.lock_state.LockState.{LockState}
 use Rattle.rbd_locks.specs.Locks.{LocksView, state_at}
 use Rattle.rbd_machine.specs.Plan.{Plan, Ask, Await, Note, Return, Goto, Standing}
 use Rattle.rbd_owner.specs.Acquire.{begun}
 use Rattle.rbd_owner.specs.declared.release.Release.{Release}
-use Rattle.rbd_session.specs.declared.image_at.ImageAt.{ImageAt as LineAt}
 use Rattle.rbd_session.specs.declared.running.Occupant.{Occupant}
 use Rattle.rbd_session.specs.declared.running.Occupant.TheVariants as occupant
 use Rattle.rbd_session.specs.declared.running.Running.{Running}
@@ -73,13 +72,13 @@ module _ {R : Type 0} (stands : R → Standing) where
       go false is = is
 
   -- two images at whose own look one request waits are one
-  one_place : (slot : ℕ) (site : SiteId) (image : ℕ) (p : LineAt) (s : SessionView R) → WaitsForLook stands slot site image s → IsAtOwnLook slot p s → record { site = site; image = image } ≡ p
+  one_place : (slot : ℕ) (site : SiteId) (image : ℕ) (p : ImageAt) (s : SessionView R) → WaitsForLook stands slot site image s → IsAtOwnLook slot p s → record { site = site; image = image } ≡ p
   one_place slot site image p s w look =
       let same : w.request ≡ look.running = some_same w.request look.running (sym w.runs ∙ look.runs) in
       some_same (record { site = site; image = image }) p (sym w.place ∙ ap (λ (r : Running R). r.place) same ∙ look.place)
 
   -- A request at its own look acts only where the lock counts as owned.
-  pub request_owns : (slot : ℕ) (c : ClientView R) → IsSoundClient stands c → actor_at stands slot c ≡ actor.Request → (p : LineAt) → own_look_at stands slot c.session ≡ Some p
+  pub request_owns : (slot : ℕ) (c : ClientView R) → IsSoundClient stands c → actor_at stands slot c ≡ actor.Request → (p : ImageAt) → own_look_at stands slot c.session ≡ Some p
       → IsOwned p.site p.image c.locks
   request_owns slot c sound acts p at = go (state_in slot c.slots).way (sound.ways slot) (subst (λ look. is_request (actor_on (state_in slot c.slots).way look c.locks) ≡ true) at (acts_by_way slot c acts))
     where
@@ -87,7 +86,7 @@ module _ {R : Type 0} (stands : R → Standing) where
       go way.Unbegun well is = owned_where_it_acts (state_at p.site p.image c.locks) p.site p.image is
       go (way.On a) well is = absurd (true≢false (sym is))
       go (way.Taken q) well is =
-          subst (λ (x : LineAt). IsOwned x.site x.image c.locks) (one_place slot q.site q.image p c.session well.0 (at_own_look stands c.session slot p at)) well.1
+          subst (λ (x : ImageAt). IsOwned x.site x.image c.locks) (one_place slot q.site q.image p c.session well.0 (at_own_look stands c.session slot p at)) well.1
 
   -- ---- a request that waits for its own look, and may go on, stands there
 
@@ -95,7 +94,7 @@ module _ {R : Type 0} (stands : R → Standing) where
       → own_look_at stands slot s ≡ Some (record { site = site; image = image })
   stands_at_look slot site image s w goes = by (held_in slot s.slots) w.runs goes
     where
-      here : Option LineAt
+      here : Option ImageAt
       here = Some (record { site = site; image = image })
 
       placed : own_look_of slot (kind_asked (stands w.request.request).plan) w.request.place s.lines ≡ here
@@ -127,11 +126,11 @@ module _ {R : Type 0} (stands : R → Standing) where
   asked_kind (Return r) site o is = absurd (no_some (site, o) is)
   asked_kind (Goto l) site o is = absurd (no_some (site, o) is)
 
-  pub look_drops_nothing : (slot : ℕ) (site : SiteId) (o : Op) (s : SessionView R) (p : LineAt) → own_look_at stands slot s ≡ Some p → op_at stands slot s ≡ Some (site, o)
+  pub look_drops_nothing : (slot : ℕ) (site : SiteId) (o : Op) (s : SessionView R) (p : ImageAt) → own_look_at stands slot s ≡ Some p → op_at stands slot s ≡ Some (site, o)
       → (there : SiteId) (image : ℕ) → drops site o there image ≡ false
   look_drops_nothing slot site o s p at wanted there image = by (going_in slot (held_in slot s.slots) s.lines) at wanted
     where
-      placed : (k : Bool) (q : LineAt) (kind : _) → cond (is_look_at q.site kind && k) (Some q) None ≡ Some p → is_look_at q.site kind ≡ true
+      placed : (k : Bool) (q : ImageAt) (kind : _) → cond (is_look_at q.site kind && k) (Some q) None ≡ Some p → is_look_at q.site kind ≡ true
       placed k q kind is = go (is_look_at q.site kind) is
         where
           go : (b : Bool) → cond (b && k) (Some q) None ≡ Some p → b ≡ true
@@ -142,7 +141,7 @@ module _ {R : Type 0} (stands : R → Standing) where
       by None at wanted = absurd (no_some p at)
       by (Some r) at wanted = go r.place at
         where
-          go : (place : Option LineAt) → own_look_of slot (kind_asked (stands r.request).plan) place s.lines ≡ Some p → drops site o there image ≡ false
+          go : (place : Option ImageAt) → own_look_of slot (kind_asked (stands r.request).plan) place s.lines ≡ Some p → drops site o there image ≡ false
           go None at = absurd (no_some p at)
           go (Some q) at =
               look_drops_none q.site site o there image
@@ -182,7 +181,7 @@ module _ {R : Type 0} (stands : R → Standing) where
             absurd (no_some (record { site = p.site; image = p.image }) (
             sym none ∙ stands_at_look slot p.site p.image c.session (subst (λ w. IsWellOnWay stands slot w c.session c.locks) is (sound.ways slot)).0 (goes_on slot f c.session ready)))
 
-        go : (look : Option LineAt) → own_look_at stands slot c.session ≡ look → IsWellOnWay stands slot (cond (is_some look) (record { way = way.Unbegun; quiescing = (state_in slot c.slots).quiescing }) (state_in slot c.slots)).way t locks
+        go : (look : Option ImageAt) → own_look_at stands slot c.session ≡ look → IsWellOnWay stands slot (cond (is_some look) (record { way = way.Unbegun; quiescing = (state_in slot c.slots).quiescing }) (state_in slot c.slots)).way t locks
         go (Some p) at = tt
         go None at = unlooked at (state_in slot c.slots).way refl
 

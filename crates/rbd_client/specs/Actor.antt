@@ -13,15 +13,14 @@ use Rattle.rbd_kinds.specs.declared.operation.Op.{Op}
 use Rattle.rbd_kinds.specs.declared.operation_kind.OpKind.{OpKind}
 use Rattle.rbd_kinds.specs.OperationKind.{kind_of}
 use Rattle.rbd_line.specs.Line.{any_past}
-use Rattle.rbd_locks.specs.declared.image_at.ImageAt.{ImageAt}
+use Rattle.rbd_kinds.specs.declared.image_at.ImageAt.{ImageAt}
 use Rattle.rbd_locks.specs.declared.lock_state.LockState.{LockState}
 use Rattle.rbd_locks.specs.Locks.{LocksView, state_at}
-use Rattle.rbd_locks.specs.Places.{is_same}
+use Rattle.rbd_kinds.specs.Images.{is_at}
 use Rattle.rbd_machine.specs.Plan.{Standing}
 use Rattle.rbd_owner.specs.Acquire.{begun, op_of}
 use Rattle.rbd_owner.specs.declared.release.Release.{Release}
 use Rattle.rbd_owner.specs.Release.{begun_release, release_op}
-use Rattle.rbd_session.specs.declared.image_at.ImageAt.{ImageAt as LineAt}
 use Rattle.rbd_session.specs.Lines.{lines_of}
 use Rattle.rbd_session.specs.Session.{SessionView, kind_at, op_at, own_look_at}
 
@@ -34,13 +33,13 @@ actor_by s site image =
     if s.quiesced || s.asked then actor.Nobody
     else if s.owned then actor.Request else actor.Way (begun site image s.watched)
 
-abbrev pub actor_at_look : Option LineAt → LocksView → Actor
+abbrev pub actor_at_look : Option ImageAt → LocksView → Actor
 actor_at_look None locks = actor.Request
 actor_at_look (Some p) locks = actor_by (state_at p.site p.image locks) p.site p.image
 
 -- One that is on its way goes on there, and one that has taken the lock itself isn't held back any
 -- more.
-abbrev pub actor_on : Way → Option LineAt → LocksView → Actor
+abbrev pub actor_on : Way → Option ImageAt → LocksView → Actor
 actor_on way.Unbegun look locks = actor_at_look look locks
 actor_on (way.On a) look locks = actor.Way a
 actor_on (way.Taken p) look locks = actor.Request
@@ -48,7 +47,7 @@ actor_on (way.Taken p) look locks = actor.Request
 -- ---- a release
 
 abbrev pub has_taken : SiteId → (image : ℕ) → Way → Bool
-has_taken site image (way.Taken p) = is_same site image p.site p.image
+has_taken site image (way.Taken p) = is_at site image p.site p.image
 has_taken site image w = false
 
 abbrev pub any_taken : SiteId → (image : ℕ) → List SlotState → Bool

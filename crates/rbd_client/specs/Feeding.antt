@@ -21,7 +21,7 @@ use Rattle.rbd_kinds.specs.declared.operation.Op.{Op}
 use Rattle.rbd_kinds.specs.declared.operation.Op.TheVariants as op
 use Rattle.rbd_kinds.specs.declared.reply.Reply.{Reply}
 use Rattle.rbd_kinds.specs.declared.reply.Reply.TheVariants as reply
-use Rattle.rbd_locks.specs.declared.image_at.ImageAt.{ImageAt}
+use Rattle.rbd_kinds.specs.declared.image_at.ImageAt.{ImageAt}
 use Rattle.rbd_locks.specs.Comings.{Coming, ByAnswer, ByQuiesce, ByResume, after_all}
 use Rattle.rbd_locks.specs.Locks.{LocksView, state_at}
 use Rattle.rbd_machine.specs.Answers.{CanBeFed}
@@ -33,7 +33,6 @@ use Rattle.rbd_owner.specs.declared.acquire.Acquire.{Acquire}
 use Rattle.rbd_owner.specs.declared.acquire.Stage.TheVariants as stage
 use Rattle.rbd_owner.specs.declared.release.Release.{Release}
 use Rattle.rbd_owner.specs.Release.{release_after, rest_of_release}
-use Rattle.rbd_session.specs.declared.image_at.ImageAt.{ImageAt as LineAt}
 use Rattle.rbd_session.specs.declared.running.Running.{Running}
 use Rattle.rbd_session.specs.Advance.{track_of}
 use Rattle.rbd_session.specs.Lines.{lines_of}
@@ -86,7 +85,7 @@ DropsAtRest who site o c = Unit {0}
 -- ---- what it comes to for the locks
 
 -- the own look of a quiesce
-abbrev pub quiesces : (look : Option LineAt) → List Coming
+abbrev pub quiesces : (look : Option ImageAt) → List Coming
 quiesces None = []
 quiesces (Some p) = ByQuiesce p.site p.image ∷ []
 
@@ -96,12 +95,12 @@ resumes site (op.Directory (directory.Find name)) image = ByResume site image �
 resumes site o image = []
 
 -- its own look begins a quiesce, and its look-up of the image ends one
-abbrev pub quiesced_by : Quiescing → (look : Option LineAt) → SiteId → Op → Answer → List Coming
+abbrev pub quiesced_by : Quiescing → (look : Option ImageAt) → SiteId → Op → Answer → List Coming
 quiesced_by quiescing.Begins look site o (answer.Header h) = quiesces look
 quiesced_by quiescing.Ends look site o (answer.Id image) = resumes site o image
 quiesced_by q look site o a = []
 
-abbrev pub comings_of : Quiescing → (look : Option LineAt) → SiteId → Op → Fed → List Coming
+abbrev pub comings_of : Quiescing → (look : Option ImageAt) → SiteId → Op → Fed → List Coming
 comings_of q look site o (fed.Answer a) = ByAnswer site o a ∷ quiesced_by q look site o a
 comings_of q look site o fed.Passed = []
 

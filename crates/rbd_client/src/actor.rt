@@ -6,11 +6,10 @@ ghost use Rattle.rbd_owner.specs.Release.{release_op};
 ghost use Rattle.rbd_client.specs.Actor.{actor_at_look, actor_by, actor_on, releasing};
 
 use crate::slot_state::Way;
-use rbd_kinds::{OpKind, SiteId, Want};
-use rbd_locks::{ImageAt, LockState, Locks};
+use rbd_kinds::{ImageAt, OpKind, SiteId, Want};
+use rbd_locks::{LockState, Locks};
 use rbd_machine::Machine;
 use rbd_owner::{Acquire, Release};
-use rbd_session::ImageAt as LineAt;
 
 /// Who acts where a slot is polled.
 #[derive(Clone, Copy, Debug)]
@@ -23,17 +22,6 @@ pub enum Actor {
     Way(Acquire),
     /// The release of a lock, at slot 0.
     Release(Release),
-}
-
-/// The image of a line, as one whose lock is counted.
-pub fn lock_of(line: &LineAt) -> ImageAt
-    ensures site { result.site ≡ line.now.site }
-    ensures image { result.image ≡ line.now.image }
-{
-    ImageAt {
-        site: line.site,
-        image: line.image,
-    }
 }
 
 /// Who acts for a request at its own look, by what is counted of the image's lock.
@@ -50,18 +38,17 @@ fn at_look(state: &LockState, at: &ImageAt) -> Actor
 }
 
 /// Who acts for a request that has begun no way: at its own look the lock decides.
-fn before_way(look: Option<LineAt>, locks: &Locks) -> Actor
+fn before_way(look: Option<ImageAt>, locks: &Locks) -> Actor
     ensures { result ≡ actor_at_look look locks.now }
 {
-    let Some(line) = look else {
+    let Some(at) = look else {
         return Actor::Request;
     };
-    let at = lock_of(&line);
     at_look(&locks.state(&at), &at)
 }
 
 /// Who acts for the request in a slot.
-pub fn for_request(way: Way, look: Option<LineAt>, locks: &Locks) -> Actor
+pub fn for_request(way: Way, look: Option<ImageAt>, locks: &Locks) -> Actor
     ensures { result ≡ actor_on way look locks.now }
 {
     match way {
@@ -79,17 +66,6 @@ pub fn for_release(begun: Option<Release>, due: Option<ImageAt>) -> Actor
         (Some(release), _) => Actor::Release(release),
         (None, Some(at)) => Actor::Release(Release::new(at.site, at.image)),
         (None, None) => Actor::Nobody,
-    }
-}
-
-/// The image of a lock, as one of a line.
-pub fn line_of(at: &ImageAt) -> LineAt
-    ensures site { result.site ≡ at.now.site }
-    ensures image { result.image ≡ at.now.image }
-{
-    LineAt {
-        site: at.site,
-        image: at.image,
     }
 }
 

@@ -12,16 +12,16 @@ ghost use Rattle.rbd_session.specs.Lines.{lines_of};
 ghost use Rattle.rbd_session.specs.OnTrack.{LeavesOthers};
 ghost use Rattle.rbd_session.specs.Session.{free_slot, held_in, op_at, refusal_in, reply_of, script_line, IsNewcomer};
 
-use crate::actor::{Actor, for_release, for_request, line_of, release_kind, way_kind};
+use crate::actor::{Actor, for_release, for_request, release_kind, way_kind};
 use crate::counting::count;
 use crate::going::{go_on, let_go, settle};
 use crate::slot_state::{Quiescing, SlotState, Way};
 use crate::slots::{blank_slots, is_any_taken, set_state, state_of};
 use rbd_course::Request;
 use rbd_kinds::{
-    Fed, Instance, NoMemory, Notice, NoticeKind, Op, OpKind, Reply, SiteId, Slot, TryClone,
+    Fed, ImageAt, Instance, NoMemory, Notice, NoticeKind, Op, OpKind, Reply, SiteId, Slot, TryClone,
 };
-use rbd_locks::{ImageAt, Locks};
+use rbd_locks::Locks;
 use rbd_owner::{Acquire, Release};
 use rbd_session::Session;
 use std::alloc::Global;
@@ -70,6 +70,7 @@ impl<R: Request> Client<R> {
         })
     }
 
+    /// Whose client it is: one life of one session.
     pub fn instance(&self) -> Instance
         ensures { result ≡ self.now.session.instance }
     {
@@ -244,7 +245,7 @@ impl<R: Request> Client<R> {
         ensures rest { result ≡ is_at_rest at.now.site at.now.image self.now }
         ensures sound { IsSoundClient R.stands self.now }
     {
-        self.session.is_at_rest(&line_of(at)) && !is_any_taken(self.slots.as_slice(), at)
+        self.session.is_at_rest(at) && !is_any_taken(self.slots.as_slice(), at)
     }
 
     /// Who acts where a slot is polled.

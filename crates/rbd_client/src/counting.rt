@@ -2,18 +2,16 @@
 ghost use Rattle.std.specs.Prelude.{◌<◌};
 ghost use Rattle.rbd_client.specs.Feeding.{comings_of, quiesces, resumes, CountsAll};
 
-use crate::actor::lock_of;
 use crate::slot_state::Quiescing;
-use rbd_kinds::{Answer, DirectoryOp, Fed, ImageId, Op, SiteId};
-use rbd_locks::{ImageAt, Locks};
-use rbd_session::ImageAt as LineAt;
+use rbd_kinds::{Answer, DirectoryOp, Fed, ImageAt, ImageId, Op, SiteId};
+use rbd_locks::Locks;
 
 /// Counts an operation of the client that was answered, and the quiesce that the request begins at
 /// its own look or ends. It takes no memory.
 pub fn count(
     locks: &mut Locks,
     quiescing: Quiescing,
-    look: Option<LineAt>,
+    look: Option<ImageAt>,
     site: SiteId,
     op: &Op,
     fed: &Fed,
@@ -32,12 +30,12 @@ pub fn count(
     }
 }
 
-fn begin_quiesce(locks: &mut Locks, look: Option<LineAt>)
+fn begin_quiesce(locks: &mut Locks, look: Option<ImageAt>)
     requires { 0 < locks.old.room }
     ensures { CountsAll (quiesces look) locks.old locks.new }
 {
-    if let Some(line) = look {
-        locks.quiesce(&lock_of(&line));
+    if let Some(at) = look {
+        locks.quiesce(&at);
     }
 }
 

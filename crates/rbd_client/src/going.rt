@@ -10,8 +10,7 @@ ghost use Rattle.rbd_session.specs.Session.{held_in, IsSoundSession};
 
 use crate::slot_state::{Quiescing, SlotState, Way};
 use rbd_course::Request;
-use rbd_kinds::{Fed, Reply, Slot};
-use rbd_locks::ImageAt;
+use rbd_kinds::{Fed, ImageAt, Reply, Slot};
 use rbd_machine::Progress;
 use rbd_owner::{Acquire, Release};
 use rbd_session::Session;

@@ -11,7 +11,7 @@ ghost use Rattle.rbd_line.specs.Line.{Member, is_past, member_of};
 ghost use Rattle.rbd_locks.specs.Locks.{state_at};
 ghost use Rattle.rbd_locks.specs.Places.{is_among};
 ghost use Rattle.rbd_owner.specs.declared.release.Release.{Release};
-ghost use Rattle.rbd_session.specs.declared.image_at.ImageAt.{ImageAt};
+ghost use Rattle.rbd_kinds.specs.declared.image_at.ImageAt.{ImageAt};
 ghost use Rattle.rbd_session.specs.Lines.{lines_of};
 ghost use Rattle.rbd_session.specs.Session.{own_look_at};
 

@@ -1,5 +1,5 @@
 //! What a client keeps of a slot, beside its session.
-use rbd_locks::ImageAt;
+use rbd_kinds::ImageAt;
 use rbd_owner::Acquire;
 
 /// How the request in a slot comes to the lock of its image.

@@ -4,8 +4,7 @@ ghost use Rattle.rbd_client.specs.Actor.{any_taken, has_taken};
 ghost use Rattle.rbd_client.specs.Client.{blank, state_in};
 
 use crate::slot_state::{SlotState, Way};
-use rbd_kinds::{NoMemory, Slot};
-use rbd_locks::ImageAt;
+use rbd_kinds::{ImageAt, NoMemory, Slot};
 use std::alloc::Global;
 
 /// Of slots that are all free.

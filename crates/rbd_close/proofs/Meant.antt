@@ -10,6 +10,7 @@ use Rattle.rbd_kinds.specs.declared.notice.NoticeKind.{NoticeKind}
 use Rattle.rbd_kinds.specs.declared.notice.NoticeKind.TheVariants as notice
 use Rattle.rbd_kinds.specs.declared.refusal.Refusal.{Refusal}
 use Rattle.rbd_kinds.specs.declared.refusal.Refusal.TheVariants as refusal
+use Rattle.rbd_kinds.proofs.Results.{same_refusal}
 use Rattle.rbd_kinds.specs.declared.reply.Reply.{Reply}
 use Rattle.rbd_kinds.specs.declared.reply.Reply.TheVariants as reply
 use Rattle.rbd_machine.specs.About.{look_up, AreOwn}
@@ -28,9 +29,6 @@ use Rattle.rbd_close.proofs.Ended.{closes, looks_twice, finds, says}
 abbrev IsDone : Reply → Type 0
 IsDone reply.Done = Unit {0}
 IsDone _ = ⊥
-
-same_refusal : (x y : Refusal) → reply.Refused x ≡ reply.Refused y → y ≡ x
-same_refusal x y is = cc
 
 -- ---- an operation that is done, or isn't since the image is gone or the instance is fenced
 

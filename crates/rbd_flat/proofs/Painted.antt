@@ -111,7 +111,7 @@ drop_nil : (n : ℕ) → ◌≡◌ {A = List ℕ} (drop n []) []
 drop_nil zero = refl
 drop_nil (suc n) = refl
 
-zeroed_next : (b c : Bool) (old : ℕ) → cond c 0 (cond b 0 old) ≡ cond (b || c) 0 old
+pub zeroed_next : (b c : Bool) (old : ℕ) → cond c 0 (cond b 0 old) ≡ cond (b || c) 0 old
 zeroed_next true true old = refl
 zeroed_next true false old = refl
 zeroed_next false c old = refl

@@ -1,6 +1,5 @@
 -- The parts of a flat image as the code keeps them.
 use Rattle.std.proofs.Common.{◌≡◌, ℕ, ◌-◌, ◌<◌, List, ◌++◌, length, get_or, take, sym, ◌∙◌, arith, inl, inr, length-append, length-take}
-use Rattle.std.specs.Prelude.{Result, Ok, Err, OnErr}
 use Rattle.std.proofs.lemmas.Bool.{cases_lt}
 use Rattle.std.proofs.lemmas.List.{length-replicate, get_or-replicate, get_or_append_left, get_or-append_right, get_or-take, get_or_past}
 use Rattle.std.proofs.lemmas.List.FromFn.{fill_by_all}
@@ -31,8 +30,3 @@ cut_or_filled n old = fill_by_all (λ x. get_or old x 0) (take n old ++ replicat
           ∙ get_or-replicate (n - length old) (k - length old) 0 0 (omega arith)
           ∙ sym (get_or_past old k 0 past)
     ]
-
--- what holds in any case holds on an error
-pub on_err_always : {T E P : Type 0} (r : Result T E) → P → OnErr r P
-on_err_always (Ok x) p = tt
-on_err_always (Err e) p = p

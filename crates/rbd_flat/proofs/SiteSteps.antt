@@ -4,7 +4,7 @@ use Rattle.std.specs.List.{list_any, filter}
 use Rattle.std.specs.Map.{lookup, keys_of}
 use Rattle.std.specs.BTreeMap.{is_at}
 use Rattle.std.specs.Ordering.{nat_cmp, eq_by_cmp, ordering_then}
-use Rattle.std.specs.Cmp.{IsTotalOrder, nat_cmp_total, Equal-is}
+use Rattle.std.specs.Cmp.{IsTotalOrder, nat_cmp_total}
 use Rattle.std.proofs.lemmas.Bool.{true≢false, not-false, eqb-true}
 use Rattle.std.proofs.lemmas.Bool.Decides.{Decides-eqb}
 use Rattle.std.proofs.lemmas.Slice.Eq.{slice_eq-Decides}
@@ -18,7 +18,7 @@ use Rattle.rbd_flat.specs.declared.effect.Effect.TheVariants as effect
 use Rattle.rbd_flat.specs.Flat.{Flat, FlatImage, Link, link_cmp, after, id_of, image_at, snap_of, renamed, with_image, changed}
 use Rattle.rbd_flat.specs.Site.{site_of}
 use Rattle.rbd_flat.proofs.Images.{get_insert}
-use Rattle.rbd_kinds.proofs.Ordered.{get_entries, one_given, one_taken, entries_in_order, one_added, one_dropped}
+use Rattle.rbd_kinds.proofs.Ordered.{get_entries, one_given, one_taken, entries_in_order, one_added, one_dropped, taken_and_given}
 
 abbrev name_cmp : List ℕ → List ℕ → Ordering
 name_cmp = slice_cmp nat_cmp
@@ -54,23 +54,6 @@ module _ (ns : List (List ℕ × ℕ)) (is : List (ℕ × FlatImage)) (ls ks : L
   link_dropped l h = ap (λ (s : finset.FinSet link_cmp). record (site_of ns is ls) { links = s }) (one_dropped link_total link_exact ls ks l h)
 
 -- ---- a name replaced: the new one first
-
--- what a test of two keys says of two others
-one_name : (q a b : List ℕ) → eq_by_cmp name_cmp q a ≡ true → eq_by_cmp name_cmp q b ≡ true → a ≡ b
-one_name q a b e g = sym (exact_bytes q a ((Equal-is (name_cmp q a)).0 e)) ∙ exact_bytes q b ((Equal-is (name_cmp q b)).0 g)
-
-apart_swap : {X : Type 0} (a b : Bool) (x y z : X) → (a ≡ true → b ≡ true → ⊥) → cond a x (cond b y z) ≡ cond b y (cond a x z)
-apart_swap true true x y z apart = absurd (apart refl refl)
-apart_swap true false x y z apart = refl
-apart_swap false b x y z apart = refl
-
-moved : (m : finmap.FinMap name_cmp ℕ) (from to : List ℕ) (image : ℕ) → (from ≡ to → ⊥) → finmap.remove (finmap.insert m to image) from ≡ finmap.insert (finmap.remove m from) to image
-moved m from to image ne = finmap.same_map nat_list_cmp_total exact_bytes _ _ (λ q.
-    finmap.get-remove nat_list_cmp_total (finmap.insert m to image) from q
-    ∙ ap (cond (eq_by_cmp name_cmp q from) None) (finmap.get-insert nat_list_cmp_total m to image q)
-    ∙ apart_swap (eq_by_cmp name_cmp q from) (eq_by_cmp name_cmp q to) None (Some image) (finmap.get m q) (λ e g. ne (one_name q from to e g))
-    ∙ sym (finmap.get-insert nat_list_cmp_total (finmap.remove m from) to image q
-    ∙ ap (cond (eq_by_cmp name_cmp q to) (Some image)) (finmap.get-remove nat_list_cmp_total m from q)))
 
 hidden : {X : Type 0} (b : Bool) (x y z : X) → cond b x z ≡ cond b x (cond b y z)
 hidden true x y z = refl
@@ -108,7 +91,7 @@ module _ (ns ms : List (List ℕ × ℕ)) (is : List (ℕ × FlatImage)) (ls : L
       at_name from to image (finmap.from_entries os) found
       (one_taken nat_list_cmp_total exact_bytes ms os from k
       ∙ ap (λ (m : finmap.FinMap name_cmp ℕ). finmap.remove m from) (one_given nat_list_cmp_total exact_bytes ns ms to image h)
-      ∙ moved (finmap.from_entries ns) from to image ne)
+      ∙ taken_and_given nat_list_cmp_total exact_bytes (finmap.from_entries ns) from to image ne)
 
 -- what `==` says of two names
 pub names_differ : (a b : List ℕ) → true ≡ not (pointwise eqb a b) → a ≡ b → ⊥

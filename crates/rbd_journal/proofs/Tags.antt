@@ -8,7 +8,8 @@ use Rattle.rbd_kinds.specs.declared.journal.Position.{Position}
 use Rattle.rbd_kinds.specs.declared.journal.Span.{Span}
 use Rattle.rbd_kinds.specs.declared.journal.Tag.{Tag}
 use Rattle.rbd_kinds.specs.Spans.{RunFrom, end_after}
-use Rattle.rbd_journal.specs.Records.{extended, extended_from, has, same_site, same_tag, span_at, tag_of}
+use Rattle.rbd_kinds.specs.Images.{same_site}
+use Rattle.rbd_journal.specs.Records.{extended, extended_from, has, same_tag, span_at, tag_of}
 
 site_is : (a b : SiteId) → same_site a b ≡ true → a ≡ b
 site_is A A e = refl

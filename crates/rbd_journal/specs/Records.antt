@@ -1,13 +1,12 @@
 -- A journal as a value, and what each call makes of it. Positions are sequence numbers, from 1 on.
-use Rattle.std.specs.Prelude.{◌≡◌, ℕ, ◌+◌, ◌-◌, ◌^◌, ◌≤◌, Bool, true, false, ◌&&◌, ◌==◌, nat_le, min, max, if◌then◌else◌, List, [], ◌∷◌, ◌++◌, length, drop, Option, Some, None, IfSome, option_map, unwrap_or, slice_get}
-use Rattle.rbd_kinds.specs.declared.id.SiteId.{SiteId}
-use Rattle.rbd_kinds.specs.declared.id.SiteId.TheVariants.{A, B}
+use Rattle.std.specs.Prelude.{◌≡◌, ℕ, ◌+◌, ◌-◌, ◌^◌, ◌≤◌, Bool, false, ◌&&◌, ◌==◌, nat_le, min, max, if◌then◌else◌, List, [], ◌∷◌, ◌++◌, length, drop, Option, Some, None, IfSome, option_map, unwrap_or, slice_get}
 use Rattle.rbd_kinds.specs.declared.journal.JournalClient.{JournalClient}
 use Rattle.rbd_kinds.specs.declared.journal.JournalClient.TheVariants.{Local, Mirror}
 use Rattle.rbd_kinds.specs.declared.journal.JournalView.{JournalView}
 use Rattle.rbd_kinds.specs.declared.journal.Position.{Position}
 use Rattle.rbd_kinds.specs.declared.journal.Span.{Span}
 use Rattle.rbd_kinds.specs.declared.journal.Tag.{Tag}
+use Rattle.rbd_kinds.specs.Images.{same_site}
 use Rattle.rbd_kinds.specs.Spans.{RunFrom, end_after}
 
 -- a frame that is held, and the tag of its position
@@ -27,12 +26,6 @@ pub record Records : Type 0 where
 -- a journal that begins on these spans: they are recorded and committed, and no frame is held
 abbrev pub based_on : List Span → Records
 based_on spans = record { spans = spans; end = end_after 0 spans; held = []; local = end_after 0 spans; mirror = None; drawn = 0 }
-
-abbrev pub same_site : SiteId → SiteId → Bool
-same_site A A = true
-same_site A B = false
-same_site B A = false
-same_site B B = true
 
 abbrev pub same_tag : Tag → Tag → Bool
 same_tag a b = same_site a.site b.site && (a.image == b.image) && (a.no == b.no)

@@ -1,2 +1,4 @@
 mod EachKind
+pub mod Images
 pub mod Ordered
+pub mod Results

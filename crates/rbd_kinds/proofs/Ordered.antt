@@ -2,13 +2,19 @@
 use Rattle.std.proofs.Common.{◌≡◌, Bool, true, false, cond, not, ◌&&◌, ◌||◌, List, [], ◌∷◌, length, Some, None, Ordering, refl, sym, ◌∙◌, ap}
 use Rattle.std.specs.Map.{lookup, keys_of}
 use Rattle.std.specs.BTreeMap.{is_at}
-use Rattle.std.specs.Cmp.{IsTotalOrder, eq_by_cmp_equiv}
-use Rattle.std.specs.FinMap.{IsAntisymmetric, find, put, entries, empty, from_entries, insert, remove, get, len, get-insert, get-remove, get-from_entries, same_map, entries-insert, len-entries, len-empty}
+use Rattle.std.specs.Cmp.{IsTotalOrder, Equal-is, eq_by_cmp_equiv}
+use Rattle.std.specs.FinMap.{FinMap, IsAntisymmetric, find, put, entries, empty, from_entries, insert, remove, get, len, get-insert, get-remove, get-from_entries, same_map, entries-insert, len-entries, len-empty}
 use Rattle.std.specs.FinMap.Entries.{by_order}
 use Rattle.std.proofs.lemmas.List.{nil_from_length}
 use Rattle.std.specs.FinSet as finset
 use Rattle.std.specs.List.{list_any}
+use Rattle.std.specs.Ordering.{eq_by_cmp}
 use Rattle.std.specs.List.Sorted.{IsStrictlySortedBy}
+
+swapped : {X : Type 0} (a b : Bool) (x y z : X) → (a ≡ true → b ≡ true → ⊥) → cond a x (cond b y z) ≡ cond b y (cond a x z)
+swapped true true x y z apart = absurd (apart refl refl)
+swapped true false x y z apart = refl
+swapped false b x y z apart = refl
 
 module _ {K X : Type 0} {R : K → K → Ordering} (o : IsTotalOrder R) where
   find_lookup : (es : List (K × X)) (q : K) → find R q es ≡ lookup (is_at (R q)) es
@@ -32,6 +38,15 @@ module _ {K X : Type 0} {R : K → K → Ordering} (o : IsTotalOrder R) where
   one_taken same es fs k h = same_map o same _ _ (λ q.
       get_entries fs q ∙ h q ∙ ap (λ b. cond b None (lookup (is_at (R q)) es)) ((eq_by_cmp_equiv o).symm k q)
       ∙ sym (get-remove o (from_entries es) k q ∙ ap (cond (is_at (R q) k) None) (get_entries es q)))
+
+  -- one key taken and another given, in either order
+  pub taken_and_given : IsAntisymmetric R → (m : FinMap R X) (from to : K) (v : X) → (from ≡ to → ⊥) → remove (insert m to v) from ≡ insert (remove m from) to v
+  taken_and_given exact m from to v other = same_map o exact _ _ (λ q.
+      get-remove o (insert m to v) from q
+      ∙ ap (cond (eq_by_cmp R q from) None) (get-insert o m to v q)
+      ∙ swapped (eq_by_cmp R q from) (eq_by_cmp R q to) None (Some v) (get m q) (λ e g. other (sym (exact q from ((Equal-is (R q from)).0 e)) ∙ exact q to ((Equal-is (R q to)).0 g)))
+      ∙ sym (get-insert o (remove m from) to v q
+      ∙ ap (cond (eq_by_cmp R q to) (Some v)) (get-remove o m from q)))
 
   put_first : (k : K) (v : X) (es : List (K × X)) → IsStrictlySortedBy R (k ∷ keys_of es) → put R k v es ≡ (k, v) ∷ es
   unfolding IsStrictlySortedBy

@@ -7,6 +7,7 @@ pub mod Form
 pub mod Frame
 pub mod Header
 pub mod Held
+pub mod Images
 pub mod Memory
 pub mod Name
 pub mod Operation

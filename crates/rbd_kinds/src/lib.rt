@@ -39,6 +39,7 @@ mod growing;
 mod header;
 mod header_op;
 mod id;
+mod image_at;
 mod journal;
 mod journal_op;
 mod layout;
@@ -69,6 +70,7 @@ pub use header::{
 };
 pub use header_op::HeaderOp;
 pub use id::{Ids, ImageId, Instance, Instances, SessionNo, SiteId, Slot, SnapId};
+pub use image_at::ImageAt;
 pub use journal::{Event, JournalClient, JournalView, Position, Span, Spans, Tag};
 pub use journal_op::JournalOp;
 pub use layout::{Extent, Layout, Part, Parts};

@@ -31,7 +31,10 @@
 //! | `specs/Calm.antt` | requests that wait for nothing |
 //!
 //! [`laws`] says that a session's calls keep this, that who may go on may look (`MayLook` of
-//! `rbd_rely`), and which commands wait for nothing.
+//! `rbd_rely`), and which commands wait for nothing. [`is_change`] tells a command's kind.
 #![tactic(auto)]
 
+mod change;
 pub mod laws;
+
+pub use change::is_change;

@@ -1,6 +1,7 @@
 -- What a run of the program answers, and what it leaves.
 use Rattle.std.specs.Prelude.{◌≡◌, ◌≢◌, ◌⊎◌, ◌↔◌, ℕ, ◌+◌, List, [], ◌∷◌, drop, codes, Option, Some, None, IfSome, Ok, Err}
 use Rattle.rbd_edge.specs.Sink.{held_with, GainsFront}
+use Rattle.rbd_edge.specs.Source.{IsFurther}
 use Rattle.rbd_script.specs.declared.fault.LineFault.{LineFault}
 use Rattle.rbd_script.specs.declared.script.Script.{Script}
 use Rattle.rbd_script.specs.Reading.{limit}
@@ -95,6 +96,36 @@ IsSilent words held held' = AreRun words × (held' ≡ held)
 -- the status tells whether a count of faults rose
 abbrev pub Tells : Status → Status → (faults faults' : ℕ) → Type 0
 Tells fault status faults faults' = ((status ≡ fault) ↔ (faults' ≡ faults + 1)) × (status ≢ fault → faults' ≡ faults)
+
+-- ---- a whole run
+
+-- What a run sees of its devices: what the source has left and the sink holds, where they tell,
+-- and how many faults each counted.
+pub record Devices : Type 0 where
+  pub left : Option (List ℕ)
+  pub held : Option (List ℕ)
+  pub read_faults : ℕ
+  pub write_faults : ℕ
+
+abbrev pub devices : (left held : Option (List ℕ)) → (read_faults write_faults : ℕ) → Devices
+devices left held read_faults write_faults = record { left = left; held = held; read_faults = read_faults; write_faults = write_faults }
+
+-- How a run with these words ended, and what it left of its devices and of the source itself.
+pub record IsRun {S : Type 0} (words : List (List ℕ)) (status : Status) (source source' : S) (old new : Devices) : Type 0 where
+  -- what is printed, and what is read
+  pub done : status ≡ Done → IsDone words old.left new.left old.held new.held
+  pub bad_line : status ≡ BadLine → IsBadLine words old.left new.left old.held new.held
+  pub usage : status ≡ Usage → IsUsage words old.held new.held
+  pub other_words : IsForOthers words status source source'
+  -- the faults come exactly where a device counted one
+  pub read_fault : Tells ReadFault status old.read_faults new.read_faults
+  pub write_fault : Tells WriteFault status old.write_faults new.write_faults
+  -- never is more than one byte past the limit taken, however it ends
+  pub taken : IsFurther (limit + 1) old.left new.left
+  -- what these and the want of memory leave
+  pub unread : status ≡ ReadFault → IsSilent words old.held new.held
+  pub cut : status ≡ WriteFault → IsCut words old.left old.held new.held
+  pub no_memory : status ≡ NoMemory → IsSilent words old.held new.held
 
 -- the exit statuses
 abbrev pub code_of : Status → ℕ

@@ -1,10 +1,8 @@
 //! The top call.
 ghost use Rattle.std.specs.Prelude.{◌≡◌, ◌≢◌, ◌+◌, ◌-◌, ◌^◌, ◌<◌, map, IfOk};
 ghost use Rattle.std.specs.String.{string_bytes};
-ghost use Rattle.rbd_edge.specs.Source.{IsFurther};
 ghost use Rattle.rbd_edge.specs.Sink.{held_with, GainsFront};
-ghost use Rattle.rbd_script.specs.Reading.{limit};
-ghost use Rattle.rbd_lab.specs.Run.{Answers, IsBadLine, IsCut, IsDone, IsForOthers, IsSilent, IsUsage, Tells, code_of, words_of};
+ghost use Rattle.rbd_lab.specs.Run.{devices, Answers, IsRun, code_of, words_of};
 
 use crate::mode::Mode;
 use crate::play::output;
@@ -61,24 +59,7 @@ pub fn run<R: Threads + Wait + Sync, S: Source, K: Sink>(
 ) -> Status
     requires source_countable { S.faults source.old < 2 ^ 64 - 1 }
     requires sink_countable { K.faults sink.old < 2 ^ 64 - 1 }
-
-    // What is printed, and what is read.
-    ensures done { result ≡ Status.Done → IsDone (map (λ w. string_bytes w) words.now) (S.left source.old) (S.left source.new) (K.held sink.old) (K.held sink.new) }
-    ensures bad_line { result ≡ Status.BadLine → IsBadLine (map (λ w. string_bytes w) words.now) (S.left source.old) (S.left source.new) (K.held sink.old) (K.held sink.new) }
-    ensures usage { result ≡ Status.Usage → IsUsage (map (λ w. string_bytes w) words.now) (K.held sink.old) (K.held sink.new) }
-    ensures other_words { IsForOthers (map (λ w. string_bytes w) words.now) result source.old source.new }
-
-    // The faults come exactly where a device counted one.
-    ensures read_fault { Tells Status.ReadFault result (S.faults source.old) (S.faults source.new) }
-    ensures write_fault { Tells Status.WriteFault result (K.faults sink.old) (K.faults sink.new) }
-
-    // Never is more than one byte past the limit taken, however it ends.
-    ensures taken { IsFurther (limit + 1) (S.left source.old) (S.left source.new) }
-
-    // What these and the want of memory leave.
-    ensures unread { result ≡ Status.ReadFault → IsSilent (map (λ w. string_bytes w) words.now) (K.held sink.old) (K.held sink.new) }
-    ensures cut { result ≡ Status.WriteFault → IsCut (map (λ w. string_bytes w) words.now) (S.left source.old) (K.held sink.old) (K.held sink.new) }
-    ensures no_memory { result ≡ Status.NoMemory → IsSilent (map (λ w. string_bytes w) words.now) (K.held sink.old) (K.held sink.new) }
+    ensures { IsRun (map (λ w. string_bytes w) words.now) result source.old source.new (devices (S.left source.old) (K.held sink.old) (S.faults source.old) (K.faults sink.old)) (devices (S.left source.new) (K.held sink.new) (S.faults source.new) (K.faults sink.new)) }
 {
     run_alone(alloc, words, source, sink)
 }
@@ -96,24 +77,7 @@ pub fn run_alone<S: Source, K: Sink>(
 ) -> Status
     requires source_countable { S.faults source.old < 2 ^ 64 - 1 }
     requires sink_countable { K.faults sink.old < 2 ^ 64 - 1 }
-
-    // What is printed, and what is read.
-    ensures done { result ≡ Status.Done → IsDone (map (λ w. string_bytes w) words.now) (S.left source.old) (S.left source.new) (K.held sink.old) (K.held sink.new) }
-    ensures bad_line { result ≡ Status.BadLine → IsBadLine (map (λ w. string_bytes w) words.now) (S.left source.old) (S.left source.new) (K.held sink.old) (K.held sink.new) }
-    ensures usage { result ≡ Status.Usage → IsUsage (map (λ w. string_bytes w) words.now) (K.held sink.old) (K.held sink.new) }
-    ensures other_words { IsForOthers (map (λ w. string_bytes w) words.now) result source.old source.new }
-
-    // The faults come exactly where a device counted one.
-    ensures read_fault { Tells Status.ReadFault result (S.faults source.old) (S.faults source.new) }
-    ensures write_fault { Tells Status.WriteFault result (K.faults sink.old) (K.faults sink.new) }
-
-    // Never is more than one byte past the limit taken, however it ends.
-    ensures taken { IsFurther (limit + 1) (S.left source.old) (S.left source.new) }
-
-    // What these and the want of memory leave.
-    ensures unread { result ≡ Status.ReadFault → IsSilent (map (λ w. string_bytes w) words.now) (K.held sink.old) (K.held sink.new) }
-    ensures cut { result ≡ Status.WriteFault → IsCut (map (λ w. string_bytes w) words.now) (S.left source.old) (K.held sink.old) (K.held sink.new) }
-    ensures no_memory { result ≡ Status.NoMemory → IsSilent (map (λ w. string_bytes w) words.now) (K.held sink.old) (K.held sink.new) }
+    ensures { IsRun (map (λ w. string_bytes w) words.now) result source.old source.new (devices (S.left source.old) (K.held sink.old) (S.faults source.old) (K.faults sink.old)) (devices (S.left source.new) (K.held sink.new) (S.faults source.new) (K.faults sink.new)) }
 {
     let Some(mode) = Mode::asked(words) else {
         return print(sink, usage().as_bytes(), Status::Usage);

@@ -1,13 +1,13 @@
 //! Which bytes are played.
 ghost use Rattle.std.specs.Prelude.{◌≡◌, None, Ok, Err, IfOk, IfErr};
 ghost use Rattle.rbd_script.specs.Fault.{AtLine};
-ghost use Rattle.rbd_known.specs.Calm.{is_change as changes_image};
 ghost use Rattle.rbd_schedule.specs.InOrder.{AreInOrder};
 ghost use Rattle.rbd_schedule.specs.Playing.{IsPlayable};
 ghost use Rattle.rbd_lab.specs.Script as told;
 
 use itoa::Buffer;
-use rbd_kinds::{Command, NoMemory, SessionNo};
+use rbd_kinds::{NoMemory, SessionNo};
+use rbd_known::is_change;
 use rbd_requests::is_built;
 use rbd_script::{Line, LineCause, LineFault, Said, Script, ScriptFault, read};
 use std::alloc::Global;
@@ -85,19 +85,6 @@ fn changer_with(said: &Said, changer: &Option<SessionNo>) -> Option<SessionNo>
             command,
         } if is_change(command) => Some(*session),
         _ => *changer,
-    }
-}
-
-/// Whether a command changes an image that is there.
-fn is_change(command: &Command) -> bool
-    ensures { result ≡ changes_image command.now }
-{
-    match command {
-        Command::Write { .. } => true,
-        Command::Fill { .. } => true,
-        Command::SnapCreate { .. } => true,
-        Command::SnapRemove { .. } => true,
-        _ => false,
     }
 }
 

@@ -4,6 +4,7 @@ pub mod Keeping
 pub mod Lists
 pub mod Owned
 pub mod Passing
+pub mod Past
 pub mod Staying
 pub mod Views
 pub mod Walked

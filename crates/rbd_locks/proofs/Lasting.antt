@@ -15,7 +15,7 @@ use Rattle.rbd_kinds.specs.declared.notice.NoticeKind.TheVariants as notice
 use Rattle.rbd_kinds.specs.declared.operation.Op.TheVariants as op
 use Rattle.rbd_locks.specs.declared.lock_state.LockState.{LockState}
 use Rattle.rbd_locks.specs.Comings.{Coming, ByAnswer, ByNotice, ByQuiesce, ByResume, after_all, after_one, is_drop, is_of, is_take, owned_since, owns_after}
-use Rattle.rbd_locks.specs.Places.{is_same}
+use Rattle.rbd_kinds.specs.Images.{is_at}
 use Rattle.rbd_locks.specs.States.{answered, quieted, resumed, told}
 
 either : {A : Type 0} (b : Bool) (x : A) → cond b x x ≡ x
@@ -30,7 +30,7 @@ not_second : (a b : Bool) → (a || b) ≡ false → b ≡ false
 not_second true b is = absurd (true≢false is)
 not_second false b is = is
 
-pub same_itself : (s : SiteId) (i : ℕ) → is_same s i s i ≡ true
+pub same_itself : (s : SiteId) (i : ℕ) → is_at s i s i ≡ true
 same_itself site.A i = eq-eqb i i refl
 same_itself site.B i = eq-eqb i i refl
 
@@ -60,26 +60,26 @@ module _ (site : SiteId) (image : ℕ) where
   pub owned_is : (comings : List Coming) (s : LockState) → (after_all comings site image s).owned ≡ owned_since site image s.owned comings
   owned_is [] s = refl
   owned_is (ByAnswer there (op.Header on o) a ∷ comings) s =
-      let here = is_same there on site image in
+      let here = is_at there on site image in
       owned_is comings (cond here (answered o a s) s)
       ∙ ap (λ owned. owned_since site image owned comings)
       (chosen_owned here (answered o a s) s ∙ ap (λ owned. cond here owned s.owned) (answered_owned on o a s))
   owned_is (ByAnswer there o a ∷ comings) s = owned_is comings s
   owned_is (ByNotice n ∷ comings) s =
       owned_is comings (after_one (ByNotice n) site image s)
-      ∙ ap (λ owned. owned_since site image owned comings) (left_alone (is_same n.site n.image site image) (told n.kind s) s (told_owned n.kind s))
+      ∙ ap (λ owned. owned_since site image owned comings) (left_alone (is_at n.site n.image site image) (told n.kind s) s (told_owned n.kind s))
   owned_is (ByQuiesce there on ∷ comings) s =
       owned_is comings (after_one (ByQuiesce there on) site image s)
-      ∙ ap (λ owned. owned_since site image owned comings) (left_alone (is_same there on site image) _ s refl)
+      ∙ ap (λ owned. owned_since site image owned comings) (left_alone (is_at there on site image) _ s refl)
   owned_is (ByResume there on ∷ comings) s =
       owned_is comings (after_one (ByResume there on) site image s)
-      ∙ ap (λ owned. owned_since site image owned comings) (left_alone (is_same there on site image) _ s refl)
+      ∙ ap (λ owned. owned_since site image owned comings) (left_alone (is_at there on site image) _ s refl)
 
   keeps_owned : (there : SiteId) (on : ℕ) (o : HeaderOp) (a : Answer) → is_drop site image (ByAnswer there (op.Header on o) a) ≡ false
-      → cond (is_same there on site image) (owns_after true (op.Header on o) a) true ≡ true
+      → cond (is_at there on site image) (owns_after true (op.Header on o) a) true ≡ true
   keeps_owned there on header.LockDrop a none = ap (λ b. cond b false true) none
-  keeps_owned there on header.LockTake answer.Done none = either (is_same there on site image) true
-  keeps_owned there on o a none = either (is_same there on site image) true
+  keeps_owned there on header.LockTake answer.Done none = either (is_at there on site image) true
+  keeps_owned there on o a none = either (is_at there on site image) true
 
   stays_owned : (comings : List Coming) → list_any (is_drop site image) comings ≡ false → owned_since site image true comings ≡ true
   stays_owned [] none = refl
@@ -94,10 +94,10 @@ module _ (site : SiteId) (image : ℕ) where
   stays_owned (ByResume there on ∷ comings) none = stays_owned comings none
 
   keeps_free : (there : SiteId) (on : ℕ) (o : HeaderOp) (a : Answer) → is_take site image (ByAnswer there (op.Header on o) a) ≡ false
-      → cond (is_same there on site image) (owns_after false (op.Header on o) a) false ≡ false
+      → cond (is_at there on site image) (owns_after false (op.Header on o) a) false ≡ false
   keeps_free there on header.LockTake answer.Done none = ap (λ b. cond b true false) none
-  keeps_free there on header.LockDrop a none = either (is_same there on site image) false
-  keeps_free there on o a none = either (is_same there on site image) false
+  keeps_free there on header.LockDrop a none = either (is_at there on site image) false
+  keeps_free there on o a none = either (is_at there on site image) false
 
   stays_free : (comings : List Coming) → list_any (is_take site image) comings ≡ false → owned_since site image false comings ≡ false
   stays_free [] none = refl
@@ -158,15 +158,15 @@ passed_over notice.RequestLock s none = λ j. record { owned = s.owned; watched 
 passed_over k s none = refl
 
 pub missed : (n : Notice) (s : LockState) (site : SiteId) (image : ℕ) → s.owned ≡ false → after_one (ByNotice n) site image s ≡ s
-missed n s site image none = ap (λ x. cond (is_same n.site n.image site image) x s) (passed_over n.kind s none) ∙ either (is_same n.site n.image site image) s
+missed n s site image none = ap (λ x. cond (is_at n.site n.image site image) x s) (passed_over n.kind s none) ∙ either (is_at n.site n.image site image) s
 
 module _ (site : SiteId) (image : ℕ) where
   one_asked : (c : Coming) (s : LockState) → IsAskedOwned s → IsAskedOwned (after_one c site image s)
-  one_asked (ByAnswer there (op.Header on o) a) s holds = chosen IsAskedOwned (is_same there on site image) (answered o a s) s (answered_asked o a s holds) holds
+  one_asked (ByAnswer there (op.Header on o) a) s holds = chosen IsAskedOwned (is_at there on site image) (answered o a s) s (answered_asked o a s holds) holds
   one_asked (ByAnswer there o a) s holds = holds
-  one_asked (ByNotice n) s holds = chosen IsAskedOwned (is_same n.site n.image site image) (told n.kind s) s (told_asked n.kind s holds) holds
-  one_asked (ByQuiesce there on) s holds = chosen IsAskedOwned (is_same there on site image) _ s holds holds
-  one_asked (ByResume there on) s holds = chosen IsAskedOwned (is_same there on site image) _ s holds holds
+  one_asked (ByNotice n) s holds = chosen IsAskedOwned (is_at n.site n.image site image) (told n.kind s) s (told_asked n.kind s holds) holds
+  one_asked (ByQuiesce there on) s holds = chosen IsAskedOwned (is_at there on site image) _ s holds holds
+  one_asked (ByResume there on) s holds = chosen IsAskedOwned (is_at there on site image) _ s holds holds
 
   pub asked_is_owned : (comings : List Coming) (s : LockState) → (IsTrue s.asked → IsTrue s.owned)
       → IsTrue (after_all comings site image s).asked → IsTrue (after_all comings site image s).owned
@@ -178,19 +178,19 @@ module _ (site : SiteId) (image : ℕ) where
 
   answer_keeps : (there : SiteId) (on : ℕ) (o : HeaderOp) (a : Answer) (s : LockState)
       → is_take site image (ByAnswer there (op.Header on o) a) ≡ false → is_drop site image (ByAnswer there (op.Header on o) a) ≡ false
-      → IsTrue s.asked → IsTrue (cond (is_same there on site image) (answered o a s) s).asked
+      → IsTrue s.asked → IsTrue (cond (is_at there on site image) (answered o a s) s).asked
   answer_keeps there on header.LockTake answer.Done s no_take no_drop is = subst (λ b. IsTrue (cond b (answered header.LockTake answer.Done s) s).asked) (sym no_take) is
   answer_keeps there on header.LockDrop a s no_take no_drop is = subst (λ b. IsTrue (cond b (answered header.LockDrop a s) s).asked) (sym no_drop) is
-  answer_keeps there on header.Watch answer.Done s no_take no_drop is = chosen IsAsked (is_same there on site image) _ s is is
-  answer_keeps there on header.Unwatch a s no_take no_drop is = chosen IsAsked (is_same there on site image) _ s is is
-  answer_keeps there on o a s no_take no_drop is = chosen IsAsked (is_same there on site image) _ s is is
+  answer_keeps there on header.Watch answer.Done s no_take no_drop is = chosen IsAsked (is_at there on site image) _ s is is
+  answer_keeps there on header.Unwatch a s no_take no_drop is = chosen IsAsked (is_at there on site image) _ s is is
+  answer_keeps there on o a s no_take no_drop is = chosen IsAsked (is_at there on site image) _ s is is
 
   stays_asked_by : (c : Coming) (s : LockState) → is_take site image c ≡ false → is_drop site image c ≡ false → IsTrue s.asked → IsTrue (after_one c site image s).asked
   stays_asked_by (ByAnswer there (op.Header on o) a) s no_take no_drop is = answer_keeps there on o a s no_take no_drop is
   stays_asked_by (ByAnswer there o a) s no_take no_drop is = is
-  stays_asked_by (ByNotice n) s no_take no_drop is = chosen IsAsked (is_same n.site n.image site image) (told n.kind s) s (asked_if_told n.kind s is) is
-  stays_asked_by (ByQuiesce there on) s no_take no_drop is = chosen IsAsked (is_same there on site image) _ s is is
-  stays_asked_by (ByResume there on) s no_take no_drop is = chosen IsAsked (is_same there on site image) _ s is is
+  stays_asked_by (ByNotice n) s no_take no_drop is = chosen IsAsked (is_at n.site n.image site image) (told n.kind s) s (asked_if_told n.kind s is) is
+  stays_asked_by (ByQuiesce there on) s no_take no_drop is = chosen IsAsked (is_at there on site image) _ s is is
+  stays_asked_by (ByResume there on) s no_take no_drop is = chosen IsAsked (is_at there on site image) _ s is is
 
   pub stays_asked : (comings : List Coming) (s : LockState) → list_any (is_take site image) comings ≡ false → list_any (is_drop site image) comings ≡ false
       → IsTrue s.asked → IsTrue (after_all comings site image s).asked

@@ -9,23 +9,24 @@ use Rattle.std.specs.Ordering.{is_lt, ordering_reverse}
 use Rattle.std.specs.declared.cmp.Ordering.TheVariants.{Less}
 use Rattle.std.specs.Option.{unwrap_or, is_some}
 use Rattle.std.specs.Prelude.{IsTrue, IsFalse}
-use Rattle.rbd_locks.specs.declared.image_at.ImageAt.{ImageAt}
+use Rattle.rbd_kinds.specs.declared.image_at.ImageAt.{ImageAt}
 use Rattle.rbd_locks.specs.Locks.{AreInOrder}
-use Rattle.rbd_locks.specs.Places.{is_among, is_behind, is_same, next_behind, number_of, place_cmp}
+use Rattle.rbd_kinds.specs.Images.{image_cmp, is_at, number_of}
+use Rattle.rbd_locks.specs.Places.{is_among, is_behind, next_behind}
 use Rattle.rbd_locks.proofs.Keys.{where_same}
 use Rattle.rbd_locks.proofs.Lasting.{same_itself}
 
-total : IsTotalOrder place_cmp
+total : IsTotalOrder image_cmp
 total = then_total (on_total (λ (p : ImageAt). number_of p.site) nat_cmp_total) (on_total (λ (p : ImageAt). p.image) nat_cmp_total)
 
 not_below : (r : Ordering) → r ≡ Less → is_lt (ordering_reverse r) ≡ false
 not_below r is = ap (λ o. is_lt (ordering_reverse o)) is
 
 -- what comes later isn't below
-not_below_first : (first other : ImageAt) → place_cmp first other ≡ Less → is_lt (place_cmp other first) ≡ false
-not_below_first first other is = ap is_lt (total.antisymm other first) ∙ not_below (place_cmp first other) is
+not_below_first : (first other : ImageAt) → image_cmp first other ≡ Less → is_lt (image_cmp other first) ≡ false
+not_below_first first other is = ap is_lt (total.antisymm other first) ∙ not_below (image_cmp first other) is
 
-not_below_itself : (p : ImageAt) → is_lt (place_cmp p p) ≡ false
+not_below_itself : (p : ImageAt) → is_lt (image_cmp p p) ≡ false
 not_below_itself p = ap is_lt (tied_itself total p)
 
 not_some : {X : Type 0} (x : X) → None ≡ Some x → ⊥
@@ -33,25 +34,25 @@ not_some x is = true≢false (sym (ap is_some is))
 
 -- one of some places that begin with this one is this one, or one of the others
 split : {P : Type 0} (first other : ImageAt) (places : List ImageAt) → IsTrue (is_among other.site other.image (first ∷ places))
-    → (IsTrue (is_same other.site other.image first.site first.image) → P) → (IsTrue (is_among other.site other.image places) → P) → P
-split {P} first other places is here there = go (is_same other.site other.image first.site first.image) refl is
+    → (IsTrue (is_at other.site other.image first.site first.image) → P) → (IsTrue (is_among other.site other.image places) → P) → P
+split {P} first other places is here there = go (is_at other.site other.image first.site first.image) refl is
   where
-    go : (b : Bool) → is_same other.site other.image first.site first.image ≡ b → (b || is_among other.site other.image places) ≡ true → P
+    go : (b : Bool) → is_at other.site other.image first.site first.image ≡ b → (b || is_among other.site other.image places) ≡ true → P
     go true same is = here same
     go false apart is = there is
 
 -- all the others come later
-later : (first other : ImageAt) (places : List ImageAt) → AllByRecursion (λ p. place_cmp first p ≡ Less) places → IsTrue (is_among other.site other.image places)
-    → place_cmp first other ≡ Less
+later : (first other : ImageAt) (places : List ImageAt) → AllByRecursion (λ p. image_cmp first p ≡ Less) places → IsTrue (is_among other.site other.image places)
+    → image_cmp first other ≡ Less
 later first other [] all is = absurd (true≢false (sym is))
 later first other (p ∷ places) all is =
     let found = later first other places all.1 in
     split p other places is
-    (λ same. where_same (λ s i. place_cmp first (record { site = s; image = i }) ≡ Less) p.site p.image other.site other.image (turned other p same) all.0)
+    (λ same. where_same (λ s i. image_cmp first (record { site = s; image = i }) ≡ Less) p.site p.image other.site other.image (turned other p same) all.0)
     (λ there. found there)
   where
-    turned : (a b : ImageAt) → IsTrue (is_same a.site a.image b.site b.image) → IsTrue (is_same b.site b.image a.site a.image)
-    turned a b same = where_same (λ s i. IsTrue (is_same s i a.site a.image)) a.site a.image b.site b.image same (same_itself a.site a.image)
+    turned : (a b : ImageAt) → IsTrue (is_at a.site a.image b.site b.image) → IsTrue (is_at b.site b.image a.site a.image)
+    turned a b same = where_same (λ s i. IsTrue (is_at s i a.site a.image)) a.site a.image b.site b.image same (same_itself a.site a.image)
 
 module _ (behind : Option ImageAt) where
   pub found : (places : List ImageAt) (next : ImageAt) → next_behind behind places ≡ Some next
@@ -59,7 +60,7 @@ module _ (behind : Option ImageAt) where
   found [] next is = absurd (not_some next is)
   found (p ∷ places) next is = go (is_behind behind p) refl is (found places next)
     where
-      among : (b : Bool) → is_same next.site next.image p.site p.image ≡ b → IsTrue (is_among next.site next.image places) → (b || is_among next.site next.image places) ≡ true
+      among : (b : Bool) → is_at next.site next.image p.site p.image ≡ b → IsTrue (is_among next.site next.image places) → (b || is_among next.site next.image places) ≡ true
       among true same is = refl
       among false apart is = is
 
@@ -71,7 +72,7 @@ module _ (behind : Option ImageAt) where
           subst (λ (q : ImageAt). IsTrue (is_among q.site q.image (p ∷ places)) × IsTrue (is_behind behind q)) same
           (ap (λ b. b || is_among p.site p.image places) (same_itself p.site p.image), comes)
       go false comes is rest =
-          let both = rest is in (among (is_same next.site next.image p.site p.image) refl both.0, both.1)
+          let both = rest is in (among (is_at next.site next.image p.site p.image) refl both.0, both.1)
 
   pub none : (places : List ImageAt) (other : ImageAt) → next_behind behind places ≡ None
       → IsTrue (is_among other.site other.image places) → IsFalse (is_behind behind other)
@@ -85,23 +86,23 @@ module _ (behind : Option ImageAt) where
       go false comes is rest =
           split p other places among
           (λ same. where_same (λ s i. IsFalse (is_behind behind (record { site = s; image = i }))) p.site p.image other.site other.image
-          (where_same (λ s i. IsTrue (is_same s i other.site other.image)) other.site other.image p.site p.image same (same_itself other.site other.image)) comes)
+          (where_same (λ s i. IsTrue (is_at s i other.site other.image)) other.site other.image p.site p.image same (same_itself other.site other.image)) comes)
           (λ there. rest is there)
 
   pub least : (places : List ImageAt) (next other : ImageAt) → AreInOrder places → next_behind behind places ≡ Some next
-      → IsTrue (is_among other.site other.image places) → IsTrue (is_behind behind other) → IsFalse (is_lt (place_cmp other next))
+      → IsTrue (is_among other.site other.image places) → IsTrue (is_behind behind other) → IsFalse (is_lt (image_cmp other next))
   least [] next other order is among comes = absurd (not_some next is)
-  least (p ∷ places) next other order is among comes = go (is_behind behind p) refl is (least places next other (sorted_tail place_cmp p places order))
+  least (p ∷ places) next other order is among comes = go (is_behind behind p) refl is (least places next other (sorted_tail image_cmp p places order))
     where
       go : (b : Bool) → is_behind behind p ≡ b → cond b (Some p) (next_behind behind places) ≡ Some next
-          → (next_behind behind places ≡ Some next → IsTrue (is_among other.site other.image places) → IsTrue (is_behind behind other) → IsFalse (is_lt (place_cmp other next)))
-          → IsFalse (is_lt (place_cmp other next))
+          → (next_behind behind places ≡ Some next → IsTrue (is_among other.site other.image places) → IsTrue (is_behind behind other) → IsFalse (is_lt (image_cmp other next)))
+          → IsFalse (is_lt (image_cmp other next))
       go true first is rest =
           let same : p ≡ next = ap (λ (o : Option ImageAt). unwrap_or o p) is in
-          subst (λ (q : ImageAt). IsFalse (is_lt (place_cmp other q))) same
+          subst (λ (q : ImageAt). IsFalse (is_lt (image_cmp other q))) same
           (split p other places among
-          (λ here. where_same (λ s i. IsFalse (is_lt (place_cmp other (record { site = s; image = i })))) other.site other.image p.site p.image here (not_below_itself other))
-          (λ there. not_below_first p other (later p other places (sorted_head place_cmp p places order) there)))
+          (λ here. where_same (λ s i. IsFalse (is_lt (image_cmp other (record { site = s; image = i })))) other.site other.image p.site p.image here (not_below_itself other))
+          (λ there. not_below_first p other (later p other places (sorted_head image_cmp p places order) there)))
       go false first is rest =
           split p other places among
           (λ here. absurd (true≢false (sym (where_same (λ s i. IsTrue (is_behind behind (record { site = s; image = i }))) other.site other.image p.site p.image here comes) ∙ first)))

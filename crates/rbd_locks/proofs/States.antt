@@ -12,9 +12,11 @@ use Rattle.rbd_kinds.specs.declared.operation.Op.TheVariants as op
 use Rattle.rbd_locks.specs.declared.lock_state.LockState.{LockState}
 use Rattle.rbd_locks.specs.declared.noted.Noted.{Noted}
 use Rattle.rbd_locks.specs.Locks.{begins, changed_at, is_blank, noted_of, noted_or, state_at, with_asked, AreNoted, IsRoomFor, IsSoundLocks, LocksView, StaysBlank}
-use Rattle.rbd_locks.specs.Places.{is_among, is_same, key_of}
+use Rattle.rbd_kinds.specs.Images.{is_at, key_of}
+use Rattle.rbd_locks.specs.Places.{is_among}
 use Rattle.rbd_locks.specs.States.{answered}
-use Rattle.rbd_locks.proofs.Keys.{same_key, where_same}
+use Rattle.rbd_kinds.proofs.Images.{same_key}
+use Rattle.rbd_locks.proofs.Keys.{where_same}
 
 blank_without : (o w q : Bool) → IsTrue (not o && (not w && not q)) → IsTrue (not false && (not w && not false))
 blank_without false false false is = is
@@ -51,9 +53,9 @@ room_for image o a before after room is begun = go (begins (op.Header image o) a
 -- what was made of the state of an image is what is made of it at each
 pub at_same : (s : SiteId) (i : ℕ) (change : LockState → LockState) (l : LocksView) (x : LockState) → x ≡ change (state_at s i l)
     → (t : SiteId) (j : ℕ) → changed_at s i (λ before. x) t j (state_at t j l) ≡ changed_at s i change t j (state_at t j l)
-at_same s i change l x is t j = go (is_same s i t j) refl
+at_same s i change l x is t j = go (is_at s i t j) refl
   where
-    go : (b : Bool) → is_same s i t j ≡ b → cond b x (state_at t j l) ≡ cond b (change (state_at t j l)) (state_at t j l)
+    go : (b : Bool) → is_at s i t j ≡ b → cond b x (state_at t j l) ≡ cond b (change (state_at t j l)) (state_at t j l)
     go true same = where_same (λ t j. x ≡ change (state_at t j l)) s i t j same is
     go false other = refl
 
@@ -64,12 +66,12 @@ both false x asked n = refl
 -- table and set change at one image, and so do the states
 pub set_at : (s : SiteId) (i : ℕ) (x : LockState) (old new : LocksView)
     → ((k : ℕ) → noted_or (lookup (nat_eq k) new.entries) ≡ cond (nat_eq (key_of s i) k) (noted_of x) (noted_or (lookup (nat_eq k) old.entries)))
-    → ((t : SiteId) (j : ℕ) → is_among t j new.asked ≡ cond (is_same s i t j) x.asked (is_among t j old.asked))
+    → ((t : SiteId) (j : ℕ) → is_among t j new.asked ≡ cond (is_at s i t j) x.asked (is_among t j old.asked))
     → (t : SiteId) (j : ℕ) → state_at t j new ≡ changed_at s i (λ before. x) t j (state_at t j old)
 set_at s i x old new noted asked t j =
     let was = noted_or (lookup (nat_eq (key_of t j)) old.entries) in
     let is = noted (key_of t j) ∙ ap (λ b. cond b (noted_of x) was) (same_key s i t j) in
-    (λ k. with_asked (asked t j k) (is k)) ∙ both (is_same s i t j) x (is_among t j old.asked) was
+    (λ k. with_asked (asked t j k) (is k)) ∙ both (is_at s i t j) x (is_among t j old.asked) was
 
 -- an image that is asked for only where its lock is owned keeps all sound
 pub stays_sound : (s : SiteId) (i : ℕ) (x : LockState) (old new : LocksView)
@@ -84,4 +86,4 @@ stays_sound s i x old new states asked sound few = record { owned = owned; few =
     owned : (t : SiteId) (j : ℕ) → IsTrue (is_among t j new.asked) → IsTrue (state_at t j new).owned
     owned t j is =
         subst (λ (v : LockState). IsTrue v.owned) (sym (states t j))
-        (go t j (is_same s i t j) (subst (λ (v : LockState). IsTrue v.asked) (states t j) is))
+        (go t j (is_at s i t j) (subst (λ (v : LockState). IsTrue v.asked) (states t j) is))

@@ -9,7 +9,7 @@ use Rattle.rbd_kinds.specs.declared.operation.Op.{Op}
 use Rattle.rbd_kinds.specs.declared.operation.Op.TheVariants as op
 use Rattle.rbd_locks.specs.declared.lock_state.LockState.{LockState}
 use Rattle.rbd_locks.specs.Locks.{changed_at, counted, heard}
-use Rattle.rbd_locks.specs.Places.{is_same}
+use Rattle.rbd_kinds.specs.Images.{is_at}
 use Rattle.rbd_locks.specs.States.{quieted, resumed}
 
 -- an operation of its own was answered, a notice was heard, an image was quiesced, a quiesce ended
@@ -33,20 +33,20 @@ after_all (c ∷ comings) site image s = after_all comings site image (after_one
 -- ---- which are of an image at a site
 
 abbrev pub is_of : SiteId → (image : ℕ) → Coming → Bool
-is_of site image (ByAnswer there (op.Header on o) a) = is_same there on site image
+is_of site image (ByAnswer there (op.Header on o) a) = is_at there on site image
 is_of site image (ByAnswer there o a) = false
-is_of site image (ByNotice n) = is_same n.site n.image site image
-is_of site image (ByQuiesce there on) = is_same there on site image
-is_of site image (ByResume there on) = is_same there on site image
+is_of site image (ByNotice n) = is_at n.site n.image site image
+is_of site image (ByQuiesce there on) = is_at there on site image
+is_of site image (ByResume there on) = is_at there on site image
 
 -- its lock was taken
 abbrev pub is_take : SiteId → (image : ℕ) → Coming → Bool
-is_take site image (ByAnswer there (op.Header on header.LockTake) answer.Done) = is_same there on site image
+is_take site image (ByAnswer there (op.Header on header.LockTake) answer.Done) = is_at there on site image
 is_take site image c = false
 
 -- a drop of its lock was answered, whatever the answer
 abbrev pub is_drop : SiteId → (image : ℕ) → Coming → Bool
-is_drop site image (ByAnswer there (op.Header on header.LockDrop) a) = is_same there on site image
+is_drop site image (ByAnswer there (op.Header on header.LockDrop) a) = is_at there on site image
 is_drop site image c = false
 
 -- ---- whether its lock counts as owned
@@ -61,5 +61,5 @@ owns_after owned o a = owned
 abbrev pub owned_since : SiteId → (image : ℕ) → (owned : Bool) → List Coming → Bool
 owned_since site image owned [] = owned
 owned_since site image owned (ByAnswer there (op.Header on o) a ∷ comings) =
-    owned_since site image (if is_same there on site image then owns_after owned (op.Header on o) a else owned) comings
+    owned_since site image (if is_at there on site image then owns_after owned (op.Header on o) a else owned) comings
 owned_since site image owned (c ∷ comings) = owned_since site image owned comings

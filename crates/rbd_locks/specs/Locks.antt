@@ -10,10 +10,11 @@ use Rattle.rbd_kinds.specs.declared.id.SiteId.{SiteId}
 use Rattle.rbd_kinds.specs.declared.notice.Notice.{Notice}
 use Rattle.rbd_kinds.specs.declared.operation.Op.{Op}
 use Rattle.rbd_kinds.specs.declared.operation.Op.TheVariants as op
-use Rattle.rbd_locks.specs.declared.image_at.ImageAt.{ImageAt}
+use Rattle.rbd_kinds.specs.declared.image_at.ImageAt.{ImageAt}
 use Rattle.rbd_locks.specs.declared.lock_state.LockState.{LockState}
 use Rattle.rbd_locks.specs.declared.noted.Noted.{Noted}
-use Rattle.rbd_locks.specs.Places.{is_among, is_same, key_of, place_cmp}
+use Rattle.rbd_kinds.specs.Images.{image_cmp, is_at, key_of}
+use Rattle.rbd_locks.specs.Places.{is_among}
 use Rattle.rbd_locks.specs.States.{answered, told}
 
 -- ---- the view
@@ -57,13 +58,13 @@ pub record IsSoundLocks (l : LocksView) : Type 0 where
 
 -- the images that were asked for stand in order: by site, then by id
 abbrev pub AreInOrder : List ImageAt → Type 0
-AreInOrder places = IsStrictlySortedBy place_cmp places
+AreInOrder places = IsStrictlySortedBy image_cmp places
 
 -- ---- what changes it
 
 -- one image changes
 abbrev pub changed_at : SiteId → (image : ℕ) → (LockState → LockState) → SiteId → (other : ℕ) → LockState → LockState
-changed_at site image change there other s = if is_same site image there other then change s else s
+changed_at site image change there other s = if is_at site image there other then change s else s
 
 -- an operation of the session at a site was answered
 abbrev pub counted : SiteId → Op → Answer → SiteId → (image : ℕ) → LockState → LockState

@@ -1,10 +1,10 @@
 //! The images that were asked for, in order.
 ghost use Rattle.std.specs.Prelude.{◌≡◌, ℕ, true, if◌then◌else◌, IsTrue, OnOk, OnErr, None, Some};
 ghost use Rattle.rbd_kinds.specs.declared.id.SiteId.{SiteId};
-ghost use Rattle.rbd_locks.specs.Places.{is_among, is_same, next_behind};
+ghost use Rattle.rbd_kinds.specs.Images.{is_at};
+ghost use Rattle.rbd_locks.specs.Places.{is_among, next_behind};
 
-use crate::image_at::ImageAt;
-use rbd_kinds::NoMemory;
+use rbd_kinds::{ImageAt, NoMemory};
 use std::collections::BTreeSet;
 use std::ops::Bound;
 
@@ -17,7 +17,7 @@ pub fn is_asked(asked: &BTreeSet<ImageAt>, at: &ImageAt) -> bool
 
 /// An image is asked for. Refused memory, nothing changes.
 pub fn ask(asked: &mut BTreeSet<ImageAt>, at: &ImageAt) -> Result<(), NoMemory>
-    ensures ok { OnOk result ((site : SiteId) (image : ℕ) → is_among site image asked.new.keys ≡ if is_same at.now.site at.now.image site image then true else is_among site image asked.old.keys) }
+    ensures ok { OnOk result ((site : SiteId) (image : ℕ) → is_among site image asked.new.keys ≡ if is_at at.now.site at.now.image site image then true else is_among site image asked.old.keys) }
     ensures err { OnErr result (asked.new.keys ≡ asked.old.keys) }
 {
     asked.insert(*at)?;
@@ -27,7 +27,7 @@ pub fn ask(asked: &mut BTreeSet<ImageAt>, at: &ImageAt) -> Result<(), NoMemory>
 /// An image that was asked for stays so, or isn't asked for from now on. It takes no memory.
 pub fn keep(asked: &mut BTreeSet<ImageAt>, at: &ImageAt, stays: bool)
     requires { IsTrue stays → IsTrue (is_among at.now.site at.now.image asked.old.keys) }
-    ensures { (site : SiteId) (image : ℕ) → is_among site image asked.new.keys ≡ if is_same at.now.site at.now.image site image then stays else is_among site image asked.old.keys }
+    ensures { (site : SiteId) (image : ℕ) → is_among site image asked.new.keys ≡ if is_at at.now.site at.now.image site image then stays else is_among site image asked.old.keys }
 {
     if !stays {
         asked.remove(at);

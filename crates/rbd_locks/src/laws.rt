@@ -10,11 +10,12 @@ ghost use Rattle.rbd_kinds.specs.declared.id.SiteId.{SiteId};
 ghost use Rattle.rbd_kinds.specs.declared.notice.Notice.{Notice};
 ghost use Rattle.rbd_kinds.specs.declared.notice.NoticeKind.TheVariants as notice;
 ghost use Rattle.rbd_kinds.specs.declared.operation.Op.TheVariants as op;
-ghost use Rattle.rbd_locks.specs.declared.image_at.ImageAt.{ImageAt};
+ghost use Rattle.rbd_kinds.specs.declared.image_at.ImageAt.{ImageAt};
 ghost use Rattle.rbd_locks.specs.declared.lock_state.LockState.{LockState};
 ghost use Rattle.rbd_locks.specs.Comings.{Coming, ByAnswer, ByNotice, after_all, after_one, is_drop, is_of, is_take, owned_since};
 ghost use Rattle.rbd_locks.specs.Locks.{AreInOrder};
-ghost use Rattle.rbd_locks.specs.Places.{is_among, is_behind, next_behind, place_cmp};
+ghost use Rattle.rbd_kinds.specs.Images.{image_cmp};
+ghost use Rattle.rbd_locks.specs.Places.{is_among, is_behind, next_behind};
 
 /// A lock counts as owned by the operations of the session on that image alone: from a `lock-take`
 /// that is done up to the next answer of a `lock-drop`, whatever else comes in between, and from
@@ -63,7 +64,7 @@ pub fn the_next_is_the_least()
     ensures least { (behind : Option ImageAt) (places : List ImageAt) (next other : ImageAt)
         → AreInOrder places → next_behind behind places ≡ Some next
         → IsTrue (is_among other.site other.image places) → IsTrue (is_behind behind other)
-        → IsFalse (is_lt (place_cmp other next)) }
+        → IsFalse (is_lt (image_cmp other next)) }
     ensures none { (behind : Option ImageAt) (places : List ImageAt) (other : ImageAt)
         → next_behind behind places ≡ None
         → IsTrue (is_among other.site other.image places) → IsFalse (is_behind behind other) }

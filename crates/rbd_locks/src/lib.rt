@@ -54,7 +54,7 @@
 //!
 //! | File | What it says |
 //! |---|---|
-//! | `specs/Places.antt` | which image is which, and their order |
+//! | `specs/Places.antt` | which images are among some, and which comes next |
 //! | `specs/States.antt` | what changes the state of one image |
 //! | `specs/Locks.antt` | the view, its states, and what changes them |
 //! | `specs/Comings.antt` | whatever comes, one after another |
@@ -80,12 +80,10 @@
 #![tactic(auto)]
 
 mod asked;
-mod image_at;
 pub mod laws;
 mod lock_state;
 mod locks;
 mod noted;
 
-pub use image_at::ImageAt;
 pub use lock_state::LockState;
 pub use locks::Locks;

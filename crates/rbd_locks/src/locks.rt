@@ -8,10 +8,9 @@ ghost use Rattle.rbd_locks.specs.Places.{next_behind};
 ghost use Rattle.rbd_locks.specs.States.{answered, blank, quieted, resumed, told};
 
 use crate::asked::{ask, first, first_behind, is_asked, keep};
-use crate::image_at::ImageAt;
 use crate::lock_state::{LockState, is_counted};
 use crate::noted::{Noted, make_room, note, noted_at};
-use rbd_kinds::{Answer, HeaderOp, NoMemory, Notice, NoticeKind, Op, SiteId};
+use rbd_kinds::{Answer, HeaderOp, ImageAt, NoMemory, Notice, NoticeKind, Op, SiteId};
 use std::alloc::Global;
 use std::collections::{BTreeSet, HashMap};
 use std::marker::Model;

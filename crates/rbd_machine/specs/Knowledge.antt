@@ -13,6 +13,7 @@ use Rattle.rbd_kinds.specs.declared.id.SiteId.{SiteId}
 use Rattle.rbd_kinds.specs.declared.id.SiteId.TheVariants as site
 use Rattle.rbd_kinds.specs.declared.operation.Op.{Op}
 use Rattle.rbd_kinds.specs.declared.operation.Op.TheVariants as op
+pub use Rattle.rbd_kinds.specs.Images.{is_at, same_site}
 use Rattle.rbd_header.specs.Header.{with_snap, without_snap}
 use Rattle.rbd_machine.specs.Wait.{Wait}
 use Rattle.rbd_machine.specs.Wait as wait
@@ -50,14 +51,6 @@ abbrev pub nothing_known : Knowledge
 nothing_known = record { alone = false; owns = []; turn = None; drawn = []; fenced = [] }
 
 -- ---- where
-
-abbrev pub same_site : SiteId → SiteId → Bool
-same_site site.A site.A = true
-same_site site.B site.B = true
-same_site _ _ = false
-
-abbrev pub is_at : SiteId → (image : ℕ) → SiteId → (other : ℕ) → Bool
-is_at site image there other = same_site there site && (other == image)
 
 abbrev pub own_of : List Own → SiteId → (image : ℕ) → Option Own
 own_of [] site image = None

@@ -21,10 +21,11 @@ use Rattle.rbd_machine.specs.Passes.{joined}
 use Rattle.rbd_machine.specs.Path.{Answered}
 use Rattle.rbd_machine.specs.Refused.{refusal_by, only_looks, AreLooks, IsRefusedBy}
 use Rattle.rbd_meaning.specs.Meant.{IsMeantBy}
-use Rattle.rbd_meaning.specs.Reads.{AreRead, SeeOthers, RefusedAtLast}
+use Rattle.rbd_meaning.specs.Reads.{AreRead, IsPassTo, SeeOthers, RefusedAtLast}
 use Rattle.rbd_meaning.specs.Undone.{ComesLate, tells_undone, ChangeNothing}
 
-nothing_after : (one two : List Answered) → ChangeNothing one → ChangeNothing two → ChangeNothing (one ++ two)
+-- those of two stretches
+pub nothing_after : (one two : List Answered) → ChangeNothing one → ChangeNothing two → ChangeNothing (one ++ two)
 nothing_after [] two none more = more
 nothing_after (s ∷ one) two (first, none) more = (first, nothing_after one two none more)
 
@@ -81,12 +82,15 @@ reads_change_nothing (p ∷ pieces) [] site image snap read = absurd read
 reads_change_nothing (p ∷ pieces) (s ∷ steps) site image snap (at, is, shown, read) =
     (inl (ap only_looks is), reads_change_nothing pieces steps site image snap read)
 
-passes_change_nothing : (site : SiteId) (name : List ℕ) (snap : Option (List ℕ)) (e : Extent) (passes : List (List Answered)) → SeeOthers site name snap e passes → ChangeNothing (joined passes)
+pub pass_changes_nothing : (site : SiteId) (name : List ℕ) (snap : Option (List ℕ)) (e : Extent) (steps : List Answered) (closing : Answer) → IsPassTo site name snap e steps closing → ChangeNothing steps
+pass_changes_nothing site name snap e steps closing pass =
+    subst ChangeNothing (sym pass.are)
+    (inl refl, (inl refl, nothing_after pass.reads (_ ∷ []) (reads_change_nothing _ pass.reads site pass.image pass.view.snap pass.read) (inl refl, tt)))
+
+pub passes_change_nothing : (site : SiteId) (name : List ℕ) (snap : Option (List ℕ)) (e : Extent) (passes : List (List Answered)) → SeeOthers site name snap e passes → ChangeNothing (joined passes)
 passes_change_nothing site name snap e [] see = tt
 passes_change_nothing site name snap e (pass ∷ passes) (sees, see) =
-    nothing_after pass (joined passes)
-    (subst ChangeNothing (sym sees.pass.are) (inl refl, (inl refl, nothing_after sees.pass.reads (_ ∷ []) (reads_change_nothing _ sees.pass.reads site sees.pass.image sees.pass.view.snap sees.pass.read) (inl refl, tt))))
-    (passes_change_nothing site name snap e passes see)
+    nothing_after pass (joined passes) (pass_changes_nothing site name snap e pass sees.closing sees.pass) (passes_change_nothing site name snap e passes see)
 
 read_changes_nothing : (site : SiteId) (name : List ℕ) (snap : Option (List ℕ)) (e : Extent) (steps : List Answered) (x : Refusal) → RefusedAtLast site name snap e steps x → ChangeNothing steps
 read_changes_nothing site name snap e steps x refused =

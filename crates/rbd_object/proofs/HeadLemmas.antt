@@ -1,6 +1,5 @@
 -- Heads that are changed, and kept beforehand.
-use Rattle.std.proofs.Common.{◌≡◌, ℕ, ◌+◌, ◌-◌, ◌/◌, ◌%◌, ◌<◌, Bool, true, false, cond, List, [], ◌∷◌, ◌++◌, Option, Some, None, Result, Ok, Err, length, get_or, max, refl, sym, ap, ◌∙◌, subst, arith}
-use Rattle.std.specs.Prelude.{OnErr}
+use Rattle.std.proofs.Common.{◌≡◌, ℕ, ◌+◌, ◌-◌, ◌/◌, ◌%◌, ◌<◌, Bool, true, false, cond, List, [], ◌∷◌, ◌++◌, Option, Some, None, length, get_or, max, refl, sym, ap, ◌∙◌, subst, arith}
 use Rattle.std.proofs.lemmas.List.FromFn.{fill_by_all}
 use Rattle.rbd_object.specs.Contents.{overwritten, is_within}
 use Rattle.rbd_object.specs.Paging.{occurs, byte_at, AreApart, AreCounted}
@@ -224,7 +223,3 @@ filled_bytes a old bytes blank =
     ap (λ c. overwritten (bytes_in a c) 0 bytes) blank
     ∙ sym (fill_by_all (λ i. cond (is_within 0 (length bytes) i) (get_or bytes (i - 0) 0) (get_or [] i 0)) bytes (max 0 (0 + length bytes)) 0
     (omega arith) (λ k h. grind arith))
-
-pub on_err : {T E P : Type 0} (r : Result T E) → P → OnErr r P
-on_err (Ok x) p = tt
-on_err (Err e) p = p

@@ -21,10 +21,10 @@ kept_by-new_version None snaps versions = refl
 kept_by-new_version (Some bytes) [] versions = refl
 kept_by-new_version (Some bytes) (s ∷ snaps) versions = refl
 
-tidy_change : (c : SnapContext) (new : Option (List ℕ)) (o : Versioned) → IsTidy o → IsTidy (change c new o)
+pub tidy_change : (c : SnapContext) (new : Option (List ℕ)) (o : Versioned) → IsTidy o → IsTidy (change c new o)
 tidy_change c new o tidy = record { above = λ snap h. grind (arith, tidy.above snap) }
 
-tidy_trim : (live : List ℕ) (o : Versioned) → IsTidy o → IsTidy (trim live o)
+pub tidy_trim : (live : List ℕ) (o : Versioned) → IsTidy o → IsTidy (trim live o)
 tidy_trim live o tidy = record { above = λ snap h. grind (arith, tidy.above snap) }
 
 pub sound_blank : (versions : List Kept) → versions ≡ [] → IsSound 0 versions

@@ -51,8 +51,9 @@ impl Content {
         self.len
     }
 
-    /// The same bytes once more, on the same sheaves.
     // Not inline: it would push this rare work into every write.
+    /// The same bytes once more, on the same sheaves, of which each counts one more owner. Refused
+    /// memory, nothing changes.
     #[inline(never)]
     pub fn share(&self, sheaves: &mut Sheaves) -> Result<Self, NoMemory>
         requires counted { AreCounted sheaves.old.sheaves self.now.sheaves }

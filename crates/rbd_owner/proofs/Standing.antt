@@ -3,9 +3,12 @@ use Rattle.std.proofs.Common.{◌≡◌, ℕ, None, ap, refl, ◌∙◌}
 use Rattle.rbd_kinds.specs.declared.answer.Answer.{Answer}
 use Rattle.rbd_kinds.specs.declared.id.SiteId.{SiteId}
 use Rattle.rbd_kinds.specs.declared.machine.Fed.TheVariants as fed
+use Rattle.rbd_kinds.specs.declared.machine.Want.{Want}
+use Rattle.rbd_kinds.specs.declared.machine.Want.TheVariants as want
 use Rattle.rbd_kinds.specs.declared.reply.Reply.TheVariants.{Done}
+use Rattle.rbd_kinds.specs.OperationKind.{kind_of}
 use Rattle.rbd_machine.specs.Answers.{CanBeFed, CanGive}
-use Rattle.rbd_machine.specs.Plan.{Plan, Return, Standing, AsksBy, IsAsking, IsLeft, Notes, settled}
+use Rattle.rbd_machine.specs.Plan.{Plan, Return, Standing, AsksBy, IsAsking, IsLeft, Notes, Wants, settled}
 use Rattle.rbd_machine.specs.Steps.{IsGoing}
 use Rattle.rbd_machine.specs.declared.reason.Reason.TheVariants as reason
 use Rattle.rbd_owner.specs.Acquire.{lock_labels, lock_of, op_at, rest_at, rest_of_acquire, standing_of}
@@ -68,3 +71,12 @@ module _ (site : SiteId) (image : ℕ) (next : Plan) where
   way_is_fed_answers stage.Asking can = can
   way_is_fed_answers (stage.Fencing owner) can = can
   way_is_fed_answers (stage.Breaking owner) can = can
+
+  -- it wants the operation of its stage
+  pub way_wants : (s : Stage) (w : Want) → Wants (rest_at s site image next) w → w ≡ want.Op site (kind_of (op_at s image))
+  way_wants stage.Watching w is = is
+  way_wants stage.Taking w is = is
+  way_wants (stage.Looking owner) w is = is
+  way_wants stage.Asking w is = is
+  way_wants (stage.Fencing owner) w is = is
+  way_wants (stage.Breaking owner) w is = is

@@ -16,7 +16,7 @@ use Rattle.std.proofs.lemmas.Map.Lookups.{exact_bytes}
 use Rattle.std.proofs.lemmas.Map.Keys.{IsDistinct-from_sorted}
 use Rattle.std.proofs.lemmas.Map.Entries.{option_filter, lookup-filter-values, lookup_from_place}
 use Rattle.rbd_registry.specs.Directory.{Listing, name_cmp, nothing_listed, listing_of, id_of, but, is_full, added, freed, holds, renamed, IsNamed, IsSoundListing}
-use Rattle.rbd_kinds.proofs.Ordered.{get_entries, one_given, one_taken, entries_in_order, len_in_order}
+use Rattle.rbd_kinds.proofs.Ordered.{get_entries, one_given, one_taken, entries_in_order, len_in_order, taken_and_given}
 
 -- ---- from entries to names
 
@@ -157,20 +157,6 @@ held_and_free d from to image held free same = true≢false (ap is_some (sym hel
 
 -- ---- a name replaced, the new one first
 
-swapped : {X : Type 0} (a b : Bool) (x y z : X) → (a ≡ true → b ≡ true → ⊥) → cond a x (cond b y z) ≡ cond b y (cond a x z)
-swapped true true x y z apart = absurd (apart refl refl)
-swapped true false x y z apart = refl
-swapped false b x y z apart = refl
-
-moved : (m : finmap.FinMap name_cmp ℕ) (from to : List ℕ) (image : ℕ) → (from ≡ to → ⊥) → finmap.remove (finmap.insert m to image) from ≡ finmap.insert (finmap.remove m from) to image
-unfolding tie
-moved m from to image ne = finmap.same_map nat_list_cmp_total exact_bytes _ _ (λ q.
-    finmap.get-remove nat_list_cmp_total (finmap.insert m to image) from q
-    ∙ ap (cond (tie q from) None) (finmap.get-insert nat_list_cmp_total m to image q)
-    ∙ swapped (tie q from) (tie q to) None (Some image) (finmap.get m q) (λ e g. ne (sym (tied q from e) ∙ tied q to g))
-    ∙ sym (finmap.get-insert nat_list_cmp_total (finmap.remove m from) to image q
-    ∙ ap (cond (tie q to) (Some image)) (finmap.get-remove nat_list_cmp_total m from q)))
-
 pub rename_listed : (es fs gs : List (List ℕ × ℕ)) (n : ℕ) (from to : List ℕ) (image : ℕ) → (from ≡ to → ⊥)
     → ((q : List ℕ) → lookup (is_at (name_cmp q)) fs ≡ cond (is_at (name_cmp to) q) (Some image) (lookup (is_at (name_cmp q)) es))
     → ((q : List ℕ) → lookup (is_at (name_cmp q)) gs ≡ cond (is_at (name_cmp from) q) None (lookup (is_at (name_cmp q)) fs))
@@ -180,7 +166,7 @@ rename_listed es fs gs n from to image ne h k =
     ap with_names
     (one_taken nat_list_cmp_total exact_bytes fs gs from k
     ∙ ap (λ (m : finmap.FinMap name_cmp ℕ). finmap.remove m from) (one_given nat_list_cmp_total exact_bytes es fs to image h)
-    ∙ moved (finmap.from_entries es) from to image ne)
+    ∙ taken_and_given nat_list_cmp_total exact_bytes (finmap.from_entries es) from to image ne)
 
 -- ---- an image's name freed
 

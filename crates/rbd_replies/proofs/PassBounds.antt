@@ -22,6 +22,7 @@ use Rattle.rbd_requests.proofs.Bounded.{command_is_bounded}
 use Rattle.rbd_requests.specs.Served.{IsPlanFor, Writes, Reads, Creates, Lists, Snaps}
 use Rattle.rbd_requests.specs.Touched.{AsksAtMost, HasAtMost, bound_of, touched_by}
 use Rattle.rbd_replies.specs.Bounds.{HaveAtMost, KeepsBound, KeepsPasses}
+use Rattle.rbd_request.proofs.Meant.{given_behind}
 
 -- ---- without a jump
 
@@ -49,10 +50,6 @@ given_front : (front back : List Answered) → AreGiven (front ++ back) → AreG
 given_front [] back given = tt
 given_front (step ∷ front) back (can, given) = (can, given_front front back given)
 
-given_back : (front back : List Answered) → AreGiven (front ++ back) → AreGiven back
-given_back [] back given = given
-given_back (step ∷ front) back (can, given) = given_back front back given
-
 -- ---- a read, pass by pass
 
 as_many : (site : SiteId) (image : ℕ) (snap : Option ℕ) (pieces : List Piece) (steps : List Answered) → AreRead site image snap pieces steps → length steps ≡ length pieces
@@ -75,7 +72,7 @@ module _ (site : SiteId) (name : List ℕ) (snap : Option (List ℕ)) (e : Exten
   passes_within [] rest given see = (tt, given)
   passes_within (p ∷ passes) rest given (sees, see) =
       let both : AreGiven (p ++ (joined passes ++ rest)) = subst AreGiven (append_assoc p (joined passes) rest) given in
-      let later = passes_within passes rest (given_back p (joined passes ++ rest) both) see in
+      let later = passes_within passes rest (given_behind p (joined passes ++ rest) both) see in
       ((pass_within p (given_front p (joined passes ++ rest) both) sees, later.0), later.1)
 
   read_within : (feds : List Fed) (steps : List Answered) (last : Plan) → AsksAtMost (pass site name snap e) (most + 3) → AreGiven steps

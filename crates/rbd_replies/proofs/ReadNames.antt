@@ -13,6 +13,7 @@ use Rattle.rbd_kinds.specs.Header.{snap_named}
 use Rattle.rbd_stands.specs.View.{EachView, Shape, shape_of, shape_of_head, shape_of_snap}
 use Rattle.rbd_stands.proofs.Lookups.{a_value}
 use Rattle.rbd_replies.proofs.ReadParents.{HasNoParent}
+use Rattle.rbd_site.proofs.SnapLists.{are_rising}
 
 -- ---- ids rise, so the snapshot with a name is the one with its id
 
@@ -27,13 +28,9 @@ named_above below most (x ∷ snaps) name s rising is = go (pointwise nat_eq x.n
     go true rest e = subst (λ (t : SnapView). below < t.id) (same_Some x s e) rising.0
     go false rest e = let first : below < x.id = rising.0 in let more : x.id < s.id = rest e in omega arith
 
-rest_rising : (below most : ℕ) (snaps : List SnapView) → RiseFrom below most snaps → AreRising most snaps
-rest_rising below most [] rising = tt
-rest_rising below most (s ∷ snaps) rising = rising.1
-
 named_has_id : (most : ℕ) (snaps : List SnapView) (name : List ℕ) (s : SnapView) → AreRising most snaps → snap_named snaps name ≡ Some s → snap_in snaps s.id ≡ Some s
 named_has_id most [] name s rising is = absurd (none-some s is)
-named_has_id most (x ∷ snaps) name s rising is = go (pointwise nat_eq x.name name) (named_has_id most snaps name s (rest_rising x.id most snaps rising)) is
+named_has_id most (x ∷ snaps) name s rising is = go (pointwise nat_eq x.name name) (named_has_id most snaps name s (are_rising x.id most snaps rising)) is
   where
     go : (b : Bool) → (snap_named snaps name ≡ Some s → snap_in snaps s.id ≡ Some s) → cond b (Some x) (snap_named snaps name) ≡ Some s → cond (eqb x.id s.id) (Some x) (snap_in snaps s.id) ≡ Some s
     go true rest e = subst (λ (t : SnapView). cond (eqb x.id t.id) (Some x) (snap_in snaps t.id) ≡ Some t) (same_Some x s e) (ap (λ b. cond b (Some x) (snap_in snaps x.id)) (eq-eqb x.id x.id refl))

@@ -13,6 +13,7 @@ use Rattle.rbd_kinds.specs.declared.machine.Fed.{Fed}
 use Rattle.rbd_kinds.specs.declared.operation.Op.TheVariants as op
 use Rattle.rbd_kinds.specs.declared.refusal.Refusal.{Refusal}
 use Rattle.rbd_kinds.specs.declared.refusal.Refusal.TheVariants as refusal
+use Rattle.rbd_kinds.proofs.Results.{same_refusal}
 use Rattle.rbd_kinds.specs.declared.reply.Reply.{Reply}
 use Rattle.rbd_kinds.specs.declared.reply.Reply.TheVariants as reply
 use Rattle.rbd_layout.specs.Pieces.{pieces_of}
@@ -42,9 +43,6 @@ use Rattle.rbd_request.proofs.Early.{pass_refused_early}
 use Rattle.rbd_request.proofs.Passes.{LastPass, last_pass, read_shows}
 use Rattle.rbd_request.proofs.Stopped.{refuses_write, write_stops}
 use Rattle.rbd_request.proofs.Whole.{write_is_whole}
-
-same_refusal : (x y : Refusal) → reply.Refused x ≡ reply.Refused y → y ≡ x
-same_refusal x y is = cc
 
 -- ---- writes
 
@@ -124,7 +122,7 @@ module _ (refuses : HeaderView → Option Refusal) where
   refusing_closing image seen read answer.Fenced can = inl (record { why = refusal.Fenced; is = refl; ends = refl; comes = λ was. cc })
   refusing_closing image seen read _ can = let no = can.word in cc
 
-given_behind : (before steps : List Answered) → AreGiven (before ++ steps) → AreGiven steps
+pub given_behind : (before steps : List Answered) → AreGiven (before ++ steps) → AreGiven steps
 given_behind [] steps given = given
 given_behind (s ∷ before) steps given = given_behind before steps given.1
 

@@ -11,18 +11,17 @@ ghost use Rattle.rbd_piece.specs.Write.{write_piece as piece_of_write, rest_of_w
 ghost use Rattle.rbd_request.specs.Write as of_write;
 
 use rbd_header::context_of;
-use rbd_kinds::{Bytes, Extent, HeaderView, ImageId, NoMemory, SiteId, SnapContext, TryClone};
+use rbd_kinds::{Bytes, Extent, HeaderView, ImageAt, NoMemory, SnapContext, TryClone};
 use rbd_layout::{Piece, pieces};
 use rbd_object::bytes_for;
 use rbd_piece::WritePiece;
 use std::alloc::Global;
 use std::collections::VecDeque;
 
-/// The pieces of a write of bytes from the image byte `at` on, by ascending object.
+/// The pieces of a write of bytes to an image, from its byte `at` on, by ascending object.
 pub fn write_pieces(
     alloc: Global,
-    site: SiteId,
-    image: ImageId,
+    target: ImageAt,
     header: &HeaderView,
     at: u64,
     bytes: &Bytes,
@@ -30,7 +29,7 @@ pub fn write_pieces(
     requires form { IsHeaderInForm header.now }
     requires fits { out_of_range (extent_at at bytes.now) header.now.size ≡ None }
     ensures { IfOk result (λ made. (next : Plan) → of_write.rest_of_pieces made.items next
-        ≡ of_write.write_pieces site image header.now at bytes.now (pieces_of header.now.layout (extent_at at bytes.now)) next) }
+        ≡ of_write.write_pieces target.site target.image header.now at bytes.now (pieces_of header.now.layout (extent_at at bytes.now)) next) }
 {
     let extent = Extent {
         at,
@@ -40,7 +39,7 @@ pub fn write_pieces(
     let listed = pieces(alloc, &header.layout, &extent)?;
     let mut made = VecDeque::new(alloc);
     for piece in listed {
-        made.push_back(write_piece(alloc, site, image, &context, at, bytes, piece)?)?;
+        made.push_back(write_piece(alloc, target, &context, at, bytes, piece)?)?;
     }
     Ok(made)
 }
@@ -48,8 +47,7 @@ pub fn write_pieces(
 /// One piece of the write, with those of the bytes that go to its object.
 fn write_piece(
     alloc: Global,
-    site: SiteId,
-    image: ImageId,
+    target: ImageAt,
     context: &SnapContext,
     at: u64,
     bytes: &Bytes,
@@ -57,9 +55,15 @@ fn write_piece(
 ) -> Result<WritePiece, NoMemory>
     requires { AreBehind at piece.parts }
     ensures plan { IfOk result (λ w. (header : of_header.HeaderView) (next : Plan) → context.now ≡ told_context header
-        → rest_of_write w next ≡ piece_of_write site image header piece (bytes_of_parts piece.parts at bytes.now) next) }
+        → rest_of_write w next ≡ piece_of_write target.site target.image header piece (bytes_of_parts piece.parts at bytes.now) next) }
     ensures object { IfOk result (λ w. w.piece.object ≡ piece.object) }
 {
     let bytes = bytes_for(alloc, bytes, at, piece.parts.as_slice())?;
-    Ok(WritePiece::new(site, image, context.try_clone()?, piece, bytes))
+    Ok(WritePiece::new(
+        target.site,
+        target.image,
+        context.try_clone()?,
+        piece,
+        bytes,
+    ))
 }

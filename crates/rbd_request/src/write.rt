@@ -13,8 +13,8 @@ ghost use Rattle.rbd_request.specs.Write as of_write;
 use crate::extent::out_of_range;
 use crate::pieces::write_pieces;
 use rbd_kinds::{
-    Answer, Bytes, Command, Event, Extent, Fed, FillLength, HeaderView, ImageId, Name, NoMemory,
-    Op, Refusal, Reply, SiteId, TryClone, Turn, Want,
+    Answer, Bytes, Command, Event, Extent, Fed, FillLength, HeaderView, ImageAt, ImageId, Name,
+    NoMemory, Op, Refusal, Reply, SiteId, TryClone, Turn, Want,
 };
 use rbd_machine::{Approach, Machine, Progress, Reason, Refuses, non_primary};
 use rbd_piece::WritePiece;
@@ -246,7 +246,11 @@ impl Machine for WriteRequest {
         if self.range().refusal(header).is_some() {
             return Ok(());
         }
-        self.pieces = write_pieces(alloc, self.site, image, header, self.at, &self.bytes)?;
+        let target = ImageAt {
+            site: self.site,
+            image,
+        };
+        self.pieces = write_pieces(alloc, target, header, self.at, &self.bytes)?;
         Ok(())
     }
 

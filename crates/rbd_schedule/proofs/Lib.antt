@@ -2,6 +2,7 @@ pub mod Above
 pub mod Answered
 pub mod Ascending
 pub mod Before
+pub mod Begins
 pub mod Done
 pub mod Earliest
 pub mod Ended

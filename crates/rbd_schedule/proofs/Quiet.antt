@@ -1,32 +1,26 @@
 -- Where no command may start, none may behind a step that gives no reply.
 use mathlib.Core.Path.{fun_ext}
-use Rattle.std.proofs.Common.{◌≡◌, ℕ, ◌<◌, ◌≤◌, ◌==◌, ◌&&◌, ◌||◌, ◌⊎◌, inl, inr, cond, Bool, true, false, List, ◌∷◌, is_some, Option, Some, None, refl, sym, ap, ◌∙◌, subst, arith}
+use Rattle.std.proofs.Common.{◌≡◌, ℕ, ◌<◌, ◌≤◌, ◌==◌, ◌&&◌, ◌||◌, ◌⊎◌, inl, inr, cond, Bool, true, false, List, is_some, Option, Some, None, refl, sym, ap, ◌∙◌, subst, arith}
 use Rattle.std.proofs.lemmas.Bool.{cases_eq, cases_lt, false≢true, true≢false}
-use Rattle.rbd_flat.specs.declared.effect.Effect.{Effect}
-use Rattle.rbd_kinds.specs.declared.id.Instance.{Instance}
 use Rattle.rbd_kinds.specs.declared.id.SiteId.{SiteId}
 use Rattle.rbd_kinds.specs.declared.machine.Fed.{Fed}
-use Rattle.rbd_kinds.specs.declared.reply.Reply.{Reply}
-use Rattle.rbd_machine.specs.Label.{Label}
-use Rattle.rbd_machine.specs.Plan.{Plan, Ask, Await, Note, Return, Goto, Standing}
-use Rattle.rbd_session.specs.Advance.{track_of}
+use Rattle.rbd_machine.specs.Plan.{Standing}
 use Rattle.rbd_session.specs.Lines.{LinesView}
 use Rattle.rbd_session.specs.Session.{ComesToIn, IsLowest, IsSoundSession, OfRunning, SessionView, free_slot, held_in, script_line}
-use Rattle.rbd_session.specs.Waits.{waits}
 use Rattle.rbd_session.specs.declared.running.Occupant.{Occupant}
 use Rattle.rbd_session.specs.declared.running.Occupant.TheVariants as occupant
 use Rattle.rbd_world.specs.declared.event.Event.{Event}
 use Rattle.rbd_world.specs.declared.event.Event.TheVariants as event
 use Rattle.rbd_world.specs.declared.event.Outcome.{Outcome}
-use Rattle.rbd_world.specs.declared.sites.Sites.{Sites}
-use Rattle.rbd_world.specs.Run.{Happening, Nothing, Waited, Began, Did, Refused, Trimmed, entries_of, entry_by, outcome_of, reply_entries}
+use Rattle.rbd_world.specs.Run.{Happening, Nothing, Waited, Began, Did, Refused, Trimmed, entries_of, outcome_of}
 use Rattle.rbd_world.specs.Sound.{IsSoundWorld, line_at}
-use Rattle.rbd_world.specs.Step.{Becomes, BecomesOf, Does, IsStep, done_by, is_begun, polled, polled_in}
+use Rattle.rbd_world.specs.Step.{Becomes, BecomesOf, Does, IsStep, is_begun, polled}
 use Rattle.rbd_world.specs.World.{WorldView, free_in, session_in}
 use Rattle.rbd_world.proofs.Runs.{any_append, or_false}
 use Rattle.rbd_schedule.specs.declared.given.Given.{Given}
 use Rattle.rbd_schedule.specs.Playing.{answers, has_reply_by, is_one_of}
 use Rattle.rbd_schedule.specs.Starts.{IsQuiet, earliest, is_answered}
+use Rattle.rbd_schedule.proofs.Begins.{poll_begins, trim_begins}
 use Rattle.rbd_schedule.proofs.Entries.{poll_answers, trim_answers}
 
 -- ---- slots that are held
@@ -47,32 +41,6 @@ lowest_same xs ys a b one other same = by (cases_lt a b) (cases_lt b a)
 
 module _ {R : Type 0} (stands : R → Standing) where
   -- ---- a poll that gives no reply
-
-  did_begins : (line other : ℕ) (s : SiteId) (number : ℕ) (e : Option Effect) (reply : Option Reply) → is_begun line (entry_by other s number e ∷ reply_entries other reply) ≡ false
-  did_begins line other s number None None = refl
-  did_begins line other s number None (Some reply) = refl
-  did_begins line other s number (Some e) None = refl
-  did_begins line other s number (Some e) (Some reply) = refl
-
-  plan_begins : (line : ℕ) (sites : Sites) (who : Instance) (other : ℕ) (labels : Label → Plan) (plan : Plan) → is_begun line (entries_of (done_by sites who other labels plan)) ≡ false
-  plan_begins line sites who other labels (Ask s why o next) = did_begins line other s _ _ _
-  plan_begins line sites who other labels (Await wait next) = refl
-  plan_begins line sites who other labels (Note s image e next) = refl
-  plan_begins line sites who other labels (Return reply) = refl
-  plan_begins line sites who other labels (Goto label) = refl
-
-  held_begins : (line : ℕ) (sites : Sites) (c : SessionView R) (slot : ℕ) (held : Option (Occupant R)) → is_begun line (entries_of (polled_in stands sites c slot held)) ≡ false
-  held_begins line sites c slot None = refl
-  held_begins line sites c slot (Some (occupant.Refused other refusal)) = refl
-  held_begins line sites c slot (Some (occupant.Running r)) = by (waits slot (track_of r c.lines))
-    where
-      by : (w : Bool) → is_begun line (entries_of (cond w Waited (done_by sites c.instance r.line (stands r.request).labels (stands r.request).plan))) ≡ false
-      by true = refl
-      by false = plan_begins line sites c.instance r.line (stands r.request).labels (stands r.request).plan
-
-  client_begins : (line : ℕ) (sites : Sites) (slot : ℕ) (c : Option (SessionView R)) → is_begun line (entries_of (polled stands sites slot c)) ≡ false
-  client_begins line sites slot None = refl
-  client_begins line sites slot (Some c) = held_begins line sites c slot (held_in slot c.slots)
 
   begun_then : (e : Event) (h : Happening) (old new : WorldView R) → Does stands e h old new → ((line : ℕ) → is_begun line (entries_of h) ≡ false)
       → (line : ℕ) → is_begun line new.history ≡ is_begun line old.history
@@ -142,14 +110,10 @@ module _ {R : Type 0} (stands : R → Standing) (given : (session : ℕ) → Lis
       → IsSoundWorld stands old → IsSoundWorld stands new → has_reply_by result ≡ false → IsQuiet given old → IsQuiet given new
   quiet_poll session slot old result new step before after none quiet =
       quiet_along given old new
-      (begun_then stands (event.Poll session slot) _ old new step.1 (λ line. client_begins stands line old.sites slot (session_in session old.sessions)))
+      (begun_then stands (event.Poll session slot) _ old new step.1 (λ line. poll_begins stands line old.sites slot (session_in session old.sessions)))
       (λ line. poll_answers stands session slot old result new step line
       ∙ ap (λ b. is_answered line old.history || b) (no_answer stands line (line_at session slot old.sessions) result none) ∙ or_false (is_answered line old.history))
       (poll_room stands session slot old result new step before after none) quiet
-
-  trim_begins : (line : ℕ) (there : Bool) (s : SiteId) (number image object : ℕ) → is_begun line (entries_of (cond there (Trimmed s number image object) Nothing)) ≡ false
-  trim_begins line true s number image object = refl
-  trim_begins line false s number image object = refl
 
   pub quiet_trim : (s : SiteId) (image object : ℕ) (old : WorldView R) (result : Outcome) (new : WorldView R) → IsStep stands (event.Trim s image object) old result new → IsQuiet given old → IsQuiet given new
   quiet_trim s image object old result new step quiet =

@@ -6,28 +6,17 @@ use Rattle.std.proofs.lemmas.List.Elements.{All-cons, All-head, All-nil, All-tai
 use Rattle.std.proofs.lemmas.Option.{none-some, same_Some}
 use Rattle.rbd_flat.specs.declared.entry.Entry.{Entry}
 use Rattle.rbd_kinds.specs.declared.command.Command.{Command}
-use Rattle.rbd_kinds.specs.declared.id.Instance.{Instance}
 use Rattle.rbd_kinds.specs.declared.id.SiteId.{SiteId}
-use Rattle.rbd_kinds.specs.declared.reply.Reply.{Reply}
-use Rattle.rbd_machine.specs.Label.{Label}
-use Rattle.rbd_machine.specs.Path.{at_operation}
-use Rattle.rbd_machine.specs.Plan.{Plan, Ask, Await, Note, Return, Goto, Standing}
+use Rattle.rbd_machine.specs.Plan.{Standing}
 use Rattle.rbd_script.specs.declared.script.Line.{Line}
 use Rattle.rbd_script.specs.declared.script.Script.{Script}
-use Rattle.rbd_session.specs.Advance.{track_of}
-use Rattle.rbd_session.specs.Session.{SessionView, held_in}
-use Rattle.rbd_session.specs.Waits.{waits}
-use Rattle.rbd_session.specs.declared.running.Occupant.{Occupant}
-use Rattle.rbd_session.specs.declared.running.Occupant.TheVariants as occupant
-use Rattle.rbd_site.specs.Step.{answer_to}
+use Rattle.rbd_session.specs.Session.{SessionView}
 use Rattle.rbd_world.specs.declared.event.Event.{Event}
 use Rattle.rbd_world.specs.declared.event.Event.TheVariants as event
 use Rattle.rbd_world.specs.declared.event.Outcome.{Outcome}
-use Rattle.rbd_world.specs.declared.sites.Sites.{Sites}
-use Rattle.rbd_world.specs.Run.{Asked, Nothing, Waited, Began, Did, Trimmed, Operation, entries_of, reply_entries}
-use Rattle.rbd_world.specs.Step.{IsStep, done_by, happening, is_begun, operation_at, polled, polled_in, reply_at, submitted}
-use Rattle.rbd_world.specs.World.{WorldView, records_in, session_in, site_in}
-use Rattle.rbd_world.proofs.Runs.{no_start, replies_begin_nothing}
+use Rattle.rbd_world.specs.Run.{Asked, Nothing, Began, entries_of}
+use Rattle.rbd_world.specs.Step.{IsStep, happening, is_begun, submitted}
+use Rattle.rbd_world.specs.World.{WorldView, session_in}
 use Rattle.rbd_schedule.specs.declared.given.Given.{Given}
 use Rattle.rbd_schedule.specs.Given.{commands_of, given_in}
 use Rattle.rbd_schedule.specs.InOrder.{AreInOrder}
@@ -36,6 +25,7 @@ use Rattle.rbd_schedule.specs.Playing.{IsPlay}
 use Rattle.rbd_schedule.specs.Schedule.{Submits}
 use Rattle.rbd_schedule.specs.Starts.{earliest, is_answered}
 use Rattle.rbd_schedule.proofs.Before.{begins_in_turn, nothing_before, stays_before}
+use Rattle.rbd_schedule.proofs.Begins.{poll_begins, trim_begins}
 use Rattle.rbd_schedule.proofs.Entries.{start_is_earliest}
 use Rattle.rbd_schedule.proofs.Kept.{kept_by_parts}
 use Rattle.rbd_schedule.proofs.Numbered.{IsSubmission, given_append, in_front, of_script, one_in_script, own_session, session_numbered, submitted_in}
@@ -102,14 +92,6 @@ submission_begins line begun asked (Some c) other = by (begun || nat_lt 64 c.low
     by true = refl
     by false = ap (λ b. b || false) other
 
-operation_begins : (line : ℕ) (o : Operation) (reply : Option Reply) → is_begun line (entries_of (Did o reply)) ≡ false
-operation_begins line o reply =
-    ap (λ b. b || is_begun line (reply_entries o.line reply)) (no_start line o.line o.site o.number o.effect) ∙ replies_begin_nothing line o.line reply
-
-trim_begins : (line : ℕ) (there : Bool) (s : SiteId) (number image object : ℕ) → is_begun line (entries_of (cond there (Trimmed s number image object) Nothing)) ≡ false
-trim_begins line true s number image object = refl
-trim_begins line false s number image object = refl
-
 module _ {R : Type 0} (stands : R → Standing) where
   -- no other line than that of the submission
   other_begins : (e : Event) (session number : ℕ) (command : Command) (w : WorldView R) → e ≡ event.Submit session number command → (line : ℕ) → (number == line) ≡ false
@@ -117,28 +99,6 @@ module _ {R : Type 0} (stands : R → Standing) where
   other_begins e session number command w is line other =
       ap (λ x. is_begun line (entries_of (happening stands x w))) is
       ∙ submission_begins line (is_begun number w.history) (record { session = session; line = number; command = command }) (session_in session w.sessions) other
-
-  plan_begins : (line : ℕ) (sites : Sites) (who : Instance) (other : ℕ) (labels : Label → Plan) (plan : Plan) → is_begun line (entries_of (done_by sites who other labels plan)) ≡ false
-  plan_begins line sites who other labels (Ask s why o next) =
-      operation_begins line (operation_at (site_in s sites) who other s o) (reply_at (at_operation labels (next (answer_to (records_in s sites) who o))))
-  plan_begins line sites who other labels (Await wait next) = refl
-  plan_begins line sites who other labels (Note s image e next) = refl
-  plan_begins line sites who other labels (Return reply) = refl
-  plan_begins line sites who other labels (Goto label) = refl
-
-  held_begins : (line : ℕ) (sites : Sites) (c : SessionView R) (slot : ℕ) (held : Option (Occupant R)) → is_begun line (entries_of (polled_in stands sites c slot held)) ≡ false
-  held_begins line sites c slot None = refl
-  held_begins line sites c slot (Some (occupant.Refused other refusal)) = refl
-  held_begins line sites c slot (Some (occupant.Running r)) = by (waits slot (track_of r c.lines))
-    where
-      by : (w : Bool) → is_begun line (entries_of (cond w Waited (done_by sites c.instance r.line (stands r.request).labels (stands r.request).plan))) ≡ false
-      by true = refl
-      by false = plan_begins line sites c.instance r.line (stands r.request).labels (stands r.request).plan
-
-  -- none by a poll
-  poll_begins : (line : ℕ) (sites : Sites) (slot : ℕ) (c : Option (SessionView R)) → is_begun line (entries_of (polled stands sites slot c)) ≡ false
-  poll_begins line sites slot None = refl
-  poll_begins line sites slot (Some c) = held_begins line sites c slot (held_in slot c.slots)
 
 -- ---- the commands of a session in a play
 

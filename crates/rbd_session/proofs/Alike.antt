@@ -4,13 +4,14 @@ use Rattle.std.proofs.Math.Path.{fun_ext}
 use Rattle.std.proofs.lemmas.Bool.{true≢false}
 use Rattle.rbd_line.specs.Line.{Member, changed, joined}
 use Rattle.rbd_machine.specs.Wait as wait
-use Rattle.rbd_session.specs.declared.image_at.ImageAt.{ImageAt}
+use Rattle.rbd_kinds.specs.declared.image_at.ImageAt.{ImageAt}
 use Rattle.rbd_session.specs.declared.running.Running.{Running}
 use Rattle.rbd_session.specs.Advance.{listed, track_with}
-use Rattle.rbd_session.specs.Lines.{LinesView, key_of, members_at, lines_of, is_key}
+use Rattle.rbd_kinds.specs.Images.{key_of}
+use Rattle.rbd_session.specs.Lines.{LinesView, members_at, lines_of, is_key}
 use Rattle.rbd_session.specs.Track.{changed_at, done_with, waited_by}
 use Rattle.rbd_session.proofs.Entering.{changed_none}
-use Rattle.rbd_session.proofs.Tables.{same_key}
+use Rattle.rbd_kinds.proofs.Images.{same_key}
 
 -- a change that changes nobody
 pub unchanged_at : (b : Bool) (slot : ℕ) (f : Member → Member) → ((m : Member) → f m ≡ m) → (members : List Member) → members ≡ cond b (changed slot f members) members

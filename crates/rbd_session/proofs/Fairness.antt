@@ -14,7 +14,7 @@ use Rattle.rbd_course.specs.Course.{is_own_at}
 use Rattle.rbd_line.specs.Line.{Member, LineView, changed, without, joined, held, passed, entered, may_pass, is_shared_past_in, objects_in, IsFairLine}
 use Rattle.rbd_line.proofs.Fair.{joined_fair, held_fair, passed_fair, left_fair, entered_fair, next_fair}
 use Rattle.rbd_machine.specs.Knowledge.{is_at, same_site}
-use Rattle.rbd_session.specs.declared.image_at.ImageAt.{ImageAt}
+use Rattle.rbd_kinds.specs.declared.image_at.ImageAt.{ImageAt}
 use Rattle.rbd_session.specs.Advance.{MayPass}
 use Rattle.rbd_session.specs.OnTrack.{MayTake, AreFair, is_here}
 use Rattle.rbd_session.specs.Track.{Track, Lines, changed_at, image_at, line_in, course_of, given, done_with, noted_by, looked_by, answered_by, passed_by, ended_by}

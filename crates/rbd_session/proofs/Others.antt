@@ -16,7 +16,7 @@ use Rattle.rbd_machine.specs.Knowledge.{is_at}
 use Rattle.rbd_machine.specs.Plan.{Plan, Ask, Await, Note, Return, Goto}
 use Rattle.rbd_machine.specs.Wait.{Wait}
 use Rattle.rbd_machine.specs.Wait as wait
-use Rattle.rbd_session.specs.declared.image_at.ImageAt.{ImageAt}
+use Rattle.rbd_kinds.specs.declared.image_at.ImageAt.{ImageAt}
 use Rattle.rbd_session.specs.Track.{Track, Lines, changed_at, image_at, course_of, given, done_with, waited_by, noted_by, looked_by, answered_by, passed_by, run, ended_by}
 use Rattle.rbd_session.specs.OnTrack.{IsNowhereElse, LeavesOthers, is_here}
 use Rattle.rbd_line.specs.Steady.{IsSteady}

@@ -46,10 +46,14 @@ module _ {R : Type 0} (stands : R → Standing) where
   abbrev pub IsFrom : (is_ready : R → Answer → Type 0) → (slot : ℕ) → LinesView → Fed → (Type 0 → Type 0) → LinesView → Option (Occupant R) → Running R → Type 0
   IsFrom is_ready slot before f if_ok after o r = OfRunning (λ q. IsSameStand stands r q × if_ok (IsPrepared stands is_ready slot r before f q after)) o
 
-  alike_itself : (o : Option (Occupant R)) → IsAlikeIn stands o o
-  alike_itself (Some (occupant.Running r)) = record { same = refl; line = refl; extent = refl; place = refl; turn = refl }
-  alike_itself (Some (occupant.Refused line refusal)) = refl
-  alike_itself None = refl
+  held_alike_itself : (o : Option (Occupant R)) → IsAlikeIn stands o o
+  held_alike_itself (Some (occupant.Running r)) = record { same = refl; line = refl; extent = refl; place = refl; turn = refl }
+  held_alike_itself (Some (occupant.Refused line refusal)) = refl
+  held_alike_itself None = refl
+
+  -- a session is alike itself
+  pub alike_itself : (s : SessionView R) → IsAlike stands s s
+  alike_itself s = record { instance = refl; home = refl; lowest = refl; slots = λ slot. held_alike_itself (held_in slot s.slots); lines = refl }
 
   module _ (is_ready : R → Answer → Type 0) (s : SessionView R) (sound : IsSoundSession stands s) (slot : ℕ) (f : Fed) (if_ok : Type 0 → Type 0) (o : Option (Occupant R)) (after : LinesView)
       (lines : lines_of after ≡ lines_of s.lines) (from : OfRunning (IsFrom is_ready slot s.lines f if_ok after o) (held_in slot s.slots)) where
@@ -102,7 +106,7 @@ module _ {R : Type 0} (stands : R → Standing) where
         at {n} (inl same) =
             subst (λ k. IsAlikeIn stands (held_in k s.slots) (held_in k (slice_set s.slots slot o))) (sym same)
             (subst (IsAlikeIn stands (held_in slot s.slots)) (sym (get_or-set_same s.slots slot o None less)) (here (held_in slot s.slots) o from))
-        at {n} (inr differ) = subst (IsAlikeIn stands (held_in n s.slots)) (sym (get_or-set_other s.slots slot n o None differ)) (alike_itself (held_in n s.slots))
+        at {n} (inr differ) = subst (IsAlikeIn stands (held_in n s.slots)) (sym (get_or-set_other s.slots slot n o None differ)) (held_alike_itself (held_in n s.slots))
 
   ready_is : (is_ready : R → Answer → Type 0) (s : SessionView R) → IsSoundSession stands s → (slot : ℕ) (f : Fed) (o : Option (Occupant R)) (after : LinesView) → lines_of after ≡ lines_of s.lines
       → OfRunning (IsFrom is_ready slot s.lines f (λ P. P) after o) (held_in slot s.slots) → OfRunning (IsAnswered stands slot s.lines f) (held_in slot s.slots)

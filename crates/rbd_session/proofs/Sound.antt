@@ -15,7 +15,7 @@ use Rattle.rbd_kinds.specs.declared.reply.Reply.{Reply}
 use Rattle.rbd_machine.specs.Label.{Label}
 use Rattle.rbd_machine.specs.Path.{at_operation}
 use Rattle.rbd_machine.specs.Plan.{Plan, Ask, Await, Note, Return, Goto, Standing, IsAsking, plan_after}
-use Rattle.rbd_session.specs.declared.image_at.ImageAt.{ImageAt}
+use Rattle.rbd_kinds.specs.declared.image_at.ImageAt.{ImageAt}
 use Rattle.rbd_session.specs.declared.running.Occupant.{Occupant}
 use Rattle.rbd_session.specs.declared.running.Occupant.TheVariants as occupant
 use Rattle.rbd_session.specs.declared.running.Running.{Running}

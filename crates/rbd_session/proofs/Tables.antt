@@ -1,13 +1,14 @@
 -- Tables of lines, with a line more or one less.
-use Rattle.std.proofs.Common.{◌≡◌, ℕ, ◌+◌, ◌*◌, ◌==◌, cond, nat_eq, Bool, true, false, List, [], ◌∷◌, ◌++◌, length, Some, None, refl, sym, ap, ◌∙◌, arith}
-use Rattle.std.proofs.lemmas.Bool.{eq-eqb, ne_eqb, eqb-true, eqb-false}
+use Rattle.std.proofs.Common.{◌≡◌, ℕ, ◌==◌, cond, nat_eq, Bool, true, false, List, [], ◌∷◌, ◌++◌, length, Some, None, refl, sym, ap, ◌∙◌, arith}
+use Rattle.std.proofs.lemmas.Bool.{eqb-true}
 use Rattle.std.specs.HashMap.{HashMap, get}
 use Rattle.rbd_line.specs.Line.{LineView, Member}
+use Rattle.rbd_kinds.proofs.Images.{same_key}
 use Rattle.rbd_kinds.specs.declared.id.SiteId.{SiteId}
 use Rattle.rbd_kinds.specs.declared.id.SiteId.TheVariants as site
-use Rattle.rbd_machine.specs.Knowledge.{is_at}
-use Rattle.rbd_session.specs.declared.image_at.ImageAt.{ImageAt}
-use Rattle.rbd_session.specs.Lines.{LinesView, key_of, members_or, members_in, members_at, lines_of}
+use Rattle.rbd_kinds.specs.declared.image_at.ImageAt.{ImageAt}
+use Rattle.rbd_kinds.specs.Images.{key_of}
+use Rattle.rbd_session.specs.Lines.{LinesView, members_or, members_in, members_at, lines_of}
 use Rattle.rbd_session.specs.Track.{changed_at}
 
 no_members : (members : List Member) → (length members == 0) ≡ true → members ≡ []
@@ -35,27 +36,6 @@ module _ {S : Type 0} where
       go false other = rw other refl
 
 -- ---- keys
-
-twice : (a b : ℕ) → nat_eq (a * 2) (b * 2) ≡ nat_eq b a
-twice a b = go (nat_eq b a) refl
-  where
-    go : (c : Bool) → nat_eq b a ≡ c → nat_eq (a * 2) (b * 2) ≡ c
-    go true is = let same = eqb-true b a is in eq-eqb (a * 2) (b * 2) (omega (arith, same))
-    go false is = let other = eqb-false b a is in ne_eqb (a * 2) (b * 2) (λ same. other (omega (arith, same)))
-
-twice_more : (a b : ℕ) → nat_eq (a * 2 + 1) (b * 2 + 1) ≡ nat_eq b a
-twice_more a b = go (nat_eq b a) refl
-  where
-    go : (c : Bool) → nat_eq b a ≡ c → nat_eq (a * 2 + 1) (b * 2 + 1) ≡ c
-    go true is = let same = eqb-true b a is in eq-eqb (a * 2 + 1) (b * 2 + 1) (omega (arith, same))
-    go false is = let other = eqb-false b a is in ne_eqb (a * 2 + 1) (b * 2 + 1) (λ same. other (omega (arith, same)))
-
--- two images have one key only where they are one
-pub same_key : (s : SiteId) (i : ℕ) (t : SiteId) (j : ℕ) → nat_eq (key_of s i) (key_of t j) ≡ is_at s i t j
-same_key site.A i site.A j = twice i j
-same_key site.B i site.B j = twice_more i j
-same_key site.A i site.B j = ne_eqb (i * 2) (j * 2 + 1) (λ same. omega (arith, same))
-same_key site.B i site.A j = ne_eqb (i * 2 + 1) (j * 2) (λ same. omega (arith, same))
 
 -- the line of an image changes where the one of its key does
 pub at_image : (p : ImageAt) (change : List Member → List Member) (old new : LinesView)

@@ -15,7 +15,7 @@ use Rattle.rbd_kinds.specs.declared.layout.Extent.{Extent}
 use Rattle.rbd_line.specs.Line.{Member, member_of, changed, joined, held, passed}
 use Rattle.rbd_machine.specs.Knowledge.{is_at, same_site}
 use Rattle.rbd_machine.specs.Wait as wait
-use Rattle.rbd_session.specs.declared.image_at.ImageAt.{ImageAt}
+use Rattle.rbd_kinds.specs.declared.image_at.ImageAt.{ImageAt}
 use Rattle.rbd_session.specs.Track.{Track, Lines, changed_at, image_at, line_in, course_in, course_of, given, done_with, waited_by, noted_by, looked_by, answered_by}
 use Rattle.rbd_session.specs.OnTrack.{IsThere, IsSomewhere}
 use Rattle.rbd_line.specs.Steady.{IsSteady}

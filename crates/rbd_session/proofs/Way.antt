@@ -26,7 +26,7 @@ use Rattle.rbd_machine.specs.Plan.{Plan, Ask, Await, Note, Standing, settled}
 use Rattle.rbd_machine.specs.Wait.{Wait}
 use Rattle.rbd_machine.specs.Wait as wait
 use Rattle.rbd_machine.specs.declared.reason.Reason.{Reason}
-use Rattle.rbd_session.specs.declared.image_at.ImageAt.{ImageAt}
+use Rattle.rbd_kinds.specs.declared.image_at.ImageAt.{ImageAt}
 use Rattle.rbd_session.specs.OnTrack.{IsThere, IsSomewhere, IsNowhereElse, MayTake, HasNext, IsOnTrack, AreFair}
 use Rattle.rbd_session.specs.Track.{Track, changed_at, image_at, line_in, course_in, course_of, given, done_with, waited_by, noted_by, looked_by, answered_by}
 use Rattle.rbd_session.proofs.Apart.{asked_apart}

@@ -1,17 +1,13 @@
 -- The lines of a session's images, in a table by image.
-use Rattle.std.specs.Prelude.{◌≡◌, ◌⊎◌, ◌≤◌, true, length, ℕ, ◌+◌, ◌*◌, ◌<◌, nat_eq, Bool, false, List, [], Option, Some, None, IsSome}
+use Rattle.std.specs.Prelude.{◌≡◌, ◌⊎◌, ◌≤◌, true, length, ℕ, ◌<◌, nat_eq, Bool, false, List, [], Option, Some, None, IsSome}
 use Rattle.std.specs.HashMap.{HashMap, get}
 use Rattle.std.specs.Map.{lookup}
 use Rattle.rbd_guard.specs.Order.{AreApart}
 use Rattle.rbd_kinds.specs.declared.id.SiteId.{SiteId}
 use Rattle.rbd_kinds.specs.declared.id.SiteId.TheVariants as site
+use Rattle.rbd_kinds.specs.Images.{key_of}
 use Rattle.rbd_line.specs.Line.{LineView, Member, may_enter, none_past_behind, objects_of}
-use Rattle.rbd_session.specs.declared.image_at.ImageAt.{ImageAt}
-
--- the key of an image's line
-abbrev pub key_of : SiteId → (image : ℕ) → ℕ
-key_of site.A image = image * 2
-key_of site.B image = image * 2 + 1
+use Rattle.rbd_kinds.specs.declared.image_at.ImageAt.{ImageAt}
 
 -- what contracts see of all lines: those that are held, one for the next image, and for how many
 -- more there is room

@@ -7,7 +7,7 @@ use Rattle.rbd_kinds.specs.declared.layout.Extent.{Extent}
 use Rattle.rbd_line.specs.Line.{Member, member_of, is_shared_past, none_past_behind, comes_next, IsFairLine}
 use Rattle.rbd_machine.specs.Knowledge.{is_at}
 use Rattle.rbd_machine.specs.Plan.{Standing}
-use Rattle.rbd_session.specs.declared.image_at.ImageAt.{ImageAt}
+use Rattle.rbd_kinds.specs.declared.image_at.ImageAt.{ImageAt}
 use Rattle.rbd_session.specs.Track.{Track, Lines, line_in, course_of}
 
 -- it is a member of the line of an image

@@ -24,7 +24,7 @@ use Rattle.rbd_machine.specs.Steps.{refused}
 use Rattle.rbd_session.specs.declared.running.Occupant.{Occupant}
 use Rattle.rbd_session.specs.declared.running.Occupant.TheVariants as occupant
 use Rattle.rbd_session.specs.declared.running.Running.{Running}
-use Rattle.rbd_session.specs.declared.image_at.ImageAt.{ImageAt}
+use Rattle.rbd_kinds.specs.declared.image_at.ImageAt.{ImageAt}
 use Rattle.rbd_session.specs.Advance.{listed, track_of, looked_for, fed_by, IsSameStand, IsFedWell, ComesTo}
 use Rattle.rbd_session.specs.Lines.{LinesView, lines_of, room_of, CanOpen}
 use Rattle.rbd_session.specs.OnTrack.{IsOnTrack, AreFair}

@@ -8,11 +8,10 @@ ghost use Rattle.rbd_session.specs.OnTrack.{AreFair, LeavesOthers};
 ghost use Rattle.rbd_session.specs.Lines.{members_at, members_of, lines_of, room_at, room_of, is_key, CanOpen, MayEnterAll};
 ghost use Rattle.rbd_session.specs.Track.{changed_at, done_with, given, passed_by, run};
 
-use crate::image_at::ImageAt;
 use crate::lines::Lines;
 use crate::running::Running;
 use rbd_course::Request;
-use rbd_kinds::{Fed, Reply, Sequence, Slot, Turn, Want};
+use rbd_kinds::{Fed, ImageAt, Reply, Sequence, Slot, Turn, Want};
 
 /// Feeds a request, and passes over what it then wants beside an operation. `None` where it wants
 /// its next operation, and else its reply. It takes no memory.

@@ -10,7 +10,7 @@ ghost use Rattle.rbd_session.specs.Session.{SessionView, IsSoundSession, IsAtOwn
 ghost use Rattle.rbd_session.specs.OnTrack.{LeavesOthers};
 ghost use Rattle.rbd_session.specs.Track.{ended_by};
 ghost use Rattle.rbd_session.specs.Waits.{waits};
-ghost use Rattle.rbd_session.specs.declared.image_at.ImageAt.{ImageAt};
+ghost use Rattle.rbd_kinds.specs.declared.image_at.ImageAt.{ImageAt};
 ghost use Rattle.rbd_session.specs.declared.running.Running.{Running};
 
 use rbd_course::Request;

@@ -77,7 +77,6 @@
 
 mod advance;
 mod feeding;
-mod image_at;
 pub mod laws;
 mod lines;
 mod own_look;
@@ -88,6 +87,5 @@ mod slots;
 mod waits;
 mod wanted;
 
-pub use image_at::ImageAt;
 pub use running::{Occupant, Running};
 pub use session::Session;

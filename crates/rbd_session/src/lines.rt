@@ -7,9 +7,8 @@ ghost use Rattle.rbd_session.specs.Lines.{members_in, room_in, members_at, room_
 ghost use Rattle.rbd_kinds.specs.declared.id.SiteId.{SiteId};
 ghost use Rattle.rbd_session.specs.Track.{given};
 
-use crate::image_at::ImageAt;
 use rbd_course::Stage;
-use rbd_kinds::{NoMemory, Slot};
+use rbd_kinds::{ImageAt, NoMemory, Slot};
 use rbd_line::Line;
 use std::alloc::Global;
 use std::collections::HashMap;

@@ -12,12 +12,13 @@ ghost use Rattle.rbd_session.specs.OnTrack.{IsSomewhere};
 ghost use Rattle.rbd_session.specs.Track.{course_of};
 ghost use Rattle.rbd_session.specs.Waits.{waits_at};
 
-use crate::image_at::ImageAt;
 use crate::lines::Lines;
 use crate::own_look::{image_of_look, objects_asked};
 use crate::running::Running;
 use rbd_course::{Request, Stage};
-use rbd_kinds::{Answer, Fed, HeaderView, ImageId, NoMemory, OpKind, Sequence, SiteId, Slot, Want};
+use rbd_kinds::{
+    Answer, Fed, HeaderView, ImageAt, ImageId, NoMemory, OpKind, Sequence, SiteId, Slot, Want,
+};
 use std::alloc::Global;
 
 /// Whether the look at an image's header is the request's own.

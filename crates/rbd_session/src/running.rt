@@ -1,6 +1,5 @@
 //! A request that runs in a slot.
-use crate::image_at::ImageAt;
-use rbd_kinds::{Extent, Refusal, Sequence};
+use rbd_kinds::{Extent, ImageAt, Refusal, Sequence};
 
 /// What a slot holds.
 #[derive(Debug, Drop)]

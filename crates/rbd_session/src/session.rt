@@ -10,13 +10,12 @@ ghost use Rattle.rbd_session.specs.Track.{ended_by};
 ghost use Rattle.rbd_session.specs.declared.running.Running.{Running};
 
 use crate::feeding::{feed_in, prepare_in};
-use crate::image_at::ImageAt;
 use crate::lines::Lines;
 use crate::running::{Occupant, Running};
 use crate::slots::{empty_slots, free_up, held_at, next_free};
 use crate::wanted::{going, own_look, running_in, wanted_kind, wanted_op};
 use rbd_course::{Begun, Request};
-use rbd_kinds::{Fed, Instance, NoMemory, Op, OpKind, Refusal, Reply, SiteId, Slot};
+use rbd_kinds::{Fed, ImageAt, Instance, NoMemory, Op, OpKind, Refusal, Reply, SiteId, Slot};
 use std::alloc::Global;
 use std::marker::Model;
 
@@ -59,6 +58,7 @@ impl<R: Request> Session<R> {
         })
     }
 
+    /// Which session this is, and in which of its lives.
     pub fn instance(&self) -> Instance
         ensures { result ≡ self.now.instance }
     {

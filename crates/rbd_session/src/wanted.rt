@@ -6,14 +6,13 @@ ghost use Rattle.rbd_session.specs.Advance.{track_of};
 ghost use Rattle.rbd_session.specs.OnTrack.{HasNext};
 ghost use Rattle.rbd_session.specs.Session.{held_in, running_in, going_in, kind_asked, op_asked, is_look_at, own_look_of};
 
-use crate::image_at::ImageAt;
 use crate::lines::Lines;
 use crate::prepare::is_at_own;
 use crate::running::{Occupant, Running};
 use crate::slots::held_at;
 use crate::waits::is_waiting;
 use rbd_course::Request;
-use rbd_kinds::{NoMemory, Op, OpKind, SiteId, Slot, Want};
+use rbd_kinds::{ImageAt, NoMemory, Op, OpKind, SiteId, Slot, Want};
 use std::alloc::Global;
 
 /// The request that runs in a slot.

@@ -1,6 +1,6 @@
 -- A map that was changed at one key, as the function that a site's records have.
-use Rattle.std.proofs.Common.{◌≡◌, ℕ, Bool, true, false, cond, eqb, ◌&&◌, Option, Some, None, is_some, Result, Ok, Err, refl, sym, ap, ◌∙◌, arith}
-use Rattle.std.specs.Prelude.{IsFalse, OnErr}
+use Rattle.std.proofs.Common.{◌≡◌, ℕ, Bool, true, false, cond, eqb, ◌&&◌, Option, Some, None, is_some, refl, sym, ap, ◌∙◌, arith}
+use Rattle.std.specs.Prelude.{IsFalse}
 use Rattle.std.specs.declared.cmp.Ordering.{Ordering}
 use Rattle.std.specs.declared.cmp.Ordering.TheVariants.{Less, Equal, Greater}
 use Rattle.std.specs.Ordering.{nat_cmp, ordering_then, is_eq}
@@ -73,11 +73,6 @@ header_same old new k held at_key is i = at_key i ∙ (λ j. cond (is_eq-nat_cmp
     go : (t : Bool) → eqb i k ≡ t → cond t (header_in old k) (header_in old i) ≡ header_in old i
     go true is = ap (header_in old) (sym (eqb-true i k is))
     go false is = refl
-
--- what holds anyway holds of an exit with an error
-pub on_err_always : {T E P : Type 0} (r : Result T E) → P → OnErr r P
-on_err_always (Ok x) p = tt
-on_err_always (Err e) p = p
 
 pub none_from_test : {T : Type 0} (o : Option T) → is_some o ≡ false → o ≡ None
 none_from_test None e = refl

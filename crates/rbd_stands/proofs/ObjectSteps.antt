@@ -8,7 +8,7 @@ use Rattle.rbd_kinds.specs.declared.header.SnapView.{SnapView}
 use Rattle.rbd_kinds.specs.Striping.{object_of, offset_of}
 use Rattle.rbd_header.specs.Header.{snap_in}
 use Rattle.rbd_object.specs.Mapped.{Mapped, looked, mapped_change, mapped_blank}
-use Rattle.rbd_object.specs.Versioned.{Versioned, IsTidy, view, change}
+use Rattle.rbd_object.specs.Versioned.{IsTidy, view}
 use Rattle.rbd_object.proofs.MappedLemmas.{looked-mapped_change}
 use Rattle.rbd_object.proofs.StepLemmas.{view-change}
 use Rattle.rbd_flat.specs.Flat.{FlatImage}
@@ -16,6 +16,7 @@ use Rattle.rbd_site.specs.Records.{put}
 use Rattle.rbd_stands.specs.Shown.{Snapshots, shown, Links, inherited}
 use Rattle.rbd_stands.specs.Image.{ImageStands, IsInside}
 use Rattle.rbd_stands.specs.Condition.{IsContextOf, IsChanged}
+use Rattle.rbd_object.proofs.SoundLemmas.{tidy_change}
 
 -- ---- a function with another value at one place
 
@@ -33,9 +34,6 @@ put_both P f n a here there m = go (cases_eq m n)
     go (inr other) = subst (P m) (sym (put_elsewhere f n a m other)) (there m other)
 
 -- ---- a change under the header's context
-
-tidy_changed : (c : SnapContext) (new : Option (List ℕ)) (o : Versioned) → IsTidy o → IsTidy (change c new o)
-tidy_changed c new o tidy = record { above = λ snap h. grind (arith, tidy.above snap) }
 
 module _ (below : Snapshots) (linked : Links) (h : HeaderView) (objects : ℕ → Mapped) (i : FlatImage) (stands : ImageStands below linked h objects i) (c : SnapContext) (context : IsContextOf h c)
     (n : ℕ) (new : Option (List ℕ)) (bytes : List ℕ) (changed : IsChanged below h n new i.bytes bytes) where
@@ -82,7 +80,7 @@ module _ (below : Snapshots) (linked : Links) (h : HeaderView) (objects : ℕ �
         (λ m other same. ap (λ k. get_or (unwrap_or (objects k).head []) (offset_of h.layout x) 0) (sym same) ∙ stands.clear x past)
         (object_of h.layout x) refl;
     tidy = put_both (λ m o. IsTidy (looked o)) objects n (mapped_change c new (objects n))
-        (subst IsTidy (sym (looked-mapped_change c new (objects n))) (tidy_changed c new (looked (objects n)) (stands.tidy n)))
+        (subst IsTidy (sym (looked-mapped_change c new (objects n))) (tidy_change c new (looked (objects n)) (stands.tidy n)))
         (λ m other. stands.tidy m);
     seen = put_both (λ m o. o.seq ≤ h.snap_seq) objects n (mapped_change c new (objects n))
         (let e = stands.seen n in omega (arith, context.seq))

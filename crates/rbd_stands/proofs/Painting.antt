@@ -17,6 +17,7 @@ use Rattle.rbd_flat.specs.Laws.{covers, covered, painted_at}
 use Rattle.rbd_kinds.specs.Parts.{parts_len}
 use Rattle.rbd_object.specs.Parts.{parts_written, parts_zeroed}
 use Rattle.rbd_stands.specs.Condition.{ArePartsBelow, extent_of, extents_of}
+use Rattle.rbd_flat.proofs.Painted.{zeroed_next}
 
 -- ---- a part's place in the object, and in the image
 
@@ -110,11 +111,6 @@ beside_past h size n parts lie x past k d less =
     omega (arith, t.1, (lie k d less).below))
 
 -- ---- zeros
-
-zeroed_next : (b c : Bool) (old : ℕ) → cond c 0 (cond b 0 old) ≡ cond (b || c) 0 old
-zeroed_next true true old = refl
-zeroed_next true false old = refl
-zeroed_next false c old = refl
 
 pub zeros_at : (l : Layout) → IsLayout l → (n : ℕ) (parts : List Part) → All (IsPart l n) parts → (head : List ℕ) (x : ℕ) → object_of l x ≡ n
     → get_or (parts_zeroed parts head) (offset_of l x) 0 ≡ cond (covered (extents_of parts) x) 0 (get_or head (offset_of l x) 0)

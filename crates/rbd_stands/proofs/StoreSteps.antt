@@ -20,7 +20,7 @@ use Rattle.rbd_kinds.specs.Striping.{object_of, offset_of}
 use Rattle.rbd_header.specs.Header.{snap_in}
 use Rattle.rbd_object.specs.Kept.{is_listed}
 use Rattle.rbd_object.specs.Mapped.{Mapped, looked, mapped_blank, mapped_trim}
-use Rattle.rbd_object.specs.Versioned.{Versioned, IsTidy, view, trim}
+use Rattle.rbd_object.specs.Versioned.{IsTidy, view}
 use Rattle.rbd_object.proofs.MappedLemmas.{looked-mapped_trim}
 use Rattle.rbd_object.proofs.KeptLemmas.{get-live}
 use Rattle.rbd_flat.specs.Flat.{Flat, FlatImage, image_at}
@@ -40,6 +40,7 @@ use Rattle.rbd_stands.proofs.ObjectSteps.{put_both, put_there}
 use Rattle.rbd_stands.proofs.Served.{fenced_after}
 use Rattle.rbd_site.proofs.TrimLemmas.{with_header_same, with_object_same}
 use Rattle.rbd_stands.proofs.SiteSteps.{here, stands_at, no_flat, stands_without, keep_all, site_change, is_drawn, other_header, with_headed, other_object, object_there}
+use Rattle.rbd_object.proofs.SoundLemmas.{tidy_trim}
 
 -- ---- what a flat image doesn't have
 
@@ -176,9 +177,6 @@ view_trimmed live t o listed =
     ap (λ v. view v (Some t)) (looked-mapped_trim live o)
     ∙ ap (λ b. cond (ltb o.seq t) o.head (cond b ((looked o).kept t) None)) listed
 
-tidy_trimmed : (live : List ℕ) (o : Versioned) → IsTidy o → IsTidy (trim live o)
-tidy_trimmed live o tidy = record { above = λ snap h. grind (arith, tidy.above snap) }
-
 pub blank_trimmed : (live : List ℕ) → mapped_trim live mapped_blank ≡ mapped_blank
 blank_trimmed live = ap (λ (kept : FinMap nat_cmp (List ℕ)). record mapped_blank { kept = kept })
     (same_map nat_cmp_total nat_cmp-IsAntisymmetric _ _ (λ snap.
@@ -221,7 +219,7 @@ module _ (below : Snapshots) (linked : Links) (h : HeaderView) (objects : ℕ �
     };
     clear = λ x past. ap (λ (head : Option (List ℕ)). get_or (unwrap_or head []) (offset_of h.layout x) 0) (head_kept (object_of h.layout x)) ∙ stands.clear x past;
     tidy = put_both (λ m o. IsTidy (looked o)) objects n now
-        (subst IsTidy (sym (looked-mapped_trim (live_in (Some h)) (objects n))) (tidy_trimmed (live_in (Some h)) (looked (objects n)) (stands.tidy n)))
+        (subst IsTidy (sym (looked-mapped_trim (live_in (Some h)) (objects n))) (tidy_trim (live_in (Some h)) (looked (objects n)) (stands.tidy n)))
         (λ m other. stands.tidy m);
     seen = put_both (λ m o. o.seq ≤ h.snap_seq) objects n now (stands.seen n) (λ m other. stands.seen m);
     numbered = stands.numbered;

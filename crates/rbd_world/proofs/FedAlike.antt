@@ -1,5 +1,5 @@
 -- What comes of a session that was made ready comes of it as it was before.
-use Rattle.std.proofs.Common.{◌≡◌, ℕ, true, [], Option, Some, None, sym, ap, ◌∙◌, subst}
+use Rattle.std.proofs.Common.{◌≡◌, ℕ, true, Option, Some, None, sym, ap, ◌∙◌, subst}
 use Rattle.std.proofs.lemmas.Bool.{true≢false}
 use Rattle.std.specs.Prelude.{IsSome, is_some}
 use Rattle.rbd_kinds.specs.declared.answer.Answer.{Answer}
@@ -19,6 +19,7 @@ use Rattle.rbd_session.specs.OnTrack.{LeavesOthers, IsOnTrack}
 use Rattle.rbd_session.specs.Session.{SessionView, IsAlike, IsAlikeIn, IsFed, ComesToIn, OfRunning, held_in, running_in}
 use Rattle.rbd_session.specs.Track.{Track, run}
 use Rattle.rbd_session.proofs.Sound.{no_some}
+use Rattle.rbd_session.proofs.Readied.{same_track}
 use Rattle.rbd_world.specs.Step.{AreSlotsBut, Goes}
 
 module _ {R : Type 0} (stands : R → Standing) where
@@ -57,12 +58,6 @@ module _ {R : Type 0} (stands : R → Standing) where
 
   -- ---- a slot
 
-  same_track : (r q : Running R) (old new : LinesView) → IsSameStand stands r q → lines_of new ≡ lines_of old → track_of q new ≡ track_of r old
-  same_track r q old new same lines =
-      ap (λ p. record { place = p; turn = q.turn; due = []; lines = lines_of new }) same.place
-      ∙ ap (λ n. record { place = r.place; turn = n; due = []; lines = lines_of new }) same.turn
-      ∙ ap (λ ls. record { place = r.place; turn = r.turn; due = []; lines = ls }) lines
-
   module _ (slot : ℕ) (f : Fed) (result : Option Reply) (after : LinesView) where
     -- what comes of a request that stands so
     abbrev Comes : Standing → Option Extent → Track → (old new : Running R) → Type 0
@@ -73,7 +68,7 @@ module _ {R : Type 0} (stands : R → Standing) where
     comes_so r q o p old new same lines comes =
         subst (λ s. Comes s r.extent (track_of r old) o p) same.same
         (subst (λ e. Comes (stands q.request) e (track_of r old) o p) same.extent
-        (subst (λ t. Comes (stands q.request) q.extent t o p) (same_track r q old new same lines) comes))
+        (subst (λ t. Comes (stands q.request) q.extent t o p) (same_track stands r q old new same lines) comes))
 
     comes_in : (r q : Running R) (n : Option (Occupant R)) (old new : LinesView) → IsSameStand stands r q → lines_of new ≡ lines_of old
         → ComesToIn stands slot new f result q n after → ComesToIn stands slot old f result r n after

@@ -19,7 +19,7 @@ use Rattle.rbd_machine.specs.Knowledge.{is_at}
 use Rattle.rbd_machine.specs.Path.{at_operation}
 use Rattle.rbd_machine.specs.Plan.{Plan, Ask, Await, Note, Return, Goto}
 use Rattle.rbd_machine.specs.Wait as wait
-use Rattle.rbd_session.specs.declared.image_at.ImageAt.{ImageAt}
+use Rattle.rbd_kinds.specs.declared.image_at.ImageAt.{ImageAt}
 use Rattle.rbd_session.specs.Track.{Track, Lines, answered_by, changed_at, course_of, done_with, ended_by, given, line_in, looked_by, place_in, noted_by, run, waited_by}
 use Rattle.rbd_session.proofs.Track.{changed_here, done_steady, given_steady}
 use Rattle.rbd_world.specs.InLine.{IsPastWithout, KeepsTo}

@@ -17,7 +17,7 @@ use Rattle.rbd_machine.specs.Knowledge.{is_at}
 use Rattle.rbd_machine.specs.Plan.{Plan, Ask, Await, Note, Return, Goto}
 use Rattle.rbd_machine.specs.Wait.{Wait}
 use Rattle.rbd_machine.specs.Wait as wait
-use Rattle.rbd_session.specs.declared.image_at.ImageAt.{ImageAt}
+use Rattle.rbd_kinds.specs.declared.image_at.ImageAt.{ImageAt}
 use Rattle.rbd_session.specs.OnTrack.{LeavesOthers}
 use Rattle.rbd_session.specs.Track.{Track, Lines, answered_by, changed_at, course_of, done_with, ended_by, given, image_at, looked_by, noted_by, run, waited_by}
 use Rattle.rbd_session.proofs.Others.{answered_leaves, noted_leaves, run_leaves, waited_leaves}

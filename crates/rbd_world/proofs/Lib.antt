@@ -25,7 +25,6 @@ pub mod Polling
 pub mod Quiet
 pub mod Refusal
 pub mod Rest
-pub mod Results
 pub mod Runs
 pub mod Slots
 pub mod Stepping

@@ -3,10 +3,9 @@ use Rattle.std.proofs.Common.{◌≡◌, ◌≢◌, ℕ, Bool, zero, suc, ◌==�
 use Rattle.std.proofs.lemmas.Bool.{true≢false, eqb-true, eq-eqb}
 use Rattle.std.proofs.lemmas.Option.{slice_get_past, slice_get_read, slice_get_within}
 use Rattle.rbd_machine.specs.Plan.{Standing}
-use Rattle.rbd_session.specs.declared.running.Occupant.{Occupant}
-use Rattle.rbd_session.specs.declared.running.Occupant.TheVariants as occupant
-use Rattle.rbd_session.specs.Session.{SessionView, IsAlike, IsAlikeIn, IsSoundSession, held_in}
+use Rattle.rbd_session.specs.Session.{SessionView, IsAlike, IsSoundSession}
 use Rattle.rbd_session.proofs.Sound.{no_some, some_same}
+use Rattle.rbd_session.proofs.Readied.{alike_itself}
 use Rattle.rbd_world.specs.declared.event.Event.{Event}
 use Rattle.rbd_world.specs.Run.{Happening}
 use Rattle.rbd_world.specs.Step.{Becomes, BecomesOf, DoesToSessions, IsAlikeOf, IsSoundIf, LeavesSessions, names_session}
@@ -50,17 +49,9 @@ is_other e n session names other same = true≢false (sym (eq-eqb n session (sym
 module _ {R : Type 0} (stands : R → Standing) where
   -- ---- it is alike itself
 
-  alike_held : (o : Option (Occupant R)) → IsAlikeIn stands o o
-  alike_held (Some (occupant.Running r)) = record { same = refl; line = refl; extent = refl; place = refl; turn = refl }
-  alike_held (Some (occupant.Refused line refusal)) = refl
-  alike_held None = refl
-
-  pub alike_itself : (s : SessionView R) → IsAlike stands s s
-  alike_itself s = record { instance = refl; home = refl; lowest = refl; slots = λ slot. alike_held (held_in slot s.slots); lines = refl }
-
   pub alike_of_itself : (o : Option (SessionView R)) → IsAlikeOf stands o o
   alike_of_itself None = refl
-  alike_of_itself (Some s) = alike_itself s
+  alike_of_itself (Some s) = alike_itself stands s
 
   -- ---- the event did this
 

@@ -23,7 +23,7 @@ use Rattle.rbd_machine.specs.declared.reason.Reason.{Reason}
 use Rattle.rbd_meaning.specs.Writes.{write_refuses}
 use Rattle.rbd_meaning.specs.Range.{extent_at}
 use Rattle.rbd_requests.specs.Touched.{extent_of}
-use Rattle.rbd_session.specs.declared.image_at.ImageAt.{ImageAt}
+use Rattle.rbd_kinds.specs.declared.image_at.ImageAt.{ImageAt}
 use Rattle.rbd_session.specs.declared.running.Running.{Running}
 use Rattle.rbd_session.specs.Advance.{GoesFurther, track_of}
 use Rattle.rbd_session.specs.Lines.{lines_of}

@@ -15,7 +15,7 @@ use Rattle.rbd_world.specs.Run.{Asked, outcome_of}
 use Rattle.rbd_world.specs.Step.{Becomes, DoesToSessions, submitted}
 use Rattle.rbd_world.specs.World.{session_in}
 use Rattle.rbd_world.proofs.OneSession.{does_to_none, does_to_one}
-use Rattle.rbd_world.proofs.Results.{on_ok_then}
+use Rattle.std.proofs.lemmas.Result.{on_ok_weaker}
 
 module _ {R : Type 0} (stands : R → Standing) (n line : ℕ) (command : Command) where
   abbrev submits : Event
@@ -27,7 +27,7 @@ module _ {R : Type 0} (stands : R → Standing) (n line : ℕ) (command : Comman
   submitted_to r begun asked sessions at c d same there becomes sound =
       let here : session_in n sessions ≡ Some c = ap (slice_get sessions) (sym same) ∙ there in
       subst (λ o. OnOk r (DoesToSessions stands submits (submitted begun asked o) sessions (slice_set sessions at d))) (sym here)
-      (on_ok_then r (λ done. does_to_one stands submits (submitted begun asked (Some c)) n at sessions c d (λ m. refl) same here done sound) becomes)
+      (on_ok_weaker r (λ done. does_to_one stands submits (submitted begun asked (Some c)) n at sessions c d (λ m. refl) same here done sound) becomes)
 
   pub submitted_to_none : (begun : Bool) (asked : Asked) (sessions : List (SessionView R)) → session_in n sessions ≡ None
       → DoesToSessions stands submits (submitted begun asked (session_in n sessions)) sessions sessions

@@ -1,13 +1,9 @@
 -- Changes of images that are there, by the first client alone.
 use Rattle.std.specs.Prelude.{◌==◌, ◌||◌, not, Bool, true}
-use Rattle.rbd_kinds.specs.declared.command.Command.{Command}
 use Rattle.rbd_known.specs.Calm.{is_change}
 use Rattle.rbd_world.specs.declared.event.Call.{Call}
 use Rattle.rbd_world.specs.declared.event.Event.{Event}
 use Rattle.rbd_world.specs.declared.event.Event.TheVariants as event
-
-abbrev pub is_changing : Command → Bool
-is_changing command = is_change command
 
 -- the event changes nothing that is there, or is the first client's
 abbrev pub is_change_of_first : Event → Bool

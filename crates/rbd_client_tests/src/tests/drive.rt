@@ -17,9 +17,9 @@ use rbd_client::{Client, Quiescing};
 use rbd_close::CloseRequest;
 use rbd_course::Request;
 use rbd_kinds::{
-    Answer, Command, Fed, HeaderOp, ImageId, Instance, NoMemory, Op, Reply, SessionNo, SiteId, Slot,
+    Answer, Command, Fed, HeaderOp, ImageAt, ImageId, Instance, NoMemory, Op, Reply, SessionNo,
+    SiteId, Slot,
 };
-use rbd_locks::ImageAt;
 use rbd_machine::can_give;
 use rbd_requests::{SessionRequest, Work, is_built};
 use std::alloc::Global;
@@ -46,6 +46,7 @@ pub const LATER: Instance = Instance {
     life: 1,
 };
 
+/// A client at site A that has begun nothing.
 pub fn new_client(alloc: Global) -> Result<Tested, NoMemory> {
     Client::new(alloc, ME, SiteId::A)
 }

@@ -22,12 +22,12 @@ use super::notices::{hears, was_told};
 use super::operations::image;
 use super::told::told;
 use super::work::{closing, command, is_closing, quiescing};
-use rbd_kinds::{NoMemory, Reply, SiteId, Slot};
-use rbd_locks::ImageAt;
+use rbd_kinds::{ImageAt, NoMemory, Reply, SiteId, Slot};
 use std::alloc::Global;
 use std::process::Abort;
 use std::test::Fail;
 
+/// The number that a word spells, and 0 where it spells none.
 pub fn number(word: &str) -> u8 {
     word.parse::<u8>().unwrap_or(0)
 }

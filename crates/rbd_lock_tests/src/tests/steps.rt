@@ -1,8 +1,9 @@
 //! Steps by their words: an operation with its answer, a notice, a quiesce and its end.
 use rbd_kinds::{
-    Answer, Bytes, HeaderOp, ImageId, Instance, NoMemory, Notice, NoticeKind, Op, SessionNo, SiteId,
+    Answer, Bytes, HeaderOp, ImageAt, ImageId, Instance, NoMemory, Notice, NoticeKind, Op,
+    SessionNo, SiteId,
 };
-use rbd_locks::{ImageAt, Locks};
+use rbd_locks::Locks;
 use std::alloc::Global;
 
 const fn instance(session: u8) -> Instance {

@@ -226,10 +226,20 @@ fn has_pages(rt: &impl Abort, object: &Object, pages: u64) {
 fn versions_share_pages(rt: HostRuntime) -> Result<(), Fail> {
     let alloc = rt.alloc();
     let mut object = Object::new(alloc);
-    write_under(alloc, &mut object, 0, &[], 0, 7, 10_000)?;
+    let whole = Run {
+        at: 0,
+        byte: 7,
+        len: 10_000,
+    };
+    write_under(alloc, &mut object, 0, &[], &whole)?;
     has_pages(&rt, &object, 3);
 
-    write_under(alloc, &mut object, 1, &[1], 4096, 9, 1)?;
+    let one_byte = Run {
+        at: 4096,
+        byte: 9,
+        len: 1,
+    };
+    write_under(alloc, &mut object, 1, &[1], &one_byte)?;
     has_pages(&rt, &object, 4);
     byte_is(&rt, &object, 1, 4096, 7);
     byte_is(&rt, &object, 0, 4096, 9);
@@ -395,19 +405,25 @@ fn write(object: &mut Object, given: &SnapContext, at: u32, bytes: &[u8]) -> Res
     object.write(given, at as u64, bytes)
 }
 
-/// Writes a byte so often, under the context of a number and these snapshots.
+/// One byte that stands so often from a place on.
+#[derive(Clone, Copy)]
+struct Run {
+    at: u32,
+    byte: u32,
+    len: u32,
+}
+
+/// Writes a run, under the context of a number and these snapshots.
 fn write_under(
     alloc: Global,
     object: &mut Object,
     number: u32,
     snaps: &[u32],
-    at: u32,
-    byte: u32,
-    len: u32,
+    run: &Run,
 ) -> Result<(), NoMemory> {
     let given = context(alloc, number, snaps)?;
-    let bytes = repeated(alloc, byte, len)?;
-    write(object, &given, at, bytes.as_slice())
+    let bytes = repeated(alloc, run.byte, run.len)?;
+    write(object, &given, run.at, bytes.as_slice())
 }
 
 /// Makes the head these bytes where they are within the largest object.

@@ -13,16 +13,19 @@ use std::process::Abort;
 /// The image of these tests.
 pub const IMAGE: ImageId = ImageId(7);
 
+/// It wants the lock of the image.
 pub const HOLD: Want = Want::Hold {
     site: SiteId::A,
     image: IMAGE,
 };
 
+/// It wants its event noted in the image's journal.
 pub const NOTE: Want = Want::Note {
     site: SiteId::A,
     image: IMAGE,
 };
 
+/// It wants its event to count as applied.
 pub const APPLIED: Want = Want::Applied {
     site: SiteId::A,
     image: IMAGE,
@@ -115,6 +118,7 @@ pub fn end<M: Machine>(
     }
 }
 
+/// Whether a reply is that it is done.
 pub fn is_done(reply: Reply) -> bool {
     match reply {
         Reply::Done => true,
@@ -122,6 +126,7 @@ pub fn is_done(reply: Reply) -> bool {
     }
 }
 
+/// Whether a reply is this refusal.
 pub fn is_refused(reply: Reply, why: Refusal) -> bool {
     match reply {
         Reply::Refused(refusal) => refusal == why,

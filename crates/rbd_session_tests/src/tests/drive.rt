@@ -19,6 +19,7 @@ use std::process::Abort;
 /// A session of these tests. No machine is brought, so any type may stand where its type would.
 pub type Client = Session<SessionRequest<CreateRequest>>;
 
+/// A session at site A that has begun nothing.
 pub fn new_session(alloc: Global) -> Result<Client, NoMemory> {
     let instance = Instance {
         session: SessionNo(1),

@@ -18,8 +18,7 @@
 use super::drive::{Client, holds, new_session, submit, tell, wants, wants_none};
 use super::told::told;
 use super::work::command;
-use rbd_kinds::{ImageId, NoMemory, Reply, SiteId, Slot};
-use rbd_session::ImageAt;
+use rbd_kinds::{ImageAt, ImageId, NoMemory, Reply, SiteId, Slot};
 use std::alloc::Global;
 use std::process::Abort;
 use std::test::Fail;

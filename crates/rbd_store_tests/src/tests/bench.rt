@@ -13,11 +13,13 @@ use rbd_watch::Mail;
 use std::alloc::Global;
 use std::process::Abort;
 
+/// The first life of the first session.
 pub const C1: Instance = Instance {
     session: SessionNo(0),
     life: 0,
 };
 
+/// The image of these tests.
 pub const IMAGE: ImageId = ImageId(1);
 
 /// A site, and the mail of both.
@@ -28,6 +30,7 @@ pub struct Bench {
 }
 
 impl Bench {
+    /// Site A as it begins, and no mail.
     pub fn new(alloc: Global) -> Result<Self, NoMemory> {
         Ok(Bench {
             site: Site::new(alloc, SiteId::A)?,
@@ -35,6 +38,7 @@ impl Bench {
         })
     }
 
+    /// The site's answer to an operation of an instance.
     pub fn apply(&mut self, me: Instance, op: Op) -> Result<Answer, NoMemory>
         requires { MayDo (records_of self.old.site) me op }
     {
@@ -42,6 +46,7 @@ impl Bench {
     }
 }
 
+/// The name that is spelled so.
 pub fn name(rt: &impl Abort, alloc: Global, text: &[u8]) -> Result<Name, NoMemory> {
     Ok(Name::parse(Bytes::from_slice(alloc, text)?).expect(rt, "a name"))
 }

@@ -79,39 +79,50 @@ fn tells_a_header(reply: &Reply) -> bool
     }
 }
 
+/// What a run left: its history, and the logs of both sites.
+#[derive(Clone, Copy)]
+struct Left<'r> {
+    history: &'r [Entry],
+    a: &'r [Done],
+    b: &'r [Done],
+}
+
+/// Whether the replies of a script are this text.
 fn replies_show(
     rt: &impl Abort,
     alloc: Global,
     script: &Script,
-    history: &[Entry],
-    a: &[Done],
-    b: &[Done],
+    left: &Left,
     want: &str,
 ) -> Result<bool, NoMemory> {
-    assert!(rt; are_shown(history));
-    let text = replies(alloc, script, history, a, b)?;
+    assert!(rt; are_shown(left.history));
+    let text = replies(alloc, script, left.history, left.a, left.b)?;
     Ok(text.as_slice() == want.as_bytes())
 }
 
+/// Whether the trace of a script is this text.
 fn trace_shows(
     rt: &impl Abort,
     alloc: Global,
     script: &Script,
-    history: &[Entry],
-    a: &[Done],
-    b: &[Done],
+    left: &Left,
     want: &str,
 ) -> Result<bool, NoMemory> {
-    assert!(rt; are_shown(history));
-    let text = trace(alloc, script, history, a, b)?;
+    assert!(rt; are_shown(left.history));
+    let text = trace(alloc, script, left.history, left.a, left.b)?;
     Ok(text.as_slice() == want.as_bytes())
 }
 
 #[test]
 fn an_empty_script_prints_nothing(rt: HostRuntime) -> Result<(), Fail> {
     let script = script(&rt, rt.alloc(), &[])?;
-    assert!(rt; holds(replies_show(&rt, rt.alloc(), &script, &[], &[], &[], "")));
-    assert!(rt; holds(trace_shows(&rt, rt.alloc(), &script, &[], &[], &[], "")));
+    let left = Left {
+        history: &[],
+        a: &[],
+        b: &[],
+    };
+    assert!(rt; holds(replies_show(&rt, rt.alloc(), &script, &left, "")));
+    assert!(rt; holds(trace_shows(&rt, rt.alloc(), &script, &left, "")));
     Ok(())
 }
 
@@ -182,7 +193,12 @@ fn created_is_traced(
     log: &[Done],
 ) -> Result<bool, NoMemory> {
     let script = script(rt, alloc, &[(2, 0)])?;
-    trace_shows(rt, alloc, &script, history, log, &[], CREATED)
+    let left = Left {
+        history,
+        a: log,
+        b: &[],
+    };
+    trace_shows(rt, alloc, &script, &left, CREATED)
 }
 
 #[test]
@@ -206,7 +222,8 @@ fn logs_are_traced(
     b: &[Done],
 ) -> Result<bool, NoMemory> {
     let script = script(rt, alloc, &[])?;
-    trace_shows(rt, alloc, &script, &[], a, b, TWO_SITES)
+    let left = Left { history: &[], a, b };
+    trace_shows(rt, alloc, &script, &left, TWO_SITES)
 }
 
 #[test]
@@ -256,13 +273,11 @@ fn replied(line: u32, reply: Reply) -> Entry {
 fn commands_show(
     rt: &impl Abort,
     alloc: Global,
-    history: &[Entry],
-    a: &[Done],
-    b: &[Done],
+    left: &Left,
     want: &str,
 ) -> Result<bool, NoMemory> {
     let script = script(rt, alloc, &[(3, 0), (4, 1), (5, 0), (6, 1)])?;
-    replies_show(rt, alloc, &script, history, a, b, want)
+    replies_show(rt, alloc, &script, left, want)
 }
 
 /// The same where an attempt at the lock was answered so at each site.
@@ -276,7 +291,12 @@ fn answered_show(
 ) -> bool {
     let a = [lock_take(1, AGAIN, a)];
     let b = [lock_take(1, AGAIN, b)];
-    holds(commands_show(rt, alloc, history, &a, &b, want))
+    let left = Left {
+        history,
+        a: &a,
+        b: &b,
+    };
+    holds(commands_show(rt, alloc, &left, want))
 }
 
 fn held_at_a(rt: &impl Abort, alloc: Global, history: &[Entry], want: &str) -> bool {

@@ -5,10 +5,11 @@
 ghost use Rattle.std.specs.Prelude.{◌≡◌, true};
 ghost use Rattle.std.specs.List.{list_all};
 ghost use Rattle.rbd_world.specs.Step.{AreOfOneClient, IsBuiltEvent};
-ghost use Rattle.rbd_world_tests.specs.First.{is_change_of_first, is_call_of_first, is_changing};
+ghost use Rattle.rbd_world_tests.specs.First.{is_change_of_first, is_call_of_first};
 
 use rbd_admin::CreateRequest;
-use rbd_kinds::{Command, NoMemory, SessionNo, SiteId, Slot};
+use rbd_kinds::{NoMemory, SessionNo, SiteId, Slot};
+use rbd_known::is_change;
 use rbd_requests::is_built;
 use rbd_world::{Call, Event, Outcome, World};
 use std::alloc::Global;
@@ -27,19 +28,6 @@ pub fn holds(found_out: Result<bool, NoMemory>) -> bool {
     found_out.unwrap_or(false)
 }
 
-/// Whether a command changes an image that is there.
-fn changes(command: &Command) -> bool
-    ensures { result ≡ is_changing command.now }
-{
-    match command {
-        Command::Write { .. } => true,
-        Command::Fill { .. } => true,
-        Command::SnapCreate { .. } => true,
-        Command::SnapRemove { .. } => true,
-        _ => false,
-    }
-}
-
 /// Whether an event changes no image that is there, or is the first client's.
 fn is_of_first(event: &Event) -> bool
     ensures { result ≡ is_change_of_first event.now }
@@ -49,7 +37,7 @@ fn is_of_first(event: &Event) -> bool
             session,
             line: _,
             command,
-        } => !changes(command) || session.0 == 0,
+        } => !is_change(command) || session.0 == 0,
         Event::Poll { .. } => true,
         Event::Trim { .. } => true,
     }

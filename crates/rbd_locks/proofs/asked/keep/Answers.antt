@@ -1,5 +1,6 @@
 use Rattle.std.proofs.Common.{◌∙◌, false, cond, sym, ap}
-use Rattle.rbd_locks.specs.Places.{is_among, is_same}
+use Rattle.rbd_kinds.specs.Images.{is_at}
+use Rattle.rbd_locks.specs.Places.{is_among}
 use Rattle.rbd_locks.proofs.Keys.{updated}
 use Rattle.rbd_locks.proofs.asked.keep.Goals as goal
 
@@ -7,4 +8,4 @@ pub returns-then-not-stays : goal.returns-then-not-stays
 returns-then-not-stays c = λ site image.
     let at = c.args.at.now in
     updated c.args.asked.now.keys c.remove.new.self.keys at.site at.image false c.remove.ensures.updates.0 site image
-    ∙ ap (λ b. cond (is_same at.site at.image site image) b (is_among site image c.args.asked.now.keys)) (sym c.if-not-stays.true)
+    ∙ ap (λ b. cond (is_at at.site at.image site image) b (is_among site image c.args.asked.now.keys)) (sym c.if-not-stays.true)

@@ -1,10 +1,11 @@
 use Rattle.std.proofs.Common.{◌∙◌}
-use Rattle.rbd_object.proofs.HeadLemmas.{filled_bytes, exchanged_refused, on_err}
+use Rattle.rbd_object.proofs.HeadLemmas.{filled_bytes, exchanged_refused}
 use Rattle.rbd_object.proofs.heads.filled.Goals as goal
+use Rattle.rbd_kinds.proofs.Results.{on_err_always}
 
 pub returns-in_err-write-clause-err : goal.returns-in_err-write-clause-err
 returns-in_err-write-clause-err c =
-    on_err _ (exchanged_refused c.args.sheaves.now c.write.new.sheaves c.new-content.result c.write.new.self c.new-content.ensures
+    on_err_always _ (exchanged_refused c.args.sheaves.now c.write.new.sheaves c.new-content.result c.write.new.self c.new-content.ensures
     c.in_err-write.ensures.exchanged c.in_err-write.ensures.content c.in_err-write.ensures.err)
 
 pub returns-clause-bytes : goal.returns-clause-bytes

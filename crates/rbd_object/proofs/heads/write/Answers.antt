@@ -2,16 +2,17 @@ use Rattle.std.proofs.Common.{[], Some, ◌∙◌, ap}
 use Rattle.std.specs.Prelude.{unwrap_or}
 use Rattle.rbd_object.specs.Contents.{overwritten}
 use Rattle.rbd_object.specs.Shared.{sheaves_of}
-use Rattle.rbd_object.proofs.HeadLemmas.{head_after, kept_change, on_err, undone, untouched}
+use Rattle.rbd_object.proofs.HeadLemmas.{head_after, kept_change, undone, untouched}
 use Rattle.rbd_object.proofs.heads.write.Goals as goal
+use Rattle.rbd_kinds.proofs.Results.{on_err_always}
 
 pub returns-in_err-kept-clause-err : goal.returns-in_err-kept-clause-err
 returns-in_err-kept-clause-err c =
-    on_err _ (untouched c.args.sheaves.now c.share.new.sheaves c.args.head.now c.requires.counted c.requires.content c.in_err-kept.ensures.err).0
+    on_err_always _ (untouched c.args.sheaves.now c.share.new.sheaves c.args.head.now c.requires.counted c.requires.content c.in_err-kept.ensures.err).0
 
 pub returns-in_err-kept-clause-same : goal.returns-in_err-kept-clause-same
 returns-in_err-kept-clause-same c =
-    on_err _ (untouched c.args.sheaves.now c.share.new.sheaves c.args.head.now c.requires.counted c.requires.content c.in_err-kept.ensures.err).1
+    on_err_always _ (untouched c.args.sheaves.now c.share.new.sheaves c.args.head.now c.requires.counted c.requires.content c.in_err-kept.ensures.err).1
 
 pub write_head-requires-clause-content : goal.write_head-requires-clause-content
 write_head-requires-clause-content c = (head_after c.args.sheaves.now c.share.new.sheaves c.args.head.now (sheaves_of c.in_ok-kept.kept) c.requires.counted c.requires.content c.in_ok-kept.ensures.exchanged).0

@@ -1,15 +1,16 @@
 use Rattle.std.proofs.Common.{Some, sym, subst}
 use Rattle.rbd_object.specs.Shared.{IsKept}
-use Rattle.rbd_object.proofs.HeadLemmas.{counted_both, head_after, on_err, replaced, untouched}
+use Rattle.rbd_object.proofs.HeadLemmas.{counted_both, head_after, replaced, untouched}
 use Rattle.rbd_object.proofs.heads.write_full.Goals as goal
+use Rattle.rbd_kinds.proofs.Results.{on_err_always}
 
 pub returns-in_err-content-clause-err : goal.returns-in_err-content-clause-err
 returns-in_err-content-clause-err c =
-    on_err _ (untouched c.args.sheaves.now c.filled.new.sheaves c.args.head.now c.requires.counted c.requires.content c.in_err-content.ensures.err).0
+    on_err_always _ (untouched c.args.sheaves.now c.filled.new.sheaves c.args.head.now c.requires.counted c.requires.content c.in_err-content.ensures.err).0
 
 pub returns-in_err-content-clause-same : goal.returns-in_err-content-clause-same
 returns-in_err-content-clause-same c =
-    on_err _ (untouched c.args.sheaves.now c.filled.new.sheaves c.args.head.now c.requires.counted c.requires.content c.in_err-content.ensures.err).1
+    on_err_always _ (untouched c.args.sheaves.now c.filled.new.sheaves c.args.head.now c.requires.counted c.requires.content c.in_err-content.ensures.err).1
 
 pub replace-requires-clause-counted : goal.replace-requires-clause-counted
 replace-requires-clause-counted c = counted_both c.args.sheaves.now c.filled.new.sheaves _ c.in_ok-content.content.sheaves c.in_ok-content.ensures.exchanged c.requires.counted

@@ -2,16 +2,17 @@ use Rattle.std.proofs.Common.{None, true, cond, ◌∙◌, ap}
 use Rattle.std.specs.Prelude.{option_map}
 use Rattle.rbd_object.specs.Parts.{parts_zeroed}
 use Rattle.rbd_object.specs.Shared.{sheaves_of}
-use Rattle.rbd_object.proofs.HeadLemmas.{head_after, kept_change, kept_if, on_err, restored, untouched}
+use Rattle.rbd_object.proofs.HeadLemmas.{head_after, kept_change, kept_if, restored, untouched}
 use Rattle.rbd_object.proofs.heads.zero_several.Goals as goal
+use Rattle.rbd_kinds.proofs.Results.{on_err_always}
 
 pub returns-in_err-before-clause-err : goal.returns-in_err-before-clause-err
 returns-in_err-before-clause-err c =
-    on_err _ (untouched c.args.sheaves.now c.share.new.sheaves c.args.head.now c.requires.counted c.requires.content c.in_err-before.ensures.err).0
+    on_err_always _ (untouched c.args.sheaves.now c.share.new.sheaves c.args.head.now c.requires.counted c.requires.content c.in_err-before.ensures.err).0
 
 pub returns-in_err-before-clause-same : goal.returns-in_err-before-clause-same
 returns-in_err-before-clause-same c =
-    on_err _ (untouched c.args.sheaves.now c.share.new.sheaves c.args.head.now c.requires.counted c.requires.content c.in_err-before.ensures.err).1
+    on_err_always _ (untouched c.args.sheaves.now c.share.new.sheaves c.args.head.now c.requires.counted c.requires.content c.in_err-before.ensures.err).1
 
 pub zero_each-requires-clause-content : goal.zero_each-requires-clause-content
 zero_each-requires-clause-content c = (head_after c.args.sheaves.now c.share.new.sheaves c.args.head.now (sheaves_of c.in_ok-before.before) c.requires.counted c.requires.content c.in_ok-before.ensures.exchanged).0

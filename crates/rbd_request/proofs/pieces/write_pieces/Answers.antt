@@ -22,7 +22,7 @@ loop-piece-init c =
     let given : c.into_iter-piece-iterator.result.rest.items ≡ c.in_ok-listed.listed.items = c.into_iter-piece-iterator.ensures.into_iter_gives.0 in
     let listed : IsPieces h.layout e c.in_ok-listed.listed.items = subst (λ len. IsPieces h.layout (record { at = c.args.at; len = len }) c.in_ok-listed.listed.items) c.len.ensures c.in_ok-listed.ensures.pieces in
     record {
-      made = λ next. rw c.new-made.ensures.items (ap (λ pieces. write_pieces c.args.site c.args.image h c.args.at c.args.bytes.now pieces next) (given ∙ pieces_of_alone h.layout c.requires.form.layout e c.in_ok-listed.listed.items listed));
+      made = λ next. rw c.new-made.ensures.items (ap (λ pieces. write_pieces c.args.target.site c.args.target.image h c.args.at c.args.bytes.now pieces next) (given ∙ pieces_of_alone h.layout c.requires.form.layout e c.in_ok-listed.listed.items listed));
       behind = subst (All (λ (p : Piece). AreBehind c.args.at p.parts)) (sym given) (pieces_behind h.layout e c.in_ok-listed.listed.items listed);
     }
 
@@ -34,9 +34,9 @@ loop-piece-preserved c =
     let h = c.args.header.now in
     record {
       made = λ next.
-          subst (λ made. rest_of_pieces made (write_pieces c.args.site c.args.image h c.args.at c.args.bytes.now c.next.new.self.rest.items next) ≡ write_pieces c.args.site c.args.image h c.args.at c.args.bytes.now (pieces_of h.layout (extent_at c.args.at c.args.bytes.now)) next) (sym c.in_ok-push_back.ensures.items)
-          (next_made c.args.site c.args.image h c.args.at c.args.bytes.now c.loop-piece.made.items c.in_ok-write_piece.field-0 c.in-Some.piece c.next.new.self.rest.items next (λ rest. c.in_ok-write_piece.ensures.plan h rest c.in_ok-context.ensures) c.in_ok-write_piece.ensures.object
-          ∙ ap (λ pieces. rest_of_pieces c.loop-piece.made.items (write_pieces c.args.site c.args.image h c.args.at c.args.bytes.now pieces next)) (sym c.in-Some.ensures.steps.0)
+          subst (λ made. rest_of_pieces made (write_pieces c.args.target.site c.args.target.image h c.args.at c.args.bytes.now c.next.new.self.rest.items next) ≡ write_pieces c.args.target.site c.args.target.image h c.args.at c.args.bytes.now (pieces_of h.layout (extent_at c.args.at c.args.bytes.now)) next) (sym c.in_ok-push_back.ensures.items)
+          (next_made c.args.target.site c.args.target.image h c.args.at c.args.bytes.now c.loop-piece.made.items c.in_ok-write_piece.field-0 c.in-Some.piece c.next.new.self.rest.items next (λ rest. c.in_ok-write_piece.ensures.plan h rest c.in_ok-context.ensures) c.in_ok-write_piece.ensures.object
+          ∙ ap (λ pieces. rest_of_pieces c.loop-piece.made.items (write_pieces c.args.target.site c.args.target.image h c.args.at c.args.bytes.now pieces next)) (sym c.in-Some.ensures.steps.0)
           ∙ c.loop-piece.invariant.made next);
       behind = behind_rest c.args.at c.in-Some.piece c.next.new.self.rest.items (subst (All (λ (p : Piece). AreBehind c.args.at p.parts)) c.in-Some.ensures.steps.0 c.loop-piece.invariant.behind);
     }

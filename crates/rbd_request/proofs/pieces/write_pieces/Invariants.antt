@@ -10,7 +10,7 @@ use Rattle.rbd_request.proofs.pieces.write_pieces.Given as goal
 -- the pieces that are made, and those that are left to make
 abbrev pub invariant-loop-piece : goal.invariant-loop-piece
 invariant-loop-piece l = record {
-  made : (next : Plan) → rest_of_pieces l.made.items (write_pieces l.site l.image l.header l.at l.bytes l.piece-iterator.rest.items next)
-      ≡ write_pieces l.site l.image l.header l.at l.bytes (pieces_of l.header.layout (extent_at l.at l.bytes)) next;
+  made : (next : Plan) → rest_of_pieces l.made.items (write_pieces l.target.site l.target.image l.header l.at l.bytes l.piece-iterator.rest.items next)
+      ≡ write_pieces l.target.site l.target.image l.header l.at l.bytes (pieces_of l.header.layout (extent_at l.at l.bytes)) next;
   behind : All (λ (p : Piece). AreBehind l.at p.parts) l.piece-iterator.rest.items;
 }

@@ -1,8 +1,9 @@
 use Rattle.std.proofs.Common.{Some, ap, ◌∙◌, rules}
 use Rattle.rbd_site.specs.DataStep.{data_after}
 use Rattle.rbd_site.specs.Maps.{object_in}
-use Rattle.rbd_site.proofs.OneChange.{object_put, object_same, done_or_same, on_err_always}
+use Rattle.rbd_site.proofs.OneChange.{object_put, object_same, done_or_same}
 use Rattle.rbd_site.proofs.data.change.Goals as goal
+use Rattle.rbd_kinds.proofs.Results.{on_err_always}
 
 pub returns-in_err-_done-clause-err : goal.returns-in_err-_done-clause-err
 returns-in_err-_done-clause-err c =

@@ -2,8 +2,9 @@ use Rattle.std.proofs.Common.{Some, option_map, ap, ◌∙◌, rules}
 use Rattle.rbd_kinds.specs.declared.header.HeaderView.{HeaderView}
 use Rattle.rbd_site.specs.HeaderStep.{header_then}
 use Rattle.rbd_site.specs.Maps.{header_in}
-use Rattle.rbd_site.proofs.OneChange.{header_put, header_same, on_err_always}
+use Rattle.rbd_site.proofs.OneChange.{header_put, header_same}
 use Rattle.rbd_site.proofs.header.change_kept.Goals as goal
+use Rattle.rbd_kinds.proofs.Results.{on_err_always}
 
 pub returns-in_err-change_and_share-clause-err : goal.returns-in_err-change_and_share-clause-err
 returns-in_err-change_and_share-clause-err c =

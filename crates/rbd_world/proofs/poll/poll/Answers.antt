@@ -6,7 +6,7 @@ use Rattle.rbd_world.specs.World.{session_in}
 use Rattle.rbd_world.specs.declared.event.Event.TheVariants as of_event
 use Rattle.rbd_world.proofs.BothSites.{left_sites, nothing_done}
 use Rattle.rbd_world.proofs.OneSession.{does_to_one, does_to_none, leaves_one, lent_session, no_session}
-use Rattle.rbd_world.proofs.Results.{on_ok_then, on_err_then}
+use Rattle.std.proofs.lemmas.Result.{on_ok_weaker, on_err_weaker}
 use Rattle.rbd_world.proofs.poll.poll.Goals as goal
 
 pub poll_in-requires-clause-wants : goal.poll_in-requires-clause-wants
@@ -37,14 +37,14 @@ returns-in-Some-clause-sessions g c =
     let xs = c.args.sessions.now.items in
     let behind = slice_set xs c.session.inside.0 c.poll_in.new.client in
     subst (λ o. OnOk c.poll_in.result (DoesToSessions g.R.Machine.stands e (polled g.R.Machine.stands c.args.sites.now c.args.slot o) xs behind)) (sym (found g c))
-    (on_ok_then c.poll_in.result (λ becomes.
+    (on_ok_weaker c.poll_in.result (λ becomes.
     does_to_one g.R.Machine.stands e (polled g.R.Machine.stands c.args.sites.now c.args.slot (Some c.in-Some.client.now)) c.args.session c.session.inside.0 xs
     c.in-Some.client.now c.poll_in.new.client (λ n. refl) c.session.view_is (found g c) (becomes 0) c.poll_in.ensures.sound)
     c.poll_in.ensures.becomes)
 
 pub returns-in-Some-clause-alike : goal.returns-in-Some-clause-alike
 returns-in-Some-clause-alike g c =
-    on_err_then c.poll_in.result (λ alike.
+    on_err_weaker c.poll_in.result (λ alike.
     leaves_one g.R.Machine.stands c.args.session c.session.inside.0 c.args.sessions.now.items c.in-Some.client.now c.poll_in.new.client c.session.view_is (found g c)
     alike c.poll_in.ensures.sound)
     c.poll_in.ensures.alike

@@ -3,7 +3,7 @@ use Rattle.rbd_session.specs.Session.{held_in, op_at}
 use Rattle.rbd_world.specs.Operate.{IsOperatedAt}
 use Rattle.rbd_world.specs.Step.{polled_in}
 use Rattle.rbd_world.proofs.Polling.{IsPolled, polled_so, refused_sites}
-use Rattle.rbd_world.proofs.Results.{if_ok_then}
+use Rattle.std.proofs.lemmas.Result.{IfOk-weaker}
 use Rattle.rbd_world.proofs.poll.poll_in.Goals as goal
 
 pub returns-in-Some-refuse-clause-sites : goal.returns-in-Some-refuse-clause-sites
@@ -16,19 +16,19 @@ polled_there g c =
     let stays : c.refuse.new.self ≡ c.args.client.now = search rules in
     let asks : op_at g.R.Machine.stands c.args.slot c.args.client.now ≡ Some (c.in-Some-2.site, c.in-Some-2.op) =
     ap (op_at g.R.Machine.stands c.args.slot) (sym stays) ∙ sym c.in_ok-site.ensures.op ∙ c.in-Some-2.is in
-    if_ok_then (IsOperatedAt g.R.Machine.stands c.args.slot c.in-Some.line c.in-Some-2.site c.in-Some-2.op c.args.sites.now c.go_on.new.sites c.args.client.now c.go_on.new.client c.args.history.now.items c.go_on.new.history.items) _ c.go_on.result
+    IfOk-weaker c.go_on.result (IsOperatedAt g.R.Machine.stands c.args.slot c.in-Some.line c.in-Some-2.site c.in-Some-2.op c.args.sites.now c.go_on.new.sites c.args.client.now c.go_on.new.client c.args.history.now.items c.go_on.new.history.items) _
     (λ o done. polled_so g.R.Machine.stands c.args.slot c.in-Some.line c.in-Some-2.site c.in-Some-2.op c.args.sites.now c.go_on.new.sites c.args.client.now c.go_on.new.client c.args.history.now.items c.go_on.new.history.items o
     c.in-Some.ensures.line asks done)
     (subst (λ s. IfOk c.go_on.result (IsOperatedAt g.R.Machine.stands c.args.slot c.in-Some.line c.in-Some-2.site c.in-Some-2.op c.args.sites.now c.go_on.new.sites s c.go_on.new.client c.args.history.now.items c.go_on.new.history.items)) stays c.go_on.ensures.done)
 
 pub returns-clause-outcome : goal.returns-clause-outcome
-returns-clause-outcome g c = if_ok_then _ _ c.go_on.result (λ o is. is.outcome) (polled_there g c)
+returns-clause-outcome g c = IfOk-weaker c.go_on.result _ _ (λ o is. is.outcome) (polled_there g c)
 
 pub returns-clause-history : goal.returns-clause-history
-returns-clause-history g c = if_ok_then _ _ c.go_on.result (λ o is. is.noted) (polled_there g c)
+returns-clause-history g c = IfOk-weaker c.go_on.result _ _ (λ o is. is.noted) (polled_there g c)
 
 pub returns-clause-sites : goal.returns-clause-sites
-returns-clause-sites g c = if_ok_then _ _ c.go_on.result (λ o is. is.sites) (polled_there g c)
+returns-clause-sites g c = IfOk-weaker c.go_on.result _ _ (λ o is. is.sites) (polled_there g c)
 
 pub returns-clause-becomes : goal.returns-clause-becomes
-returns-clause-becomes g c = if_ok_then _ _ c.go_on.result (λ o is. is.becomes) (polled_there g c)
+returns-clause-becomes g c = IfOk-weaker c.go_on.result _ _ (λ o is. is.becomes) (polled_there g c)

@@ -4,7 +4,8 @@ use Rattle.rbd_client.specs.Actor.{actor_at}
 use Rattle.rbd_client.specs.Client.{ClientView}
 use Rattle.rbd_client.specs.Feeding.{CanGet, IsClientAlike}
 use Rattle.rbd_session.specs.Session.{held_in}
-use Rattle.rbd_client.proofs.Alike.{itself_alike, ready_then, ready_without, sound_alike}
+use Rattle.rbd_session.proofs.Readied.{alike_itself}
+use Rattle.rbd_client.proofs.Alike.{ready_then, ready_without, sound_alike}
 use Rattle.rbd_client.proofs.client.Client.ready.Goals as goal
 
 abbrev before : (g : _) → goal.After-ready g → ClientView g.row.R.Denot
@@ -36,7 +37,7 @@ abbrev then : (g : _) → goal.In_default g → ClientView g.row.R.Denot
 then g c = record { session = c.self.inside.session; locks = c.reserve.new.self; slots = c.self.inside.slots.items; release = c.self.inside.release; heard = c.self.inside.heard.items }
 
 alike_then : (g : _) (c : goal.In_default g) → IsClientAlike g.R.Machine.stands (was g c) (then g c)
-alike_then g c = record { session = itself_alike g.R.Machine.stands c.self.inside.session; locks = c.reserve.ensures.states; asked = c.reserve.ensures.asked; slots = refl; release = refl; heard = refl }
+alike_then g c = record { session = alike_itself g.R.Machine.stands c.self.inside.session; locks = c.reserve.ensures.states; asked = c.reserve.ensures.asked; slots = refl; release = refl; heard = refl }
 
 pub returns : goal.returns
 returns g c = record {

@@ -1,8 +1,8 @@
 use Rattle.std.proofs.Common.{is_some, ap, sym}
 use Rattle.rbd_flat.specs.Flat.{resized}
-use Rattle.rbd_flat.proofs.Parts.{on_err_always}
 use Rattle.rbd_flat.proofs.SiteSteps.{image_written, image_missing, image_kept}
 use Rattle.rbd_flat.proofs.site.FlatSite.resize.Goals as goal
+use Rattle.rbd_kinds.proofs.Results.{on_err_always}
 
 pub returns-in_default-clause-ok : goal.returns-in_default-clause-ok
 returns-in_default-clause-ok c =

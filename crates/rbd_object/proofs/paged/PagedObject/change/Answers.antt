@@ -2,16 +2,16 @@ use Rattle.std.proofs.Common.{◌∙◌, ap}
 use Rattle.rbd_object.specs.Changes.{after}
 use Rattle.rbd_object.specs.Mapped.{mapped_change}
 use Rattle.rbd_object.specs.Paged.{Paged}
-use Rattle.rbd_object.proofs.HeadLemmas.{on_err}
 use Rattle.rbd_object.proofs.PagedLemmas.{pages_step, refused_paged, step_paged, wanted_is}
 use Rattle.rbd_object.proofs.paged.PagedObject.change.Goals as goal
+use Rattle.rbd_kinds.proofs.Results.{on_err_always}
 
 pub invariant_of-self-in_err-kept : goal.invariant_of-self-in_err-kept
 invariant_of-self-in_err-kept c = (refused_paged c.self.inside.sheaves c.change.new.sheaves c.self.inside.head c.change.new.head c.self.inside.seq c.self.inside.versions.items
     c.make_room.new.versions.items c.in_err-kept.ensures.err c.in_err-kept.ensures.same c.in_ok-make_room.ensures.same c.self.invariant).0
 
 pub returns-in_err-kept-clause-err : goal.returns-in_err-kept-clause-err
-returns-in_err-kept-clause-err c = on_err _ ((refused_paged c.self.inside.sheaves c.change.new.sheaves c.self.inside.head c.change.new.head c.self.inside.seq c.self.inside.versions.items
+returns-in_err-kept-clause-err c = on_err_always _ ((refused_paged c.self.inside.sheaves c.change.new.sheaves c.self.inside.head c.change.new.head c.self.inside.seq c.self.inside.versions.items
     c.make_room.new.versions.items c.in_err-kept.ensures.err c.in_err-kept.ensures.same c.in_ok-make_room.ensures.same c.self.invariant).1 ∙ ap (λ (x : Paged). x.shown) c.self.view_is)
 
 pub returns-in_err-kept-clause-pages : goal.returns-in_err-kept-clause-pages

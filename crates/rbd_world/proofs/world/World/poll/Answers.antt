@@ -4,10 +4,10 @@ use Rattle.rbd_requests.specs.Session.{stands_of}
 use Rattle.rbd_world.specs.declared.event.Event.TheVariants as event
 use Rattle.rbd_world.specs.Step.{AreOfOneClient, IsStep, IsUndone}
 use Rattle.rbd_world.specs.World.{WorldView}
-use Rattle.rbd_site.proofs.OneChange.{on_err_always}
 use Rattle.rbd_world.proofs.Stepping.{kept_sound, sound_again, stepped, undone, undone_kept, undone_sound}
 use Rattle.rbd_world.proofs.Wanted.{wants_what_it_may}
 use Rattle.rbd_world.proofs.world.World.poll.Goals as goal
+use Rattle.rbd_kinds.proofs.Results.{on_err_always}
 
 pub poll_parts-requires : goal.poll_parts-requires
 poll_parts-requires g c =

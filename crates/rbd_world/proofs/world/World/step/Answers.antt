@@ -3,10 +3,10 @@ use Rattle.rbd_requests.specs.declared.request.SessionRequest.{SessionRequest}
 use Rattle.rbd_requests.specs.Session.{stands_of}
 use Rattle.rbd_world.specs.Step.{AreOfOneClient, IsUndone}
 use Rattle.rbd_world.specs.World.{WorldView}
-use Rattle.rbd_site.proofs.OneChange.{on_err_always}
 use Rattle.rbd_world.proofs.Stepping.{kept_sound, sound_again, undone, undone_kept, undone_sound}
 use Rattle.rbd_world.proofs.Wanted.{wants_what_it_may}
 use Rattle.rbd_world.proofs.world.World.step.Goals as goal
+use Rattle.rbd_kinds.proofs.Results.{on_err_always}
 
 pub step_parts-requires-clause-wants : goal.step_parts-requires-clause-wants
 step_parts-requires-clause-wants g c =
