@@ -29,7 +29,7 @@ module _ {R : Type 0} (stands : R → Standing) where
     pub lines : LeavesOthers slot (lines_of old.session.lines) (lines_of new.session.lines)
 
   pub waits_kept : (k slot : ℕ) → k ≢ slot → (old new : SessionView R) → held_in k new.slots ≡ held_in k old.slots → LeavesOthers slot (lines_of old.lines) (lines_of new.lines)
-      → ((p : LineAt) → own_look_at stands k old ≡ Some p → own_look_at stands k new ≡ Some p)
+      → ((p : ImageAt) → own_look_at stands k old ≡ Some p → own_look_at stands k new ≡ Some p)
       → (site : SiteId) (image : ℕ) → WaitsForLook stands k site image old → WaitsForLook stands k site image new
   waits_kept k slot differ old new held lines stays site image w = record {
     request = w.request;
@@ -65,7 +65,7 @@ module _ {R : Type 0} (stands : R → Standing) where
       → (held_in slot new.session.slots ≡ None → state_in slot new.slots ≡ blank)
       → IsWellOnWay stands slot (state_in slot new.slots).way new.session new.locks
       → ((there : SiteId) (image : ℕ) → any_past (lines_of new.session.lines there image) ≡ true → (any_past (lines_of old.session.lines there image) ≡ true) ⊎ IsOwned there image new.locks)
-      → ((k : ℕ) → k ≢ slot → (p : LineAt) → own_look_at stands k old.session ≡ Some p → own_look_at stands k new.session ≡ Some p)
+      → ((k : ℕ) → k ≢ slot → (p : ImageAt) → own_look_at stands k old.session ≡ Some p → own_look_at stands k new.session ≡ Some p)
       → IsSoundClient stands new
   sound_behind slot site o f q look old new sound session leaves slots telling counts rest free way_there past looks = record {
     session = session;

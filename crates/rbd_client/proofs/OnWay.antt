@@ -204,7 +204,7 @@ module _ {R : Type 0} (stands : R → Standing) where
 
       looks : (r : Option Reply) → (is_some r ≡ false → new.session ≡ old.session)
           → (is_some r ≡ true → (r : Running R) → running_at slot old.session ≡ Some r → lines_of new.session.lines ≡ (ended_by slot (track_of r old.session.lines)).lines)
-          → (k : ℕ) → k ≢ slot → (p : LineAt) → own_look_at stands k old.session ≡ Some p → own_look_at stands k new.session ≡ Some p
+          → (k : ℕ) → k ≢ slot → (p : ImageAt) → own_look_at stands k old.session ≡ Some p → own_look_at stands k new.session ≡ Some p
       looks None stays left k differ p at = ap (own_look_at stands k) (stays refl) ∙ at
       looks (Some x) stays left k differ p at =
           stays_behind_end stands old.session new.session k slot p sound.session differ (leaves.held k differ) at waiting.request (left refl waiting.request waiting.runs)

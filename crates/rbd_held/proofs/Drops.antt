@@ -26,9 +26,8 @@ use Rattle.rbd_known.specs.Knowing.{AllKnow}
 use Rattle.rbd_known.proofs.Looking.{IsMemberFor, may_of, may_shared, owner_runs}
 use Rattle.rbd_known.proofs.Wanting.{Wants, wants}
 use Rattle.rbd_line.specs.Line.{Member, ahead, any_past, is_let_pass, is_past, is_shared_past, lets_pass, may_pass, member_of}
-use Rattle.rbd_locks.specs.declared.image_at.ImageAt.{ImageAt}
-use Rattle.rbd_session.specs.declared.image_at.ImageAt.{ImageAt as LineAt}
-use Rattle.rbd_locks.specs.Places.{is_same}
+use Rattle.rbd_kinds.specs.declared.image_at.ImageAt.{ImageAt}
+use Rattle.rbd_kinds.specs.Images.{is_at}
 use Rattle.rbd_locks.proofs.Keys.{where_same}
 use Rattle.rbd_locks.proofs.Lasting.{same_itself}
 use Rattle.rbd_machine.specs.Knowledge.{Knowledge}
@@ -87,7 +86,7 @@ record HasTaken (site : SiteId) (image : ℕ) (slots : List SlotState) : Type 0 
   pub slot : ℕ
   pub place : ImageAt
   pub way : (state_in slot slots).way ≡ way.Taken place
-  pub same : is_same site image place.site place.image ≡ true
+  pub same : is_at site image place.site place.image ≡ true
 
 taken_found : (site : SiteId) (image : ℕ) (slots : List SlotState) → any_taken site image slots ≡ true → HasTaken site image slots
 taken_found site image [] any = absurd (true≢false (sym any))
@@ -96,13 +95,13 @@ taken_found site image (s ∷ slots) any = by s.way refl any (taken_found site i
     later : HasTaken site image slots → HasTaken site image (s ∷ slots)
     later t = record { slot = suc t.slot; place = t.place; way = t.way; same = t.same }
 
-    here : (p : ImageAt) → s.way ≡ way.Taken p → (b : Bool) → is_same site image p.site p.image ≡ b → (b || any_taken site image slots) ≡ true
+    here : (p : ImageAt) → s.way ≡ way.Taken p → (b : Bool) → is_at site image p.site p.image ≡ b → (b || any_taken site image slots) ≡ true
         → (any_taken site image slots ≡ true → HasTaken site image slots) → HasTaken site image (s ∷ slots)
     here p at true same any rest = record { slot = 0; place = p; way = at; same = same }
     here p at false same any rest = later (rest any)
 
     by : (w : Way) → s.way ≡ w → (has_taken site image w || any_taken site image slots) ≡ true → (any_taken site image slots ≡ true → HasTaken site image slots) → HasTaken site image (s ∷ slots)
-    by (way.Taken p) at any rest = here p at (is_same site image p.site p.image) refl any rest
+    by (way.Taken p) at any rest = here p at (is_at site image p.site p.image) refl any rest
     by way.Unbegun at any rest = later (rest any)
     by (way.On a) at any rest = later (rest any)
 
@@ -158,7 +157,7 @@ module _ {R : Type 0} (stands : R → Standing) (c : ClientView R) (knows : ℕ 
       by : HasTaken site image c.slots → ⊥
       by t = go (cases_eq slot t.slot)
         where
-          there : LineAt
+          there : ImageAt
           there = record { site = t.place.site; image = t.place.image }
 
           well : IsWellOnWay stands t.slot (way.Taken t.place) c.session c.locks

@@ -19,14 +19,14 @@ use Rattle.rbd_kinds.specs.declared.operation.Op.TheVariants as op
 use Rattle.rbd_locks.specs.declared.lock_state.LockState.{LockState}
 use Rattle.rbd_locks.specs.Comings.{ByAnswer, owned_since, owns_after}
 use Rattle.rbd_locks.specs.Locks.{LocksView, state_at}
-use Rattle.rbd_locks.specs.Places.{is_same}
+use Rattle.rbd_kinds.specs.Images.{is_at}
 use Rattle.rbd_locks.proofs.Lasting.{owned_is}
 use Rattle.rbd_machine.specs.Knowledge.{Knowledge, same_site}
 use Rattle.rbd_machine.specs.Permits.{Permits}
 use Rattle.rbd_rely.specs.Locks.{HasLockWhileFree, gives_up}
 use Rattle.rbd_rely.specs.Truth.{IsTrueAt}
 use Rattle.rbd_rely.proofs.Locks.{lock_is_taken, lock_lasts}
-use Rattle.rbd_session.specs.declared.image_at.ImageAt.{ImageAt}
+use Rattle.rbd_kinds.specs.declared.image_at.ImageAt.{ImageAt}
 use Rattle.rbd_site.specs.Records.{Records}
 use Rattle.rbd_site.specs.Step.{after, answer_to}
 
@@ -43,12 +43,12 @@ quiet_rest q look s t o a image b = refl
 
 -- whether the lock counts as owned behind one answer
 abbrev pub owned_then : SiteId → SiteId → (image : ℕ) → Op → Answer → Bool → Bool
-owned_then s t image (op.Header on o) a b = cond (is_same s on t image) (owns_after b (op.Header on o) a) b
+owned_then s t image (op.Header on o) a b = cond (is_at s on t image) (owns_after b (op.Header on o) a) b
 owned_then s t image o a b = b
 
 counted_since : (q : Quiescing) (look : Option ImageAt) (s t : SiteId) (o : Op) (a : Answer) (image : ℕ) (b : Bool)
     → owned_since t image b (comings_of q look s o (fed.Answer a)) ≡ owned_then s t image o a b
-counted_since q look s t (op.Header on o) a image b = quiet_rest q look s t (op.Header on o) a image (cond (is_same s on t image) (owns_after b (op.Header on o) a) b)
+counted_since q look s t (op.Header on o) a image b = quiet_rest q look s t (op.Header on o) a image (cond (is_at s on t image) (owns_after b (op.Header on o) a) b)
 counted_since q look s t o a image b = quiet_rest q look s t o a image b
 
 pub is_counted : (q : Quiescing) (look : Option ImageAt) (s t : SiteId) (o : Op) (a : Answer) (old new : LocksView) → CountsAll (comings_of q look s o (fed.Answer a)) old new
@@ -58,11 +58,11 @@ is_counted q look s t o a old new counts image owned =
     ∙ counted_since q look s t o a image (state_at t image old).owned) ∙ owned
 
 -- at one site images are told apart by their numbers
-same_there : (s : SiteId) (on image : ℕ) → is_same s on s image ≡ (on == image)
+same_there : (s : SiteId) (on image : ℕ) → is_at s on s image ≡ (image == on)
 same_there site.A on image = refl
 same_there site.B on image = refl
 
-never_elsewhere : (s t : SiteId) (on image : ℕ) → same_site s t ≡ false → is_same s on t image ≡ false
+never_elsewhere : (s t : SiteId) (on image : ℕ) → same_site s t ≡ false → is_at s on t image ≡ false
 never_elsewhere site.A site.A on image differ = absurd (true≢false differ)
 never_elsewhere site.B site.B on image differ = absurd (true≢false differ)
 never_elsewhere site.A site.B on image differ = refl
@@ -88,29 +88,19 @@ module _ (s : SiteId) (r : Records) (me : Instance) (k : Knowledge) (truth : IsT
   answered_here o a is permits owned = lasts (op.Header image o) permits refl owned
 
   pub held_behind : (o : Op) → Permits k s o → owned_then s s image o (answer_to r me o) b ≡ true → HasLockWhileFree (after r me o) me image
-  held_behind (op.Header on o) permits owned = by (on == image) refl (sym (ap (λ x. cond x (owns_after b (op.Header on o) (answer_to r me (op.Header on o))) b) (same_there s on image)) ∙ owned)
+  held_behind (op.Header on o) permits owned = by (image == on) refl (sym (ap (λ x. cond x (owns_after b (op.Header on o) (answer_to r me (op.Header on o))) b) (same_there s on image)) ∙ owned)
     where
       gives : (h : HeaderOp) → (image == on) ≡ false → gives_up image (op.Header on h) ≡ false
       gives header.LockDrop differ = differ
       gives _ differ = refl
 
-      other_way : (on == image) ≡ false → (image == on) ≡ false
-      other_way differ = go (image == on) refl
-        where
-          go : (x : Bool) → (image == on) ≡ x → x ≡ false
-          go false is = refl
-          go true is = absurd (true≢false (sym (ap (λ n. n == image) (sym (eqb-true image on is)) ∙ itself) ∙ differ))
-            where
-              itself : (image == image) ≡ true
-              itself = ap (λ n. image == n) (eqb-true image on is) ∙ is
-
-      by : (x : Bool) → (on == image) ≡ x → cond x (owns_after b (op.Header on o) (answer_to r me (op.Header on o))) b ≡ true → HasLockWhileFree (after r me (op.Header on o)) me image
+      by : (x : Bool) → (image == on) ≡ x → cond x (owns_after b (op.Header on o) (answer_to r me (op.Header on o))) b ≡ true → HasLockWhileFree (after r me (op.Header on o)) me image
       by true same owned =
-          let at = eqb-true on image same in
+          let at : on ≡ image = sym (eqb-true image on same) in
           subst (λ n. HasLockWhileFree (after r me (op.Header n o)) me image) (sym at)
           (answered_here o (answer_to r me (op.Header image o)) refl (subst (λ n. Permits k s (op.Header n o)) at permits)
           (ap (λ n. owns_after b (op.Header n o) (answer_to r me (op.Header n o))) (sym at) ∙ owned))
-      by false differ owned = lasts (op.Header on o) permits (gives o (other_way differ)) owned
+      by false differ owned = lasts (op.Header on o) permits (gives o differ) owned
   held_behind (op.Directory o) permits owned = lasts (op.Directory o) permits refl owned
   held_behind (op.BlockAdd i) permits owned = lasts (op.BlockAdd i) permits refl owned
   held_behind (op.Data i number o) permits owned = lasts (op.Data i number o) permits refl owned

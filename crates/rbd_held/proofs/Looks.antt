@@ -35,7 +35,7 @@ use Rattle.rbd_known.proofs.Wanting.{Wants, wants}
 use Rattle.rbd_line.specs.Line.{Member, any_past, is_past, member_of}
 use Rattle.rbd_line.specs.Line as line
 use Rattle.rbd_client.proofs.Past.{found_past}
-use Rattle.rbd_locks.specs.declared.image_at.ImageAt.{ImageAt}
+use Rattle.rbd_kinds.specs.declared.image_at.ImageAt.{ImageAt}
 use Rattle.rbd_locks.specs.Locks.{LocksView, state_at}
 use Rattle.rbd_machine.specs.Knowledge.{Knowledge, Own, own_of}
 use Rattle.rbd_machine.specs.Plan.{Standing}
@@ -50,7 +50,6 @@ use Rattle.rbd_rely.specs.Beside.{AreShared, MayLook, SharesLock}
 use Rattle.rbd_rely.specs.Locks.{KnowsByLock}
 use Rattle.rbd_rely.specs.Truth.{known_header}
 use Rattle.rbd_rely.proofs.Locks.{shares_by_lock}
-use Rattle.rbd_session.specs.declared.image_at.ImageAt.{ImageAt as LineAt}
 use Rattle.rbd_session.specs.declared.running.Running.{Running}
 use Rattle.rbd_session.specs.Advance.{track_of}
 use Rattle.rbd_session.specs.Lines.{lines_of}
@@ -63,7 +62,7 @@ use Rattle.rbd_site.specs.Records.{Records}
 
 -- ---- a release acts at slot 0
 
-by_look : (look : Option LineAt) (locks : LocksView) → is_release (actor_at_look look locks) ≡ false
+by_look : (look : Option ImageAt) (locks : LocksView) → is_release (actor_at_look look locks) ≡ false
 by_look None locks = refl
 by_look (Some p) locks = go ((state_at p.site p.image locks).quiesced || (state_at p.site p.image locks).asked) (state_at p.site p.image locks).owned
   where
@@ -72,7 +71,7 @@ by_look (Some p) locks = go ((state_at p.site p.image locks).quiesced || (state_
     go false true = refl
     go false false = refl
 
-on_way : (w : Way) (look : Option LineAt) (locks : LocksView) → is_release (actor_on w look locks) ≡ false
+on_way : (w : Way) (look : Option ImageAt) (locks : LocksView) → is_release (actor_on w look locks) ≡ false
 on_way way.Unbegun look locks = by_look look locks
 on_way (way.On a) look locks = refl
 on_way (way.Taken p) look locks = refl
@@ -138,7 +137,7 @@ module _ {R : Type 0} (stands : R → Standing) (c : ClientView R) (knows : ℕ 
       ∙ ap (λ h. look_if (waits_at (option_map (λ (m : Member). m.stage) h))) found
       ∙ ap (λ g. look_if (is_waiting g)) waiting
     where
-      look_if : Bool → Option LineAt
+      look_if : Bool → Option ImageAt
       look_if b = cond b (Some (image_at site image)) None
 
   looks_owned : (slot : ℕ) (site : SiteId) (image : ℕ) → actor_at stands slot c ≡ actor.Request → op_by stands slot c.session actor.Request ≡ Some (site, op.Header image header.Get)

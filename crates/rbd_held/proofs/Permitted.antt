@@ -16,7 +16,7 @@ use Rattle.rbd_kinds.specs.declared.operation.Op.{Op}
 use Rattle.rbd_known.specs.Knowing.{AllKnow}
 use Rattle.rbd_known.proofs.Behind.{knows_there}
 use Rattle.rbd_known.proofs.Wanting.{wants}
-use Rattle.rbd_locks.specs.declared.image_at.ImageAt.{ImageAt}
+use Rattle.rbd_kinds.specs.declared.image_at.ImageAt.{ImageAt}
 use Rattle.rbd_locks.specs.declared.lock_state.LockState.{LockState}
 use Rattle.rbd_locks.specs.Locks.{LocksView, state_at}
 use Rattle.rbd_machine.specs.Knowledge.{Knowledge}
@@ -28,7 +28,6 @@ use Rattle.rbd_owner.specs.Release.{begun_release, release_op}
 use Rattle.rbd_owner.specs.declared.release.Release.{Release}
 use Rattle.rbd_rely.specs.Truth.{IsTrueAt}
 use Rattle.rbd_rely.proofs.Nothing.{nothing_is_true}
-use Rattle.rbd_session.specs.declared.image_at.ImageAt.{ImageAt as LineAt}
 use Rattle.rbd_session.specs.Session.{SessionView, held_in, own_look_at, running_in}
 use Rattle.rbd_session.proofs.Sound.{no_some, some_same}
 use Rattle.rbd_site.specs.Records.{Records}
@@ -75,11 +74,11 @@ module _ {R : Type 0} (stands : R → Standing) where
         go false true = t
         go false false = subst (IsTrueAt there r me) (sym (begins_with_nothing s.watched site)) (nothing_is_true there r me)
 
-    by_look : (look : Option LineAt) (locks : LocksView) → Truly (actor_at_look look locks)
+    by_look : (look : Option ImageAt) (locks : LocksView) → Truly (actor_at_look look locks)
     by_look None locks = t
     by_look (Some p) locks = by_state (state_at p.site p.image locks) p.site p.image
 
-    by_way : (w : Way) → IsWayTrue there r me w → (look : Option LineAt) (locks : LocksView) → Truly (actor_on w look locks)
+    by_way : (w : Way) → IsWayTrue there r me w → (look : Option ImageAt) (locks : LocksView) → Truly (actor_on w look locks)
     by_way way.Unbegun on look locks = by_look look locks
     by_way (way.On a) on look locks = on
     by_way (way.Taken p) on look locks = t
