@@ -5,9 +5,9 @@ use Rattle.std.specs.Cmp.Lexicographic.{pointwise}
 use Rattle.std.proofs.lemmas.Bool.Decides.{eqb_tells}
 use Rattle.rbd_kinds.specs.declared.answer.Answer.{Answer}
 use Rattle.rbd_kinds.specs.declared.answer.Answer.TheVariants as answer
-use Rattle.rbd_kinds.specs.declared.command.Command.{Command}
-use Rattle.rbd_kinds.specs.declared.command.Command.TheVariants as command
-use Rattle.rbd_kinds.specs.declared.command.Shape.{Shape}
+use Rattle.rbd_commands.specs.declared.command.Command.{Command}
+use Rattle.rbd_commands.specs.declared.command.Command.TheVariants as command
+use Rattle.rbd_commands.specs.declared.command.Shape.{Shape}
 use Rattle.rbd_kinds.specs.declared.directory_op.DirectoryOp.TheVariants as directory
 use Rattle.rbd_kinds.specs.declared.header.HeaderView.{HeaderView}
 use Rattle.rbd_kinds.specs.declared.header.SnapView.{SnapView}

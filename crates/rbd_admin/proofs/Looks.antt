@@ -7,7 +7,7 @@ use Rattle.rbd_kinds.specs.declared.machine.Fed.TheVariants as fed
 use Rattle.rbd_machine.specs.Approach.{OwnedBy}
 use Rattle.rbd_machine.specs.declared.approach.Approach.{Approach}
 use Rattle.rbd_machine.specs.Plan.{Plan}
-use Rattle.rbd_kinds.specs.declared.refusal.Refusal.{Refusal}
+use Rattle.rbd_commands.specs.declared.refusal.Refusal.{Refusal}
 
 pub acts_by_header : (refuses : HeaderView → Option Refusal) (act : ℕ → HeaderView → Plan) (image : ℕ) (a : Answer) (to : Plan) (old : Approach) → OwnedBy refuses act image (fed.Answer a) to old
     → ((h : HeaderView) → a ≡ answer.Header h → ⊥) → ⊥

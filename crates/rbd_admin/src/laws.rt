@@ -1,8 +1,8 @@
 //! What the plans of requests keep to: laws, each the contract of a function that does nothing.
 ghost use Rattle.std.specs.Prelude.{◌≡◌, ℕ, List, [], ◌∷◌, true};
-ghost use Rattle.rbd_kinds.specs.declared.command.Command.{Command};
-ghost use Rattle.rbd_kinds.specs.declared.command.Command.TheVariants.{List as ListAll, Info, SnapList};
-ghost use Rattle.rbd_kinds.specs.declared.command.Shape.{Shape};
+ghost use Rattle.rbd_commands.specs.declared.command.Command.{Command};
+ghost use Rattle.rbd_commands.specs.declared.command.Command.TheVariants.{List as ListAll, Info, SnapList};
+ghost use Rattle.rbd_commands.specs.declared.command.Shape.{Shape};
 ghost use Rattle.rbd_kinds.specs.declared.header.HeaderView.{HeaderView};
 ghost use Rattle.rbd_kinds.specs.declared.header.SnapView.{SnapView};
 ghost use Rattle.rbd_kinds.specs.declared.id.SiteId.{SiteId};
@@ -11,7 +11,7 @@ ghost use Rattle.rbd_kinds.specs.Form.{IsNewHeader};
 ghost use Rattle.rbd_layout.specs.Asked.{KeepsLimits, layout_of};
 ghost use Rattle.rbd_machine.specs.Lawful.{IsLawfulRequest};
 ghost use Rattle.rbd_machine.specs.Plan.{Plan, Return, Goto, IsClosed, without_labels};
-ghost use Rattle.rbd_kinds.specs.declared.command.Command.TheVariants.{SnapCreate, SnapRemove};
+ghost use Rattle.rbd_commands.specs.declared.command.Command.TheVariants.{SnapCreate, SnapRemove};
 ghost use Rattle.rbd_kinds.specs.declared.machine.Fed.{Fed};
 ghost use Rattle.rbd_kinds.specs.declared.reply.Reply.{Reply};
 ghost use Rattle.rbd_kinds.specs.declared.reply.Reply.TheVariants.{Done, Info as ShownHeader, Names, Snaps};

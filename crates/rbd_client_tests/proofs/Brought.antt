@@ -4,8 +4,8 @@ use Rattle.std.proofs.Common.{◌≡◌, true, sym, subst}
 use Rattle.rbd_close.specs.Close.{close_plan, is_close}
 use Rattle.rbd_close.proofs.Lawful.{lawful_request}
 use Rattle.rbd_close.proofs.Orderly.{orderly_from}
-use Rattle.rbd_kinds.specs.declared.command.Command.{Command}
-use Rattle.rbd_kinds.specs.declared.command.Command.TheVariants as command
+use Rattle.rbd_commands.specs.declared.command.Command.{Command}
+use Rattle.rbd_commands.specs.declared.command.Command.TheVariants as command
 use Rattle.rbd_kinds.specs.declared.id.SiteId.{SiteId}
 use Rattle.rbd_machine.specs.Plan.{Plan, IsAsking, without_labels}
 use Rattle.rbd_requests.specs.Session.{MayBeBrought}

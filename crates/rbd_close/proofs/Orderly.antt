@@ -6,8 +6,8 @@ use Rattle.rbd_course.specs.declared.stage.Stage.TheVariants as stage
 use Rattle.rbd_course.proofs.Steps.{course_at, orderly_not_there, orderly_on_id, orderly_on_done, orderly_change}
 use Rattle.rbd_kinds.specs.declared.answer.Answer.{Answer}
 use Rattle.rbd_kinds.specs.declared.answer.Answer.TheVariants as answer
-use Rattle.rbd_kinds.specs.declared.command.Command.{Command}
-use Rattle.rbd_kinds.specs.declared.command.Command.TheVariants as command
+use Rattle.rbd_commands.specs.declared.command.Command.{Command}
+use Rattle.rbd_commands.specs.declared.command.Command.TheVariants as command
 use Rattle.rbd_kinds.specs.declared.id.SiteId.{SiteId}
 use Rattle.rbd_machine.specs.Label.{Label}
 use Rattle.rbd_machine.specs.Plan.{without_labels}

@@ -12,8 +12,8 @@ use Rattle.rbd_close.specs.declared.tell.Stage.TheVariants as telling
 use Rattle.rbd_close.specs.declared.tell.Tell.{Tell}
 use Rattle.rbd_kinds.specs.declared.answer.Answer.{Answer}
 use Rattle.rbd_kinds.specs.declared.answer.Answer.TheVariants as answer
-use Rattle.rbd_kinds.specs.declared.command.Command.{Command}
-use Rattle.rbd_kinds.specs.declared.command.Command.TheVariants as command
+use Rattle.rbd_commands.specs.declared.command.Command.{Command}
+use Rattle.rbd_commands.specs.declared.command.Command.TheVariants as command
 use Rattle.rbd_kinds.specs.declared.header.HeaderView.{HeaderView}
 use Rattle.rbd_kinds.specs.declared.header_op.HeaderOp.TheVariants as header
 use Rattle.rbd_kinds.specs.declared.id.SiteId.{SiteId}
@@ -21,7 +21,7 @@ use Rattle.rbd_kinds.specs.declared.notice.NoticeKind.{NoticeKind}
 use Rattle.rbd_kinds.specs.declared.notice.NoticeKind.TheVariants as notice
 use Rattle.rbd_kinds.specs.declared.operation.Op.{Op}
 use Rattle.rbd_kinds.specs.declared.operation.Op.TheVariants as op
-use Rattle.rbd_kinds.specs.declared.refusal.Refusal.TheVariants as refusal
+use Rattle.rbd_commands.specs.declared.refusal.Refusal.TheVariants as refusal
 use Rattle.rbd_kinds.specs.declared.reply.Reply.TheVariants as reply
 use Rattle.rbd_machine.specs.Approach.{rest_of}
 use Rattle.rbd_machine.specs.Plan.{Plan, Await, Return}

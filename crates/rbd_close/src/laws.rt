@@ -3,7 +3,7 @@
 ghost use Rattle.std.specs.Prelude.{◌≡◌, ℕ, Bool, true, false, List, [], ◌∷◌, ◌++◌, None};
 ghost use Rattle.rbd_kinds.specs.declared.answer.Answer.{Answer};
 ghost use Rattle.rbd_kinds.specs.declared.answer.Answer.TheVariants.{Done as DoneSo};
-ghost use Rattle.rbd_kinds.specs.declared.command.Command.{Command};
+ghost use Rattle.rbd_commands.specs.declared.command.Command.{Command};
 ghost use Rattle.rbd_kinds.specs.declared.id.SiteId.{SiteId};
 ghost use Rattle.rbd_kinds.specs.declared.machine.Fed.{Fed};
 ghost use Rattle.rbd_kinds.specs.declared.notice.NoticeKind.{NoticeKind};

@@ -1,6 +1,6 @@
 -- How faults are told.
 use Rattle.std.specs.Prelude.{ℕ, List, codes}
-use Rattle.rbd_kinds.specs.Memory.{no_memory_text}
+use Rattle.rbd_values.specs.Memory.{no_memory_text}
 use Rattle.rbd_edge.specs.declared.read.ReadFault.{ReadFault}
 use Rattle.rbd_edge.specs.declared.read.ReadFault.TheVariants.{Failed, NoMemory}
 

@@ -8,7 +8,7 @@ use Rattle.std.proofs.lemmas.Cmp.{on_total, then_total}
 use Rattle.std.proofs.lemmas.Map.Lookups.{CmpEqualImpliesEq, exact_pairs, exact_unsigned}
 use Rattle.std.proofs.lemmas.Map.Views.{tells_apart}
 use Rattle.std.specs.FinSet.{FinSet, contains, insert, from_list, same_set, contains-insert}
-use Rattle.rbd_kinds.proofs.Ordered as ordered
+use Rattle.rbd_values.proofs.Ordered as ordered
 use Rattle.rbd_kinds.specs.declared.id.Instance.{Instance}
 use Rattle.rbd_fence.specs.Instances.{instance_cmp}
 

@@ -18,7 +18,7 @@ use Rattle.rbd_flat.specs.declared.effect.Effect.TheVariants as effect
 use Rattle.rbd_flat.specs.Flat.{Flat, FlatImage, Link, link_cmp, after, id_of, image_at, snap_of, renamed, with_image, changed}
 use Rattle.rbd_flat.specs.Site.{site_of}
 use Rattle.rbd_flat.proofs.Images.{get_insert}
-use Rattle.rbd_kinds.proofs.Ordered.{get_entries, one_given, one_taken, entries_in_order, one_added, one_dropped, taken_and_given}
+use Rattle.rbd_values.proofs.Ordered.{get_entries, one_given, one_taken, entries_in_order, one_added, one_dropped, taken_and_given}
 
 abbrev name_cmp : List ℕ → List ℕ → Ordering
 name_cmp = slice_cmp nat_cmp

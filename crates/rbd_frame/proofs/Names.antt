@@ -3,7 +3,7 @@ use Rattle.std.proofs.Common.{◌≡◌, ℕ, suc, ◌+◌, ◌≤◌, Bool, tru
 use Rattle.std.specs.Prelude.{not, nat_lt, ◌&&◌, IsTrue}
 use Rattle.std.specs.List.{position_or_len, prefix_len, list_all}
 use Rattle.std.proofs.lemmas.Bool.{ltb-false, le-ltb}
-use Rattle.rbd_kinds.specs.Name.{IsName, name_byte}
+use Rattle.rbd_values.specs.Name.{IsName, name_byte}
 use Rattle.rbd_frame.specs.Faults.{misplaced}
 
 -- no byte is found exactly where all bytes pass

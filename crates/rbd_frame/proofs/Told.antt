@@ -6,7 +6,7 @@ use Rattle.std.proofs.lemmas.Bool.{and_from, and_parts, leb-true, eqb-true, le-l
 use Rattle.std.proofs.lemmas.List.{take_at, drop_at, length-append, append-nil}
 use Rattle.byteorder.specs.Endian.{big_number}
 use Rattle.byteorder.specs.Numbers.{big_number-reads_back}
-use Rattle.rbd_kinds.specs.Name.{IsName}
+use Rattle.rbd_values.specs.Name.{IsName}
 use Rattle.rbd_kinds.specs.declared.journal.Event.{Event}
 use Rattle.rbd_kinds.specs.declared.journal.Event.TheVariants as event
 use Rattle.rbd_frame.specs.declared.fault.FrameFault.{FrameFault}

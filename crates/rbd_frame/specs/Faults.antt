@@ -2,7 +2,7 @@
 use Rattle.std.specs.Prelude.{◌≡◌, ℕ, ◌+◌, ◌-◌, Bool, ◌&&◌, ◌||◌, not, ◌==◌, nat_le, nat_lt, if◌then◌else◌, List, [], ◌∷◌, length, take, drop, Option, Some, None, option_map}
 use Rattle.std.specs.List.{position}
 use Rattle.byteorder.specs.Endian.{big_number}
-use Rattle.rbd_kinds.specs.Name.{name_byte}
+use Rattle.rbd_values.specs.Name.{name_byte}
 use Rattle.rbd_frame.specs.declared.fault.FrameFault.{FrameFault}
 use Rattle.rbd_frame.specs.declared.fault.FrameFault.TheVariants.{Short, BadKind, BadLength, BadText, NoMemory}
 use Rattle.rbd_frame.specs.declared.kind.Kind.{Kind}

@@ -1,7 +1,7 @@
 -- How a fault is told.
 use Rattle.std.specs.Prelude.{ℕ, ◌/◌, ◌%◌, false, List, [], ◌∷◌, ◌++◌, codes, decimal}
 use Rattle.std.specs.Fmt.{digit_glyph}
-use Rattle.rbd_kinds.specs.Memory.{no_memory_text}
+use Rattle.rbd_values.specs.Memory.{no_memory_text}
 use Rattle.rbd_frame.specs.declared.fault.FrameFault.{FrameFault}
 use Rattle.rbd_frame.specs.declared.fault.FrameFault.TheVariants.{Short, BadKind, BadLength, BadText, NoMemory}
 

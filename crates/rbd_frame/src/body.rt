@@ -3,7 +3,7 @@
 ghost use Rattle.std.specs.Prelude.{◌≡◌, ◌≤◌, length, IfOk, IfErr, Err, Some, None, IsTrue, not, ◌==◌, ◌||◌};
 ghost use Rattle.rbd_frame.specs.Faults.{IsNoMemory, allows_length, body_fault, ends_too_far, misplaced, name_fault};
 ghost use Rattle.rbd_frame.specs.Parts.{HasBody};
-ghost use Rattle.rbd_kinds.specs.Name.{IsName};
+ghost use Rattle.rbd_values.specs.Name.{IsName};
 ghost use Rattle.rbd_frame.specs.declared.fault.FrameFault.{FrameFault};
 ghost use Rattle.rbd_frame.specs.declared.kind.Kind.TheVariants.{Write, Discard, Resize};
 

@@ -1,11 +1,11 @@
 -- The other calls of a client leave what it knows and counts true.
-use Rattle.std.proofs.Common.{◌≡◌, ◌≢◌, ◌⊎◌, inl, inr, ℕ, cond, Bool, true, false, [], ◌∷◌, refl, sym, ap, ◌∙◌, subst, true≢false, None}
+use Rattle.std.proofs.Common.{◌≡◌, ◌≢◌, ◌⊎◌, inl, inr, ℕ, [], ◌∷◌, sym, ap, ◌∙◌, subst, true≢false, None}
 use Rattle.std.proofs.lemmas.Bool.{cases_eq}
 use Rattle.rbd_client.specs.declared.slot_state.Quiescing.{Quiescing}
 use Rattle.rbd_client.specs.declared.slot_state.SlotState.{SlotState}
 use Rattle.rbd_client.specs.declared.slot_state.Way.{Way}
 use Rattle.rbd_client.specs.declared.slot_state.Way.TheVariants as way
-use Rattle.rbd_client.specs.Client.{ClientView, blank, newcomer, state_in}
+use Rattle.rbd_client.specs.Client.{ClientView, newcomer, state_in}
 use Rattle.rbd_client.specs.Feeding.{AreStatesAlike}
 use Rattle.rbd_client.specs.Sound.{IsOwned, IsSoundClient}
 use Rattle.rbd_held.specs.Truth.{IsTrueOf, IsWayTrue}

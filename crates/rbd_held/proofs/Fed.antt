@@ -1,5 +1,5 @@
 -- What the requests of a client know once who acts at a slot was answered.
-use Rattle.std.proofs.Common.{◌≡◌, ◌≢◌, ◌⊎◌, inl, inr, ℕ, ◌==◌, cond, Bool, true, false, Option, Some, None, refl, sym, ap, ◌∙◌, subst, true≢false}
+use Rattle.std.proofs.Common.{◌≡◌, ◌≢◌, ◌⊎◌, inl, inr, ℕ, ◌==◌, cond, Bool, true, false, Option, Some, None, refl, sym, ap, subst}
 use Rattle.std.specs.Prelude.{is_some}
 use Rattle.std.proofs.lemmas.Bool.{cases_eq, eq-eqb, ne_eqb}
 use Rattle.rbd_client.specs.declared.actor.Actor.{Actor}
@@ -24,7 +24,6 @@ use Rattle.rbd_owner.specs.declared.acquire.Acquire.{Acquire}
 use Rattle.rbd_session.specs.Lines.{lines_of}
 use Rattle.rbd_session.specs.OnTrack.{LeavesOthers}
 use Rattle.rbd_session.specs.Session.{IsAnswered, IsSoundSession, OfRunning, held_in, running_at, running_in}
-use Rattle.rbd_session.proofs.Sound.{no_some}
 
 -- ---- a request that is refused on its way
 

@@ -1,14 +1,13 @@
 -- Whoever acts for a client may look at what it looks at, and may drop the lock that it drops,
 -- whatever the other requests of the client know, and those of others.
 use Rattle.std.proofs.Common.{◌≡◌, ◌≢◌, ℕ, ◌==◌, ◌&&◌, ◌||◌, not, cond, Bool, true, false, Option, Some, None, refl, sym, ap, ◌∙◌, subst, true≢false}
-use Rattle.std.specs.Prelude.{IsSome, is_some}
+use Rattle.std.specs.Prelude.{IsSome}
 use Rattle.std.specs.Option.{option_map}
-use Rattle.std.proofs.lemmas.Bool.{eqb-true}
 use Rattle.rbd_client.specs.declared.actor.Actor.{Actor}
 use Rattle.rbd_client.specs.declared.actor.Actor.TheVariants as actor
 use Rattle.rbd_client.specs.declared.slot_state.Way.{Way}
 use Rattle.rbd_client.specs.declared.slot_state.Way.TheVariants as way
-use Rattle.rbd_client.specs.Actor.{actor_at, actor_at_look, actor_by, actor_on, any_taken, due_release, is_at_rest, op_by, op_wanted, releasing}
+use Rattle.rbd_client.specs.Actor.{actor_at, actor_at_look, actor_on, any_taken, due_release, is_at_rest, op_by, op_wanted, releasing}
 use Rattle.rbd_client.specs.Client.{ClientView, state_in}
 use Rattle.rbd_client.specs.Feeding.{IsAtRest}
 use Rattle.rbd_client.specs.Sound.{IsOwned, IsSoundClient}
@@ -29,11 +28,9 @@ use Rattle.rbd_kinds.specs.declared.operation.Op.{Op}
 use Rattle.rbd_kinds.specs.declared.operation.Op.TheVariants as op
 use Rattle.rbd_kinds.specs.declared.operation_kind.OpKind.TheVariants as kind
 use Rattle.rbd_known.specs.Knowing.{AllKnow}
-
 use Rattle.rbd_known.proofs.Looking.{IsMemberFor, may_look, owner_runs}
 use Rattle.rbd_known.proofs.Wanting.{Wants, wants}
 use Rattle.rbd_line.specs.Line.{Member, any_past, is_past, member_of}
-use Rattle.rbd_line.specs.Line as line
 use Rattle.rbd_client.proofs.Past.{found_past}
 use Rattle.rbd_kinds.specs.declared.image_at.ImageAt.{ImageAt}
 use Rattle.rbd_locks.specs.Locks.{LocksView, state_at}
@@ -42,18 +39,17 @@ use Rattle.rbd_machine.specs.Plan.{Standing}
 use Rattle.rbd_machine.proofs.Lawful.{same_site_itself}
 use Rattle.rbd_owner.specs.Acquire.{begun, op_of}
 use Rattle.rbd_owner.specs.Release.{release_op, release_op_at}
-use Rattle.rbd_owner.specs.declared.acquire.Acquire.{Acquire}
 use Rattle.rbd_owner.specs.declared.release.Release.{Release}
 use Rattle.rbd_owner.specs.declared.release.Stage.{Stage as ReleaseStage}
 use Rattle.rbd_owner.specs.declared.release.Stage.TheVariants as dropping
-use Rattle.rbd_rely.specs.Beside.{AreShared, MayLook, SharesLock}
+use Rattle.rbd_rely.specs.Beside.{MayLook}
 use Rattle.rbd_rely.specs.Locks.{KnowsByLock}
 use Rattle.rbd_rely.specs.Truth.{known_header}
 use Rattle.rbd_rely.proofs.Locks.{shares_by_lock}
 use Rattle.rbd_session.specs.declared.running.Running.{Running}
 use Rattle.rbd_session.specs.Advance.{track_of}
 use Rattle.rbd_session.specs.Lines.{lines_of}
-use Rattle.rbd_session.specs.Session.{going_in, held_in, kind_asked, own_look_at, own_look_in, own_look_of, running_at, running_in}
+use Rattle.rbd_session.specs.Session.{going_in, held_in, kind_asked, own_look_at, own_look_in, own_look_of, running_in}
 use Rattle.rbd_session.specs.Track.{image_at}
 use Rattle.rbd_session.specs.Waits.{waits_at}
 use Rattle.rbd_session.proofs.Consequences.{members_run_there}

@@ -1,5 +1,5 @@
 -- What a client knows and counts stays true, whatever others do that is permitted to them.
-use Rattle.std.proofs.Common.{◌≡◌, ◌≢◌, ℕ, false}
+use Rattle.std.proofs.Common.{◌≢◌, ℕ}
 use Rattle.rbd_client.specs.declared.slot_state.Way.{Way}
 use Rattle.rbd_client.specs.declared.slot_state.Way.TheVariants as way
 use Rattle.rbd_client.specs.Client.{ClientView, state_in}

@@ -1,6 +1,6 @@
 -- Who knows a header is past own, and has the lock.
-use Rattle.std.proofs.Common.{◌≡◌, ℕ, Bool, true, false, Option, Some, None, refl, sym, ap, ◌∙◌, true≢false}
-use Rattle.std.specs.Prelude.{IsSome, is_some}
+use Rattle.std.proofs.Common.{◌≡◌, ℕ, true, Option, Some, None, refl, sym, true≢false}
+use Rattle.std.specs.Prelude.{IsSome}
 use Rattle.rbd_client.specs.Client.{ClientView}
 use Rattle.rbd_client.specs.Sound.{IsOwned, IsSoundClient}
 use Rattle.rbd_client.proofs.Past.{found_past}

@@ -1,5 +1,5 @@
 -- What a release knows: it may do what it does by that, it is true, and it goes beside all.
-use Rattle.std.proofs.Common.{◌≡◌, ℕ, cond, Bool, true, false, Option, Some, None, refl, sym, ap, ◌∙◌, subst, true≢false}
+use Rattle.std.proofs.Common.{◌≡◌, ℕ, cond, Bool, true, false, Some, None, refl, sym, ap, ◌∙◌, subst, true≢false}
 use Rattle.std.specs.Prelude.{is_some}
 use Rattle.rbd_held.specs.Knowing.{known_to_drop, known_to_release, unlooked}
 use Rattle.rbd_kinds.specs.declared.id.Instance.{Instance}

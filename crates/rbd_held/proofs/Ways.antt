@@ -1,5 +1,5 @@
 -- What a way to a lock knows: it may do what it does by that, it is true, and it goes beside all.
-use Rattle.std.proofs.Common.{◌≡◌, ◌≢◌, ℕ, ◌&&◌, cond, Bool, true, false, List, [], Option, Some, None, refl, sym, ap, ◌∙◌, subst, true≢false}
+use Rattle.std.proofs.Common.{◌≡◌, ℕ, ◌&&◌, cond, Bool, true, false, Option, Some, None, refl, sym, ap, ◌∙◌, subst, true≢false}
 use Rattle.std.specs.Prelude.{is_some}
 use Rattle.std.proofs.lemmas.Bool.{and_parts}
 use Rattle.std.proofs.lemmas.Option.{none-some, same_Some}
@@ -16,7 +16,7 @@ use Rattle.rbd_kinds.specs.declared.operation.Op.TheVariants as op
 use Rattle.rbd_kinds.specs.declared.reply.Reply.TheVariants as reply
 use Rattle.rbd_machine.specs.Knowledge.{Knowledge, is_drawn, is_fenced_by, nothing_known, own_of, same_instance, same_site}
 use Rattle.rbd_machine.specs.Permits.{Permits}
-use Rattle.rbd_machine.specs.Plan.{Plan, Ask, Await, Note, Return, Goto, plan_after, settled}
+use Rattle.rbd_machine.specs.Plan.{Plan, Ask, Return, plan_after, settled}
 use Rattle.rbd_machine.proofs.Fences.{fence_is_known}
 use Rattle.rbd_owner.specs.Acquire.{first_stage, lock_labels, op_at, op_of, rest_at}
 use Rattle.rbd_owner.specs.Steps.{is_among}
@@ -25,7 +25,6 @@ use Rattle.rbd_owner.specs.declared.acquire.Stage.{Stage}
 use Rattle.rbd_owner.specs.declared.acquire.Stage.TheVariants as stage
 use Rattle.rbd_rely.specs.Beside.{AreBeside, MayLook}
 use Rattle.rbd_rely.specs.Truth.{IsStill, IsTrueAt, header_of_own}
-use Rattle.rbd_rely.proofs.Fenced.{where_free}
 use Rattle.rbd_site.specs.Records.{Records}
 use Rattle.rbd_site.specs.Step.{after, answer_to, is_fenced}
 use Rattle.rbd_stands.proofs.Locks.{same_is}

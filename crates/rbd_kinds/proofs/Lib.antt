@@ -1,4 +1,3 @@
 mod EachKind
 pub mod Images
-pub mod Ordered
 pub mod Results

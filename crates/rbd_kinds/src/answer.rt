@@ -2,13 +2,10 @@
 ghost use Rattle.std.specs.Prelude.{◌≡◌};
 ghost use Rattle.rbd_kinds.specs.Answer.{answer_word};
 
-use crate::byte_string::Bytes;
-use crate::copies::TryClone;
 use crate::header::HeaderView;
 use crate::id::{Ids, ImageId, Instance, Instances, SnapId};
 use crate::journal::{JournalView, Position, Tag};
-use crate::memory::NoMemory;
-use crate::name::Names;
+use rbd_values::{Bytes, Names, NoMemory, TryClone};
 
 /// The answer to an operation.
 #[derive(Debug, Drop)]

@@ -3,13 +3,11 @@ ghost use Rattle.std.specs.Prelude.{◌≡◌, IfOk};
 ghost use Rattle.rbd_kinds.specs.OperationKind.{data_kind};
 ghost use Rattle.rbd_kinds.specs.declared.data_op.DataOp.TheVariants as variant;
 
-use crate::byte_string::Bytes;
-use crate::copies::TryClone;
 use crate::header::SnapContext;
 use crate::id::SnapId;
 use crate::layout::Parts;
-use crate::memory::NoMemory;
 use crate::operation_kind::OpKind;
+use rbd_values::{Bytes, NoMemory, TryClone};
 
 /// An operation on one data object of an image (Ceph: `rbd_data.<id>.<number>`). A change carries
 /// its snapshot context. With `must`, nothing changes where the head is absent.

@@ -2,11 +2,9 @@
 ghost use Rattle.std.specs.Prelude.{◌≡◌};
 ghost use Rattle.rbd_kinds.specs.OperationKind.{directory_kind};
 
-use crate::copies::TryClone;
 use crate::id::ImageId;
-use crate::memory::NoMemory;
-use crate::name::Name;
 use crate::operation_kind::OpKind;
+use rbd_values::{Name, NoMemory, TryClone};
 
 /// An operation on a site's directory of names (Ceph: `rbd_directory`).
 #[derive(Debug, Drop)]

@@ -2,12 +2,9 @@
 ghost use Rattle.std.specs.Prelude.{◌≡◌, option_copied};
 ghost use Rattle.rbd_kinds.specs.Header.{snap_named};
 
-use crate::copies::TryClone;
 use crate::id::{ImageId, Instance, SiteId, SnapId};
 use crate::layout::Layout;
-use crate::memory::NoMemory;
-use crate::name::Name;
-use crate::sequence::Sequence;
+use rbd_values::{Name, NoMemory, Sequence, TryClone};
 
 /// Snapshots by id, newest first.
 pub type SnapIds = Sequence<SnapId>;

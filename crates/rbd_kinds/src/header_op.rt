@@ -2,13 +2,11 @@
 ghost use Rattle.std.specs.Prelude.{◌≡◌};
 ghost use Rattle.rbd_kinds.specs.OperationKind.{header_kind};
 
-use crate::copies::TryClone;
 use crate::header::{HeaderView, Role, SnapStatus};
 use crate::id::{Instance, SnapId};
-use crate::memory::NoMemory;
-use crate::name::Name;
 use crate::notice::NoticeKind;
 use crate::operation_kind::OpKind;
+use rbd_values::{Name, NoMemory, TryClone};
 
 /// An operation on an image's header, with its exclusive lock and its watchers (Ceph:
 /// `rbd_header.<id>`). The instance that does it is who takes or drops the lock, watches, and

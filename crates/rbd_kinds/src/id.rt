@@ -1,9 +1,7 @@
 //! Who and what: sites, sessions and their lives, images and their snapshots.
 ghost use Rattle.std.specs.Prelude.{ℕ};
 
-use crate::copies::TryClone;
-use crate::memory::NoMemory;
-use crate::sequence::Sequence;
+use rbd_values::{NoMemory, Sequence, TryClone};
 use std::marker::Model;
 
 /// One of the two sites (clusters). Each has its own directory, blocklist and operation log.

@@ -1,10 +1,6 @@
 //! What a journal records, and where.
-use crate::byte_string::Bytes;
-use crate::copies::TryClone;
 use crate::id::{ImageId, SiteId};
-use crate::memory::NoMemory;
-use crate::name::Name;
-use crate::sequence::Sequence;
+use rbd_values::{Bytes, Name, NoMemory, Sequence, TryClone};
 
 /// One period of ownership in a journal: the site and the image of the journal that drew it, and a
 /// number, one above the last that this journal drew. So no two journals draw one tag.

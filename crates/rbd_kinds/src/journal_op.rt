@@ -2,11 +2,9 @@
 ghost use Rattle.std.specs.Prelude.{◌≡◌};
 ghost use Rattle.rbd_kinds.specs.OperationKind.{journal_kind};
 
-use crate::byte_string::Bytes;
-use crate::copies::TryClone;
 use crate::journal::{JournalClient, Position, Spans};
-use crate::memory::NoMemory;
 use crate::operation_kind::OpKind;
+use rbd_values::{Bytes, NoMemory, TryClone};
 
 /// An operation on an image's journal (Ceph: `journal.<id>`). Positions are sequence numbers.
 #[derive(Debug, Drop)]

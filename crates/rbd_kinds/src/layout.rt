@@ -2,9 +2,7 @@
 ghost use Rattle.std.specs.Prelude.{◌≡◌};
 ghost use Rattle.rbd_kinds.specs.Extents as extents;
 
-use crate::copies::TryClone;
-use crate::memory::NoMemory;
-use crate::sequence::Sequence;
+use rbd_values::{NoMemory, Sequence, TryClone};
 
 /// How an image's bytes are striped over objects (Ceph: RBD striping). `object` and `unit` are
 /// bytes, `count` is objects: a stripe is one unit in each of `count` objects, and `count` objects

@@ -2,11 +2,9 @@
 ghost use Rattle.std.specs.Prelude.{◌≡◌};
 ghost use Rattle.rbd_kinds.specs.OperationKind.{map_kind};
 
-use crate::byte_string::Bytes;
-use crate::copies::TryClone;
 use crate::id::SnapId;
-use crate::memory::NoMemory;
 use crate::operation_kind::OpKind;
+use rbd_values::{Bytes, NoMemory, TryClone};
 
 /// An operation on the object map of an image's head, or of a snapshot (Ceph:
 /// `rbd_object_map.<id>`, and with `.<snap>` behind it).

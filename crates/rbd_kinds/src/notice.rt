@@ -1,8 +1,6 @@
 //! What sessions tell each other about an image.
-use crate::byte_string::Bytes;
-use crate::copies::TryClone;
 use crate::id::{ImageId, Instance, SiteId};
-use crate::memory::NoMemory;
+use rbd_values::{Bytes, NoMemory, TryClone};
 
 /// What a notification says.
 #[derive(Debug, Drop)]

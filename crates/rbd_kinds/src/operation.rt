@@ -3,15 +3,14 @@ ghost use Rattle.std.specs.Prelude.{◌≡◌};
 ghost use Rattle.rbd_kinds.specs.OperationKind.{kind_of};
 
 use crate::children_op::ChildrenOp;
-use crate::copies::TryClone;
 use crate::data_op::DataOp;
 use crate::directory_op::DirectoryOp;
 use crate::header_op::HeaderOp;
 use crate::id::{ImageId, Instance};
 use crate::journal_op::JournalOp;
 use crate::map_op::MapOp;
-use crate::memory::NoMemory;
 use crate::operation_kind::OpKind;
+use rbd_values::{NoMemory, TryClone};
 
 /// One operation on one object of a site: which object, and what is done to it. Each is one step,
 /// whole or not at all (Ceph: the operations of librados and of the object class `rbd`). There are

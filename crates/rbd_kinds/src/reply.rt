@@ -1,9 +1,8 @@
 //! What a command is answered.
-use crate::byte_string::Bytes;
 use crate::header::{HeaderView, Role, Snaps};
 use crate::id::Ids;
-use crate::name::{Name, Names};
-use crate::refusal::Refusal;
+use rbd_commands::Refusal;
+use rbd_values::{Bytes, Name, Names};
 
 /// The reply to a command.
 #[derive(Debug, Drop)]

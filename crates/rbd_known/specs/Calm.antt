@@ -2,7 +2,7 @@
 use Rattle.std.specs.Prelude.{◌≡◌, ℕ, ◌||◌, Bool, None}
 use Rattle.rbd_admin.specs.Snap.{is_snap}
 use Rattle.rbd_kinds.specs.declared.answer.Answer.{Answer}
-use Rattle.rbd_kinds.specs.declared.command.Command.{Command}
+use Rattle.rbd_commands.specs.declared.command.Command.{Command}
 use Rattle.rbd_kinds.specs.declared.id.SiteId.{SiteId}
 use Rattle.rbd_machine.specs.Knowledge.{Knowledge, own_of}
 use Rattle.rbd_machine.specs.Label.{Label}

@@ -1,7 +1,7 @@
 -- A request wants something at first.
 use Rattle.std.proofs.Common.{◌≡◌, true, sym, subst}
-use Rattle.rbd_kinds.specs.declared.command.Command.{Command}
-use Rattle.rbd_kinds.specs.declared.command.Command.TheVariants as command
+use Rattle.rbd_commands.specs.declared.command.Command.{Command}
+use Rattle.rbd_commands.specs.declared.command.Command.TheVariants as command
 use Rattle.rbd_kinds.specs.declared.id.SiteId.{SiteId}
 use Rattle.rbd_machine.specs.Plan.{Plan, IsLive}
 use Rattle.rbd_close.specs.Close.{is_close, close_plan}

@@ -10,8 +10,8 @@ use Rattle.rbd_kinds.specs.declared.machine.Fed.{Fed}
 use Rattle.rbd_kinds.specs.declared.machine.Fed.TheVariants as fed
 use Rattle.rbd_kinds.specs.declared.operation.Op.{Op}
 use Rattle.rbd_kinds.specs.declared.operation.Op.TheVariants as op
-use Rattle.rbd_kinds.specs.declared.refusal.Refusal.{Refusal}
-use Rattle.rbd_kinds.specs.declared.refusal.Refusal.TheVariants as refusal
+use Rattle.rbd_commands.specs.declared.refusal.Refusal.{Refusal}
+use Rattle.rbd_commands.specs.declared.refusal.Refusal.TheVariants as refusal
 use Rattle.rbd_kinds.specs.declared.reply.Reply.{Reply}
 use Rattle.rbd_kinds.specs.declared.reply.Reply.TheVariants as reply
 use Rattle.rbd_machine.specs.Answers.{CanGive}

@@ -12,8 +12,8 @@ use Rattle.rbd_kinds.specs.declared.journal_op.JournalOp.TheVariants as journal
 use Rattle.rbd_kinds.specs.declared.map_op.MapOp.TheVariants as states
 use Rattle.rbd_kinds.specs.declared.operation.Op.{Op}
 use Rattle.rbd_kinds.specs.declared.operation.Op.TheVariants as op
-use Rattle.rbd_kinds.specs.declared.refusal.Refusal.{Refusal}
-use Rattle.rbd_kinds.specs.declared.refusal.Refusal.TheVariants as refusal
+use Rattle.rbd_commands.specs.declared.refusal.Refusal.{Refusal}
+use Rattle.rbd_commands.specs.declared.refusal.Refusal.TheVariants as refusal
 use Rattle.rbd_machine.specs.About.{AreOwn}
 use Rattle.rbd_machine.specs.Answers.{CanGive}
 use Rattle.rbd_machine.specs.Path.{Answered}

@@ -2,7 +2,7 @@
 ghost use Rattle.std.specs.Prelude.{◌≡◌, ℕ, Option, IfOk};
 ghost use Rattle.rbd_kinds.specs.declared.header.HeaderView.{HeaderView};
 ghost use Rattle.rbd_kinds.specs.declared.machine.Fed.TheVariants as fed_with;
-ghost use Rattle.rbd_kinds.specs.declared.refusal.Refusal.{Refusal};
+ghost use Rattle.rbd_commands.specs.declared.refusal.Refusal.{Refusal};
 ghost use Rattle.rbd_machine.specs.Plan.{Plan, Wants, Asks, plan_after};
 ghost use Rattle.rbd_machine.specs.Steps.{change};
 ghost use Rattle.rbd_machine.specs.Approach.{rest_of, Approaches, owning_at, IsAskingAt, CanBeFedAt};

@@ -5,7 +5,7 @@ use Rattle.rbd_kinds.specs.declared.header.HeaderView.{HeaderView}
 use Rattle.rbd_kinds.specs.declared.header.SnapStatus.{SnapStatus}
 use Rattle.rbd_kinds.specs.declared.header.SnapStatus.TheVariants as status
 use Rattle.rbd_kinds.specs.declared.header.SnapView.{SnapView}
-use Rattle.rbd_kinds.specs.declared.refusal.Refusal.TheVariants as refusal
+use Rattle.rbd_commands.specs.declared.refusal.Refusal.TheVariants as refusal
 use Rattle.rbd_kinds.specs.Header.{snap_named}
 use Rattle.rbd_header.specs.Header.{is_full}
 use Rattle.rbd_machine.specs.Permits.{MayTake}

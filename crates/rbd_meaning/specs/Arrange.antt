@@ -5,7 +5,7 @@ use Rattle.rbd_kinds.specs.declared.layout.Layout.{Layout}
 use Rattle.rbd_kinds.specs.declared.layout.Part.{Part}
 use Rattle.rbd_layout.specs.Pieces.{pieces_of}
 use Rattle.rbd_layout.specs.declared.types.Piece.{Piece}
-use Rattle.rbd_object.specs.Contents.{window, overwritten}
+use Rattle.rbd_parts.specs.Contents.{window, overwritten}
 
 -- the bytes of the parts, one part after another, put into bytes that begin at the image byte
 -- `from`

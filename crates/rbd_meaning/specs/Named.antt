@@ -1,7 +1,7 @@
 -- The name that a command looks up.
 use Rattle.std.specs.Prelude.{ℕ, List, Option, Some, None}
-use Rattle.rbd_kinds.specs.declared.command.Command.{Command}
-use Rattle.rbd_kinds.specs.declared.command.Command.TheVariants as command
+use Rattle.rbd_commands.specs.declared.command.Command.{Command}
+use Rattle.rbd_commands.specs.declared.command.Command.TheVariants as command
 
 abbrev pub looks_up : Command → Option (List ℕ)
 looks_up (command.Write image at bytes) = Some image

@@ -1,8 +1,8 @@
 -- The bytes of an image that a command is about, and whether they are there.
 use Rattle.std.specs.Prelude.{ℕ, List, length, if◌then◌else◌, Option, Some, None}
 use Rattle.rbd_kinds.specs.declared.layout.Extent.{Extent}
-use Rattle.rbd_kinds.specs.declared.refusal.Refusal.{Refusal}
-use Rattle.rbd_kinds.specs.declared.refusal.Refusal.TheVariants as refusal
+use Rattle.rbd_commands.specs.declared.refusal.Refusal.{Refusal}
+use Rattle.rbd_commands.specs.declared.refusal.Refusal.TheVariants as refusal
 use Rattle.rbd_kinds.specs.Extents.{fits}
 
 -- the bytes of an image that are written

@@ -2,14 +2,14 @@
 //! nothing.
 ghost use Rattle.std.specs.Prelude.{◌≡◌, ℕ, List, [], ◌∷◌, ◌++◌, true, Some, None};
 ghost use Rattle.rbd_kinds.specs.declared.answer.Answer.TheVariants.{Absent};
-ghost use Rattle.rbd_kinds.specs.declared.command.Command.{Command};
-ghost use Rattle.rbd_kinds.specs.declared.command.Command.TheVariants.{Write, Fill, SnapCreate, SnapRemove};
+ghost use Rattle.rbd_commands.specs.declared.command.Command.{Command};
+ghost use Rattle.rbd_commands.specs.declared.command.Command.TheVariants.{Write, Fill, SnapCreate, SnapRemove};
 ghost use Rattle.rbd_kinds.specs.declared.header.HeaderView.{HeaderView};
 ghost use Rattle.rbd_kinds.specs.declared.header.Role.TheVariants.{Secondary};
 ghost use Rattle.rbd_kinds.specs.declared.header.SnapStatus.TheVariants.{Unprotected};
 ghost use Rattle.rbd_kinds.specs.declared.id.SiteId.{SiteId};
-ghost use Rattle.rbd_kinds.specs.declared.refusal.Refusal.{Refusal};
-ghost use Rattle.rbd_kinds.specs.declared.refusal.Refusal.TheVariants.{BadShape, Fenced, NoImage, NonPrimary};
+ghost use Rattle.rbd_commands.specs.declared.refusal.Refusal.{Refusal};
+ghost use Rattle.rbd_commands.specs.declared.refusal.Refusal.TheVariants.{BadShape, Fenced, NoImage, NonPrimary};
 ghost use Rattle.rbd_kinds.specs.declared.reply.Reply.{Reply};
 ghost use Rattle.rbd_kinds.specs.declared.reply.Reply.TheVariants.{Refused};
 ghost use Rattle.rbd_kinds.specs.Header.{snap_named};

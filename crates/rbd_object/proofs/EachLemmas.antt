@@ -3,17 +3,18 @@ use Rattle.std.proofs.Common.{◌≡◌, ℕ, ◌+◌, ◌<◌, ◌≤◌, List,
 use Rattle.std.specs.Prelude.{option_map, unwrap_or}
 use Rattle.std.proofs.lemmas.List.{drop_all}
 use Rattle.rbd_kinds.specs.declared.layout.Part.{Part}
-use Rattle.rbd_object.specs.Contents.{overwritten, zeroed}
+use Rattle.rbd_parts.specs.Contents.{overwritten, zeroed}
 use Rattle.rbd_kinds.specs.Parts.{parts_len}
-use Rattle.rbd_object.specs.Parts.{parts_written, parts_zeroed, AreWithin}
-use Rattle.rbd_object.specs.declared.content.TheConstants.{LARGEST_OBJECT}
-use Rattle.rbd_object.specs.Sheaves.{Exchanged, Stock}
-use Rattle.rbd_object.specs.Sheets.{in_use}
-use Rattle.rbd_object.specs.Shared.{Listed, IsHead, begun, bytes_of, len_of, sheaves_of, touched, written_touch, zeroed_touch}
-use Rattle.rbd_object.proofs.ContentsLemmas.{length_overwritten}
+use Rattle.rbd_parts.specs.Parts.{parts_written, parts_zeroed, AreWithin}
+use Rattle.rbd_parts.specs.declared.parts.TheConstants.{LARGEST_OBJECT}
+use Rattle.rbd_pages.specs.Sheaves.{Exchanged, Stock}
+use Rattle.rbd_pages.specs.Sheets.{in_use}
+use Rattle.rbd_pages.specs.Listed.{Listed, touched}
+use Rattle.rbd_object.specs.Shared.{IsHead, begun, bytes_of, len_of, sheaves_of, written_touch, zeroed_touch}
+use Rattle.rbd_parts.proofs.ContentsLemmas.{length_overwritten}
 use Rattle.rbd_object.proofs.HeadLemmas.{empty_content}
-use Rattle.rbd_object.proofs.ListsLemmas.{exchanged_refl, exchanged_trans}
-use Rattle.rbd_object.proofs.SharedLemmas.{length-bytes_in}
+use Rattle.rbd_pages.proofs.ListsLemmas.{exchanged_refl, exchanged_trans}
+use Rattle.rbd_pages.proofs.ListedLemmas.{length-bytes_in}
 
 abbrev pub no_part : Part
 no_part = record { offset = 0; at = 0; len = 0 }

@@ -1,14 +1,15 @@
 -- Heads that are changed, and kept beforehand.
 use Rattle.std.proofs.Common.{◌≡◌, ℕ, ◌+◌, ◌-◌, ◌/◌, ◌%◌, ◌<◌, Bool, true, false, cond, List, [], ◌∷◌, ◌++◌, Option, Some, None, length, get_or, max, refl, sym, ap, ◌∙◌, subst, arith}
 use Rattle.std.proofs.lemmas.List.FromFn.{fill_by_all}
-use Rattle.rbd_object.specs.Contents.{overwritten, is_within}
-use Rattle.rbd_object.specs.Paging.{occurs, byte_at, AreApart, AreCounted}
-use Rattle.rbd_object.specs.Sheaves.{Exchanged, IsSame, Stock}
-use Rattle.rbd_object.specs.Shared.{Listed, IsContent, IsHead, IsKept, bytes_in, bytes_of, pages_on, sheaves_of}
-use Rattle.rbd_object.proofs.PagingLemmas.{bytes_on_past, framed_byte}
-use Rattle.rbd_object.proofs.SheavesLemmas.{occurs-append, same_refl, same_trans}
-use Rattle.rbd_object.proofs.ListsLemmas.{exchanged_refl, framed_full, framed_list}
-use Rattle.rbd_object.proofs.SharedLemmas.{bytes_same, length-bytes_in}
+use Rattle.rbd_parts.specs.Contents.{overwritten, is_within}
+use Rattle.rbd_pages.specs.Paging.{occurs, byte_at, AreApart, AreCounted}
+use Rattle.rbd_pages.specs.Sheaves.{Exchanged, IsSame, Stock}
+use Rattle.rbd_pages.specs.Listed.{Listed, IsContent, bytes_in, pages_on}
+use Rattle.rbd_object.specs.Shared.{IsHead, IsKept, bytes_of, sheaves_of}
+use Rattle.rbd_pages.proofs.PagingLemmas.{bytes_on_past, framed_byte}
+use Rattle.rbd_pages.proofs.SheavesLemmas.{occurs-append, same_refl, same_trans}
+use Rattle.rbd_pages.proofs.ListsLemmas.{exchanged_refl, framed_full, framed_list}
+use Rattle.rbd_pages.proofs.ListedLemmas.{bytes_same, length-bytes_in}
 
 -- ---- a content whose sheaves stay the same is the same
 

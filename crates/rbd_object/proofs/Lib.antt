@@ -1,17 +1,8 @@
-pub mod ContentsLemmas
 pub mod EachLemmas
 pub mod HeadLemmas
 pub mod KeptLemmas
 pub mod MappedLemmas
-pub mod ListsLemmas
 pub mod PagedLemmas
-pub mod PagingLemmas
-pub mod PartsLemmas
-pub mod SharedLemmas
-pub mod SheavesLemmas
-pub mod SheetLemmas
 pub mod SoundLemmas
 pub mod StepLemmas
-pub mod StretchLemmas
 pub mod VersionLemmas
-pub mod WritingLemmas

@@ -3,10 +3,11 @@ use Rattle.std.proofs.Common.{◌≡◌, ℕ, ◌+◌, ◌<◌, ◌≤◌, Bool,
 use Rattle.std.specs.Prelude.{zero, suc, option_map, unwrap_or}
 use Rattle.std.specs.FinMap.{get, retain_keys}
 use Rattle.rbd_kinds.specs.declared.header.SnapContext.{SnapContext}
-use Rattle.rbd_object.specs.Sheaves.{AreStocked, IsSame, Stock, named_in}
-use Rattle.rbd_object.specs.Sheets.{Sheet, bytes_at, count_at, in_use}
-use Rattle.rbd_object.specs.Paging.{occurs, pages_for, AreCounted}
-use Rattle.rbd_object.specs.Shared.{Listed, Stored, AreContents, AreNamed, AreShared, IsContent, IsHead, IsKept, bytes_in, bytes_of, dead_named, dead_sheaves, is_live, kept_in, len_of, live_versions, named, pages_on, sheaves_of, view_in}
+use Rattle.rbd_pages.specs.Sheaves.{AreStocked, IsSame, Stock, named_in}
+use Rattle.rbd_pages.specs.Sheets.{Sheet, bytes_at, count_at, in_use}
+use Rattle.rbd_pages.specs.Paging.{occurs, pages_for, AreCounted}
+use Rattle.rbd_pages.specs.Listed.{Listed, IsContent, bytes_in, pages_on}
+use Rattle.rbd_object.specs.Shared.{Stored, AreContents, AreNamed, AreShared, IsHead, IsKept, bytes_of, dead_named, dead_sheaves, is_live, kept_in, len_of, live_versions, named, sheaves_of, view_in}
 use Rattle.rbd_object.specs.Paged.{IsPaged, Paged, paged_of}
 use Rattle.rbd_object.specs.Changes.{takes}
 use Rattle.rbd_object.specs.declared.change.Change.{Change}
@@ -18,8 +19,8 @@ use Rattle.rbd_object.specs.Kept.{AreNewest, AreUsed, Kept, is_listed, is_used, 
 use Rattle.rbd_object.specs.Versioned.{view}
 use Rattle.rbd_object.specs.Mapped.{IsSound, Mapped, due_snaps, looked, mapped_change, mapped_copy_up, mapped_trim, value_of}
 use Rattle.rbd_object.proofs.HeadLemmas.{empty_list, framed, framed_head}
-use Rattle.rbd_object.proofs.SharedLemmas.{length-bytes_in}
-use Rattle.rbd_object.proofs.SheavesLemmas.{counted_pages, occurs-append}
+use Rattle.rbd_pages.proofs.ListedLemmas.{length-bytes_in}
+use Rattle.rbd_pages.proofs.SheavesLemmas.{counted_pages, occurs-append}
 use Rattle.rbd_object.proofs.SoundLemmas.{changed_value, sound_blank, sound_step, sound_trimmed}
 
 -- ---- versions whose pages keep their bytes

@@ -1,10 +1,10 @@
 -- Versions that are left by a trim, and the pages that go.
 use Rattle.std.proofs.Common.{◌≡◌, ℕ, ◌+◌, ◌<◌, ◌≤◌, Bool, true, false, cond, List, [], ◌∷◌, length, drop, get_or, sym, ap, ◌∙◌, subst, drop-cons, add-one, arith}
 use Rattle.std.specs.List.Retain.{RetainsInTurn}
-use Rattle.rbd_object.specs.Sheaves.{Stock}
-use Rattle.rbd_object.specs.Sheets.{count_at}
+use Rattle.rbd_pages.specs.Sheaves.{Stock}
+use Rattle.rbd_pages.specs.Sheets.{count_at}
 use Rattle.rbd_object.specs.Shared.{Stored, AreNamed, dead_named, dead_sheaves, is_live, live_stored, live_versions, named}
-use Rattle.rbd_object.specs.Paging.{occurs, AreCounted}
+use Rattle.rbd_pages.specs.Paging.{occurs, AreCounted}
 
 pub live_next : (live : List ℕ) (v : Stored) (old : List Stored) (test : Bool) → is_live live v ≡ test
     → live_versions live (v ∷ old) ≡ cond test (live_stored live v ∷ live_versions live old) (live_versions live old)

@@ -1,11 +1,12 @@
 -- What changes make of a head, and how many pages they may take.
 use Rattle.std.specs.Prelude.{◌≡◌, ℕ, ◌+◌, ◌≤◌, min, List, [], length, Option, Some, None, option_map, unwrap_or}
-use Rattle.rbd_object.specs.Contents.{overwritten, zeroed}
+use Rattle.rbd_parts.specs.Contents.{overwritten, zeroed}
 use Rattle.rbd_kinds.specs.Parts.{parts_len}
-use Rattle.rbd_object.specs.Parts.{parts_written, parts_zeroed, AreWithin}
-use Rattle.rbd_object.specs.Paging.{pages_for}
-use Rattle.rbd_object.specs.Shared.{touched, written_touch, zeroed_touch}
-use Rattle.rbd_object.specs.declared.content.TheConstants.{LARGEST_OBJECT}
+use Rattle.rbd_parts.specs.Parts.{parts_written, parts_zeroed, AreWithin}
+use Rattle.rbd_pages.specs.Paging.{pages_for}
+use Rattle.rbd_pages.specs.Listed.{touched}
+use Rattle.rbd_object.specs.Shared.{written_touch, zeroed_touch}
+use Rattle.rbd_parts.specs.declared.parts.TheConstants.{LARGEST_OBJECT}
 use Rattle.rbd_object.specs.declared.change.Change.{Change}
 use Rattle.rbd_object.specs.declared.change.Change.TheVariants.{Write, WriteParts, WriteFull, Zero, ZeroParts, Empty, Remove}
 

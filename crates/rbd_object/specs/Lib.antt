@@ -1,11 +1,6 @@
 pub mod Changes
-pub mod Contents
 pub mod Kept
 pub mod Mapped
 pub mod Paged
-pub mod Paging
-pub mod Parts
 pub mod Shared
-pub mod Sheaves
-pub mod Sheets
 pub mod Versioned

@@ -2,9 +2,10 @@
 use Rattle.std.specs.Prelude.{ℕ, List, map, Option, refl}
 use Rattle.std.specs.Coded.{Coded, code_by, coded×, coded_ℕ}
 use Rattle.rbd_object.specs.Mapped.{Mapped, mapped_code, value_of, IsSound}
-use Rattle.rbd_object.specs.Sheaves.{Stock}
-use Rattle.rbd_object.specs.Sheets.{in_use}
-use Rattle.rbd_object.specs.Shared.{Listed, Stored, AreShared, bytes_of, kept_in}
+use Rattle.rbd_pages.specs.Sheaves.{Stock}
+use Rattle.rbd_pages.specs.Sheets.{in_use}
+use Rattle.rbd_pages.specs.Listed.{Listed}
+use Rattle.rbd_object.specs.Shared.{Stored, AreShared, bytes_of, kept_in}
 
 pub record Paged : Type 0 where
   pub shown : Mapped

@@ -1,41 +1,17 @@
 -- Contents that share the sheaves and pages of one object.
-use Rattle.std.specs.Prelude.{◌≡◌, ℕ, ◌+◌, ◌-◌, ◌/◌, ◌≤◌, nat_lt, if◌then◌else◌, List, [], ◌∷◌, ◌++◌, map, filter, length, min, max, Bool, Option, Some, None, option_map, find}
-use Rattle.std.specs.List.{range_with_len, list_any}
-use Rattle.rbd_object.specs.Sheets.{count_at}
-use Rattle.rbd_object.specs.Paging.{occurs, byte_at, pages_for, AreApart}
-use Rattle.rbd_object.specs.Sheaves.{AreFull, Exchanged, Stock, pages_in, sheaves_for}
+use Rattle.std.specs.Prelude.{◌≡◌, ℕ, ◌+◌, ◌≤◌, nat_lt, if◌then◌else◌, List, [], ◌∷◌, ◌++◌, map, filter, min, max, Bool, Option, Some, None, option_map, find}
+use Rattle.std.specs.List.{list_any}
+use Rattle.rbd_pages.specs.Sheets.{count_at}
+use Rattle.rbd_pages.specs.Paging.{occurs}
+use Rattle.rbd_pages.specs.Sheaves.{Exchanged, Stock}
 use Rattle.rbd_kinds.specs.declared.layout.Part.{Part}
 use Rattle.rbd_object.specs.Kept.{Kept, is_listed}
-use Rattle.rbd_object.specs.declared.page.TheConstants.{PAGE}
-use Rattle.rbd_object.specs.declared.content.TheConstants.{LARGEST_OBJECT}
-
--- the sheaves of a content, in order, and how many bytes it has
-pub record Listed : Type 0 where
-  pub sheaves : List ℕ
-  pub len : ℕ
+use Rattle.rbd_pages.specs.Listed.{Listed, bytes_in, IsContent, touched}
 
 -- a version: a content, and the snapshots that it is kept for
 pub record Stored : Type 0 where
   pub snaps : List ℕ
   pub content : Listed
-
--- the pages of a content, in order
-abbrev pub pages_on : Stock → Listed → List ℕ
-pages_on stock c = pages_in stock.sheaves c.sheaves
-
-abbrev pub bytes_in : Stock → Listed → List ℕ
-bytes_in stock c = map (byte_at stock.sheets (pages_on stock c)) (range_with_len 0 c.len)
-
--- The list has the sheaves and the pages that the bytes take, no page twice, and no byte past the
--- length but zeros. Behind the last byte there may be pages that a refused change added, up to the
--- end of the last sheaf.
-pub record IsContent (stock : Stock) (c : Listed) : Type 0 where
-  pub held : length c.sheaves ≡ sheaves_for (pages_for c.len)
-  pub full : AreFull stock.sheaves c.sheaves
-  pub fits : pages_for c.len ≤ length (pages_on stock c)
-  pub zeros : (i : ℕ) → c.len ≤ i → byte_at stock.sheets (pages_on stock c) i ≡ 0
-  pub apart : AreApart (pages_on stock c)
-  pub small : c.len ≤ LARGEST_OBJECT
 
 abbrev pub sheaves_of : Option Listed → List ℕ
 sheaves_of None = []
@@ -62,10 +38,6 @@ pub record AreShared (stock : Stock) (head : Option Listed) (versions : List Sto
   pub counts : (sheaf : ℕ) → count_at stock.sheaves sheaf ≡ occurs sheaf (sheaves_of head) + named sheaf versions
   pub head_is : IsHead stock head
   pub contents : AreContents stock versions
-
--- how many pages the bytes from `first` up to `end` touch
-abbrev pub touched : (first end : ℕ) → ℕ
-touched first end = if nat_lt first end then pages_for end - first / PAGE else 0
 
 -- whether a version is kept for a live snapshot
 abbrev pub is_live : (live : List ℕ) → Stored → Bool

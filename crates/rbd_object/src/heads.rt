@@ -1,19 +1,19 @@
 //! Changes of a head, which is kept beforehand where snapshots want it.
 ghost use Rattle.std.specs.Prelude.{◌≡◌, ℕ, ◌+◌, ◌<◌, ◌≤◌, if◌then◌else◌, [], ◌++◌, length, min, unwrap_or, option_map, Some, None, false, IfOk, OnOk, OnErr};
 ghost use Rattle.rbd_object.specs.Changes.{IsWithin, after, takes};
-ghost use Rattle.rbd_object.specs.Contents.{overwritten, zeroed};
-ghost use Rattle.rbd_object.specs.Paging.{AreCounted, pages_for};
-ghost use Rattle.rbd_object.specs.Sheaves.{Exchanged, IsSame};
+ghost use Rattle.rbd_parts.specs.Contents.{overwritten, zeroed};
+ghost use Rattle.rbd_pages.specs.Paging.{AreCounted, pages_for};
+ghost use Rattle.rbd_pages.specs.Sheaves.{Exchanged, IsSame};
 ghost use Rattle.rbd_kinds.specs.Parts.{parts_len};
-ghost use Rattle.rbd_object.specs.Parts.{parts_written, parts_zeroed, AreWithin};
-ghost use Rattle.rbd_object.specs.Shared.{IsContent, IsHead, IsKept, begun, bytes_in, bytes_of, len_of, sheaves_of, touched, written_touch, zeroed_touch};
-ghost use Rattle.rbd_object.specs.Sheets.{count_at, in_use};
-ghost use Rattle.rbd_object.specs.declared.content.TheConstants.{LARGEST_OBJECT};
+ghost use Rattle.rbd_parts.specs.Parts.{parts_written, parts_zeroed, AreWithin};
+ghost use Rattle.rbd_pages.specs.Listed.{IsContent, bytes_in, touched};
+ghost use Rattle.rbd_object.specs.Shared.{IsHead, IsKept, begun, bytes_of, len_of, sheaves_of, written_touch, zeroed_touch};
+ghost use Rattle.rbd_pages.specs.Sheets.{count_at, in_use};
+ghost use Rattle.rbd_parts.specs.declared.parts.TheConstants.{LARGEST_OBJECT};
 
 use crate::change::Change;
-use crate::content::Content;
-use crate::sheaves::Sheaves;
 use rbd_kinds::{NoMemory, Part};
+use rbd_pages::{Content, Sheaves};
 use std::alloc::Global;
 use std::mem;
 

@@ -3,7 +3,7 @@
 ghost use Rattle.std.specs.Prelude.{◌≡◌, ℕ, ◌+◌, ◌-◌, ◌<◌, ◌≤◌, if◌then◌else◌, length, slice_index, List, ◌∷◌, Option, Some, None, max, unwrap_or, IsTrue, IsFalse};
 ghost use Rattle.std.specs.List.{list_all};
 ghost use Rattle.rbd_kinds.specs.declared.header.SnapContext.{SnapContext};
-ghost use Rattle.rbd_object.specs.Contents.{is_within, window, overwritten, zeroed};
+ghost use Rattle.rbd_parts.specs.Contents.{is_within, window, overwritten, zeroed};
 ghost use Rattle.rbd_object.specs.Kept.{is_listed};
 ghost use Rattle.rbd_object.specs.Versioned.{Versioned, IsTidy, Step, Change, blank, view, change, copy_up, trim, after_steps, spares};
 ghost use Rattle.rbd_object.specs.Mapped.{Mapped, looked, mapped_blank, mapped_change, mapped_copy_up, mapped_trim};

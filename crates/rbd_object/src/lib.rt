@@ -32,20 +32,9 @@
 //! objects, whose `kept` is a function: the value stands for one (`looked`), and both change alike.
 //! The first law to read is [`laws::views_of_snapshots_stay`].
 //!
-//! # Parts
-//!
-//! A request names *parts* of an object, each some bytes that lie together. [`gather`] takes the
-//! bytes at the parts out of some bytes, [`scatter`] puts bytes at the parts, and [`shifted_parts`]
-//! are the parts as they lie in bytes that begin at a byte of the image, such as the bytes that a
-//! caller gave for an extent. [`bytes_for`] takes those that parts have out of such bytes, and
-//! copies none where they lie together in shared bytes.
-//!
 //! # Cost
 //!
-//! Contents lie on pages of 4,096 bytes, and their pages in *sheaves* of 128. A write costs the
-//! bytes that it writes, and an index and an entry for each page that is new; the memory for the
-//! entries is taken in one step. One that lies on one page that is the head's alone goes there at
-//! once. A page of zeros has no bytes: they are taken at the first one that isn't zero. The first
+//! Head and versions lie on the pages of `rbd_pages`, which says what its changes cost. The first
 //! change after a snapshot adds an index and a count for each sheaf of the object where the head
 //! stays in place (`write`, `zero`). The first change in a sheaf then adds an index and a count for
 //! each of its pages, and the first one on a page copies it. Where the head is replaced
@@ -65,44 +54,21 @@
 //!
 //! # How it works
 //!
-//! The arena has the pages, each with a count: the number of sheaves that name it. A sheaf is a
-//! list of up to 128 indices of pages, and has a count too: the number of contents that name it.
-//! The head and the versions are lists of indices of sheaves, all full but the last, so that a page
-//! is found by two divisions. Free pages are linked by index, and so are free sheaves. A change
-//! writes a page in place only where its count and that of its sheaf are 1. Else it takes a new
-//! sheaf with the same pages, which are counted once more, and a new page with the same bytes. A
-//! sheaf whose count falls to 0 lets its pages go. Beside the head stands a queue of versions,
-//! newest first: contents that the head once had, and the snapshots that they are kept for. No
-//! version is left that no snapshot needs.
-//!
-//! A write on one page that is ready is done there. Any other change of one part first makes its
-//! pages ready, which may be refused memory and shows nothing, and then changes them, which can't
-//! be. Refused, it drops the sheaves that it added; pages of zeros that it added to the last sheaf
-//! may stay there, behind the last byte, for the next change to take. Each step is stated for one
-//! list alone, of the pages of a sheaf or of the sheaves of a content: each count follows the list,
-//! and what others name too stays as it is.
+//! The head and the versions are contents on the same sheaves (`rbd_pages`), each named by as many
+//! places as its count says. Beside the head stands a queue of versions, newest first: contents
+//! that the head once had, and the snapshots that they are kept for. No version is left that no
+//! snapshot needs. A change that keeps the head shares it first, and lets it go again where the
+//! change is refused memory.
 #![tactic(auto)]
 
-mod arena;
-mod bytes;
 mod change;
-mod content;
 mod heads;
 pub mod laws;
-mod lists;
 mod object;
-mod page;
 mod paged;
-mod pages;
-mod parts;
-mod sheaf;
-mod sheaves;
-mod stretch;
 mod version;
 mod versions;
 
-pub use content::LARGEST_OBJECT;
 pub use object::Object;
 pub use paged::PagedObject;
-pub use parts::{copy_window, gather, scatter, shifted_parts};
-pub use stretch::bytes_for;
+pub use rbd_parts::LARGEST_OBJECT;

@@ -1,15 +1,15 @@
 //! The object: a head, and what is kept for snapshots.
 ghost use Rattle.std.specs.Prelude.{◌≡◌, ℕ, ◌+◌, ◌≤◌, ◌↔◌, [], List, length, Some, None, unwrap_or, option_map, IsTrue, OnOk, OnErr, IfOk, IfSome, IsSome, IsNone, false, Option};
-ghost use Rattle.rbd_object.specs.Contents.{window, overwritten, zeroed};
+ghost use Rattle.rbd_parts.specs.Contents.{window, overwritten, zeroed};
 ghost use Rattle.rbd_object.specs.Versioned.{view, IsTidy};
 ghost use Rattle.rbd_object.specs.Mapped.{looked, mapped_blank, mapped_change, mapped_copy_up, mapped_trim};
-ghost use Rattle.rbd_object.specs.Paging.{pages_for};
+ghost use Rattle.rbd_pages.specs.Paging.{pages_for};
 ghost use Rattle.rbd_kinds.specs.Parts.{parts_len};
-ghost use Rattle.rbd_object.specs.Parts.{parts_of, parts_written, parts_zeroed, AreWithin};
+ghost use Rattle.rbd_parts.specs.Parts.{parts_of, parts_written, parts_zeroed, AreWithin};
 
-use crate::content::LARGEST_OBJECT;
 use crate::paged::PagedObject;
 use rbd_kinds::{Bytes, NoMemory, Part, SnapContext, SnapId};
+use rbd_parts::LARGEST_OBJECT;
 use std::alloc::Global;
 use std::marker::Model;
 

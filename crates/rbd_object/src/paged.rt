@@ -1,21 +1,22 @@
 //! The object on its pages: what it shows, and how many pages that takes.
 ghost use Rattle.std.specs.Prelude.{◌≡◌, ℕ, ◌+◌, ◌<◌, ◌≤◌, ◌↔◌, [], List, length, max, min, Some, None, unwrap_or, option_map, option_copied, IsTrue, OnOk, OnErr, IfOk, IfSome, IsSome, IsNone, Option, Ok, false};
 ghost use Rattle.rbd_object.specs.Changes.{IsWithin, after, takes};
-ghost use Rattle.rbd_object.specs.Contents.{window, overwritten, zeroed};
+ghost use Rattle.rbd_parts.specs.Contents.{window, overwritten, zeroed};
 ghost use Rattle.rbd_object.specs.Versioned.{view, IsTidy};
 ghost use Rattle.rbd_object.specs.Mapped.{looked, mapped_blank, mapped_change, mapped_copy_up, mapped_trim, due_snaps};
 ghost use Rattle.rbd_object.specs.Kept.{new_version};
-ghost use Rattle.rbd_object.specs.Paging.{pages_for};
+ghost use Rattle.rbd_pages.specs.Paging.{pages_for};
 ghost use Rattle.rbd_kinds.specs.Parts.{parts_len};
-ghost use Rattle.rbd_object.specs.Parts.{parts_of, parts_written, parts_zeroed, AreWithin};
-ghost use Rattle.rbd_object.specs.Shared.{touched, written_touch, zeroed_touch, view_in};
+ghost use Rattle.rbd_parts.specs.Parts.{parts_of, parts_written, parts_zeroed, AreWithin};
+ghost use Rattle.rbd_pages.specs.Listed.{touched};
+ghost use Rattle.rbd_object.specs.Shared.{written_touch, zeroed_touch, view_in};
 
 use crate::change::Change;
-use crate::content::{Content, LARGEST_OBJECT};
-use crate::sheaves::Sheaves;
 use crate::version::Version;
 use crate::{heads, versions};
 use rbd_kinds::{Bytes, NoMemory, Part, SnapContext, SnapId};
+use rbd_pages::{Content, Sheaves};
+use rbd_parts::LARGEST_OBJECT;
 use std::alloc::Global;
 use std::collections::VecDeque;
 use std::marker::Model;

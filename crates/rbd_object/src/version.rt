@@ -3,8 +3,8 @@ ghost use Rattle.std.specs.Prelude.{◌≡◌};
 ghost use Rattle.rbd_object.specs.Kept.{is_listed};
 ghost use Rattle.rbd_object.specs.Shared.{is_live, live_stored};
 
-use crate::content::Content;
 use rbd_kinds::SnapId;
+use rbd_pages::Content;
 use std::marker::Model;
 
 /// What the head was when it was kept, and the snapshots that it is kept for.

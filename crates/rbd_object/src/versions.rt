@@ -2,15 +2,14 @@
 ghost use Rattle.std.specs.Prelude.{◌≡◌, ℕ, ◌+◌, ◌<◌, ◌≤◌, ◌++◌, OnOk, IsTrue, IsSome, find, option_copied, option_map, option_to_list};
 ghost use Rattle.std.specs.VecDeque.{deque_len, deque_capacity};
 ghost use Rattle.rbd_object.specs.Kept.{is_listed};
-ghost use Rattle.rbd_object.specs.Paging.{AreCounted};
+ghost use Rattle.rbd_pages.specs.Paging.{AreCounted};
 ghost use Rattle.rbd_object.specs.Shared.{AreNamed, dead_named, dead_sheaves, live_versions};
-ghost use Rattle.rbd_object.specs.Sheaves.{IsSame};
-ghost use Rattle.rbd_object.specs.Sheets.{count_at, in_use};
+ghost use Rattle.rbd_pages.specs.Sheaves.{IsSame};
+ghost use Rattle.rbd_pages.specs.Sheets.{count_at, in_use};
 
-use crate::content::Content;
-use crate::sheaves::Sheaves;
 use crate::version::Version;
 use rbd_kinds::{NoMemory, SnapId};
+use rbd_pages::{Content, Sheaves};
 use std::collections::VecDeque;
 
 /// The newest version that is kept for a snapshot.

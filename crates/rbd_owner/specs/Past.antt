@@ -2,7 +2,7 @@
 use Rattle.std.specs.Prelude.{◌≡◌, ◌⊎◌, ℕ, List, ◌++◌}
 use Rattle.rbd_kinds.specs.declared.id.SiteId.{SiteId}
 use Rattle.rbd_kinds.specs.declared.machine.Fed.{Fed}
-use Rattle.rbd_kinds.specs.declared.refusal.Refusal.{Refusal}
+use Rattle.rbd_commands.specs.declared.refusal.Refusal.{Refusal}
 use Rattle.rbd_kinds.specs.declared.reply.Reply.TheVariants as reply
 use Rattle.rbd_machine.specs.Label.{Label}
 use Rattle.rbd_machine.specs.Path.{Answered, IsWalk}

@@ -16,7 +16,7 @@ use Rattle.std.proofs.lemmas.Map.Lookups.{exact_bytes}
 use Rattle.std.proofs.lemmas.Map.Keys.{IsDistinct-from_sorted}
 use Rattle.std.proofs.lemmas.Map.Entries.{option_filter, lookup-filter-values, lookup_from_place}
 use Rattle.rbd_registry.specs.Directory.{Listing, name_cmp, nothing_listed, listing_of, id_of, but, is_full, added, freed, holds, renamed, IsNamed, IsSoundListing}
-use Rattle.rbd_kinds.proofs.Ordered.{get_entries, one_given, one_taken, entries_in_order, len_in_order, taken_and_given}
+use Rattle.rbd_values.proofs.Ordered.{get_entries, one_given, one_taken, entries_in_order, len_in_order, taken_and_given}
 
 -- ---- from entries to names
 

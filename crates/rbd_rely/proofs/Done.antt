@@ -4,8 +4,8 @@ use Rattle.std.proofs.lemmas.List.Elements.{All-weaker}
 use Rattle.std.proofs.lemmas.Option.{slice_get_within, get_or_from_slice_get}
 use Rattle.std.specs.Prelude.{All, IsFalse}
 use Rattle.rbd_layout.proofs.Limits.{shape_of}
-use Rattle.rbd_object.proofs.ContentsLemmas.{length-window}
-use Rattle.rbd_object.specs.Contents.{window}
+use Rattle.rbd_parts.proofs.ContentsLemmas.{length-window}
+use Rattle.rbd_parts.specs.Contents.{window}
 use Rattle.rbd_kinds.specs.declared.answer.Answer.{Answer}
 use Rattle.rbd_kinds.specs.declared.answer.Answer.TheVariants as answer
 use Rattle.rbd_kinds.specs.declared.data_op.DataOp.{DataOp}
@@ -26,9 +26,9 @@ use Rattle.rbd_kinds.specs.Parts.{parts_len}
 use Rattle.rbd_kinds.specs.Striping.{IsLayout, byte_at}
 use Rattle.rbd_header.specs.Header.{context_of, snap_in}
 use Rattle.rbd_object.specs.Mapped.{looked}
-use Rattle.rbd_object.specs.Parts.{AreWithin, parts_of}
+use Rattle.rbd_parts.specs.Parts.{AreWithin, parts_of}
 use Rattle.rbd_object.specs.Versioned.{view}
-use Rattle.rbd_object.specs.declared.content.TheConstants.{LARGEST_OBJECT}
+use Rattle.rbd_parts.specs.declared.parts.TheConstants.{LARGEST_OBJECT}
 use Rattle.rbd_registry.specs.Directory.{id_of}
 use Rattle.rbd_registry.specs.Directory as listing
 use Rattle.rbd_flat.specs.Flat.{Flat, FlatImage, image_at}

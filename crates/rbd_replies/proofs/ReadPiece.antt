@@ -15,7 +15,7 @@ use Rattle.rbd_kinds.specs.Parts.{parts_len}
 use Rattle.rbd_layout.specs.declared.types.Piece.{Piece}
 use Rattle.rbd_machine.specs.Objects.{data_read}
 use Rattle.rbd_meaning.specs.Reads.{bytes_shown}
-use Rattle.rbd_object.specs.Contents.{window}
+use Rattle.rbd_parts.specs.Contents.{window}
 use Rattle.rbd_stands.specs.Condition.{ArePartsBelow}
 use Rattle.rbd_stands.specs.Reading.{IsAt, bytes_at_parts}
 use Rattle.rbd_stands.specs.Shown.{IsInOverlap}

@@ -1,8 +1,8 @@
 -- What only shows only looks, so it has no effect.
 use Rattle.std.proofs.Common.{◌≡◌, ℕ, inl, List, [], true, Some, refl, ap, sym, subst, ◌∙◌}
 use Rattle.std.proofs.lemmas.Option.{same_Some}
-use Rattle.rbd_kinds.specs.declared.command.Command.{Command}
-use Rattle.rbd_kinds.specs.declared.command.Command.TheVariants as command
+use Rattle.rbd_commands.specs.declared.command.Command.{Command}
+use Rattle.rbd_commands.specs.declared.command.Command.TheVariants as command
 use Rattle.rbd_kinds.specs.declared.id.SiteId.{SiteId}
 use Rattle.rbd_kinds.specs.declared.layout.Extent.{Extent}
 use Rattle.rbd_kinds.specs.declared.reply.Reply.{Reply}

@@ -11,7 +11,7 @@ use Rattle.rbd_machine.specs.Objects.{data_write}
 use Rattle.rbd_machine.specs.Path.{Answered}
 use Rattle.rbd_machine.specs.Permits.{LiesBelow, MayWrite, OwnsBy, Permits}
 use Rattle.rbd_meaning.specs.Writes.{piece_written, pieces_written}
-use Rattle.rbd_object.specs.Parts.{bytes_for}
+use Rattle.rbd_parts.specs.Parts.{bytes_for}
 use Rattle.rbd_rely.proofs.Done.{may_do}
 use Rattle.rbd_rely.proofs.Kept.{owned_there}
 use Rattle.rbd_site.specs.DataStep as step

@@ -1,7 +1,7 @@
 -- How many operations a line has: no more than its command's bound.
 use Rattle.std.specs.Prelude.{◌≡◌, ◌≤◌, ℕ, List, [], ◌∷◌, ◌++◌, length, Option}
-use Rattle.rbd_kinds.specs.declared.command.Command.{Command}
-use Rattle.rbd_kinds.specs.declared.command.Command.TheVariants as command
+use Rattle.rbd_commands.specs.declared.command.Command.{Command}
+use Rattle.rbd_commands.specs.declared.command.Command.TheVariants as command
 use Rattle.rbd_kinds.specs.declared.id.SiteId.{SiteId}
 use Rattle.rbd_kinds.specs.declared.layout.Extent.{Extent}
 use Rattle.rbd_machine.specs.Passes.{joined}

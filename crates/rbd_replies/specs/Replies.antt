@@ -1,7 +1,7 @@
 -- What a reply says of the flat-copy machine, at its place in the one history.
 use Rattle.std.specs.Prelude.{◌≡◌, Bool, true, false, List, [], replicate}
-use Rattle.rbd_kinds.specs.declared.command.Command.{Command}
-use Rattle.rbd_kinds.specs.declared.command.Command.TheVariants as command
+use Rattle.rbd_commands.specs.declared.command.Command.{Command}
+use Rattle.rbd_commands.specs.declared.command.Command.TheVariants as command
 use Rattle.rbd_kinds.specs.declared.reply.Reply.{Reply}
 use Rattle.rbd_kinds.specs.declared.reply.Reply.TheVariants as reply
 use Rattle.rbd_meaning.specs.Undone.{ComesLate}

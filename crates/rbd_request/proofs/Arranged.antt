@@ -7,8 +7,8 @@ use Rattle.rbd_kinds.specs.declared.layout.Layout.{Layout}
 use Rattle.rbd_layout.specs.Pieces.{IsPieces}
 use Rattle.rbd_layout.specs.declared.types.Piece.{Piece}
 use Rattle.rbd_layout.proofs.Within.{lies_in}
-use Rattle.rbd_object.specs.Parts.{AreBehind, EndBefore}
-use Rattle.rbd_object.specs.Contents.{overwritten, is_within}
+use Rattle.rbd_parts.specs.Parts.{AreBehind, EndBefore}
+use Rattle.rbd_parts.specs.Contents.{overwritten, is_within}
 
 pub put_between : (old new front back : List ℕ) (start count : ℕ) → count ≡ length new → front ≡ take start old → back ≡ drop count (drop start old) → start + count ≤ length old
     → front ++ (new ++ back) ≡ overwritten old start new

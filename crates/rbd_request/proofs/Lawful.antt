@@ -4,8 +4,8 @@ use Rattle.std.proofs.lemmas.List.{length-append}
 use Rattle.std.proofs.lemmas.List.Elements.{All-head, All-tail}
 use Rattle.rbd_kinds.specs.declared.answer.Answer.{Answer}
 use Rattle.rbd_kinds.specs.declared.answer.Answer.TheVariants as answer
-use Rattle.rbd_kinds.specs.declared.command.Command.{Command}
-use Rattle.rbd_kinds.specs.declared.command.Command.TheVariants as command
+use Rattle.rbd_commands.specs.declared.command.Command.{Command}
+use Rattle.rbd_commands.specs.declared.command.Command.TheVariants as command
 use Rattle.rbd_kinds.specs.declared.directory_op.DirectoryOp.TheVariants as directory
 use Rattle.rbd_kinds.specs.declared.header.HeaderView.{HeaderView}
 use Rattle.rbd_kinds.specs.declared.header_op.HeaderOp.TheVariants as header
@@ -20,9 +20,9 @@ use Rattle.rbd_layout.specs.Pieces.{pieces_of}
 use Rattle.rbd_layout.specs.declared.types.Piece.{Piece}
 use Rattle.rbd_layout.proofs.Listed.{pieces_listed}
 use Rattle.rbd_layout.proofs.Within.{lies_in}
-use Rattle.rbd_object.specs.Contents.{window}
-use Rattle.rbd_object.specs.Parts.{bytes_for, parts_of, shifted}
-use Rattle.rbd_object.proofs.ContentsLemmas.{length-window}
+use Rattle.rbd_parts.specs.Contents.{window}
+use Rattle.rbd_parts.specs.Parts.{bytes_for, parts_of, shifted}
+use Rattle.rbd_parts.proofs.ContentsLemmas.{length-window}
 use Rattle.rbd_header.specs.Header.{view_of}
 use Rattle.rbd_header.specs.declared.view.View.{View}
 use Rattle.rbd_machine.specs.Knowledge.{Knowledge, nothing_known, learned}

@@ -9,11 +9,11 @@ use Rattle.rbd_kinds.specs.declared.journal.Event.TheVariants as event
 use Rattle.rbd_kinds.specs.declared.machine.Fed.{Fed}
 use Rattle.rbd_kinds.specs.declared.operation.Op.{Op}
 use Rattle.rbd_kinds.specs.declared.operation.Op.TheVariants as op
-use Rattle.rbd_kinds.specs.declared.refusal.Refusal.{Refusal}
+use Rattle.rbd_commands.specs.declared.refusal.Refusal.{Refusal}
 use Rattle.rbd_kinds.specs.declared.reply.Reply.TheVariants as reply
 use Rattle.rbd_layout.specs.Pieces.{pieces_of}
 use Rattle.rbd_layout.specs.declared.types.Piece.{Piece}
-use Rattle.rbd_object.specs.Parts.{bytes_for}
+use Rattle.rbd_parts.specs.Parts.{bytes_for}
 use Rattle.rbd_header.specs.Header.{context_of}
 use Rattle.rbd_machine.specs.About.{AreOwn, look_up}
 use Rattle.rbd_machine.specs.Objects.{data_write}

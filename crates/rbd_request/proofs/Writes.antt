@@ -9,10 +9,10 @@ use Rattle.rbd_kinds.specs.declared.layout.Layout.{Layout}
 use Rattle.rbd_layout.specs.Pieces.{IsPieces}
 use Rattle.rbd_layout.specs.declared.types.Piece.{Piece}
 use Rattle.rbd_layout.proofs.Within.{lies_in}
-use Rattle.rbd_object.specs.Parts.{AreBehind, bytes_for}
+use Rattle.rbd_parts.specs.Parts.{AreBehind, bytes_for}
 use Rattle.rbd_kinds.specs.declared.machine.Fed.{Fed}
 use Rattle.rbd_kinds.specs.declared.machine.Fed.TheVariants as fed
-use Rattle.rbd_kinds.specs.declared.refusal.Refusal.TheVariants as refusal
+use Rattle.rbd_commands.specs.declared.refusal.Refusal.TheVariants as refusal
 use Rattle.rbd_kinds.specs.Extents.{fits}
 use Rattle.rbd_machine.specs.Answers.{CanBeFed}
 use Rattle.rbd_machine.specs.Plan.{Plan, Await, Note, plan_after, IsAsking, IsLive, AsksBy, Notes}

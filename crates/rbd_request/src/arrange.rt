@@ -1,13 +1,13 @@
 //! Bytes that were read object by object, in the order of the image.
 ghost use Rattle.std.specs.Prelude.{◌≡◌, ◌+◌, ◌^◌, ◌≤◌, drop, length, IfOk};
 ghost use Rattle.rbd_kinds.specs.Striping.{IsLayout};
-ghost use Rattle.rbd_object.specs.Parts.{AreBehind, EndBefore};
-ghost use Rattle.rbd_object.specs.Contents.{window, overwritten};
+ghost use Rattle.rbd_parts.specs.Parts.{AreBehind, EndBefore};
+ghost use Rattle.rbd_parts.specs.Contents.{window, overwritten};
 ghost use Rattle.rbd_meaning.specs.Arrange as of_arrange;
 
 use rbd_kinds::{Bytes, Extent, Layout, NoMemory, Part};
 use rbd_layout::pieces;
-use rbd_object::copy_window;
+use rbd_parts::copy_window;
 use std::alloc::Global;
 
 /// The bytes of an extent, out of those of its pieces, one piece after another and in it one part

@@ -1,5 +1,5 @@
 -- The labels of requests stand at operations.
-use Rattle.rbd_kinds.specs.declared.command.Command.{Command}
+use Rattle.rbd_commands.specs.declared.command.Command.{Command}
 use Rattle.rbd_kinds.specs.declared.id.SiteId.{SiteId}
 use Rattle.rbd_machine.specs.Plan.{Standing, IsClosed}
 use Rattle.rbd_requests.specs.CommandsOrderly.{command_is_orderly}

@@ -9,7 +9,7 @@ use Rattle.rbd_kinds.specs.declared.id.SiteId.{SiteId}
 use Rattle.rbd_kinds.specs.declared.machine.Fed.{Fed}
 use Rattle.rbd_kinds.specs.declared.machine.Fed.TheVariants as fed
 use Rattle.rbd_kinds.specs.declared.operation.Op.TheVariants as op
-use Rattle.rbd_kinds.specs.declared.refusal.Refusal.{Refusal}
+use Rattle.rbd_commands.specs.declared.refusal.Refusal.{Refusal}
 use Rattle.rbd_kinds.specs.Form.{IsHeaderInForm}
 use Rattle.rbd_machine.specs.Answers.{CanGive}
 use Rattle.rbd_machine.specs.Label.{Label}

@@ -1,7 +1,7 @@
 -- The requests of commands do only what they may by what they know: lemmas that the laws of an
 -- `impl` cite. They define nothing.
 use Rattle.std.proofs.Common.{◌≡◌, refl, sym, subst}
-use Rattle.rbd_kinds.specs.declared.command.Command.{Command}
+use Rattle.rbd_commands.specs.declared.command.Command.{Command}
 use Rattle.rbd_kinds.specs.declared.id.SiteId.{SiteId}
 use Rattle.rbd_machine.specs.Knowledge.{nothing_known}
 use Rattle.rbd_machine.specs.Lawful.{IsLawful, IsLawfulRequest}

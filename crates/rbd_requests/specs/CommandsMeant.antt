@@ -1,6 +1,6 @@
 -- The replies to commands are meant: lemmas that the laws of an `impl` cite. They define nothing.
 use Rattle.std.proofs.Common.{◌≡◌, List, subst}
-use Rattle.rbd_kinds.specs.declared.command.Command.{Command}
+use Rattle.rbd_commands.specs.declared.command.Command.{Command}
 use Rattle.rbd_kinds.specs.declared.id.SiteId.{SiteId}
 use Rattle.rbd_kinds.specs.declared.machine.Fed.{Fed}
 use Rattle.rbd_kinds.specs.declared.reply.Reply.{Reply}

@@ -1,6 +1,6 @@
 -- Which commands are served, by which request, and where it stands at first.
 use Rattle.std.specs.Prelude.{◌≡◌, ◌||◌, Bool, true, false}
-use Rattle.rbd_kinds.specs.declared.command.Command.{Command}
+use Rattle.rbd_commands.specs.declared.command.Command.{Command}
 use Rattle.rbd_kinds.specs.declared.id.SiteId.{SiteId}
 use Rattle.rbd_machine.specs.Plan.{Standing, without_labels}
 use Rattle.rbd_request.specs.Read.{is_read, IsReadOf}

@@ -4,7 +4,7 @@ use Rattle.std.specs.Prelude.{nat_le, nat_lt, not, position}
 use Rattle.std.specs.List.{list_any}
 use Rattle.std.proofs.lemmas.Bool.Decides.{nat_tests}
 use Rattle.std.proofs.lemmas.List.Quantifiers.{position-Some}
-use Rattle.rbd_kinds.specs.declared.command.Command.{Command}
+use Rattle.rbd_commands.specs.declared.command.Command.{Command}
 use Rattle.rbd_kinds.specs.declared.id.SiteId.TheVariants.{A}
 use Rattle.rbd_script.specs.declared.fault.LineCause.{LineCause}
 use Rattle.rbd_script.specs.declared.fault.LineCause.TheVariants.{BadName, ScheduleLine}

@@ -2,7 +2,7 @@
 use Rattle.std.specs.Prelude.{◌≡◌, ℕ, ◌<◌, ◌≤◌, ◌==◌, ◌&&◌, nat_eq, nat_lt, cond, not, Bool, true, false, List, [], length, take, map, All, slice_get, Option, Some, None}
 use Rattle.std.specs.HashSet.{HashSet, contains_by}
 use Rattle.rbd_known.specs.Calm.{is_change}
-use Rattle.rbd_kinds.specs.declared.command.Command.{Command}
+use Rattle.rbd_commands.specs.declared.command.Command.{Command}
 use Rattle.rbd_kinds.specs.declared.id.SiteId.{SiteId}
 use Rattle.rbd_machine.specs.Plan.{Standing}
 use Rattle.rbd_requests.specs.declared.request.SessionRequest.{SessionRequest}

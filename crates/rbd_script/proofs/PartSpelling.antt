@@ -3,7 +3,7 @@ use Rattle.std.proofs.Common.{◌≡◌, ℕ, ◌<◌, ◌≤◌, ◌^◌, cond,
 use Rattle.std.specs.Prelude.{decimal, IfSome}
 use Rattle.std.specs.Cmp.Lexicographic.{same_text}
 use Rattle.hex.specs.Hex.{encode_lower}
-use Rattle.rbd_kinds.specs.Name.{IsAskedName}
+use Rattle.rbd_values.specs.Name.{IsAskedName}
 use Rattle.rbd_script.specs.declared.fault.LineCause.{LineCause}
 use Rattle.rbd_script.specs.declared.fault.LineCause.TheVariants.{UnknownWord}
 use Rattle.rbd_script.specs.Form.{and_then, form, From}

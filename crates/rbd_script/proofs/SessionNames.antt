@@ -4,7 +4,7 @@ use Rattle.std.specs.Prelude.{nat_le}
 use Rattle.std.specs.List.{list_all}
 use Rattle.std.proofs.lemmas.Bool.{and_parts}
 use Rattle.std.proofs.lemmas.Bool.Decides.{nat_tests}
-use Rattle.rbd_kinds.specs.Name.{IsName, name_byte}
+use Rattle.rbd_values.specs.Name.{IsName, name_byte}
 use Rattle.rbd_script.specs.Session.{is_letter, is_letter_or_digit, is_session_name}
 
 name_byte_of_letter_or_digit : (b : ℕ) → is_letter_or_digit b ≡ true → name_byte b ≡ true

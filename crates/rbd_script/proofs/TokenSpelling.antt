@@ -6,7 +6,7 @@ use Rattle.std.proofs.lemmas.Bool.{and_parts, eqb-true}
 use Rattle.std.proofs.lemmas.Bool.Decides.{nat_tests}
 use Rattle.std.proofs.lemmas.Fmt.{decimal_nonempty, digits_decimal, digits_value-decimal, first_decimal, decimal_digit, decimal-digits_value}
 use Rattle.std.proofs.lemmas.List.Sums.{split_at_first, prefix_len_stops}
-use Rattle.rbd_kinds.specs.Name.{IsAskedName, name_byte}
+use Rattle.rbd_values.specs.Name.{IsAskedName, name_byte}
 use Rattle.rbd_script.specs.declared.fault.LineCause.{LineCause}
 use Rattle.rbd_script.specs.declared.fault.LineCause.TheVariants.{BadName, BadNumber}
 use Rattle.rbd_script.specs.Name.{both, is_at, is_asked_name, name_of, of_image, of_snap, snap_of, target_of}

@@ -1,6 +1,6 @@
 -- What a line adds to a script.
 use Rattle.std.specs.Prelude.{ℕ, Bool, true, false, if◌then◌else◌, List, [], ◌∷◌, ◌++◌, codes, Result, Ok, Err}
-use Rattle.rbd_kinds.specs.declared.command.Command.{Command}
+use Rattle.rbd_commands.specs.declared.command.Command.{Command}
 use Rattle.rbd_script.specs.declared.fault.LineCause.{LineCause}
 use Rattle.rbd_script.specs.declared.fault.LineCause.TheVariants.{ScheduleLine}
 use Rattle.rbd_script.specs.declared.script.Declared.{Declared}

@@ -1,7 +1,7 @@
 -- Tokens that name images and snapshots.
 use Rattle.std.specs.Prelude.{ℕ, ◌==◌, ◌&&◌, nat_le, not, Bool, if◌then◌else◌, List, length, slice_index, Option, Some, None, Result, Ok, Err}
 use Rattle.std.specs.List.{list_all, list_any, before_first, after_first}
-use Rattle.rbd_kinds.specs.Name.{name_byte}
+use Rattle.rbd_values.specs.Name.{name_byte}
 use Rattle.rbd_script.specs.declared.fault.LineCause.{LineCause}
 use Rattle.rbd_script.specs.declared.fault.LineCause.TheVariants.{BadName}
 

@@ -1,11 +1,11 @@
 -- How commands are written, and how a schedule's lines are.
 use Rattle.std.specs.Prelude.{◌≡◌, ℕ, ◌<◌, ◌≤◌, ◌++◌, Bool, true, false, List, [], ◌∷◌, codes, decimal, Option, Some, None, IfSome}
 use Rattle.hex.specs.Hex.{encode_lower, IsBytes}
-use Rattle.rbd_kinds.specs.Command.{IsPayload}
-use Rattle.rbd_kinds.specs.Name.{IsAskedName}
-use Rattle.rbd_kinds.specs.declared.command.Command.{Command}
-use Rattle.rbd_kinds.specs.declared.command.Command.TheVariants as command
-use Rattle.rbd_kinds.specs.declared.command.Shape.{Shape}
+use Rattle.rbd_commands.specs.Command.{IsPayload}
+use Rattle.rbd_values.specs.Name.{IsAskedName}
+use Rattle.rbd_commands.specs.declared.command.Command.{Command}
+use Rattle.rbd_commands.specs.declared.command.Command.TheVariants as command
+use Rattle.rbd_commands.specs.declared.command.Shape.{Shape}
 use Rattle.rbd_script.specs.Number.{greatest}
 
 -- `[WORD N]`

@@ -1,6 +1,6 @@
 //! What the forms mean: each law is the contract of a function that does nothing.
 ghost use Rattle.std.specs.Prelude.{◌≡◌, ℕ, List, Ok};
-ghost use Rattle.rbd_kinds.specs.declared.command.Command.{Command};
+ghost use Rattle.rbd_commands.specs.declared.command.Command.{Command};
 ghost use Rattle.rbd_script.specs.declared.script.Declared.{Declared};
 ghost use Rattle.rbd_script.specs.declared.script.Said.{Said};
 ghost use Rattle.rbd_script.specs.Command.{command_of};

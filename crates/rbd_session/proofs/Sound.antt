@@ -6,7 +6,7 @@ use Rattle.rbd_kinds.specs.declared.id.Instance.{Instance}
 use Rattle.rbd_kinds.specs.declared.id.SiteId.{SiteId}
 use Rattle.rbd_kinds.specs.declared.layout.Extent.{Extent}
 use Rattle.rbd_line.specs.Line.{Member, member_of, objects_in, IsFairLine}
-use Rattle.rbd_kinds.specs.declared.refusal.Refusal.{Refusal}
+use Rattle.rbd_commands.specs.declared.refusal.Refusal.{Refusal}
 use Rattle.rbd_line.specs.Turns.{begins_with}
 use Rattle.rbd_course.specs.Course.{beginning}
 use Rattle.rbd_course.specs.Orderly.{IsOrderlyFrom}

@@ -7,10 +7,10 @@ use Rattle.rbd_kinds.specs.declared.data_op.DataOp.{DataOp}
 use Rattle.rbd_kinds.specs.declared.data_op.DataOp.TheVariants.{Read, Write, WriteFull, Zero, Empty, Remove, CopyUp}
 use Rattle.rbd_kinds.specs.declared.layout.Part.{Part}
 use Rattle.rbd_kinds.specs.Parts.{parts_len}
-use Rattle.rbd_object.specs.Parts.{AreWithin, parts_of, parts_written, parts_zeroed}
+use Rattle.rbd_parts.specs.Parts.{AreWithin, parts_of, parts_written, parts_zeroed}
 use Rattle.rbd_object.specs.Mapped.{Mapped, looked, mapped_change, mapped_copy_up}
 use Rattle.rbd_object.specs.Versioned.{view}
-use Rattle.rbd_object.specs.declared.content.TheConstants.{LARGEST_OBJECT}
+use Rattle.rbd_parts.specs.declared.parts.TheConstants.{LARGEST_OBJECT}
 use Rattle.rbd_site.specs.Records.{or_blank}
 use Rattle.rbd_site.specs.Found.{done_where}
 

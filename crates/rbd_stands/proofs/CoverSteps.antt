@@ -20,7 +20,7 @@ use Rattle.rbd_map.specs.Covers.{Covers}
 use Rattle.rbd_map.specs.States.{states_of}
 use Rattle.rbd_header.specs.Header.{is_full, snap_in, with_size, with_snap, with_status, without_snap}
 use Rattle.rbd_object.specs.Mapped.{Mapped, looked, mapped_blank, mapped_change, mapped_copy_up}
-use Rattle.rbd_object.specs.Parts.{parts_written, parts_zeroed}
+use Rattle.rbd_parts.specs.Parts.{parts_written, parts_zeroed}
 use Rattle.rbd_object.specs.Versioned.{IsTidy, view}
 use Rattle.rbd_object.proofs.MappedLemmas.{looked-mapped_change}
 use Rattle.rbd_object.proofs.StepLemmas.{view-change}

@@ -24,7 +24,7 @@ use Rattle.rbd_flat.specs.Flat as flat
 use Rattle.rbd_flat.specs.Laws.{snap_byte, covered, painted_at, painted_byte}
 use Rattle.rbd_flat.proofs.Images.{with_image_at}
 use Rattle.rbd_flat.proofs.Painted.{length_painted, painted_extents, painted_place, painted_at_zeros}
-use Rattle.rbd_object.specs.Parts.{parts_written, parts_zeroed}
+use Rattle.rbd_parts.specs.Parts.{parts_written, parts_zeroed}
 use Rattle.rbd_site.specs.DataStep.{MayWrite, data_answer, data_after, data_change, where_object_done}
 use Rattle.rbd_site.specs.Records.{Records, put, or_blank, object_at, with_object}
 use Rattle.rbd_site.specs.Step.{answer_to, answer_served, after, after_served}

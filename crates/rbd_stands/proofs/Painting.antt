@@ -11,11 +11,11 @@ use Rattle.rbd_kinds.specs.declared.layout.Part.{Part}
 use Rattle.rbd_kinds.specs.Striping.{IsLayout, object_of, offset_of, byte_at}
 use Rattle.rbd_layout.specs.Pieces.{IsPart}
 use Rattle.rbd_layout.proofs.Places.{byte_of_place}
-use Rattle.rbd_object.specs.Contents.{is_within, overwritten, zeroed}
-use Rattle.rbd_object.proofs.ContentsLemmas.{get_or-overwritten_any, get_or-zeroed}
+use Rattle.rbd_parts.specs.Contents.{is_within, overwritten, zeroed}
+use Rattle.rbd_parts.proofs.ContentsLemmas.{get_or-overwritten_any, get_or-zeroed}
 use Rattle.rbd_flat.specs.Laws.{covers, covered, painted_at}
 use Rattle.rbd_kinds.specs.Parts.{parts_len}
-use Rattle.rbd_object.specs.Parts.{parts_written, parts_zeroed}
+use Rattle.rbd_parts.specs.Parts.{parts_written, parts_zeroed}
 use Rattle.rbd_stands.specs.Condition.{ArePartsBelow, extent_of, extents_of}
 use Rattle.rbd_flat.proofs.Painted.{zeroed_next}
 

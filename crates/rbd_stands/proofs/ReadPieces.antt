@@ -4,9 +4,9 @@ use Rattle.std.proofs.Math.Seq.{drop-append_seam, take-append_seam}
 use Rattle.std.proofs.lemmas.Bool.Decides.{nat_tests}
 use Rattle.std.proofs.lemmas.List.FromFn.{get_or-map-range_with_len, length-map-range_with_len}
 use Rattle.rbd_kinds.specs.declared.layout.Part.{Part}
-use Rattle.rbd_object.specs.Contents.{window, overwritten, is_within}
-use Rattle.rbd_object.specs.Parts.{parts_written, shifted}
-use Rattle.rbd_object.proofs.ContentsLemmas.{length-window, get_or-window}
+use Rattle.rbd_parts.specs.Contents.{window, overwritten, is_within}
+use Rattle.rbd_parts.specs.Parts.{parts_written, shifted}
+use Rattle.rbd_parts.proofs.ContentsLemmas.{length-window, get_or-window}
 use Rattle.rbd_flat.specs.Laws.{covers}
 use Rattle.rbd_stands.specs.Condition.{extent_of}
 use Rattle.rbd_stands.specs.Reading.{bytes_at_parts}

@@ -19,15 +19,15 @@ use Rattle.rbd_kinds.specs.declared.operation.Op.TheVariants as op
 use Rattle.rbd_kinds.specs.Header.{snap_named}
 use Rattle.rbd_kinds.specs.Striping.{object_of, offset_of}
 use Rattle.rbd_header.specs.Header.{snap_in}
-use Rattle.rbd_object.specs.Contents.{window}
+use Rattle.rbd_parts.specs.Contents.{window}
 use Rattle.rbd_object.specs.Mapped.{Mapped, looked}
 use Rattle.rbd_object.specs.Versioned.{view}
-use Rattle.rbd_object.proofs.ContentsLemmas.{length-window, get_or-window}
+use Rattle.rbd_parts.proofs.ContentsLemmas.{length-window, get_or-window}
 use Rattle.rbd_flat.specs.Flat.{Flat, FlatImage, FlatSnap, image_at}
 use Rattle.rbd_flat.specs.Flat as flat
 use Rattle.rbd_flat.specs.Laws.{snap_byte}
 use Rattle.rbd_flat.specs.Read.{image_view, view_at}
-use Rattle.rbd_object.specs.Parts.{parts_of}
+use Rattle.rbd_parts.specs.Parts.{parts_of}
 use Rattle.rbd_site.specs.DataStep.{parts_read}
 use Rattle.rbd_site.specs.HeaderStep.{header_answer}
 use Rattle.rbd_site.specs.Records.{Records, object_at}

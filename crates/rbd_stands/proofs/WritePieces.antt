@@ -9,7 +9,7 @@ use Rattle.std.proofs.lemmas.Bool.Decides.{nat_tests}
 use Rattle.std.proofs.lemmas.List.Folds.{Any-from_list_any, list_any-from_Any}
 use Rattle.std.proofs.lemmas.List.{ext_get_or, get_or_append_left}
 use Rattle.std.proofs.Math.Seq.{drop-append_seam}
-use Rattle.rbd_object.proofs.ContentsLemmas.{length-window, get_or-window}
+use Rattle.rbd_parts.proofs.ContentsLemmas.{length-window, get_or-window}
 use Rattle.std.proofs.lemmas.Map.Lookups.{exact_unsigned}
 use Rattle.rbd_kinds.specs.declared.layout.Extent.{Extent}
 use Rattle.rbd_kinds.specs.declared.layout.Layout.{Layout}
@@ -17,8 +17,8 @@ use Rattle.rbd_kinds.specs.declared.layout.Part.{Part}
 use Rattle.rbd_layout.specs.declared.types.Piece.{Piece}
 use Rattle.rbd_layout.specs.Pieces.{IsPartsOf, IsPieces, IsWithin}
 use Rattle.rbd_layout.proofs.Derived.{pieces_cover}
-use Rattle.rbd_object.specs.Contents.{window}
-use Rattle.rbd_object.specs.Parts.{bytes_for}
+use Rattle.rbd_parts.specs.Contents.{window}
+use Rattle.rbd_parts.specs.Parts.{bytes_for}
 use Rattle.rbd_flat.specs.declared.effect.Effect.TheVariants as effect
 use Rattle.rbd_flat.specs.Flat.{Flat, FlatImage, image_at, painted, places_of, changed, with_image, after, after_all}
 use Rattle.rbd_flat.specs.Laws.{covers, painted_at}

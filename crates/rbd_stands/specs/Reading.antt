@@ -8,7 +8,7 @@ use Rattle.rbd_kinds.specs.declared.header.ParentLink.{ParentLink}
 use Rattle.rbd_kinds.specs.declared.layout.Part.{Part}
 use Rattle.rbd_kinds.specs.Header.{snap_named}
 use Rattle.rbd_header.specs.Header.{snap_in}
-use Rattle.rbd_object.specs.Contents.{window}
+use Rattle.rbd_parts.specs.Contents.{window}
 use Rattle.rbd_flat.specs.Flat.{Flat, FlatImage, FlatSnap, image_at, snap_in as flat_snap_in}
 use Rattle.rbd_flat.specs.Read.{view_at}
 use Rattle.rbd_stands.specs.Shown.{IsInOverlap, inherited, links_of, snapshots_of}

@@ -1,7 +1,7 @@
 -- A write of bytes to an extent, piece by piece.
 use Rattle.std.specs.Prelude.{ℕ, List, map}
 use Rattle.rbd_layout.specs.declared.types.Piece.{Piece}
-use Rattle.rbd_object.specs.Parts.{bytes_for}
+use Rattle.rbd_parts.specs.Parts.{bytes_for}
 use Rattle.rbd_flat.specs.declared.effect.Effect.{Effect}
 use Rattle.rbd_flat.specs.declared.effect.Effect.TheVariants as effect
 use Rattle.rbd_stands.specs.Condition.{extents_of}

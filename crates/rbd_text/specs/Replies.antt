@@ -2,7 +2,7 @@
 use Rattle.std.specs.Prelude.{ℕ, ◌+◌, ◌^◌, ◌<◌, suc, zero, max, List, [], ◌∷◌, ◌++◌, codes, decimal, Option, Some, None, length}
 use Rattle.std.specs.List.{flat_map}
 use Rattle.hex.specs.Hex.{encode_lower}
-use Rattle.rbd_kinds.specs.Refusal.{refusal_text}
+use Rattle.rbd_commands.specs.Refusal.{refusal_text}
 use Rattle.rbd_kinds.specs.Striping.{IsLayout, object_of}
 use Rattle.rbd_kinds.specs.declared.header.HeaderView.{HeaderView}
 use Rattle.rbd_kinds.specs.declared.header.ParentLink.{ParentLink}

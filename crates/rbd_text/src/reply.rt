@@ -1,6 +1,6 @@
 //! Replies, as they are printed.
 ghost use Rattle.std.specs.Prelude.{◌≡◌, ◌++◌, OnOk, codes, decimal};
-ghost use Rattle.rbd_kinds.specs.Refusal.{refusal_text};
+ghost use Rattle.rbd_commands.specs.Refusal.{refusal_text};
 ghost use Rattle.rbd_text.specs.Replies.{reply_text, bytes_text, names_text, ids_text, used_text, stuck_text, mirror_text, state_text, IsShowable};
 
 use crate::info::{push_info, role};

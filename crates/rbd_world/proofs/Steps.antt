@@ -1,7 +1,7 @@
 -- Whatever event comes, a sound world stays sound: by what the event does.
 use Rattle.std.proofs.Common.{◌≡◌, ℕ, ◌||◌, nat_lt, cond, Bool, true, false, is_some, Option, Some, None, refl}
 use Rattle.std.proofs.lemmas.Bool.{or_parts}
-use Rattle.rbd_kinds.specs.declared.command.Command.{Command}
+use Rattle.rbd_commands.specs.declared.command.Command.{Command}
 use Rattle.rbd_kinds.specs.declared.id.SiteId.{SiteId}
 use Rattle.rbd_machine.specs.Knowledge.{Knowledge}
 use Rattle.rbd_machine.specs.Plan.{Plan, Ask, Await, Note, Return, Goto, Standing}

@@ -1,7 +1,7 @@
 -- A command that begins, as the session tells it and as the world does.
 use Rattle.std.proofs.Common.{◌≡◌, ◌||◌, ℕ, Bool, false, cond, Option, Some, None, sym, ap, ◌∙◌, subst}
 use Rattle.std.specs.Prelude.{nat_lt}
-use Rattle.rbd_kinds.specs.declared.command.Command.{Command}
+use Rattle.rbd_commands.specs.declared.command.Command.{Command}
 use Rattle.rbd_kinds.specs.declared.id.SiteId.{SiteId}
 use Rattle.rbd_machine.specs.Plan.{Standing}
 use Rattle.rbd_requests.specs.declared.request.SessionRequest.{SessionRequest}

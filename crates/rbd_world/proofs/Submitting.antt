@@ -4,7 +4,7 @@ use Rattle.std.specs.Prelude.{OnErr, OnOk, Result, Ok, Err}
 use Rattle.std.proofs.Math.ListN.{get_or}
 use Rattle.std.proofs.lemmas.Option.{slice_get_cases}
 use Rattle.rbd_flat.specs.declared.entry.Entry.{Entry}
-use Rattle.rbd_kinds.specs.declared.command.Command.{Command}
+use Rattle.rbd_commands.specs.declared.command.Command.{Command}
 use Rattle.rbd_machine.specs.Plan.{Standing}
 use Rattle.rbd_session.specs.Session.{SessionView, IsSoundSession}
 use Rattle.rbd_world.specs.declared.event.Event.{Event}

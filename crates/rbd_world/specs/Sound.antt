@@ -1,11 +1,11 @@
 -- What holds of each world, whatever came: its run is right at every place, and what its requests
 -- know is true.
 use Rattle.std.specs.Prelude.{◌≡◌, ◌≢◌, ◌⊎◌, ℕ, ◌+◌, ◌||◌, Bool, true, false, List, [], ◌∷◌, length, is_some, slice_get, Option, Some, None}
-use Rattle.rbd_kinds.specs.declared.command.Command.{Command}
+use Rattle.rbd_commands.specs.declared.command.Command.{Command}
 use Rattle.rbd_kinds.specs.declared.id.Instance.{Instance}
 use Rattle.rbd_kinds.specs.declared.id.SiteId.{SiteId}
 use Rattle.rbd_kinds.specs.declared.machine.Fed.{Fed}
-use Rattle.rbd_kinds.specs.declared.refusal.Refusal.{Refusal}
+use Rattle.rbd_commands.specs.declared.refusal.Refusal.{Refusal}
 use Rattle.rbd_kinds.specs.declared.reply.Reply.{Reply}
 use Rattle.rbd_known.specs.Calm.{IsCalmRequest, OwnsNothing, is_change}
 use Rattle.rbd_known.specs.Knowing.{AllKnow}

@@ -2,7 +2,8 @@
 //! prose.
 use Operation::*;
 use rbd_kinds::{NoMemory, Part, SnapContext, SnapId, SnapIds};
-use rbd_object::{LARGEST_OBJECT, Object, gather, shifted_parts};
+use rbd_object::{LARGEST_OBJECT, Object};
+use rbd_parts::{gather, shifted_parts};
 use std::alloc::Global;
 use std::process::Abort;
 use std::test::Fail;

@@ -2,7 +2,7 @@
 //! to want was worked out from its diagram.
 ghost use Rattle.std.specs.Prelude.{◌≡◌, None, Some, ◌==◌, if◌then◌else◌, [], ◌∷◌, IfOk};
 ghost use Rattle.rbd_kinds.specs.declared.id.SiteId.TheVariants as site;
-ghost use Rattle.rbd_kinds.specs.declared.refusal.Refusal.TheVariants.{BadRange};
+ghost use Rattle.rbd_commands.specs.declared.refusal.Refusal.TheVariants.{BadRange};
 ghost use Rattle.rbd_kinds.specs.declared.reply.Reply.TheVariants.{Done};
 ghost use Rattle.rbd_machine.specs.Approach.{rest_of};
 ghost use Rattle.rbd_machine.specs.Plan.{Return, without_labels};

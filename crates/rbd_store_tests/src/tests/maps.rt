@@ -4,7 +4,7 @@ ghost use Rattle.std.specs.Prelude.{◌≡◌, ℕ, ◌+◌, ◌<◌, ◌≤◌,
 ghost use Rattle.rbd_kinds.specs.declared.map_op.MapOp.TheVariants as map_op;
 ghost use Rattle.rbd_kinds.specs.declared.operation.Op.TheVariants as op_on;
 ghost use Rattle.rbd_kinds.specs.Parts.{parts_len};
-ghost use Rattle.rbd_object.specs.Parts.{AreWithin};
+ghost use Rattle.rbd_parts.specs.Parts.{AreWithin};
 ghost use Rattle.rbd_site.specs.Log.{records_of};
 ghost use Rattle.rbd_site.specs.MapStep.{AreBits};
 ghost use Rattle.rbd_site.specs.Step.{MayDo, answer_to};

@@ -1,7 +1,7 @@
 //! What a site answers and logs. The wanted answers were worked out from the rules in prose.
 ghost use Rattle.std.specs.Prelude.{◌≡◌, IfOk, ◌≤◌};
 ghost use Rattle.rbd_kinds.specs.Parts.{parts_len};
-ghost use Rattle.rbd_object.specs.Parts.{AreWithin};
+ghost use Rattle.rbd_parts.specs.Parts.{AreWithin};
 ghost use Rattle.rbd_site.specs.DataStep.{MayDoOnData};
 
 use super::bench::{Bench, C1, IMAGE, create, name};

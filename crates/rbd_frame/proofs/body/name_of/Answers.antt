@@ -1,5 +1,5 @@
 use Rattle.std.proofs.Common.{sym, subst}
-use Rattle.rbd_kinds.specs.Name.{IsName}
+use Rattle.rbd_values.specs.Name.{IsName}
 use Rattle.rbd_frame.proofs.Names.{is_name}
 use Rattle.rbd_frame.proofs.body.name_of.Goals as goal
 

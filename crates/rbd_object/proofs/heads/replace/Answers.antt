@@ -1,6 +1,6 @@
 use Rattle.std.proofs.Common.{[], ◌++◌, sym, subst}
-use Rattle.rbd_object.specs.Paging.{AreCounted}
-use Rattle.rbd_object.specs.Sheaves.{Exchanged}
+use Rattle.rbd_pages.specs.Paging.{AreCounted}
+use Rattle.rbd_pages.specs.Sheaves.{Exchanged}
 use Rattle.rbd_object.specs.Shared.{sheaves_of}
 use Rattle.rbd_object.proofs.HeadLemmas.{beside_is, counted_first_of, let_go_beside, swapped}
 use Rattle.rbd_object.proofs.heads.replace.Goals as goal

@@ -1,6 +1,6 @@
 use Rattle.std.proofs.Common.{[], Some, ◌∙◌, ap}
 use Rattle.std.specs.Prelude.{unwrap_or}
-use Rattle.rbd_object.specs.Contents.{overwritten}
+use Rattle.rbd_parts.specs.Contents.{overwritten}
 use Rattle.rbd_object.specs.Shared.{sheaves_of}
 use Rattle.rbd_object.proofs.HeadLemmas.{head_after, kept_change, undone, untouched}
 use Rattle.rbd_object.proofs.heads.write.Goals as goal

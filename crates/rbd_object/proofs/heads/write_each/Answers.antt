@@ -1,6 +1,6 @@
 use Rattle.std.proofs.lemmas.Option.{slice_get-get_or}
 use Rattle.std.proofs.Common.{get_or, arith}
-use Rattle.rbd_object.proofs.ListsLemmas.{counted_exchanged, exchanged_trans}
+use Rattle.rbd_pages.proofs.ListsLemmas.{counted_exchanged, exchanged_trans}
 use Rattle.rbd_object.proofs.EachLemmas.{no_part, parts_begun, parts_done, parts_fit, parts_more, parts_refused, parts_used}
 use Rattle.rbd_object.proofs.heads.write_each.Goals as goal
 

@@ -1,5 +1,5 @@
 use Rattle.std.proofs.Common.{sym, subst}
-use Rattle.rbd_object.specs.Sheaves.{Exchanged}
+use Rattle.rbd_pages.specs.Sheaves.{Exchanged}
 use Rattle.rbd_object.specs.Shared.{sheaves_of}
 use Rattle.rbd_object.proofs.HeadLemmas.{exchanged_refused}
 use Rattle.rbd_object.proofs.heads.write_head.Goals as goal

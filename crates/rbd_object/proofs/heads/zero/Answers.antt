@@ -1,6 +1,6 @@
 use Rattle.std.proofs.Common.{◌∙◌, ap}
 use Rattle.std.specs.Prelude.{option_map}
-use Rattle.rbd_object.specs.Contents.{zeroed}
+use Rattle.rbd_parts.specs.Contents.{zeroed}
 use Rattle.rbd_object.specs.Shared.{sheaves_of}
 use Rattle.rbd_object.proofs.HeadLemmas.{head_after, kept_change, undone, untouched}
 use Rattle.rbd_object.proofs.heads.zero.Goals as goal

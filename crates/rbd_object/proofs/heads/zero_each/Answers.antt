@@ -1,4 +1,4 @@
-use Rattle.rbd_object.proofs.ListsLemmas.{counted_exchanged, exchanged_trans}
+use Rattle.rbd_pages.proofs.ListsLemmas.{counted_exchanged, exchanged_trans}
 use Rattle.rbd_object.proofs.EachLemmas.{zeros_begun, zeros_done, zeros_more, zeros_refused}
 use Rattle.rbd_object.proofs.heads.zero_each.Goals as goal
 

@@ -1,6 +1,6 @@
 use Rattle.std.proofs.Common.{None, true, cond, ◌∙◌, ap}
 use Rattle.std.specs.Prelude.{option_map}
-use Rattle.rbd_object.specs.Parts.{parts_zeroed}
+use Rattle.rbd_parts.specs.Parts.{parts_zeroed}
 use Rattle.rbd_object.specs.Shared.{sheaves_of}
 use Rattle.rbd_object.proofs.HeadLemmas.{head_after, kept_change, kept_if, restored, untouched}
 use Rattle.rbd_object.proofs.heads.zero_several.Goals as goal

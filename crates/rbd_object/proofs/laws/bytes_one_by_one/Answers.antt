@@ -1,4 +1,4 @@
-use Rattle.rbd_object.proofs.ContentsLemmas.{get_or-window, get_or-overwritten_any, get_or-zeroed}
+use Rattle.rbd_parts.proofs.ContentsLemmas.{get_or-window, get_or-overwritten_any, get_or-zeroed}
 use Rattle.rbd_object.proofs.laws.bytes_one_by_one.Goals as goal
 
 pub returns-clause-read : goal.returns-clause-read

@@ -1,4 +1,4 @@
-use Rattle.rbd_object.proofs.ContentsLemmas.{length-window, length_overwritten, length-zeroed}
+use Rattle.rbd_parts.proofs.ContentsLemmas.{length-window, length_overwritten, length-zeroed}
 use Rattle.rbd_object.proofs.laws.lengths_of_bytes.Goals as goal
 
 pub returns-clause-read : goal.returns-clause-read

@@ -1,9 +1,9 @@
 use Rattle.std.proofs.Common.{ℕ, ◌≡◌, ◌+◌, ◌<◌, ◌≤◌, length, drop, ap, sym, subst, refl, get_or, rules, arith}
 use Rattle.std.proofs.lemmas.List.{get_or_read, drop_all}
-use Rattle.rbd_object.specs.Paging.{AreCounted}
-use Rattle.rbd_object.specs.Sheets.{count_at}
+use Rattle.rbd_pages.specs.Paging.{AreCounted}
+use Rattle.rbd_pages.specs.Sheets.{count_at}
 use Rattle.rbd_object.specs.Shared.{Stored, dead_named, dead_sheaves}
-use Rattle.rbd_object.proofs.SheavesLemmas.{same_refl, same_trans}
+use Rattle.rbd_pages.proofs.SheavesLemmas.{same_refl, same_trans}
 use Rattle.rbd_object.proofs.VersionLemmas.{counted_version, dead_next, named_more, no_version}
 use Rattle.rbd_object.proofs.versions.let_go.Goals as goal
 

@@ -1,6 +1,6 @@
 use Rattle.std.proofs.Common.{ℕ, ◌≡◌, ◌+◌, ◌<◌, ◌≤◌, drop}
-use Rattle.rbd_object.specs.Sheaves.{IsSame}
-use Rattle.rbd_object.specs.Sheets.{count_at, in_use}
+use Rattle.rbd_pages.specs.Sheaves.{IsSame}
+use Rattle.rbd_pages.specs.Sheets.{count_at, in_use}
 use Rattle.rbd_object.specs.Shared.{AreNamed, dead_named}
 use Rattle.rbd_object.proofs.versions.let_go.Given as goal
 

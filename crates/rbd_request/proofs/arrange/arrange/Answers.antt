@@ -3,7 +3,7 @@ use Rattle.std.proofs.Math.ListN.{drop_of_length-le}
 use Rattle.rbd_layout.proofs.Listed.{pieces_of_alone}
 use Rattle.rbd_layout.specs.Pieces.{IsPieces}
 use Rattle.rbd_layout.specs.declared.types.Piece.{Piece}
-use Rattle.rbd_object.specs.Parts.{AreBehind, EndBefore}
+use Rattle.rbd_parts.specs.Parts.{AreBehind, EndBefore}
 use Rattle.rbd_meaning.specs.Arrange.{arranged}
 use Rattle.rbd_request.proofs.Arranged.{pieces_lie}
 use Rattle.rbd_request.proofs.arrange.arrange.Goals as goal

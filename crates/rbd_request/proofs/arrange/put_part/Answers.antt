@@ -1,6 +1,6 @@
 use Rattle.std.proofs.Common.{◌≡◌, length, ap, ◌∙◌, drop, arith}
-use Rattle.rbd_object.specs.Contents.{window, overwritten}
-use Rattle.rbd_object.proofs.ContentsLemmas.{length-window}
+use Rattle.rbd_parts.specs.Contents.{window, overwritten}
+use Rattle.rbd_parts.proofs.ContentsLemmas.{length-window}
 use Rattle.rbd_request.proofs.Arranged.{put_between}
 use Rattle.rbd_request.proofs.arrange.put_part.Goals as goal
 

@@ -1,5 +1,5 @@
 use Rattle.std.proofs.Common.{ap, ◌∙◌}
-use Rattle.rbd_object.specs.Parts.{bytes_for}
+use Rattle.rbd_parts.specs.Parts.{bytes_for}
 use Rattle.rbd_piece.specs.Write.{write_piece}
 use Rattle.rbd_request.proofs.pieces.write_piece.Goals as goal
 

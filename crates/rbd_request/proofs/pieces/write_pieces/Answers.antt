@@ -3,7 +3,7 @@ use Rattle.rbd_layout.proofs.Bounds.{few_bytes}
 use Rattle.rbd_layout.proofs.Listed.{pieces_of_alone}
 use Rattle.rbd_layout.specs.Pieces.{pieces_of, IsPieces}
 use Rattle.rbd_layout.specs.declared.types.Piece.{Piece}
-use Rattle.rbd_object.specs.Parts.{AreBehind}
+use Rattle.rbd_parts.specs.Parts.{AreBehind}
 use Rattle.rbd_meaning.specs.Range.{extent_at}
 use Rattle.rbd_request.specs.Write.{rest_of_pieces, write_pieces}
 use Rattle.rbd_request.proofs.Writes.{within_size, pieces_behind, behind_first, behind_rest, next_made}

@@ -1,7 +1,7 @@
 use Rattle.std.proofs.Common.{◌≡◌, All}
 use Rattle.rbd_layout.specs.Pieces.{pieces_of}
 use Rattle.rbd_layout.specs.declared.types.Piece.{Piece}
-use Rattle.rbd_object.specs.Parts.{AreBehind}
+use Rattle.rbd_parts.specs.Parts.{AreBehind}
 use Rattle.rbd_machine.specs.Plan.{Plan}
 use Rattle.rbd_meaning.specs.Range.{extent_at}
 use Rattle.rbd_request.specs.Write.{rest_of_pieces, write_pieces}

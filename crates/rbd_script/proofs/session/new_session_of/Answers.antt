@@ -1,5 +1,5 @@
 use Rattle.std.proofs.Common.{sym, ◌∙◌, subst}
-use Rattle.rbd_kinds.specs.Name.{IsName}
+use Rattle.rbd_values.specs.Name.{IsName}
 use Rattle.rbd_script.proofs.SessionNames.{name_of_session}
 use Rattle.rbd_script.proofs.session.new_session_of.Goals as goal
 

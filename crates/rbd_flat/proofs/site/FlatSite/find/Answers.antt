@@ -1,7 +1,7 @@
 use Rattle.std.proofs.Common.{sym, ap, ◌∙◌}
 use Rattle.std.specs.Cmp.Lexicographic.{nat_list_cmp_total}
 use Rattle.rbd_flat.specs.Flat.{Flat, id_of}
-use Rattle.rbd_kinds.proofs.Ordered.{get_entries}
+use Rattle.rbd_values.proofs.Ordered.{get_entries}
 use Rattle.rbd_flat.proofs.site.FlatSite.find.Goals as goal
 
 pub returns : goal.returns

@@ -1,7 +1,7 @@
 use Rattle.std.proofs.Common.{◌≡◌, ap, arith}
 use Rattle.rbd_object.specs.Paged.{Paged}
-use Rattle.rbd_object.specs.Sheets.{in_use}
-use Rattle.rbd_object.proofs.SheetLemmas.{in_use-le-length}
+use Rattle.rbd_pages.specs.Sheets.{in_use}
+use Rattle.rbd_pages.proofs.SheetLemmas.{in_use-le-length}
 use Rattle.rbd_object.proofs.paged.PagedObject.page_places.Goals as goal
 
 pub returns : goal.returns

@@ -1,6 +1,6 @@
 use Rattle.std.proofs.Common.{◌≡◌, ap, arith}
 use Rattle.rbd_object.specs.Paged.{Paged}
-use Rattle.rbd_object.specs.Sheets.{in_use}
+use Rattle.rbd_pages.specs.Sheets.{in_use}
 use Rattle.rbd_object.proofs.PagedLemmas.{sheaf_of_pages}
 use Rattle.rbd_object.proofs.paged.PagedObject.sheaf_places.Goals as goal
 

@@ -1,7 +1,7 @@
 use Rattle.std.proofs.Common.{ap, ◌∙◌}
 use Rattle.std.specs.FinSet as finset
 use Rattle.rbd_registry.specs.Children.{Entry, entry_cmp}
-use Rattle.rbd_kinds.proofs.Ordered.{one_added}
+use Rattle.rbd_values.proofs.Ordered.{one_added}
 use Rattle.rbd_registry.proofs.Entries.{entry_total, entry_exact}
 use Rattle.rbd_registry.proofs.children.Children.add.Goals as goal
 

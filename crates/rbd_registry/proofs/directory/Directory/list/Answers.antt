@@ -2,7 +2,7 @@ use Rattle.std.proofs.Common.{List, ℕ, ◌++◌, map, sym, ap, ◌∙◌}
 use Rattle.std.specs.Cmp.Lexicographic.{nat_list_cmp_total}
 use Rattle.std.specs.FinMap as finmap
 use Rattle.rbd_registry.specs.Directory.{Listing}
-use Rattle.rbd_kinds.proofs.Ordered.{entries_in_order}
+use Rattle.rbd_values.proofs.Ordered.{entries_in_order}
 use Rattle.rbd_registry.proofs.directory.Directory.list.Goals as goal
 
 pub loop-name-init : goal.loop-name-init

@@ -1,8 +1,0 @@
-use Rattle.std.proofs.Common.{◌≡◌, ◌++◌, drop}
-use Rattle.rbd_object.specs.Parts.{parts_of}
-use Rattle.rbd_object.specs.Shared.{bytes_in}
-use Rattle.rbd_object.proofs.content.Content.read_parts.Given as goal
-
--- what was read, and what is left to read
-abbrev pub invariant-loop-part : goal.invariant-loop-part
-invariant-loop-part l = l.read.items ++ parts_of (drop l.part-index l.parts) (bytes_in l.sheaves l.self) ≡ parts_of l.parts (bytes_in l.sheaves l.self)

@@ -1,0 +1,6 @@
+pub mod ListedLemmas
+pub mod ListsLemmas
+pub mod PagingLemmas
+pub mod SheavesLemmas
+pub mod SheetLemmas
+pub mod WritingLemmas

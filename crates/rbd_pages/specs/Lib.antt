@@ -1,0 +1,4 @@
+pub mod Listed
+pub mod Paging
+pub mod Sheaves
+pub mod Sheets
