@@ -11,7 +11,7 @@ use Rattle.rbd_client.specs.Actor.{actor_at, any_taken, has_taken, is_at_rest, o
 use Rattle.rbd_client.specs.Client.{ClientView, state_in}
 use Rattle.rbd_client.specs.Feeding.{DropsAtRest, IsAtRest}
 use Rattle.rbd_client.specs.Sound.{IsSoundClient, IsWellOnWay}
-use Rattle.rbd_client.proofs.Past.{IsPastIn, past_found}
+use Rattle.rbd_line.proofs.Past.{IsPastIn, past_found}
 use Rattle.rbd_client.proofs.Requests.{look_drops_nothing}
 use Rattle.rbd_course.specs.Course.{has_just_joined, is_waiting}
 use Rattle.rbd_course.specs.declared.stage.Stage.{Stage}

@@ -31,7 +31,7 @@ use Rattle.rbd_known.specs.Knowing.{AllKnow}
 use Rattle.rbd_known.proofs.Looking.{IsMemberFor, may_look, owner_runs}
 use Rattle.rbd_known.proofs.Wanting.{Wants, wants}
 use Rattle.rbd_line.specs.Line.{Member, any_past, is_past, member_of}
-use Rattle.rbd_client.proofs.Past.{found_past}
+use Rattle.rbd_line.proofs.Past.{found_past}
 use Rattle.rbd_kinds.specs.declared.image_at.ImageAt.{ImageAt}
 use Rattle.rbd_locks.specs.Locks.{LocksView, state_at}
 use Rattle.rbd_machine.specs.Knowledge.{Knowledge, Own, own_of}

@@ -1,4 +1,4 @@
-use Rattle.std.proofs.Common.{◌≡◌, sym, ap, ◌∙◌, subst, inr}
+use Rattle.std.proofs.Common.{◌≡◌, sym, ap, ◌∙◌, subst, inr, rules}
 use Rattle.rbd_edge.specs.Sink.{held_with, GainsFront}
 use Rattle.rbd_lab.specs.Run.{Answers, IsOutput, words_of}
 use Rattle.rbd_lab.specs.declared.run.Status.TheVariants.{Done, BadLine, WriteFault}
