@@ -1,18 +1,22 @@
 -- What the history is behind an event, by what it did.
-use Rattle.std.specs.Prelude.{List, [], ◌∷◌, ◌++◌, Bool, true, false}
+use Rattle.std.specs.Prelude.{List, [], ◌∷◌, ◌++◌, map, Bool, true, false}
 use Rattle.rbd_flat.specs.declared.entry.Entry.{Entry}
 use Rattle.rbd_flat.specs.declared.entry.Entry.TheVariants as entry
 use Rattle.rbd_world.specs.declared.event.Outcome.{Outcome}
 use Rattle.rbd_world.specs.declared.event.Outcome.TheVariants as outcome
-use Rattle.rbd_world.specs.Run.{Happening, Nothing, Waited, Began, Did, Refused, Trimmed, entry_of, reply_entries}
+use Rattle.rbd_world.specs.Run.{Happening, Nothing, Waited, Began, Did, Refused, Trimmed, Expired, Heard, Stopped, Restarted, ending_entries, entry_of}
 
 abbrev pub noted_by : List Entry → Happening → List Entry
 noted_by history Nothing = history
 noted_by history Waited = history
-noted_by history (Began asked who slot) = history ++ entry.Start asked.line who ∷ []
-noted_by history (Did o reply) = history ++ entry_of o ∷ reply_entries o.line reply
+noted_by history (Began asked slot) = history ++ entry.Start asked.line asked.who ∷ []
+noted_by history (Did o reply) = history ++ entry_of o ∷ ending_entries o.by reply
 noted_by history (Refused site line reply) = history ++ entry.Reply line reply ∷ []
 noted_by history (Trimmed site number image object) = history
+noted_by history (Expired site number image who) = history
+noted_by history (Heard notice) = history
+noted_by history (Stopped who wanted lost) = history ++ entry.Stop who.session ∷ map entry.Lost lost
+noted_by history (Restarted who) = history
 
 -- it is that of a command that began
 abbrev pub is_start : Outcome → Bool

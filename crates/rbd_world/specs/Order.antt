@@ -1,11 +1,12 @@
--- The order in which the writes of one session change an image: of two, the one that found the image
--- first writes each of its objects first.
+-- The order in which the writes of one instance change an image: of two, the one that found the
+-- image first writes each of its objects first.
 use Rattle.std.specs.Prelude.{◌≡◌, ◌⊎◌, ℕ, ◌==◌, ◌&&◌, ◌||◌, not, Bool, true, false, List, [], ◌∷◌, Some, None, IsSome}
 use Rattle.rbd_kinds.specs.declared.answer.Answer.{Answer}
 use Rattle.rbd_kinds.specs.declared.answer.Answer.TheVariants as answer
 use Rattle.rbd_commands.specs.declared.command.Command.{Command}
 use Rattle.rbd_kinds.specs.declared.data_op.DataOp.TheVariants as data_op
 use Rattle.rbd_kinds.specs.declared.directory_op.DirectoryOp.TheVariants as directory
+use Rattle.rbd_kinds.specs.declared.id.Instance.{Instance}
 use Rattle.rbd_kinds.specs.declared.id.SiteId.{SiteId}
 use Rattle.rbd_kinds.specs.declared.operation.Op.{Op}
 use Rattle.rbd_kinds.specs.declared.operation.Op.TheVariants as op
@@ -19,7 +20,7 @@ use Rattle.rbd_session.specs.Lines.{lines_of}
 use Rattle.rbd_session.specs.Session.{SessionView, running_at}
 use Rattle.rbd_session.specs.Track.{image_at}
 use Rattle.rbd_world.specs.InLine.{IsPastWithout, KeepsTo}
-use Rattle.rbd_world.specs.Run.{Asked, Happening, Did, asked_by}
+use Rattle.rbd_world.specs.Run.{Asked, Happening, Did, asked_by, is_own}
 
 -- ---- what a line has done
 
@@ -34,11 +35,11 @@ writes_object image number (op.Data i n (data_op.Write context must parts bytes)
 writes_object image number o = false
 
 abbrev pub finds_in : (line : ℕ) → SiteId → (image : ℕ) → Happening → Bool
-finds_in line s image (Did o reply) = o.line == line && (same_site o.site s && tells_image image o.op o.answer)
+finds_in line s image (Did o reply) = is_own line o.by && (same_site o.site s && tells_image image o.op o.answer)
 finds_in line s image h = false
 
 abbrev pub writes_in : (line : ℕ) → SiteId → (image number : ℕ) → Happening → Bool
-writes_in line s image number (Did o reply) = o.line == line && (same_site o.site s && writes_object image number o.op)
+writes_in line s image number (Did o reply) = is_own line o.by && (same_site o.site s && writes_object image number o.op)
 writes_in line s image number h = false
 
 -- the line has found the image by its name
@@ -58,23 +59,24 @@ found_before one other s image (h ∷ run) = (has_found one s image (h ∷ run) 
 
 -- ---- the order
 
--- the line is a write or a fill of the session
-pub record IsWriterOf (session line : ℕ) (run : List Happening) : Type 0 where
+-- the line is a write or a fill of the instance
+pub record IsWriterOf (who : Instance) (line : ℕ) (run : List Happening) : Type 0 where
   pub asked : Asked
   pub is : asked_by line run ≡ Some asked
-  pub mine : asked.session ≡ session
+  pub mine : asked.who ≡ who
   pub writes : IsSome (extent_of asked.command)
 
--- The line has found the image, and no other write of its session that found it later has written
+-- The line has found the image, and no other write of its instance that found it later has written
 -- the object.
-pub record IsFirstToWrite (session line : ℕ) (s : SiteId) (image number : ℕ) (run : List Happening) : Type 0 where
+pub record IsFirstToWrite (who : Instance) (line : ℕ) (s : SiteId) (image number : ℕ) (run : List Happening) : Type 0 where
   pub found : has_found line s image run ≡ true
-  pub first : (other : ℕ) → IsWriterOf session other run → found_before line other s image run ≡ true → has_written other s image number run ≡ false
+  pub first : (other : ℕ) → IsWriterOf who other run → found_before line other s image run ≡ true → has_written other s image number run ≡ false
 
 -- so it is where a write or a fill writes an object
 abbrev pub IsInTurn : Happening → (before : List Happening) → Type 0
 IsInTurn (Did o reply) before =
-    (session image number : ℕ) → IsWriterOf session o.line before → writes_object image number o.op ≡ true → IsFirstToWrite session o.line o.site image number before
+    (who : Instance) (line image number : ℕ) → is_own line o.by ≡ true → IsWriterOf who line before → writes_object image number o.op ≡ true
+    → IsFirstToWrite who line o.site image number before
 IsInTurn h before = Unit {0}
 
 -- at each place of the run
@@ -89,7 +91,7 @@ WritesFirst one other s image number [] = Unit {0}
 WritesFirst one other s image number (h ∷ run) =
     (writes_in one s image number h ≡ true → has_written other s image number run ≡ false) × WritesFirst one other s image number run
 
--- ---- where the writes of a session stand
+-- ---- where the writes of an instance stand
 
 -- It has found no image yet, and is in no line.
 pub record IsBeforeFinding {R : Type 0} (stands : R → Standing) (home : SiteId) (run : List Happening) (r : Running R) : Type 0 where
@@ -111,12 +113,12 @@ pub record IsBehindFinding {R : Type 0} (stands : R → Standing) (run : List Ha
 
 -- Of the writes in a line, who found the image earlier stands ahead; and where another that found it
 -- later has written an object, whether it has ended or not, this one has no ticket for it.
-pub record IsInOrder {R : Type 0} (stands : R → Standing) (home : SiteId) (session : ℕ) (run : List Happening) (c : SessionView R) : Type 0 where
+pub record IsInOrder {R : Type 0} (stands : R → Standing) (home : SiteId) (who : Instance) (run : List Happening) (c : SessionView R) : Type 0 where
   pub extents : (x : ℕ) (r : Running R) → running_at x c ≡ Some r → (asked : Asked) → asked_by r.line run ≡ Some asked → r.extent ≡ extent_of asked.command
   pub comes : (x : ℕ) (r : Running R) → running_at x c ≡ Some r → IsSome r.extent → (IsBeforeFinding stands home run r) ⊎ (IsBehindFinding stands run r)
   pub in_line : (x y : ℕ) (r q : Running R) → running_at x c ≡ Some r → running_at y c ≡ Some q → IsSome r.extent → IsSome q.extent
       → (s : SiteId) (image : ℕ) → found_before r.line q.line s image run ≡ true
       → is_member y (lines_of c.lines s image) ≡ true → is_member x (ahead y (lines_of c.lines s image)) ≡ true
-  pub past : (x : ℕ) (r : Running R) → running_at x c ≡ Some r → IsSome r.extent → (other : ℕ) → IsWriterOf session other run
+  pub past : (x : ℕ) (r : Running R) → running_at x c ≡ Some r → IsSome r.extent → (other : ℕ) → IsWriterOf who other run
       → (s : SiteId) (image number : ℕ) → found_before r.line other s image run ≡ true → has_written other s image number run ≡ true
       → IsPastWithout x number (lines_of c.lines s image)

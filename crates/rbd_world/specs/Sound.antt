@@ -1,51 +1,65 @@
 -- What holds of each world, whatever came: its run is right at every place, and what its requests
 -- know is true.
-use Rattle.std.specs.Prelude.{◌≡◌, ◌≢◌, ◌⊎◌, ℕ, ◌+◌, ◌||◌, Bool, true, false, List, [], ◌∷◌, length, is_some, slice_get, Option, Some, None}
+use Rattle.std.specs.Prelude.{◌≡◌, ◌≢◌, ◌⊎◌, ℕ, ◌+◌, ◌<◌, ◌≤◌, ◌||◌, Bool, true, false, List, [], ◌∷◌, ◌++◌, length, is_some, slice_get, Option, Some, None}
+use Rattle.std.specs.List.Sorted.{IsStrictlyIncreasing}
+use Rattle.rbd_client.specs.Client.{ClientView}
+use Rattle.rbd_client.specs.Sound.{IsSoundClient}
 use Rattle.rbd_commands.specs.declared.command.Command.{Command}
+use Rattle.rbd_commands.specs.declared.refusal.Refusal.{Refusal}
+use Rattle.rbd_held.specs.Truth.{IsTrueOf}
+use Rattle.rbd_kinds.specs.declared.answer.Answer.{Answer}
+use Rattle.rbd_kinds.specs.declared.header_op.HeaderOp.TheVariants as header
 use Rattle.rbd_kinds.specs.declared.id.Instance.{Instance}
 use Rattle.rbd_kinds.specs.declared.id.SiteId.{SiteId}
 use Rattle.rbd_kinds.specs.declared.machine.Fed.{Fed}
-use Rattle.rbd_commands.specs.declared.refusal.Refusal.{Refusal}
+use Rattle.rbd_kinds.specs.declared.notice.Notice.{Notice}
+use Rattle.rbd_kinds.specs.declared.operation.Op.{Op}
+use Rattle.rbd_kinds.specs.declared.operation.Op.TheVariants as op
 use Rattle.rbd_kinds.specs.declared.reply.Reply.{Reply}
-use Rattle.rbd_known.specs.Calm.{IsCalmRequest, OwnsNothing, is_change}
+use Rattle.rbd_known.specs.Calm.{IsCalmRequest, is_change}
 use Rattle.rbd_known.specs.Knowing.{AllKnow}
 use Rattle.rbd_machine.specs.Knowledge.{Knowledge, nothing_known}
 use Rattle.rbd_machine.specs.Path.{Answered, IsWalk}
 use Rattle.rbd_machine.specs.Permits.{Permits}
 use Rattle.rbd_machine.specs.Plan.{Plan, Return, Standing}
 use Rattle.rbd_machine.specs.Refused.{AreGiven}
-use Rattle.rbd_machine.specs.Steps.{refused}
+use Rattle.rbd_machine.specs.Steps.{EndsIt, not_there, refused}
 use Rattle.rbd_meaning.specs.Meant.{IsMeantBy}
-use Rattle.rbd_rely.specs.Beside.{AreBeside}
+use Rattle.rbd_rely.specs.Beside.{AreBeside, MayLook}
+use Rattle.rbd_rely.specs.Locks.{KnowsByLock}
 use Rattle.rbd_rely.specs.Truth.{IsTrueAt, IsParentless}
 use Rattle.rbd_requests.specs.Served.{IsPlanFor}
 use Rattle.rbd_session.specs.declared.running.Occupant.{Occupant}
 use Rattle.rbd_session.specs.declared.running.Occupant.TheVariants as occupant
 use Rattle.rbd_session.specs.declared.running.Running.{Running}
-use Rattle.rbd_session.specs.Session.{SessionView, IsSoundSession, held_in, script_line}
+use Rattle.rbd_session.specs.Session.{SessionView, held_in, script_line}
 use Rattle.rbd_site.specs.InForm.{AreInForm}
+use Rattle.rbd_site.specs.Records.{Records}
 use Rattle.rbd_site.specs.Step.{answer_to}
 use Rattle.rbd_site.specs.declared.done.DoneOp.TheVariants as done
 use Rattle.rbd_stands.specs.Effect.{effect_of}
+use Rattle.rbd_stands.specs.Owned.{IsOwnedStep}
 use Rattle.rbd_stands.specs.Site.{StandsFor}
+use Rattle.rbd_watch.specs.Posting.{numbered}
+use Rattle.rbd_watch.specs.Watching.{oldest_of}
 use Rattle.rbd_world.specs.Begun.{LinesBegun, has_line}
 use Rattle.rbd_world.specs.Order.{IsInOrder, KeepsOrder}
-use Rattle.rbd_world.specs.Run.{Asked, Happening, Began, Did, Refused, Trimmed, Operation, AreCalls, asked_by, flat_after, history_of, log_of, records_after, replies_to, steps_of}
-use Rattle.rbd_world.specs.Step.{is_begun}
-use Rattle.rbd_world.specs.World.{WorldView, records_in, session_in, site_in}
+use Rattle.rbd_world.specs.Run.{Asked, Doer, Itself, OnWay, House, AfterStop, Happening, Began, Did, Refused, Trimmed, Expired, Heard, Stopped, Restarted, Operation, Sent, AreCalls, asked_by, ends, flat_after, history_of, is_among, life_after, log_of, mail_of, records_after, sent_after, steps_of}
+use Rattle.rbd_world.specs.Step.{IsFresh, is_begun}
+use Rattle.rbd_world.specs.World.{LateView, LivesView, WorldView, client_in, late_at, lives_in, records_in, session_in, site_in}
 
 -- ---- a run that is right at every place
 
--- whether a line has its reply
-abbrev pub has_reply : (line : ℕ) → List Happening → Bool
-has_reply line [] = false
-has_reply line (h ∷ run) = replies_to line h || has_reply line run
+-- whether a line has its reply, or is lost
+abbrev pub has_ended : (line : ℕ) → List Happening → Bool
+has_ended line [] = false
+has_ended line (h ∷ run) = ends line h || has_ended line run
 
--- a session began the line, and it has no reply yet
+-- an instance began the line, and it has no reply yet and isn't lost
 pub record IsOpen (line : ℕ) (run : List Happening) : Type 0 where
   pub asked : Asked
   pub is : asked_by line run ≡ Some asked
-  pub unanswered : has_reply line run ≡ false
+  pub unended : has_ended line run ≡ false
 
 -- A walk of the command's plan leads there, by these operations.
 pub record IsLedTo (home : SiteId) (c : Command) (steps : List Answered) (last : Plan) : Type 0 where
@@ -59,38 +73,121 @@ pub record IsLedTo (home : SiteId) (c : Command) (steps : List Answered) (last :
 -- of a session with this home; and the reply is the command's behind them.
 pub record IsReplyMeant (homes : ℕ → SiteId) (line : ℕ) (reply : Reply) (before run : List Happening) : Type 0 where
   pub begun : IsOpen line before
-  pub ended : IsLedTo (homes begun.asked.session) begun.asked.command (steps_of line run) (Return reply)
-  pub meant : IsMeantBy (homes begun.asked.session) begun.asked.command (steps_of line run) reply
+  pub ended : IsLedTo (homes begun.asked.who.session) begun.asked.command (steps_of line run) (Return reply)
+  pub meant : IsMeantBy (homes begun.asked.who.session) begun.asked.command (steps_of line run) reply
 
--- a session's instance in its first life, which is its only one so far
-abbrev pub first_life : (session : ℕ) → Instance
-first_life session = record { session = session; life = 0 }
+-- a look at a header that is answered so
+abbrev pub look_answered : SiteId → (image : ℕ) → Answer → Answered
+look_answered site image told = record { site = site; op = op.Header image header.Get; answer = told }
 
--- The operation is of the session that began its line, has the number, the answer and the effect
--- that its site has for it there, and was permitted to its request by what it knew, which was
--- true.
+-- A request that is refused on its way to the lock is refused as if its look under the lock, which
+-- would have come next, had been answered as the last step of its way was: that something isn't
+-- there, or that the instance is fenced.
+pub record IsRefusedOnWay (homes : ℕ → SiteId) (line : ℕ) (reply : Reply) (o : Operation) (before : List Happening) : Type 0 where
+  pub begun : IsOpen line before
+  pub tells : EndsIt o.answer
+  pub refuses : not_there o.answer ≡ Return reply
+  pub plan : Plan
+  pub led : IsLedTo (homes begun.asked.who.session) begun.asked.command (steps_of line before) plan
+  pub image : ℕ
+  pub meant : IsMeantBy (homes begun.asked.who.session) begun.asked.command (steps_of line before ++ look_answered o.site image o.answer ∷ []) reply
+
+-- ---- whose an operation is
+
+-- the instance began the line
+abbrev pub IsOfLine : (line : ℕ) → Instance → (before : List Happening) → Type 0
+IsOfLine line who before = (asked : Asked) → asked_by line before ≡ Some asked → who ≡ asked.who
+
+-- it is its session's latest life, and runs
+abbrev pub IsRunning : Instance → (before : List Happening) → Type 0
+IsRunning who before = life_after who.session before ≡ record { number = who.life; runs = true }
+
+abbrev pub IsOf : Doer → Instance → SiteId → Op → (before : List Happening) → Type 0
+IsOf (Itself line) who s o before = IsOfLine line who before
+IsOf (OnWay line) who s o before = IsOfLine line who before
+IsOf House who s o before = IsRunning who before
+IsOf (AfterStop slot) who s o before = sent_after who.session slot before ≡ Some (record { instance = who; site = s; op = o })
+
+-- The operation is of whom it is done by. It has the number, the answer and the effect that its site
+-- has for it there; it was permitted by what was known, which was true; and what it changes of an
+-- image is its owner's.
 pub record IsDone (o : Operation) (before : List Happening) : Type 0 where
-  pub whose : (asked : Asked) → asked_by o.line before ≡ Some asked → o.instance ≡ first_life asked.session
+  pub whose : IsOf o.by o.instance o.site o.op before
   pub number : o.number ≡ length (log_of o.site before) + 1
   pub answer : o.answer ≡ answer_to (records_after o.site before) o.instance o.op
   pub effect : o.effect ≡ effect_of (records_after o.site before) (done.Op o.op) o.answer
   pub knows : Knowledge
   pub truth : IsTrueAt o.site (records_after o.site before) o.instance knows
   pub permits : Permits knows o.site o.op
+  pub owned : IsOwnedStep (records_after o.site before) o.instance o.op o.answer
+
+-- behind it its line goes on
+abbrev pub GoesOnBehind : Doer → (before : List Happening) → Type 0
+GoesOnBehind (Itself line) before = IsOpen line before
+GoesOnBehind (OnWay line) before = IsOpen line before
+GoesOnBehind by before = Unit {0}
+
+-- with it its line ends
+abbrev pub EndsWith : (homes : ℕ → SiteId) → Operation → Reply → (before : List Happening) → Doer → Type 0
+EndsWith homes o reply before (Itself line) = IsReplyMeant homes line reply before (Did o (Some reply) ∷ before)
+EndsWith homes o reply before (OnWay line) = IsRefusedOnWay homes line reply o before
+EndsWith homes o reply before by = ⊥
+
+-- ---- what happens beside operations of instances
 
 -- The store trimmed an object that was there.
 pub record IsTrimmed (s : SiteId) (number image object : ℕ) (before : List Happening) : Type 0 where
   pub is_number : number ≡ length (log_of s before) + 1
   pub there : is_some ((records_after s before).objects image object) ≡ true
 
--- A line is begun once; each operation for it comes behind its start and before its reply, and is
--- the one that its site does there; and its reply, which is one, is the command's.
+-- It ended the watch of the oldest instance of a session that watched.
+pub record IsExpired (s : SiteId) (number image : ℕ) (who : Instance) (before : List Happening) : Type 0 where
+  pub is_number : number ≡ length (log_of s before) + 1
+  pub oldest : oldest_of who.session ((records_after s before).watchers image) ≡ Some who
+
+-- The notice was posted, for an instance that runs.
+pub record IsDelivered (notice : Notice) (before : List Happening) : Type 0 where
+  pub posted : numbered notice.number (mail_of before) ≡ Some notice
+  pub runs : IsRunning notice.to before
+
+-- A line that is lost: its instance began it, it has no reply, and a walk of its command's plan led
+-- somewhere.
+pub record IsLostOf (homes : ℕ → SiteId) (who : Instance) (line : ℕ) (before : List Happening) : Type 0 where
+  pub begun : IsOpen line before
+  pub mine : begun.asked.who ≡ who
+  pub plan : Plan
+  pub led : IsLedTo (homes begun.asked.who.session) begun.asked.command (steps_of line before) plan
+
+-- Just the lines of an instance that runs are lost that have no reply, in their order.
+pub record IsStop (homes : ℕ → SiteId) (who : Instance) (lost : List ℕ) (before : List Happening) : Type 0 where
+  pub runs : IsRunning who before
+  pub each : (line : ℕ) → is_among line lost ≡ true → IsLostOf homes who line before
+  pub all : (line : ℕ) → (begun : IsOpen line before) → begun.asked.who ≡ who → is_among line lost ≡ true
+  pub ascends : IsStrictlyIncreasing lost
+
+-- A session that doesn't run begins the life behind its latest.
+pub record IsRestart (who : Instance) (before : List Happening) : Type 0 where
+  pub latest : ℕ
+  pub stopped : life_after who.session before ≡ record { number = latest; runs = false }
+  pub next : who.life ≡ latest + 1
+
+-- ---- all of it
+
+-- An instance that runs begins a line that nobody began before.
+pub record IsBegin (asked : Asked) (before : List Happening) : Type 0 where
+  pub new : asked_by asked.line before ≡ None
+  pub runs : IsRunning asked.who before
+
 abbrev pub IsDue : (homes : ℕ → SiteId) → Happening → (before : List Happening) → Type 0
-IsDue homes (Began asked who slot) before = asked_by asked.line before ≡ None
-IsDue homes (Did o None) before = IsDone o before × IsOpen o.line before
-IsDue homes (Did o (Some reply)) before = IsDone o before × IsReplyMeant homes o.line reply before (Did o (Some reply) ∷ before)
+IsDue homes (Began asked slot) before = IsBegin asked before
+IsDue homes (Did o None) before = IsDone o before × GoesOnBehind o.by before
+IsDue homes (Did o (Some reply)) before = IsDone o before × EndsWith homes o reply before o.by
 IsDue homes (Refused s line reply) before = IsReplyMeant homes line reply before (Refused s line reply ∷ before)
 IsDue homes (Trimmed s number image object) before = IsTrimmed s number image object before
+IsDue homes (Expired s number image who) before = IsExpired s number image who before
+IsDue homes (Heard notice) before = IsDelivered notice before
+IsDue homes (Stopped who wanted lost) before = IsStop homes who lost before
+IsDue homes (Restarted who) before = IsRestart who before
 IsDue homes h before = Unit {0}
 
 -- The site stands for its flat site, no image has a parent, and headers are in form.
@@ -111,38 +208,51 @@ IsRight homes (h ∷ run) = AreStanding (h ∷ run) × IsDue homes h run × IsRi
 -- ---- what a slot holds
 
 -- The request of a command is where a walk of the command's plan led it, by the operations that were
--- done for its line; and where the command changes no image that is there, it waits for nothing.
-pub record IsUnderWay {R : Type 0} (stands : R → Standing) (home : SiteId) (session : ℕ) (run : List Happening) (k : Knowledge) (r : Running R) : Type 0 where
+-- done for its line; and where the command changes no image that is there, it waits for nothing and
+-- is in no line.
+pub record IsUnderWay {R : Type 0} (stands : R → Standing) (home : SiteId) (who : Instance) (run : List Happening) (r : Running R) : Type 0 where
   pub begun : IsOpen r.line run
-  pub mine : begun.asked.session ≡ session
+  pub mine : begun.asked.who ≡ who
   pub start : Standing
   pub plan : IsPlanFor home begun.asked.command start
   pub labels : (stands r.request).labels ≡ start.labels
   pub feds : List Fed
   pub walk : IsWalk start.labels start.plan feds (steps_of r.line run) (stands r.request).plan
   pub given : AreGiven (steps_of r.line run)
-  pub calm : is_change begun.asked.command ≡ false → IsCalmRequest (stands r.request) × OwnsNothing k
+  pub calm : is_change begun.asked.command ≡ false → IsCalmRequest (stands r.request) × (r.place ≡ None)
 
 -- a command that is refused before any operation
-pub record IsRefusedAtOnce (home : SiteId) (session : ℕ) (run : List Happening) (line : ℕ) (refusal : Refusal) : Type 0 where
+pub record IsRefusedAtOnce (home : SiteId) (who : Instance) (run : List Happening) (line : ℕ) (refusal : Refusal) : Type 0 where
   pub begun : IsOpen line run
-  pub mine : begun.asked.session ≡ session
+  pub mine : begun.asked.who ≡ who
   pub start : Standing
   pub plan : IsPlanFor home begun.asked.command start
   pub ends : start.plan ≡ refused refusal
   pub none : steps_of line run ≡ []
 
-abbrev pub IsHeldRightly : {R : Type 0} → (stands : R → Standing) → SiteId → (session : ℕ) → List Happening → Knowledge → Option (Occupant R) → Type 0
-IsHeldRightly stands home session run k None = Unit {0}
-IsHeldRightly stands home session run k (Some (occupant.Refused line refusal)) = IsRefusedAtOnce home session run line refusal
-IsHeldRightly stands home session run k (Some (occupant.Running r)) = IsUnderWay stands home session run k r
+abbrev pub IsHeldRightly : {R : Type 0} → (stands : R → Standing) → SiteId → Instance → List Happening → Option (Occupant R) → Type 0
+IsHeldRightly stands home who run None = Unit {0}
+IsHeldRightly stands home who run (Some (occupant.Refused line refusal)) = IsRefusedAtOnce home who run line refusal
+IsHeldRightly stands home who run (Some (occupant.Running r)) = IsUnderWay stands home who run r
 
-pub record IsSoundClient {R : Type 0} (stands : R → Standing) (home : SiteId) (session : ℕ) (run : List Happening) (knows : (slot : ℕ) → Knowledge) (c : SessionView R) : Type 0 where
-  pub who : c.instance ≡ first_life session
-  pub at_home : c.home ≡ home
-  pub sound : IsSoundSession stands c
-  pub know : AllKnow stands knows c
-  pub held : (slot : ℕ) → IsHeldRightly stands home session run (knows slot) (held_in slot c.slots)
+-- the client of the life that runs
+pub record IsLiving {R : Type 0} (stands : R → Standing) (home : SiteId) (session : ℕ) (run : List Happening) (knows : (slot : ℕ) → Knowledge) (c : ClientView R) : Type 0 where
+  pub whose : c.session.instance.session ≡ session
+  pub runs : IsRunning c.session.instance run
+  pub at_home : c.session.home ≡ home
+  pub sound : IsSoundClient stands c
+  pub know : AllKnow stands knows c.session
+  pub held : (slot : ℕ) → IsHeldRightly stands home c.session.instance run (held_in slot c.session.slots)
+
+-- ---- what a stopped life may still send
+
+-- It is of an earlier life, permitted by what is known, which is true; and who knows a header has
+-- the lock of its image.
+pub record MayStillCome (session : ℕ) (r : SiteId → Records) (x : Sent) (k : Knowledge) : Type 0 where
+  pub whose : x.instance.session ≡ session
+  pub permits : Permits k x.site x.op
+  pub truth : (s : SiteId) → IsTrueAt s (r s) x.instance k
+  pub locks : (s : SiteId) → KnowsByLock s (r s) x.instance k
 
 -- ---- the world
 
@@ -151,83 +261,126 @@ abbrev pub held_of : {R : Type 0} → (slot : ℕ) → Option (SessionView R) �
 held_of slot None = None
 held_of slot (Some c) = held_in slot c.slots
 
-abbrev pub line_at : {R : Type 0} → (session slot : ℕ) → List (SessionView R) → Option ℕ
-line_at session slot sessions = script_line (held_of slot (session_in session sessions))
+abbrev pub line_at : {R : Type 0} → (session slot : ℕ) → List (LivesView R) → Option ℕ
+line_at session slot lives = script_line (held_of slot (session_in session lives))
 
 -- a line is in one slot
-abbrev pub AreApart : {R : Type 0} → List (SessionView R) → Type 0
-AreApart sessions = (line session slot other there : ℕ) → line_at session slot sessions ≡ Some line → line_at other there sessions ≡ Some line
+abbrev pub AreApart : {R : Type 0} → List (LivesView R) → Type 0
+AreApart lives = (line session slot other there : ℕ) → line_at session slot lives ≡ Some line → line_at other there lives ≡ Some line
     → (session ≡ other) × (slot ≡ there)
 
 -- the line is in a slot of a session
-pub record IsInSlot {R : Type 0} (line : ℕ) (sessions : List (SessionView R)) : Type 0 where
+pub record IsInSlot {R : Type 0} (line : ℕ) (lives : List (LivesView R)) : Type 0 where
   pub session : ℕ
   pub slot : ℕ
-  pub is : line_at session slot sessions ≡ Some line
+  pub is : line_at session slot lives ≡ Some line
 
--- so is each that was begun and has no reply yet
-abbrev pub AreInSlots : {R : Type 0} → List Happening → List (SessionView R) → Type 0
-AreInSlots run sessions = (line : ℕ) → IsOpen line run → IsInSlot line sessions
+-- so is each that was begun, has no reply yet and isn't lost
+abbrev pub AreInSlots : {R : Type 0} → List Happening → List (LivesView R) → Type 0
+AreInSlots run lives = (line : ℕ) → IsOpen line run → IsInSlot line lives
+
+-- Who may do something by what he knows: the request in a slot of a session that runs, or what a slot
+-- of its stopped life may still send.
+pub data Holder : Type 0 where
+  InSlot : (session slot : ℕ) → Holder
+  Sending : (session slot : ℕ) → Holder
+
+-- of two that are not requests of one client
+abbrev pub AreStrangers : Holder → Holder → Type 0
+AreStrangers (InSlot one slot) (InSlot other there) = one ≢ other
+AreStrangers (Sending one slot) (Sending other there) = (one ≢ other) ⊎ (slot ≢ there)
+AreStrangers h g = Unit {0}
+
+-- what the requests of a session's client know
+abbrev pub known_in : (knows : Holder → Knowledge) → (session : ℕ) → (slot : ℕ) → Knowledge
+known_in knows session slot = knows (InSlot session slot)
+
+-- A session's lives are those of the run: which is the latest, and whether it runs. The one that was
+-- stopped is an earlier one.
+pub record AreLivesOf {R : Type 0} (run : List Happening) (home : SiteId) (session : ℕ) (l : LivesView R) : Type 0 where
+  pub home_is : l.home ≡ home
+  pub whose : l.latest.session ≡ session
+  pub life : life_after session run ≡ record { number = l.latest.life; runs = is_some l.running }
+  pub latest : (c : ClientView R) → l.running ≡ Some c → c.session.instance ≡ l.latest
+  pub most : (v : LateView) → l.late ≡ Some v → v.instance.life ≤ l.latest.life
+  pub older : (v : LateView) → l.late ≡ Some v → (c : ClientView R) → l.running ≡ Some c → v.instance.life < l.latest.life
 
 pub record IsSoundWorld {R : Type 0} (stands : R → Standing) (w : WorldView R) : Type 0 where
-  -- what was done, the home of each session, and what the request in each slot knows
+  -- what was done, the home of each session, and who knows what
   pub run : List Happening
   pub homes : (session : ℕ) → SiteId
-  pub knows : (session slot : ℕ) → Knowledge
-  -- calls, history and logs are those of the run, which is right
+  pub who : Holder → Instance
+  pub knows : Holder → Knowledge
+  -- calls, history, logs and mail are those of the run, which is right
   pub calls : AreCalls w.calls run
   pub history : w.history ≡ history_of run
+  pub ids : (s : SiteId) → (site_in s w.sites).id ≡ s
   pub logs : (s : SiteId) → (site_in s w.sites).log ≡ log_of s run
   pub records : (s : SiteId) → records_in s w.sites ≡ records_after s run
+  pub mail : w.sites.mail ≡ mail_of run
   pub right : IsRight homes run
   -- each site's headers are in form, and no image has a parent
   pub form : (s : SiteId) → AreInForm (records_in s w.sites) (length (site_in s w.sites).log)
   pub parentless : (s : SiteId) → IsParentless (records_in s w.sites)
-  -- each session's requests are under way by what they know
-  pub clients : (session : ℕ) (c : SessionView R) → session_in session w.sessions ≡ Some c → IsSoundClient stands (homes session) session run (knows session) c
-  pub nobody : (session : ℕ) → session_in session w.sessions ≡ None → (slot : ℕ) → knows session slot ≡ nothing_known
-  pub apart : AreApart w.sessions
-  pub slots : AreInSlots run w.sessions
-  -- what is known is true of the instance that knows it, and no two requests are in each other's
-  -- way
-  pub truth : (session slot : ℕ) (s : SiteId) → IsTrueAt s (records_in s w.sites) (first_life session) (knows session slot)
-  pub beside : (session slot other there : ℕ) → (session ≢ other) ⊎ (slot ≢ there) → (s : SiteId)
-      → AreBeside s (records_in s w.sites) (first_life session) (first_life other) (knows session slot) (knows other there)
-  -- the writes of each session change an image in the order in which they found it
+  -- each session's lives are those of the run, and the requests of the one that runs are under way by
+  -- what they know
+  pub lives : (session : ℕ) (l : LivesView R) → lives_in session w.lives ≡ Some l → AreLivesOf run (homes session) session l
+  pub clients : (session : ℕ) (c : ClientView R) → client_in session w.lives ≡ Some c → IsLiving stands (homes session) session run (known_in knows session) c
+  pub in_slots : (session slot : ℕ) (c : ClientView R) → client_in session w.lives ≡ Some c → who (InSlot session slot) ≡ c.session.instance
+  pub nobody : (session : ℕ) → client_in session w.lives ≡ None → (slot : ℕ) → knows (InSlot session slot) ≡ nothing_known
+  pub apart : AreApart w.lives
+  pub slots : AreInSlots run w.lives
+  -- what a client knows, and counts of its locks, is true
+  pub truth : (session : ℕ) (c : ClientView R) → client_in session w.lives ≡ Some c → (s : SiteId)
+      → IsTrueOf s (records_in s w.sites) c.session.instance (known_in knows session) c
+  -- what stopped lives may still send is what the run says, and may be done
+  pub late : (session slot : ℕ) → late_at session slot w.lives ≡ sent_after session slot run
+  pub sending : (session slot : ℕ) (x : Sent) → late_at session slot w.lives ≡ Some x
+      → (who (Sending session slot) ≡ x.instance) × MayStillCome session (λ s. records_in s w.sites) x (knows (Sending session slot))
+  pub unsent : (session slot : ℕ) → late_at session slot w.lives ≡ None → knows (Sending session slot) ≡ nothing_known
+  pub drops : (session slot there : ℕ) (x : Sent) → slot ≢ there → late_at session slot w.lives ≡ Some x → (s : SiteId) (r : Records)
+      → MayLook s r (who (Sending session slot)) (who (Sending session there)) (knows (Sending session slot)) (knows (Sending session there)) x.op
+  -- no two that aren't of one client are in each other's way
+  pub beside : (h g : Holder) → AreStrangers h g → (s : SiteId) → AreBeside s (records_in s w.sites) (who h) (who g) (knows h) (knows g)
+  -- the writes of each instance change an image in the order in which they found it
   pub order : KeepsOrder run
-  pub in_order : (session : ℕ) (c : SessionView R) → session_in session w.sessions ≡ Some c → IsInOrder stands (homes session) session run c
+  pub in_order : (session : ℕ) (c : ClientView R) → client_in session w.lives ≡ Some c → IsInOrder stands (homes session) c.session.instance run c.session
 
--- a client in its first life, at a home
-pub record IsFirstClient {R : Type 0} (session : ℕ) (home : SiteId) (c : SessionView R) : Type 0 where
-  pub who : c.instance ≡ first_life session
-  pub at_home : c.home ≡ home
+-- ---- a new world
 
-abbrev pub FirstIn : {R : Type 0} → (session : ℕ) → Option SiteId → Option (SessionView R) → Type 0
-FirstIn session None None = Unit {0}
-FirstIn session (Some home) (Some c) = IsFirstClient session home c
-FirstIn session _ _ = ⊥
+abbrev pub first_life : (session : ℕ) → Instance
+first_life session = record { session = session; life = 0 }
 
--- one client for each home
-abbrev pub AreFirstClients : {R : Type 0} → (homes : List SiteId) → List (SessionView R) → Type 0
-AreFirstClients homes sessions = (session : ℕ) → FirstIn session (slice_get homes session) (session_in session sessions)
+-- a session in its first life, at a home
+pub record IsFirst {R : Type 0} (stands : R → Standing) (session : ℕ) (l : LivesView R) : Type 0 where
+  pub latest : l.latest ≡ first_life session
+  pub client : ClientView R
+  pub runs : l.running ≡ Some client
+  pub fresh : IsFresh stands (first_life session) l.home client
+  pub late : l.late ≡ None
+
+abbrev pub AreFirst : {R : Type 0} → (stands : R → Standing) → List (LivesView R) → Type 0
+AreFirst {R} stands lives = (session : ℕ) (l : LivesView R) → lives_in session lives ≡ Some l → IsFirst stands session l
+
+abbrev pub IsAtHome : {R : Type 0} → Option SiteId → Option (LivesView R) → Type 0
+IsAtHome None None = Unit {0}
+IsAtHome (Some home) (Some l) = l.home ≡ home
+IsAtHome _ _ = ⊥
+
+-- one session for each home
+abbrev pub AreAtHome : {R : Type 0} → (homes : List SiteId) → List (LivesView R) → Type 0
+AreAtHome homes lives = (session : ℕ) → IsAtHome (slice_get homes session) (lives_in session lives)
+
+-- empty sites, no notice, sessions in their first life without requests, and nothing happened
+pub record IsNewWorld {R : Type 0} (stands : R → Standing) (w : WorldView R) : Type 0 where
+  pub sites : (s : SiteId) → (site_in s w.sites).log ≡ []
+  pub ids : (s : SiteId) → (site_in s w.sites).id ≡ s
+  pub mail : w.sites.mail ≡ []
+  pub lives : AreFirst stands w.lives
+  pub history : w.history ≡ []
+  pub calls : w.calls ≡ []
 
 -- a world beside its table of the lines that were begun
 pub record IsKept {R : Type 0} (stands : R → Standing) (b : LinesBegun) (w : WorldView R) : Type 0 where
   pub sound : IsSoundWorld stands w
   pub lines : (line : ℕ) → has_line line b ≡ is_begun line w.history
-
--- empty sites, sessions in their first life without requests, and nothing happened
-pub record IsNewClient {R : Type 0} (stands : R → Standing) (session : ℕ) (c : SessionView R) : Type 0 where
-  pub who : c.instance ≡ first_life session
-  pub sound : IsSoundSession stands c
-  pub slots : (slot : ℕ) → held_in slot c.slots ≡ None
-
-abbrev pub AreNewClients : {R : Type 0} → (stands : R → Standing) → List (SessionView R) → Type 0
-AreNewClients {R} stands sessions = (session : ℕ) (c : SessionView R) → session_in session sessions ≡ Some c → IsNewClient stands session c
-
-pub record IsNewWorld {R : Type 0} (stands : R → Standing) (w : WorldView R) : Type 0 where
-  pub sites : (s : SiteId) → (site_in s w.sites).log ≡ []
-  pub ids : (s : SiteId) → (site_in s w.sites).id ≡ s
-  pub clients : AreNewClients stands w.sessions
-  pub history : w.history ≡ []
-  pub calls : w.calls ≡ []

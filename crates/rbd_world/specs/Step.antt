@@ -1,43 +1,63 @@
--- What an event does to a world.
-use Rattle.std.specs.Prelude.{◌≡◌, ◌≢◌, ℕ, ◌+◌, ◌==◌, ◌||◌, nat_lt, if◌then◌else◌, Bool, true, false, List, [], ◌∷◌, ◌++◌, All, length, is_some, Option, Some, None}
-use Rattle.std.specs.List.{list_any}
+-- What an event does to a world, and what is asked of one.
+use Rattle.std.specs.Prelude.{◌≡◌, ◌≢◌, ℕ, ◌+◌, ◌<◌, ◌==◌, ◌&&◌, ◌||◌, nat_lt, if◌then◌else◌, Bool, true, false, List, [], ◌∷◌, ◌++◌, length, map, slice_set, is_some, Option, Some, None}
+use Rattle.std.specs.List.{list_any, flat_map, range_with_len}
+use Rattle.rbd_client.specs.declared.actor.Actor.{Actor}
+use Rattle.rbd_client.specs.declared.actor.Actor.TheVariants as actor
+use Rattle.rbd_client.specs.declared.slot_state.Quiescing.{Quiescing}
+use Rattle.rbd_client.specs.declared.slot_state.Quiescing.TheVariants as quiescing
+use Rattle.rbd_client.specs.Actor.{actor_at, op_wanted}
+use Rattle.rbd_client.specs.Client.{ClientView, heard_with, newcomer, state_in}
+use Rattle.rbd_client.specs.Feeding.{IsClientAlike, IsFedBy}
+use Rattle.rbd_client.specs.Sound.{IsSoundClient}
+use Rattle.rbd_commands.specs.declared.command.Command.{Command}
+use Rattle.rbd_commands.specs.declared.command.Command.TheVariants as command
 use Rattle.rbd_flat.specs.declared.entry.Entry.{Entry}
 use Rattle.rbd_flat.specs.declared.entry.Entry.TheVariants as entry
 use Rattle.rbd_kinds.specs.declared.answer.Answer.{Answer}
 use Rattle.rbd_kinds.specs.declared.id.Instance.{Instance}
 use Rattle.rbd_kinds.specs.declared.id.SiteId.{SiteId}
 use Rattle.rbd_kinds.specs.declared.machine.Fed.TheVariants as fed
+use Rattle.rbd_kinds.specs.declared.notice.Notice.{Notice}
 use Rattle.rbd_kinds.specs.declared.operation.Op.{Op}
 use Rattle.rbd_kinds.specs.declared.reply.Reply.{Reply}
 use Rattle.rbd_kinds.specs.declared.reply.Reply.TheVariants as reply
+use Rattle.rbd_locks.specs.Locks.{heard, state_at}
+use Rattle.rbd_locks.specs.States.{blank as unknown}
 use Rattle.rbd_machine.specs.Answers.{CanGive}
-use Rattle.rbd_machine.specs.Label.{Label}
+use Rattle.rbd_machine.specs.Knowledge.{same_instance}
+use Rattle.rbd_machine.specs.Label.{Label, Lock}
 use Rattle.rbd_machine.specs.Path.{at_operation}
-use Rattle.rbd_machine.specs.Plan.{Plan, Ask, Return, Standing}
-use Rattle.rbd_known.specs.Calm.{is_change}
-use Rattle.rbd_requests.specs.Served.{is_built, IsPlanFor}
+use Rattle.rbd_machine.specs.Plan.{Plan, Ask, Return, Goto, Standing, plan_after}
+use Rattle.rbd_owner.specs.Acquire.{op_of, rest_of_acquire}
+use Rattle.rbd_owner.specs.declared.acquire.Acquire.{Acquire}
+use Rattle.rbd_owner.specs.declared.release.Release.{Release}
+use Rattle.rbd_owner.specs.Release.{release_op}
+use Rattle.rbd_requests.specs.Served.{IsPlanFor, is_built}
 use Rattle.rbd_requests.specs.Touched.{extent_of}
 use Rattle.rbd_session.specs.declared.running.Occupant.{Occupant}
 use Rattle.rbd_session.specs.declared.running.Occupant.TheVariants as occupant
+use Rattle.rbd_session.specs.declared.running.Running.{Running}
 use Rattle.rbd_session.specs.Advance.{track_of}
 use Rattle.rbd_session.specs.Lines.{lines_of}
 use Rattle.rbd_session.specs.OnTrack.{LeavesOthers}
-use Rattle.rbd_session.specs.Session.{SessionView, IsAlike, IsFed, IsNewcomer, IsSoundSession, held_in, op_at}
+use Rattle.rbd_session.specs.Session.{SessionView, IsNewcomer, held_in, script_line}
 use Rattle.rbd_session.specs.Waits.{waits}
 use Rattle.rbd_site.specs.InForm.{AreInForm}
 use Rattle.rbd_site.specs.Log.{SiteLog, records_of}
-use Rattle.rbd_site.specs.Step.{MayDo, answer_to}
+use Rattle.rbd_site.specs.Step.{MayDo, answer_to, mail_after}
 use Rattle.rbd_site.specs.declared.done.Done.{Done}
 use Rattle.rbd_site.specs.declared.done.DoneOp.TheVariants as done
 use Rattle.rbd_stands.specs.Effect.{effect_of}
+use Rattle.rbd_watch.specs.Posting.{numbered}
+use Rattle.rbd_watch.specs.Watching.{oldest_of}
+use Rattle.rbd_world.specs.Begun.{LinesBegun, has_line}
+use Rattle.rbd_world.specs.Run.{Asked, Doer, Itself, OnWay, House, AfterStop, Happening, Nothing, Waited, Began, Did, Refused, Trimmed, Expired, Heard, Stopped, Restarted, Operation, Sent, entries_of, lines_at, outcome_of, records_behind}
+use Rattle.rbd_world.specs.World.{LateView, LivesView, WorldView, client_in, late_at, lives_in, records_in, site_in}
 use Rattle.rbd_world.specs.declared.event.Call.{Call}
 use Rattle.rbd_world.specs.declared.event.Event.{Event}
 use Rattle.rbd_world.specs.declared.event.Event.TheVariants as event
 use Rattle.rbd_world.specs.declared.event.Outcome.{Outcome}
 use Rattle.rbd_world.specs.declared.sites.Sites.{Sites}
-use Rattle.rbd_world.specs.Begun.{LinesBegun, has_line}
-use Rattle.rbd_world.specs.Run.{Asked, Happening, Nothing, Waited, Began, Did, Refused, Trimmed, Operation, entries_of, lines_at, outcome_of, records_behind}
-use Rattle.rbd_world.specs.World.{WorldView, site_in, records_in, session_in}
 
 -- ---- a poll
 
@@ -46,9 +66,9 @@ abbrev pub next_number : SiteLog → ℕ
 next_number at_site = length at_site.log + 1
 
 -- an operation as the site does it now
-abbrev pub operation_at : SiteLog → Instance → (line : ℕ) → SiteId → Op → Operation
-operation_at at_site who line s o = record {
-  line = line;
+abbrev pub operation_at : SiteLog → Instance → Doer → SiteId → Op → Operation
+operation_at at_site who by s o = record {
+  by = by;
   instance = who;
   site = s;
   number = next_number at_site;
@@ -62,22 +82,48 @@ abbrev pub reply_at : Plan → Option Reply
 reply_at (Return reply) = Some reply
 reply_at plan = None
 
--- its request does the operation that it wants, and ends where its plan does behind the answer
+-- the reply of a request whose way ends there, refused
+abbrev pub reply_on_way : Acquire → Answer → Option Reply
+reply_on_way a told = reply_at (plan_after (rest_of_acquire a (Goto Lock)) (fed.Answer told))
+
+-- a request does the operation that it wants, and ends where its plan does behind the answer
 abbrev pub done_by : Sites → Instance → (line : ℕ) → (labels : Label → Plan) → Plan → Happening
 done_by sites who line labels (Ask s why o next) =
-    Did (operation_at (site_in s sites) who line s o) (reply_at (at_operation labels (next (answer_to (records_in s sites) who o))))
+    Did (operation_at (site_in s sites) who (Itself line) s o) (reply_at (at_operation labels (next (answer_to (records_in s sites) who o))))
 done_by sites who line labels plan = Nothing
 
-module _ {R : Type 0} (stands : R → Standing) where
-  abbrev pub polled_in : Sites → SessionView R → (slot : ℕ) → Option (Occupant R) → Happening
-  polled_in sites s slot None = Nothing
-  polled_in sites s slot (Some (occupant.Refused line refusal)) = Refused s.home line (reply.Refused refusal)
-  polled_in sites s slot (Some (occupant.Running r)) =
-      if waits slot (track_of r s.lines) then Waited else done_by sites s.instance r.line (stands r.request).labels (stands r.request).plan
+-- its way to the lock goes on, or it is refused there
+abbrev pub gone_by : Sites → Instance → (line : ℕ) → Acquire → Happening
+gone_by sites who line a =
+    Did (operation_at (site_in a.site sites) who (OnWay line) a.site (op_of a)) (reply_on_way a (answer_to (records_in a.site sites) who (op_of a)))
 
-  abbrev pub polled : Sites → (slot : ℕ) → Option (SessionView R) → Happening
+-- a lock is let go
+abbrev pub released_by : Sites → Instance → Release → Happening
+released_by sites who r = Did (operation_at (site_in r.site sites) who House r.site (release_op r)) None
+
+-- at slot 0, where no request ever is
+abbrev pub releases : Sites → Instance → Actor → Happening
+releases sites who (actor.Release r) = released_by sites who r
+releases sites who acts = Waited
+
+module _ {R : Type 0} (stands : R → Standing) where
+  -- in a slot with a request
+  abbrev pub goes_on_by : Sites → ClientView R → (slot : ℕ) → Running R → Actor → Happening
+  goes_on_by sites c slot r actor.Nobody = Waited
+  goes_on_by sites c slot r actor.Request =
+      if waits slot (track_of r c.session.lines) then Waited
+      else done_by sites c.session.instance r.line (stands r.request).labels (stands r.request).plan
+  goes_on_by sites c slot r (actor.Way a) = gone_by sites c.session.instance r.line a
+  goes_on_by sites c slot r (actor.Release x) = Waited
+
+  abbrev pub polled_in : Sites → ClientView R → (slot : ℕ) → Option (Occupant R) → Happening
+  polled_in sites c slot None = if slot == 0 then releases sites c.session.instance (actor_at stands slot c) else Nothing
+  polled_in sites c slot (Some (occupant.Refused line refusal)) = Refused c.session.home line (reply.Refused refusal)
+  polled_in sites c slot (Some (occupant.Running r)) = goes_on_by sites c slot r (actor_at stands slot c)
+
+  abbrev pub polled : Sites → (slot : ℕ) → Option (ClientView R) → Happening
   polled sites slot None = Nothing
-  polled sites slot (Some s) = polled_in sites s slot (held_in slot s.slots)
+  polled sites slot (Some c) = polled_in sites c slot (held_in slot c.session.slots)
 
 -- ---- a submission
 
@@ -89,10 +135,31 @@ is_start_of line e = false
 abbrev pub is_begun : (line : ℕ) → List Entry → Bool
 is_begun line history = list_any (is_start_of line) history
 
+abbrev pub begins_of : Instance → (line : ℕ) → Command → Asked
+begins_of who line c = record { who = who; line = line; command = c }
+
 -- where its line is new, and a slot is free
-abbrev pub submitted : {R : Type 0} → (is_begun : Bool) → Asked → Option (SessionView R) → Happening
-submitted begun asked None = Nothing
-submitted begun asked (Some s) = if begun || nat_lt 64 s.lowest then Nothing else Began asked s.instance s.lowest
+abbrev pub submitted : {R : Type 0} → (is_begun : Bool) → (line : ℕ) → Command → Option (ClientView R) → Happening
+submitted begun line c None = Nothing
+submitted begun line c (Some client) =
+    if begun || nat_lt 64 client.session.lowest then Nothing else Began (begins_of client.session.instance line c) client.session.lowest
+
+-- what a command does to a quiesce of its image
+abbrev pub quiescing_of : Command → Quiescing
+quiescing_of (command.Quiesce image) = quiescing.Begins
+quiescing_of (command.Resume image) = quiescing.Ends
+quiescing_of c = quiescing.Leaves
+
+-- ---- a notice
+
+abbrev pub heard_by : {R : Type 0} → Notice → Option (ClientView R) → Happening
+heard_by notice None = Nothing
+heard_by notice (Some c) = if same_instance c.session.instance notice.to then Heard notice else Nothing
+
+-- where it is there, and the instance that it is for runs
+abbrev pub delivered : {R : Type 0} → Option Notice → List (LivesView R) → Happening
+delivered None lives = Nothing
+delivered (Some notice) lives = heard_by notice (client_in notice.to.session lives)
 
 -- ---- the store
 
@@ -102,19 +169,87 @@ trimmed_of at_site s image object = if is_some ((records_of at_site).objects ima
 abbrev pub trimmed_at : Sites → SiteId → (image object : ℕ) → Happening
 trimmed_at sites s image object = trimmed_of (site_in s sites) s image object
 
+abbrev pub ended_watch : SiteLog → SiteId → (image : ℕ) → Option Instance → Happening
+ended_watch at_site s image None = Nothing
+ended_watch at_site s image (Some who) = Expired s (next_number at_site) image who
+
+-- of a session's instances the oldest that watches loses its watch
+abbrev pub expired_of : SiteLog → (session : ℕ) → SiteId → (image : ℕ) → Happening
+expired_of at_site session s image = ended_watch at_site s image (oldest_of session ((records_of at_site).watchers image))
+
+abbrev pub expired_at : Sites → (session : ℕ) → SiteId → (image : ℕ) → Happening
+expired_at sites session s image = expired_of (site_in s sites) session s image
+
+-- ---- a stop, and what comes behind it
+
+-- a line among others that ascend
+abbrev pub insert_line : (line : ℕ) → List ℕ → List ℕ
+insert_line line [] = line ∷ []
+insert_line line (other ∷ lines) = if nat_lt other line then other ∷ insert_line line lines else line ∷ other ∷ lines
+
+abbrev pub ascending : List ℕ → List ℕ
+ascending [] = []
+ascending (line ∷ lines) = insert_line line (ascending lines)
+
+abbrev pub listed : Option ℕ → List ℕ
+listed None = []
+listed (Some line) = line ∷ []
+
+-- each slot by its number, slot 0 too
+abbrev pub all_slots : List ℕ
+all_slots = range_with_len 0 65
+
+module _ {R : Type 0} (stands : R → Standing) where
+  -- what each slot wants
+  abbrev pub wanted_by : ClientView R → List (Option (SiteId × Op))
+  wanted_by c = map (λ slot. op_wanted stands slot c) all_slots
+
+  -- its lines that have no reply yet, in their order
+  abbrev pub lost_by : ClientView R → List ℕ
+  lost_by c = ascending (flat_map (λ slot. listed (script_line (held_in slot c.session.slots))) all_slots)
+
+  abbrev pub stopped : Option (ClientView R) → Happening
+  stopped None = Nothing
+  stopped (Some c) = Stopped c.session.instance (wanted_by c) (lost_by c)
+
+-- what a slot wanted comes
+abbrev pub come : Sites → (slot : ℕ) → Option Sent → Happening
+come sites slot None = Nothing
+come sites slot (Some x) = Did (operation_at (site_in x.site sites) x.instance (AfterStop slot) x.site x.op) None
+
+-- the greatest number of a life
+abbrev pub last_life : ℕ
+last_life = 4294967295
+
+abbrev pub next_life : Instance → Instance
+next_life who = record { session = who.session; life = who.life + 1 }
+
+-- a session that doesn't run begins its next life, where there is a number for it
+abbrev pub restarted_of : {R : Type 0} → Instance → Option (ClientView R) → Happening
+restarted_of latest (Some c) = Nothing
+restarted_of latest None = if nat_lt latest.life last_life then Restarted (next_life latest) else Nothing
+
+abbrev pub restarted : {R : Type 0} → Option (LivesView R) → Happening
+restarted None = Nothing
+restarted (Some l) = restarted_of l.latest l.running
+
 -- ---- any event
 
 -- what it does: a function of the lines that were begun, the sites and the sessions
-abbrev pub happens : {R : Type 0} → (stands : R → Standing) → Event → (begun : (line : ℕ) → Bool) → Sites → List (SessionView R) → Happening
-happens stands (event.Submit session line command) begun sites sessions =
-    submitted (begun line) (record { session = session; line = line; command = command }) (session_in session sessions)
-happens stands (event.Poll session slot) begun sites sessions = polled stands sites slot (session_in session sessions)
-happens stands (event.Trim s image object) begun sites sessions = trimmed_at sites s image object
+abbrev pub happens : {R : Type 0} → (stands : R → Standing) → Event → (begun : (line : ℕ) → Bool) → Sites → List (LivesView R) → Happening
+happens stands (event.Submit session line c) begun sites lives = submitted (begun line) line c (client_in session lives)
+happens stands (event.Poll session slot) begun sites lives = polled stands sites slot (client_in session lives)
+happens stands (event.Deliver number) begun sites lives = delivered (numbered number sites.mail) lives
+happens stands (event.Expire session s image) begun sites lives = expired_at sites session s image
+happens stands (event.Stop session) begun sites lives = stopped stands (client_in session lives)
+happens stands (event.Late session slot) begun sites lives = come sites slot (late_at session slot lives)
+happens stands (event.Restart session) begun sites lives = restarted (lives_in session lives)
+happens stands (event.Trim s image object) begun sites lives = trimmed_at sites s image object
 
 abbrev pub happening : {R : Type 0} → (stands : R → Standing) → Event → WorldView R → Happening
-happening stands e w = happens stands e (λ line. is_begun line w.history) w.sites w.sessions
+happening stands e w = happens stands e (λ line. is_begun line w.history) w.sites w.lives
 
--- ---- what becomes of the session that it names
+-- ---- what becomes of the client of the session that it names
 
 -- a slot holds what it held
 abbrev pub AreSlotsBut : {R : Type 0} → (slot : ℕ) → (old new : SessionView R) → Type 0
@@ -124,45 +259,131 @@ pub record IsSameClient {R : Type 0} (old new : SessionView R) : Type 0 where
   pub instance : new.instance ≡ old.instance
   pub home : new.home ≡ old.home
 
+-- what is kept of the other slots stays
+abbrev pub AreStatesBut : {R : Type 0} → (slot : ℕ) → (old new : ClientView R) → Type 0
+AreStatesBut slot old new = (other : ℕ) → other ≢ slot → state_in other new.slots ≡ state_in other old.slots
+
+-- what it counts of locks, a release under way, and what it heard
+pub record IsSameHouse {R : Type 0} (old new : ClientView R) : Type 0 where
+  pub locks : new.locks ≡ old.locks
+  pub release : new.release ≡ old.release
+  pub heard : new.heard ≡ old.heard
+
+-- a life without requests, which knows of no lock and has heard nothing
+pub record IsFresh {R : Type 0} (stands : R → Standing) (who : Instance) (home : SiteId) (c : ClientView R) : Type 0 where
+  pub instance : c.session.instance ≡ who
+  pub at_home : c.session.home ≡ home
+  pub slots : (slot : ℕ) → held_in slot c.session.slots ≡ None
+  pub locks : (s : SiteId) (image : ℕ) → state_at s image c.locks ≡ unknown
+  pub heard : c.heard ≡ []
+  pub sound : IsSoundClient stands c
+
 module _ {R : Type 0} (stands : R → Standing) where
   -- the lowest free slot has the command's request, at its beginning
-  pub record Begins (asked : Asked) (old new : SessionView R) : Type 0 where
-    pub held : IsNewcomer stands IsPlanFor extent_of old.home asked.line asked.command (held_in old.lowest new.slots)
+  pub record Begins (line : ℕ) (c : Command) (old new : SessionView R) : Type 0 where
+    pub held : IsNewcomer stands IsPlanFor extent_of old.home line c (held_in old.lowest new.slots)
     pub slots : AreSlotsBut old.lowest old new
     pub lines : new.lines ≡ old.lines
     pub client : IsSameClient old new
 
-  -- a request was fed its answer, and stands at its next operation or has ended
-  pub record Goes (slot : ℕ) (answer : Answer) (result : Option Reply) (old new : SessionView R) : Type 0 where
-    pub fed : IsFed stands slot (fed.Answer answer) result old new
-    pub slots : AreSlotsBut slot old new
-    pub others : LeavesOthers slot (lines_of old.lines) (lines_of new.lines)
-    pub client : IsSameClient old new
+  pub record BeginsIn (line : ℕ) (c : Command) (old new : ClientView R) : Type 0 where
+    pub begins : Begins line c old.session new.session
+    pub state : state_in old.session.lowest new.slots ≡ newcomer (quiescing_of c)
+    pub states : AreStatesBut old.session.lowest old new
+    pub house : IsSameHouse old new
+
+  -- who acts at the slot was fed the answer: the request, its way, or a release
+  pub record Goes (slot : ℕ) (o : Operation) (result : Option Reply) (old new : ClientView R) : Type 0 where
+    pub fed : IsFedBy stands slot o.site o.op (fed.Answer o.answer) result old new (actor_at stands slot old)
+    pub slots : AreSlotsBut slot old.session new.session
+    pub states : AreStatesBut slot old new
+    pub others : LeavesOthers slot (lines_of old.session.lines) (lines_of new.session.lines)
+    pub client : IsSameClient old.session new.session
+    pub heard : new.heard ≡ old.heard
 
   -- a request that was refused before any operation has its reply, and its slot is free
-  pub record Serves (slot : ℕ) (old new : SessionView R) : Type 0 where
-    pub held : held_in slot new.slots ≡ None
-    pub slots : AreSlotsBut slot old new
-    pub lines : new.lines ≡ old.lines
-    pub client : IsSameClient old new
+  pub record Serves (slot : ℕ) (old new : ClientView R) : Type 0 where
+    pub held : held_in slot new.session.slots ≡ None
+    pub slots : AreSlotsBut slot old.session new.session
+    pub states : AreStatesBut slot old new
+    pub lines : new.session.lines ≡ old.session.lines
+    pub client : IsSameClient old.session new.session
+    pub house : IsSameHouse old new
 
-  abbrev pub Becomes : Event → Happening → (old new : SessionView R) → Type 0
-  Becomes (event.Submit session line command) (Began asked who slot) old new = Begins asked old new
-  Becomes (event.Poll session slot) (Did o reply) old new = Goes slot o.answer reply old new
+  -- it hears a notice
+  pub record Hears (notice : Notice) (old new : ClientView R) : Type 0 where
+    pub session : new.session ≡ old.session
+    pub slots : new.slots ≡ old.slots
+    pub release : new.release ≡ old.release
+    pub locks : (s : SiteId) (image : ℕ) → state_at s image new.locks ≡ heard notice s image (state_at s image old.locks)
+    pub told : new.heard ≡ heard_with notice old.heard
+
+  abbrev pub Becomes : Event → Happening → (old new : ClientView R) → Type 0
+  Becomes (event.Submit session line c) (Began asked slot) old new = BeginsIn line c old new
+  Becomes (event.Poll session slot) (Did o reply) old new = Goes slot o reply old new
   Becomes (event.Poll session slot) (Refused s line reply) old new = Serves slot old new
+  Becomes (event.Deliver number) (Heard notice) old new = Hears notice old new
   Becomes e h old new = new ≡ old
 
-  -- of a session that is there, or of none
-  abbrev pub BecomesOf : Event → Happening → (old new : Option (SessionView R)) → Type 0
+  -- of one that runs, or of none
+  abbrev pub BecomesOf : Event → Happening → (old new : Option (ClientView R)) → Type 0
   BecomesOf e h None new = new ≡ None
   BecomesOf e h (Some old) None = ⊥
   BecomesOf e h (Some old) (Some new) = Becomes e h old new
 
--- the session that an event names
-abbrev pub names_session : Event → (session : ℕ) → Bool
-names_session (event.Submit named line command) session = named == session
-names_session (event.Poll named slot) session = named == session
-names_session (event.Trim s image object) session = false
+  abbrev pub IsFreshIf : Instance → SiteId → Option (ClientView R) → Type 0
+  IsFreshIf who home None = ⊥
+  IsFreshIf who home (Some c) = IsFresh stands who home c
+
+  -- a stopped one is gone, and a restarted one is fresh
+  abbrev pub RunsOn : Event → Happening → SiteId → (old new : Option (ClientView R)) → Type 0
+  RunsOn e (Stopped who wanted lost) home old new = new ≡ None
+  RunsOn e (Restarted who) home old new = IsFreshIf who home new
+  RunsOn e h home old new = BecomesOf e h old new
+
+-- ---- and of its lives
+
+abbrev pub latest_behind : Happening → Instance → Instance
+latest_behind (Restarted who) latest = who
+latest_behind h latest = latest
+
+-- what a slot wanted has come
+abbrev pub without_sent : (slot : ℕ) → Option LateView → Option LateView
+without_sent slot None = None
+without_sent slot (Some l) = Some (record { instance = l.instance; wanted = slice_set l.wanted slot None })
+
+abbrev pub late_behind : Event → Happening → Option LateView → Option LateView
+late_behind e (Stopped who wanted lost) late = Some (record { instance = who; wanted = wanted })
+late_behind (event.Late session slot) (Did o reply) late = without_sent slot late
+late_behind e h late = late
+
+module _ {R : Type 0} (stands : R → Standing) where
+  pub record LivesOn (e : Event) (h : Happening) (old new : LivesView R) : Type 0 where
+    pub home : new.home ≡ old.home
+    pub latest : new.latest ≡ latest_behind h old.latest
+    pub running : RunsOn stands e h old.home old.running new.running
+    pub late : new.late ≡ late_behind e h old.late
+
+  -- of a session that is there, or of none
+  abbrev pub LivesOnIf : Event → Happening → (old new : Option (LivesView R)) → Type 0
+  LivesOnIf e h None new = new ≡ None
+  LivesOnIf e h (Some old) None = ⊥
+  LivesOnIf e h (Some old) (Some new) = LivesOn e h old new
+
+-- the session that an event names: a delivery that of the instance that hears
+abbrev pub hears_in : Happening → (session : ℕ) → Bool
+hears_in (Heard notice) session = notice.to.session == session
+hears_in h session = false
+
+abbrev pub names_session : Event → Happening → (session : ℕ) → Bool
+names_session (event.Submit named line c) h session = named == session
+names_session (event.Poll named slot) h session = named == session
+names_session (event.Deliver number) h session = hears_in h session
+names_session (event.Expire named s image) h session = false
+names_session (event.Stop named) h session = named == session
+names_session (event.Late named slot) h session = named == session
+names_session (event.Restart named) h session = named == session
+names_session (event.Trim s image object) h session = false
 
 -- ---- the whole step
 
@@ -172,28 +393,45 @@ with_lines lines s = record s { log = s.log ++ lines }
 abbrev pub call_of : Event → Happening → Call
 call_of e h = record { event = e; outcome = outcome_of h }
 
+-- the mail behind it
+abbrev pub mail_then : Happening → Sites → List Notice
+mail_then (Did o reply) sites = mail_after (site_in o.site sites).id (records_in o.site sites) o.instance o.op sites.mail
+mail_then h sites = sites.mail
+
 module _ {R : Type 0} (stands : R → Standing) where
-  -- The event did this: its call is one more, history and logs have what belongs to it, and no
+  -- The event did this: its call is one more, history, logs and mail have what belongs to it, and no
   -- session changed but the one that it names.
   pub record Does (e : Event) (h : Happening) (old new : WorldView R) : Type 0 where
     pub calls : new.calls ≡ old.calls ++ call_of e h ∷ []
     pub history : new.history ≡ old.history ++ entries_of h
     pub sites : (s : SiteId) → site_in s new.sites ≡ with_lines (lines_at s h) (site_in s old.sites)
-    pub named : (session : ℕ) → names_session e session ≡ true → BecomesOf stands e h (session_in session old.sessions) (session_in session new.sessions)
-    pub others : (session : ℕ) → names_session e session ≡ false → session_in session new.sessions ≡ session_in session old.sessions
+    pub mail : new.sites.mail ≡ mail_then h old.sites
+    pub named : (session : ℕ) → names_session e h session ≡ true → LivesOnIf stands e h (lives_in session old.lives) (lives_in session new.lives)
+    pub others : (session : ℕ) → names_session e h session ≡ false → lives_in session new.lives ≡ lives_in session old.lives
 
   abbrev pub IsStep : Event → (old : WorldView R) → Outcome → (new : WorldView R) → Type 0
   IsStep e old result new = (result ≡ outcome_of (happening stands e old)) × Does e (happening stands e old) old new
 
-  -- a step that is refused memory: all is as it was, but for what a session is ready for
-  abbrev pub IsAlikeOf : (old new : Option (SessionView R)) → Type 0
+  -- a step that is refused memory: all is as it was, but for what a client is ready for
+  abbrev pub IsClientAlikeIf : (old new : Option (ClientView R)) → Type 0
+  IsClientAlikeIf None new = new ≡ None
+  IsClientAlikeIf (Some old) None = ⊥
+  IsClientAlikeIf (Some old) (Some new) = IsClientAlike stands old new
+
+  pub record AreLivesAlike (old new : LivesView R) : Type 0 where
+    pub home : new.home ≡ old.home
+    pub latest : new.latest ≡ old.latest
+    pub running : IsClientAlikeIf old.running new.running
+    pub late : new.late ≡ old.late
+
+  abbrev pub IsAlikeOf : (old new : Option (LivesView R)) → Type 0
   IsAlikeOf None new = new ≡ None
   IsAlikeOf (Some old) None = ⊥
-  IsAlikeOf (Some old) (Some new) = IsAlike stands old new
+  IsAlikeOf (Some old) (Some new) = AreLivesAlike old new
 
   pub record IsUndone (old new : WorldView R) : Type 0 where
     pub sites : new.sites ≡ old.sites
-    pub sessions : (session : ℕ) → IsAlikeOf (session_in session old.sessions) (session_in session new.sessions)
+    pub lives : (session : ℕ) → IsAlikeOf (lives_in session old.lives) (lives_in session new.lives)
     pub history : new.history ≡ old.history
     pub calls : new.calls ≡ old.calls
 
@@ -205,40 +443,47 @@ pub record DoesAt (s : SiteId) (h : Happening) (old new : SiteLog) : Type 0 wher
   pub records : records_of new ≡ records_behind s (records_of old) h
   pub form : AreInForm (records_of old) (length old.log) → AreInForm (records_of new) (length new.log)
 
--- so to both sites
+-- so to both sites, and to the mail
 pub record DoesAtSites (h : Happening) (old new : Sites) : Type 0 where
   pub sites : (s : SiteId) → site_in s new ≡ with_lines (lines_at s h) (site_in s old)
   pub records : (s : SiteId) → records_in s new ≡ records_behind s (records_in s old) h
   pub form : (s : SiteId) → AreInForm (records_in s old) (length (site_in s old).log) → AreInForm (records_in s new) (length (site_in s new).log)
+  pub mail : new.mail ≡ mail_then h old
 
 -- no site changed
-abbrev pub AreSameSites : (old new : Sites) → Type 0
-AreSameSites old new = (s : SiteId) → site_in s new ≡ site_in s old
+pub record AreSameSites (old new : Sites) : Type 0 where
+  pub sites : (s : SiteId) → site_in s new ≡ site_in s old
+  pub mail : new.mail ≡ old.mail
 
 -- The operation may be done at its site, and the answer is one that it can give.
 pub record IsPermitted (sites : Sites) (who : Instance) (s : SiteId) (o : Op) : Type 0 where
   pub may : MayDo (records_in s sites) who o
   pub gives : CanGive o (answer_to (records_in s sites) who o)
 
+-- so it is with what may still come
+abbrev pub MayCome : Sites → Option Sent → Type 0
+MayCome sites None = Unit {0}
+MayCome sites (Some x) = IsPermitted sites x.instance x.site x.op
+
 module _ {R : Type 0} (stands : R → Standing) where
   -- what becomes of the sessions: those that the event doesn't name stay
-  pub record DoesToSessions (e : Event) (h : Happening) (old new : List (SessionView R)) : Type 0 where
-    pub named : (session : ℕ) → names_session e session ≡ true → BecomesOf stands e h (session_in session old) (session_in session new)
-    pub others : (session : ℕ) → names_session e session ≡ false → session_in session new ≡ session_in session old
-    pub sound : (session : ℕ) (c : SessionView R) → names_session e session ≡ true → session_in session new ≡ Some c → IsSoundSession stands c
+  pub record DoesToLives (e : Event) (h : Happening) (old new : List (LivesView R)) : Type 0 where
+    pub named : (session : ℕ) → names_session e h session ≡ true → LivesOnIf stands e h (lives_in session old) (lives_in session new)
+    pub others : (session : ℕ) → names_session e h session ≡ false → lives_in session new ≡ lives_in session old
+    pub sound : (session : ℕ) (c : ClientView R) → names_session e h session ≡ true → client_in session new ≡ Some c → IsSoundClient stands c
 
-  abbrev pub IsSoundIf : Option (SessionView R) → Type 0
+  abbrev pub IsSoundIf : Option (ClientView R) → Type 0
   IsSoundIf None = Unit {0}
-  IsSoundIf (Some c) = IsSoundSession stands c
+  IsSoundIf (Some c) = IsSoundClient stands c
 
   -- the sessions that a refused step leaves
-  pub record LeavesSessions (old new : List (SessionView R)) : Type 0 where
-    pub alike : (session : ℕ) → IsAlikeOf stands (session_in session old) (session_in session new)
-    pub sound : (session : ℕ) → IsSoundIf (session_in session old) → IsSoundIf (session_in session new)
+  pub record LeavesLives (old new : List (LivesView R)) : Type 0 where
+    pub alike : (session : ℕ) → IsAlikeOf stands (lives_in session old) (lives_in session new)
+    pub sound : (session : ℕ) → IsSoundIf (client_in session old) → IsSoundIf (client_in session new)
 
   -- so it is with the wanted operation of a slot that may go on
-  abbrev pub WantsWhatItMay : Sites → (slot : ℕ) → SessionView R → Type 0
-  WantsWhatItMay sites slot c = (s : SiteId) (o : Op) → op_at stands slot c ≡ Some (s, o) → IsPermitted sites c.instance s o
+  abbrev pub WantsWhatItMay : Sites → (slot : ℕ) → ClientView R → Type 0
+  WantsWhatItMay sites slot c = (s : SiteId) (o : Op) → op_wanted stands slot c ≡ Some (s, o) → IsPermitted sites c.session.instance s o
 
 -- the lines that were begun behind it
 abbrev pub begun_behind : (begun : (line : ℕ) → Bool) → Happening → (line : ℕ) → Bool
@@ -246,22 +491,21 @@ begun_behind begun h line = begun line || is_begun line (entries_of h)
 
 module _ {R : Type 0} (stands : R → Standing) where
   -- what an event does to all parts
-  pub record DoesToParts (e : Event) (h : Happening) (old_sites new_sites : Sites) (old new : List (SessionView R)) (old_begun new_begun : LinesBegun) : Type 0 where
+  pub record DoesToParts (e : Event) (h : Happening) (old_sites new_sites : Sites) (old new : List (LivesView R)) (old_begun new_begun : LinesBegun) : Type 0 where
     pub sites : DoesAtSites h old_sites new_sites
-    pub sessions : DoesToSessions stands e h old new
+    pub lives : DoesToLives stands e h old new
     pub begun : (line : ℕ) → has_line line new_begun ≡ begun_behind (λ l. has_line l old_begun) h line
 
   -- what is left of them where it was refused memory
-  pub record LeavesParts (old_sites new_sites : Sites) (old new : List (SessionView R)) (old_begun new_begun : LinesBegun) : Type 0 where
+  pub record LeavesParts (old_sites new_sites : Sites) (old new : List (LivesView R)) (old_begun new_begun : LinesBegun) : Type 0 where
     pub sites : AreSameSites old_sites new_sites
-    pub sessions : LeavesSessions stands old new
+    pub lives : LeavesLives stands old new
     pub begun : (line : ℕ) → has_line line new_begun ≡ has_line line old_begun
 
-module _ {R : Type 0} (stands : R → Standing) where
   -- A step of all parts: what it does to them, what history and calls have more, and its outcome.
-  pub record StepsParts (e : Event) (h : Happening) (old_sites new_sites : Sites) (old new : List (SessionView R)) (old_begun new_begun : LinesBegun)
+  pub record StepsParts (e : Event) (h : Happening) (old_sites new_sites : Sites) (old new : List (LivesView R)) (old_begun new_begun : LinesBegun)
       (old_history new_history : List Entry) (old_calls new_calls : List Call) (result : Outcome) : Type 0 where
-    pub parts : DoesToParts stands e h old_sites new_sites old new old_begun new_begun
+    pub parts : DoesToParts e h old_sites new_sites old new old_begun new_begun
     pub history : new_history ≡ old_history ++ entries_of h
     pub calls : new_calls ≡ old_calls ++ call_of e h ∷ []
     pub outcome : result ≡ outcome_of h
@@ -270,17 +514,5 @@ module _ {R : Type 0} (stands : R → Standing) where
 
 -- the command of a submission is built
 abbrev pub IsBuiltEvent : Event → Type 0
-IsBuiltEvent (event.Submit session line command) = is_built command ≡ true
+IsBuiltEvent (event.Submit session line c) = is_built c ≡ true
 IsBuiltEvent e = Unit {0}
-
--- a change of an image that is there is this client's
-abbrev pub IsChangeOf : (client : ℕ) → Event → Type 0
-IsChangeOf client (event.Submit session line command) = is_change command ≡ true → session ≡ client
-IsChangeOf client e = Unit {0}
-
--- As long as no lock keeps two sessions apart, all changes of images that are there are submitted by
--- one client.
-pub record AreOfOneClient (calls : List Call) (e : Event) : Type 0 where
-  pub client : ℕ
-  pub before : All (λ (c : Call). IsChangeOf client c.event) calls
-  pub now : IsChangeOf client e

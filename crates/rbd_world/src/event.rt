@@ -10,10 +10,34 @@ pub enum Event {
         line: u32,
         command: Command,
     },
-    /// The request in a slot of a session does the operation that it wants.
+    /// Who acts at a slot of a session does the operation that is wanted there: the request in it,
+    /// its way to the lock of its image, or, at slot 0, the release of a lock.
     Poll {
         session: SessionNo,
         slot: Slot,
+    },
+    /// A notice comes to the instance that it is for. It may come late, never, or several times.
+    Deliver {
+        number: u64,
+    },
+    /// The store ends the watch of an image by a session.
+    Expire {
+        session: SessionNo,
+        site: SiteId,
+        image: ImageId,
+    },
+    /// A session stops. What each of its slots wanted may still come.
+    Stop {
+        session: SessionNo,
+    },
+    /// An operation comes that a slot of a session wanted when the session was last stopped.
+    Late {
+        session: SessionNo,
+        slot: Slot,
+    },
+    /// A stopped session begins its next life.
+    Restart {
+        session: SessionNo,
     },
     /// The store trims an object of an image.
     Trim {
@@ -39,6 +63,22 @@ impl TryClone for Event {
                 session: *session,
                 slot: *slot,
             }),
+            Event::Deliver { number } => Ok(Event::Deliver { number: *number }),
+            Event::Expire {
+                session,
+                site,
+                image,
+            } => Ok(Event::Expire {
+                session: *session,
+                site: *site,
+                image: *image,
+            }),
+            Event::Stop { session } => Ok(Event::Stop { session: *session }),
+            Event::Late { session, slot } => Ok(Event::Late {
+                session: *session,
+                slot: *slot,
+            }),
+            Event::Restart { session } => Ok(Event::Restart { session: *session }),
             Event::Trim {
                 site,
                 image,
@@ -59,20 +99,28 @@ pub enum Outcome {
     Nothing,
     /// The command has this slot.
     Submitted(Slot),
-    /// The request that was polled waits.
+    /// The slot waits: the line of its image, another's turn, a quiesce, or another one that wants
+    /// the lock holds its request back; or at slot 0 no lock is to be let go.
     Waits,
     /// One operation was done, with this number in its site's log. A request that is refused before
     /// any operation has its reply in a step with the number 0.
     Step {
         site: SiteId,
         number: u64,
-        /// The operation was one of those that ask again for a lock.
+        /// The operation was one of those on the way to a lock that ask again: the lock is held, its
+        /// watchers were looked up, its owner was asked.
         waiting: bool,
-        /// The request has its reply now.
+        /// A request has its reply now.
         replied: bool,
     },
+    /// An instance heard a notice.
+    Heard,
     /// The store did a step of its own.
     Stored,
+    /// The session was stopped, and its lines that had no reply are lost.
+    Stopped,
+    /// The session began its next life.
+    Restarted,
 }
 
 /// An event, and what came of it.
