@@ -1,14 +1,18 @@
 -- What a run tells of a line, one happening after another.
-use Rattle.std.proofs.Common.{◌≡◌, ℕ, ◌==◌, ◌||◌, cond, Bool, true, false, List, [], ◌∷◌, ◌++◌, is_some, Option, Some, None, refl, sym, ap, ◌∙◌}
+use Rattle.std.proofs.Common.{◌≡◌, ℕ, ◌==◌, ◌||◌, cond, Bool, true, false, List, [], ◌∷◌, ◌++◌, map, is_some, Option, Some, None, refl, sym, ap, ◌∙◌}
 use Rattle.std.specs.List.{list_any}
 use Rattle.std.proofs.lemmas.Bool.{eqb-true}
 use Rattle.std.proofs.lemmas.Option.{none-some}
 use Rattle.rbd_flat.specs.declared.effect.Effect.{Effect}
 use Rattle.rbd_kinds.specs.declared.id.SiteId.{SiteId}
 use Rattle.rbd_kinds.specs.declared.reply.Reply.{Reply}
-use Rattle.rbd_world.specs.Run.{Asked, Happening, Nothing, Waited, Began, Did, Refused, Trimmed, asked_by, entries_of, entry_by, history_of, or_asked, replies_to, reply_entries, step_of, steps_in, steps_of}
-use Rattle.rbd_world.specs.Sound.{IsDue, IsOpen, IsRight, has_reply}
+use Rattle.rbd_flat.specs.declared.entry.Cause.{Cause}
+use Rattle.rbd_flat.specs.declared.entry.Entry.TheVariants as entry
+use Rattle.rbd_kinds.specs.declared.id.Instance.{Instance}
+use Rattle.rbd_world.specs.Run.{Asked, Doer, Itself, OnWay, House, AfterStop, Happening, Nothing, Waited, Began, Did, Refused, Trimmed, Expired, Heard, Stopped, Restarted, Operation, asked_by, ending_entries, ends, entries_of, entry_by, entry_of, entry_unfenced, history_of, is_among, is_for, is_own, or_asked, reply_entries, step_of, steps_in, steps_of, way_in, way_of}
+use Rattle.rbd_world.specs.Sound.{EndsWith, GoesOnBehind, IsDue, IsOpen, IsRight, has_ended}
 use Rattle.rbd_world.specs.Step.{is_begun, is_start_of}
+use Rattle.rbd_world.proofs.Quiet.{IsQuiet, quiet_began, quiet_did, quiet_expired, quiet_heard, quiet_nothing, quiet_refused, quiet_restarted, quiet_stopped, quiet_trimmed, quiet_waited}
 
 -- ---- lines that were begun
 
@@ -24,19 +28,33 @@ pub or_false : (b : Bool) → (b || false) ≡ b
 or_false true = refl
 or_false false = refl
 
-pub no_start : (line : ℕ) (other : ℕ) (s : SiteId) (number : ℕ) (e : Option Effect) → is_start_of line (entry_by other s number e) ≡ false
-no_start line other s number None = refl
-no_start line other s number (Some e) = refl
+unfenced_no_start : (line : ℕ) (c : Cause) (s : SiteId) (number : ℕ) (e : Option Effect) → is_start_of line (entry_unfenced c s number e) ≡ false
+unfenced_no_start line c s number None = refl
+unfenced_no_start line c s number (Some e) = refl
 
-pub replies_begin_nothing : (line other : ℕ) (reply : Option Reply) → is_begun line (reply_entries other reply) ≡ false
+pub no_start : (line : ℕ) (c : Cause) (s : SiteId) (number : ℕ) (fence : Option Instance) (e : Option Effect) → is_start_of line (entry_by c s number fence e) ≡ false
+no_start line c s number None e = unfenced_no_start line c s number e
+no_start line c s number (Some who) e = refl
+
+replies_begin_nothing : (line other : ℕ) (reply : Option Reply) → is_begun line (reply_entries other reply) ≡ false
 replies_begin_nothing line other None = refl
 replies_begin_nothing line other (Some reply) = refl
+
+pub endings_begin_nothing : (line : ℕ) (by : Doer) (reply : Option Reply) → is_begun line (ending_entries by reply) ≡ false
+endings_begin_nothing line (Itself other) reply = replies_begin_nothing line other reply
+endings_begin_nothing line (OnWay other) reply = replies_begin_nothing line other reply
+endings_begin_nothing line House reply = refl
+endings_begin_nothing line (AfterStop slot) reply = refl
+
+pub lost_begin_nothing : (line : ℕ) (lost : List ℕ) → is_begun line (map entry.Lost lost) ≡ false
+lost_begin_nothing line [] = refl
+lost_begin_nothing line (other ∷ lost) = lost_begin_nothing line lost
 
 -- a line is begun by the one entry of its start
 begun_by : (line : ℕ) (h : Happening) (before : Option Asked) → (is_some before || is_begun line (entries_of h)) ≡ is_some (or_asked line h before)
 begun_by line Nothing before = or_false (is_some before)
 begun_by line Waited before = or_false (is_some before)
-begun_by line (Began asked who slot) before = go (asked.line == line) before
+begun_by line (Began asked slot) before = go (asked.line == line) before
   where
     go : (b : Bool) (before : Option Asked) → (is_some before || (b || false)) ≡ is_some (cond b (Some asked) before)
     go true None = refl
@@ -44,10 +62,14 @@ begun_by line (Began asked who slot) before = go (asked.line == line) before
     go false None = refl
     go false (Some other) = refl
 begun_by line (Did o reply) before =
-    ap (λ b. is_some before || (b || is_begun line (reply_entries o.line reply))) (no_start line o.line o.site o.number o.effect)
-    ∙ ap (λ b. is_some before || b) (replies_begin_nothing line o.line reply) ∙ or_false (is_some before)
+    ap (λ b. is_some before || (b || is_begun line (ending_entries o.by reply))) (no_start line _ o.site o.number _ o.effect)
+    ∙ ap (λ b. is_some before || b) (endings_begin_nothing line o.by reply) ∙ or_false (is_some before)
 begun_by line (Refused s other reply) before = or_false (is_some before)
 begun_by line (Trimmed s number image object) before = or_false (is_some before)
+begun_by line (Expired s number image who) before = or_false (is_some before)
+begun_by line (Heard notice) before = or_false (is_some before)
+begun_by line (Stopped who wanted lost) before = ap (λ b. is_some before || b) (lost_begin_nothing line lost) ∙ or_false (is_some before)
+begun_by line (Restarted who) before = or_false (is_some before)
 
 pub begun_is_asked : (line : ℕ) (run : List Happening) → is_begun line (history_of run) ≡ is_some (asked_by line run)
 begun_is_asked line [] = refl
@@ -57,12 +79,13 @@ begun_is_asked line (h ∷ run) =
 
 -- ---- lines that weren't
 
--- nothing was done for it, and it has no reply
+-- nothing was done for it, and it hasn't ended
 pub record IsUnheard (line : ℕ) (run : List Happening) : Type 0 where
   pub steps : steps_of line run ≡ []
-  pub unanswered : has_reply line run ≡ false
+  pub way : way_of line run ≡ []
+  pub unended : has_ended line run ≡ false
 
-other_line : (line other : ℕ) (run : List Happening) → asked_by line run ≡ None → IsOpen other run → (other == line) ≡ false
+pub other_line : (line other : ℕ) (run : List Happening) → asked_by line run ≡ None → IsOpen other run → (other == line) ≡ false
 other_line line other run none begun = go (other == line) refl
   where
     go : (b : Bool) → (other == line) ≡ b → (other == line) ≡ false
@@ -70,39 +93,69 @@ other_line line other run none begun = go (other == line) refl
     go true is = absurd (none-some begun.asked (sym none ∙ ap (λ l. asked_by l run) (sym (eqb-true other line is)) ∙ begun.is))
 
 asked_before : (line : ℕ) (h : Happening) (before : Option Asked) → or_asked line h before ≡ None → before ≡ None
-asked_before line Nothing before none = none
-asked_before line Waited before none = none
-asked_before line (Began asked who slot) before none = go (asked.line == line) none
+asked_before line (Began asked slot) before none = go (asked.line == line) none
   where
     go : (b : Bool) → cond b (Some asked) before ≡ None → before ≡ None
     go true none = absurd (none-some asked (sym none))
     go false none = none
+asked_before line Nothing before none = none
+asked_before line Waited before none = none
 asked_before line (Did o reply) before none = none
 asked_before line (Refused s other reply) before none = none
 asked_before line (Trimmed s number image object) before none = none
+asked_before line (Expired s number image who) before none = none
+asked_before line (Heard notice) before none = none
+asked_before line (Stopped who wanted lost) before none = none
+asked_before line (Restarted who) before none = none
 
 -- one happening more leaves it unheard, where it is of another line
-unheard_more : (line : ℕ) (h : Happening) (run : List Happening) → IsUnheard line run → steps_in line h ≡ [] → replies_to line h ≡ false → IsUnheard line (h ∷ run)
-unheard_more line h run u none silent = record {
-  steps = ap (λ xs. xs ++ steps_in line h) u.steps ∙ none;
-  unanswered = ap (λ b. b || has_reply line run) silent ∙ u.unanswered;
+unheard_more : (line : ℕ) (h : Happening) (run : List Happening) → IsUnheard line run → IsQuiet line h → IsUnheard line (h ∷ run)
+unheard_more line h run u quiet = record {
+  steps = ap (λ xs. xs ++ steps_in line h) u.steps ∙ quiet.steps;
+  way = ap (λ xs. xs ++ way_in line h) u.way ∙ quiet.way;
+  unended = ap (λ b. b || has_ended line run) quiet.silent ∙ u.unended;
 }
 
+-- an operation whose line goes on is for no line that nobody began
+goes_for_another : (line : ℕ) (run : List Happening) (by : Doer) → asked_by line run ≡ None → GoesOnBehind by run → is_for line by ≡ false
+goes_for_another line run (Itself other) none begun = ap (λ b. b || false) (other_line line other run none begun)
+goes_for_another line run (OnWay other) none begun = other_line line other run none begun
+goes_for_another line run House none begun = refl
+goes_for_another line run (AfterStop slot) none begun = refl
+
+ends_another : (homes : ℕ → SiteId) (line : ℕ) (run : List Happening) (o : Operation) (reply : Reply) (by : Doer) → asked_by line run ≡ None → EndsWith homes o reply run by → is_for line by ≡ false
+ends_another homes line run o reply (Itself other) none ends = ap (λ b. b || false) (other_line line other run none ends.begun)
+ends_another homes line run o reply (OnWay other) none ends = other_line line other run none ends.begun
+ends_another homes line run o reply House none ends = refl
+ends_another homes line run o reply (AfterStop slot) none ends = refl
+
+lost_another : (line : ℕ) (run : List Happening) (lost : List ℕ) → asked_by line run ≡ None → (is_among line lost ≡ true → IsOpen line run) → is_among line lost ≡ false
+lost_another line run lost none each = by (is_among line lost) refl
+  where
+    by : (b : Bool) → is_among line lost ≡ b → is_among line lost ≡ false
+    by true is = let begun = each is in absurd (none-some begun.asked (sym none ∙ begun.is))
+    by false is = is
+
 pub unheard : (homes : ℕ → SiteId) (line : ℕ) (run : List Happening) → IsRight homes run → asked_by line run ≡ None → IsUnheard line run
-unheard homes line [] right none = record { steps = refl; unanswered = refl }
-unheard homes line (h ∷ run) (standing, due, right) none = by h due (unheard homes line run right before)
+unheard homes line [] right none = record { steps = refl; way = refl; unended = refl }
+unheard homes line (h ∷ run) (standing, due, right) none = unheard_more line h run (unheard homes line run right before) (by h due none)
   where
     before : asked_by line run ≡ None
     before = asked_before line h (asked_by line run) none
 
-    by : (h : Happening) → IsDue homes h run → IsUnheard line run → IsUnheard line (h ∷ run)
-    by Nothing due u = unheard_more line Nothing run u refl refl
-    by Waited due u = unheard_more line Waited run u refl refl
-    by (Began asked who slot) due u = unheard_more line (Began asked who slot) run u refl refl
-    by (Did o None) due u =
-        unheard_more line (Did o None) run u (ap (λ b. cond b (step_of o ∷ []) []) (other_line line o.line run before due.1)) refl
-    by (Did o (Some reply)) due u =
-        let differ = other_line line o.line run before due.1.begun in
-        unheard_more line (Did o (Some reply)) run u (ap (λ b. cond b (step_of o ∷ []) []) differ) differ
-    by (Refused s other reply) due u = unheard_more line (Refused s other reply) run u refl (other_line line other run before due.begun)
-    by (Trimmed s number image object) due u = unheard_more line (Trimmed s number image object) run u refl refl
+    by : (h : Happening) → IsDue homes h run → or_asked line h (asked_by line run) ≡ None → IsQuiet line h
+    by Nothing due none = quiet_nothing line
+    by Waited due none = quiet_waited line
+    by (Began asked slot) due none = quiet_began line asked slot (go (asked.line == line) refl none)
+      where
+        go : (b : Bool) → (asked.line == line) ≡ b → cond b (Some asked) (asked_by line run) ≡ None → (asked.line == line) ≡ false
+        go true is none = absurd (none-some asked (sym none))
+        go false is none = is
+    by (Did o None) due none = quiet_did line o None (goes_for_another line run o.by before due.1)
+    by (Did o (Some reply)) due none = quiet_did line o (Some reply) (ends_another homes line run o reply o.by before due.1)
+    by (Refused s other reply) due none = quiet_refused line s other reply (other_line line other run before due.begun)
+    by (Trimmed s number image object) due none = quiet_trimmed line s number image object
+    by (Expired s number image who) due none = quiet_expired line s number image who
+    by (Heard notice) due none = quiet_heard line notice
+    by (Stopped who wanted lost) due none = quiet_stopped line who wanted lost (lost_another line run lost before (λ is. (due.each line is).begun))
+    by (Restarted who) due none = quiet_restarted line who
