@@ -12,10 +12,12 @@ pub mod FoundFirst
 pub mod InLine
 pub mod InOrder
 pub mod KeptAhead
-pub mod Logged
+pub mod Latest
+pub mod LostLines
 pub mod Newcomer
+pub mod OneLife
 pub mod OneMoreWrite
-pub mod OneSession
+pub mod Ongoing
 pub mod Operated
 pub mod Ordered
 pub mod OrderedWorld
@@ -29,8 +31,8 @@ pub mod Runs
 pub mod Slots
 pub mod Stepping
 pub mod Steps
+pub mod Stored
 pub mod Submitted
-pub mod Submitting
 pub mod Told
 pub mod Turned
 pub mod Undone
