@@ -6,6 +6,7 @@ pub mod BothSites
 pub mod Carried
 pub mod Changed
 pub mod Clients
+pub mod Coming
 pub mod Elsewhere
 pub mod FedAlike
 pub mod FirstClients
