@@ -1,9 +1,14 @@
 pub mod ChangesDone
+pub mod Fencing
 pub mod HeadersShown
 pub mod HomeReplies
 pub mod HomeSteps
+pub mod Led
 pub mod LineBounds
 pub mod ListingsTold
+pub mod NoEffects
+pub mod OnWay
+pub mod Owners
 pub mod PassBounds
 pub mod PlacedRight
 pub mod Places
@@ -19,6 +24,8 @@ pub mod ReadShown
 pub mod RefusalsNothing
 pub mod RepliesOf
 pub mod ShownNothing
+pub mod Silent
+pub mod SilentPlans
 pub mod Worlds
 pub mod WritePieces
 pub mod WriteWhole
