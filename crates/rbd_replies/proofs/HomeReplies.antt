@@ -1,4 +1,5 @@
--- A reply in a run that is right comes of operations at the home of the session that began its line.
+-- A reply in a run that is right comes of operations at the home of the session that began its
+-- line.
 use Rattle.std.proofs.Common.{◌≡◌, ◌⊎◌, inl, inr, ℕ, true, List, [], ◌∷◌, ◌++◌, Some, sym, subst, ◌∙◌}
 use Rattle.std.proofs.lemmas.Option.{same_Some}
 use Rattle.rbd_kinds.specs.declared.id.SiteId.{SiteId}

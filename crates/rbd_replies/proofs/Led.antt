@@ -1,5 +1,5 @@
--- Each line's command was led where it is by a walk of its plan: once it has its reply or is lost, and
--- while its request is in a slot.
+-- Each line's command was led where it is by a walk of its plan: once it has its reply or is lost,
+-- and while its request is in a slot.
 use Rattle.std.proofs.Common.{◌≡◌, inl, inr, ◌⊎◌, ℕ, ◌==◌, ◌||◌, cond, Bool, true, false, List, [], ◌∷◌, ◌++◌, Option, Some, None, refl, sym, ap, ◌∙◌, subst}
 use Rattle.std.proofs.lemmas.Bool.{true≢false, eqb-true}
 use Rattle.std.proofs.lemmas.List.{append-nil}

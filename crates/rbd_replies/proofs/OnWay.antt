@@ -1,5 +1,5 @@
--- A line that ends with an operation has its reply by its own, or is refused on its way to the lock:
--- then its reply is the one that a look under the lock would have had.
+-- A line that ends with an operation has its reply by its own, or is refused on its way to the
+-- lock: then its reply is the one that a look under the lock would have had.
 use Rattle.std.proofs.Common.{◌≡◌, ◌⊎◌, inl, inr, ℕ, ◌==◌, ◌||◌, cond, Bool, true, false, List, [], ◌∷◌, ◌++◌, Option, Some, refl, subst}
 use Rattle.std.proofs.lemmas.Bool.{true≢false, eqb-true}
 use Rattle.std.proofs.lemmas.List.{append-nil}

@@ -1,5 +1,5 @@
--- The operations of a line, each at its place in the run: those of its command itself, and not those
--- on its way to the lock of its image.
+-- The operations of a line, each at its place in the run: those of its command itself, and not
+-- those on its way to the lock of its image.
 use Rattle.std.specs.Prelude.{ℕ, if◌then◌else◌, List, [], ◌∷◌, ◌++◌, Option, Some, None}
 use Rattle.rbd_flat.specs.Flat.{Flat}
 use Rattle.rbd_flat.specs.declared.effect.Effect.{Effect}

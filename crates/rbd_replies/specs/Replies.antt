@@ -11,9 +11,9 @@ use Rattle.rbd_replies.specs.Places.{Placed, effects_of}
 use Rattle.rbd_replies.specs.Reads.{ShowsBytes}
 
 -- A command that is done, or shows something, did so by the flat-copy machine; what `close`,
--- `quiesce`, `resume` and `tell` do is no part of that machine. One that is refused
--- did nothing to it, unless the refusal may come when a part was done, as the fence's may; what
--- refused it is said by its last answer (`IsMeantBy` of `rbd_meaning`).
+-- `quiesce`, `resume` and `tell` do is no part of that machine. One that is refused did nothing to
+-- it, unless the refusal may come when a part was done, as the fence's may; what refused it is said
+-- by its last answer (`IsMeantBy` of `rbd_meaning`).
 abbrev pub IsReplyOf : Command → Reply → List Placed → Type 0
 IsReplyOf c (reply.Refused x) places = (ComesLate c x → ⊥) → effects_of places ≡ []
 IsReplyOf (command.Create image size shape) reply.Done places = Creates image size places

@@ -1,5 +1,5 @@
-//! What replies say of the flat-copy machine, and what fenced clients can't do any more: each law is
-//! the contract of a function that does nothing.
+//! What replies say of the flat-copy machine, and what fenced clients can't do: each law is the
+//! contract of a function that does nothing.
 ghost use Rattle.std.specs.Prelude.{◌≡◌, ℕ, true, [], ◌∷◌, ◌++◌, List, All, Option, Some, map};
 ghost use Rattle.rbd_kinds.specs.declared.answer.Answer.TheVariants as answer;
 ghost use Rattle.rbd_kinds.specs.declared.header_op.HeaderOp.TheVariants as header;
@@ -25,16 +25,16 @@ ghost use Rattle.rbd_replies.specs.Worlds.{AreSteps, BeginsWith, IsToldIn};
 
 use rbd_course::Request;
 
-/// The operations of a line's command itself stand at their places, in their order. Those on its way
-/// to the lock of its image are apart (`way_of` of `rbd_world`).
+/// The operations of a line's command itself stand at their places, in their order. Those on its
+/// way to the lock of its image are apart (`way_of` of `rbd_world`).
 pub fn operations_have_places()
     ensures { (line : ℕ) (run : List Happening) → map (λ (p : Placed). step_of p.done) (places_of line run) ≡ steps_of line run }
 {}
 
 /// Each reply is the flat-copy machine's, at its place in the history: what a command did, and what
-/// it shows, is what that machine has at the places of its operations. It comes with an operation of
-/// the command, or of its way to the lock of its image, where it is refused; or a command is refused
-/// without one. It is so at every place of a run that is right, as that of each world is
+/// it shows, is what that machine has at the places of its operations. It comes with an operation
+/// of the command, or of its way to the lock of its image, where it is refused; or a command is
+/// refused without one. It is so at every place of a run that is right, as that of each world is
 /// (`IsSoundWorld`).
 pub fn replies_are_the_flat_machines()
     ensures done { (homes : ℕ → Site) (run : List Happening) (o : Operation) (line : ℕ) (reply : Reply) (asked : Asked)
@@ -56,9 +56,9 @@ pub fn what_only_shows_changes_nothing()
         → effects_of (places_of line (Refused s line reply ∷ run)) ≡ [] }
 {}
 
-/// A command that changes no image, as `close`, `quiesce`, `resume`, `tell` and those that only show,
-/// has no effect on the flat site: not behind its reply, whatever it is, not where its line is lost,
-/// and not while it is under way.
+/// A command that changes no image, as `close`, `quiesce`, `resume`, `tell` and those that only
+/// show, has no effect on the flat site: not behind its reply, whatever it is, not where its line
+/// is lost, and not while it is under way.
 pub fn what_changes_no_image_has_no_effect<R: Request>()
     ensures ended { (homes : ℕ → Site) (run : List Happening) (line : ℕ) (asked : Asked)
         → IsRight homes run → asked_by line run ≡ Some asked → has_ended line run ≡ true → changes_no_image asked.command ≡ true
@@ -81,10 +81,10 @@ pub fn replies_are_of_their_home()
 
 /// The command of a line that was begun has no more operations itself than its bound (`bound_of` of
 /// `rbd_requests`), by the number of pieces that its extent has at most: in all when it has its
-/// reply, or is lost by a stop, and so far at any time before. A read has so many at most in each of
-/// its passes, and began again only where its closing look was told a header of another generation,
-/// or none. Who waits has none: each operation is a poll's whose outcome is `Step`. Operations on the
-/// way to a lock aren't counted here: a way asks as often as another one has the lock.
+/// reply, or is lost by a stop, and so far at any time before. A read has so many at most in each
+/// of its passes, and began again only where its closing look was told a header of another
+/// generation, or none. Who waits has none: each operation is a poll's whose outcome is `Step`.
+/// Operations on the way to a lock aren't counted: it asks as often as another one has the lock.
 pub fn lines_keep_their_bounds<R: Request>()
     ensures ended { (homes : ℕ → Site) (run : List Happening) (line : ℕ) (asked : Asked) (most : ℕ)
         → IsRight homes run → asked_by line run ≡ Some asked → has_ended line run ≡ true → HasAtMost most (touched_by asked.command)
@@ -112,11 +112,11 @@ pub fn shown_headers_are_in_form<R: Request>()
     ensures { (w : WorldView R) (sound : IsSoundWorld R.stands w) → AreHeadersInForm w.history }
 {}
 
-/// No operation of a fenced client changes an object. At the site that has it in its blocklist it is
-/// answered `Fenced`, whatever it is and whenever it comes, also when its session was stopped long
-/// before; it has no effect, and the records of both sites, the flat sites and the notices stay as
-/// they were. So it is from the operation on that put up the fence (`fences_are_told`), at every
-/// later place of the run (`fences_last`).
+/// No operation of a fenced client changes an object. At the site that has its instance in the
+/// blocklist it is answered `Fenced`, whatever it is and whenever it comes, also long after the
+/// session was stopped; it has no effect, and the records of both sites, the flat sites and the
+/// notices stay as they were. So it is at every later place of the run (`fences_last`) from the
+/// operation on that put up the fence (`fences_are_told`).
 pub fn fenced_clients_change_nothing()
     ensures while_fenced { (homes : ℕ → Site) (run : List Happening) (o : Operation) (reply : Option Reply)
         → IsRight homes (Did o reply ∷ run) → is_fenced (records_after o.site run) o.instance ≡ true
