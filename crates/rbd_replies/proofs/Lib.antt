@@ -14,6 +14,7 @@ pub mod PlacedRight
 pub mod Places
 pub mod PlacesTaken
 pub mod PlacesTold
+pub mod PlanSteps
 pub mod ReadKept
 pub mod ReadNames
 pub mod ReadOrder

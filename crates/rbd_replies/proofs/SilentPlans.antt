@@ -1,13 +1,12 @@
 -- The plan of a command that changes no image asks for nothing that has an effect, whatever it is
 -- answered; so nothing that its walks did had one.
-use Rattle.std.proofs.Common.{◌≡◌, ℕ, ◌==◌, cond, Bool, true, false, List, [], ◌∷◌, ◌++◌, replicate, Option, Some, None, refl, sym, subst}
+use Rattle.std.proofs.Common.{◌≡◌, ℕ, ◌==◌, true, List, [], ◌∷◌, ◌++◌, Option, Some, None, refl, sym, subst}
 use Rattle.rbd_admin.specs.Create.{IsCreatePlan}
-use Rattle.rbd_admin.specs.Listing.{listing_plan, on_names, showing, show_header}
+use Rattle.rbd_admin.specs.Listing.{listing_plan, showing, show_header}
 use Rattle.rbd_admin.specs.Snap.{is_snap}
 use Rattle.rbd_close.specs.Close.{close_plan, done, joining, on_dropped, quiesced, resumed, saying, unwatching}
 use Rattle.rbd_commands.specs.declared.command.Command.{Command}
 use Rattle.rbd_commands.specs.declared.command.Command.TheVariants as command
-use Rattle.rbd_commands.specs.declared.refusal.Refusal.{Refusal}
 use Rattle.rbd_header.specs.Header.{view_of}
 use Rattle.rbd_header.specs.declared.view.View.{View}
 use Rattle.rbd_kinds.specs.declared.answer.Answer.{Answer}
@@ -15,13 +14,11 @@ use Rattle.rbd_kinds.specs.declared.answer.Answer.TheVariants as answer
 use Rattle.rbd_kinds.specs.declared.header.HeaderView.{HeaderView}
 use Rattle.rbd_kinds.specs.declared.id.SiteId.{SiteId}
 use Rattle.rbd_kinds.specs.declared.layout.Extent.{Extent}
-use Rattle.rbd_kinds.specs.declared.layout.Part.{Part}
 use Rattle.rbd_kinds.specs.declared.machine.Fed.{Fed}
 use Rattle.rbd_kinds.specs.declared.machine.Fed.TheVariants as fed
 use Rattle.rbd_kinds.specs.declared.operation.Op.{Op}
 use Rattle.rbd_kinds.specs.declared.reply.Reply.{Reply}
 use Rattle.rbd_kinds.specs.declared.reply.Reply.TheVariants as reply
-use Rattle.rbd_kinds.specs.Parts.{parts_len}
 use Rattle.rbd_layout.specs.Pieces.{pieces_of}
 use Rattle.rbd_layout.specs.declared.types.Piece.{Piece}
 use Rattle.rbd_machine.specs.Label.{Label}
@@ -29,16 +26,17 @@ use Rattle.rbd_machine.specs.Objects.{data_read}
 use Rattle.rbd_machine.specs.Path.{Answered, IsWalk}
 use Rattle.rbd_machine.specs.Plan.{Plan, Ask, Await, Note, Return, Goto, Standing, settled, without_labels}
 use Rattle.rbd_machine.specs.Refused.{refuses_none}
-use Rattle.rbd_machine.specs.Steps.{change, joining as change_joining, looked, not_there, on_done, on_header, on_id, owned, unless}
+use Rattle.rbd_machine.specs.Steps.{change, joining as change_joining, looked, owned}
 use Rattle.rbd_meaning.specs.Listings.{shown_snaps}
 use Rattle.rbd_meaning.specs.Range.{out_of_range}
-use Rattle.rbd_piece.specs.Gather.{gather, on_bytes}
+use Rattle.rbd_piece.specs.Gather.{gather}
 use Rattle.rbd_request.specs.Read.{IsReadOf, closing, gathering, looking, on_closing, pass, reading, viewing}
 use Rattle.rbd_request.specs.Seen.{Seen, seen_at}
 use Rattle.rbd_request.specs.Write.{is_write}
 use Rattle.rbd_requests.specs.Served.{IsPlanFor, Writes, Reads, Creates, Lists, Snaps, Closes}
 use Rattle.rbd_stands.specs.Effect.{effect_of_op}
 use Rattle.rbd_world.specs.Sound.{IsLedTo}
+use Rattle.rbd_replies.proofs.PlanSteps.{at_bytes, at_done, at_either, at_header, at_id, at_names, at_not_there, at_unless}
 use Rattle.rbd_replies.proofs.RefusalsNothing.{look_does_nothing}
 use Rattle.rbd_replies.proofs.Silent.{AreSilent}
 use Rattle.rbd_replies.specs.Replies.{changes_no_image}
@@ -53,6 +51,9 @@ AsksSilently (Await wait next) = AsksSilently next
 AsksSilently (Note site image event next) = AsksSilently next
 AsksSilently (Return r) = Unit {0}
 AsksSilently (Goto label) = Unit {0}
+
+ends : (r : Reply) → AsksSilently (Return r)
+ends r = tt
 
 -- ---- along a walk
 
@@ -77,41 +78,6 @@ module _ (labels : Label → Plan) (each : (label : Label) → AsksSilently (lab
   walk_is_silent (f ∷ more) (Return r) steps last silent walk = absurd walk
   walk_is_silent (f ∷ more) (Goto label) steps last silent walk = absurd walk
 
--- ---- steps
-
-at_not_there : (a : Answer) → AsksSilently (not_there a)
-at_not_there answer.Fenced = tt
-at_not_there _ = tt
-
-at_id : (next : ℕ → Plan) → ((image : ℕ) → AsksSilently (next image)) → (a : Answer) → AsksSilently (on_id next a)
-at_id next silent (answer.Id image) = silent image
-at_id next silent a = at_not_there a
-
-at_header : (next : HeaderView → Plan) → ((h : HeaderView) → AsksSilently (next h)) → (a : Answer) → AsksSilently (on_header next a)
-at_header next silent (answer.Header h) = silent h
-at_header next silent a = at_not_there a
-
-at_done : (next : Plan) → AsksSilently next → (a : Answer) → AsksSilently (on_done next a)
-at_done next silent answer.Done = silent
-at_done next silent a = at_not_there a
-
-at_unless : (r : Option Refusal) (next : Plan) → AsksSilently next → AsksSilently (unless r next)
-at_unless None next silent = silent
-at_unless (Some r) next silent = tt
-
-at_either : (b : Bool) (one other : Plan) → AsksSilently one → AsksSilently other → AsksSilently (cond b one other)
-at_either true one other silent also = silent
-at_either false one other silent also = also
-
-at_names : (next : List (List ℕ) → Plan) → ((names : List (List ℕ)) → AsksSilently (next names)) → (a : Answer) → AsksSilently (on_names next a)
-at_names next silent (answer.Names names) = silent names
-at_names next silent a = at_not_there a
-
-at_bytes : (parts : List Part) (next : List ℕ → Plan) → ((bytes : List ℕ) → AsksSilently (next bytes)) → (a : Answer) → AsksSilently (on_bytes parts next a)
-at_bytes parts next silent (answer.Bytes bytes) = silent bytes
-at_bytes parts next silent answer.Absent = silent (replicate (parts_len parts) 0)
-at_bytes parts next silent a = at_not_there a
-
 -- ---- read
 
 at_gather : (site : SiteId) (image : ℕ) (snap : Option ℕ) (pieces : List Piece) (read : List ℕ) (next : List ℕ → Plan) → ((bytes : List ℕ) → AsksSilently (next bytes))
@@ -119,26 +85,26 @@ at_gather : (site : SiteId) (image : ℕ) (snap : Option ℕ) (pieces : List Pie
 at_gather site image snap [] read next silent = silent read
 at_gather site image snap (p ∷ pieces) read next silent = (
   λ known a. look_does_nothing known (data_read image snap p) a refl,
-  at_bytes p.parts (λ bytes. gather site image snap pieces (read ++ bytes) next) (λ bytes. at_gather site image snap pieces (read ++ bytes) next silent),
+  at_bytes AsksSilently ends p.parts (λ bytes. gather site image snap pieces (read ++ bytes) next) (λ bytes. at_gather site image snap pieces (read ++ bytes) next silent),
 )
 
 at_closing : (seen : Seen) (read : List ℕ) (a : Answer) → AsksSilently (on_closing seen read a)
-at_closing seen read (answer.Header h) = at_either (h.generation == seen.generation) _ _ tt tt
+at_closing seen read (answer.Header h) = at_either AsksSilently ends (h.generation == seen.generation) _ _ tt tt
 at_closing seen read answer.Absent = tt
-at_closing seen read a = at_not_there a
+at_closing seen read a = at_not_there AsksSilently ends a
 
 at_viewing : (site : SiteId) (image : ℕ) (h : HeaderView) (e : Extent) (view : Option View) → AsksSilently (viewing site image h e view)
 at_viewing site image h e None = tt
 at_viewing site image h e (Some view) =
-    at_unless (out_of_range e view.size) (gathering site image h e view)
+    at_unless AsksSilently ends (out_of_range e view.size) (gathering site image h e view)
     (at_gather site image view.snap (pieces_of h.layout e) [] (closing site image (seen_at h e)) (λ bytes. (λ known a. refl, at_closing (seen_at h e) bytes)))
 
 at_pass : (site : SiteId) (name : List ℕ) (snap : Option (List ℕ)) (e : Extent) → AsksSilently (pass site name snap e)
 at_pass site name snap e = (
   λ known a. refl,
-  at_id (looking site snap e) (λ image. (
+  at_id AsksSilently ends (looking site snap e) (λ image. (
     λ known a. refl,
-    at_header (reading site snap e image) (λ h. at_viewing site image h e (view_of h snap)),
+    at_header AsksSilently ends (reading site snap e image) (λ h. at_viewing site image h e (view_of h snap)),
   )),
 )
 
@@ -147,11 +113,11 @@ at_pass site name snap e = (
 at_show_header : (site : SiteId) (name : List ℕ) (shows : HeaderView → Reply) → AsksSilently (show_header site name shows)
 at_show_header site name shows = (
   λ known a. refl,
-  at_id (showing site shows) (λ image. (λ known a. refl, at_header (λ h. Return (shows h)) (λ h. tt))),
+  at_id AsksSilently ends (showing site shows) (λ image. (λ known a. refl, at_header AsksSilently ends (λ h. Return (shows h)) (λ h. tt))),
 )
 
 at_listing : (site : SiteId) (c : Command) → AsksSilently (listing_plan site c)
-at_listing site command.List = (λ known a. refl, at_names (λ names. Return (reply.Names names)) (λ names. tt))
+at_listing site command.List = (λ known a. refl, at_names AsksSilently ends (λ names. Return (reply.Names names)) (λ names. tt))
 at_listing site (command.Info image) = at_show_header site image reply.Info
 at_listing site (command.SnapList image) = at_show_header site image shown_snaps
 at_listing site _ = tt
@@ -159,27 +125,27 @@ at_listing site _ = tt
 -- ---- close, quiesce, resume, tell
 
 at_unwatching : (site : SiteId) (image : ℕ) → AsksSilently (unwatching site image)
-at_unwatching site image = (λ known a. refl, at_done done tt)
+at_unwatching site image = (λ known a. refl, at_done AsksSilently ends done tt)
 
 at_dropped : (site : SiteId) (image : ℕ) (a : Answer) → AsksSilently (on_dropped site image a)
-at_dropped site image answer.Done = (λ known a. refl, at_done (unwatching site image) (at_unwatching site image))
+at_dropped site image answer.Done = (λ known a. refl, at_done AsksSilently ends (unwatching site image) (at_unwatching site image))
 at_dropped site image answer.Changed = at_unwatching site image
-at_dropped site image a = at_not_there a
+at_dropped site image a = at_not_there AsksSilently ends a
 
 at_quiesce : (site : SiteId) (name : List ℕ) → AsksSilently (change site name true refuses_none quiesced)
 at_quiesce site name = (
   λ known a. refl,
-  at_id (change_joining site true refuses_none quiesced) (λ image. (
+  at_id AsksSilently ends (change_joining site true refuses_none quiesced) (λ image. (
     λ known a. refl,
-    at_header (looked site refuses_none quiesced image) (λ h. (λ known a. refl, at_header (owned refuses_none quiesced image) (λ own. tt))),
+    at_header AsksSilently ends (looked site refuses_none quiesced image) (λ h. (λ known a. refl, at_header AsksSilently ends (owned refuses_none quiesced image) (λ own. tt))),
   )),
 )
 
 at_close_plan : (site : SiteId) (c : Command) → AsksSilently (close_plan site c)
-at_close_plan site (command.Close image) = (λ known a. refl, at_id (joining site) (λ i. (λ known a. refl, at_dropped site i)))
+at_close_plan site (command.Close image) = (λ known a. refl, at_id AsksSilently ends (joining site) (λ i. (λ known a. refl, at_dropped site i)))
 at_close_plan site (command.Quiesce image) = at_quiesce site image
-at_close_plan site (command.Resume image) = (λ known a. refl, at_id resumed (λ i. tt))
-at_close_plan site (command.Tell image bytes) = (λ known a. refl, at_id (saying site bytes) (λ i. (λ known a. refl, at_done done tt)))
+at_close_plan site (command.Resume image) = (λ known a. refl, at_id AsksSilently ends resumed (λ i. tt))
+at_close_plan site (command.Tell image bytes) = (λ known a. refl, at_id AsksSilently ends (saying site bytes) (λ i. (λ known a. refl, at_done AsksSilently ends done tt)))
 at_close_plan site _ = tt
 
 -- ---- all of them
