@@ -6,6 +6,7 @@ pub mod HomeSteps
 pub mod Led
 pub mod LineBounds
 pub mod ListingsTold
+pub mod LookFirst
 pub mod NoEffects
 pub mod OnWay
 pub mod Owners
