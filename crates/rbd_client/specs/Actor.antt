@@ -1,6 +1,6 @@
 -- Who acts where a slot is polled: nobody, the request in it, the request's way to the lock of its
 -- image, or, at slot 0, the release of a lock.
-use Rattle.std.specs.Prelude.{ℕ, ◌==◌, ◌&&◌, ◌||◌, not, Bool, false, if◌then◌else◌, List, Option, Some, None}
+use Rattle.std.specs.Prelude.{ℕ, ◌==◌, ◌&&◌, ◌||◌, not, Bool, true, false, if◌then◌else◌, List, Option, Some, None}
 use Rattle.std.specs.List.{find, list_any}
 use Rattle.rbd_client.specs.declared.actor.Actor.{Actor}
 use Rattle.rbd_client.specs.declared.actor.Actor.TheVariants as actor
@@ -43,6 +43,11 @@ abbrev pub actor_on : Way → Option ImageAt → LocksView → Actor
 actor_on way.Unbegun look locks = actor_at_look look locks
 actor_on (way.On a) look locks = actor.Way a
 actor_on (way.Taken p) look locks = actor.Request
+
+-- the operation that is wanted is a step on its request's way to the lock
+abbrev pub is_acquiring : Actor → Bool
+is_acquiring (actor.Way a) = true
+is_acquiring _ = false
 
 -- ---- a release
 

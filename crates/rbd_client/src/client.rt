@@ -1,7 +1,7 @@
 //! A client and its calls.
 ghost use Rattle.std.specs.Prelude.{◌≡◌, ◌≢◌, ℕ, ◌≤◌, [], ◌∷◌, ◌++◌, None, Some, IsSome, IsNone, IfOk, OnErr, OnOk};
 ghost use Rattle.rbd_client.specs.declared.actor.Actor.TheVariants as actor;
-ghost use Rattle.rbd_client.specs.Actor.{actor_at, due_release, is_at_rest, kind_wanted, may_release, op_wanted};
+ghost use Rattle.rbd_client.specs.Actor.{actor_at, due_release, is_acquiring, is_at_rest, kind_wanted, may_release, op_wanted};
 ghost use Rattle.rbd_client.specs.Client.{heard_with, newcomer, state_in};
 ghost use Rattle.rbd_client.specs.Feeding.{CanGet, DropsAtRest, IsClientAlike, IsFedBy, IsReadiedFor};
 ghost use Rattle.rbd_client.specs.Sound.{IsSoundClient};
@@ -172,6 +172,18 @@ impl<R: Request> Client<R> {
             Actor::Request => self.session.next(alloc, slot),
             Actor::Way(way) => Ok(Some((way.site(), way.next()))),
             Actor::Release(release) => Ok(Some((release.site(), release.next()))),
+        }
+    }
+
+    /// Whether the operation that is wanted at a slot is a step on its request's way to the lock.
+    /// It takes no memory.
+    pub fn is_acquiring(&self, slot: Slot) -> bool
+        ensures acquiring { result ≡ is_acquiring (actor_at R.stands slot self.now) }
+        ensures sound { IsSoundClient R.stands self.now }
+    {
+        match self.actor(slot) {
+            Actor::Way(_) => true,
+            _ => false,
         }
     }
 

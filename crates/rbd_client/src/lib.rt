@@ -59,7 +59,7 @@
 //! | file | what it says |
 //! |---|---|
 //! | `specs/Client.antt` | the record |
-//! | `specs/Actor.antt` | who acts at a slot (`actor_at`), and so which operation is wanted there (`kind_wanted`, `op_wanted`) |
+//! | `specs/Actor.antt` | who acts at a slot (`actor_at`), and so which operation is wanted there (`kind_wanted`, `op_wanted`) and whether it is a step on a way to a lock (`is_acquiring`) |
 //! | `specs/Feeding.antt` | what is ready before an answer (`IsReadiedFor`), and what it comes to by who acted (`IsFedBy`) |
 //! | `specs/Sound.antt` | what holds of each client |
 //! | `specs/Laws.antt` | what the laws speak of |

@@ -15,9 +15,10 @@ use Rattle.rbd_machine.specs.Steps.{own, on_id, on_done}
 use Rattle.rbd_machine.specs.Wait as wait
 use Rattle.rbd_machine.specs.declared.reason.Reason.TheVariants as reason
 use Rattle.rbd_machine.proofs.Walked.{ended, absent_ends, asked_to, awaited_to, went_on, awaited, told_image, told_done, changed, nothing_ends_otherwise}
+use Rattle.rbd_meaning.specs.Closes.{ClosesBy, Closes, LooksTwice, Finds, Says}
 use Rattle.rbd_owner.specs.Steps.{lock_drop, released_lock}
 use Rattle.rbd_close.specs.Close.{done, unwatch, custom, unwatching, on_dropped, dropping, holding, joining, close, quiesced, quiesce, resumed, resume, saying, tell}
-use Rattle.rbd_close.specs.Meaning.{answered, EndsWatch, EndsWatchOnceTold, GoesOnBehind, Ends, ClosesBy, Closes, LooksTwice, Finds, Says}
+use Rattle.rbd_close.specs.Meaning.{answered, EndsWatch, EndsWatchOnceTold, GoesOnBehind, Ends}
 
 -- ---- to any end
 

@@ -20,9 +20,10 @@ use Rattle.rbd_machine.specs.Plan.{Plan, Return, Goto}
 use Rattle.rbd_machine.specs.Refused.{refuses_none, never, AreGiven, IsRefused, IsRefusedBy}
 use Rattle.rbd_machine.specs.Steps.{on_done}
 use Rattle.rbd_machine.proofs.Refused.{IsRefusing, Answers, EndsBy, ends_by, refusing_find, refusing_change}
+use Rattle.rbd_meaning.specs.Closes.{gone_or_fenced, CloseMeans, QuiesceMeans, ResumeMeans, TellMeans}
+use Rattle.rbd_meaning.specs.Meant.{IsMeantBy}
 use Rattle.rbd_owner.specs.Steps.{lock_drop}
 use Rattle.rbd_close.specs.Close.{is_close, done, notify, unwatch, unwatching, on_dropped, joining, close, quiesced, quiesce, resumed, resume, saying, tell, close_plan}
-use Rattle.rbd_close.specs.Meaning.{gone_or_fenced, CloseMeans, QuiesceMeans, ResumeMeans, TellMeans, IsMeantBy}
 use Rattle.rbd_close.proofs.About.{close_is_own, quiesce_is_own, resume_is_own, tell_is_own}
 use Rattle.rbd_close.proofs.Ended.{closes, looks_twice, finds, says}
 

@@ -15,11 +15,12 @@ ghost use Rattle.rbd_machine.specs.Lawful.{IsLawfulRequest};
 ghost use Rattle.rbd_machine.specs.Path.{Answered, IsBounded, IsWalk};
 ghost use Rattle.rbd_machine.specs.Plan.{Plan, Return, Goto, IsClosed, without_labels};
 ghost use Rattle.rbd_machine.specs.Refused.{AreGiven};
+ghost use Rattle.rbd_meaning.specs.Meant.{IsMeantBy};
 ghost use Rattle.rbd_owner.specs.Order.{EndsWith};
 ghost use Rattle.rbd_owner.specs.Steps.{lock_drop};
 ghost use Rattle.rbd_owner.specs.Waiting.{owned_by};
 ghost use Rattle.rbd_close.specs.Close.{is_close, close_plan, close, notify, quiesce, resume, tell, unwatch};
-ghost use Rattle.rbd_close.specs.Meaning.{answered, Ends, IsBehindLettingGo, IsDropBehind, IsMeantBy};
+ghost use Rattle.rbd_close.specs.Meaning.{answered, Ends, IsBehindLettingGo, IsDropBehind};
 
 /// None of them begins a part again.
 pub fn plans_go_to_no_label()
@@ -90,8 +91,8 @@ pub fn others_leave_the_lock()
         → IsWalk Goto (tell site name bytes) feds steps last → owned_by owned steps ≡ owned }
 {}
 
-/// A reply is meant by its command, behind the operations that were done, where each answer is one
-/// that its operation can give: it was done when a request isn't refused, and when it is, the last
+/// A reply is meant by its command (`IsMeantBy` of `rbd_meaning`), behind the operations that were
+/// done, where each answer is one that its operation can give: it was done when a request isn't refused, and when it is, the last
 /// answer refused it, and none before. A `close` may be refused behind its drop, the others only
 /// where they changed nothing. No other reply comes.
 pub fn replies_are_meant()

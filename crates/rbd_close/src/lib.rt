@@ -60,7 +60,7 @@
 //! | file | what it says |
 //! |---|---|
 //! | `specs/Close.antt` | the plan of each command, and what is left of a request |
-//! | `specs/Meaning.antt` | what a close did, up to any end of it (`Ends`); what has been done when a request is done; what the replies mean (`IsMeantBy`) |
+//! | `specs/Meaning.antt` | what a close did, up to any end of it (`Ends`), and what stands behind what |
 //!
 //! A request that is made has the plan of its command left, and each of its calls keeps to it
 //! ([`Machine`](rbd_machine::Machine)). [`laws`] says how many operations each plan has at most,

@@ -1,5 +1,6 @@
--- The plans of looks, of listings and of `create` wait for nothing, step by step.
+-- The plans of looks, of listings, of `create`, `resume` and `tell` wait for nothing, step by step.
 use Rattle.std.proofs.Common.{◌≡◌, ◌⊎◌, inl, inr, ℕ, List, [], ◌∷◌, ◌++◌, replicate, Bool, true, false, cond, eqb, Option, Some, None, sym, ◌∙◌, subst}
+use Rattle.std.specs.Prelude.{◌||◌}
 use Rattle.std.proofs.lemmas.Bool.{true≢false, or_parts}
 use Rattle.rbd_kinds.specs.declared.answer.Answer.{Answer}
 use Rattle.rbd_kinds.specs.declared.answer.Answer.TheVariants as answer
@@ -32,8 +33,9 @@ use Rattle.rbd_admin.specs.Create.{IsCreate, IsCreatePlan, on_drawn, making, dra
 use Rattle.rbd_admin.specs.Listing.{on_names, showing, show_header, listing_plan}
 use Rattle.rbd_admin.specs.Snap.{is_snap}
 use Rattle.rbd_admin.proofs.Decided.{limits_or_not}
-use Rattle.rbd_requests.specs.Served.{IsPlanFor, Writes, Reads, Creates, Lists, Snaps}
-use Rattle.rbd_known.specs.Calm.{IsCalm, IsCalmRequest, is_change}
+use Rattle.rbd_close.specs.Close.{done, resumed, saying, close_plan}
+use Rattle.rbd_requests.specs.Served.{IsPlanFor, Writes, Reads, Creates, Lists, Snaps, Closes}
+use Rattle.rbd_known.specs.Calm.{IsCalm, IsCalmRequest, closes_in_line, is_change}
 
 -- ---- steps
 
@@ -134,15 +136,32 @@ calm_listing site (command.Info image) = calm_show_header site image reply.Info
 calm_listing site (command.SnapList image) = calm_show_header site image shown_snaps
 calm_listing site _ = tt
 
+-- ---- resume, tell
+
+calm_close : (site : SiteId) (c : Command) → closes_in_line c ≡ false → IsCalm (close_plan site c)
+calm_close site (command.Close image) apart = cc
+calm_close site (command.Quiesce image) apart = cc
+calm_close site (command.Resume image) apart = λ found. calm_on_id resumed (λ i. tt) found
+calm_close site (command.Tell image bytes) apart = λ found. calm_on_id (saying site bytes) (λ i a. calm_on_done done tt a) found
+calm_close site _ apart = tt
+
 -- ---- all of them
+
+-- none of the three
+parts_of_none : (c : Command) → is_change c ≡ false → (is_write c ≡ false) × (is_snap c ≡ false) × (closes_in_line c ≡ false)
+parts_of_none c none =
+    let later = or_parts (is_write c || is_snap c) (closes_in_line c) none in
+    let first = or_parts (is_write c) (is_snap c) later.0 in
+    (first.0, first.1, later.1)
 
 -- a request without labels waits for nothing where its plan doesn't
 from_plan : (plan : Plan) (s : Standing) → s ≡ without_labels plan → IsCalm plan → IsCalmRequest s
 from_plan plan s is calm = subst IsCalmRequest (sym is) (record { plan = calm; labels = λ label. tt })
 
 pub look_is_calm : (home : SiteId) (c : Command) (s : Standing) → is_change c ≡ false → IsPlanFor home c s → IsCalmRequest s
-look_is_calm home c s none (Writes is at_plan) = absurd (true≢false (sym is ∙ (or_parts (is_write c) (is_snap c) none).0))
+look_is_calm home c s none (Writes is at_plan) = absurd (true≢false (sym is ∙ (parts_of_none c none).0))
 look_is_calm home c s none (Reads is) = calm_read home c s is
 look_is_calm home c s none (Creates is at_plan) = from_plan s.plan s at_plan (calm_create home c s.plan is)
 look_is_calm home c s none (Lists is at_plan) = from_plan (listing_plan home c) s at_plan (calm_listing home c)
-look_is_calm home c s none (Snaps is at_plan) = absurd (true≢false (sym is ∙ (or_parts (is_write c) (is_snap c) none).1))
+look_is_calm home c s none (Snaps is at_plan) = absurd (true≢false (sym is ∙ (parts_of_none c none).1))
+look_is_calm home c s none (Closes is at_plan) = from_plan (close_plan home c) s at_plan (calm_close home c (parts_of_none c none).2)

@@ -1,8 +1,9 @@
 -- Requests that wait for nothing: they only look, or make what nobody knows yet.
-use Rattle.std.specs.Prelude.{◌≡◌, ℕ, ◌||◌, Bool, None}
+use Rattle.std.specs.Prelude.{◌≡◌, ℕ, ◌||◌, Bool, true, false, None}
 use Rattle.rbd_admin.specs.Snap.{is_snap}
 use Rattle.rbd_kinds.specs.declared.answer.Answer.{Answer}
 use Rattle.rbd_commands.specs.declared.command.Command.{Command}
+use Rattle.rbd_commands.specs.declared.command.Command.TheVariants as command
 use Rattle.rbd_kinds.specs.declared.id.SiteId.{SiteId}
 use Rattle.rbd_machine.specs.Knowledge.{Knowledge, own_of}
 use Rattle.rbd_machine.specs.Label.{Label}
@@ -24,6 +25,13 @@ pub record IsCalmRequest (s : Standing) : Type 0 where
 abbrev pub OwnsNothing : Knowledge → Type 0
 OwnsNothing k = (site : SiteId) (image : ℕ) → own_of k.owns site image ≡ None
 
--- a command that changes an image that is there
+-- A `close` and a `quiesce` join the line of their image, and wait there. A `resume` and a `tell`
+-- wait for nothing.
+abbrev pub closes_in_line : Command → Bool
+closes_in_line (command.Close image) = true
+closes_in_line (command.Quiesce image) = true
+closes_in_line _ = false
+
+-- a command that waits in the line of an image
 abbrev pub is_change : Command → Bool
-is_change c = is_write c || is_snap c
+is_change c = is_write c || is_snap c || closes_in_line c

@@ -1,10 +1,11 @@
-//! Which commands change an image that is there.
+//! Which commands wait in the line of an image.
 ghost use Rattle.std.specs.Prelude.{◌≡◌};
 ghost use Rattle.rbd_known.specs.Calm.{is_change as changes_image};
 
 use rbd_kinds::Command;
 
-/// Whether a command changes an image that is there.
+/// Whether a command waits in the line of an image: it changes the image, or closes or quiesces
+/// it.
 pub fn is_change(command: &Command) -> bool
     ensures { result ≡ changes_image command.now }
 {
@@ -13,6 +14,8 @@ pub fn is_change(command: &Command) -> bool
         Command::Fill { .. } => true,
         Command::SnapCreate { .. } => true,
         Command::SnapRemove { .. } => true,
+        Command::Close { .. } => true,
+        Command::Quiesce { .. } => true,
         _ => false,
     }
 }

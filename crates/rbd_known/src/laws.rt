@@ -87,7 +87,8 @@ pub fn calm_requests_own_nothing()
     ensures looked_beside { (site : Site) (r : Records) (me you : Instance) (k j : Knowledge) (op : Op) → OwnsNothing j → MayLook site r me you k j op }
 {}
 
-/// Only a `write`, a `fill`, a `snap create` and a `snap rm` wait for anything.
+/// Only a `write`, a `fill`, a `snap create`, a `snap rm`, a `close` and a `quiesce` wait for
+/// anything: those that wait in the line of an image.
 pub fn looks_wait_for_nothing()
     ensures { (home : Site) (command : Command) (s : Standing) → is_change command ≡ false → IsPlanFor home command s → IsCalmRequest s }
 {}

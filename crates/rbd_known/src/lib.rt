@@ -20,7 +20,8 @@
 //!   header of it only past its own look.
 //! - So a request that may go on to its own look finds nobody beside it that knows the header and
 //!   is alone, and is alone itself only where nobody knows it.
-//! - A request that waits for nothing (a look, a listing, a `create`) owns nothing.
+//! - A request that waits for nothing (a look, a listing, a `create`, a `resume`, a `tell`) owns
+//!   nothing. A `close` and a `quiesce` wait in the line of their image, as a change does.
 //!
 //! # Contracts
 //!
@@ -31,7 +32,8 @@
 //! | `specs/Calm.antt` | requests that wait for nothing |
 //!
 //! [`laws`] says that a session's calls keep this, that who may go on may look (`MayLook` of
-//! `rbd_rely`), and which commands wait for nothing. [`is_change`] tells a command's kind.
+//! `rbd_rely`), and which commands wait for nothing. [`is_change`] tells whether a
+//! command waits in the line of an image.
 #![tactic(auto)]
 
 mod change;

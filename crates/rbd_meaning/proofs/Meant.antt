@@ -19,6 +19,7 @@ use Rattle.rbd_machine.specs.Passes.{joined}
 use Rattle.rbd_machine.specs.Path.{Answered, looked_at}
 use Rattle.rbd_machine.specs.Refused.{refusal_by, never, by_fence, IsRefusedBy, IsRefused}
 use Rattle.rbd_machine.specs.Steps.{or_else, non_primary}
+use Rattle.rbd_meaning.specs.Closes.{CloseMeans, QuiesceMeans, ResumeMeans, TellMeans}
 use Rattle.rbd_meaning.specs.Creates.{CreateMeans}
 use Rattle.rbd_meaning.specs.Listings.{ListMeans, InfoMeans, SnapListMeans}
 use Rattle.rbd_meaning.specs.Meant.{IsMeantBy}
@@ -77,6 +78,26 @@ snap_remove_kind site name snap steps reply.Done meant = refl
 snap_remove_kind site name snap steps (reply.Refused x) meant = refl
 snap_remove_kind site name snap steps _ meant = absurd meant
 
+close_kind : (site : SiteId) (name : List ℕ) (steps : List Answered) (r : Reply) → CloseMeans site name steps r → may_answer (command.Close name) r ≡ true
+close_kind site name steps reply.Done meant = refl
+close_kind site name steps (reply.Refused x) meant = refl
+close_kind site name steps _ meant = absurd meant
+
+quiesce_kind : (site : SiteId) (name : List ℕ) (steps : List Answered) (r : Reply) → QuiesceMeans site name steps r → may_answer (command.Quiesce name) r ≡ true
+quiesce_kind site name steps reply.Done meant = refl
+quiesce_kind site name steps (reply.Refused x) meant = refl
+quiesce_kind site name steps _ meant = absurd meant
+
+resume_kind : (site : SiteId) (name : List ℕ) (steps : List Answered) (r : Reply) → ResumeMeans site name steps r → may_answer (command.Resume name) r ≡ true
+resume_kind site name steps reply.Done meant = refl
+resume_kind site name steps (reply.Refused x) meant = refl
+resume_kind site name steps _ meant = absurd meant
+
+tell_kind : (site : SiteId) (name bytes : List ℕ) (steps : List Answered) (r : Reply) → TellMeans site name bytes steps r → may_answer (command.Tell name bytes) r ≡ true
+tell_kind site name bytes steps reply.Done meant = refl
+tell_kind site name bytes steps (reply.Refused x) meant = refl
+tell_kind site name bytes steps _ meant = absurd meant
+
 pub meant_kind : (site : SiteId) (c : Command) (steps : List Answered) (r : Reply) → IsMeantBy site c steps r → may_answer c r ≡ true
 meant_kind site (command.Create name size shape) steps r meant = create_kind site name size shape steps r meant.1
 meant_kind site (command.Write name at bytes) steps r meant = write_kind site name at bytes steps r meant
@@ -87,6 +108,10 @@ meant_kind site (command.Info name) steps r meant = info_kind site name steps r 
 meant_kind site (command.SnapList name) steps r meant = snap_list_kind site name steps r meant
 meant_kind site (command.SnapCreate name snap) steps r meant = snap_create_kind site name snap steps r meant
 meant_kind site (command.SnapRemove name snap) steps r meant = snap_remove_kind site name snap steps r meant
+meant_kind site (command.Close name) steps r meant = close_kind site name steps r meant
+meant_kind site (command.Quiesce name) steps r meant = quiesce_kind site name steps r meant
+meant_kind site (command.Resume name) steps r meant = resume_kind site name steps r meant
+meant_kind site (command.Tell name bytes) steps r meant = tell_kind site name bytes steps r meant
 meant_kind site _ steps r meant = absurd meant
 
 -- ---- behind no operation
@@ -144,6 +169,26 @@ snap_remove_for_nothing site name snap reply.Done meant = let are = meant.are in
 snap_remove_for_nothing site name snap (reply.Refused x) by = absurd (refused_by_one _ _ [] x refl by.by)
 snap_remove_for_nothing site name snap _ meant = absurd meant
 
+close_for_nothing : (site : SiteId) (name : List ℕ) (r : Reply) → CloseMeans site name [] r → r ≡ reply.Refused refusal.BadShape
+close_for_nothing site name reply.Done meant = let are = meant.are in cc
+close_for_nothing site name (reply.Refused x) by = absurd (refused_by_one _ _ [] x refl by.by)
+close_for_nothing site name _ meant = absurd meant
+
+quiesce_for_nothing : (site : SiteId) (name : List ℕ) (r : Reply) → QuiesceMeans site name [] r → r ≡ reply.Refused refusal.BadShape
+quiesce_for_nothing site name reply.Done meant = let are = meant.are in cc
+quiesce_for_nothing site name (reply.Refused x) by = absurd (refused_by_one _ _ [] x refl by.by)
+quiesce_for_nothing site name _ meant = absurd meant
+
+resume_for_nothing : (site : SiteId) (name : List ℕ) (r : Reply) → ResumeMeans site name [] r → r ≡ reply.Refused refusal.BadShape
+resume_for_nothing site name reply.Done meant = let are = meant.are in cc
+resume_for_nothing site name (reply.Refused x) by = absurd (refused_by_one _ _ [] x refl by.by)
+resume_for_nothing site name _ meant = absurd meant
+
+tell_for_nothing : (site : SiteId) (name bytes : List ℕ) (r : Reply) → TellMeans site name bytes [] r → r ≡ reply.Refused refusal.BadShape
+tell_for_nothing site name bytes reply.Done meant = let are = meant.are in cc
+tell_for_nothing site name bytes (reply.Refused x) by = absurd (refused_by_one _ _ [] x refl by.by)
+tell_for_nothing site name bytes _ meant = absurd meant
+
 pub meant_for_nothing : (site : SiteId) (c : Command) (r : Reply) → IsMeantBy site c [] r → r ≡ reply.Refused refusal.BadShape
 meant_for_nothing site (command.Create name size shape) r meant = create_for_nothing site name size shape r meant.1
 meant_for_nothing site (command.Write name at bytes) r meant = write_for_nothing site name at bytes r meant
@@ -154,6 +199,10 @@ meant_for_nothing site (command.Info name) r meant = info_for_nothing site name 
 meant_for_nothing site (command.SnapList name) r meant = snap_list_for_nothing site name r meant
 meant_for_nothing site (command.SnapCreate name snap) r meant = snap_create_for_nothing site name snap r meant
 meant_for_nothing site (command.SnapRemove name snap) r meant = snap_remove_for_nothing site name snap r meant
+meant_for_nothing site (command.Close name) r meant = close_for_nothing site name r meant
+meant_for_nothing site (command.Quiesce name) r meant = quiesce_for_nothing site name r meant
+meant_for_nothing site (command.Resume name) r meant = resume_for_nothing site name r meant
+meant_for_nothing site (command.Tell name bytes) r meant = tell_for_nothing site name bytes r meant
 meant_for_nothing site _ r meant = absurd meant
 
 -- ---- a name that isn't there
@@ -201,6 +250,10 @@ unknown_image site (command.Info image) name step is refused = subst (Unknown si
 unknown_image site (command.SnapList image) name step is refused = subst (Unknown site step) (named image name is) (unknown_name site image _ _ step refused)
 unknown_image site (command.SnapCreate image snap) name step is refused = subst (Unknown site step) (named image name is) (unknown_name site image _ _ step refused)
 unknown_image site (command.SnapRemove image snap) name step is refused = subst (Unknown site step) (named image name is) (unknown_name site image _ _ step refused)
+unknown_image site (command.Close image) name step is refused = subst (Unknown site step) (named image name is) (unknown_name site image _ _ step refused)
+unknown_image site (command.Quiesce image) name step is refused = subst (Unknown site step) (named image name is) (unknown_name site image _ _ step refused)
+unknown_image site (command.Resume image) name step is refused = subst (Unknown site step) (named image name is) (unknown_name site image _ _ step refused)
+unknown_image site (command.Tell image bytes) name step is refused = subst (Unknown site step) (named image name is) (unknown_name site image _ _ step refused)
 unknown_image site _ name step is refused = cc
 
 -- ---- which refusal a look is refused by

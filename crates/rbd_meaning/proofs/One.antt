@@ -26,6 +26,7 @@ use Rattle.rbd_machine.specs.Passes.{joined}
 use Rattle.rbd_machine.specs.Path.{Answered, found, looked_at}
 use Rattle.rbd_machine.specs.Refused.{refusal_by, refuses_none, never, by_fence, IsRefusedBy, IsRefused}
 use Rattle.rbd_meaning.specs.Arrange.{bytes_of_extent}
+use Rattle.rbd_meaning.specs.Closes.{lock_dropped, release_told, watch_ended, bytes_told, ClosesBy, Closes, LooksTwice, Finds, Says, gone_or_fenced, CloseMeans, QuiesceMeans, ResumeMeans, TellMeans}
 use Rattle.rbd_meaning.specs.Creates.{CreateMeans, Makes, IsOutside, IsNotMade}
 use Rattle.rbd_meaning.specs.Listings.{listed, shown_snaps, ListMeans, InfoMeans, SnapListMeans, ShowsHeader}
 use Rattle.rbd_meaning.specs.Meant.{IsMeantBy}
@@ -227,6 +228,88 @@ module _ (site : SiteId) (name snap : List ℕ) (steps : List Answered) where
   one_remove : (r s : Reply) → SnapRemoveMeans site name snap steps r → SnapRemoveMeans site name snap steps s → r ≡ s
   one_remove r s one other = one_of _ _ (done_once _) remove_apart (λ x y a b. refused_alike (remove_refuses snap) never steps x y a.by b.by) r s (remove_is r one) (remove_is s other)
 
+-- ---- close, quiesce, resume, tell
+
+-- the last step is one that refuses nothing
+record EndsUnrefused (steps : List Answered) : Type 0 where
+  pub front : List Answered
+  pub last : Answered
+  pub are : steps ≡ front ++ last ∷ []
+  pub none : refusal_by refuses_none last.op last.answer ≡ None
+
+module _ (site : SiteId) (name : List ℕ) (late : Refusal → Type 0) (steps : List Answered) (T : Type 0) (ends : T → EndsUnrefused steps) where
+  abbrev RefusesIt : Refusal → Type 0
+  RefusesIt = IsRefused site (look_up name) refuses_none late steps
+
+  done_apart : (r : Reply) (x : Refusal) → DoneBy T r → RefusesIt x → ⊥
+  done_apart reply.Done x t refused = unrefused refuses_none late steps (ends t).front (ends t).last x (ends t).are (ends t).none refused.by
+  done_apart _ x t refused = absurd t
+
+  one_done : (r s : Reply) → Is (DoneBy T) RefusesIt r → Is (DoneBy T) RefusesIt s → r ≡ s
+  one_done r s one other = one_of (DoneBy T) RefusesIt (done_once T) done_apart (λ x y a b. refused_alike refuses_none late steps x y a.by b.by) r s one other
+
+module _ (site : SiteId) (name : List ℕ) (steps : List Answered) where
+  close_is : (r : Reply) → CloseMeans site name steps r → Is (DoneBy (Closes site name steps)) (IsRefused site (look_up name) refuses_none gone_or_fenced steps) r
+  close_is reply.Done meant = inl meant
+  close_is (reply.Refused x) refused = inr (x, refl, refused)
+  close_is _ meant = absurd meant
+
+  -- whether its drop was done or not, the end of its watch is the last
+  close_unrefused : Closes site name steps → EndsUnrefused steps
+  close_unrefused c = go c.dropped c.closes
+    where
+      go : (a : Answer) → ClosesBy site c.image a c.behind → EndsUnrefused steps
+      go answer.Done behind = record {
+        front = found site name c.image ∷ lock_dropped site c.image c.dropped ∷ release_told site c.image ∷ [];
+        last = watch_ended site c.image;
+        are = c.are ∙ ap (λ s. found site name c.image ∷ lock_dropped site c.image c.dropped ∷ s) behind;
+        none = refl;
+      }
+      go answer.Changed behind = record {
+        front = found site name c.image ∷ lock_dropped site c.image c.dropped ∷ [];
+        last = watch_ended site c.image;
+        are = c.are ∙ ap (λ s. found site name c.image ∷ lock_dropped site c.image c.dropped ∷ s) behind;
+        none = refl;
+      }
+      go _ behind = absurd behind
+
+  one_close : (r s : Reply) → CloseMeans site name steps r → CloseMeans site name steps s → r ≡ s
+  one_close r s one other = one_done site name gone_or_fenced steps (Closes site name steps) close_unrefused r s (close_is r one) (close_is s other)
+
+  quiesce_is : (r : Reply) → QuiesceMeans site name steps r → Is (DoneBy (LooksTwice site name steps)) (IsRefused site (look_up name) refuses_none never steps) r
+  quiesce_is reply.Done meant = inl meant
+  quiesce_is (reply.Refused x) refused = inr (x, refl, refused)
+  quiesce_is _ meant = absurd meant
+
+  looks_unrefused : LooksTwice site name steps → EndsUnrefused steps
+  looks_unrefused l = record { front = _ ∷ _ ∷ []; last = looked_at site l.image l.own; are = l.are; none = refl }
+
+  one_quiesce : (r s : Reply) → QuiesceMeans site name steps r → QuiesceMeans site name steps s → r ≡ s
+  one_quiesce r s one other = one_done site name never steps (LooksTwice site name steps) looks_unrefused r s (quiesce_is r one) (quiesce_is s other)
+
+  resume_is : (r : Reply) → ResumeMeans site name steps r → Is (DoneBy (Finds site name steps)) (IsRefused site (look_up name) refuses_none never steps) r
+  resume_is reply.Done meant = inl meant
+  resume_is (reply.Refused x) refused = inr (x, refl, refused)
+  resume_is _ meant = absurd meant
+
+  find_unrefused : Finds site name steps → EndsUnrefused steps
+  find_unrefused f = record { front = []; last = found site name f.image; are = f.are; none = refl }
+
+  one_resume : (r s : Reply) → ResumeMeans site name steps r → ResumeMeans site name steps s → r ≡ s
+  one_resume r s one other = one_done site name never steps (Finds site name steps) find_unrefused r s (resume_is r one) (resume_is s other)
+
+  module _ (bytes : List ℕ) where
+    tell_is : (r : Reply) → TellMeans site name bytes steps r → Is (DoneBy (Says site name bytes steps)) (IsRefused site (look_up name) refuses_none never steps) r
+    tell_is reply.Done meant = inl meant
+    tell_is (reply.Refused x) refused = inr (x, refl, refused)
+    tell_is _ meant = absurd meant
+
+    notice_unrefused : Says site name bytes steps → EndsUnrefused steps
+    notice_unrefused s = record { front = _ ∷ []; last = bytes_told site s.image bytes; are = s.are; none = refl }
+
+    one_tell : (r s : Reply) → TellMeans site name bytes steps r → TellMeans site name bytes steps s → r ≡ s
+    one_tell r s one other = one_done site name never steps (Says site name bytes steps) notice_unrefused r s (tell_is r one) (tell_is s other)
+
 -- ---- read: where its last pass begins
 
 abbrev is_find : Op → Bool
@@ -379,4 +462,8 @@ one_reply site (command.Info name) steps r s one other = one_shown site name rep
 one_reply site (command.SnapList name) steps r s one other = one_shown site name shown_snaps steps r s (snap_list_is site name steps r one) (snap_list_is site name steps s other)
 one_reply site (command.SnapCreate name snap) steps r s one other = one_take site name snap steps r s one other
 one_reply site (command.SnapRemove name snap) steps r s one other = one_remove site name snap steps r s one other
+one_reply site (command.Close name) steps r s one other = one_close site name steps r s one other
+one_reply site (command.Quiesce name) steps r s one other = one_quiesce site name steps r s one other
+one_reply site (command.Resume name) steps r s one other = one_resume site name steps r s one other
+one_reply site (command.Tell name bytes) steps r s one other = one_tell site name steps bytes r s one other
 one_reply site _ steps r s one other = absurd one

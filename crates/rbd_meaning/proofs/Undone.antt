@@ -1,5 +1,5 @@
 -- Refusals change nothing.
-use Rattle.std.proofs.Common.{◌≡◌, ◌⊎◌, inl, inr, ℕ, List, [], ◌∷◌, ◌++◌, true, Option, Some, refl, ap, sym, subst}
+use Rattle.std.proofs.Common.{◌≡◌, ◌⊎◌, inl, inr, ℕ, List, [], ◌∷◌, ◌++◌, true, false, Option, Some, refl, ap, sym, subst}
 use Rattle.rbd_kinds.specs.declared.answer.Answer.{Answer}
 use Rattle.rbd_kinds.specs.declared.answer.Answer.TheVariants as answer
 use Rattle.rbd_commands.specs.declared.command.Command.{Command}
@@ -22,7 +22,7 @@ use Rattle.rbd_machine.specs.Path.{Answered}
 use Rattle.rbd_machine.specs.Refused.{refusal_by, only_looks, AreLooks, IsRefusedBy}
 use Rattle.rbd_meaning.specs.Meant.{IsMeantBy}
 use Rattle.rbd_meaning.specs.Reads.{AreRead, IsPassTo, SeeOthers, RefusedAtLast}
-use Rattle.rbd_meaning.specs.Undone.{ComesLate, tells_undone, ChangeNothing}
+use Rattle.rbd_meaning.specs.Undone.{ComesLate, lets_go, tells_undone, ChangeNothing}
 
 -- those of two stretches
 pub nothing_after : (one two : List Answered) → ChangeNothing one → ChangeNothing two → ChangeNothing (one ++ two)
@@ -110,14 +110,19 @@ meant_changes_nothing site (command.Info image) steps x by not_late = refused_ch
 meant_changes_nothing site (command.SnapList image) steps x by not_late = refused_changes_nothing _ _ x steps by.by not_late
 meant_changes_nothing site (command.SnapCreate image snap) steps x by not_late = refused_changes_nothing _ _ x steps by.by not_late
 meant_changes_nothing site (command.SnapRemove image snap) steps x by not_late = refused_changes_nothing _ _ x steps by.by not_late
+meant_changes_nothing site (command.Close image) steps x by not_late = refused_changes_nothing _ _ x steps by.by not_late
+meant_changes_nothing site (command.Quiesce image) steps x by not_late = refused_changes_nothing _ _ x steps by.by not_late
+meant_changes_nothing site (command.Resume image) steps x by not_late = refused_changes_nothing _ _ x steps by.by not_late
+meant_changes_nothing site (command.Tell image bytes) steps x by not_late = refused_changes_nothing _ _ x steps by.by not_late
 meant_changes_nothing site _ steps x meant not_late = absurd meant
 
--- but for the fence, whatever the command is
-pub meant_unless_fenced : (site : SiteId) (c : Command) (steps : List Answered) (x : Refusal) → IsMeantBy site c steps (reply.Refused x) → (x ≡ refusal.Fenced → ⊥) → ChangeNothing steps
-meant_unless_fenced site c steps x meant not_fenced = meant_changes_nothing site c steps x meant (not_late c)
+-- but for the fence, whatever the command is that drops no lock
+pub meant_unless_fenced : (site : SiteId) (c : Command) (steps : List Answered) (x : Refusal) → lets_go c ≡ false → IsMeantBy site c steps (reply.Refused x) → (x ≡ refusal.Fenced → ⊥) → ChangeNothing steps
+meant_unless_fenced site c steps x keeps meant not_fenced = meant_changes_nothing site c steps x meant (not_late c keeps)
   where
-    not_late : (c : Command) → ComesLate c x → ⊥
-    not_late (command.Create image size shape) late = not_fenced late
-    not_late (command.Write image at bytes) late = not_fenced late
-    not_late (command.Fill image at len byte) late = not_fenced late
-    not_late _ late = absurd late
+    not_late : (c : Command) → lets_go c ≡ false → ComesLate c x → ⊥
+    not_late (command.Create image size shape) keeps late = not_fenced late
+    not_late (command.Write image at bytes) keeps late = not_fenced late
+    not_late (command.Fill image at len byte) keeps late = not_fenced late
+    not_late (command.Close image) keeps late = cc
+    not_late _ keeps late = absurd late

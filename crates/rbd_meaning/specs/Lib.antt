@@ -5,6 +5,7 @@ pub mod Reads
 pub mod Creates
 pub mod Listings
 pub mod Snaps
+pub mod Closes
 pub mod Meant
 pub mod Replies
 pub mod Named

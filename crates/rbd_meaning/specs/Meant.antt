@@ -5,6 +5,7 @@ use Rattle.rbd_commands.specs.declared.command.Command.TheVariants as command
 use Rattle.rbd_kinds.specs.declared.id.SiteId.{SiteId}
 use Rattle.rbd_kinds.specs.declared.reply.Reply.{Reply}
 use Rattle.rbd_machine.specs.Path.{Answered}
+use Rattle.rbd_meaning.specs.Closes.{CloseMeans, QuiesceMeans, ResumeMeans, TellMeans}
 use Rattle.rbd_meaning.specs.Creates.{CreateMeans}
 use Rattle.rbd_meaning.specs.Listings.{ListMeans, InfoMeans, SnapListMeans}
 use Rattle.rbd_meaning.specs.Reads.{ReadMeans}
@@ -23,4 +24,8 @@ IsMeantBy site (command.Info image) steps r = InfoMeans site image steps r
 IsMeantBy site (command.SnapList image) steps r = SnapListMeans site image steps r
 IsMeantBy site (command.SnapCreate image snap) steps r = SnapCreateMeans site image snap steps r
 IsMeantBy site (command.SnapRemove image snap) steps r = SnapRemoveMeans site image snap steps r
+IsMeantBy site (command.Close image) steps r = CloseMeans site image steps r
+IsMeantBy site (command.Quiesce image) steps r = QuiesceMeans site image steps r
+IsMeantBy site (command.Resume image) steps r = ResumeMeans site image steps r
+IsMeantBy site (command.Tell image bytes) steps r = TellMeans site image bytes steps r
 IsMeantBy site _ steps r = ⊥

@@ -20,6 +20,10 @@ grants (command.Info image) (reply.Info header) = true
 grants (command.SnapList image) (reply.Snaps snaps) = true
 grants (command.SnapCreate image snap) r = is_done r
 grants (command.SnapRemove image snap) r = is_done r
+grants (command.Close image) r = is_done r
+grants (command.Quiesce image) r = is_done r
+grants (command.Resume image) r = is_done r
+grants (command.Tell image bytes) r = is_done r
 grants _ _ = false
 
 -- any command may be refused

@@ -7,6 +7,7 @@ use Rattle.rbd_commands.specs.declared.command.Command.TheVariants as command
 use Rattle.rbd_commands.specs.declared.refusal.Refusal.{Refusal}
 use Rattle.rbd_machine.specs.Path.{Answered}
 use Rattle.rbd_machine.specs.Refused.{never, by_fence, only_looks}
+use Rattle.rbd_meaning.specs.Closes.{gone_or_fenced}
 
 -- the answer says that it wasn't done
 abbrev pub tells_undone : Answer → Bool
@@ -28,4 +29,10 @@ abbrev pub ComesLate : Command → Refusal → Type 0
 ComesLate (command.Create image size shape) = by_fence
 ComesLate (command.Write image at bytes) = by_fence
 ComesLate (command.Fill image at len byte) = by_fence
+ComesLate (command.Close image) = gone_or_fenced
 ComesLate _ = never
+
+-- It drops a lock, and what comes behind that may find the image gone.
+abbrev pub lets_go : Command → Bool
+lets_go (command.Close image) = true
+lets_go _ = false

@@ -1,6 +1,6 @@
 //! What holds of every reply that is meant: laws, each the contract of a function that does
 //! nothing.
-ghost use Rattle.std.specs.Prelude.{◌≡◌, ℕ, List, [], ◌∷◌, ◌++◌, true, Some, None};
+ghost use Rattle.std.specs.Prelude.{◌≡◌, ℕ, List, [], ◌∷◌, ◌++◌, false, true, Some, None};
 ghost use Rattle.rbd_kinds.specs.declared.answer.Answer.TheVariants.{Absent};
 ghost use Rattle.rbd_commands.specs.declared.command.Command.{Command};
 ghost use Rattle.rbd_commands.specs.declared.command.Command.TheVariants.{Write, Fill, SnapCreate, SnapRemove};
@@ -19,7 +19,7 @@ ghost use Rattle.rbd_meaning.specs.Meant.{IsMeantBy};
 ghost use Rattle.rbd_meaning.specs.Named.{looks_up};
 ghost use Rattle.rbd_meaning.specs.Replies.{may_answer};
 ghost use Rattle.rbd_meaning.specs.Snaps.{TakesOne, RemovesOne};
-ghost use Rattle.rbd_meaning.specs.Undone.{ChangeNothing, ComesLate};
+ghost use Rattle.rbd_meaning.specs.Undone.{lets_go, ChangeNothing, ComesLate};
 
 /// No reply of one kind is meant for a command of another.
 pub fn replies_are_of_their_command()
@@ -38,12 +38,13 @@ pub fn nothing_is_granted_for_nothing()
 {}
 
 /// A request that was refused has changed nothing, unless its refusal may come late: the fence's,
-/// which may come at any time, of a command that changes by more than its last operation.
+/// which may come at any time, of a command that changes by more than its last operation; and of a
+/// close, that its image is gone, which its notice or the end of its watch may still find.
 pub fn refusals_change_nothing()
     ensures early { (site : SiteId) (command : Command) (steps : List Answered) (x : Refusal)
         → IsMeantBy site command steps (Refused x) → (ComesLate command x → ⊥) → ChangeNothing steps }
     ensures but_for_the_fence { (site : SiteId) (command : Command) (steps : List Answered) (x : Refusal)
-        → IsMeantBy site command steps (Refused x) → (x ≡ Fenced → ⊥) → ChangeNothing steps }
+        → lets_go command ≡ false → IsMeantBy site command steps (Refused x) → (x ≡ Fenced → ⊥) → ChangeNothing steps }
 {}
 
 /// A name that isn't there is the command's own: where NoImage is told behind one operation, that

@@ -33,15 +33,20 @@
 //! | `info`, `snap ls` | Info, Snaps: what the header of the name's image tells |
 //! | `snap create` | Done: two looks, and the header took the snapshot |
 //! | `snap rm` | Done: two looks, and the snapshot went that the second lists under the name |
+//! | `close` | Done: the image's lock was dropped and its watchers were told so, or it wasn't the client's; then its watch was let go |
+//! | `quiesce` | Done: two looks, the second under the lock |
+//! | `resume` | Done: the image was found |
+//! | `tell` | Done: the image's watchers were told the bytes |
 //!
 //! A refusal is that of the last answer (`refusal_by` in `rbd_machine`): the first that holds
 //! there, in the order in which the command's definition names them. The operations were the
 //! command's own: it looked its name up, or drew an id for it, and the others are of the image that
 //! it was told. No answer before refused. Nothing was changed before, but where the fence refused a
-//! write, a fill or a create, which may come at any time: the write had only looked, or had written
-//! its first pieces by its own look, and the create had drawn its id at most. A `create` of a shape
-//! outside the limits is refused behind no operation. A read that began again is refused by its
-//! last pass, and each pass before saw another header at its end, or none.
+//! write, a fill, a create or a close, which may come at any time: the write had only looked, or
+//! had written its first pieces by its own look, and the create had drawn its id at most. Behind
+//! its drop a close may find that its image is gone, too. A `create` of a shape outside the limits
+//! is refused behind no operation. A read that began again is refused by its last pass, and each
+//! pass before saw another header at its end, or none.
 //!
 //! No other reply is meant, and none for a command that isn't in the table, nor for a `create` with
 //! a journal.
@@ -54,15 +59,16 @@
 //! |---|---|
 //! | `specs/Range.antt` | the bytes that a command is about, and the refusal of those that aren't there |
 //! | `specs/Arrange.antt` | bytes that were read object by object, in the order of the image |
-//! | `specs/Writes.antt`, `specs/Reads.antt`, `specs/Creates.antt`, `specs/Listings.antt`, `specs/Snaps.antt` | of each command, what a header refuses, what has been done or is shown, and what each reply means |
+//! | `specs/Writes.antt`, `specs/Reads.antt`, `specs/Creates.antt`, `specs/Listings.antt`, `specs/Snaps.antt`, `specs/Closes.antt` | of each command, what a header refuses, what has been done or is shown, and what each reply means |
 //! | `specs/Meant.antt` | `IsMeantBy`: all commands |
 //! | `specs/Replies.antt`, `specs/Named.antt`, `specs/Undone.antt` | which kinds of reply a command has, which name it looks up, and which steps changed nothing: the words of the laws |
 //!
 //! [`laws`] says that behind the same operations one reply is meant, that no reply of one kind is
 //! meant for a command of another, that nothing is done or shown for no operation, that a request
 //! which was refused has changed nothing, but where the fence refused a write, a fill or a create,
-//! that a name which isn't there is the command's own, that a secondary is refused as such whatever
-//! else holds there, and that what was taken wasn't listed and what was removed wasn't protected.
+//! or a close was fenced or found its image gone, that a name which isn't there is the command's
+//! own, that a secondary is refused as such whatever else holds there, and that what was taken
+//! wasn't listed and what was removed wasn't protected.
 //!
 //! # A new command
 //!

@@ -13,6 +13,7 @@ use Rattle.rbd_request.specs.Write.{is_write, write_plan}
 use Rattle.rbd_admin.specs.Create.{is_create, IsCreatePlan, refusal_at}
 use Rattle.rbd_admin.specs.Listing.{is_listing, listing_plan}
 use Rattle.rbd_admin.specs.Snap.{is_snap, snap_plan}
+use Rattle.rbd_close.specs.Close.{is_close, close_plan}
 use Rattle.rbd_requests.specs.Served.{IsPlanFor}
 
 -- ---- each but a create begins at an operation
@@ -32,6 +33,13 @@ pub snap_asks : (site : SiteId) (c : Command) → is_snap c ≡ true → IsAskin
 snap_asks site (command.SnapCreate image snap) is = tt
 snap_asks site (command.SnapRemove image snap) is = tt
 snap_asks site _ is = cc
+
+pub close_asks : (site : SiteId) (c : Command) → is_close c ≡ true → IsAsking (close_plan site c)
+close_asks site (command.Close image) is = tt
+close_asks site (command.Quiesce image) is = tt
+close_asks site (command.Resume image) is = tt
+close_asks site (command.Tell image bytes) is = tt
+close_asks site _ is = cc
 
 -- ---- a create has one plan, and where that is refused each request of it is
 

@@ -11,7 +11,6 @@ use Rattle.rbd_layout.specs.Pieces.{pieces_of}
 use Rattle.rbd_header.specs.Header.{view_of}
 use Rattle.rbd_header.specs.declared.view.View.{View}
 use Rattle.rbd_machine.specs.Label.{Label}
-use Rattle.rbd_machine.specs.Label as label
 use Rattle.rbd_machine.specs.Passes.{jumps}
 use Rattle.rbd_machine.specs.Path.{Answered, IsBounded, IsWalk}
 use Rattle.rbd_machine.specs.Plan.{Plan, Standing, without_labels}
@@ -27,8 +26,10 @@ use Rattle.rbd_admin.proofs.Bounds.{bounded_create, bounded_listing, bounded_nam
 use Rattle.rbd_admin.specs.Create.{IsCreatePlan}
 use Rattle.rbd_admin.specs.Listing.{is_listing, listing_plan}
 use Rattle.rbd_admin.specs.Snap.{is_snap, snap_plan}
+use Rattle.rbd_close.proofs.Bounds.{bounded_close, bounded_quiesce, bounded_resume, bounded_tell}
+use Rattle.rbd_close.specs.Close.{is_close, close_plan}
 use Rattle.rbd_requests.proofs.Given.{asks_on_id, asks_on_header, asks_unless, asks_change, asks_within, walk_asks}
-use Rattle.rbd_requests.specs.Served.{IsPlanFor, Writes, Reads, Creates, Lists, Snaps}
+use Rattle.rbd_requests.specs.Served.{IsPlanFor, Writes, Reads, Creates, Lists, Snaps, Closes}
 use Rattle.rbd_requests.specs.Touched.{bound_of, touched_by, AsksAtMost, HasAtMost}
 
 -- ---- write, fill
@@ -93,6 +94,13 @@ snap_asks_few site (command.SnapCreate image snap) most is = bounded_snap site (
 snap_asks_few site (command.SnapRemove image snap) most is = bounded_snap site (command.SnapRemove image snap)
 snap_asks_few site _ most is = cc
 
+close_asks_few : (site : SiteId) (c : Command) (most : ℕ) → is_close c ≡ true → IsBounded (close_plan site c) (bound_of c most)
+close_asks_few site (command.Close image) most is = bounded_close site image
+close_asks_few site (command.Quiesce image) most is = bounded_quiesce site image
+close_asks_few site (command.Resume image) most is = bounded_resume site image
+close_asks_few site (command.Tell image bytes) most is = bounded_tell site image bytes
+close_asks_few site _ most is = cc
+
 -- a bound for all answers
 from_bound : (plan : Plan) (s : Standing) (n : ℕ) → s ≡ without_labels plan → IsBounded plan n → AskFew s n
 from_bound plan s n is bounded = from_plan plan s n is (asks_within plan n n (omega arith) bounded)
@@ -103,6 +111,7 @@ ask_few home c s most (Reads is) few = read_asks_few home c s most is few
 ask_few home c s most (Creates is at_plan) few = from_bound s.plan s (bound_of c most) at_plan (create_asks_few home c s.plan most is)
 ask_few home c s most (Lists is at_plan) few = from_bound (listing_plan home c) s (bound_of c most) at_plan (listing_asks_few home c most is)
 ask_few home c s most (Snaps is at_plan) few = from_bound (snap_plan home c) s (bound_of c most) at_plan (snap_asks_few home c most is)
+ask_few home c s most (Closes is at_plan) few = from_bound (close_plan home c) s (bound_of c most) at_plan (close_asks_few home c most is)
 
 pub command_is_bounded : (home : SiteId) (c : Command) (s : Standing) (most : ℕ) → IsPlanFor home c s → HasAtMost most (touched_by c) → AsksAtMost s.plan (bound_of c most)
 command_is_bounded home c s most is few = (ask_few home c s most is few).0

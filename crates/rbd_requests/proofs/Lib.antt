@@ -3,4 +3,5 @@ pub mod Bounded
 pub mod Turns
 pub mod Begun
 pub mod Given
+pub mod Looks
 pub mod OnePlan

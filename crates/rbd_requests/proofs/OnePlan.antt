@@ -16,7 +16,8 @@ use Rattle.rbd_admin.specs.Create.{IsCreate, IsCreatePlan, drawing}
 use Rattle.rbd_admin.specs.Listing.{is_listing, listing_plan}
 use Rattle.rbd_admin.specs.Snap.{is_snap, snap_plan}
 use Rattle.rbd_admin.proofs.Decided.{limits_or_not}
-use Rattle.rbd_requests.specs.Served.{is_built, HasOnePlan, IsPlanFor, Writes, Reads, Creates, Lists, Snaps}
+use Rattle.rbd_close.specs.Close.{is_close, close_plan}
+use Rattle.rbd_requests.specs.Served.{is_built, HasOnePlan, IsPlanFor, Writes, Reads, Creates, Lists, Snaps, Closes}
 use Rattle.rbd_requests.specs.declared.kind.Kind.{Kind}
 use Rattle.rbd_requests.specs.declared.kind.Kind.TheVariants as kind
 
@@ -32,6 +33,10 @@ kind_in (command.Info image) = kind.List
 kind_in (command.SnapList image) = kind.List
 kind_in (command.SnapCreate image snap) = kind.Snap
 kind_in (command.SnapRemove image snap) = kind.Snap
+kind_in (command.Close image) = kind.Close
+kind_in (command.Quiesce image) = kind.Close
+kind_in (command.Resume image) = kind.Close
+kind_in (command.Tell image bytes) = kind.Close
 kind_in _ = kind.Unserved
 
 pub is_of_writes : (c : Command) → is_write c ≡ true → kind_in c ≡ kind.Write
@@ -58,6 +63,13 @@ is_of_snaps (command.SnapCreate image snap) is = refl
 is_of_snaps (command.SnapRemove image snap) is = refl
 is_of_snaps _ is = cc
 
+is_of_closes : (c : Command) → is_close c ≡ true → kind_in c ≡ kind.Close
+is_of_closes (command.Close image) is = refl
+is_of_closes (command.Quiesce image) is = refl
+is_of_closes (command.Resume image) is = refl
+is_of_closes (command.Tell image bytes) is = refl
+is_of_closes _ is = cc
+
 -- ---- so its plan is that of the kind
 
 pub only_writes : (home : SiteId) (c : Command) (s : Standing) → kind_in c ≡ kind.Write → IsPlanFor home c s → s ≡ without_labels (write_plan home c)
@@ -66,6 +78,7 @@ only_writes home c s k (Reads is) = let no : kind.Write ≡ kind.Read = sym k �
 only_writes home c s k (Creates is at_plan) = let no : kind.Write ≡ kind.Create = sym k ∙ is_of_creates home c s.plan is in cc
 only_writes home c s k (Lists is at_plan) = let no : kind.Write ≡ kind.List = sym k ∙ is_of_lists c is in cc
 only_writes home c s k (Snaps is at_plan) = let no : kind.Write ≡ kind.Snap = sym k ∙ is_of_snaps c is in cc
+only_writes home c s k (Closes is at_plan) = let no : kind.Write ≡ kind.Close = sym k ∙ is_of_closes c is in cc
 
 only_lists : (home : SiteId) (c : Command) (s : Standing) → kind_in c ≡ kind.List → IsPlanFor home c s → s ≡ without_labels (listing_plan home c)
 only_lists home c s k (Writes is at_plan) = let no : kind.List ≡ kind.Write = sym k ∙ is_of_writes c is in cc
@@ -73,6 +86,7 @@ only_lists home c s k (Reads is) = let no : kind.List ≡ kind.Read = sym k ∙ 
 only_lists home c s k (Creates is at_plan) = let no : kind.List ≡ kind.Create = sym k ∙ is_of_creates home c s.plan is in cc
 only_lists home c s k (Lists is at_plan) = at_plan
 only_lists home c s k (Snaps is at_plan) = let no : kind.List ≡ kind.Snap = sym k ∙ is_of_snaps c is in cc
+only_lists home c s k (Closes is at_plan) = let no : kind.List ≡ kind.Close = sym k ∙ is_of_closes c is in cc
 
 only_snaps : (home : SiteId) (c : Command) (s : Standing) → kind_in c ≡ kind.Snap → IsPlanFor home c s → s ≡ without_labels (snap_plan home c)
 only_snaps home c s k (Writes is at_plan) = let no : kind.Snap ≡ kind.Write = sym k ∙ is_of_writes c is in cc
@@ -80,6 +94,15 @@ only_snaps home c s k (Reads is) = let no : kind.Snap ≡ kind.Read = sym k ∙ 
 only_snaps home c s k (Creates is at_plan) = let no : kind.Snap ≡ kind.Create = sym k ∙ is_of_creates home c s.plan is in cc
 only_snaps home c s k (Lists is at_plan) = let no : kind.Snap ≡ kind.List = sym k ∙ is_of_lists c is in cc
 only_snaps home c s k (Snaps is at_plan) = at_plan
+only_snaps home c s k (Closes is at_plan) = let no : kind.Snap ≡ kind.Close = sym k ∙ is_of_closes c is in cc
+
+only_closes : (home : SiteId) (c : Command) (s : Standing) → kind_in c ≡ kind.Close → IsPlanFor home c s → s ≡ without_labels (close_plan home c)
+only_closes home c s k (Writes is at_plan) = let no : kind.Close ≡ kind.Write = sym k ∙ is_of_writes c is in cc
+only_closes home c s k (Reads is) = let no : kind.Close ≡ kind.Read = sym k ∙ is_of_reads home c s is in cc
+only_closes home c s k (Creates is at_plan) = let no : kind.Close ≡ kind.Create = sym k ∙ is_of_creates home c s.plan is in cc
+only_closes home c s k (Lists is at_plan) = let no : kind.Close ≡ kind.List = sym k ∙ is_of_lists c is in cc
+only_closes home c s k (Snaps is at_plan) = let no : kind.Close ≡ kind.Snap = sym k ∙ is_of_snaps c is in cc
+only_closes home c s k (Closes is at_plan) = at_plan
 
 only_reads : (home : SiteId) (c : Command) (s : Standing) → kind_in c ≡ kind.Read → IsPlanFor home c s → IsReadOf home c s
 only_reads home c s k (Writes is at_plan) = let no : kind.Read ≡ kind.Write = sym k ∙ is_of_writes c is in cc
@@ -87,6 +110,7 @@ only_reads home c s k (Reads is) = is
 only_reads home c s k (Creates is at_plan) = let no : kind.Read ≡ kind.Create = sym k ∙ is_of_creates home c s.plan is in cc
 only_reads home c s k (Lists is at_plan) = let no : kind.Read ≡ kind.List = sym k ∙ is_of_lists c is in cc
 only_reads home c s k (Snaps is at_plan) = let no : kind.Read ≡ kind.Snap = sym k ∙ is_of_snaps c is in cc
+only_reads home c s k (Closes is at_plan) = let no : kind.Read ≡ kind.Close = sym k ∙ is_of_closes c is in cc
 
 -- a create has one plan, since whether its shape keeps the limits is decided
 one_create : (home : SiteId) (name : List ℕ) (size : ℕ) (shape : Shape) (one other : Plan) → IsCreate home name size shape one → IsCreate home name size shape other → other ≡ one
@@ -103,6 +127,7 @@ only_creates home name size shape plan s creates (Reads is) = absurd is
 only_creates home name size shape plan s creates (Creates is at_plan) = at_plan ∙ ap without_labels (one_create home name size shape plan s.plan creates is)
 only_creates home name size shape plan s creates (Lists is at_plan) = cc
 only_creates home name size shape plan s creates (Snaps is at_plan) = cc
+only_creates home name size shape plan s creates (Closes is at_plan) = cc
 
 -- ---- each has one
 
@@ -114,6 +139,9 @@ lists_once home c is = record { standing = without_labels (listing_plan home c);
 
 snaps_once : (home : SiteId) (c : Command) → is_snap c ≡ true → HasOnePlan home c
 snaps_once home c is = record { standing = without_labels (snap_plan home c); is = Snaps is refl; only = λ s plan. only_snaps home c s (is_of_snaps c is) plan }
+
+closes_once : (home : SiteId) (c : Command) → is_close c ≡ true → HasOnePlan home c
+closes_once home c is = record { standing = without_labels (close_plan home c); is = Closes is refl; only = λ s plan. only_closes home c s (is_of_closes c is) plan }
 
 reads_once : (home : SiteId) (name : List ℕ) (snap : Option (List ℕ)) (at len : ℕ) → HasOnePlan home (command.Read name snap at len)
 reads_once home name snap at len =
@@ -153,6 +181,10 @@ has_one_plan home (command.Info image) built = lists_once home (command.Info ima
 has_one_plan home (command.SnapList image) built = lists_once home (command.SnapList image) refl
 has_one_plan home (command.SnapCreate image snap) built = snaps_once home (command.SnapCreate image snap) refl
 has_one_plan home (command.SnapRemove image snap) built = snaps_once home (command.SnapRemove image snap) refl
+has_one_plan home (command.Close image) built = closes_once home (command.Close image) refl
+has_one_plan home (command.Quiesce image) built = closes_once home (command.Quiesce image) refl
+has_one_plan home (command.Resume image) built = closes_once home (command.Resume image) refl
+has_one_plan home (command.Tell image bytes) built = closes_once home (command.Tell image bytes) refl
 has_one_plan home _ built = cc
 
 -- ---- what has a plan is served
@@ -182,9 +214,17 @@ snap_is_built (command.SnapCreate image snap) is = refl
 snap_is_built (command.SnapRemove image snap) is = refl
 snap_is_built _ is = cc
 
+close_is_built : (c : Command) → is_close c ≡ true → is_built c ≡ true
+close_is_built (command.Close image) is = refl
+close_is_built (command.Quiesce image) is = refl
+close_is_built (command.Resume image) is = refl
+close_is_built (command.Tell image bytes) is = refl
+close_is_built _ is = cc
+
 pub what_has_a_plan_is_built : (home : SiteId) (c : Command) (s : Standing) → IsPlanFor home c s → is_built c ≡ true
 what_has_a_plan_is_built home c s (Writes is at_plan) = write_is_built c is
 what_has_a_plan_is_built home c s (Reads is) = read_is_built home c s is
 what_has_a_plan_is_built home c s (Creates is at_plan) = create_is_built home c s.plan is
 what_has_a_plan_is_built home c s (Lists is at_plan) = listing_is_built c is
 what_has_a_plan_is_built home c s (Snaps is at_plan) = snap_is_built c is
+what_has_a_plan_is_built home c s (Closes is at_plan) = close_is_built c is

@@ -11,7 +11,8 @@ use Rattle.rbd_request.specs.Write.{write_plan}
 use Rattle.rbd_admin.proofs.Lawful.{lawful_create, lawful_listing, lawful_snap}
 use Rattle.rbd_admin.specs.Listing.{listing_plan}
 use Rattle.rbd_admin.specs.Snap.{snap_plan}
-use Rattle.rbd_requests.specs.Served.{IsPlanFor, Writes, Reads, Creates, Lists, Snaps}
+use Rattle.rbd_close.proofs.Lawful.{lawful_request}
+use Rattle.rbd_requests.specs.Served.{IsPlanFor, Writes, Reads, Creates, Lists, Snaps, Closes}
 
 from_plan : (plan : Plan) (s : Standing) → s ≡ without_labels plan → IsLawful nothing_at nothing_known plan → IsLawfulRequest s
 from_plan plan s is lawful = subst IsLawfulRequest (sym is) (record { known_at = nothing_at; plan = lawful; labels = λ label. refl })
@@ -22,3 +23,4 @@ command_is_lawful home c s (Reads is) = lawful_read home c s is
 command_is_lawful home c s (Creates is at_plan) = subst IsLawfulRequest (sym at_plan) (lawful_create home c s.plan is)
 command_is_lawful home c s (Lists is at_plan) = from_plan (listing_plan home c) s at_plan (lawful_listing nothing_at home c)
 command_is_lawful home c s (Snaps is at_plan) = from_plan (snap_plan home c) s at_plan (lawful_snap nothing_at home c)
+command_is_lawful home c s (Closes is at_plan) = subst IsLawfulRequest (sym at_plan) (lawful_request home c)

@@ -48,7 +48,9 @@ use Rattle.rbd_admin.specs.Listing.{is_listing, on_names, showing, show_header, 
 use Rattle.rbd_admin.specs.Snap.{is_snap, on_snap, take, remove_listed, remove, snap_plan}
 use Rattle.rbd_admin.proofs.Closed.{closed_create, closed_listing, closed_snap}
 use Rattle.rbd_admin.proofs.Decided.{limits_or_not}
-use Rattle.rbd_requests.specs.Served.{IsPlanFor, Writes, Reads, Creates, Lists, Snaps}
+use Rattle.rbd_close.specs.Close.{is_close}
+use Rattle.rbd_close.proofs.Orderly.{orderly_from}
+use Rattle.rbd_requests.specs.Served.{IsPlanFor, Writes, Reads, Creates, Lists, Snaps, Closes}
 use Rattle.rbd_requests.specs.Touched.{extent_of}
 
 never_true : false ≡ true → ⊥
@@ -256,6 +258,11 @@ snap_has_none (command.Write image from bytes) is = absurd (never_true is)
 snap_has_none (command.Fill image from len byte) is = absurd (never_true is)
 snap_has_none _ is = refl
 
+close_has_none : (c : Command) → is_close c ≡ true → extent_of c ≡ None
+close_has_none (command.Write image from bytes) is = absurd (never_true is)
+close_has_none (command.Fill image from len byte) is = absurd (never_true is)
+close_has_none _ is = refl
+
 -- a request without labels stands at an orderly plan
 from_plan : (e : Option Extent) (plan : Plan) (s : Standing) → s ≡ without_labels plan → IsOrderly e starts true beginning plan → IsClosed Goto plan → IsOrderlyFrom e true beginning s
 from_plan e plan s is orderly closed =
@@ -269,3 +276,5 @@ command_is_orderly home c s (Lists is at_plan) =
     subst (λ e. IsOrderlyFrom e true beginning s) (sym (listing_has_none c is)) (from_plan None (listing_plan home c) s at_plan (orderly_listing None home c) (closed_listing home c))
 command_is_orderly home c s (Snaps is at_plan) =
     subst (λ e. IsOrderlyFrom e true beginning s) (sym (snap_has_none c is)) (from_plan None (snap_plan home c) s at_plan (orderly_snap home c) (closed_snap home c))
+command_is_orderly home c s (Closes is at_plan) =
+    subst (λ e. IsOrderlyFrom e true beginning s) (sym (close_has_none c is)) (subst (IsOrderlyFrom None true beginning) (sym at_plan) (orderly_from home c))

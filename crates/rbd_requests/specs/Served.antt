@@ -8,12 +8,13 @@ use Rattle.rbd_request.specs.Write.{is_write, write_plan}
 use Rattle.rbd_admin.specs.Create.{is_create, IsCreatePlan}
 use Rattle.rbd_admin.specs.Listing.{is_listing, listing_plan}
 use Rattle.rbd_admin.specs.Snap.{is_snap, snap_plan}
+use Rattle.rbd_close.specs.Close.{is_close, close_plan}
 use Rattle.rbd_requests.specs.declared.kind.Kind.{Kind}
 use Rattle.rbd_requests.specs.declared.kind.Kind.TheVariants as kind
 
 -- the commands that are served
 abbrev pub is_built : Command → Bool
-is_built c = is_write c || is_read c || is_create c || is_listing c || is_snap c
+is_built c = is_write c || is_read c || is_create c || is_listing c || is_snap c || is_close c
 
 -- A request of a session at a site, made of a command, stands at first where the plan of the
 -- command begins.
@@ -23,6 +24,7 @@ pub data IsPlanFor (home : SiteId) (c : Command) (s : Standing) : Type 0 where
   Creates : IsCreatePlan home c s.plan → s ≡ without_labels s.plan → IsPlanFor home c s
   Lists : is_listing c ≡ true → s ≡ without_labels (listing_plan home c) → IsPlanFor home c s
   Snaps : is_snap c ≡ true → s ≡ without_labels (snap_plan home c) → IsPlanFor home c s
+  Closes : is_close c ≡ true → s ≡ without_labels (close_plan home c) → IsPlanFor home c s
 
 -- A command has one plan: there is a place where its request stands at first, and no other.
 pub record HasOnePlan (home : SiteId) (c : Command) : Type 0 where
@@ -37,4 +39,5 @@ IsOfKind kind.Read c = is_read c ≡ true
 IsOfKind kind.Create c = is_create c ≡ true
 IsOfKind kind.List c = is_listing c ≡ true
 IsOfKind kind.Snap c = is_snap c ≡ true
+IsOfKind kind.Close c = is_close c ≡ true
 IsOfKind kind.Unserved c = is_built c ≡ false

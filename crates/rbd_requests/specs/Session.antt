@@ -15,6 +15,7 @@ use Rattle.rbd_request.specs.Write as of_write
 use Rattle.rbd_admin.specs.Create.{rest_of_create}
 use Rattle.rbd_admin.specs.Listing.{rest_of_list, HasReply}
 use Rattle.rbd_admin.specs.Snap.{rest_of_snap}
+use Rattle.rbd_close.specs.Close.{rest_of_request}
 use Rattle.rbd_requests.specs.Served.{is_built, IsPlanFor}
 use Rattle.rbd_requests.specs.Touched.{extent_of}
 use Rattle.rbd_requests.specs.declared.request.SessionRequest.{SessionRequest}
@@ -30,6 +31,7 @@ stands_of extra (request.Write w) = without_labels (of_write.rest_of_request w)
 stands_of extra (request.Create r) = without_labels (rest_of_create r)
 stands_of extra (request.Snap r) = without_labels (rest_of_snap r)
 stands_of extra (request.List r) = without_labels (rest_of_list r)
+stands_of extra (request.Close r) = without_labels (rest_of_request r)
 stands_of extra (request.Extra e) = extra e
 
 abbrev pub is_ready_of : {E : Type 0} → (extra : E → Answer → Type 0) → SessionRequest E → Answer → Type 0
@@ -38,6 +40,7 @@ is_ready_of extra (request.Write w) a = of_write.IsReady w a
 is_ready_of extra (request.Create r) a = Unit {0}
 is_ready_of extra (request.Snap r) a = Unit {0}
 is_ready_of extra (request.List r) a = HasReply r a
+is_ready_of extra (request.Close r) a = Unit {0}
 is_ready_of extra (request.Extra e) a = extra e a
 
 -- ---- what it is made of: a command, or a machine that a layer above brings

@@ -44,7 +44,7 @@ AsksAtMost (Return reply) n = Unit {0}
 AsksAtMost (Goto label) n = Unit {0}
 
 -- How many operations a command has, where its extent has so many pieces at most. A read that
--- begins again has them again.
+-- begins again has them again. Those of a way to a lock are not among them.
 abbrev pub bound_of : Command → (most : ℕ) → ℕ
 bound_of (command.Create image size shape) most = 2
 bound_of command.List most = 1
@@ -55,6 +55,10 @@ bound_of (command.SnapRemove image snap) most = 4
 bound_of (command.Write image at bytes) most = most + 3
 bound_of (command.Fill image at len byte) most = most + 3
 bound_of (command.Read image snap at len) most = most + 3
+bound_of (command.Close image) most = 4
+bound_of (command.Quiesce image) most = 3
+bound_of (command.Resume image) most = 1
+bound_of (command.Tell image bytes) most = 2
 bound_of _ most = 0
 
 -- A change of an extent goes beside other requests: behind its own look it has its turn at each

@@ -17,6 +17,8 @@ pub enum Kind {
     List,
     /// `snap create`, `snap rm`
     Snap,
+    /// `close`, `quiesce`, `resume`, `tell`
+    Close,
     /// None serves it.
     Unserved,
 }
@@ -39,6 +41,10 @@ pub fn kind_of(command: &Command) -> Kind
         Command::SnapList { .. } => Kind::List,
         Command::SnapCreate { .. } => Kind::Snap,
         Command::SnapRemove { .. } => Kind::Snap,
+        Command::Close { .. } => Kind::Close,
+        Command::Quiesce { .. } => Kind::Close,
+        Command::Resume { .. } => Kind::Close,
+        Command::Tell { .. } => Kind::Close,
         _ => Kind::Unserved,
     }
 }

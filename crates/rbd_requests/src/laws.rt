@@ -1,19 +1,25 @@
 //! What the requests of all commands keep to: laws, each the contract of a function that does
 //! nothing.
-ghost use Rattle.std.specs.Prelude.{◌≡◌, ℕ, ◌+◌, ◌*◌, ◌≤◌, List, length, Some, true};
+ghost use Rattle.std.specs.Prelude.{◌≡◌, ℕ, ◌+◌, ◌*◌, ◌≤◌, List, length, Some, false, true};
 ghost use Rattle.rbd_commands.specs.declared.command.Command.{Command};
+ghost use Rattle.rbd_kinds.specs.declared.answer.Answer.{Answer};
+ghost use Rattle.rbd_kinds.specs.declared.header_op.HeaderOp.TheVariants.{Get};
 ghost use Rattle.rbd_kinds.specs.declared.id.SiteId.{SiteId};
 ghost use Rattle.rbd_kinds.specs.declared.layout.Extent.{Extent};
 ghost use Rattle.rbd_kinds.specs.declared.machine.Fed.{Fed};
+ghost use Rattle.rbd_kinds.specs.declared.operation.Op.TheVariants.{Header};
 ghost use Rattle.rbd_kinds.specs.declared.reply.Reply.{Reply};
 ghost use Rattle.rbd_machine.specs.Lawful.{IsLawfulRequest};
 ghost use Rattle.rbd_machine.specs.Passes.{jumps};
 ghost use Rattle.rbd_machine.specs.Path.{Answered, IsWalk};
-ghost use Rattle.rbd_machine.specs.Plan.{Plan, Return, Standing, IsClosed};
+ghost use Rattle.rbd_machine.specs.Plan.{Plan, Ask, Return, Standing, IsClosed};
 ghost use Rattle.rbd_machine.specs.Refused.{AreGiven};
+ghost use Rattle.rbd_machine.specs.Steps.{EndsIt, not_there};
+ghost use Rattle.rbd_machine.specs.declared.reason.Reason.{Reason};
 ghost use Rattle.rbd_course.specs.Course.{beginning};
 ghost use Rattle.rbd_course.specs.Orderly.{IsOrderlyFrom};
 ghost use Rattle.rbd_meaning.specs.Meant.{IsMeantBy};
+ghost use Rattle.rbd_request.specs.Read.{is_read};
 ghost use Rattle.rbd_requests.specs.Served.{is_built, HasOnePlan, IsPlanFor};
 ghost use Rattle.rbd_requests.specs.Touched.{bound_of, extent_of, touched_by, AsksAtMost, HasAtMost, TakesTurns};
 
@@ -62,4 +68,11 @@ pub fn commands_are_bounded()
     ensures all { (home : SiteId) (command : Command) (s : Standing) (most : ℕ) (feds : List Fed) (steps : List Answered) (last : Plan)
         → IsPlanFor home command s → HasAtMost most (touched_by command) → AreGiven steps → IsWalk s.labels s.plan feds steps last
         → length steps ≤ (1 + jumps s.labels s.plan feds) * bound_of command most }
+{}
+
+/// Where a request that isn't a read looks at a header, what isn't there and the fence end it.
+pub fn looks_refuse_what_isnt_there()
+    ensures { (home : SiteId) (command : Command) (s : Standing) (feds : List Fed) (steps : List Answered) (site : SiteId) (why : Reason) (image : ℕ) (next : Answer → Plan) (a : Answer)
+        → IsPlanFor home command s → is_read command ≡ false → IsWalk s.labels s.plan feds steps (Ask site why (Header image Get) next)
+        → EndsIt a → next a ≡ not_there a }
 {}

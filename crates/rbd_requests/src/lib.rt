@@ -26,6 +26,10 @@
 //! | `ls` | [`ListRequest`](rbd_admin::ListRequest) | 1 | none |
 //! | `info`, `snap ls` | [`ListRequest`](rbd_admin::ListRequest) | 2 | none |
 //! | `snap create`, `snap rm` | [`SnapRequest`](rbd_admin::SnapRequest) | 4 | none |
+//! | `close` | [`CloseRequest`](rbd_close::CloseRequest) | 4 | none |
+//! | `quiesce` | [`CloseRequest`](rbd_close::CloseRequest) | 3, beside those of a way to the lock | none |
+//! | `resume` | [`CloseRequest`](rbd_close::CloseRequest) | 1 | none |
+//! | `tell` | [`CloseRequest`](rbd_close::CloseRequest) | 2 | none |
 //! | others | none: [`is_built`] is false | | |
 //!
 //! - A [`SessionRequest`] does what the request in it does, call by call.
@@ -33,7 +37,7 @@
 //!   at an operation.
 //! - The extent of a work is what it changes piece by piece beside other requests of its image: it
 //!   takes its turn at each object of it. A read changes nothing, and a snapshot is taken or
-//!   removed alone on the image.
+//!   removed alone on the image. A `close` and a `quiesce` are alone there, too.
 //! - A machine that a layer above brings ([`Work::Extra`]) stands at an operation, keeps to its
 //!   line without a turn, and does only what it may by what it knows (`rbd_machine`). Whoever
 //!   brings it says what its reply means.
@@ -49,7 +53,8 @@
 //!
 //! [`laws`] joins the laws of the commands' requests, one over all commands for each: their labels
 //! stand at operations, they are lawful from nothing known, they keep to their line, they take the
-//! turns of their extent and no others, each reply is meant, and how many operations they have.
+//! turns of their extent and no others, each reply is meant, how many operations they have, and
+//! that but for a read each look at a header is ended by what isn't there and by the fence.
 //!
 //! The other files of `specs/` are lemmas that the laws of [`Request`](rbd_course::Request) cite.
 //! They define nothing.

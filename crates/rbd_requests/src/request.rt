@@ -2,6 +2,7 @@
 ghost use Rattle.rbd_requests.specs.Session.{stands_of, is_ready_of};
 
 use rbd_admin::{CreateRequest, ListRequest, SnapRequest};
+use rbd_close::CloseRequest;
 use rbd_kinds::{Event, Fed, NoMemory, Op, Turn, Want};
 use rbd_machine::{Machine, Reason};
 use rbd_request::{ReadRequest, WriteRequest};
@@ -27,6 +28,8 @@ pub enum SessionRequest<E> {
     Snap(SnapRequest),
     /// `ls`, `info` or `snap ls`
     List(ListRequest),
+    /// `close`, `quiesce`, `resume` or `tell`
+    Close(CloseRequest),
     /// A machine that a layer above brings.
     Extra(E),
 }
@@ -43,6 +46,7 @@ impl<E: Machine + Drop> Machine for SessionRequest<E> {
             SessionRequest::Create(request) => request.wants(),
             SessionRequest::Snap(request) => request.wants(),
             SessionRequest::List(request) => request.wants(),
+            SessionRequest::Close(request) => request.wants(),
             SessionRequest::Extra(request) => request.wants(),
         }
     }
@@ -54,6 +58,7 @@ impl<E: Machine + Drop> Machine for SessionRequest<E> {
             SessionRequest::Create(request) => request.next(alloc),
             SessionRequest::Snap(request) => request.next(alloc),
             SessionRequest::List(request) => request.next(alloc),
+            SessionRequest::Close(request) => request.next(alloc),
             SessionRequest::Extra(request) => request.next(alloc),
         }
     }
@@ -65,6 +70,7 @@ impl<E: Machine + Drop> Machine for SessionRequest<E> {
             SessionRequest::Create(request) => request.reason(),
             SessionRequest::Snap(request) => request.reason(),
             SessionRequest::List(request) => request.reason(),
+            SessionRequest::Close(request) => request.reason(),
             SessionRequest::Extra(request) => request.reason(),
         }
     }
@@ -76,6 +82,7 @@ impl<E: Machine + Drop> Machine for SessionRequest<E> {
             SessionRequest::Create(request) => request.event(alloc),
             SessionRequest::Snap(request) => request.event(alloc),
             SessionRequest::List(request) => request.event(alloc),
+            SessionRequest::Close(request) => request.event(alloc),
             SessionRequest::Extra(request) => request.event(alloc),
         }
     }
@@ -87,6 +94,7 @@ impl<E: Machine + Drop> Machine for SessionRequest<E> {
             SessionRequest::Create(request) => request.ready(alloc, fed),
             SessionRequest::Snap(request) => request.ready(alloc, fed),
             SessionRequest::List(request) => request.ready(alloc, fed),
+            SessionRequest::Close(request) => request.ready(alloc, fed),
             SessionRequest::Extra(request) => request.ready(alloc, fed),
         }
     }
@@ -98,6 +106,7 @@ impl<E: Machine + Drop> Machine for SessionRequest<E> {
             SessionRequest::Create(request) => request.feed(fed),
             SessionRequest::Snap(request) => request.feed(fed),
             SessionRequest::List(request) => request.feed(fed),
+            SessionRequest::Close(request) => request.feed(fed),
             SessionRequest::Extra(request) => request.feed(fed),
         }
     }

@@ -10,6 +10,7 @@ ghost use Rattle.rbd_requests.specs.WorkLaws.{work_is_orderly, work_is_lawful, w
 use crate::kind::{Kind, kind_of};
 use crate::request::SessionRequest;
 use rbd_admin::{CreateRequest, ListRequest, SnapRequest};
+use rbd_close::CloseRequest;
 use rbd_course::{Begun, Request};
 use rbd_kinds::{Command, Extent, NoMemory, SiteId};
 use rbd_machine::Machine;
@@ -76,6 +77,7 @@ fn begin_plain<E: Machine + Drop>(
         Kind::Create => Ok(begin_create(home, command)),
         Kind::List => Ok(Begun::Asks(SessionRequest::List(ListRequest::new(home, command)))),
         Kind::Snap => Ok(Begun::Asks(SessionRequest::Snap(SnapRequest::new(home, command)))),
+        Kind::Close => Ok(Begun::Asks(SessionRequest::Close(CloseRequest::new(home, command)))),
         Kind::Unserved => unreachable!(),
     }
 }

@@ -1,20 +1,23 @@
--- Where one slot of one session changes: the other slots, and the other sessions, stay.
-use Rattle.std.proofs.Common.{◌≡◌, ◌≢◌, ◌⊎◌, inl, inr, ℕ, ◌==◌, Bool, true, false, List, ◌∷◌, Option, Some, None, refl, sym, ap, ◌∙◌, subst}
+-- Where the client of one session goes on: the other sessions stay, and so do all lives.
+use Rattle.std.proofs.Common.{◌≡◌, ◌≢◌, ◌⊎◌, inl, inr, ℕ, ◌==◌, ◌<◌, ◌≤◌, cond, Bool, true, false, List, ◌∷◌, is_some, Option, Some, None, refl, sym, ap, ◌∙◌, subst}
 use Rattle.std.proofs.lemmas.Bool.{true≢false, eq-eqb, eqb-true}
+use Rattle.rbd_client.specs.Client.{ClientView}
+use Rattle.rbd_client.specs.Sound.{IsSoundClient}
+use Rattle.rbd_kinds.specs.declared.id.Instance.{Instance}
 use Rattle.rbd_kinds.specs.declared.id.SiteId.{SiteId}
 use Rattle.rbd_known.specs.Knowing.{AllKnow, KnowsIn}
 use Rattle.rbd_machine.specs.Knowledge.{Knowledge, nothing_known}
 use Rattle.rbd_machine.specs.Plan.{Standing}
 use Rattle.rbd_session.specs.declared.running.Occupant.{Occupant}
 use Rattle.rbd_session.specs.declared.running.Occupant.TheVariants as occupant
-use Rattle.rbd_session.specs.Session.{SessionView, IsSoundSession, held_in, running_at, running_in, script_line}
+use Rattle.rbd_session.specs.Session.{SessionView, held_in, running_at, running_in, script_line}
 use Rattle.rbd_session.proofs.Sound.{no_some, some_same}
 use Rattle.rbd_world.specs.declared.event.Event.{Event}
-use Rattle.rbd_world.specs.Run.{Happening}
-use Rattle.rbd_world.specs.Sound.{AreApart, IsHeldRightly, IsOpen, IsSoundClient, IsSoundWorld, held_of, line_at}
-use Rattle.rbd_world.specs.Step.{AreSlotsBut, Becomes, BecomesOf, Does, IsSameClient, names_session}
-use Rattle.rbd_world.specs.World.{WorldView, session_in}
-use Rattle.rbd_world.proofs.Quiet.{IsQuiet, client_on, held_on, lines_differ}
+use Rattle.rbd_world.specs.Run.{Happening, Life, Sent, life_after, life_behind, sent_after, sent_behind}
+use Rattle.rbd_world.specs.Sound.{AreApart, AreLivesOf, IsHeldRightly, IsLiving, IsOpen, IsRunning, IsSoundWorld, held_of, known_in, line_at}
+use Rattle.rbd_world.specs.Step.{AreSlotsBut, Becomes, BecomesOf, Does, IsSameClient, LivesOn, LivesOnIf, RunsOn, late_behind, latest_behind, names_session}
+use Rattle.rbd_world.specs.World.{LateView, LivesView, WorldView, client_in, late_at, late_of, lives_in, running_of, sent_in, session_in, session_of}
+use Rattle.rbd_world.proofs.Quiet.{IsQuiet, held_on, lines_differ}
 
 -- ---- this slot, or another one
 
@@ -36,24 +39,206 @@ here_or_elsewhere session slot m x = by (same_or_other m session) (same_or_other
     by (inl one) (inr two) = inr (inr two)
     by (inr one) two = inr (inl one)
 
+-- ---- whose lives it leaves
+
+-- it begins and ends no life
+abbrev pub IsLifeless : Happening → Type 0
+IsLifeless h = (m : ℕ) (l : Life) → life_behind m h l ≡ l
+
+-- nothing that a stopped life sent comes by it, and no life is stopped
+abbrev pub SendsNothing : Happening → Type 0
+SendsNothing h = (m x : ℕ) (o : Option Sent) → sent_behind m x h o ≡ o
+
+pub running_on : (who : Instance) (h : Happening) (run : List Happening) → IsLifeless h → IsRunning who run → IsRunning who (h ∷ run)
+running_on who h run lifeless runs = lifeless who.session (life_after who.session run) ∙ runs
+
+-- ---- a session that goes on in its life
+
+pub record GoesOnAs {R : Type 0} (old new : WorldView R) (session : ℕ) (c d : ClientView R) : Type 0 where
+  pub before : LivesView R
+  pub was : lives_in session old.lives ≡ Some before
+  pub ran : before.running ≡ Some c
+  pub behind : LivesView R
+  pub is : lives_in session new.lives ≡ Some behind
+  pub runs : behind.running ≡ Some d
+  pub home : behind.home ≡ before.home
+  pub latest : behind.latest ≡ before.latest
+  pub late : behind.late ≡ before.late
+  pub others : (m : ℕ) → m ≢ session → lives_in m new.lives ≡ lives_in m old.lives
+
+-- the client that is found by a session's number is that of its lives
+pub record HasLives {R : Type 0} (session : ℕ) (lives : List (LivesView R)) (c : ClientView R) : Type 0 where
+  pub lives_are : LivesView R
+  pub there : lives_in session lives ≡ Some lives_are
+  pub runs : lives_are.running ≡ Some c
+
+pub lives_there : {R : Type 0} (session : ℕ) (lives : List (LivesView R)) (c : ClientView R) → client_in session lives ≡ Some c → HasLives session lives c
+lives_there {R} session lives c is = by (lives_in session lives) refl is
+  where
+    by : (o : Option (LivesView R)) → lives_in session lives ≡ o → running_of o ≡ Some c → HasLives session lives c
+    by None at is = absurd (no_some c is)
+    by (Some l) at is = record { lives_are = l; there = at; runs = is }
+
 module _ {R : Type 0} (stands : R → Standing) where
-  -- ---- what is held is open
+  pub record HasBecome (e : Event) (h : Happening) (old new : WorldView R) (session : ℕ) (c : ClientView R) : Type 0 where
+    pub after : ClientView R
+    pub goes : GoesOnAs old new session c after
+    pub becomes : Becomes stands e h c after
 
-  held_open : (home : SiteId) (session : ℕ) (run : List Happening) (k : Knowledge) (o : Option (Occupant R)) (line : ℕ) → script_line o ≡ Some line
-      → IsHeldRightly stands home session run k o → IsOpen line run
-  held_open home session run k None line is held = absurd (no_some line is)
-  held_open home session run k (Some (occupant.Refused number refusal)) line is held = subst (λ l. IsOpen l run) (some_same number line is) held.begun
-  held_open home session run k (Some (occupant.Running r)) line is held = subst (λ l. IsOpen l run) (some_same r.line line is) held.begun
-
-  pub open_there : (old : WorldView R) (w : IsSoundWorld stands old) (m x line : ℕ) → line_at m x old.sessions ≡ Some line → IsOpen line w.run
-  open_there old w m x line = by (session_in m old.sessions) refl
+  pub has_become : (e : Event) (h : Happening) (old new : WorldView R) (session : ℕ) (c : ClientView R) → client_in session old.lives ≡ Some c
+      → ((m : ℕ) → names_session e h m ≡ (session == m)) → ((home : SiteId) (o n : Option (ClientView R)) → RunsOn stands e h home o n → BecomesOf stands e h o n)
+      → ((l : Instance) → latest_behind h l ≡ l) → ((l : Option LateView) → late_behind e h l ≡ l)
+      → Does stands e h old new → HasBecome e h old new session c
+  has_become e h old new session c there names runs_on latest late does = at (lives_there session old.lives c there)
     where
-      by : (o : Option (SessionView R)) → session_in m old.sessions ≡ o → script_line (held_of x o) ≡ Some line → IsOpen line w.run
+      others : (m : ℕ) → m ≢ session → lives_in m new.lives ≡ lives_in m old.lives
+      others m differ = does.others m (names m ∙ lines_differ session m (λ same. differ (sym same)))
+
+      named : LivesOnIf stands e h (lives_in session old.lives) (lives_in session new.lives)
+      named = does.named session (names session ∙ eq-eqb session session refl)
+
+      at : HasLives session old.lives c → HasBecome e h old new session c
+      at has = by (lives_in session new.lives) refl (subst (λ o. LivesOnIf stands e h o (lives_in session new.lives)) has.there named)
+        where
+          by : (o : Option (LivesView R)) → lives_in session new.lives ≡ o → LivesOnIf stands e h (Some has.lives_are) o → HasBecome e h old new session c
+          by None is on = absurd on
+          by (Some l) is on = go l.running refl (subst (λ o. BecomesOf stands e h o l.running) has.runs (runs_on has.lives_are.home has.lives_are.running l.running on.running))
+            where
+              go : (o : Option (ClientView R)) → l.running ≡ o → BecomesOf stands e h (Some c) o → HasBecome e h old new session c
+              go None none becomes = absurd becomes
+              go (Some d) runs becomes = record {
+                after = d;
+                goes = record {
+                  before = has.lives_are;
+                  was = has.there;
+                  ran = has.runs;
+                  behind = l;
+                  is = is;
+                  runs = runs;
+                  home = on.home;
+                  latest = on.latest ∙ latest has.lives_are.latest;
+                  late = on.late ∙ late has.lives_are.late;
+                  others = others;
+                };
+                becomes = becomes;
+              }
+
+module _ {R : Type 0} (old new : WorldView R) (session : ℕ) (c d : ClientView R) (goes : GoesOnAs old new session c d) where
+  -- ---- who is where
+
+  pub client_was : client_in session old.lives ≡ Some c
+  client_was = ap running_of goes.was ∙ goes.ran
+
+  pub client_is : client_in session new.lives ≡ Some d
+  client_is = ap running_of goes.is ∙ goes.runs
+
+  pub clients_stay : (m : ℕ) → m ≢ session → client_in m new.lives ≡ client_in m old.lives
+  clients_stay m differ = ap running_of (goes.others m differ)
+
+  pub late_stays : (m x : ℕ) → late_at m x new.lives ≡ late_at m x old.lives
+  late_stays m x = by (same_or_other m session)
+    where
+      by : (m ≡ session) ⊎ (m ≢ session) → late_at m x new.lives ≡ late_at m x old.lives
+      by (inr differ) = ap (λ o. sent_in x (late_of o)) (goes.others m differ)
+      by (inl same) =
+          subst (λ i. late_at i x new.lives ≡ late_at i x old.lives) (sym same)
+          (ap (λ o. sent_in x (late_of o)) goes.is ∙ ap (sent_in x) goes.late ∙ sym (ap (λ o. sent_in x (late_of o)) goes.was))
+
+  -- ---- lines
+
+  line_was : (x : ℕ) → line_at session x old.lives ≡ script_line (held_in x c.session.slots)
+  line_was x = ap (λ o. script_line (held_of x (session_of o))) client_was
+
+  pub line_is : (x : ℕ) → line_at session x new.lives ≡ script_line (held_in x d.session.slots)
+  line_is x = ap (λ o. script_line (held_of x (session_of o))) client_is
+
+  module _ (slot : ℕ) (slots : AreSlotsBut slot c.session d.session) where
+    pub line_elsewhere : (m x : ℕ) → IsElsewhere session slot m x → line_at m x new.lives ≡ line_at m x old.lives
+    line_elsewhere m x where_else = by (same_or_other m session) where_else
+      where
+        by : (m ≡ session) ⊎ (m ≢ session) → IsElsewhere session slot m x → line_at m x new.lives ≡ line_at m x old.lives
+        by (inr differ) either = ap (λ o. script_line (held_of x (session_of o))) (clients_stay m differ)
+        by (inl same) (inl differ) = absurd (differ same)
+        by (inl same) (inr differ) =
+            subst (λ i. line_at i x new.lives ≡ line_at i x old.lives) (sym same) (line_is x ∙ ap script_line (slots x differ) ∙ sym (line_was x))
+
+    -- another slot has another line
+    pub line_apart : AreApart old.lives → (line : ℕ) → script_line (held_in slot c.session.slots) ≡ Some line → (m x other : ℕ) → IsElsewhere session slot m x → line_at m x old.lives ≡ Some other
+        → (line == other) ≡ false
+    line_apart apart line own m x other where_else is = lines_differ line other (λ same. by (apart other session slot m x (line_was slot ∙ own ∙ ap Some same) is) where_else)
+      where
+        by : (session ≡ m) × (slot ≡ x) → IsElsewhere session slot m x → ⊥
+        by both (inl differ) = differ (sym both.0)
+        by both (inr differ) = differ (sym both.1)
+
+    pub apart_of : AreApart old.lives → ((line : ℕ) → script_line (held_in slot d.session.slots) ≡ Some line → script_line (held_in slot c.session.slots) ≡ Some line) → AreApart new.lives
+    apart_of apart before line m x other there one two = apart line m x other there (by m x one) (by other there two)
+      where
+        by : (m x : ℕ) → line_at m x new.lives ≡ Some line → line_at m x old.lives ≡ Some line
+        by m x is = go (here_or_elsewhere session slot m x)
+          where
+            go : ((m ≡ session) × (x ≡ slot)) ⊎ IsElsewhere session slot m x → line_at m x old.lives ≡ Some line
+            go (inr where_else) = sym (line_elsewhere m x where_else) ∙ is
+            go (inl (one, two)) =
+                ap (λ i. line_at i x old.lives) one ∙ ap (λ i. line_at session i old.lives) two ∙ line_was slot
+                ∙ before line (sym (line_is slot) ∙ sym (ap (λ i. line_at i x new.lives) one ∙ ap (λ i. line_at session i new.lives) two) ∙ is)
+
+  -- ---- lives
+
+  module _ (stands : R → Standing) (w : IsSoundWorld stands old) (h : Happening) (lifeless : IsLifeless h) where
+    pub lives_go_on : d.session.instance ≡ c.session.instance → (m : ℕ) (l : LivesView R) → lives_in m new.lives ≡ Some l → AreLivesOf (h ∷ w.run) (w.homes m) m l
+    lives_go_on instance m l is = by (same_or_other m session)
+      where
+        on : (m : ℕ) (l : LivesView R) → AreLivesOf w.run (w.homes m) m l → AreLivesOf (h ∷ w.run) (w.homes m) m l
+        on m l a = record {
+          home_is = a.home_is;
+          whose = a.whose;
+          life = lifeless m (life_after m w.run) ∙ a.life;
+          latest = a.latest;
+          most = a.most;
+          older = a.older;
+        }
+
+        mine : AreLivesOf w.run (w.homes session) session goes.before
+        mine = w.lives session goes.before goes.was
+
+        there : AreLivesOf w.run (w.homes session) session goes.behind
+        there = record {
+          home_is = goes.home ∙ mine.home_is;
+          whose = ap (λ (i : Instance). i.session) goes.latest ∙ mine.whose;
+          life =
+              mine.life ∙ ap (λ o. record { number = goes.before.latest.life; runs = is_some o }) (goes.ran)
+              ∙ sym (ap (λ o. record { number = goes.before.latest.life; runs = is_some o }) (goes.runs))
+              ∙ sym (ap (λ (i : Instance). record { number = i.life; runs = is_some goes.behind.running }) goes.latest);
+          latest = λ q runs. ap (λ (v : ClientView R). v.session.instance) (sym (some_same d q (sym goes.runs ∙ runs))) ∙ instance ∙ mine.latest c goes.ran ∙ sym goes.latest;
+          most = λ v late. subst (λ (i : Instance). v.instance.life ≤ i.life) (sym goes.latest) (mine.most v (sym goes.late ∙ late));
+          older = λ v late q runs. subst (λ (i : Instance). v.instance.life < i.life) (sym goes.latest) (mine.older v (sym goes.late ∙ late) c goes.ran);
+        }
+
+        by : (m ≡ session) ⊎ (m ≢ session) → AreLivesOf (h ∷ w.run) (w.homes m) m l
+        by (inr differ) = on m l (w.lives m l (sym (goes.others m differ) ∙ is))
+        by (inl same) =
+            subst (λ i. AreLivesOf (h ∷ w.run) (w.homes i) i l) (sym same)
+            (subst (AreLivesOf (h ∷ w.run) (w.homes session) session) (some_same goes.behind l (sym goes.is ∙ ap (λ i. lives_in i new.lives) (sym same) ∙ is)) (on session goes.behind there))
+
+-- ---- what is held is open
+
+module _ {R : Type 0} (stands : R → Standing) where
+  held_open : (home : SiteId) (who : Instance) (run : List Happening) (o : Option (Occupant R)) (line : ℕ) → script_line o ≡ Some line → IsHeldRightly stands home who run o → IsOpen line run
+  held_open home who run None line is held = absurd (no_some line is)
+  held_open home who run (Some (occupant.Refused number refusal)) line is held = subst (λ l. IsOpen l run) (some_same number line is) held.begun
+  held_open home who run (Some (occupant.Running r)) line is held = subst (λ l. IsOpen l run) (some_same r.line line is) held.begun
+
+  pub open_there : (old : WorldView R) (w : IsSoundWorld stands old) (m x line : ℕ) → line_at m x old.lives ≡ Some line → IsOpen line w.run
+  open_there old w m x line = by (client_in m old.lives) refl
+    where
+      by : (o : Option (ClientView R)) → client_in m old.lives ≡ o → script_line (held_of x (session_of o)) ≡ Some line → IsOpen line w.run
       by None there is = absurd (no_some line is)
-      by (Some c) there is = held_open (w.homes m) m w.run (w.knows m x) (held_in x c.slots) line is ((w.clients m c there).held x)
+      by (Some c) there is = let living = w.clients m c there in held_open (w.homes m) c.session.instance w.run (held_in x c.session.slots) line is (living.held x)
 
-  -- ---- what the requests of a session know, where its lines stay
+  -- ---- a client that goes on
 
+  -- what the requests of a session know, where its lines stay
   pub all_but : (knows : (x : ℕ) → Knowledge) (slot : ℕ) (c d : SessionView R) → AreSlotsBut slot c d → d.lines ≡ c.lines → AllKnow stands knows c
       → KnowsIn stands slot (running_at slot d) d.lines (knows slot) → AllKnow stands knows d
   all_but knows slot c d slots lines all own x = by (same_or_other x slot)
@@ -64,111 +249,36 @@ module _ {R : Type 0} (stands : R → Standing) where
           subst (λ o. KnowsIn stands x (running_in o) d.lines (knows x)) (sym (slots x differ))
           (subst (λ ls. KnowsIn stands x (running_at x c) ls (knows x)) (sym lines) (all x))
 
-  -- ---- what became of the session
+  module _ (home : SiteId) (session : ℕ) (h : Happening) (run : List Happening) (lifeless : IsLifeless h) where
+    -- one for which it is nothing
+    pub living_on : (knows : (x : ℕ) → Knowledge) (c : ClientView R) → ((x line : ℕ) → script_line (held_in x c.session.slots) ≡ Some line → IsQuiet line h)
+        → IsLiving stands home session run knows c → IsLiving stands home session (h ∷ run) knows c
+    living_on knows c quiet living = record {
+      whose = living.whose;
+      runs = running_on c.session.instance h run lifeless living.runs;
+      at_home = living.at_home;
+      sound = living.sound;
+      know = living.know;
+      held = λ x. held_on stands home c.session.instance h run (held_in x c.session.slots) (quiet x) (living.held x);
+    }
 
-  pub record HasBecome (e : Event) (h : Happening) (old new : WorldView R) (session : ℕ) (c : SessionView R) : Type 0 where
-    pub after : SessionView R
-    pub there : session_in session new.sessions ≡ Some after
-    pub becomes : Becomes stands e h c after
-    pub others : (m : ℕ) → m ≢ session → session_in m new.sessions ≡ session_in m old.sessions
-
-  pub has_become : (e : Event) (h : Happening) (old new : WorldView R) (session : ℕ) (c : SessionView R) → session_in session old.sessions ≡ Some c
-      → ((m : ℕ) → names_session e m ≡ (session == m)) → Does stands e h old new → HasBecome e h old new session c
-  has_become e h old new session c there names does =
-      by (session_in session new.sessions) refl (subst (λ o. BecomesOf stands e h o (session_in session new.sessions)) there (does.named session (names session ∙ eq-eqb session session refl)))
-    where
-      by : (o : Option (SessionView R)) → session_in session new.sessions ≡ o → BecomesOf stands e h (Some c) o → HasBecome e h old new session c
-      by None is becomes = absurd becomes
-      by (Some d) is becomes = record {
-        after = d;
-        there = is;
-        becomes = becomes;
-        others = λ m differ. does.others m (names m ∙ lines_differ session m (λ same. differ (sym same)));
-      }
-
-  module _ (old new : WorldView R) (w : IsSoundWorld stands old) (h : Happening) (session slot : ℕ) (c d : SessionView R) (there : session_in session old.sessions ≡ Some c)
-      (after : session_in session new.sessions ≡ Some d) (others : (m : ℕ) → m ≢ session → session_in m new.sessions ≡ session_in m old.sessions) (slots : AreSlotsBut slot c d) where
-    -- it says nothing of the line in any other slot
-    abbrev pub IsQuietElsewhere : Type 0
-    IsQuietElsewhere = (m x line : ℕ) → IsElsewhere session slot m x → line_at m x old.sessions ≡ Some line → IsQuiet line h
-
-    line_in_old : (x : ℕ) → line_at session x old.sessions ≡ script_line (held_in x c.slots)
-    line_in_old x = ap (λ o. script_line (held_of x o)) there
-
-    pub line_in_new : (x : ℕ) → line_at session x new.sessions ≡ script_line (held_in x d.slots)
-    line_in_new x = ap (λ o. script_line (held_of x o)) after
-
-    pub line_elsewhere : (m x : ℕ) → IsElsewhere session slot m x → line_at m x new.sessions ≡ line_at m x old.sessions
-    line_elsewhere m x where_else = by (same_or_other m session) where_else
+    -- one of which a slot changed
+    pub living_of : (knows knows' : (x : ℕ) → Knowledge) (slot : ℕ) (c d : ClientView R) → IsLiving stands home session run knows c
+        → AreSlotsBut slot c.session d.session → IsSameClient c.session d.session
+        → ((x line : ℕ) → x ≢ slot → script_line (held_in x c.session.slots) ≡ Some line → IsQuiet line h)
+        → IsSoundClient stands d → AllKnow stands knows' d.session → IsHeldRightly stands home c.session.instance (h ∷ run) (held_in slot d.session.slots)
+        → IsLiving stands home session (h ∷ run) knows' d
+    living_of knows knows' slot c d living slots client quiet sound know own = record {
+      whose = ap (λ (i : Instance). i.session) client.instance ∙ living.whose;
+      runs = subst (λ i. IsRunning i (h ∷ run)) (sym client.instance) (running_on c.session.instance h run lifeless living.runs);
+      at_home = client.home ∙ living.at_home;
+      sound = sound;
+      know = know;
+      held = λ x. subst (λ i. IsHeldRightly stands home i (h ∷ run) (held_in x d.session.slots)) (sym client.instance) (by x (same_or_other x slot));
+    }
       where
-        by : (m ≡ session) ⊎ (m ≢ session) → IsElsewhere session slot m x → line_at m x new.sessions ≡ line_at m x old.sessions
-        by (inr differ) either = ap (λ o. script_line (held_of x o)) (others m differ)
-        by (inl same) (inl differ) = absurd (differ same)
-        by (inl same) (inr differ) =
-            subst (λ i. line_at i x new.sessions ≡ line_at i x old.sessions) (sym same) (line_in_new x ∙ ap script_line (slots x differ) ∙ sym (line_in_old x))
-
-    -- another slot has another line
-    pub line_apart : (line : ℕ) → script_line (held_in slot c.slots) ≡ Some line → (m x other : ℕ) → IsElsewhere session slot m x → line_at m x old.sessions ≡ Some other → (line == other) ≡ false
-    line_apart line own m x other where_else is = lines_differ line other (λ same. by (w.apart other session slot m x (line_in_old slot ∙ own ∙ ap Some same) is) where_else)
-      where
-        by : (session ≡ m) × (slot ≡ x) → IsElsewhere session slot m x → ⊥
-        by both (inl differ) = differ (sym both.0)
-        by both (inr differ) = differ (sym both.1)
-
-    pub apart_of : ((line : ℕ) → script_line (held_in slot d.slots) ≡ Some line → script_line (held_in slot c.slots) ≡ Some line) → AreApart new.sessions
-    apart_of before line m x other there one two = w.apart line m x other there (by m x one) (by other there two)
-      where
-        by : (m x : ℕ) → line_at m x new.sessions ≡ Some line → line_at m x old.sessions ≡ Some line
-        by m x is = go (here_or_elsewhere session slot m x)
-          where
-            go : ((m ≡ session) × (x ≡ slot)) ⊎ IsElsewhere session slot m x → line_at m x old.sessions ≡ Some line
-            go (inr where_else) = sym (line_elsewhere m x where_else) ∙ is
-            go (inl (one, two)) =
-                ap (λ i. line_at i x old.sessions) one ∙ ap (λ i. line_at session i old.sessions) two ∙ line_in_old slot
-                ∙ before line (sym (line_in_new slot) ∙ sym (ap (λ i. line_at i x new.sessions) one ∙ ap (λ i. line_at session i new.sessions) two) ∙ is)
-
-    -- ---- its clients
-
-    pub client_of : (knows : (x : ℕ) → Knowledge) → IsQuietElsewhere → IsSoundSession stands d → IsSameClient c d → AllKnow stands knows d
-        → ((x : ℕ) → x ≢ slot → knows x ≡ w.knows session x) → IsHeldRightly stands (w.homes session) session (h ∷ w.run) (knows slot) (held_in slot d.slots)
-        → IsSoundClient stands (w.homes session) session (h ∷ w.run) knows d
-    client_of knows quiet sound client all same own =
-        let before = w.clients session c there in
-        record {
-          who = client.instance ∙ before.who;
-          at_home = client.home ∙ before.at_home;
-          sound = sound;
-          know = all;
-          held = λ x. by x (same_or_other x slot);
-        }
-      where
-        by : (x : ℕ) → (x ≡ slot) ⊎ (x ≢ slot) → IsHeldRightly stands (w.homes session) session (h ∷ w.run) (knows x) (held_in x d.slots)
-        by x (inl here) = subst (λ i. IsHeldRightly stands (w.homes session) session (h ∷ w.run) (knows i) (held_in i d.slots)) (sym here) own
+        by : (x : ℕ) → (x ≡ slot) ⊎ (x ≢ slot) → IsHeldRightly stands home c.session.instance (h ∷ run) (held_in x d.session.slots)
+        by x (inl here) = subst (λ i. IsHeldRightly stands home c.session.instance (h ∷ run) (held_in i d.session.slots)) (sym here) own
         by x (inr differ) =
-            subst (λ o. IsHeldRightly stands (w.homes session) session (h ∷ w.run) (knows x) o) (sym (slots x differ))
-            (subst (λ k. IsHeldRightly stands (w.homes session) session (h ∷ w.run) k (held_in x c.slots)) (sym (same x differ))
-            (held_on stands (w.homes session) session h w.run (w.knows session x) (held_in x c.slots) (λ line is. quiet session x line (inr differ) (line_in_old x ∙ is))
-            ((w.clients session c there).held x)))
-
-    module _ (knows : (m x : ℕ) → Knowledge) (same : (m : ℕ) → m ≢ session → knows m ≡ w.knows m) where
-      pub clients_of : IsQuietElsewhere → IsSoundClient stands (w.homes session) session (h ∷ w.run) (knows session) d
-          → (m : ℕ) (q : SessionView R) → session_in m new.sessions ≡ Some q → IsSoundClient stands (w.homes m) m (h ∷ w.run) (knows m) q
-      clients_of quiet own m q is = by (same_or_other m session)
-        where
-          by : (m ≡ session) ⊎ (m ≢ session) → IsSoundClient stands (w.homes m) m (h ∷ w.run) (knows m) q
-          by (inl here) =
-              subst (λ i. IsSoundClient stands (w.homes i) i (h ∷ w.run) (knows i) q) (sym here)
-              (subst (λ v. IsSoundClient stands (w.homes session) session (h ∷ w.run) (knows session) v)
-              (some_same d q (sym after ∙ ap (λ i. session_in i new.sessions) (sym here) ∙ is)) own)
-          by (inr differ) =
-              let before = sym (others m differ) ∙ is in
-              subst (λ k. IsSoundClient stands (w.homes m) m (h ∷ w.run) k q) (sym (same m differ))
-              (client_on stands (w.homes m) m h w.run (w.knows m) q
-              (λ x line at_line. quiet m x line (inl differ) (ap (λ o. script_line (held_of x o)) before ∙ at_line)) (w.clients m q before))
-
-      pub nobody_of : (m : ℕ) → session_in m new.sessions ≡ None → (x : ℕ) → knows m x ≡ nothing_known
-      nobody_of m none x = by (same_or_other m session)
-        where
-          by : (m ≡ session) ⊎ (m ≢ session) → knows m x ≡ nothing_known
-          by (inl here) = absurd (no_some d (sym none ∙ ap (λ i. session_in i new.sessions) here ∙ after))
-          by (inr differ) = ap (λ (k : ℕ → Knowledge). k x) (same m differ) ∙ w.nobody m (sym (others m differ) ∙ none) x
+            subst (IsHeldRightly stands home c.session.instance (h ∷ run)) (sym (slots x differ))
+            (held_on stands home c.session.instance h run (held_in x c.session.slots) (λ line is. quiet x line differ is) (living.held x))
