@@ -22,7 +22,6 @@ use Rattle.rbd_kinds.specs.declared.id.SiteId.{SiteId}
 use Rattle.rbd_kinds.specs.declared.layout.Extent.{Extent}
 use Rattle.rbd_kinds.specs.declared.machine.Fed.{Fed}
 use Rattle.rbd_kinds.specs.declared.machine.Fed.TheVariants as fed
-use Rattle.rbd_kinds.specs.declared.operation.Op.{Op}
 use Rattle.rbd_kinds.specs.declared.reply.Reply.{Reply}
 use Rattle.rbd_kinds.specs.declared.reply.Reply.TheVariants as reply
 use Rattle.rbd_kinds.specs.Header.{snap_named}
@@ -57,9 +56,9 @@ NoLook (Note site image event next) = NoLook next
 NoLook (Return r) = Unit {0}
 NoLook (Goto label) = ⊥
 
-abbrev OneOf : Bool → (yes no : Type 0) → Type 0
-OneOf true A B = A
-OneOf false A B = B
+abbrev OneOf : Bool → (one other : Type 0) → Type 0
+OneOf true one other = one
+OneOf false one other = other
 
 -- behind an operation that doesn't only look
 abbrev LooksFirst : Plan → Type 0
@@ -135,9 +134,9 @@ first_change : (site : SiteId) (name : List ℕ) (alone : Bool) (refuses : Heade
     → ((image : ℕ) (h : HeaderView) → LooksFirst (act image h)) → LooksFirst (change site name alone refuses act)
 first_change site name alone refuses act acts =
     at_id LooksFirst ends (change_joining site alone refuses act) (λ image.
-        at_header LooksFirst ends (looked site refuses act image) (λ h.
-            at_unless LooksFirst ends (refuses h) (holding site refuses act image)
-            (at_header LooksFirst ends (owned refuses act image) (λ own. at_unless LooksFirst ends (refuses own) (act image own) (acts image own)))))
+    at_header LooksFirst ends (looked site refuses act image) (λ h.
+    at_unless LooksFirst ends (refuses h) (holding site refuses act image)
+    (at_header LooksFirst ends (owned refuses act image) (λ own. at_unless LooksFirst ends (refuses own) (act image own) (acts image own)))))
 
 no_look_pieces : (pieces : List Piece) (site : SiteId) (image : ℕ) (h : HeaderView) (from : ℕ) (bytes : List ℕ) → NoLook (write_pieces site image h from bytes pieces (applied site image))
 no_look_pieces [] site image h from bytes = tt

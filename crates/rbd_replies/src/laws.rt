@@ -11,7 +11,7 @@ ghost use Rattle.rbd_kinds.specs.declared.reply.Reply.{Reply};
 ghost use Rattle.rbd_requests.specs.Touched.{HasAtMost, bound_of, touched_by};
 ghost use Rattle.rbd_site.specs.Step.{is_fenced};
 ghost use Rattle.rbd_stands.specs.Owned.{IsOwner, changes_image, was_done};
-ghost use Rattle.rbd_world.specs.Run.{Asked, Happening, Operation, Did, Refused, Stopped, asked_by, fence_of, is_among, records_after, replies_to, step_of, steps_of};
+ghost use Rattle.rbd_world.specs.Run.{Asked, Happening, Operation, Did, Refused, Stopped, asked_by, fence_of, is_among, is_on_way, records_after, replies_to, step_of, steps_of};
 ghost use Rattle.rbd_world.specs.Sound.{IsRight, IsSoundWorld, has_ended, line_at};
 ghost use Rattle.rbd_world.specs.World.{WorldView};
 ghost use Rattle.rbd_world.specs.declared.event.Call.{Call};
@@ -66,6 +66,14 @@ pub fn what_changes_no_image_has_no_effect<R: Request>()
     ensures begun { (w : WorldView R) (sound : IsSoundWorld R.stands w) (line : ℕ) (asked : Asked)
         → asked_by line sound.run ≡ Some asked → changes_no_image asked.command ≡ true
         → effects_of (places_of line sound.run) ≡ [] }
+{}
+
+/// A line that is refused on its way to the lock of its image has done nothing to the flat site,
+/// whatever refused it: until it looks at the header under the lock a command only looks.
+pub fn what_is_refused_on_its_way_did_nothing()
+    ensures { (homes : ℕ → Site) (run : List Happening) (o : Operation) (line : ℕ) (reply : Reply)
+        → IsRight homes (Did o (Some reply) ∷ run) → is_on_way line o.by ≡ true
+        → effects_of (places_of line (Did o (Some reply) ∷ run)) ≡ [] }
 {}
 
 /// The operations of the command of a line that has its reply were done at the home of the session

@@ -29,7 +29,7 @@
 //! | `read` | in its last pass each piece's bytes are the flat view's at the place where that piece was read; the extent lies within the view, and the header at both ends of the pass has one generation |
 //! | `close`, `quiesce`, `resume`, `tell` done | no effect at all |
 //! | any refused | no effect at all, unless it is refused by the fence when a part was done, or is a `close`; what refuses it is said of its last answer by `rbd_meaning` |
-//! | any refused on its way to the lock | the same: it is as if its look under the lock had been answered as the way's last operation was |
+//! | any refused on its way to the lock | no effect at all; what refuses it is said as of a look under the lock that was answered as the way's last operation was |
 //! | any to a command that changes no image | no effect at all, also where its line is lost or under way |
 //!
 //! Which instance may change what doesn't depend on replies:
