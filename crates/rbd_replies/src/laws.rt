@@ -10,7 +10,7 @@ ghost use Rattle.rbd_kinds.specs.declared.operation.Op.TheVariants as op;
 ghost use Rattle.rbd_kinds.specs.declared.reply.Reply.{Reply};
 ghost use Rattle.rbd_requests.specs.Touched.{HasAtMost, bound_of, touched_by};
 ghost use Rattle.rbd_site.specs.Step.{is_fenced};
-ghost use Rattle.rbd_stands.specs.Owned.{IsOwner, changes_image, was_done};
+ghost use Rattle.rbd_stands.specs.Owned.{HasLock, changes_image, was_done};
 ghost use Rattle.rbd_world.specs.Run.{Asked, Happening, Operation, Did, Refused, Stopped, asked_by, fence_of, is_among, is_on_way, records_after, replies_to, step_of, steps_of};
 ghost use Rattle.rbd_world.specs.Sound.{IsRight, IsSoundWorld, has_ended, line_at};
 ghost use Rattle.rbd_world.specs.World.{WorldView};
@@ -148,13 +148,14 @@ pub fn fences_are_told()
         → is_fenced (records_after o.site (Did o reply ∷ run)) who ≡ true }
 {}
 
-/// What changes the data, the header, an object map or the journal of an image was done by the
-/// instance that had the lock of the image there, and by no other; and the lock of an instance was
-/// broken only once the instance was fenced at that site.
+/// Who changed the data, the header, an object map or the journal of an image had the lock of the
+/// image there, by its header; and the lock of an instance was broken only once the instance was
+/// fenced at that site. A header is made before anybody can own it, and what is done to its lock, to
+/// those that watch and to what they are told changes no image.
 pub fn changes_are_the_owners()
     ensures owned { (homes : ℕ → Site) (run : List Happening) (o : Operation) (reply : Option Reply) (image : ℕ)
         → IsRight homes (Did o reply ∷ run) → changes_image image o.op ≡ true → was_done o.answer ≡ true
-        → IsOwner ((records_after o.site run).headers image) o.instance }
+        → HasLock image o.instance (records_after o.site run) }
     ensures broken { (homes : ℕ → Site) (run : List Happening) (o : Operation) (reply : Option Reply) (image : ℕ) (owner : Who)
         → IsRight homes (Did o reply ∷ run) → o.op ≡ op.Header image (header.LockBreak owner) → o.answer ≡ answer.Done
         → is_fenced (records_after o.site run) owner ≡ true }
