@@ -28,7 +28,7 @@
 //! | `info`, `snap ls` | size, role and snapshots of the flat image at the place of its look |
 //! | `read` | in its last pass each piece's bytes are the flat view's at the place where that piece was read; the extent lies within the view, and the header at both ends of the pass has one generation |
 //! | `close`, `quiesce`, `resume`, `tell` done | no effect at all |
-//! | any refused | no effect at all, unless it is refused by the fence when a part was done, or is a `close`; what refuses it is said of its last answer by `rbd_meaning` |
+//! | any refused | no effect at all, unless the fence refuses a `create`, a `write` or a `fill` when a part of it was done; what refuses it is said of its last answer by `rbd_meaning` |
 //! | any refused on its way to the lock | no effect at all; what refuses it is said as of a look under the lock that was answered as the way's last operation was |
 //! | any to a command that changes no image | no effect at all, also where its line is lost or under way |
 //!
