@@ -6,9 +6,12 @@ pub mod BothSites
 pub mod Carried
 pub mod Changed
 pub mod Clients
+pub mod Coming
+pub mod Elsewhere
 pub mod FedAlike
 pub mod FirstClients
 pub mod FoundFirst
+pub mod Hearing
 pub mod InLine
 pub mod InOrder
 pub mod KeptAhead
@@ -25,6 +28,7 @@ pub mod Polling
 pub mod Quiet
 pub mod Refusal
 pub mod Rest
+pub mod Restarting
 pub mod Runs
 pub mod Slots
 pub mod Stepping
