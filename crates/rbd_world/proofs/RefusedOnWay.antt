@@ -144,8 +144,11 @@ module _ {R : Type 0} (stands : R → Standing) (homes : ℕ → SiteId) (sessio
   ended : EndsSo o.answer reply
   ended = way_ends a.stage a.site a.image o.answer reply can.word ends
 
+  wants_look : is_look_at a.site (kind_asked (stands r.request).plan) ≡ true
+  wants_look = subst (λ (q : Running R). is_look_at a.site (kind_asked (stands q.request).plan) ≡ true) same waiting.wants
+
   look : LooksAt a.site (stands r.request).plan
-  look = looks_at a.site (stands r.request).plan (subst (λ (q : Running R). is_look_at a.site (kind_asked (stands q.request).plan) ≡ true) same waiting.wants)
+  look = looks_at a.site (stands r.request).plan wants_look
 
   reads_not : is_read command_is ≡ false
   reads_not = by (is_change command_is) refl
@@ -183,6 +186,7 @@ module _ {R : Type 0} (stands : R → Standing) (homes : ℕ → SiteId) (sessio
     led =
         subst (λ i. IsLedTo (homes i) command_is (steps_of r.line run) (stands r.request).plan) (sym session_is)
         (record { start = way.start; plan = way.plan; feds = way.feds; walk = way.walk; given = way.given });
+    wants = subst (λ s. is_look_at s (kind_asked (stands r.request).plan) ≡ true) (sym site_is) wants_look;
     image = look.image;
     meant =
         subst (λ i. IsMeantBy (homes i) command_is (steps_of r.line run ++ look_answered o.site look.image o.answer ∷ []) reply) (sym session_is)
