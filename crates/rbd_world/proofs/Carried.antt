@@ -62,7 +62,7 @@ done_of session slot sites who line labels (Note s image e next) mine = tt
 done_of session slot sites who line labels (Return reply) mine = tt
 done_of session slot sites who line labels (Goto label) mine = tt
 
-oldest_is : (session : ℕ) (watchers : List Instance) (i : Instance) → oldest_of session watchers ≡ Some i → i.session ≡ session
+pub oldest_is : (session : ℕ) (watchers : List Instance) (i : Instance) → oldest_of session watchers ≡ Some i → i.session ≡ session
 oldest_is session [] i is = absurd (no_some i is)
 oldest_is session (w ∷ watchers) i is = by (w.session == session) refl (oldest_of session watchers) (oldest_is session watchers) is
   where
