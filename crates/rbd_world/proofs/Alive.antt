@@ -6,15 +6,16 @@ use Rattle.rbd_kinds.specs.declared.id.Instance.{Instance}
 use Rattle.rbd_kinds.specs.declared.id.SiteId.{SiteId}
 use Rattle.rbd_kinds.specs.declared.operation.Op.{Op}
 use Rattle.rbd_kinds.specs.declared.reply.Reply.{Reply}
+use Rattle.rbd_session.specs.Session.{held_in}
 use Rattle.rbd_session.proofs.Sound.{no_some, some_same}
 use Rattle.rbd_world.specs.Late.{comes_among, comes_in, is_late, is_stopped_among, stops_in}
-use Rattle.rbd_world.specs.Run.{Asked, Doer, Itself, OnWay, House, AfterStop, Happening, Nothing, Waited, Began, Did, Refused, Trimmed, Expired, Heard, Stopped, Restarted, Life, Operation, Sent, asked_by, comes_of, ends, is_among, life_after, or_asked, sent_after, sent_behind}
+use Rattle.rbd_world.specs.Run.{Asked, Doer, Itself, OnWay, House, AfterStop, Happening, Nothing, Waited, Began, Did, Refused, Trimmed, Expired, Heard, Stopped, Restarted, Life, Operation, Sent, asked_by, comes_of, ends, is_among, life_after, or_asked, sent_after, sent_behind, sent_of}
 use Rattle.rbd_world.specs.Sound.{EndsWith, GoesOnBehind, IsDone, IsDue, IsOf, IsOpen, IsRight, IsRunning, has_ended}
 
 -- ---- a line that is open is of a life that runs
 
 module _ (homes : ℕ → SiteId) (line : ℕ) where
-  was_open : (h : Happening) (run : List Happening) → ((before : Option Asked) → or_asked line h before ≡ before) → IsOpen line (h ∷ run) → IsOpen line run
+  abbrev was_open : (h : Happening) (run : List Happening) → ((before : Option Asked) → or_asked line h before ≡ before) → IsOpen line (h ∷ run) → IsOpen line run
   was_open h run asks begun = record {
     asked = begun.asked;
     is = sym (asks (asked_by line run)) ∙ begun.is;
@@ -28,28 +29,28 @@ module _ (homes : ℕ → SiteId) (line : ℕ) where
 
   pub open_is_running : (run : List Happening) → IsRight homes run → (begun : IsOpen line run) → IsRunning begun.asked.who run
   open_is_running [] right begun = absurd (no_some begun.asked begun.is)
-  open_is_running (h ∷ run) (standing, due, right) begun = by h due begun
+  open_is_running (h ∷ run) (standing, due, right) begun = by h due (λ was. open_is_running run right was) begun
     where
-      by : (h : Happening) → IsDue homes h run → (begun : IsOpen line (h ∷ run)) → IsRunning begun.asked.who (h ∷ run)
-      by Nothing due begun = open_is_running run right (was_open Nothing run (λ before. refl) begun)
-      by Waited due begun = open_is_running run right (was_open Waited run (λ before. refl) begun)
-      by (Did o reply) due begun = open_is_running run right (was_open (Did o reply) run (λ before. refl) begun)
-      by (Refused s other reply) due begun = open_is_running run right (was_open (Refused s other reply) run (λ before. refl) begun)
-      by (Trimmed s number image object) due begun = open_is_running run right (was_open (Trimmed s number image object) run (λ before. refl) begun)
-      by (Expired s number image who) due begun = open_is_running run right (was_open (Expired s number image who) run (λ before. refl) begun)
-      by (Heard notice) due begun = open_is_running run right (was_open (Heard notice) run (λ before. refl) begun)
-      by (Began asked slot) due begun = go (asked.line == line) refl begun.is
+      by : (h : Happening) → IsDue homes h run → ((was : IsOpen line run) → IsRunning was.asked.who run) → (begun : IsOpen line (h ∷ run)) → IsRunning begun.asked.who (h ∷ run)
+      by Nothing due before begun = before (was_open Nothing run (λ asked. refl) begun)
+      by Waited due before begun = before (was_open Waited run (λ asked. refl) begun)
+      by (Did o reply) due before begun = before (was_open (Did o reply) run (λ asked. refl) begun)
+      by (Refused s other reply) due before begun = before (was_open (Refused s other reply) run (λ asked. refl) begun)
+      by (Trimmed s number image object) due before begun = before (was_open (Trimmed s number image object) run (λ asked. refl) begun)
+      by (Expired s number image who) due before begun = before (was_open (Expired s number image who) run (λ asked. refl) begun)
+      by (Heard notice) due before begun = before (was_open (Heard notice) run (λ asked. refl) begun)
+      by (Began asked slot) due before begun = go (asked.line == line) refl begun.is
         where
           go : (b : Bool) → (asked.line == line) ≡ b → cond b (Some asked) (asked_by line run) ≡ Some begun.asked → IsRunning begun.asked.who run
           go true own is = subst (λ (a : Asked). IsRunning a.who run) (some_same asked begun.asked is) due.runs
-          go false other is = open_is_running run right (record { asked = begun.asked; is = is; unended = (or_parts (ends line (Began asked slot)) (has_ended line run) begun.unended).1 })
-      by (Stopped who wanted lost) due begun = go (who.session == begun.asked.who.session) refl
+          go false other is = before (record { asked = begun.asked; is = is; unended = (or_parts (ends line (Began asked slot)) (has_ended line run) begun.unended).1 })
+      by (Stopped who wanted lost) due before begun = go (who.session == begun.asked.who.session) refl
         where
           was : IsOpen line run
-          was = was_open (Stopped who wanted lost) run (λ before. refl) begun
+          was = was_open (Stopped who wanted lost) run (λ asked. refl) begun
 
           runs : IsRunning begun.asked.who run
-          runs = open_is_running run right was
+          runs = before was
 
           go : (b : Bool) → (who.session == begun.asked.who.session) ≡ b
               → cond b (record { number = (life_after begun.asked.who.session run).number; runs = false }) (life_after begun.asked.who.session run) ≡ record { number = begun.asked.who.life; runs = true }
@@ -60,10 +61,10 @@ module _ (homes : ℕ → SiteId) (line : ℕ) where
               (true≢false
               (sym (due.all line was (same_life begun.asked.who who (life_after begun.asked.who.session run) (sym session) runs (ap (λ s. life_after s run) (sym session) ∙ due.runs)))
               ∙ (or_parts (ends line (Stopped who wanted lost)) (has_ended line run) begun.unended).0))
-      by (Restarted who) due begun = go (who.session == begun.asked.who.session) refl
+      by (Restarted who) due before begun = go (who.session == begun.asked.who.session) refl
         where
           runs : IsRunning begun.asked.who run
-          runs = open_is_running run right (was_open (Restarted who) run (λ before. refl) begun)
+          runs = before (was_open (Restarted who) run (λ asked. refl) begun)
 
           go : (b : Bool) → (who.session == begun.asked.who.session) ≡ b
               → cond b (record { number = who.life; runs = true }) (life_after begun.asked.who.session run) ≡ record { number = begun.asked.who.life; runs = true }
@@ -105,7 +106,7 @@ only_lives_that_run_act homes o reply run (standing, due, right) itself = by o.b
 module _ (homes : ℕ → SiteId) (session slot : ℕ) where
   -- nothing is left to come, and no stop leaves anything
   none_left : (h : Happening) (before : Option Sent) → before ≡ None → stops_in session h ≡ false → sent_behind session slot h before ≡ None
-  none_left (Stopped who wanted lost) before none stays = ap (λ b. cond b _ before) stays ∙ none
+  none_left (Stopped who wanted lost) before none stays = ap (λ b. cond b (sent_of who (held_in slot wanted)) before) stays ∙ none
   none_left (Did o reply) before none stays = by (comes_of session slot o.instance o.by)
     where
       by : (b : Bool) → cond b None before ≡ None
