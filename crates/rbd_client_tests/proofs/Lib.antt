@@ -1,2 +1,1 @@
-mod Brought
 mod Drops

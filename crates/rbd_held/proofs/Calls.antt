@@ -2,6 +2,7 @@
 use Rattle.std.proofs.Common.{◌≡◌, ◌≢◌, ◌⊎◌, inl, inr, ℕ, [], ◌∷◌, sym, ap, ◌∙◌, subst, true≢false, None}
 use Rattle.std.proofs.lemmas.Bool.{cases_eq}
 use Rattle.rbd_client.specs.declared.slot_state.Quiescing.{Quiescing}
+use Rattle.rbd_client.specs.declared.slot_state.Quiescing.TheVariants as quiescing
 use Rattle.rbd_client.specs.declared.slot_state.SlotState.{SlotState}
 use Rattle.rbd_client.specs.declared.slot_state.Way.{Way}
 use Rattle.rbd_client.specs.declared.slot_state.Way.TheVariants as way
@@ -49,6 +50,11 @@ module _ {R : Type 0} (site : SiteId) (r : Records) (me : Instance) where
         by : (x : ℕ) → (x ≡ slot) ⊎ (x ≢ slot) → IsWayTrue site r me (state_in x d.slots).way
         by x (inl same) = no_way site r me (state_in x d.slots).way (ap (λ n. (state_in n d.slots).way) same ∙ ap (λ (s : SlotState). s.way) new)
         by x (inr differ) = subst (λ (s : SlotState). IsWayTrue site r me s.way) (sym (others x differ)) (t.ways x)
+
+    -- a request whose slot is free again
+    pub freed_is_true : (stands : R → Standing) → IsSoundClient stands d → (slot : ℕ) → held_in slot d.session.slots ≡ None
+        → ((other : ℕ) → other ≢ slot → state_in other d.slots ≡ state_in other c.slots) → d.locks ≡ c.locks → IsTrueOf site r me knows d
+    freed_is_true stands sound slot free others locks = submitted_is_true slot quiescing.Leaves (sound.free slot free) others locks
 
     pub readied_is_true : d.slots ≡ c.slots → AreStatesAlike c.locks d.locks → IsTrueOf site r me knows d
     readied_is_true slots locks =

@@ -32,6 +32,9 @@ no_header releasing.Dropping site image there other = by (is_at there other site
     by true = refl
     by false = refl
 
+pub release_knows_no_header : (r : Release) (there : SiteId) (image : ℕ) → known_header (known_to_release r) there image ≡ None
+release_knows_no_header r there image = no_header r.stage r.site r.image there image
+
 drew_nothing : (s : ReleaseStage) (site : SiteId) (image : ℕ) (there : SiteId) (other : ℕ) → is_drawn (known_to_drop s site image).drawn there other ≡ false
 drew_nothing releasing.Telling site image there other = refl
 drew_nothing releasing.Dropping site image there other = refl

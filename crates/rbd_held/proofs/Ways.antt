@@ -24,7 +24,7 @@ use Rattle.rbd_owner.specs.declared.acquire.Acquire.{Acquire}
 use Rattle.rbd_owner.specs.declared.acquire.Stage.{Stage}
 use Rattle.rbd_owner.specs.declared.acquire.Stage.TheVariants as stage
 use Rattle.rbd_rely.specs.Beside.{AreBeside, MayLook}
-use Rattle.rbd_rely.specs.Truth.{IsStill, IsTrueAt, header_of_own}
+use Rattle.rbd_rely.specs.Truth.{IsStill, IsTrueAt, header_of_own, known_header}
 use Rattle.rbd_site.specs.Records.{Records}
 use Rattle.rbd_site.specs.Step.{after, answer_to, is_fenced}
 use Rattle.rbd_stands.proofs.Locks.{same_is}
@@ -59,6 +59,9 @@ way_looks site r me you k j a = looks_at site r me you k j a.stage a.image
 owns_nothing : (s : Stage) (site there : SiteId) (image : ℕ) → own_of (known_at s site).owns there image ≡ None
 owns_nothing (stage.Breaking owner) site there image = refl
 owns_nothing _ site there image = refl
+
+pub way_knows_no_header : (a : Acquire) (there : SiteId) (image : ℕ) → known_header (known_on_way a) there image ≡ None
+way_knows_no_header a there image = ap header_of_own (owns_nothing a.stage a.site there image)
 
 drew_nothing : (s : Stage) (site there : SiteId) (image : ℕ) → is_drawn (known_at s site).drawn there image ≡ false
 drew_nothing (stage.Breaking owner) site there image = refl

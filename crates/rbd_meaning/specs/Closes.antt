@@ -18,7 +18,7 @@ use Rattle.rbd_machine.specs.Refused.{refuses_none, never, IsRefused}
 
 -- ---- operations that were done
 
--- The lock was to be dropped. It was, by Done, and it is another's or nobody's by Changed.
+-- The lock was to be dropped. Done says that it was, and Changed that it is another's, or nobody's.
 abbrev pub lock_dropped : SiteId → (image : ℕ) → Answer → Answered
 lock_dropped site image a = record { site = site; op = op.Header image header.LockDrop; answer = a }
 

@@ -32,7 +32,7 @@ ComesLate (command.Fill image at len byte) = by_fence
 ComesLate (command.Close image) = gone_or_fenced
 ComesLate _ = never
 
--- It drops a lock, and what it does behind that may be refused by an image that is gone.
+-- It drops a lock, and what comes behind that may find the image gone.
 abbrev pub lets_go : Command → Bool
 lets_go (command.Close image) = true
 lets_go _ = false

@@ -7,12 +7,14 @@ use Rattle.rbd_kinds.specs.declared.id.SiteId.{SiteId}
 use Rattle.rbd_kinds.specs.declared.layout.Extent.{Extent}
 use Rattle.rbd_kinds.specs.declared.operation.Op.{Op}
 use Rattle.rbd_kinds.specs.declared.answer.Answer.{Answer}
+use Rattle.rbd_kinds.specs.declared.answer.Answer.TheVariants as answer
 use Rattle.rbd_kinds.specs.declared.reply.Reply.{Reply}
 use Rattle.rbd_kinds.specs.declared.reply.Reply.TheVariants as reply
 use Rattle.rbd_layout.specs.declared.types.Piece.{Piece}
 use Rattle.rbd_machine.specs.About.{AreOfImage, AreOwn}
 use Rattle.rbd_machine.specs.Passes.{joined}
 use Rattle.rbd_machine.specs.Path.{Answered}
+use Rattle.rbd_meaning.specs.Closes.{ClosesBy}
 use Rattle.rbd_meaning.specs.Meant.{IsMeantBy}
 use Rattle.rbd_meaning.specs.Reads.{AreRead, IsPassTo, SeeOthers}
 use Rattle.rbd_meaning.specs.Writes.{WritesWhole, pieces_written}
@@ -63,6 +65,12 @@ module _ (site : SiteId) where
     passes_at [] see = tt
     passes_at (pass ∷ passes) (sees, see) = at_both pass (joined passes) (pass_at pass sees.closing sees.pass) (passes_at passes see)
 
+  -- what a close does behind the drop of the lock
+  closing_at : (image : ℕ) (dropped : Answer) (behind : List Answered) → ClosesBy site image dropped behind → AreAt site behind
+  closing_at image answer.Done behind are = subst (AreAt site) (sym are) (refl, (refl, tt))
+  closing_at image answer.Changed behind are = subst (AreAt site) (sym are) (refl, tt)
+  closing_at image _ behind are = absurd are
+
   -- all commands
   meant_at : (c : Command) (steps : List Answered) (r : Reply) → IsMeantBy site c steps r → AreAt site steps
   meant_at (command.Create name size shape) steps reply.Done (plain, makes) = subst (AreAt site) (sym makes.made.are) (refl, (refl, tt))
@@ -87,7 +95,19 @@ module _ (site : SiteId) where
   meant_at (command.SnapCreate name snap) steps (reply.Refused x) refused = own_at _ steps refused.own
   meant_at (command.SnapRemove name snap) steps reply.Done removes = subst (AreAt site) (sym removes.are) (refl, (refl, (refl, (refl, tt))))
   meant_at (command.SnapRemove name snap) steps (reply.Refused x) refused = own_at _ steps refused.own
+  meant_at (command.Close name) steps reply.Done closes = subst (AreAt site) (sym closes.are) (refl, (refl, closing_at closes.image closes.dropped closes.behind closes.closes))
+  meant_at (command.Close name) steps (reply.Refused x) refused = own_at _ steps refused.own
+  meant_at (command.Quiesce name) steps reply.Done looks = subst (AreAt site) (sym looks.are) (refl, (refl, (refl, tt)))
+  meant_at (command.Quiesce name) steps (reply.Refused x) refused = own_at _ steps refused.own
+  meant_at (command.Resume name) steps reply.Done finds = subst (AreAt site) (sym finds.are) (refl, tt)
+  meant_at (command.Resume name) steps (reply.Refused x) refused = own_at _ steps refused.own
+  meant_at (command.Tell name bytes) steps reply.Done says = subst (AreAt site) (sym says.are) (refl, (refl, tt))
+  meant_at (command.Tell name bytes) steps (reply.Refused x) refused = own_at _ steps refused.own
   meant_at _ steps _ meant = absurd meant
+
+  front_at : (one two : List Answered) → AreAt site (one ++ two) → AreAt site one
+  front_at [] two are = tt
+  front_at (step ∷ one) two (first, are) = (first, front_at one two are)
 
   places_at : (places : List Placed) → AreAt site (map step_at places) → AreDoneAt site places
   places_at [] are = tt
@@ -95,3 +115,7 @@ module _ (site : SiteId) where
 
   pub meant_at_places : (c : Command) (places : List Placed) (r : Reply) → IsMeantBy site c (map step_at places) r → AreDoneAt site places
   meant_at_places c places r meant = places_at places (meant_at c (map step_at places) r meant)
+
+  -- also where it is meant by these and others behind them
+  pub meant_before_places : (c : Command) (places : List Placed) (more : List Answered) (r : Reply) → IsMeantBy site c (map step_at places ++ more) r → AreDoneAt site places
+  meant_before_places c places more r meant = places_at places (front_at (map step_at places) more (meant_at c (map step_at places ++ more) r meant))

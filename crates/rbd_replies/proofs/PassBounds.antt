@@ -19,7 +19,7 @@ use Rattle.rbd_meaning.specs.Reads.{AreRead, SeeOthers, SeesAnother}
 use Rattle.rbd_request.proofs.Passes.{last_pass}
 use Rattle.rbd_request.specs.Read.{IsReadOf, pass, read_labels}
 use Rattle.rbd_requests.proofs.Bounded.{command_is_bounded}
-use Rattle.rbd_requests.specs.Served.{IsPlanFor, Writes, Reads, Creates, Lists, Snaps}
+use Rattle.rbd_requests.specs.Served.{IsPlanFor, Writes, Reads, Creates, Lists, Snaps, Closes}
 use Rattle.rbd_requests.specs.Touched.{AsksAtMost, HasAtMost, bound_of, touched_by}
 use Rattle.rbd_replies.specs.Bounds.{HaveAtMost, KeepsBound, KeepsPasses}
 use Rattle.rbd_request.proofs.Meant.{given_behind}
@@ -98,6 +98,7 @@ unlabelled home c s (Reads is) other = absurd (other is)
 unlabelled home c s (Creates is at_plan) other = at_plan
 unlabelled home c s (Lists is at_plan) other = at_plan ∙ ap (λ (x : Standing). without_labels x.plan) (sym at_plan)
 unlabelled home c s (Snaps is at_plan) other = at_plan ∙ ap (λ (x : Standing). without_labels x.plan) (sym at_plan)
+unlabelled home c s (Closes is at_plan) other = at_plan ∙ ap (λ (x : Standing). without_labels x.plan) (sym at_plan)
 
 is_that_read : (home : SiteId) (name : List ℕ) (snap : Option (List ℕ)) (at len : ℕ) (s : Standing) → IsPlanFor home (command.Read name snap at len) s → IsReadOf home (command.Read name snap at len) s
 is_that_read home name snap at len s (Writes is at_plan) = cc
@@ -105,6 +106,7 @@ is_that_read home name snap at len s (Reads is) = is
 is_that_read home name snap at len s (Creates is at_plan) = absurd is
 is_that_read home name snap at len s (Lists is at_plan) = cc
 is_that_read home name snap at len s (Snaps is at_plan) = cc
+is_that_read home name snap at len s (Closes is at_plan) = cc
 
 module _ (home : SiteId) (c : Command) (s : Standing) (plan : IsPlanFor home c s) (most : ℕ) (few : HasAtMost most (touched_by c))
     (feds : List Fed) (steps : List Answered) (last : Plan) (given : AreGiven steps) (walk : IsWalk s.labels s.plan feds steps last) where

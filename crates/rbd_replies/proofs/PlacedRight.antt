@@ -1,9 +1,9 @@
 -- Each operation of a line in a run that is right: at its place the run is right, its site stands
 -- for its flat site, and what was done is what the site does there.
-use Rattle.std.proofs.Common.{ℕ, ◌==◌, cond, Bool, true, false, List, [], ◌∷◌, ◌++◌, Option, Some, None}
+use Rattle.std.proofs.Common.{ℕ, cond, Bool, true, false, List, [], ◌∷◌, ◌++◌, Option, Some, None}
 use Rattle.rbd_kinds.specs.declared.id.SiteId.{SiteId}
 use Rattle.rbd_kinds.specs.declared.reply.Reply.{Reply}
-use Rattle.rbd_world.specs.Run.{Happening, Nothing, Waited, Began, Did, Refused, Trimmed, Operation}
+use Rattle.rbd_world.specs.Run.{Happening, Nothing, Waited, Began, Did, Refused, Trimmed, Expired, Heard, Stopped, Restarted, Operation, is_own}
 use Rattle.rbd_world.specs.Sound.{AreStanding, IsDone, IsDue, IsRight, IsStanding}
 use Rattle.rbd_replies.specs.Places.{Placed, places_in, places_of}
 
@@ -41,14 +41,18 @@ done_of homes o (Some reply) run due = due.0
 right_in : (homes : ℕ → SiteId) (line : ℕ) (h : Happening) (run : List Happening) → IsDue homes h run → IsRight homes run → ArePlacedRight homes (places_in line h run)
 right_in homes line Nothing run due right = tt
 right_in homes line Waited run due right = tt
-right_in homes line (Began asked who slot) run due right = tt
-right_in homes line (Did o reply) run due right = go (o.line == line)
+right_in homes line (Began asked slot) run due right = tt
+right_in homes line (Did o reply) run due right = go (is_own line o.by)
   where
     go : (b : Bool) → ArePlacedRight homes (cond b (record { before = run; done = o } ∷ []) [])
     go true = (record { right = right; standing = standing_at homes run right o.site; is = done_of homes o reply run due }, tt)
     go false = tt
 right_in homes line (Refused s other reply) run due right = tt
 right_in homes line (Trimmed s number image object) run due right = tt
+right_in homes line (Expired s number image who) run due right = tt
+right_in homes line (Heard notice) run due right = tt
+right_in homes line (Stopped who wanted lost) run due right = tt
+right_in homes line (Restarted who) run due right = tt
 
 pub places_right : (homes : ℕ → SiteId) (line : ℕ) (run : List Happening) → IsRight homes run → ArePlacedRight homes (places_of line run)
 places_right homes line [] right = tt

@@ -14,12 +14,12 @@ use Rattle.rbd_machine.specs.Permits.{Permits, PermitsOnHeader}
 use Rattle.rbd_rely.proofs.Kept.{IsThere}
 use Rattle.rbd_site.specs.HeaderStep.{header_after}
 use Rattle.rbd_site.specs.Laws.{is_on_lock}
-use Rattle.rbd_site.specs.Log.{trimmed}
+use Rattle.rbd_site.specs.Log.{expired, trimmed}
 use Rattle.rbd_site.specs.Records.{Records}
 use Rattle.rbd_site.specs.Step.{after, after_served}
 use Rattle.rbd_site.proofs.GenerationLemmas.{generation_lasts, generation_same, lock_alone}
 use Rattle.rbd_site.proofs.StepLemmas.{where_fenced}
-use Rattle.rbd_world.specs.Run.{Happening, Nothing, Waited, Began, Did, Refused, Trimmed, records_after, records_behind}
+use Rattle.rbd_world.specs.Run.{Happening, Nothing, Waited, Began, Did, Refused, Trimmed, Expired, Heard, Stopped, Restarted, records_after, records_behind}
 use Rattle.rbd_world.specs.Sound.{IsDone, IsDue, IsRight}
 use Rattle.rbd_replies.proofs.PlacedRight.{done_of}
 use Rattle.rbd_replies.proofs.ReadOrder.{GoesOn}
@@ -114,7 +114,7 @@ module _ (homes : ℕ → SiteId) (s : SiteId) (image : ℕ) where
       → IsKept old ((records_behind s (records_after s run) h).headers image)
   kept_behind Nothing run due old is = kept_as_it_is old _ is
   kept_behind Waited run due old is = kept_as_it_is old _ is
-  kept_behind (Began asked who slot) run due old is = kept_as_it_is old _ is
+  kept_behind (Began asked slot) run due old is = kept_as_it_is old _ is
   kept_behind (Refused t line reply) run due old is = kept_as_it_is old _ is
   kept_behind (Did o reply) run due old is = by (same_site o.site s)
     where
@@ -129,6 +129,14 @@ module _ (homes : ℕ → SiteId) (s : SiteId) (image : ℕ) where
       by : (b : Bool) → IsKept old ((cond b (trimmed other place (records_after s run)) (records_after s run)).headers image)
       by true = kept_as_it_is old ((records_after s run).headers image) is
       by false = kept_as_it_is old ((records_after s run).headers image) is
+  kept_behind (Expired t number other who) run due old is = by (same_site t s)
+    where
+      by : (b : Bool) → IsKept old ((cond b (expired other who (records_after s run)) (records_after s run)).headers image)
+      by true = kept_as_it_is old ((records_after s run).headers image) is
+      by false = kept_as_it_is old ((records_after s run).headers image) is
+  kept_behind (Heard notice) run due old is = kept_as_it_is old _ is
+  kept_behind (Stopped who wanted lost) run due old is = kept_as_it_is old _ is
+  kept_behind (Restarted who) run due old is = kept_as_it_is old _ is
 
   kept_since : (since run : List Happening) → IsRight homes (since ++ run) → (old : HeaderView) → (records_after s run).headers image ≡ Some old
       → IsKept old ((records_after s (since ++ run)).headers image)

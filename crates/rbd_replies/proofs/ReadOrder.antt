@@ -1,6 +1,6 @@
 -- The places of a line stand in order: what was done before one was also done before a later one.
-use Rattle.std.proofs.Common.{◌≡◌, ℕ, ◌==◌, cond, Bool, true, false, List, [], ◌∷◌, ◌++◌, refl, ap}
-use Rattle.rbd_world.specs.Run.{Happening, Nothing, Waited, Began, Did, Refused, Trimmed}
+use Rattle.std.proofs.Common.{◌≡◌, ℕ, cond, Bool, true, false, List, [], ◌∷◌, ◌++◌, refl, ap}
+use Rattle.rbd_world.specs.Run.{Happening, Nothing, Waited, Began, Did, Refused, Trimmed, Expired, Heard, Stopped, Restarted, is_own}
 use Rattle.rbd_replies.specs.Places.{Placed, places_in, places_of}
 
 -- a run goes on from an earlier one
@@ -55,10 +55,14 @@ none_more (p ∷ places) are = (behind places are.0, none_more places are.1)
 one_in : (line : ℕ) (h : Happening) (run : List Happening) → AreIn (h ∷ run) (places_in line h run)
 one_in line Nothing run = tt
 one_in line Waited run = tt
-one_in line (Began asked who slot) run = tt
+one_in line (Began asked slot) run = tt
 one_in line (Refused s other reply) run = tt
 one_in line (Trimmed s number image object) run = tt
-one_in line (Did o reply) run = by (o.line == line)
+one_in line (Expired s number image who) run = tt
+one_in line (Heard notice) run = tt
+one_in line (Stopped who wanted lost) run = tt
+one_in line (Restarted who) run = tt
+one_in line (Did o reply) run = by (is_own line o.by)
   where
     by : (b : Bool) → AreIn (Did o reply ∷ run) (cond b (record { before = run; done = o } ∷ []) [])
     by true = (one_more (Did o reply) run run (at_once run), tt)
@@ -71,10 +75,14 @@ all_in line (h ∷ run) = in_both (h ∷ run) (places_of line run) (places_in li
 ordered_then : (line : ℕ) (h : Happening) (run : List Happening) → AreOrdered (places_of line run) → AreOrdered (places_of line run ++ places_in line h run)
 ordered_then line Nothing run are = none_more (places_of line run) are
 ordered_then line Waited run are = none_more (places_of line run) are
-ordered_then line (Began asked who slot) run are = none_more (places_of line run) are
+ordered_then line (Began asked slot) run are = none_more (places_of line run) are
 ordered_then line (Refused s other reply) run are = none_more (places_of line run) are
 ordered_then line (Trimmed s number image object) run are = none_more (places_of line run) are
-ordered_then line (Did o reply) run are = by (o.line == line)
+ordered_then line (Expired s number image who) run are = none_more (places_of line run) are
+ordered_then line (Heard notice) run are = none_more (places_of line run) are
+ordered_then line (Stopped who wanted lost) run are = none_more (places_of line run) are
+ordered_then line (Restarted who) run are = none_more (places_of line run) are
+ordered_then line (Did o reply) run are = by (is_own line o.by)
   where
     by : (b : Bool) → AreOrdered (places_of line run ++ cond b (record { before = run; done = o } ∷ []) [])
     by true = last_ordered (record { before = run; done = o }) (places_of line run) are (all_in line run)

@@ -13,13 +13,13 @@ use Rattle.rbd_kinds.specs.Header.{snap_named}
 use Rattle.rbd_machine.specs.Knowledge.{Knowledge, same_site}
 use Rattle.rbd_machine.specs.Permits.{Permits, PermitsOnHeader}
 use Rattle.rbd_site.specs.HeaderStep.{header_after, is_owner, where_made}
-use Rattle.rbd_site.specs.Log.{trimmed}
+use Rattle.rbd_site.specs.Log.{expired, trimmed}
 use Rattle.rbd_site.specs.Records.{Records}
 use Rattle.rbd_site.specs.Step.{after, after_served}
 use Rattle.rbd_site.proofs.StepLemmas.{where_fenced}
 use Rattle.rbd_stands.specs.View.{EachView, Shape}
 use Rattle.rbd_stands.proofs.Views.{each_added, each_removed}
-use Rattle.rbd_world.specs.Run.{Happening, Nothing, Waited, Began, Did, Refused, Trimmed, records_after, records_behind}
+use Rattle.rbd_world.specs.Run.{Happening, Nothing, Waited, Began, Did, Refused, Trimmed, Expired, Heard, Stopped, Restarted, records_after, records_behind}
 use Rattle.rbd_world.specs.Sound.{IsDone, IsDue, IsRight}
 use Rattle.rbd_replies.proofs.PlacedRight.{done_of}
 
@@ -100,7 +100,7 @@ module _ (homes : ℕ → SiteId) (s : SiteId) where
   views_behind : (h : Happening) (run : List Happening) → IsDue homes h run → AreAloneIn (records_after s run) → AreAloneIn (records_behind s (records_after s run) h)
   views_behind Nothing run due was = was
   views_behind Waited run due was = was
-  views_behind (Began asked who slot) run due was = was
+  views_behind (Began asked slot) run due was = was
   views_behind (Refused t line reply) run due was = was
   views_behind (Did o reply) run due was = by (same_site o.site s)
     where
@@ -115,6 +115,14 @@ module _ (homes : ℕ → SiteId) (s : SiteId) where
       by : (b : Bool) → AreAloneIn (cond b (trimmed image object (records_after s run)) (records_after s run))
       by true = was
       by false = was
+  views_behind (Expired t number image who) run due was = by (same_site t s)
+    where
+      by : (b : Bool) → AreAloneIn (cond b (expired image who (records_after s run)) (records_after s run))
+      by true = was
+      by false = was
+  views_behind (Heard notice) run due was = was
+  views_behind (Stopped who wanted lost) run due was = was
+  views_behind (Restarted who) run due was = was
 
   pub views_alone : (run : List Happening) → IsRight homes run → AreAloneIn (records_after s run)
   views_alone [] right = λ image h is. absurd (none-some h is)

@@ -23,7 +23,7 @@ use Rattle.rbd_replies.proofs.PlacesTold.{effect_there, records_at}
 use Rattle.rbd_replies.specs.Places.{Placed, effects_of}
 
 -- what only looks has no effect
-look_does_nothing : (known : Option HeaderView) (o : Op) (a : Answer) → only_looks o ≡ true → effect_of_op known o a ≡ None
+pub look_does_nothing : (known : Option HeaderView) (o : Op) (a : Answer) → only_looks o ≡ true → effect_of_op known o a ≡ None
 look_does_nothing known (op.Directory (directory.Find name)) a look = refl
 look_does_nothing known (op.Directory directory.List) a look = refl
 look_does_nothing known (op.Children (child.List parent snap)) a look = refl

@@ -1,23 +1,27 @@
 -- A reply that is meant by the operations of its line says what the flat-copy machine has at their
 -- places: one line for each command.
-use Rattle.std.proofs.Common.{◌≡◌, ℕ, List, Some, map, replicate, sym, subst, ◌∙◌}
+use Rattle.std.proofs.Common.{◌≡◌, ◌⊎◌, inl, inr, ℕ, true, List, [], ◌∷◌, ◌++◌, Some, map, replicate, sym, subst, ◌∙◌}
 use Rattle.std.proofs.lemmas.Option.{same_Some}
 use Rattle.rbd_commands.specs.declared.command.Command.{Command}
 use Rattle.rbd_commands.specs.declared.command.Command.TheVariants as command
+use Rattle.rbd_commands.specs.declared.refusal.Refusal.{Refusal}
 use Rattle.rbd_kinds.specs.declared.id.SiteId.{SiteId}
 use Rattle.rbd_kinds.specs.declared.reply.Reply.{Reply}
 use Rattle.rbd_kinds.specs.declared.reply.Reply.TheVariants as reply
+use Rattle.rbd_machine.specs.Path.{Answered}
 use Rattle.rbd_meaning.proofs.Undone.{meant_changes_nothing}
 use Rattle.rbd_meaning.specs.Meant.{IsMeantBy}
-use Rattle.rbd_world.specs.Run.{Asked, Happening, asked_by}
-use Rattle.rbd_world.specs.Sound.{IsReplyMeant, IsRight}
+use Rattle.rbd_world.specs.Run.{Asked, Happening, Did, Operation, asked_by, is_for}
+use Rattle.rbd_world.specs.Sound.{IsRefusedOnWay, IsReplyMeant, IsRight, look_answered}
 use Rattle.rbd_replies.proofs.ChangesDone.{create_creates, snap_create_takes, snap_remove_removes}
 use Rattle.rbd_replies.proofs.ListingsTold.{info_shows, lists_names, snaps_show}
+use Rattle.rbd_replies.proofs.OnWay.{EndsOnWay, ends_so, nothing_before, places_on_way, refused_there}
 use Rattle.rbd_replies.proofs.PlacedRight.{ArePlacedRight, places_right}
 use Rattle.rbd_replies.proofs.Places.{step_at, steps_at_places}
 use Rattle.rbd_replies.proofs.ReadOrder.{AreOrdered, places_ordered}
 use Rattle.rbd_replies.proofs.ReadPass.{shows_at_places}
 use Rattle.rbd_replies.proofs.RefusalsNothing.{nothing_at_places}
+use Rattle.rbd_replies.proofs.Silent.{close_does_nothing, quiesce_does_nothing, resume_does_nothing, tell_does_nothing}
 use Rattle.rbd_replies.proofs.WriteWhole.{writes_at_places}
 use Rattle.rbd_replies.specs.Places.{Placed, places_of}
 use Rattle.rbd_replies.specs.Replies.{IsReplyOf}
@@ -36,6 +40,10 @@ reply_of homes home places right ordered (command.Read name snap at len) (reply.
 reply_of homes home places right ordered command.List (reply.Names names) meant = lists_names homes places right home names meant
 reply_of homes home places right ordered (command.Info name) (reply.Info h) meant = info_shows homes places right home name h meant
 reply_of homes home places right ordered (command.SnapList name) (reply.Snaps snaps) meant = snaps_show homes places right home name snaps meant
+reply_of homes home places right ordered (command.Close name) reply.Done meant = close_does_nothing homes places right home name meant
+reply_of homes home places right ordered (command.Quiesce name) reply.Done meant = quiesce_does_nothing homes places right home name meant
+reply_of homes home places right ordered (command.Resume name) reply.Done meant = resume_does_nothing homes places right home name meant
+reply_of homes home places right ordered (command.Tell name bytes) reply.Done meant = tell_does_nothing homes places right home name bytes meant
 reply_of homes home places right ordered (command.Create name size shape) _ (plain, meant) = absurd meant
 reply_of homes home places right ordered _ _ meant = absurd meant
 
@@ -44,5 +52,35 @@ pub reply_at_places : (homes : ℕ → SiteId) (line : ℕ) (r : Reply) (before 
     → IsReplyMeant homes line r before run → asked_by line before ≡ Some asked → IsReplyOf asked.command r (places_of line run)
 reply_at_places homes line r before run asked right is asks =
     subst (λ (a : Asked). IsReplyOf a.command r (places_of line run)) (same_Some is.begun.asked asked (sym is.begun.is ∙ asks))
-    (reply_of homes (homes is.begun.asked.session) (places_of line run) (places_right homes line run right) (places_ordered line run) is.begun.asked.command r
-    (subst (λ steps. IsMeantBy (homes is.begun.asked.session) is.begun.asked.command steps r) (sym (steps_at_places line run)) is.meant))
+    (reply_of homes (homes is.begun.asked.who.session) (places_of line run) (places_right homes line run right) (places_ordered line run) is.begun.asked.command r
+    (subst (λ steps. IsMeantBy (homes is.begun.asked.who.session) is.begun.asked.command steps r) (sym (steps_at_places line run)) is.meant))
+
+-- ---- a line that is refused on its way to the lock
+
+-- it is refused as behind a look more
+refused_before : (homes : ℕ → SiteId) (home : SiteId) (c : Command) (r : Reply) (x : Refusal) (more : List Answered) (places : List Placed) → ArePlacedRight homes places
+    → r ≡ reply.Refused x → IsMeantBy home c (map step_at places ++ more) r → IsReplyOf c r places
+refused_before homes home c r x more places right is meant =
+    let steps : List Answered = map step_at places in
+    let refused : IsMeantBy home c (steps ++ more) (reply.Refused x) = subst (IsMeantBy home c (steps ++ more)) is meant in
+    subst (λ (told : Reply). IsReplyOf c told places) (sym is)
+    (λ early. nothing_at_places homes places right (nothing_before steps more (meant_changes_nothing home c (steps ++ more) x refused early)))
+
+refused_on_way : (homes : ℕ → SiteId) (line : ℕ) (o : Operation) (r : Reply) (run : List Happening) (asked : Asked) → IsRight homes run
+    → IsRefusedOnWay homes line r o run → asked_by line run ≡ Some asked → IsReplyOf asked.command r (places_of line run)
+refused_on_way homes line o r run asked right is asks =
+    let told = refused_there o.answer r is.refuses in
+    let look : List Answered = look_answered o.site is.image o.answer ∷ [] in
+    subst (λ (a : Asked). IsReplyOf a.command r (places_of line run)) (same_Some is.begun.asked asked (sym is.begun.is ∙ asks))
+    (refused_before homes (homes is.begun.asked.who.session) is.begun.asked.command r told.reason look (places_of line run) (places_right homes line run right) told.is
+    (subst (λ steps. IsMeantBy (homes is.begun.asked.who.session) is.begun.asked.command (steps ++ look) r) (sym (steps_at_places line run)) is.meant))
+
+-- ---- any that ends with an operation
+
+pub reply_behind : (homes : ℕ → SiteId) (line : ℕ) (o : Operation) (r : Reply) (run : List Happening) (asked : Asked) → IsRight homes (Did o (Some r) ∷ run)
+    → is_for line o.by ≡ true → asked_by line run ≡ Some asked → IsReplyOf asked.command r (places_of line (Did o (Some r) ∷ run))
+reply_behind homes line o r run asked right mine asks = by (ends_so homes line o r run mine right.1.1)
+  where
+    by : (IsReplyMeant homes line r run (Did o (Some r) ∷ run)) ⊎ (EndsOnWay homes line r o run o.by) → IsReplyOf asked.command r (places_of line (Did o (Some r) ∷ run))
+    by (inl is) = reply_at_places homes line r run (Did o (Some r) ∷ run) asked right is asks
+    by (inr way) = subst (IsReplyOf asked.command r) (sym (places_on_way line o (Some r) run way.apart)) (refused_on_way homes line o r run asked right.2 way.is asks)

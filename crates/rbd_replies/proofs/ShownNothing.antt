@@ -1,5 +1,5 @@
 -- What only shows only looks, so it has no effect.
-use Rattle.std.proofs.Common.{◌≡◌, ℕ, inl, List, [], true, Some, refl, ap, sym, subst, ◌∙◌}
+use Rattle.std.proofs.Common.{◌≡◌, ◌⊎◌, ℕ, inl, inr, List, [], ◌∷◌, ◌++◌, true, Some, refl, ap, sym, subst, ◌∙◌}
 use Rattle.std.proofs.lemmas.Option.{same_Some}
 use Rattle.rbd_commands.specs.declared.command.Command.{Command}
 use Rattle.rbd_commands.specs.declared.command.Command.TheVariants as command
@@ -12,8 +12,9 @@ use Rattle.rbd_machine.specs.Path.{Answered}
 use Rattle.rbd_meaning.proofs.Undone.{meant_changes_nothing, nothing_after, pass_changes_nothing, passes_change_nothing}
 use Rattle.rbd_meaning.specs.Meant.{IsMeantBy}
 use Rattle.rbd_meaning.specs.Undone.{ChangeNothing}
-use Rattle.rbd_world.specs.Run.{Asked, Happening, asked_by, steps_of}
-use Rattle.rbd_world.specs.Sound.{IsReplyMeant, IsRight}
+use Rattle.rbd_world.specs.Run.{Asked, Happening, Did, Operation, asked_by, is_for, steps_of}
+use Rattle.rbd_world.specs.Sound.{IsRefusedOnWay, IsReplyMeant, IsRight, look_answered}
+use Rattle.rbd_replies.proofs.OnWay.{EndsOnWay, ends_so, nothing_before, places_on_way}
 use Rattle.rbd_replies.proofs.PlacedRight.{places_right}
 use Rattle.rbd_replies.proofs.Places.{steps_at_places}
 use Rattle.rbd_replies.proofs.RefusalsNothing.{nothing_at_places}
@@ -45,5 +46,24 @@ pub shown_at_places : (homes : ℕ → SiteId) (line : ℕ) (r : Reply) (before 
 shown_at_places homes line r before run asked right is asks shows =
     nothing_at_places homes (places_of line run) (places_right homes line run right)
     (subst ChangeNothing (sym (steps_at_places line run))
-    (shown_looks (homes is.begun.asked.session) is.begun.asked.command (steps_of line run) r
+    (shown_looks (homes is.begun.asked.who.session) is.begun.asked.command (steps_of line run) r
     (ap (λ (a : Asked). only_shows a.command) (same_Some is.begun.asked asked (sym is.begun.is ∙ asks)) ∙ shows) is.meant))
+
+-- where it is refused on its way to a lock
+shown_on_way : (homes : ℕ → SiteId) (line : ℕ) (o : Operation) (r : Reply) (run : List Happening) (asked : Asked) → IsRight homes run
+    → IsRefusedOnWay homes line r o run → asked_by line run ≡ Some asked → only_shows asked.command ≡ true → effects_of (places_of line run) ≡ []
+shown_on_way homes line o r run asked right is asks shows =
+    let look : List Answered = look_answered o.site is.image o.answer ∷ [] in
+    nothing_at_places homes (places_of line run) (places_right homes line run right)
+    (subst ChangeNothing (sym (steps_at_places line run))
+    (nothing_before (steps_of line run) look
+    (shown_looks (homes is.begun.asked.who.session) is.begun.asked.command (steps_of line run ++ look) r
+    (ap (λ (a : Asked). only_shows a.command) (same_Some is.begun.asked asked (sym is.begun.is ∙ asks)) ∙ shows) is.meant)))
+
+pub shown_behind : (homes : ℕ → SiteId) (line : ℕ) (o : Operation) (r : Reply) (run : List Happening) (asked : Asked) → IsRight homes (Did o (Some r) ∷ run)
+    → is_for line o.by ≡ true → asked_by line run ≡ Some asked → only_shows asked.command ≡ true → effects_of (places_of line (Did o (Some r) ∷ run)) ≡ []
+shown_behind homes line o r run asked right mine asks shows = by (ends_so homes line o r run mine right.1.1)
+  where
+    by : (IsReplyMeant homes line r run (Did o (Some r) ∷ run)) ⊎ (EndsOnWay homes line r o run o.by) → effects_of (places_of line (Did o (Some r) ∷ run)) ≡ []
+    by (inl is) = shown_at_places homes line r run (Did o (Some r) ∷ run) asked right is asks shows
+    by (inr way) = ap effects_of (places_on_way line o (Some r) run way.apart) ∙ shown_on_way homes line o r run asked right.2 way.is asks shows

@@ -1,4 +1,5 @@
--- How many operations a line has: no more than its command's bound.
+-- How many operations a line's command has itself: no more than its bound. Those on its way to the
+-- lock of its image are apart: it may ask for the lock as often as another one has it.
 use Rattle.std.specs.Prelude.{◌≡◌, ◌≤◌, ℕ, List, [], ◌∷◌, ◌++◌, length, Option}
 use Rattle.rbd_commands.specs.declared.command.Command.{Command}
 use Rattle.rbd_commands.specs.declared.command.Command.TheVariants as command

@@ -1,5 +1,6 @@
 pub mod Bounds
 pub mod Changed
+pub mod Fenced
 pub mod Home
 pub mod Listed
 pub mod Places

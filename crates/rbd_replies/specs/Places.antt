@@ -1,8 +1,9 @@
--- The operations of a line, each at its place in the run.
-use Rattle.std.specs.Prelude.{ℕ, ◌==◌, if◌then◌else◌, List, [], ◌∷◌, ◌++◌, Option, Some, None}
+-- The operations of a line, each at its place in the run: those of its command itself, and not
+-- those on its way to the lock of its image.
+use Rattle.std.specs.Prelude.{ℕ, if◌then◌else◌, List, [], ◌∷◌, ◌++◌, Option, Some, None}
 use Rattle.rbd_flat.specs.Flat.{Flat}
 use Rattle.rbd_flat.specs.declared.effect.Effect.{Effect}
-use Rattle.rbd_world.specs.Run.{Happening, Did, Operation, flat_after}
+use Rattle.rbd_world.specs.Run.{Happening, Did, Operation, flat_after, is_own}
 
 -- an operation, and what was done before it, the latest first
 pub record Placed : Type 0 where
@@ -10,7 +11,7 @@ pub record Placed : Type 0 where
   pub done : Operation
 
 abbrev pub places_in : (line : ℕ) → Happening → (before : List Happening) → List Placed
-places_in line (Did o reply) before = if o.line == line then record { before = before; done = o } ∷ [] else []
+places_in line (Did o reply) before = if is_own line o.by then record { before = before; done = o } ∷ [] else []
 places_in line h before = []
 
 -- in their order

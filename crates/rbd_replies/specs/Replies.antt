@@ -10,9 +10,10 @@ use Rattle.rbd_replies.specs.Listed.{ListsNames, ShowsImage, ShowsSnaps}
 use Rattle.rbd_replies.specs.Places.{Placed, effects_of}
 use Rattle.rbd_replies.specs.Reads.{ShowsBytes}
 
--- A command that is done, or shows something, did so by the flat-copy machine. One that is refused
--- did nothing to it, unless the refusal may come when a part was done, as the fence's may; what
--- refused it is said by its last answer (`IsMeantBy` of `rbd_meaning`).
+-- A command that is done, or shows something, did so by the flat-copy machine; what `close`,
+-- `quiesce`, `resume` and `tell` do is no part of that machine. One that is refused did nothing to
+-- it, unless the refusal may come when a part was done, as the fence's may; what refused it is said
+-- by its last answer (`IsMeantBy` of `rbd_meaning`).
 abbrev pub IsReplyOf : Command → Reply → List Placed → Type 0
 IsReplyOf c (reply.Refused x) places = (ComesLate c x → ⊥) → effects_of places ≡ []
 IsReplyOf (command.Create image size shape) reply.Done places = Creates image size places
@@ -24,6 +25,10 @@ IsReplyOf (command.Read image snap at len) (reply.Bytes bytes) places = ShowsByt
 IsReplyOf command.List (reply.Names names) places = ListsNames names places
 IsReplyOf (command.Info image) (reply.Info h) places = ShowsImage image h places
 IsReplyOf (command.SnapList image) (reply.Snaps snaps) places = ShowsSnaps image snaps places
+IsReplyOf (command.Close image) reply.Done places = effects_of places ≡ []
+IsReplyOf (command.Quiesce image) reply.Done places = effects_of places ≡ []
+IsReplyOf (command.Resume image) reply.Done places = effects_of places ≡ []
+IsReplyOf (command.Tell image bytes) reply.Done places = effects_of places ≡ []
 IsReplyOf c r places = ⊥
 
 -- what only shows
@@ -33,3 +38,12 @@ only_shows command.List = true
 only_shows (command.Info image) = true
 only_shows (command.SnapList image) = true
 only_shows _ = false
+
+-- what changes no image: it only shows, lets a lock go, holds the image's requests back, or tells
+-- something to its watchers
+abbrev pub changes_no_image : Command → Bool
+changes_no_image (command.Close image) = true
+changes_no_image (command.Quiesce image) = true
+changes_no_image (command.Resume image) = true
+changes_no_image (command.Tell image bytes) = true
+changes_no_image c = only_shows c

@@ -1,34 +1,45 @@
-//! What replies say of the flat-copy machine: each law is the contract of a function that does
-//! nothing.
-ghost use Rattle.std.specs.Prelude.{◌≡◌, ℕ, true, [], ◌∷◌, ◌++◌, List, All, Some, map};
+//! What replies say of the flat-copy machine, and what fenced clients can't do: each law is the
+//! contract of a function that does nothing.
+ghost use Rattle.std.specs.Prelude.{◌≡◌, ℕ, true, [], ◌∷◌, ◌++◌, List, All, Option, Some, map};
+ghost use Rattle.rbd_kinds.specs.declared.answer.Answer.TheVariants as answer;
+ghost use Rattle.rbd_kinds.specs.declared.header_op.HeaderOp.TheVariants as header;
+ghost use Rattle.rbd_kinds.specs.declared.id.Instance.{Instance as Who};
 ghost use Rattle.rbd_kinds.specs.declared.id.SiteId.{SiteId as Site};
+ghost use Rattle.rbd_kinds.specs.declared.operation.Op.{Op};
+ghost use Rattle.rbd_kinds.specs.declared.operation.Op.TheVariants as op;
 ghost use Rattle.rbd_kinds.specs.declared.reply.Reply.{Reply};
 ghost use Rattle.rbd_requests.specs.Touched.{HasAtMost, bound_of, touched_by};
-ghost use Rattle.rbd_world.specs.Run.{Asked, Happening, Operation, Did, Refused, asked_by, step_of, steps_of};
-ghost use Rattle.rbd_world.specs.Sound.{IsRight, IsSoundWorld, has_reply, line_at};
+ghost use Rattle.rbd_site.specs.Step.{is_fenced};
+ghost use Rattle.rbd_stands.specs.Owned.{HasLock, changes_image, was_done};
+ghost use Rattle.rbd_world.specs.Run.{Asked, Happening, Operation, Did, Refused, Stopped, asked_by, fence_of, is_among, is_on_way, records_after, replies_to, step_of, steps_of};
+ghost use Rattle.rbd_world.specs.Sound.{IsRight, IsSoundWorld, has_ended, line_at};
 ghost use Rattle.rbd_world.specs.World.{WorldView};
 ghost use Rattle.rbd_world.specs.declared.event.Call.{Call};
 ghost use Rattle.rbd_replies.specs.Bounds.{KeepsBound};
+ghost use Rattle.rbd_replies.specs.Fenced.{ChangesNothing};
 ghost use Rattle.rbd_replies.specs.Home.{AreDoneAt};
 ghost use Rattle.rbd_replies.specs.Places.{Placed, effects_of, places_of};
-ghost use Rattle.rbd_replies.specs.Replies.{IsReplyOf, only_shows};
+ghost use Rattle.rbd_replies.specs.Replies.{IsReplyOf, changes_no_image, only_shows};
 ghost use Rattle.rbd_replies.specs.Shown.{AreHeadersInForm};
 ghost use Rattle.rbd_replies.specs.Worlds.{AreSteps, BeginsWith, IsToldIn};
 
 use rbd_course::Request;
 
-/// The operations of a line stand at their places, in their order.
+/// The operations of a line's command itself stand at their places, in their order. Those on its
+/// way to the lock of its image are apart (`way_of` of `rbd_world`).
 pub fn operations_have_places()
     ensures { (line : ℕ) (run : List Happening) → map (λ (p : Placed). step_of p.done) (places_of line run) ≡ steps_of line run }
 {}
 
 /// Each reply is the flat-copy machine's, at its place in the history: what a command did, and what
-/// it shows, is what that machine has at the places of its operations. It is so at every place of a
-/// run that is right, as that of each world is (`IsSoundWorld`).
+/// it shows, is what that machine has at the places of its operations. It comes with an operation
+/// of the command, or of its way to the lock of its image, where it is refused; or a command is
+/// refused without one. It is so at every place of a run that is right, as that of each world is
+/// (`IsSoundWorld`).
 pub fn replies_are_the_flat_machines()
-    ensures done { (homes : ℕ → Site) (run : List Happening) (o : Operation) (reply : Reply) (asked : Asked)
-        → IsRight homes (Did o (Some reply) ∷ run) → asked_by o.line run ≡ Some asked
-        → IsReplyOf asked.command reply (places_of o.line (Did o (Some reply) ∷ run)) }
+    ensures done { (homes : ℕ → Site) (run : List Happening) (o : Operation) (line : ℕ) (reply : Reply) (asked : Asked)
+        → IsRight homes (Did o (Some reply) ∷ run) → replies_to line (Did o (Some reply)) ≡ true → asked_by line run ≡ Some asked
+        → IsReplyOf asked.command reply (places_of line (Did o (Some reply) ∷ run)) }
     ensures refused { (homes : ℕ → Site) (run : List Happening) (s : Site) (line : ℕ) (reply : Reply) (asked : Asked)
         → IsRight homes (Refused s line reply ∷ run) → asked_by line run ≡ Some asked
         → IsReplyOf asked.command reply (places_of line (Refused s line reply ∷ run)) }
@@ -37,40 +48,64 @@ pub fn replies_are_the_flat_machines()
 /// A command that only shows, as `read`, `ls`, `info` and `snap ls` do, changes nothing of the flat
 /// site, whatever its reply is.
 pub fn what_only_shows_changes_nothing()
-    ensures done { (homes : ℕ → Site) (run : List Happening) (o : Operation) (reply : Reply) (asked : Asked)
-        → IsRight homes (Did o (Some reply) ∷ run) → asked_by o.line run ≡ Some asked → only_shows asked.command ≡ true
-        → effects_of (places_of o.line (Did o (Some reply) ∷ run)) ≡ [] }
+    ensures done { (homes : ℕ → Site) (run : List Happening) (o : Operation) (line : ℕ) (reply : Reply) (asked : Asked)
+        → IsRight homes (Did o (Some reply) ∷ run) → replies_to line (Did o (Some reply)) ≡ true → asked_by line run ≡ Some asked → only_shows asked.command ≡ true
+        → effects_of (places_of line (Did o (Some reply) ∷ run)) ≡ [] }
     ensures refused { (homes : ℕ → Site) (run : List Happening) (s : Site) (line : ℕ) (reply : Reply) (asked : Asked)
         → IsRight homes (Refused s line reply ∷ run) → asked_by line run ≡ Some asked → only_shows asked.command ≡ true
         → effects_of (places_of line (Refused s line reply ∷ run)) ≡ [] }
 {}
 
-/// The operations of a line that has its reply were done at the home of the session that began it:
-/// so the flat site at each of its places is that site's.
-pub fn replies_are_of_their_home()
-    ensures done { (homes : ℕ → Site) (run : List Happening) (o : Operation) (reply : Reply) (asked : Asked)
-        → IsRight homes (Did o (Some reply) ∷ run) → asked_by o.line run ≡ Some asked
-        → AreDoneAt (homes asked.session) (places_of o.line (Did o (Some reply) ∷ run)) }
-    ensures refused { (homes : ℕ → Site) (run : List Happening) (s : Site) (line : ℕ) (reply : Reply) (asked : Asked)
-        → IsRight homes (Refused s line reply ∷ run) → asked_by line run ≡ Some asked
-        → AreDoneAt (homes asked.session) (places_of line (Refused s line reply ∷ run)) }
+/// A command that changes no image, as `close`, `quiesce`, `resume`, `tell` and those that only
+/// show, has no effect on the flat site: not behind its reply, whatever it is, not where its line
+/// is lost, and not while it is under way.
+pub fn what_changes_no_image_has_no_effect<R: Request>()
+    ensures ended { (homes : ℕ → Site) (run : List Happening) (line : ℕ) (asked : Asked)
+        → IsRight homes run → asked_by line run ≡ Some asked → has_ended line run ≡ true → changes_no_image asked.command ≡ true
+        → effects_of (places_of line run) ≡ [] }
+    ensures begun { (w : WorldView R) (sound : IsSoundWorld R.stands w) (line : ℕ) (asked : Asked)
+        → asked_by line sound.run ≡ Some asked → changes_no_image asked.command ≡ true
+        → effects_of (places_of line sound.run) ≡ [] }
 {}
 
-/// A line that was begun has no more operations than its command's bound (`bound_of` of
+/// A line that is refused on its way to the lock of its image has done nothing to the flat site,
+/// whatever refused it: until it looks at the header under the lock a command only looks.
+pub fn what_is_refused_on_its_way_did_nothing()
+    ensures { (homes : ℕ → Site) (run : List Happening) (o : Operation) (line : ℕ) (reply : Reply)
+        → IsRight homes (Did o (Some reply) ∷ run) → is_on_way line o.by ≡ true
+        → effects_of (places_of line (Did o (Some reply) ∷ run)) ≡ [] }
+{}
+
+/// The operations of the command of a line that has its reply were done at the home of the session
+/// that began it: so the flat site at each of its places is that site's.
+pub fn replies_are_of_their_home()
+    ensures done { (homes : ℕ → Site) (run : List Happening) (o : Operation) (line : ℕ) (reply : Reply) (asked : Asked)
+        → IsRight homes (Did o (Some reply) ∷ run) → replies_to line (Did o (Some reply)) ≡ true → asked_by line run ≡ Some asked
+        → AreDoneAt (homes asked.who.session) (places_of line (Did o (Some reply) ∷ run)) }
+    ensures refused { (homes : ℕ → Site) (run : List Happening) (s : Site) (line : ℕ) (reply : Reply) (asked : Asked)
+        → IsRight homes (Refused s line reply ∷ run) → asked_by line run ≡ Some asked
+        → AreDoneAt (homes asked.who.session) (places_of line (Refused s line reply ∷ run)) }
+{}
+
+/// The command of a line that was begun has no more operations itself than its bound (`bound_of` of
 /// `rbd_requests`), by the number of pieces that its extent has at most: in all when it has its
-/// reply, and so far at any time before. A read has so many at most in each of its passes, and began
-/// again only where its closing look was told a header of another generation, or none. Who waits has
-/// none: each operation is a poll's whose outcome is `Step`.
+/// reply, or is lost by a stop, and so far at any time before. A read has so many at most in each
+/// of its passes, and began again only where its closing look was told a header of another
+/// generation, or none. Who waits has none: each operation is a poll's whose outcome is `Step`.
+/// Operations on the way to a lock aren't counted: it asks as often as another one has the lock.
 pub fn lines_keep_their_bounds<R: Request>()
-    ensures replied { (homes : ℕ → Site) (run : List Happening) (line : ℕ) (asked : Asked) (most : ℕ)
-        → IsRight homes run → asked_by line run ≡ Some asked → has_reply line run ≡ true → HasAtMost most (touched_by asked.command)
-        → KeepsBound (homes asked.session) asked.command (bound_of asked.command most) (steps_of line run) }
+    ensures ended { (homes : ℕ → Site) (run : List Happening) (line : ℕ) (asked : Asked) (most : ℕ)
+        → IsRight homes run → asked_by line run ≡ Some asked → has_ended line run ≡ true → HasAtMost most (touched_by asked.command)
+        → KeepsBound (homes asked.who.session) asked.command (bound_of asked.command most) (steps_of line run) }
+    ensures lost { (homes : ℕ → Site) (run : List Happening) (who : Who) (wanted : List (Option (Site × Op))) (lost : List ℕ) (line : ℕ) (asked : Asked) (most : ℕ)
+        → IsRight homes (Stopped who wanted lost ∷ run) → is_among line lost ≡ true → asked_by line run ≡ Some asked → HasAtMost most (touched_by asked.command)
+        → KeepsBound (homes asked.who.session) asked.command (bound_of asked.command most) (steps_of line (Stopped who wanted lost ∷ run)) }
     ensures under_way { (w : WorldView R) (sound : IsSoundWorld R.stands w) (session slot line : ℕ) (asked : Asked) (most : ℕ)
-        → line_at session slot w.sessions ≡ Some line → asked_by line sound.run ≡ Some asked → HasAtMost most (touched_by asked.command)
-        → KeepsBound (sound.homes asked.session) asked.command (bound_of asked.command most) (steps_of line sound.run) }
+        → line_at session slot w.lives ≡ Some line → asked_by line sound.run ≡ Some asked → HasAtMost most (touched_by asked.command)
+        → KeepsBound (sound.homes asked.who.session) asked.command (bound_of asked.command most) (steps_of line sound.run) }
     ensures begun { (w : WorldView R) (sound : IsSoundWorld R.stands w) (line : ℕ) (asked : Asked) (most : ℕ)
         → asked_by line sound.run ≡ Some asked → HasAtMost most (touched_by asked.command)
-        → KeepsBound (sound.homes asked.session) asked.command (bound_of asked.command most) (steps_of line sound.run) }
+        → KeepsBound (sound.homes asked.who.session) asked.command (bound_of asked.command most) (steps_of line sound.run) }
 {}
 
 /// Each reply in the history of a world, whatever events came, is the one of its line's command: it
@@ -83,6 +118,47 @@ pub fn replies_of_worlds_are_the_flat_machines<R: Request>()
 /// layout keeps the limits, and its size is below 2^63.
 pub fn shown_headers_are_in_form<R: Request>()
     ensures { (w : WorldView R) (sound : IsSoundWorld R.stands w) → AreHeadersInForm w.history }
+{}
+
+/// No operation of a fenced client changes an object. At the site that has its instance in the
+/// blocklist it is answered `Fenced`, whatever it is and whenever it comes, also long after the
+/// session was stopped; it has no effect, and the records of both sites, the flat sites and the
+/// notices stay as they were. So it is at every later place of the run (`fences_last`) from the
+/// operation on that put up the fence (`fences_are_told`).
+pub fn fenced_clients_change_nothing()
+    ensures while_fenced { (homes : ℕ → Site) (run : List Happening) (o : Operation) (reply : Option Reply)
+        → IsRight homes (Did o reply ∷ run) → is_fenced (records_after o.site run) o.instance ≡ true
+        → ChangesNothing o reply run }
+    ensures since_the_fence { (homes : ℕ → Site) (run later : List Happening) (fence o : Operation) (was reply : Option Reply)
+        → IsRight homes (Did o reply ∷ (later ++ (Did fence was ∷ run))) → fence_of fence.op fence.answer ≡ Some o.instance → o.site ≡ fence.site
+        → ChangesNothing o reply (later ++ (Did fence was ∷ run)) }
+{}
+
+/// Who is fenced at a site stays so at every later place of the run: nothing takes an instance out
+/// of a blocklist.
+pub fn fences_last()
+    ensures { (site : Site) (who : Who) (later run : List Happening)
+        → is_fenced (records_after site run) who ≡ true → is_fenced (records_after site (later ++ run)) who ≡ true }
+{}
+
+/// Where the history has that an instance was fenced at a site, it is fenced there.
+pub fn fences_are_told()
+    ensures { (homes : ℕ → Site) (run : List Happening) (o : Operation) (reply : Option Reply) (who : Who)
+        → IsRight homes (Did o reply ∷ run) → fence_of o.op o.answer ≡ Some who
+        → is_fenced (records_after o.site (Did o reply ∷ run)) who ≡ true }
+{}
+
+/// Who changed the data, the header, an object map or the journal of an image had the lock of the
+/// image there, by its header; and the lock of an instance was broken only once the instance was
+/// fenced at that site. A header is made before anybody can own it, and what is done to its lock, to
+/// those that watch and to what they are told changes no image.
+pub fn changes_are_the_owners()
+    ensures owned { (homes : ℕ → Site) (run : List Happening) (o : Operation) (reply : Option Reply) (image : ℕ)
+        → IsRight homes (Did o reply ∷ run) → changes_image image o.op ≡ true → was_done o.answer ≡ true
+        → HasLock image o.instance (records_after o.site run) }
+    ensures broken { (homes : ℕ → Site) (run : List Happening) (o : Operation) (reply : Option Reply) (image : ℕ) (owner : Who)
+        → IsRight homes (Did o reply ∷ run) → o.op ≡ op.Header image (header.LockBreak owner) → o.answer ≡ answer.Done
+        → is_fenced (records_after o.site run) owner ≡ true }
 {}
 
 /// The calls are the events that came, each with its outcome, one after another; and what the

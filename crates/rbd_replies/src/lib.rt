@@ -1,5 +1,6 @@
-//! What replies say: each is the flat-copy machine's, at its place in the one history. Definitions
-//! and laws on the runs of `rbd_world`, and no code that a program calls.
+//! What replies say: each is the flat-copy machine's, at its place in the one history. And what
+//! fenced clients can't do: they change nothing. Definitions and laws on the runs of `rbd_world`, and
+//! no code that a program calls.
 //!
 //! ```text
 //! the run                       the flat site, byte 4,094 on    what the replies of lines 5 and 6 say
@@ -14,7 +15,9 @@
 //!
 //! # Rules
 //!
-//! A line's operations stand at *places* of the run, each with the flat site of all effects before.
+//! The operations of a line's command stand at *places* of the run, each with the flat site of all
+//! effects before. Those on its way to the lock of its image are apart, as those of a release and
+//! of a stopped session are: they are no part of the command.
 //!
 //! | reply | what it says |
 //! |---|---|
@@ -24,14 +27,24 @@
 //! | `ls` | all names of the flat site at its place |
 //! | `info`, `snap ls` | size, role and snapshots of the flat image at the place of its look |
 //! | `read` | in its last pass each piece's bytes are the flat view's at the place where that piece was read; the extent lies within the view, and the header at both ends of the pass has one generation |
-//! | any to a command that only shows | no effect at all |
-//! | any refused | no effect at all, unless it is refused by the fence when a part was done; what refuses it is said of its last answer by `rbd_meaning` |
+//! | `close`, `quiesce`, `resume`, `tell` done | no effect at all |
+//! | any refused | no effect at all, unless the fence refuses a `create`, a `write` or a `fill` when a part of it was done; what refuses it is said of its last answer by `rbd_meaning` |
+//! | any refused on its way to the lock | no effect at all; what refuses it is said as of a look under the lock that was answered as the way's last operation was |
+//! | any to a command that changes no image | no effect at all, also where its line is lost or under way |
+//!
+//! Which instance may change what doesn't depend on replies:
+//!
+//! | operation | what holds |
+//! |---|---|
+//! | of a fenced instance | at the site that fenced it: it is answered `Fenced`, and neither site, no flat site and no notice changes, at every place behind the fence, also long after its session was stopped |
+//! | a change of an image that is done | it is by the owner of the image's lock there |
+//! | a lock is broken | its owner was fenced before, at that site |
 //!
 //! # Contracts
 //!
 //! | file | what it says |
 //! |---|---|
-//! | `specs/Places.antt` | the places of a line's operations, the flat site there, and their effects |
+//! | `specs/Places.antt` | the places of a command's operations, the flat site there, and their effects |
 //! | `specs/Home.antt` | that they were done at one site |
 //! | `specs/Changed.antt` | what changes did |
 //! | `specs/Listed.antt` | what listings show |
@@ -39,7 +52,8 @@
 //! | `specs/Replies.antt` | all of it, by command and reply (`IsReplyOf`) |
 //! | `specs/Worlds.antt` | so it is with each reply in a world's history; and that worlds go on by events |
 //! | `specs/Shown.antt` | that the headers which replies of a history show are in form |
-//! | `specs/Bounds.antt` | how many operations a line has at most, so far and in all |
+//! | `specs/Bounds.antt` | how many operations a line's command has at most, so far and in all |
+//! | `specs/Fenced.antt` | that an operation changed nothing, since its instance is fenced |
 //!
 //! [`laws`] says it of each reply of each run that is right (`IsRight` of `rbd_world`), as that of
 //! every world is: at its own place, whatever comes later.
@@ -50,7 +64,13 @@
 //! says that each answer is that of the records there, and that these stand for the flat site. So
 //! each row above is a law of `rbd_stands` at one place or several. For a read the header is the
 //! same at all places of the pass, since a header that is there stays, its generation never falls,
-//! and what leaves the generation leaves the header, but for its owner.
+//! and what leaves the generation leaves the header, but for its owner. Where no reply came, a walk
+//! of the command's plan led to where the line is or was lost (`IsLedTo` of `rbd_world`), and what
+//! the plan may ask for is known.
+//!
+//! A blocklist only grows: the one operation that changes it puts an instance in, and a trim or the
+//! end of a watch leaves it. So who is fenced at a place is so at all later ones, and a site does
+//! nothing for it.
 #![tactic(auto)]
 
 pub mod laws;

@@ -1,18 +1,22 @@
 -- The request that was polled: it is under way at its next operation, or its reply is meant.
-use Rattle.std.proofs.Common.{◌≡◌, ℕ, cond, List, [], ◌∷◌, ◌++◌, Option, Some, None, refl, sym, ap, ◌∙◌, subst}
+use Rattle.std.proofs.Common.{◌≡◌, ℕ, cond, Bool, true, false, List, [], ◌∷◌, ◌++◌, Option, Some, None, refl, sym, ap, ◌∙◌, subst}
 use Rattle.std.proofs.lemmas.Bool.{eq-eqb}
+use Rattle.rbd_kinds.specs.declared.layout.Extent.{Extent}
+use Rattle.rbd_course.specs.Course.{is_own_at}
 use Rattle.rbd_flat.specs.declared.effect.Effect.{Effect}
 use Rattle.rbd_kinds.specs.declared.answer.Answer.{Answer}
+use Rattle.rbd_kinds.specs.declared.answer.Answer.TheVariants as answer
+use Rattle.rbd_kinds.specs.declared.header_op.HeaderOp.TheVariants as header
 use Rattle.rbd_kinds.specs.declared.id.Instance.{Instance}
 use Rattle.rbd_kinds.specs.declared.id.SiteId.{SiteId}
+use Rattle.rbd_kinds.specs.declared.machine.Fed.{Fed}
 use Rattle.rbd_kinds.specs.declared.machine.Fed.TheVariants as fed
 use Rattle.rbd_kinds.specs.declared.operation.Op.{Op}
+use Rattle.rbd_kinds.specs.declared.operation.Op.TheVariants as op
 use Rattle.rbd_kinds.specs.declared.reply.Reply.{Reply}
-use Rattle.rbd_known.specs.Calm.{IsCalmRequest}
-use Rattle.rbd_known.specs.Knowing.{known_behind, unless_ended}
-use Rattle.rbd_known.proofs.Unowned.{calm_fed, calm_stays}
+use Rattle.rbd_known.specs.Calm.{IsCalm, IsCalmRequest}
+use Rattle.rbd_known.proofs.Unowned.{calm_stays}
 use Rattle.rbd_machine.specs.Answers.{CanBeFed, CanGive}
-use Rattle.rbd_machine.specs.Knowledge.{Knowledge}
 use Rattle.rbd_machine.specs.Label.{Label}
 use Rattle.rbd_machine.specs.Path.{Answered, IsWalk, at_operation}
 use Rattle.rbd_machine.specs.Plan.{Plan, Ask, Await, Note, Return, Goto, Standing, plan_after}
@@ -23,38 +27,62 @@ use Rattle.rbd_requests.specs.CommandsMeant.{command_is_meant}
 use Rattle.rbd_session.specs.declared.running.Occupant.{Occupant}
 use Rattle.rbd_session.specs.declared.running.Occupant.TheVariants as occupant
 use Rattle.rbd_session.specs.declared.running.Running.{Running}
-use Rattle.rbd_session.specs.Advance.{ComesTo}
+use Rattle.rbd_session.specs.Advance.{ComesTo, fed_by, track_of}
 use Rattle.rbd_session.specs.Lines.{LinesView}
 use Rattle.rbd_session.specs.Session.{ComesToIn, script_line}
-use Rattle.rbd_session.specs.Track.{Track}
+use Rattle.rbd_session.specs.Track.{Track, answered_by, course_of, looked_by, run as run_on}
 use Rattle.rbd_session.proofs.Sound.{no_some, some_same}
-use Rattle.rbd_world.specs.Run.{Happening, Did, Operation, asked_by, steps_of}
-use Rattle.rbd_world.specs.Sound.{IsDone, IsDue, IsHeldRightly, IsLedTo, IsReplyMeant, IsUnderWay, has_reply}
+use Rattle.rbd_world.specs.Run.{Itself, Happening, Did, Operation, asked_by, steps_of}
+use Rattle.rbd_world.specs.Sound.{IsDone, IsDue, IsHeldRightly, IsLedTo, IsReplyMeant, IsUnderWay, has_ended}
 use Rattle.rbd_world.specs.Step.{reply_at}
 use Rattle.rbd_world.proofs.Walks.{IsLed, given_more, led_on}
 
+-- ---- who waits for nothing stays in no line
+
+calm_place : (slot : ℕ) (p : Plan) (t : Track) → IsCalm p → (run_on slot p t).place ≡ t.place
+calm_place slot (Ask s why o next) t calm = refl
+calm_place slot (Await wait next) t calm = absurd calm
+calm_place slot (Note s image event next) t calm = absurd calm
+calm_place slot (Return reply) t calm = refl
+calm_place slot (Goto label) t calm = refl
+
+answered_place : (slot : ℕ) (e : Option Extent) (t : Track) (s : SiteId) (o : Op) (a : Answer) → (answered_by slot e t s o a).place ≡ t.place
+answered_place slot e t s (op.Header image header.Get) (answer.Header h) = by (is_own_at s image (course_of slot t).place)
+  where
+    by : (b : Bool) → (cond b (looked_by slot e h t) t).place ≡ t.place
+    by true = refl
+    by false = refl
+answered_place slot e t s o a = refl
+
+calm_next : (s : SiteId) (why : Reason) (o : Op) (next : Answer → Plan) (a : Answer) (p : Plan) → p ≡ Ask s why o next → IsCalm p → IsCalm (next a)
+calm_next s why o next a p is calm = subst IsCalm is calm a
+
 module _ {R : Type 0} (stands : R → Standing) where
   -- the same line, at the next operation
-  record WentOn (labels : Label → Plan) (plan : Plan) (r q : Running R) : Type 0 where
+  record WentOn (labels : Label → Plan) (plan : Plan) (t : Track) (r q : Running R) : Type 0 where
     line : q.line ≡ r.line
     stand : stands q.request ≡ record { labels = labels; plan = plan }
+    place : q.place ≡ t.place
 
   went_on : (slot : ℕ) (labels : Label → Plan) (plan : Plan) (t : Track) (result : Option Reply) (r q : Running R) (lines : LinesView) → result ≡ None
-      → ComesTo stands slot labels plan t result r q lines → WentOn labels plan r q
+      → ComesTo stands slot labels plan t result r q lines → WentOn labels plan t r q
   went_on slot labels (Return reply) t result r q lines none comes = absurd (no_some reply (sym none ∙ comes.reply))
-  went_on slot labels (Ask s why o next) t result r q lines none comes = record { line = comes.line; stand = comes.request }
-  went_on slot labels (Await w next) t result r q lines none comes = record { line = comes.line; stand = comes.request }
-  went_on slot labels (Note s image event next) t result r q lines none comes = record { line = comes.line; stand = comes.request }
-  went_on slot labels (Goto label) t result r q lines none comes = record { line = comes.line; stand = comes.request }
+  went_on slot labels (Ask s why o next) t result r q lines none comes = record { line = comes.line; stand = comes.request; place = ap (λ (x : Track). x.place) comes.track }
+  went_on slot labels (Await w next) t result r q lines none comes = record { line = comes.line; stand = comes.request; place = ap (λ (x : Track). x.place) comes.track }
+  went_on slot labels (Note s image event next) t result r q lines none comes = record { line = comes.line; stand = comes.request; place = ap (λ (x : Track). x.place) comes.track }
+  went_on slot labels (Goto label) t result r q lines none comes = record { line = comes.line; stand = comes.request; place = ap (λ (x : Track). x.place) comes.track }
 
-  module _ (homes : ℕ → SiteId) (session slot : ℕ) (run : List Happening) (know : Knowledge) (r : Running R) (way : IsUnderWay stands (homes session) session run know r)
+  module _ (homes : ℕ → SiteId) (session slot : ℕ) (run : List Happening) (me : Instance) (whose : me.session ≡ session) (r : Running R) (way : IsUnderWay stands (homes session) me run r)
       (s : SiteId) (why : Reason) (o : Op) (next : Answer → Plan) (asks : (stands r.request).plan ≡ Ask s why o next) (a : Answer) (can : CanGive o a)
-      (who : Instance) (number : ℕ) (effect : Option Effect) where
+      (number : ℕ) (effect : Option Effect) where
     abbrev done : Operation
-    done = record { line = r.line; instance = who; site = s; number = number; op = o; answer = a; effect = effect }
+    done = record { by = Itself r.line; instance = me; site = s; number = number; op = o; answer = a; effect = effect }
 
     abbrev step : Answered
     step = record { site = s; op = o; answer = a }
+
+    session_is : way.begun.asked.who.session ≡ session
+    session_is = ap (λ (i : Instance). i.session) way.mine ∙ whose
 
     -- its walk has one step more
     steps_now : (result : Option Reply) → steps_of r.line (Did done result ∷ run) ≡ steps_of r.line run ++ step ∷ []
@@ -77,11 +105,11 @@ module _ {R : Type 0} (stands : R → Standing) where
         record {
           begun = way.begun;
           ended =
-              subst (λ i. IsLedTo (homes i) way.begun.asked.command (steps_of r.line (Did done (Some reply) ∷ run)) (Return reply)) (sym way.mine)
+              subst (λ i. IsLedTo (homes i) way.begun.asked.command (steps_of r.line (Did done (Some reply) ∷ run)) (Return reply)) (sym session_is)
               (subst (λ steps. IsLedTo (homes session) way.begun.asked.command steps (Return reply)) (sym (steps_now (Some reply)))
               (record { start = way.start; plan = way.plan; feds = led.feds; walk = walk; given = given }));
           meant =
-              subst (λ i. IsMeantBy (homes i) way.begun.asked.command (steps_of r.line (Did done (Some reply) ∷ run)) reply) (sym way.mine)
+              subst (λ i. IsMeantBy (homes i) way.begun.asked.command (steps_of r.line (Did done (Some reply) ∷ run)) reply) (sym session_is)
               (subst (λ steps. IsMeantBy (homes session) way.begun.asked.command steps reply) (sym (steps_now (Some reply)))
               (command_is_meant (homes session) way.begun.asked.command way.start led.feds (steps_of r.line run ++ step ∷ []) reply way.plan given walk));
         }
@@ -104,13 +132,15 @@ module _ {R : Type 0} (stands : R → Standing) where
     abbrev to : Plan
     to = at_operation (stands r.request).labels (plan_after (stands r.request).plan (fed.Answer a))
 
-    further : (q : Running R) → WentOn (stands r.request).labels to r q
-        → IsUnderWay stands (homes session) session (Did done None ∷ run) (known_behind know (stands r.request).plan (fed.Answer a)) q
-    further q on = record {
+    abbrev went : LinesView → Track
+    went lines = run_on slot (next a) (answered_by slot r.extent (track_of r lines) s o a)
+
+    further : (lines : LinesView) (q : Running R) → WentOn (stands r.request).labels to (went lines) r q → IsUnderWay stands (homes session) me (Did done None ∷ run) q
+    further lines q on = record {
       begun = record {
         asked = way.begun.asked;
         is = ap (λ l. asked_by l run) on.line ∙ way.begun.is;
-        unanswered = ap (λ l. has_reply l run) on.line ∙ way.begun.unanswered;
+        unended = ap (λ l. has_ended l run) on.line ∙ way.begun.unended;
       };
       mine = way.mine;
       start = way.start;
@@ -125,7 +155,8 @@ module _ {R : Type 0} (stands : R → Standing) where
           let calm = way.calm looks in (
             subst IsCalmRequest (sym on.stand)
                 (record { plan = calm_stays (stands r.request).labels calm.0.labels (stands r.request).plan (fed.Answer a) calm.0.plan can_fed; labels = calm.0.labels }),
-            calm_fed know (stands r.request).plan (fed.Answer a) calm.0.plan can_fed calm.1,
+            on.place ∙ calm_place slot (next a) (answered_by slot r.extent (track_of r lines) s o a) (calm_next s why o next a (stands r.request).plan asks calm.0.plan)
+                ∙ answered_place slot r.extent (track_of r lines) s o a ∙ calm.1,
           );
     }
       where
@@ -139,11 +170,18 @@ module _ {R : Type 0} (stands : R → Standing) where
             ∙ sym (ap (λ (st : Standing). st.plan) on.stand)
 
     pub answer_held : (result : Option Reply) (before after : LinesView) (p : Option (Occupant R)) → ComesToIn stands slot before (fed.Answer a) result r p after
-        → IsHeldRightly stands (homes session) session (Did done result ∷ run) (unless_ended result (known_behind know (stands r.request).plan (fed.Answer a))) p
+        → IsHeldRightly stands (homes session) me (Did done result ∷ run) p
     answer_held result before after None comes = tt
     answer_held result before after (Some (occupant.Refused line refusal)) comes = absurd comes
     answer_held (Some reply) before after (Some (occupant.Running q)) comes = absurd (no_some reply (sym comes.0))
-    answer_held None before after (Some (occupant.Running q)) comes = further q (went_on slot (stands r.request).labels to _ None r q after refl comes.1)
+    answer_held None before after (Some (occupant.Running q)) comes =
+        further before q (
+        subst (λ t. WentOn (stands r.request).labels to t r q) (track_is before)
+        (went_on slot (stands r.request).labels to _ None r q after refl comes.1))
+      where
+        track_is : (lines : LinesView)
+            → run_on slot (plan_after (stands r.request).plan (fed.Answer a)) (fed_by slot r.extent (track_of r lines) (stands r.request).plan (fed.Answer a)) ≡ went lines
+        track_is lines = ap (λ p. run_on slot (plan_after p (fed.Answer a)) (fed_by slot r.extent (track_of r lines) p (fed.Answer a))) asks
 
     -- ---- its slot has its line, or none
 

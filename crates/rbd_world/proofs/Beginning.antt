@@ -1,64 +1,139 @@
 -- A world in which nothing happened is sound.
-use Rattle.std.proofs.Common.{◌≡◌, ℕ, [], length, Option, Some, None, refl, sym, ap, ◌∙◌, subst}
+use Rattle.std.proofs.Common.{◌≡◌, ℕ, true, List, [], length, is_some, Option, Some, None, refl, sym, ap, ◌∙◌, subst}
+use Rattle.rbd_client.specs.Client.{ClientView}
+use Rattle.rbd_held.specs.Truth.{IsTrueOf}
+use Rattle.rbd_held.proofs.Calls.{new_client_is_true}
+use Rattle.rbd_kinds.specs.declared.id.Instance.{Instance}
 use Rattle.rbd_kinds.specs.declared.id.SiteId.{SiteId}
 use Rattle.rbd_kinds.specs.declared.id.SiteId.TheVariants as site
 use Rattle.rbd_known.specs.Knowing.{KnowsIn}
 use Rattle.rbd_machine.specs.Knowledge.{nothing_known}
 use Rattle.rbd_machine.specs.Plan.{Standing}
 use Rattle.rbd_rely.specs.Truth.{IsParentless}
-use Rattle.rbd_rely.proofs.Nothing.{none_parentless, nothing_is_beside, nothing_is_true}
-use Rattle.rbd_session.specs.Session.{SessionView, running_in, script_line}
-use Rattle.rbd_session.proofs.Sound.{no_some}
+use Rattle.rbd_rely.proofs.Nothing.{none_parentless, nothing_is_beside}
+use Rattle.rbd_session.specs.Session.{running_at, running_in, script_line}
+use Rattle.rbd_session.proofs.Sound.{no_some, some_same}
 use Rattle.rbd_site.specs.InForm.{AreInForm}
 use Rattle.rbd_site.specs.Log.{after_all}
-use Rattle.rbd_site.specs.Records.{no_records}
+use Rattle.rbd_site.specs.Records.{Records, no_records}
 use Rattle.rbd_site.proofs.FormLemmas.{form_at_first}
 use Rattle.rbd_stands.proofs.Nothing.{nothing_stands}
-use Rattle.rbd_world.specs.Sound.{IsHeldRightly, IsNewClient, IsNewWorld, IsSoundClient, IsSoundWorld, held_of, line_at}
-use Rattle.rbd_world.specs.World.{WorldView, session_in}
+use Rattle.rbd_world.specs.Run.{Happening}
+use Rattle.rbd_world.specs.Sound.{AreLivesOf, Holder, InSlot, Sending, IsFirst, IsHeldRightly, IsLiving, IsNewWorld, IsRunning, IsSoundWorld, first_life, held_of, line_at}
+use Rattle.rbd_world.specs.Step.{IsFresh}
+use Rattle.rbd_world.specs.World.{LivesView, WorldView, client_in, late_at, late_of, lives_in, sent_in, session_of}
+use Rattle.rbd_world.proofs.Changed.{lives_there}
 use Rattle.rbd_world.proofs.OrderedWorld.{none_in_order}
 
--- ---- sessions without requests
-
 module _ {R : Type 0} (stands : R → Standing) where
-  abbrev home_of : Option (SessionView R) → SiteId
+  -- ---- a life without requests
+
+  module _ (who : Instance) (home : SiteId) (c : ClientView R) (fresh : IsFresh stands who home c) where
+    pub fresh_living : (there : SiteId) (session : ℕ) (run : List Happening) → who.session ≡ session → home ≡ there → IsRunning who run → IsLiving stands there session run (λ slot. nothing_known) c
+    fresh_living there session run whose same runs = record {
+      whose = ap (λ (i : Instance). i.session) fresh.instance ∙ whose;
+      runs = subst (λ i. IsRunning i run) (sym fresh.instance) runs;
+      at_home = fresh.at_home ∙ same;
+      sound = fresh.sound;
+      know = λ slot. subst (λ o. KnowsIn stands slot (running_in o) c.session.lines nothing_known) (sym (fresh.slots slot)) refl;
+      held = λ slot. subst (IsHeldRightly stands there c.session.instance run) (sym (fresh.slots slot)) tt;
+    }
+
+    pub fresh_true : (s : SiteId) (r : Records) (me : Instance) → IsTrueOf s r me (λ slot. nothing_known) c
+    fresh_true s r me = new_client_is_true s r me stands c fresh.sound fresh.slots (fresh.locks s)
+
+    pub fresh_runs_none : (x : ℕ) → running_at x c.session ≡ None
+    fresh_runs_none x = ap running_in (fresh.slots x)
+
+  -- ---- sessions in their first life
+
+  abbrev home_of : Option (LivesView R) → SiteId
   home_of None = site.A
-  home_of (Some c) = c.home
+  home_of (Some l) = l.home
 
-  new_client : (session : ℕ) (home : SiteId) (c : SessionView R) → c.home ≡ home → IsNewClient stands session c → IsSoundClient stands home session [] (λ slot. nothing_known) c
-  new_client session home c at_home new = record {
-    who = new.who;
-    at_home = at_home;
-    sound = new.sound;
-    know = λ slot. subst (λ o. KnowsIn stands slot (running_in o) c.lines nothing_known) (sym (new.slots slot)) refl;
-    held = λ slot. subst (IsHeldRightly stands home session [] nothing_known) (sym (new.slots slot)) tt;
-  }
+  abbrev first_of : Holder → Instance
+  first_of (InSlot session slot) = first_life session
+  first_of (Sending session slot) = first_life session
 
-  no_line : (w : WorldView R) (session slot : ℕ) → IsNewWorld stands w → line_at session slot w.sessions ≡ None
-  no_line w session slot new = by (session_in session w.sessions) refl
-    where
-      by : (o : Option (SessionView R)) → session_in session w.sessions ≡ o → script_line (held_of slot o) ≡ None
-      by None is = refl
-      by (Some c) is = ap script_line ((new.clients session c is).slots slot)
+  module _ (w : WorldView R) (new : IsNewWorld stands w) where
+    -- the client of a session is that of its first life
+    record HasFirst (session : ℕ) (c : ClientView R) : Type 0 where
+      lives : LivesView R
+      there : lives_in session w.lives ≡ Some lives
+      fresh : IsFresh stands (first_life session) lives.home c
+
+    has_first : (session : ℕ) (c : ClientView R) → client_in session w.lives ≡ Some c → HasFirst session c
+    has_first session c is =
+        let has = lives_there session w.lives c is in
+        let first = new.lives session has.lives_are has.there in
+        record {
+          lives = has.lives_are;
+          there = has.there;
+          fresh = subst (IsFresh stands (first_life session) has.lives_are.home) (some_same first.client c (sym first.runs ∙ has.runs)) first.fresh;
+        }
+
+    no_line : (session slot : ℕ) → line_at session slot w.lives ≡ None
+    no_line session slot = by (client_in session w.lives) refl
+      where
+        by : (o : Option (ClientView R)) → client_in session w.lives ≡ o → script_line (held_of slot (session_of o)) ≡ None
+        by None is = refl
+        by (Some c) is = ap script_line ((has_first session c is).fresh.slots slot)
+
+    none_late : (session slot : ℕ) → late_at session slot w.lives ≡ None
+    none_late session slot = by (lives_in session w.lives) refl
+      where
+        by : (o : Option (LivesView R)) → lives_in session w.lives ≡ o → sent_in slot (late_of o) ≡ None
+        by None is = refl
+        by (Some l) is = ap (sent_in slot) (new.lives session l is).late
+
+    first_lives : (session : ℕ) (l : LivesView R) → lives_in session w.lives ≡ Some l → AreLivesOf [] (home_of (lives_in session w.lives)) session l
+    first_lives session l is =
+        let first : IsFirst stands session l = new.lives session l is in
+        record {
+          home_is = sym (ap home_of is);
+          whose = ap (λ (i : Instance). i.session) first.latest;
+          life =
+              ap (λ (i : Instance). record { number = i.life; runs = true }) (sym first.latest)
+              ∙ ap (λ o. record { number = l.latest.life; runs = is_some o }) (sym first.runs);
+          latest = λ c runs. ap (λ (v : ClientView R). v.session.instance) (some_same c first.client (sym runs ∙ first.runs)) ∙ first.fresh.instance ∙ sym first.latest;
+          most = λ v late. absurd (no_some v (sym first.late ∙ late));
+          older = λ v late. absurd (no_some v (sym first.late ∙ late));
+        }
+
+    first_living : (session : ℕ) (c : ClientView R) → client_in session w.lives ≡ Some c → IsLiving stands (home_of (lives_in session w.lives)) session [] (λ slot. nothing_known) c
+    first_living session c is =
+        let has : HasFirst session c = has_first session c is in
+        fresh_living (first_life session) has.lives.home c has.fresh (home_of (lives_in session w.lives)) session [] refl (sym (ap home_of has.there)) refl
 
   pub new_world_is_sound : (w : WorldView R) → IsNewWorld stands w → IsSoundWorld stands w
   new_world_is_sound w new = record {
     run = [];
-    homes = λ session. home_of (session_in session w.sessions);
-    knows = λ session slot. nothing_known;
+    homes = λ session. home_of (lives_in session w.lives);
+    who = first_of;
+    knows = λ h. nothing_known;
     calls = new.calls;
     history = new.history;
+    ids = new.ids;
     logs = new.sites;
     records = λ s. ap (after_all no_records) (new.sites s);
+    mail = new.mail;
     right = λ s. record { stands = nothing_stands; parentless = none_parentless; form = form_at_first };
     form = λ s. subst (λ log. AreInForm (after_all no_records log) (length log)) (sym (new.sites s)) form_at_first;
     parentless = λ s. subst (λ log. IsParentless (after_all no_records log)) (sym (new.sites s)) none_parentless;
-    clients = λ session c is. new_client session (home_of (session_in session w.sessions)) c (sym (ap home_of is)) (new.clients session c is);
+    lives = first_lives w new;
+    clients = first_living w new;
+    in_slots = λ session slot c is. sym (has_first w new session c is).fresh.instance;
     nobody = λ session none slot. refl;
-    apart = λ line session slot other there is also. absurd (no_some line (sym (no_line w session slot new) ∙ is));
+    apart = λ line session slot other there is also. absurd (no_some line (sym (no_line w new session slot) ∙ is));
     slots = λ line begun. absurd (no_some begun.asked begun.is);
-    truth = λ session slot s. nothing_is_true s _ _;
-    beside = λ session slot other there differ s. nothing_is_beside s _ _ _ nothing_known;
+    truth = λ session c is s. let has = has_first w new session c is in fresh_true (first_life session) has.lives.home c has.fresh s _ c.session.instance;
+    late = none_late w new;
+    sending = λ session slot x is. absurd (no_some x (sym (none_late w new session slot) ∙ is));
+    unsent = λ session slot none. refl;
+    drops = λ session slot there x differ is. absurd (no_some x (sym (none_late w new session slot) ∙ is));
+    beside = λ h g strangers s. nothing_is_beside s _ _ _ nothing_known;
     order = tt;
-    in_order = λ session c is. none_in_order stands (home_of (session_in session w.sessions)) session [] c (λ x. ap running_in ((new.clients session c is).slots x));
+    in_order = λ session c is.
+        let has = has_first w new session c is in
+        none_in_order stands (home_of (lives_in session w.lives)) c.session.instance [] c.session (fresh_runs_none (first_life session) has.lives.home c has.fresh);
   }

@@ -62,7 +62,7 @@ done_of session slot sites who line labels (Note s image e next) mine = tt
 done_of session slot sites who line labels (Return reply) mine = tt
 done_of session slot sites who line labels (Goto label) mine = tt
 
-oldest_is : (session : ℕ) (watchers : List Instance) (i : Instance) → oldest_of session watchers ≡ Some i → i.session ≡ session
+pub oldest_is : (session : ℕ) (watchers : List Instance) (i : Instance) → oldest_of session watchers ≡ Some i → i.session ≡ session
 oldest_is session [] i is = absurd (no_some i is)
 oldest_is session (w ∷ watchers) i is = by (w.session == session) refl (oldest_of session watchers) (oldest_is session watchers) is
   where
@@ -75,7 +75,7 @@ oldest_is session (w ∷ watchers) i is = by (w.session == session) refl (oldest
         go true is = ap (λ (x : Instance). x.session) (sym (some_same w i is)) ∙ eqb-true w.session session mine
         go false is = rest i is
 
-numbered_is : (number : ℕ) (mail : List Notice) (n : Notice) → numbered number mail ≡ Some n → n.number ≡ number
+pub numbered_is : (number : ℕ) (mail : List Notice) (n : Notice) → numbered number mail ≡ Some n → n.number ≡ number
 numbered_is number [] n is = absurd (no_some n is)
 numbered_is number (m ∷ mail) n is = by (m.number == number) refl (numbered_is number mail n) is
   where
@@ -183,8 +183,8 @@ module _ {R : Type 0} (stands : R → Standing) where
     pub sending : (session slot : ℕ) (x : Sent) → late_at session slot new.lives ≡ Some x
         → (who (Sending session slot) ≡ x.instance) × MayStillCome session (λ s. records_in s new.sites) x (knows (Sending session slot))
     pub unsent : (session slot : ℕ) → late_at session slot new.lives ≡ None → knows (Sending session slot) ≡ nothing_known
-    pub drops : (session slot there : ℕ) (x : Sent) → slot ≢ there → late_at session slot new.lives ≡ Some x → (s : SiteId) (r : Records)
-        → MayLook s r (who (Sending session slot)) (who (Sending session there)) (knows (Sending session slot)) (knows (Sending session there)) x.op
+    pub drops : (session slot there : ℕ) (x : Sent) → slot ≢ there → late_at session slot new.lives ≡ Some x → (r : Records)
+        → MayLook x.site r (who (Sending session slot)) (who (Sending session there)) (knows (Sending session slot)) (knows (Sending session there)) x.op
     pub beside : (h g : Holder) → AreStrangers h g → (s : SiteId) → AreBeside s (records_in s new.sites) (who h) (who g) (knows h) (knows g)
     pub turn : IsInTurn h w.run
     pub in_order : (session : ℕ) (c : ClientView R) → client_in session new.lives ≡ Some c → IsInOrder stands (w.homes session) c.session.instance (h ∷ w.run) c.session

@@ -1,11 +1,11 @@
--- Clients are made one after another, each at its home.
+-- Sessions are made one after another, each at its home and in its first life.
 use Rattle.std.proofs.Common.{◌≡◌, ◌⊎◌, inl, inr, ℕ, zero, suc, ◌+◌, ◌<◌, List, [], ◌∷◌, ◌++◌, ◌≤◌, length, length-append, slice_get, Option, Some, None, refl, sym, ap, ◌∙◌, subst, arith}
 use Rattle.std.proofs.Math.ListN.{get_or}
 use Rattle.std.proofs.lemmas.Option.{none-some, slice_get_cases, slice_get_within}
 use Rattle.rbd_kinds.specs.declared.id.SiteId.{SiteId}
 use Rattle.rbd_machine.specs.Plan.{Standing}
-use Rattle.rbd_session.specs.Session.{SessionView}
-use Rattle.rbd_world.specs.Sound.{AreFirstClients, AreNewClients, FirstIn, IsFirstClient, IsNewClient}
+use Rattle.rbd_world.specs.Sound.{AreAtHome, AreFirst, IsAtHome, IsFirst}
+use Rattle.rbd_world.specs.World.{LivesView}
 
 -- what stands in a list with one more: what stood there, or the last
 pub found_in : {X : Type 0} (xs : List X) (x : X) (k : ℕ) (y : X) → slice_get (xs ++ x ∷ []) k ≡ Some y → (slice_get xs k ≡ Some y) ⊎ ((k ≡ length xs) × (x ≡ y))
@@ -23,34 +23,34 @@ found_in (z ∷ xs) x (suc k) y is = by (found_in xs x k y is)
     by (inr (at, same)) = inr (ap suc at, same)
 
 module _ {R : Type 0} (stands : R → Standing) (homes : List SiteId) where
-  pub record IsAt (k : ℕ) (c : SessionView R) : Type 0 where
-    pub first : (home : SiteId) → slice_get homes k ≡ Some home → IsFirstClient k home c
-    pub new : IsNewClient stands k c
+  pub record IsAt (k : ℕ) (l : LivesView R) : Type 0 where
+    pub home : (home : SiteId) → slice_get homes k ≡ Some home → l.home ≡ home
+    pub first : IsFirst stands k l
 
   -- so many were made
-  pub record AreMade (count : ℕ) (sessions : List (SessionView R)) : Type 0 where
-    pub long : length sessions ≡ count
-    pub each : (k : ℕ) (c : SessionView R) → slice_get sessions k ≡ Some c → IsAt k c
+  pub record AreMade (count : ℕ) (lives : List (LivesView R)) : Type 0 where
+    pub long : length lives ≡ count
+    pub each : (k : ℕ) (l : LivesView R) → slice_get lives k ≡ Some l → IsAt k l
 
   pub none_made : AreMade 0 []
-  none_made = record { long = refl; each = λ k c is. absurd (none-some c is) }
+  none_made = record { long = refl; each = λ k l is. absurd (none-some l is) }
 
-  pub one_made : (count : ℕ) (sessions : List (SessionView R)) (c : SessionView R) → AreMade count sessions → IsAt count c → AreMade (count + 1) (sessions ++ c ∷ [])
-  one_made count sessions c made at = record {
-    long = length-append sessions (c ∷ []) ∙ ap (λ n. n + 1) made.long;
-    each = λ k d is. by k d (found_in sessions c k d is);
+  pub one_made : (count : ℕ) (lives : List (LivesView R)) (l : LivesView R) → AreMade count lives → IsAt count l → AreMade (count + 1) (lives ++ l ∷ [])
+  one_made count lives l made at = record {
+    long = length-append lives (l ∷ []) ∙ ap (λ n. n + 1) made.long;
+    each = λ k m is. by k m (found_in lives l k m is);
   }
     where
-      by : (k : ℕ) (d : SessionView R) → (slice_get sessions k ≡ Some d) ⊎ ((k ≡ length sessions) × (c ≡ d)) → IsAt k d
-      by k d (inl there) = made.each k d there
-      by k d (inr (last, same)) = subst (λ n. IsAt n d) (sym (last ∙ made.long)) (subst (IsAt count) same at)
+      by : (k : ℕ) (m : LivesView R) → (slice_get lives k ≡ Some m) ⊎ ((k ≡ length lives) × (l ≡ m)) → IsAt k m
+      by k m (inl there) = made.each k m there
+      by k m (inr (last, same)) = subst (λ n. IsAt n m) (sym (last ∙ made.long)) (subst (IsAt count) same at)
 
-  pub all_new : (count : ℕ) (sessions : List (SessionView R)) → AreMade count sessions → AreNewClients stands sessions
-  all_new count sessions made k c is = (made.each k c is).new
+  pub all_first : (count : ℕ) (lives : List (LivesView R)) → AreMade count lives → AreFirst stands lives
+  all_first count lives made k l is = (made.each k l is).first
 
   -- one for each home
-  pub all_first : (sessions : List (SessionView R)) → AreMade (length homes) sessions → AreFirstClients homes sessions
-  all_first sessions made k = by (slice_get homes k) refl (slice_get sessions k) refl
+  pub all_at_home : (lives : List (LivesView R)) → AreMade (length homes) lives → AreAtHome homes lives
+  all_at_home lives made k = by (slice_get homes k) refl (slice_get lives k) refl
     where
       some : {X : Type 0} (xs : List X) → k < length xs → slice_get xs k ≡ None → ⊥
       some {X} xs within none = go (slice_get_cases xs k).1
@@ -59,8 +59,8 @@ module _ {R : Type 0} (stands : R → Standing) (homes : List SiteId) where
           go (inl (x, inside, found, e)) = none-some x (sym none ∙ found)
           go (inr (behind, nothing)) = omega (arith, within, behind)
 
-      by : (h : Option SiteId) → slice_get homes k ≡ h → (o : Option (SessionView R)) → slice_get sessions k ≡ o → FirstIn k h o
+      by : (h : Option SiteId) → slice_get homes k ≡ h → (o : Option (LivesView R)) → slice_get lives k ≡ o → IsAtHome h o
       by None none None nobody = tt
-      by (Some home) is (Some c) there = (made.each k c there).first home is
-      by None none (Some c) there = some homes (subst (λ n. k < n) made.long (slice_get_within sessions k c there)) none
-      by (Some home) is None nobody = some sessions (subst (λ n. k < n) (sym made.long) (slice_get_within homes k home is)) nobody
+      by (Some home) is (Some l) there = (made.each k l there).home home is
+      by None none (Some l) there = some homes (subst (λ n. k < n) made.long (slice_get_within lives k l there)) none
+      by (Some home) is None nobody = some lives (subst (λ n. k < n) (sym made.long) (slice_get_within homes k home is)) nobody

@@ -1,20 +1,21 @@
 -- Who found an image first, one happening after another.
 use Rattle.std.proofs.Common.{◌≡◌, ℕ, ◌==◌, ◌&&◌, ◌||◌, not, cond, Bool, true, false, List, [], ◌∷◌, ◌++◌, Some, None, refl, sym, ap, ◌∙◌, subst}
 use Rattle.std.proofs.lemmas.Bool.{true≢false, eqb-true, and_parts}
+use Rattle.rbd_kinds.specs.declared.id.Instance.{Instance}
 use Rattle.rbd_kinds.specs.declared.id.SiteId.{SiteId}
 use Rattle.rbd_machine.specs.Knowledge.{same_site}
 use Rattle.rbd_session.proofs.Track.{same_site_is}
-use Rattle.rbd_world.specs.Run.{Happening, Nothing, Waited, Began, Did, Refused, Trimmed, Operation, asked_by, or_asked, step_of, steps_in, steps_of}
+use Rattle.rbd_world.specs.Run.{Happening, Nothing, Waited, Began, Did, Refused, Trimmed, Expired, Heard, Stopped, Restarted, Operation, asked_by, is_own, or_asked, step_of, steps_in, steps_of}
 use Rattle.rbd_world.specs.Sound.{IsDue, IsRight}
 use Rattle.rbd_world.specs.Order.{IsInTurn, IsWriterOf, KeepsOrder, finds_in, found_before, has_found, has_written, tells_image, writes_in, writes_object}
 use Rattle.rbd_world.proofs.Runs.{unheard}
 
 -- ---- a happening without a step of the line
 
-no_step : (o : Operation) (line : ℕ) → cond (o.line == line) (step_of o ∷ []) [] ≡ [] → (o.line == line) ≡ false
-no_step o line none = by (o.line == line) refl none
+no_step : (o : Operation) (line : ℕ) → cond (is_own line o.by) (step_of o ∷ []) [] ≡ [] → is_own line o.by ≡ false
+no_step o line none = by (is_own line o.by) refl none
   where
-    by : (b : Bool) → (o.line == line) ≡ b → cond b (step_of o ∷ []) [] ≡ [] → (o.line == line) ≡ false
+    by : (b : Bool) → is_own line o.by ≡ b → cond b (step_of o ∷ []) [] ≡ [] → is_own line o.by ≡ false
     by true is none = cc
     by false is none = is
 
@@ -22,17 +23,25 @@ pub finds_nothing : (line : ℕ) (s : SiteId) (image : ℕ) (h : Happening) → 
 finds_nothing line s image (Did o reply) none = ap (λ b. b && (same_site o.site s && tells_image image o.op o.answer)) (no_step o line none)
 finds_nothing line s image Nothing none = refl
 finds_nothing line s image Waited none = refl
-finds_nothing line s image (Began asked who slot) none = refl
+finds_nothing line s image (Began asked slot) none = refl
 finds_nothing line s image (Refused site other reply) none = refl
 finds_nothing line s image (Trimmed site number i object) none = refl
+finds_nothing line s image (Expired site number i who) none = refl
+finds_nothing line s image (Heard notice) none = refl
+finds_nothing line s image (Stopped who wanted lost) none = refl
+finds_nothing line s image (Restarted who) none = refl
 
 pub writes_nothing : (line : ℕ) (s : SiteId) (image number : ℕ) (h : Happening) → steps_in line h ≡ [] → writes_in line s image number h ≡ false
 writes_nothing line s image number (Did o reply) none = ap (λ b. b && (same_site o.site s && writes_object image number o.op)) (no_step o line none)
 writes_nothing line s image number Nothing none = refl
 writes_nothing line s image number Waited none = refl
-writes_nothing line s image number (Began asked who slot) none = refl
+writes_nothing line s image number (Began asked slot) none = refl
 writes_nothing line s image number (Refused site other reply) none = refl
 writes_nothing line s image number (Trimmed site n i object) none = refl
+writes_nothing line s image number (Expired site n i who) none = refl
+writes_nothing line s image number (Heard notice) none = refl
+writes_nothing line s image number (Stopped who wanted lost) none = refl
+writes_nothing line s image number (Restarted who) none = refl
 
 pub both_none : {T : Type 0} (xs ys : List T) → xs ++ ys ≡ [] → (xs ≡ []) × (ys ≡ [])
 both_none [] ys none = (refl, none)
@@ -123,41 +132,45 @@ other_unfound one other s image h run none is =
 
 -- what a happening that finds or writes is
 pub record IsDoneBy (line : ℕ) (s : SiteId) (o : Operation) (b : Bool) : Type 0 where
-  pub line_is : o.line ≡ line
+  pub own : is_own line o.by ≡ true
   pub site_is : o.site ≡ s
   pub so : b ≡ true
 
-pub done_by_line : (line : ℕ) (s : SiteId) (o : Operation) (b : Bool) → ((o.line == line) && (same_site o.site s && b)) ≡ true → IsDoneBy line s o b
+pub done_by_line : (line : ℕ) (s : SiteId) (o : Operation) (b : Bool) → (is_own line o.by && (same_site o.site s && b)) ≡ true → IsDoneBy line s o b
 done_by_line line s o b is =
-    let parts = and_parts (o.line == line) (same_site o.site s && b) is in
+    let parts = and_parts (is_own line o.by) (same_site o.site s && b) is in
     let more = and_parts (same_site o.site s) b parts.1 in
-    record { line_is = eqb-true o.line line parts.0; site_is = same_site_is s o.site more.0; so = more.1 }
+    record { own = parts.0; site_is = same_site_is s o.site more.0; so = more.1 }
 
 -- its command is asked for already, where it isn't the one that begins
-pub writer_same : (session line : ℕ) (h : Happening) (run : List Happening) → or_asked line h (asked_by line run) ≡ asked_by line run → IsWriterOf session line (h ∷ run) → IsWriterOf session line run
-writer_same session line h run same w = record { asked = w.asked; is = sym same ∙ w.is; mine = w.mine; writes = w.writes }
+pub writer_same : (who : Instance) (line : ℕ) (h : Happening) (run : List Happening) → or_asked line h (asked_by line run) ≡ asked_by line run → IsWriterOf who line (h ∷ run) → IsWriterOf who line run
+writer_same who line h run same w = record { asked = w.asked; is = sym same ∙ w.is; mine = w.mine; writes = w.writes }
 
 -- who has done a step was asked for before
-pub writer_was : (homes : ℕ → SiteId) (session line : ℕ) (h : Happening) (run : List Happening) → IsDue homes h run → IsRight homes run → IsWriterOf session line (h ∷ run)
-    → (steps_of line run ≡ [] → ⊥) → IsWriterOf session line run
-writer_was homes session line Nothing run due right w some = writer_same session line Nothing run refl w
-writer_was homes session line Waited run due right w some = writer_same session line Waited run refl w
-writer_was homes session line (Did o reply) run due right w some = writer_same session line (Did o reply) run refl w
-writer_was homes session line (Refused s other reply) run due right w some = writer_same session line (Refused s other reply) run refl w
-writer_was homes session line (Trimmed s number image object) run due right w some = writer_same session line (Trimmed s number image object) run refl w
-writer_was homes session line (Began asked who slot) run due right w some = by (asked.line == line) refl
+writer_was : (homes : ℕ → SiteId) (who : Instance) (line : ℕ) (h : Happening) (run : List Happening) → IsDue homes h run → IsRight homes run → IsWriterOf who line (h ∷ run)
+    → (steps_of line run ≡ [] → ⊥) → IsWriterOf who line run
+writer_was homes who line Nothing run due right w some = writer_same who line Nothing run refl w
+writer_was homes who line Waited run due right w some = writer_same who line Waited run refl w
+writer_was homes who line (Did o reply) run due right w some = writer_same who line (Did o reply) run refl w
+writer_was homes who line (Refused s other reply) run due right w some = writer_same who line (Refused s other reply) run refl w
+writer_was homes who line (Trimmed s number image object) run due right w some = writer_same who line (Trimmed s number image object) run refl w
+writer_was homes who line (Expired s number image watcher) run due right w some = writer_same who line (Expired s number image watcher) run refl w
+writer_was homes who line (Heard notice) run due right w some = writer_same who line (Heard notice) run refl w
+writer_was homes who line (Stopped stopped wanted lost) run due right w some = writer_same who line (Stopped stopped wanted lost) run refl w
+writer_was homes who line (Restarted next) run due right w some = writer_same who line (Restarted next) run refl w
+writer_was homes who line (Began asked slot) run due right w some = by (asked.line == line) refl
   where
-    by : (b : Bool) → (asked.line == line) ≡ b → IsWriterOf session line run
-    by true here = absurd (some (unheard homes line run right (subst (λ l. asked_by l run ≡ None) (eqb-true asked.line line here) due)).steps)
-    by false other = writer_same session line (Began asked who slot) run (ap (λ b. cond b (Some asked) (asked_by line run)) other) w
+    by : (b : Bool) → (asked.line == line) ≡ b → IsWriterOf who line run
+    by true here = absurd (some (unheard homes line run right (subst (λ l. asked_by l run ≡ None) (eqb-true asked.line line here) due.new)).steps)
+    by false other = writer_same who line (Began asked slot) run (ap (λ b. cond b (Some asked) (asked_by line run)) other) w
 
-pub wrote_was : (homes : ℕ → SiteId) (session line : ℕ) (s : SiteId) (image number : ℕ) (h : Happening) (run : List Happening) → IsDue homes h run → IsRight homes run → IsWriterOf session line (h ∷ run)
-    → has_written line s image number run ≡ true → IsWriterOf session line run
-wrote_was homes session line s image number h run due right w written =
-    writer_was homes session line h run due right w (λ none. true≢false (sym written ∙ never_written line s image number run none))
+pub wrote_was : (homes : ℕ → SiteId) (who : Instance) (line : ℕ) (s : SiteId) (image number : ℕ) (h : Happening) (run : List Happening) → IsDue homes h run → IsRight homes run → IsWriterOf who line (h ∷ run)
+    → has_written line s image number run ≡ true → IsWriterOf who line run
+wrote_was homes who line s image number h run due right w written =
+    writer_was homes who line h run due right w (λ none. true≢false (sym written ∙ never_written line s image number run none))
 
 -- who has written it has found it
-module _ (homes : ℕ → SiteId) (session line : ℕ) (s : SiteId) (image number : ℕ) where
+module _ (homes : ℕ → SiteId) (who : Instance) (line : ℕ) (s : SiteId) (image number : ℕ) where
   later : (h : Happening) (run : List Happening) → has_found line s image run ≡ true → has_found line s image (h ∷ run) ≡ true
   later h run found = by (finds_in line s image h)
     where
@@ -165,22 +178,25 @@ module _ (homes : ℕ → SiteId) (session line : ℕ) (s : SiteId) (image numbe
       by true = refl
       by false = found
 
-  found_by : (h : Happening) (run : List Happening) → IsInTurn h run → IsWriterOf session line (h ∷ run) → writes_in line s image number h ≡ true → has_found line s image run ≡ true
+  found_by : (h : Happening) (run : List Happening) → IsInTurn h run → IsWriterOf who line (h ∷ run) → writes_in line s image number h ≡ true → has_found line s image run ≡ true
   found_by (Did o reply) run turn w is =
       let by = done_by_line line s o (writes_object image number o.op) is in
-      let mine : IsWriterOf session o.line run = subst (λ l. IsWriterOf session l run) (sym by.line_is) (writer_same session line (Did o reply) run refl w) in
-      subst (λ l. has_found l s image run ≡ true) by.line_is (subst (λ t. has_found o.line t image run ≡ true) by.site_is (turn session image number mine by.so).found)
+      subst (λ t. has_found line t image run ≡ true) by.site_is (turn who line image number by.own (writer_same who line (Did o reply) run refl w) by.so).found
   found_by Nothing run turn w is = cc
   found_by Waited run turn w is = cc
-  found_by (Began asked who slot) run turn w is = cc
+  found_by (Began asked slot) run turn w is = cc
   found_by (Refused t other reply) run turn w is = cc
   found_by (Trimmed t n i object) run turn w is = cc
+  found_by (Expired t n i watcher) run turn w is = cc
+  found_by (Heard notice) run turn w is = cc
+  found_by (Stopped stopped wanted lost) run turn w is = cc
+  found_by (Restarted next) run turn w is = cc
 
-  pub written_found : (run : List Happening) → IsRight homes run → KeepsOrder run → IsWriterOf session line run → has_written line s image number run ≡ true → has_found line s image run ≡ true
+  pub written_found : (run : List Happening) → IsRight homes run → KeepsOrder run → IsWriterOf who line run → has_written line s image number run ≡ true → has_found line s image run ≡ true
   written_found [] right keeps w is = cc
   written_found (h ∷ run) right keeps w is = by (writes_in line s image number h) refl is (written_found run right.2 keeps.1)
     where
       by : (b : Bool) → writes_in line s image number h ≡ b → (b || has_written line s image number run) ≡ true
-          → (IsWriterOf session line run → has_written line s image number run ≡ true → has_found line s image run ≡ true) → has_found line s image (h ∷ run) ≡ true
+          → (IsWriterOf who line run → has_written line s image number run ≡ true → has_found line s image run ≡ true) → has_found line s image (h ∷ run) ≡ true
       by true now is rest = later h run (found_by h run keeps.0 w now)
-      by false now is rest = later h run (rest (wrote_was homes session line s image number h run right.1 right.2 w is) is)
+      by false now is rest = later h run (rest (wrote_was homes who line s image number h run right.1 right.2 w is) is)

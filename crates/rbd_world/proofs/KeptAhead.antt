@@ -79,6 +79,10 @@ run_keeps slot (Note s image event next) t =
     then slot t.lines (noted_by slot t).lines (run slot next (noted_by slot t)).lines (noted_leaves slot t) (own_keeps slot t.place (given t.due) (given_steady t.due) t.lines)
     (run_keeps slot next (noted_by slot t))
 
+-- and so where it leaves its line
+pub ended_keeps : (slot : ℕ) (t : Track) → KeepsAhead slot t.lines (ended_by slot t).lines
+ended_keeps slot t = at_place slot t.place (without slot) t.lines (λ x y x_other y_other ms member is. ahead_left slot x y ms x_other y_other is)
+
 module _ (slot : ℕ) (e : Option Extent) (t : Track) (s : SiteId) (o : Op) (a : Answer) (to : Plan) where
   abbrev pub goes_to : Track
   goes_to = run slot to (answered_by slot e t s o a)
@@ -92,4 +96,4 @@ module _ (slot : ℕ) (e : Option Extent) (t : Track) (s : SiteId) (o : Op) (a :
   end_keeps =
       then slot t.lines goes_to.lines (ended_by slot goes_to).lines
       (λ other differ site i. run_leaves slot to (answered_by slot e t s o a) other differ site i ∙ answered_leaves slot e t s o a other differ site i) answer_keeps
-      (at_place slot goes_to.place (without slot) goes_to.lines (λ x y x_other y_other ms member is. ahead_left slot x y ms x_other y_other is))
+      (ended_keeps slot goes_to)

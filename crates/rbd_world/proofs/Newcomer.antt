@@ -1,16 +1,19 @@
--- A session begins a command whose line is new: its request stands where the command's plan begins.
+-- A client begins a command whose line is new: its request stands where the command's plan begins.
 use Rattle.std.proofs.Common.{◌≡◌, ◌≢◌, ◌⊎◌, inl, inr, ℕ, ◌==◌, Bool, cond, true, false, is_some, [], ◌∷◌, ◌++◌, Option, Some, None, refl, sym, ap, ◌∙◌, subst}
 use Rattle.std.proofs.lemmas.Bool.{true≢false, eq-eqb, eqb-true}
+use Rattle.rbd_client.specs.Client.{ClientView}
 use Rattle.rbd_commands.specs.declared.command.Command.{Command}
+use Rattle.rbd_held.specs.Truth.{IsTrueOf}
+use Rattle.rbd_held.proofs.Calls.{submitted_is_true}
+use Rattle.rbd_kinds.specs.declared.id.Instance.{Instance}
 use Rattle.rbd_kinds.specs.declared.id.SiteId.{SiteId}
-use Rattle.rbd_known.specs.Calm.{OwnsNothing}
-use Rattle.rbd_known.specs.Knowing.{KnowsIn}
+use Rattle.rbd_known.specs.Knowing.{AllKnow, KnowsIn}
 use Rattle.rbd_known.proofs.Calmly.{look_is_calm}
 use Rattle.rbd_known.proofs.Newcomers.{newcomer_knows}
-use Rattle.rbd_machine.specs.Knowledge.{nothing_known}
+use Rattle.rbd_machine.specs.Knowledge.{Knowledge, nothing_known}
 use Rattle.rbd_machine.specs.Plan.{Standing}
 use Rattle.rbd_machine.specs.Refused.{AreGiven}
-use Rattle.rbd_rely.specs.Truth.{IsTrueAt, IsParentless}
+use Rattle.rbd_rely.specs.Beside.{AreBeside}
 use Rattle.rbd_requests.specs.CommandsLawful.{command_is_lawful}
 use Rattle.rbd_requests.specs.Served.{IsPlanFor, is_built}
 use Rattle.rbd_requests.specs.Touched.{extent_of}
@@ -18,37 +21,50 @@ use Rattle.rbd_requests.proofs.OnePlan.{has_one_plan}
 use Rattle.rbd_session.specs.declared.running.Occupant.{Occupant}
 use Rattle.rbd_session.specs.declared.running.Occupant.TheVariants as occupant
 use Rattle.rbd_session.specs.Lines.{LinesView}
-use Rattle.rbd_session.specs.Session.{SessionView, IsNewcomer, held_in, running_in, script_line}
+use Rattle.rbd_session.specs.Session.{IsNewcomer, held_in, running_in, script_line}
 use Rattle.rbd_session.proofs.Sound.{no_some, some_same}
 use Rattle.rbd_world.specs.declared.event.Event.TheVariants as event
 use Rattle.rbd_world.specs.Order.{IsInOrder}
 use Rattle.rbd_world.specs.Run.{Asked, Happening, Began, asked_by, steps_of}
-use Rattle.rbd_world.specs.Sound.{AreApart, IsHeldRightly, IsInSlot, IsOpen, IsSoundWorld, first_life, has_reply, line_at}
-use Rattle.rbd_world.specs.Step.{Begins, Does, DoesAtSites, IsSoundIf, is_begun}
-use Rattle.rbd_world.specs.World.{WorldView, session_in}
-use Rattle.rbd_world.proofs.Carried.{Carries}
-use Rattle.rbd_world.proofs.Changed.{IsElsewhere, all_but, client_of, clients_of, has_become, here_or_elsewhere, line_elsewhere, line_in_new, nobody_of, open_there}
+use Rattle.rbd_world.specs.Sound.{AreApart, InSlot, Sending, IsBegin, IsHeldRightly, IsInSlot, IsLiving, IsOpen, IsSoundWorld, has_ended, held_of, known_in, line_at}
+use Rattle.rbd_world.specs.Step.{Begins, BeginsIn, Does, DoesAtSites, IsSoundIf, begins_of, is_begun, quiescing_of}
+use Rattle.rbd_world.specs.World.{WorldView, client_in, records_in, session_of}
+use Rattle.rbd_world.proofs.Carried.{IsCarried}
+use Rattle.rbd_world.proofs.Changed.{GoesOnAs, HasBecome, IsElsewhere, all_but, client_is, has_become, here_or_elsewhere, line_elsewhere, line_is, living_of, open_there}
+use Rattle.rbd_world.proofs.GoesOn.{goes_carries}
 use Rattle.rbd_world.proofs.OneMoreWrite.{begun_order}
-use Rattle.rbd_world.proofs.OrderedWorld.{freed_order, order_beside, orders_of}
-use Rattle.rbd_world.proofs.Quiet.{lines_differ, quiet_began}
-use Rattle.rbd_world.proofs.Rest.{stay_beside, where_standing}
-use Rattle.rbd_world.proofs.Slots.{in_this_slot, open_back, other_slots}
+use Rattle.rbd_world.proofs.OrderedWorld.{freed_order, order_beside}
+use Rattle.rbd_world.proofs.Quiet.{IsQuiet, lines_differ, quiet_began}
+use Rattle.rbd_world.proofs.Rest.{StaysTrue, same_true, still_may_come, where_standing}
 use Rattle.rbd_world.proofs.Runs.{IsUnheard, begun_is_asked, unheard}
+use Rattle.rbd_world.proofs.Slots.{in_this_slot, open_back, other_slots}
 
 none_of : {T : Type 0} (o : Option T) → is_some o ≡ false → o ≡ None
 none_of None is = refl
 none_of (Some x) is = absurd (true≢false is)
 
 module _ {R : Type 0} (stands : R → Standing) (old new : WorldView R) (w : IsSoundWorld stands old) (session line : ℕ) (command : Command) (built : is_built command ≡ true)
-    (c : SessionView R) (there : session_in session old.sessions ≡ Some c) (fresh : is_begun line old.history ≡ false) where
+    (c : ClientView R) (there : client_in session old.lives ≡ Some c) (fresh : is_begun line old.history ≡ false) where
+  abbrev me : Instance
+  me = c.session.instance
+
   abbrev is_asked : Asked
-  is_asked = record { session = session; line = line; command = command }
+  is_asked = begins_of me line command
+
+  abbrev lowest : ℕ
+  lowest = c.session.lowest
 
   abbrev does_begin : Happening
-  does_begin = Began is_asked c.instance c.lowest
+  does_begin = Began is_asked lowest
 
   abbrev home : SiteId
   home = w.homes session
+
+  abbrev knew : ℕ → Knowledge
+  knew = known_in w.knows session
+
+  living : IsLiving stands home session w.run knew c
+  living = w.clients session c there
 
   unasked : asked_by line w.run ≡ None
   unasked = none_of (asked_by line w.run) (sym (begun_is_asked line w.run) ∙ ap (is_begun line) (sym w.history) ∙ fresh)
@@ -62,13 +78,11 @@ module _ {R : Type 0} (stands : R → Standing) (old new : WorldView R) (w : IsS
   asked_now : asked_by line (does_begin ∷ w.run) ≡ Some is_asked
   asked_now = ap (λ b. cond b (Some is_asked) (asked_by line w.run)) (eq-eqb line line refl)
 
-  knows_nothing : w.knows session c.lowest ≡ nothing_known
-  knows_nothing =
-      let client = w.clients session c there in
-      subst (λ o. KnowsIn stands c.lowest (running_in o) c.lines (w.knows session c.lowest)) client.sound.lowest.free (client.know c.lowest)
+  knows_nothing : knew lowest ≡ nothing_known
+  knows_nothing = subst (λ o. KnowsIn stands lowest (running_in o) c.session.lines (knew lowest)) living.sound.session.lowest.free (living.know lowest)
 
   -- another slot's line is another
-  differs : (m x other : ℕ) → line_at m x old.sessions ≡ Some other → line ≢ other
+  differs : (m x other : ℕ) → line_at m x old.lives ≡ Some other → line ≢ other
   differs m x other is same =
       let begun = open_there stands old w m x other is in
       no_some begun.asked (sym unasked ∙ ap (λ l. asked_by l w.run) same ∙ begun.is)
@@ -78,16 +92,19 @@ module _ {R : Type 0} (stands : R → Standing) (old new : WorldView R) (w : IsS
   abbrev IsNew : Option (Occupant R) → Type 0
   IsNew = IsNewcomer stands IsPlanFor extent_of home line command
 
-  holds_rightly : (o : Option (Occupant R)) → IsNew o → IsHeldRightly stands home session (does_begin ∷ w.run) (w.knows session c.lowest) o
+  abbrev opened : (l : ℕ) → l ≡ line → IsOpen l (does_begin ∷ w.run)
+  opened l same = record {
+    asked = is_asked;
+    is = ap (λ n. asked_by n (does_begin ∷ w.run)) same ∙ asked_now;
+    unended = ap (λ n. has_ended n w.run) same ∙ unknown.unended;
+  }
+
+  holds_rightly : (o : Option (Occupant R)) → IsNew o → IsHeldRightly stands home me (does_begin ∷ w.run) o
   holds_rightly None is = absurd is
   holds_rightly (Some (occupant.Refused number refusal)) (same, ends) =
       let one = has_one_plan home command built in
       record {
-        begun = record {
-          asked = is_asked;
-          is = ap (λ l. asked_by l (does_begin ∷ w.run)) same ∙ asked_now;
-          unanswered = ap (λ l. has_reply l w.run) same ∙ unknown.unanswered;
-        };
+        begun = opened number same;
         mine = refl;
         start = one.standing;
         plan = one.is;
@@ -97,11 +114,7 @@ module _ {R : Type 0} (stands : R → Standing) (old new : WorldView R) (w : IsS
   holds_rightly (Some (occupant.Running r)) begins =
       let none = ap (λ l. steps_of l (does_begin ∷ w.run)) begins.is_line ∙ no_steps in
       record {
-        begun = record {
-          asked = is_asked;
-          is = ap (λ l. asked_by l (does_begin ∷ w.run)) begins.is_line ∙ asked_now;
-          unanswered = ap (λ l. has_reply l w.run) begins.is_line ∙ unknown.unanswered;
-        };
+        begun = opened r.line begins.is_line;
         mine = refl;
         start = stands r.request;
         plan = begins.stands_there;
@@ -109,45 +122,49 @@ module _ {R : Type 0} (stands : R → Standing) (old new : WorldView R) (w : IsS
         feds = [];
         walk = (none, refl);
         given = subst AreGiven (sym none) tt;
-        calm = λ looks. (
-          look_is_calm home command (stands r.request) looks begins.stands_there,
-          subst OwnsNothing (sym knows_nothing) (λ site image. refl),
-        );
+        calm = λ looks. (look_is_calm home command (stands r.request) looks begins.stands_there, begins.place);
       }
 
-  knows_in : (lines : LinesView) (o : Option (Occupant R)) → IsNew o → KnowsIn stands c.lowest (running_in o) lines (w.knows session c.lowest)
+  knows_in : (lines : LinesView) (o : Option (Occupant R)) → IsNew o → KnowsIn stands lowest (running_in o) lines (knew lowest)
   knows_in lines None is = absurd is
   knows_in lines (Some (occupant.Refused number refusal)) is = knows_nothing
   knows_in lines (Some (occupant.Running r)) begins =
-      subst (KnowsIn stands c.lowest (Some r) lines) (sym knows_nothing)
-      (newcomer_knows stands IsPlanFor extent_of (λ work. Unit {0}) (λ at work s served is. command_is_lawful at work s is) home line c.lowest command r lines tt begins)
+      subst (KnowsIn stands lowest (Some r) lines) (sym knows_nothing)
+      (newcomer_knows stands IsPlanFor extent_of (λ work. Unit {0}) (λ at work s served is. command_is_lawful at work s is) home line lowest command r lines tt begins)
 
   line_of_new : (o : Option (Occupant R)) (other : ℕ) → IsNew o → script_line o ≡ Some other → line ≡ other
   line_of_new None other is at_line = absurd is
   line_of_new (Some (occupant.Refused number refusal)) other is at_line = sym is.0 ∙ some_same number other at_line
   line_of_new (Some (occupant.Running r)) other begins at_line = sym begins.is_line ∙ some_same r.line other at_line
 
+  line_now : (o : Option (Occupant R)) → IsNew o → script_line o ≡ Some line
+  line_now None is = absurd is
+  line_now (Some (occupant.Refused number refusal)) is = ap Some is.0
+  line_now (Some (occupant.Running r)) is = ap Some is.is_line
+
   -- ---- the world
 
-  module _ (d : SessionView R) (after : session_in session new.sessions ≡ Some d) (others : (m : ℕ) → m ≢ session → session_in m new.sessions ≡ session_in m old.sessions)
-      (begins : Begins stands is_asked c d) where
-    is_new : IsNew (held_in c.lowest d.slots)
-    is_new = subst (λ s. IsNewcomer stands IsPlanFor extent_of s line command (held_in c.lowest d.slots)) (w.clients session c there).at_home begins.held
+  module _ (d : ClientView R) (goes : GoesOnAs old new session c d) (became : BeginsIn stands line command c d) where
+    abbrev begins : Begins stands line command c.session d.session
+    begins = became.begins
+
+    is_new : IsNew (held_in lowest d.session.slots)
+    is_new = subst (λ s. IsNewcomer stands IsPlanFor extent_of s line command (held_in lowest d.session.slots)) living.at_home begins.held
 
     abbrev Where : (m x : ℕ) → Type 0
-    Where m x = ((m ≡ session) × (x ≡ c.lowest)) ⊎ IsElsewhere session c.lowest m x
+    Where m x = ((m ≡ session) × (x ≡ lowest)) ⊎ IsElsewhere session lowest m x
 
-    begun_apart : AreApart new.sessions
-    begun_apart l m x o y one two = by (here_or_elsewhere session c.lowest m x) (here_or_elsewhere session c.lowest o y)
+    begun_apart : AreApart new.lives
+    begun_apart l m x o y one two = by (here_or_elsewhere session lowest m x) (here_or_elsewhere session lowest o y)
       where
-        elsewhere : (m x : ℕ) → IsElsewhere session c.lowest m x → line_at m x new.sessions ≡ Some l → line_at m x old.sessions ≡ Some l
-        elsewhere m x where_else is = sym (line_elsewhere stands old new w does_begin session c.lowest c d there after others begins.slots m x where_else) ∙ is
+        elsewhere : (m x : ℕ) → IsElsewhere session lowest m x → line_at m x new.lives ≡ Some l → line_at m x old.lives ≡ Some l
+        elsewhere m x where_else is = sym (line_elsewhere old new session c d goes lowest begins.slots m x where_else) ∙ is
 
-        here : (m x : ℕ) → (m ≡ session) × (x ≡ c.lowest) → line_at m x new.sessions ≡ Some l → line ≡ l
+        here : (m x : ℕ) → (m ≡ session) × (x ≡ lowest) → line_at m x new.lives ≡ Some l → line ≡ l
         here m x (same, at) is =
-            line_of_new (held_in c.lowest d.slots) l is_new
-            (sym (line_in_new stands old new w does_begin session c.lowest c d there after others begins.slots c.lowest)
-            ∙ sym (ap (λ i. line_at i x new.sessions) same ∙ ap (λ i. line_at session i new.sessions) at) ∙ is)
+            line_of_new (held_in lowest d.session.slots) l is_new
+            (sym (line_is old new session c d goes lowest)
+            ∙ sym (ap (λ i. line_at i x new.lives) same ∙ ap (λ i. line_at session i new.lives) at) ∙ is)
 
         by : Where m x → Where o y → (m ≡ o) × (x ≡ y)
         by (inl (one, two)) (inl (three, four)) = (one ∙ sym three, two ∙ sym four)
@@ -155,58 +172,53 @@ module _ {R : Type 0} (stands : R → Standing) (old new : WorldView R) (w : IsS
         by (inr where_else) (inl at) = absurd (differs m x l (elsewhere m x where_else one) (here o y at two))
         by (inr this) (inr that) = w.apart l m x o y (elsewhere m x this one) (elsewhere o y that two)
 
-    line_now : (o : Option (Occupant R)) → IsNew o → script_line o ≡ Some line
-    line_now None is = absurd is
-    line_now (Some (occupant.Refused number refusal)) is = ap Some is.0
-    line_now (Some (occupant.Running r)) is = ap Some is.is_line
-
-    slots_then : (l : ℕ) → IsOpen l (does_begin ∷ w.run) → (b : Bool) → (line == l) ≡ b → IsInSlot l new.sessions
+    slots_then : (l : ℕ) → IsOpen l (does_begin ∷ w.run) → (b : Bool) → (line == l) ≡ b → IsInSlot l new.lives
     slots_then l now true own =
-        in_this_slot stands old new w does_begin session c.lowest c d there after others begins.slots l
-        (line_now (held_in c.lowest d.slots) is_new ∙ ap Some (eqb-true line l own))
+        in_this_slot old new session c d goes lowest begins.slots l (line_now (held_in lowest d.session.slots) is_new ∙ ap Some (eqb-true line l own))
     slots_then l now false other =
-        other_slots stands old new w does_begin session c.lowest c d there after others begins.slots l
-        (λ is. no_some l (sym (ap script_line (w.clients session c there).sound.lowest.free) ∙ is))
-        (open_back l does_begin w.run (quiet_began l is_asked c.instance c.lowest other) now)
+        other_slots old new session c d goes lowest begins.slots l (λ is. no_some l (sym (ap script_line living.sound.session.lowest.free) ∙ is))
+        (w.slots l (open_back l does_begin w.run (quiet_began l is_asked lowest other) now))
 
-    order_then : (o : Option (Occupant R)) → held_in c.lowest d.slots ≡ o → IsNew o → IsInOrder stands home session (does_begin ∷ w.run) c → IsInOrder stands home session (does_begin ∷ w.run) d
+    quiet : (x other : ℕ) → script_line (held_in x c.session.slots) ≡ Some other → IsQuiet other does_begin
+    quiet x other is = quiet_began other is_asked lowest (lines_differ line other (differs session x other (ap (λ o. script_line (held_of x (session_of o))) there ∙ is)))
+
+    quiet_others : (m : ℕ) (q : ClientView R) → m ≢ session → client_in m old.lives ≡ Some q → (x other : ℕ) → script_line (held_in x q.session.slots) ≡ Some other → IsQuiet other does_begin
+    quiet_others m q apart at x other is = quiet_began other is_asked lowest (lines_differ line other (differs m x other (ap (λ o. script_line (held_of x (session_of o))) at ∙ is)))
+
+    order_then : (o : Option (Occupant R)) → held_in lowest d.session.slots ≡ o → IsNew o → IsInOrder stands home me (does_begin ∷ w.run) c.session → IsInOrder stands home me (does_begin ∷ w.run) d.session
     order_then None at is keeps = absurd is
     order_then (Some (occupant.Refused number refusal)) at is keeps =
-        freed_order stands home session (does_begin ∷ w.run) c.lowest c d begins.slots begins.lines (ap running_in at) keeps
+        freed_order stands home me (does_begin ∷ w.run) lowest c.session d.session begins.slots begins.lines (ap running_in at) keeps
     order_then (Some (occupant.Running r)) at is keeps =
-        let client = w.clients session c there in
-        begun_order stands home session c.lowest line command (does_begin ∷ w.run) c d r client.sound (ap running_in client.sound.lowest.free) (ap running_in at) is
+        begun_order stands home me lowest line command (does_begin ∷ w.run) c.session d.session r living.sound.session (ap running_in living.sound.session.lowest.free) (ap running_in at) is
         begins.slots begins.lines no_steps is_asked asked_now refl keeps
 
-    begun_carries : DoesAtSites does_begin old.sites new.sites → ((m : ℕ) → IsSoundIf stands (session_in m new.sessions)) → Carries stands old new w does_begin w.knows
+    begun_carries : DoesAtSites does_begin old.sites new.sites → ((m : ℕ) → IsSoundIf stands (client_in m new.lives)) → IsCarried stands old new w does_begin
     begun_carries at_sites sound =
-        let quiet = λ (m x other : ℕ) (where_else : IsElsewhere session c.lowest m x) (is : line_at m x old.sessions ≡ Some other). quiet_began other is_asked c.instance c.lowest (lines_differ line other (differs m x other is)) in
-        let all =
-        all_but stands (w.knows session) c.lowest c d begins.slots begins.lines (w.clients session c there).know
-        (knows_in d.lines (held_in c.lowest d.slots) is_new) in
-        let own =
-        client_of stands old new w does_begin session c.lowest c d there after others begins.slots (w.knows session) quiet
-        (subst (IsSoundIf stands) after (sound session)) begins.client all (λ x differ. refl)
-        (holds_rightly (held_in c.lowest d.slots) is_new) in
-        record {
-          standing = where_standing w.homes w.run w.right;
-          due = unasked;
-          parentless = λ s. subst IsParentless (sym (at_sites.records s)) (w.parentless s);
-          clients = clients_of stands old new w does_begin session c.lowest c d there after others begins.slots w.knows (λ m differ. refl) quiet own;
-          nobody = nobody_of stands old new w does_begin session c.lowest c d there after others begins.slots w.knows (λ m differ. refl);
-          apart = begun_apart;
-          slots = λ l now. slots_then l now (line == l) refl;
-          truth = λ m x s. subst (λ r. IsTrueAt s r (first_life m) (w.knows m x)) (sym (at_sites.records s)) (w.truth m x s);
-          beside = stay_beside stands old new w at_sites.records;
-          turn = tt;
-          in_order =
-              orders_of stands old new w does_begin unasked session c.lowest c there quiet d after others (λ m differ other writer. refl)
-              (order_then (held_in c.lowest d.slots) refl is_new
-              (order_beside stands old new w does_begin unasked session c.lowest c there quiet (ap running_in (w.clients session c there).sound.lowest.free) (λ other writer. refl)));
-        }
+        let stays : (s : SiteId) → StaysTrue stands old new w s (records_in s new.sites) = λ s. same_true stands old new w s (records_in s new.sites) (at_sites.records s) in
+        let all = all_but stands knew lowest c.session d.session begins.slots begins.lines living.know (knows_in d.session.lines (held_in lowest d.session.slots) is_new) in
+        let due : IsBegin is_asked w.run = record { new = unasked; runs = living.runs } in
+        goes_carries stands old new w does_begin session c d goes there begins.client.instance (λ m l. refl) (λ m x o. refl) knew
+        (λ g x apart s. (stays s).beside me (w.who g) (knew x) (w.knows g)
+        (subst (λ i. AreBeside s (records_in s old.sites) i (w.who g) (knew x) (w.knows g)) (w.in_slots session x c there) (w.beside (InSlot session x) g apart s)))
+        (λ a g apart s. (stays s).beside (w.who a) (w.who g) (w.knows a) (w.knows g) (w.beside a g apart s))
+        (where_standing w.homes w.run w.right) due (λ s. (stays s).parentless (w.parentless s))
+        (living_of stands home session does_begin w.run (λ m l. refl) knew knew lowest c d living begins.slots begins.client (λ x other apart is. quiet x other is)
+        (subst (IsSoundIf stands) (client_is old new session c d goes) (sound session)) all (holds_rightly (held_in lowest d.session.slots) is_new))
+        quiet_others begun_apart (λ l now. slots_then l now (line == l) refl)
+        (λ s. (stays s).clients d.session.instance knew d
+        (subst (λ i. IsTrueOf s (records_in s old.sites) i knew d) (sym begins.client.instance)
+        (submitted_is_true s (records_in s old.sites) me knew c d (w.truth session c there s) lowest (quiescing_of command) became.state became.states became.house.locks)))
+        (λ m q apart is s. (stays s).clients q.session.instance (known_in w.knows m) q (w.truth m q is s))
+        (λ m x y is. still_may_come stands old new w (λ s. records_in s new.sites) stays m y (w.knows (Sending m x)) ((w.sending m x y is).1))
+        tt (λ m q apart is other writer. refl)
+        (subst (λ i. IsInOrder stands home i (does_begin ∷ w.run) d.session) (sym begins.client.instance)
+        (order_then (held_in lowest d.session.slots) refl is_new
+        (order_beside stands old new w does_begin due home me lowest c.session (λ x other apart is. quiet x other is) (ap running_in living.sound.session.lowest.free) (λ other writer. refl)
+        (w.in_order session c there))))
 
   pub began_keeps : Does stands (event.Submit session line command) does_begin old new → DoesAtSites does_begin old.sites new.sites
-      → ((m : ℕ) → IsSoundIf stands (session_in m new.sessions)) → Carries stands old new w does_begin w.knows
+      → ((m : ℕ) → IsSoundIf stands (client_in m new.lives)) → IsCarried stands old new w does_begin
   began_keeps does at_sites sound =
-      let become = has_become stands (event.Submit session line command) does_begin old new session c there (λ m. refl) does in
-      begun_carries become.after become.there become.others become.becomes at_sites sound
+      let become = has_become stands (event.Submit session line command) does_begin old new session c there (λ m. refl) (λ at o n is. is) (λ l. refl) (λ l. refl) does in
+      begun_carries become.after become.goes become.becomes at_sites sound

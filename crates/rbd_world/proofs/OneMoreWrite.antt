@@ -1,14 +1,19 @@
 -- A session that begins a command keeps its writes in order: the new one stands in no line.
-use Rattle.std.proofs.Common.{◌≡◌, ◌≢◌, ◌⊎◌, inl, inr, ℕ, true, false, List, [], Some, None, refl, sym, ap, ◌∙◌, subst}
+use Rattle.std.proofs.Common.{◌≡◌, ◌≢◌, ◌⊎◌, inl, inr, ℕ, Bool, true, false, List, [], Some, None, refl, sym, ap, ◌∙◌, subst}
 use Rattle.std.proofs.lemmas.Bool.{true≢false}
 use Rattle.std.specs.Prelude.{IsSome}
+use Rattle.rbd_admin.specs.Create.{IsCreatePlan}
+use Rattle.rbd_admin.specs.Listing.{is_listing}
+use Rattle.rbd_admin.specs.Snap.{is_snap}
 use Rattle.rbd_commands.specs.declared.command.Command.{Command}
 use Rattle.rbd_commands.specs.declared.command.Command.TheVariants as command
+use Rattle.rbd_kinds.specs.declared.id.Instance.{Instance}
 use Rattle.rbd_kinds.specs.declared.id.SiteId.{SiteId}
 use Rattle.rbd_line.specs.Line.{ahead, is_member}
 use Rattle.rbd_machine.specs.Plan.{Standing, without_labels}
+use Rattle.rbd_request.specs.Read.{IsReadOf}
 use Rattle.rbd_request.specs.Write.{is_write, write_plan}
-use Rattle.rbd_requests.specs.Served.{IsPlanFor, Writes, Reads, Creates, Lists, Snaps}
+use Rattle.rbd_requests.specs.Served.{IsPlanFor, Writes, Reads, Creates, Lists, Snaps, Closes}
 use Rattle.rbd_requests.specs.Touched.{extent_of}
 use Rattle.rbd_session.specs.declared.running.Running.{Running}
 use Rattle.rbd_session.specs.Lines.{LinesView, lines_of}
@@ -27,23 +32,34 @@ pub record IsWriteAt (home : SiteId) (c : Command) (s : Standing) : Type 0 where
   pub is : is_write c ≡ true
   pub stand : s ≡ without_labels (write_plan home c)
 
-pub write_at : (home : SiteId) (c : Command) (s : Standing) → IsPlanFor home c s → IsSome (extent_of c) → IsWriteAt home c s
-write_at home (command.Write name at bytes) s (Writes is at_plan) writes = record { is = refl; stand = at_plan }
-write_at home (command.Write name at bytes) s (Reads is) writes = absurd is
-write_at home (command.Write name at bytes) s (Creates is at_plan) writes = absurd is
-write_at home (command.Write name at bytes) s (Lists is at_plan) writes = cc
-write_at home (command.Write name at bytes) s (Snaps is at_plan) writes = cc
-write_at home (command.Fill name at len byte) s (Writes is at_plan) writes = record { is = refl; stand = at_plan }
-write_at home (command.Fill name at len byte) s (Reads is) writes = absurd is
-write_at home (command.Fill name at len byte) s (Creates is at_plan) writes = absurd is
-write_at home (command.Fill name at len byte) s (Lists is at_plan) writes = cc
-write_at home (command.Fill name at len byte) s (Snaps is at_plan) writes = cc
-write_at home _ s plan writes = absurd (true≢false (sym writes))
+-- A command that writes an extent is a write or a fill: what holds of neither doesn't hold of it.
+of_no_other : (P : Command → Type 0) → ((name : List ℕ) (at : ℕ) (bytes : List ℕ) → P (command.Write name at bytes) → ⊥) → ((name : List ℕ) (at len byte : ℕ) → P (command.Fill name at len byte) → ⊥)
+    → (c : Command) → IsSome (extent_of c) → P c → ⊥
+of_no_other P write fill (command.Write name at bytes) writes is = write name at bytes is
+of_no_other P write fill (command.Fill name at len byte) writes is = fill name at len byte is
+of_no_other P write fill _ writes is = true≢false (sym writes)
 
-module _ {R : Type 0} (stands : R → Standing) (home : SiteId) (session slot line : ℕ) (command : Command) (run : List Happening) (c d : SessionView R) (r : Running R)
+-- so it is with a test that both fail
+untested : (test : Command → Bool) → ((name : List ℕ) (at : ℕ) (bytes : List ℕ) → test (command.Write name at bytes) ≡ false) → ((name : List ℕ) (at len byte : ℕ) → test (command.Fill name at len byte) ≡ false)
+    → (c : Command) → IsSome (extent_of c) → test c ≡ true → ⊥
+untested test write fill =
+    of_no_other (λ c. test c ≡ true) (λ name at bytes is. true≢false (sym is ∙ write name at bytes)) (λ name at len byte is. true≢false (sym is ∙ fill name at len byte))
+
+-- (That a command closes is tested by a crate that this one doesn't name, so that case is split.)
+pub write_at : (home : SiteId) (c : Command) (s : Standing) → IsPlanFor home c s → IsSome (extent_of c) → IsWriteAt home c s
+write_at home c s (Writes is at_plan) writes = record { is = is; stand = at_plan }
+write_at home c s (Reads is) writes = absurd (of_no_other (λ k. IsReadOf home k s) (λ name at bytes none. none) (λ name at len byte none. none) c writes is)
+write_at home c s (Creates is at_plan) writes = absurd (of_no_other (λ k. IsCreatePlan home k s.plan) (λ name at bytes none. none) (λ name at len byte none. none) c writes is)
+write_at home c s (Lists is at_plan) writes = absurd (untested is_listing (λ name at bytes. refl) (λ name at len byte. refl) c writes is)
+write_at home c s (Snaps is at_plan) writes = absurd (untested is_snap (λ name at bytes. refl) (λ name at len byte. refl) c writes is)
+write_at home (command.Write name at bytes) s (Closes is at_plan) writes = absurd (true≢false (sym is))
+write_at home (command.Fill name at len byte) s (Closes is at_plan) writes = absurd (true≢false (sym is))
+write_at home _ s (Closes is at_plan) writes = absurd (true≢false (sym writes))
+
+module _ {R : Type 0} (stands : R → Standing) (home : SiteId) (who : Instance) (slot line : ℕ) (command : Command) (run : List Happening) (c d : SessionView R) (r : Running R)
     (sound : IsSoundSession stands c) (free : running_at slot c ≡ None) (runs : running_at slot d ≡ Some r) (begins : BeginsAt stands IsPlanFor extent_of home line command r)
     (slots : AreSlotsBut slot c d) (lines : d.lines ≡ c.lines) (none : steps_of line run ≡ []) (asked : Asked) (asks : asked_by line run ≡ Some asked) (its : asked.command ≡ command)
-    (old : IsInOrder stands home session run c) where
+    (old : IsInOrder stands home who run c) where
   data Where (x : ℕ) (q : Running R) : Type 0 where
     Other : running_at x c ≡ Some q → Where x q
     Here : x ≡ slot → q ≡ r → Where x q
@@ -72,7 +88,7 @@ module _ {R : Type 0} (stands : R → Standing) (home : SiteId) (session slot li
       let at = write_at home command (stands r.request) begins.stands_there (subst IsSome begins.extent writes) in
       record { command = command; is = at.is; stand = at.stand; place = begins.place; unfound = unfound }
 
-  pub begun_order : IsInOrder stands home session run d
+  pub begun_order : IsInOrder stands home who run d
   begun_order = record {
     extents = λ x q is asked_then asks_then. extents_of x q asked_then asks_then (where_is x q is);
     comes = λ x q is writes. comes_of x q writes (where_is x q is);
@@ -101,7 +117,7 @@ module _ {R : Type 0} (stands : R → Standing) (home : SiteId) (session slot li
           ap (λ (ls : LinesView). is_member x (ahead y (lines_of ls s image))) lines
           ∙ old.in_line x y q p one two writes other_writes s image earlier (sym (ap (λ (ls : LinesView). is_member y (lines_of ls s image)) lines) ∙ member)
 
-      past_of : (x : ℕ) (q : Running R) → IsSome q.extent → (other : ℕ) → IsWriterOf session other run → (s : SiteId) (image number : ℕ) → found_before q.line other s image run ≡ true
+      past_of : (x : ℕ) (q : Running R) → IsSome q.extent → (other : ℕ) → IsWriterOf who other run → (s : SiteId) (image number : ℕ) → found_before q.line other s image run ≡ true
           → has_written other s image number run ≡ true → Where x q → IsPastWithout x number (lines_of d.lines s image)
       past_of x q writes other writer s image number earlier written (Here at same) = absurd (not_first q other s image same earlier)
       past_of x q writes other writer s image number earlier written (Other one) =

@@ -1,4 +1,4 @@
--- One operation more keeps the writes of its session in order.
+-- One operation more keeps the writes of its instance in order.
 use Rattle.std.proofs.Common.{◌≡◌, ◌≢◌, ◌⊎◌, inl, inr, ℕ, ◌==◌, ◌&&◌, ◌||◌, cond, Bool, true, false, List, [], ◌∷◌, ◌++◌, Option, Some, None, refl, sym, ap, ◌∙◌, subst}
 use Rattle.std.proofs.lemmas.Bool.{true≢false, eq-eqb, eqb-true}
 use Rattle.std.specs.Option.{is_some}
@@ -14,6 +14,7 @@ use Rattle.rbd_kinds.specs.declared.reply.Reply.{Reply}
 use Rattle.rbd_line.specs.Line.{Member, ahead, comes_next, has_turn, is_member, joined, member_of}
 use Rattle.rbd_line.proofs.Keeping.{is_found}
 use Rattle.rbd_machine.specs.Knowledge.{is_at, same_site}
+use Rattle.rbd_machine.proofs.Lawful.{same_site_itself}
 use Rattle.rbd_machine.specs.Path.{at_operation}
 use Rattle.rbd_machine.specs.Label.{Label}
 use Rattle.rbd_machine.specs.Plan.{Plan, Ask, IsAsking, Standing}
@@ -36,11 +37,10 @@ use Rattle.rbd_session.proofs.Members.{not_found}
 use Rattle.rbd_session.proofs.Sound.{no_some, some_same}
 use Rattle.rbd_world.specs.InLine.{IsAtTurn, IsPastWithout, KeepsTo}
 use Rattle.rbd_world.specs.Order.{IsBeforeFinding, IsBehindFinding, IsFirstToWrite, IsInOrder, IsInTurn, IsWriterOf, KeepsOrder, finds_in, found_before, has_found, has_written, tells_image, writes_in, writes_object}
-use Rattle.rbd_world.specs.Run.{Asked, Happening, Did, Operation, asked_by, steps_in, step_of}
+use Rattle.rbd_world.specs.Run.{Asked, Itself, Happening, Did, Operation, asked_by, steps_in, step_of}
 use Rattle.rbd_world.specs.Sound.{IsDue, IsRight}
 use Rattle.rbd_world.specs.Step.{AreSlotsBut}
 use Rattle.rbd_world.proofs.Ahead.{ahead_last}
-use Rattle.rbd_world.proofs.BothSites.{same_site_itself}
 use Rattle.rbd_world.proofs.Changed.{same_or_other}
 use Rattle.rbd_world.proofs.FoundFirst.{done_by_line, finds_nothing, found_earlier, found_has, never_itself, other_unfound, written_found, wrote_was}
 use Rattle.rbd_world.proofs.InLine.{GoesOn, answer_goes}
@@ -83,12 +83,12 @@ module _ {R : Type 0} (stands : R → Standing) (c : SessionView R) (sound : IsS
 
 -- ---- the operation of a slot is done
 
-module _ {R : Type 0} (stands : R → Standing) (homes : ℕ → SiteId) (home : SiteId) (session slot : ℕ) (rn : List Happening) (c d : SessionView R) (r : Running R)
+module _ {R : Type 0} (stands : R → Standing) (homes : ℕ → SiteId) (home : SiteId) (who : Instance) (slot : ℕ) (rn : List Happening) (c d : SessionView R) (r : Running R)
     (runs : running_at slot c ≡ Some r) (sound : IsSoundSession stands c) (goes : waits slot (track_of r c.lines) ≡ false)
     (s : SiteId) (why : Reason) (o : Op) (next : Answer → Plan) (asks : (stands r.request).plan ≡ Ask s why o next) (a : Answer) (result : Option Reply)
-    (who : Instance) (number : ℕ) (effect : Option Effect) (order : KeepsOrder rn) (old : IsInOrder stands home session rn c) where
+    (number : ℕ) (effect : Option Effect) (order : KeepsOrder rn) (old : IsInOrder stands home who rn c) where
   abbrev done : Operation
-  done = record { line = r.line; instance = who; site = s; number = number; op = o; answer = a; effect = effect }
+  done = record { by = Itself r.line; instance = who; site = s; number = number; op = o; answer = a; effect = effect }
 
   abbrev does : Happening
   does = Did done result
@@ -118,7 +118,7 @@ module _ {R : Type 0} (stands : R → Standing) (homes : ℕ → SiteId) (home :
     turn_there n turn = subst (λ p. has_turn slot n (line_in p (lines_of c.lines)) ≡ true) b.place (turn_of slot n (track_of r c.lines) turn goes)
 
     -- so nobody that found it later has written the object before
-    first_here : IsSome r.extent → (n : ℕ) → r.turn ≡ Some n → (other : ℕ) → IsWriterOf session other rn → found_before r.line other b.site b.image rn ≡ true
+    first_here : IsSome r.extent → (n : ℕ) → r.turn ≡ Some n → (other : ℕ) → IsWriterOf who other rn → found_before r.line other b.site b.image rn ≡ true
         → has_written other b.site b.image n rn ≡ false
     first_here writes n turn other writer earlier = by (has_written other b.site b.image n rn) refl
       where
@@ -130,24 +130,27 @@ module _ {R : Type 0} (stands : R → Standing) (homes : ℕ → SiteId) (home :
 
   -- ---- the run keeps its order
 
-  module _ (mine : (asked : Asked) → asked_by r.line rn ≡ Some asked → asked.session ≡ session) where
-    writes_of : (n : ℕ) → IsWriterOf n r.line rn → IsSome r.extent
-    writes_of n w = subst IsSome (sym (old.extents slot r runs w.asked w.is)) w.writes
+  module _ (mine : (asked : Asked) → asked_by r.line rn ≡ Some asked → asked.who ≡ who) where
+    writes_of : (i : Instance) → IsWriterOf i r.line rn → IsSome r.extent
+    writes_of i w = subst IsSome (sym (old.extents slot r runs w.asked w.is)) w.writes
 
-    first_of : (i n : ℕ) → IsSome r.extent → writes_object i n o ≡ true → IsFirstToWrite session r.line s i n rn
+    first_of : (i n : ℕ) → IsSome r.extent → writes_object i n o ≡ true → IsFirstToWrite who r.line s i n rn
     first_of i n writes is = by (old.comes slot r runs writes)
       where
-        by : (IsBeforeFinding stands home rn r) ⊎ (IsBehindFinding stands rn r) → IsFirstToWrite session r.line s i n rn
+        by : (IsBeforeFinding stands home rn r) ⊎ (IsBehindFinding stands rn r) → IsFirstToWrite who r.line s i n rn
         by (inl b) = absurd (true≢false (sym is ∙ up_writes_none home s o next (up b) i n))
         by (inr b) =
             let w = writes_at_turn b.site b.image r.turn s o (keeps_here b).0 i n is in
-            subst (λ t. IsFirstToWrite session r.line t i n rn) (sym w.site_is)
-            (subst (λ j. IsFirstToWrite session r.line b.site j n rn) (sym w.image_is)
+            subst (λ t. IsFirstToWrite who r.line t i n rn) (sym w.site_is)
+            (subst (λ j. IsFirstToWrite who r.line b.site j n rn) (sym w.image_is)
             (record { found = b.found; first = first_here b writes n w.turn_is }))
 
     pub in_turn : IsInTurn does rn
-    in_turn other_session i n writer is =
-        subst (λ m. IsFirstToWrite m r.line s i n rn) (sym (mine writer.asked writer.is) ∙ writer.mine) (first_of i n (writes_of other_session writer) is)
+    in_turn other line i n own writer is =
+        let same : r.line ≡ line = eqb-true r.line line own in
+        let here : IsWriterOf other r.line rn = subst (λ l. IsWriterOf other l rn) (sym same) writer in
+        subst (λ l. IsFirstToWrite other l s i n rn) same
+        (subst (λ m. IsFirstToWrite m r.line s i n rn) (sym (mine here.asked here.is) ∙ here.mine) (first_of i n (writes_of other here) is))
 
   -- ---- who stands where then
 
@@ -367,14 +370,14 @@ module _ {R : Type 0} (stands : R → Standing) (homes : ℕ → SiteId) (home :
 
     -- ---- who has no ticket any more
 
-    module _ (x : ℕ) (q : Running R) (writes : IsSome q.extent) (other : ℕ) (writer : IsWriterOf session other (does ∷ rn)) (t : SiteId) (i n : ℕ)
+    module _ (x : ℕ) (q : Running R) (writes : IsSome q.extent) (other : ℕ) (writer : IsWriterOf who other (does ∷ rn)) (t : SiteId) (i n : ℕ)
         (earlier : found_before q.line other t i (does ∷ rn) ≡ true) where
       -- it is written now
       module _ (now : writes_in other t i n does ≡ true) where
         line_is : r.line ≡ other
-        line_is = (done_by_line other t done (writes_object i n o) now).line_is
+        line_is = eqb-true r.line other (done_by_line other t done (writes_object i n o) now).own
 
-        own_writer : IsWriterOf session r.line rn
+        own_writer : IsWriterOf who r.line rn
         own_writer = record { asked = writer.asked; is = ap (λ l. asked_by l rn) line_is ∙ writer.is; mine = writer.mine; writes = writer.writes }
 
         own_writes : IsSome r.extent
@@ -403,15 +406,15 @@ module _ {R : Type 0} (stands : R → Standing) (homes : ℕ → SiteId) (home :
 
       -- it was written before
       module _ (written : has_written other t i n rn ≡ true) where
-        was_writer : IsWriterOf session other rn
-        was_writer = wrote_was homes session other t i n does rn due right writer written
+        was_writer : IsWriterOf who other rn
+        was_writer = wrote_was homes who other t i n does rn due right writer written
 
         own_past : (z : Running R) → IsFurther z → found_before r.line other t i (does ∷ rn) ≡ true → IsSome r.extent → (IsBeforeFinding stands home rn r) ⊎ (IsBehindFinding stands rn r)
             → IsPastWithout slot n (lines_of d.lines t i)
         own_past z further earlier own (inl b) =
             absurd
             (true≢false
-            (sym (written_found homes session other t i n rn right order was_writer written) ∙ other_unfound r.line other t i does rn (b.unfound t i) earlier))
+            (sym (written_found homes who other t i n rn right order was_writer written) ∙ other_unfound r.line other t i does rn (b.unfound t i) earlier))
         own_past z further earlier own (inr b) =
             let before_that = found_earlier r.line other t i does rn (finds_none b r.line t i) earlier in
             let at = b.only t i (found_has r.line other t i rn before_that) in
@@ -441,7 +444,7 @@ module _ {R : Type 0} (stands : R → Standing) (homes : ℕ → SiteId) (home :
 
     -- ---- so the session is in order
 
-    pub did_order : IsInOrder stands home session (does ∷ rn) d
+    pub did_order : IsInOrder stands home who (does ∷ rn) d
     did_order = record {
       extents = λ x q is asked asks. extents_then x q asked asks (where_is x q is);
       comes = λ x q is writes. comes_then x q writes (where_is x q is);

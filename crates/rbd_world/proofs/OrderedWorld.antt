@@ -1,23 +1,38 @@
--- The sessions of a world keep their writes in order, where one of them changes, or none.
-use Rattle.std.proofs.Common.{◌≡◌, ◌≢◌, ◌⊎◌, inl, inr, ℕ, List, [], ◌∷◌, Option, Some, None, refl, sym, ap, ◌∙◌, subst}
+-- The clients of a world keep their writes in order, where one of them changes, or none.
+use Rattle.std.proofs.Common.{◌≡◌, ◌≢◌, ◌⊎◌, inl, inr, ℕ, false, List, [], ◌∷◌, Option, Some, None, refl, sym, ap, ◌∙◌, subst}
+use Rattle.std.proofs.lemmas.Bool.{true≢false}
+use Rattle.std.specs.Prelude.{IsSome}
+use Rattle.rbd_client.specs.Client.{ClientView}
+use Rattle.rbd_client.specs.Feeding.{IsGivenUp}
+use Rattle.rbd_kinds.specs.declared.id.Instance.{Instance}
 use Rattle.rbd_kinds.specs.declared.id.SiteId.{SiteId}
-use Rattle.rbd_line.specs.Line.{Member}
+use Rattle.rbd_kinds.specs.declared.reply.Reply.{Reply}
+use Rattle.rbd_line.specs.Line.{Member, member_of}
 use Rattle.rbd_machine.specs.Plan.{Standing}
 use Rattle.rbd_session.specs.declared.running.Occupant.{Occupant}
 use Rattle.rbd_session.specs.declared.running.Occupant.TheVariants as occupant
 use Rattle.rbd_session.specs.declared.running.Running.{Running}
-use Rattle.rbd_session.specs.Advance.{IsSameStand}
+use Rattle.rbd_session.specs.Advance.{IsSameStand, track_of}
 use Rattle.rbd_session.specs.Lines.{LinesView, lines_of}
+use Rattle.rbd_session.specs.OnTrack.{LeavesOthers}
 use Rattle.rbd_session.specs.Session.{SessionView, IsAlike, IsAlikeIn, held_in, running_at, running_in, script_line}
+use Rattle.rbd_session.specs.Track.{ended_by}
+use Rattle.rbd_session.proofs.Others.{ended_leaves}
 use Rattle.rbd_session.proofs.Sound.{no_some, some_same}
-use Rattle.rbd_world.specs.Order.{IsInOrder, IsWriterOf}
-use Rattle.rbd_world.specs.Run.{Happening, steps_in}
-use Rattle.rbd_world.specs.Sound.{IsDue, IsSoundWorld, held_of, line_at}
-use Rattle.rbd_world.specs.Step.{AreSlotsBut, IsAlikeOf}
-use Rattle.rbd_world.specs.World.{WorldView, session_in}
-use Rattle.rbd_world.proofs.Changed.{IsElsewhere, same_or_other}
-use Rattle.rbd_world.proofs.Orderly.{WasThere, quiet_order, same_order}
+use Rattle.rbd_world.specs.Order.{IsInOrder, IsInTurn, IsWriterOf}
+use Rattle.rbd_world.specs.Run.{Asked, Did, Happening, Operation, asked_by, is_own, or_asked, steps_in}
+use Rattle.rbd_world.specs.Sound.{IsDue, IsHeldRightly, IsSoundWorld, IsUnderWay}
+use Rattle.rbd_world.specs.Step.{AreSlotsBut, IsClientAlikeIf}
+use Rattle.rbd_world.specs.World.{WorldView, client_in}
+use Rattle.rbd_world.proofs.Changed.{same_or_other}
+use Rattle.rbd_world.proofs.KeptAhead.{KeepsAhead, ended_keeps, member_left_alone}
+use Rattle.rbd_world.proofs.Orderly.{WasThere, quiet_order, same_order, still_order}
 use Rattle.rbd_world.proofs.Quiet.{IsQuiet}
+
+-- ---- an operation that no command does itself is no write
+
+pub no_turn : (o : Operation) (reply : Option Reply) (run : List Happening) → ((line : ℕ) → is_own line o.by ≡ false) → IsInTurn (Did o reply) run
+no_turn o reply run none who line image number own writer writes = absurd (true≢false (sym own ∙ none line))
 
 module _ {R : Type 0} (stands : R → Standing) where
   pub running_line : (o : Option (Occupant R)) (q : Running R) → running_in o ≡ Some q → script_line o ≡ Some q.line
@@ -28,10 +43,10 @@ module _ {R : Type 0} (stands : R → Standing) where
   same_itself : (r : Running R) → IsSameStand stands r r
   same_itself r = record { same = refl; line = refl; extent = refl; place = refl; turn = refl }
 
-  module _ (home : SiteId) (session : ℕ) (run : List Happening) where
+  module _ (home : SiteId) (who : Instance) (run : List Happening) where
     -- ---- a session without requests
 
-    pub none_in_order : (c : SessionView R) → ((x : ℕ) → running_at x c ≡ None) → IsInOrder stands home session run c
+    pub none_in_order : (c : SessionView R) → ((x : ℕ) → running_at x c ≡ None) → IsInOrder stands home who run c
     none_in_order c none = record {
       extents = λ x r runs. absurd (no_some r (sym (none x) ∙ runs));
       comes = λ x r runs. absurd (no_some r (sym (none x) ∙ runs));
@@ -41,15 +56,49 @@ module _ {R : Type 0} (stands : R → Standing) where
 
     -- ---- a slot whose request doesn't run any more
 
-    pub freed_order : (slot : ℕ) (c d : SessionView R) → AreSlotsBut slot c d → d.lines ≡ c.lines → running_at slot d ≡ None → IsInOrder stands home session run c → IsInOrder stands home session run d
-    freed_order slot c d slots lines none =
-        same_order stands home session run c d
-        (λ x q runs. by x q runs (same_or_other x slot))
-        (λ s image. ap (λ (ls : LinesView). lines_of ls s image) lines)
+    -- who runs then ran before, in another slot
+    pub ran_elsewhere : (slot : ℕ) (c d : SessionView R) → AreSlotsBut slot c d → running_at slot d ≡ None → (x : ℕ) (q : Running R) → running_at x d ≡ Some q → (x ≢ slot) × (running_at x c ≡ Some q)
+    ran_elsewhere slot c d slots none x q runs = by (same_or_other x slot)
       where
-        by : (x : ℕ) (q : Running R) → running_at x d ≡ Some q → (x ≡ slot) ⊎ (x ≢ slot) → WasThere stands home session run x c q
-        by x q runs (inl same) = absurd (no_some q (sym none ∙ sym (ap (λ i. running_at i d) same) ∙ runs))
-        by x q runs (inr differ) = record { was = q; there = sym (ap running_in (slots x differ)) ∙ runs; same = same_itself q }
+        by : (x ≡ slot) ⊎ (x ≢ slot) → (x ≢ slot) × (running_at x c ≡ Some q)
+        by (inl same) = absurd (no_some q (sym none ∙ sym (ap (λ i. running_at i d) same) ∙ runs))
+        by (inr differ) = (differ, sym (ap running_in (slots x differ)) ∙ runs)
+
+    pub freed_order : (slot : ℕ) (c d : SessionView R) → AreSlotsBut slot c d → d.lines ≡ c.lines → running_at slot d ≡ None → IsInOrder stands home who run c → IsInOrder stands home who run d
+    freed_order slot c d slots lines none =
+        same_order stands home who run c d
+        (λ x q runs. record { was = q; there = (ran_elsewhere slot c d slots none x q runs).1; same = same_itself q })
+        (λ s image. ap (λ (ls : LinesView). lines_of ls s image) lines)
+
+    -- so it is where it left its line
+    pub left_order : (slot : ℕ) (c d : SessionView R) → AreSlotsBut slot c d → LeavesOthers slot (lines_of c.lines) (lines_of d.lines) → KeepsAhead slot (lines_of c.lines) (lines_of d.lines)
+        → running_at slot d ≡ None → IsInOrder stands home who run c → IsInOrder stands home who run d
+    left_order slot c d slots leaves keeps none old = record {
+      extents = λ x q runs. old.extents x q (was x q runs).1;
+      comes = λ x q runs. old.comes x q (was x q runs).1;
+      in_line = λ x y q p runs also writes other_writes s image earlier member.
+          let one = was x q runs in
+          let two = was y p also in
+          let there = sym (member_left_alone y (lines_of c.lines s image) (lines_of d.lines s image) (leaves y two.0 s image)) ∙ member in
+          keeps x y one.0 two.0 s image there (old.in_line x y q p one.1 two.1 writes other_writes s image earlier there);
+      past = λ x q runs writes other writer s image number earlier written m found.
+          let one = was x q runs in
+          old.past x q one.1 writes other writer s image number earlier written m (sym (leaves x one.0 s image) ∙ found);
+    }
+      where
+        was : (x : ℕ) (q : Running R) → running_at x d ≡ Some q → (x ≢ slot) × (running_at x c ≡ Some q)
+        was = ran_elsewhere slot c d slots none
+
+    -- a request that was refused on its way
+    pub given_up_order : (slot : ℕ) (c d : SessionView R) (r : Running R) → running_at slot c ≡ Some r → IsGivenUp slot c d → AreSlotsBut slot c d → IsInOrder stands home who run c → IsInOrder stands home who run d
+    given_up_order slot c d r runs given slots =
+        left_order slot c d slots
+        (λ other differ s image. ap (λ (ls : SiteId → ℕ → List Member). member_of other (ls s image)) left ∙ ended_leaves slot (track_of r c.lines) other differ s image)
+        (subst (KeepsAhead slot (lines_of c.lines)) (sym left) (ended_keeps slot (track_of r c.lines)))
+        (ap running_in (given.free (subst IsSome (sym runs) refl)))
+      where
+        left : lines_of d.lines ≡ (ended_by slot (track_of r c.lines)).lines
+        left = given.left r runs
 
     -- ---- a session that is the same but for what it is ready for
 
@@ -65,52 +114,83 @@ module _ {R : Type 0} (stands : R → Standing) where
     alike_in (Some (occupant.Refused line refusal)) p q alike is = absurd (no_some q (sym (ap running_in alike) ∙ is))
     alike_in None p q alike is = absurd (no_some q (sym (ap running_in alike) ∙ is))
 
-    pub alike_order : (c d : SessionView R) → IsAlike stands c d → IsInOrder stands home session run c → IsInOrder stands home session run d
+    pub alike_order : (c d : SessionView R) → IsAlike stands c d → IsInOrder stands home who run c → IsInOrder stands home who run d
     alike_order c d alike =
-        same_order stands home session run c d
+        same_order stands home who run c d
         (λ x q runs. by x q (alike_in (held_in x c.slots) (held_in x d.slots) q (alike.slots x) runs))
         (λ s image. ap (λ (ls : SiteId → ℕ → List Member). ls s image) alike.lines)
       where
-        by : (x : ℕ) (q : Running R) → WasIn (held_in x c.slots) q → WasThere stands home session run x c q
+        by : (x : ℕ) (q : Running R) → WasIn (held_in x c.slots) q → WasThere stands home who run x c q
         by x q w = record { was = w.was; there = w.there; same = w.same }
 
-    pub alike_order_if : (o n : Option (SessionView R)) → IsAlikeOf stands o n → ((c : SessionView R) → o ≡ Some c → IsInOrder stands home session run c)
-        → (d : SessionView R) → n ≡ Some d → IsInOrder stands home session run d
-    alike_order_if None n alike old d is = absurd (no_some d (sym alike ∙ is))
-    alike_order_if (Some c) None alike old d is = elim alike [ ]
-    alike_order_if (Some c) (Some e) alike old d is = subst (IsInOrder stands home session run) (some_same e d is) (alike_order c e alike (old c refl))
+  -- a client that is the same but for that
+  pub alike_order_if : (home : SiteId) (run : List Happening) (o n : Option (ClientView R)) → IsClientAlikeIf stands o n
+      → ((c : ClientView R) → o ≡ Some c → IsInOrder stands home c.session.instance run c.session) → (d : ClientView R) → n ≡ Some d → IsInOrder stands home d.session.instance run d.session
+  alike_order_if home run None n alike old d is = absurd (no_some d (sym alike ∙ is))
+  alike_order_if home run (Some c) None alike old d is = elim alike [ ]
+  alike_order_if home run (Some c) (Some e) alike old d is =
+      subst (λ (v : ClientView R). IsInOrder stands home v.session.instance run v.session) (some_same e d is)
+      (subst (λ i. IsInOrder stands home i run e.session) (sym alike.session.instance)
+      (alike_order home c.session.instance run c.session e.session alike.session (old c refl)))
+
+  -- the request that a slot holds is under way
+  held_under_way : (home : SiteId) (who : Instance) (run : List Happening) (o : Option (Occupant R)) (r : Running R) → running_in o ≡ Some r → IsHeldRightly stands home who run o
+      → IsUnderWay stands home who run r
+  held_under_way home who run None r is held = absurd (no_some r is)
+  held_under_way home who run (Some (occupant.Refused line refusal)) r is held = absurd (no_some r is)
+  held_under_way home who run (Some (occupant.Running q)) r is held = subst (IsUnderWay stands home who run) (some_same q r is) held
 
   -- ---- a world where something happened
 
   module _ (old new : WorldView R) (w : IsSoundWorld stands old) (h : Happening) (due : IsDue w.homes h w.run) where
-    -- a session for whose requests it is nothing
-    pub order_on : (m : ℕ) (q : SessionView R) → session_in m old.sessions ≡ Some q → ((x line : ℕ) → script_line (held_in x q.slots) ≡ Some line → IsQuiet line h)
-        → ((other : ℕ) → IsWriterOf m other (h ∷ w.run) → steps_in other h ≡ []) → IsInOrder stands (w.homes m) m (h ∷ w.run) q
+    -- a client for whose requests it is nothing
+    pub order_on : (m : ℕ) (q : ClientView R) → client_in m old.lives ≡ Some q → ((x line : ℕ) → script_line (held_in x q.session.slots) ≡ Some line → IsQuiet line h)
+        → ((other : ℕ) → IsWriterOf q.session.instance other (h ∷ w.run) → steps_in other h ≡ []) → IsInOrder stands (w.homes m) q.session.instance (h ∷ w.run) q.session
     order_on m q there quiet foreign =
-        quiet_order stands w.homes (w.homes m) m h w.run q due w.right (λ x r runs. quiet x r.line (running_line (held_in x q.slots) r runs)) foreign (w.in_order m q there)
+        quiet_order stands w.homes (w.homes m) q.session.instance h w.run q.session due w.right foreign
+        (λ x r runs. quiet x r.line (running_line (held_in x q.session.slots) r runs)) (w.in_order m q there)
 
-    module _ (session slot : ℕ) (c : SessionView R) (there : session_in session old.sessions ≡ Some c)
-        (quiet : (m x line : ℕ) → IsElsewhere session slot m x → line_at m x old.sessions ≡ Some line → IsQuiet line h) where
-      -- the session itself, where its slot's request doesn't run
-      pub order_beside : running_at slot c ≡ None → ((other : ℕ) → IsWriterOf session other (h ∷ w.run) → steps_in other h ≡ []) → IsInOrder stands (w.homes session) session (h ∷ w.run) c
-      order_beside none foreign =
-          quiet_order stands w.homes (w.homes session) session h w.run c due w.right
-          (λ x r runs.
-          quiet session x r.line (inr (λ same. no_some r (sym none ∙ sym (ap (λ i. running_at i c) same) ∙ runs)))
-          (ap (λ o. script_line (held_of x o)) there ∙ running_line (held_in x c.slots) r runs))
-          foreign (w.in_order session c there)
+    -- one whose requests stay, where it is no operation of a write itself: on the way to a lock, of
+    -- its house, or none
+    pub still_in_order : (m : ℕ) (c d : ClientView R) → client_in m old.lives ≡ Some c → d.session ≡ c.session → ((line : ℕ) (before : Option Asked) → or_asked line h before ≡ before)
+        → ((other : ℕ) → IsWriterOf c.session.instance other (h ∷ w.run) → steps_in other h ≡ []) → IsInOrder stands (w.homes m) d.session.instance (h ∷ w.run) d.session
+    still_in_order m c d there same asks foreign =
+        subst (λ (v : SessionView R). IsInOrder stands (w.homes m) v.instance (h ∷ w.run) v) (sym same)
+        (still_order stands w.homes (w.homes m) c.session.instance h w.run c.session due w.right foreign
+        (λ x r runs. asks r.line (asked_by r.line w.run)) (λ x r runs writes. foreign r.line (writer x r runs writes)) in_order)
+      where
+        in_order : IsInOrder stands (w.homes m) c.session.instance w.run c.session
+        in_order = w.in_order m c there
 
-      -- all of them
-      pub orders_of : (d : SessionView R) → session_in session new.sessions ≡ Some d → ((m : ℕ) → m ≢ session → session_in m new.sessions ≡ session_in m old.sessions)
-          → ((m : ℕ) → m ≢ session → (other : ℕ) → IsWriterOf m other (h ∷ w.run) → steps_in other h ≡ [])
-          → IsInOrder stands (w.homes session) session (h ∷ w.run) d
-          → (m : ℕ) (q : SessionView R) → session_in m new.sessions ≡ Some q → IsInOrder stands (w.homes m) m (h ∷ w.run) q
-      orders_of d after others foreign own m q is = by (same_or_other m session)
-        where
-          by : (m ≡ session) ⊎ (m ≢ session) → IsInOrder stands (w.homes m) m (h ∷ w.run) q
-          by (inl here) =
-              subst (λ i. IsInOrder stands (w.homes i) i (h ∷ w.run) q) (sym here)
-              (subst (IsInOrder stands (w.homes session) session (h ∷ w.run)) (some_same d q (sym after ∙ ap (λ i. session_in i new.sessions) (sym here) ∙ is)) own)
-          by (inr differ) =
-              let before = sym (others m differ) ∙ is in
-              order_on m q before (λ x line at_line. quiet m x line (inl differ) (ap (λ o. script_line (held_of x o)) before ∙ at_line)) (foreign m differ)
+        writer : (x : ℕ) (r : Running R) → running_at x c.session ≡ Some r → IsSome r.extent → IsWriterOf c.session.instance r.line (h ∷ w.run)
+        writer x r runs writes =
+            let way = held_under_way (w.homes m) c.session.instance w.run (held_in x c.session.slots) r runs ((w.clients m c there).held x) in
+            record {
+              asked = way.begun.asked;
+              is = asks r.line (asked_by r.line w.run) ∙ way.begun.is;
+              mine = way.mine;
+              writes = subst IsSome (in_order.extents x r runs way.begun.asked way.begun.is) writes;
+            }
+
+    -- a session itself, where its slot's request doesn't run
+    pub order_beside : (home : SiteId) (who : Instance) (slot : ℕ) (c : SessionView R) → ((x line : ℕ) → x ≢ slot → script_line (held_in x c.slots) ≡ Some line → IsQuiet line h)
+        → running_at slot c ≡ None → ((other : ℕ) → IsWriterOf who other (h ∷ w.run) → steps_in other h ≡ []) → IsInOrder stands home who w.run c → IsInOrder stands home who (h ∷ w.run) c
+    order_beside home who slot c quiet none foreign =
+        quiet_order stands w.homes home who h w.run c due w.right foreign
+        (λ x r runs. quiet x r.line (λ same. no_some r (sym none ∙ sym (ap (λ i. running_at i c) same) ∙ runs)) (running_line (held_in x c.slots) r runs))
+
+    -- all clients, where all but one stay
+    pub orders_of : (session : ℕ) → ((m : ℕ) → m ≢ session → client_in m new.lives ≡ client_in m old.lives)
+        → ((m : ℕ) (q : ClientView R) → m ≢ session → client_in m old.lives ≡ Some q → (x line : ℕ) → script_line (held_in x q.session.slots) ≡ Some line → IsQuiet line h)
+        → ((m : ℕ) (q : ClientView R) → m ≢ session → client_in m old.lives ≡ Some q → (other : ℕ) → IsWriterOf q.session.instance other (h ∷ w.run) → steps_in other h ≡ [])
+        → ((d : ClientView R) → client_in session new.lives ≡ Some d → IsInOrder stands (w.homes session) d.session.instance (h ∷ w.run) d.session)
+        → (m : ℕ) (q : ClientView R) → client_in m new.lives ≡ Some q → IsInOrder stands (w.homes m) q.session.instance (h ∷ w.run) q.session
+    orders_of session others quiet foreign own m q is = by (same_or_other m session)
+      where
+        by : (m ≡ session) ⊎ (m ≢ session) → IsInOrder stands (w.homes m) q.session.instance (h ∷ w.run) q.session
+        by (inl here) =
+            subst (λ i. IsInOrder stands (w.homes i) q.session.instance (h ∷ w.run) q.session) (sym here)
+            (own q (ap (λ i. client_in i new.lives) (sym here) ∙ is))
+        by (inr differ) =
+            let before = sym (others m differ) ∙ is in
+            order_on m q before (quiet m q differ before) (foreign m q differ before)

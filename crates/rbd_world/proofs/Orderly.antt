@@ -1,6 +1,7 @@
--- The writes of a session stay in order where nothing of theirs happens.
+-- The writes of an instance stay in order where nothing of theirs happens.
 use Rattle.std.proofs.Common.{◌≡◌, ◌⊎◌, inl, inr, ℕ, ◌||◌, true, false, List, [], ◌∷◌, Some, sym, ap, ◌∙◌, subst}
 use Rattle.std.specs.Prelude.{IsSome}
+use Rattle.rbd_kinds.specs.declared.id.Instance.{Instance}
 use Rattle.rbd_kinds.specs.declared.id.SiteId.{SiteId}
 use Rattle.rbd_line.specs.Line.{ahead, is_member}
 use Rattle.rbd_machine.specs.Plan.{Standing}
@@ -10,7 +11,7 @@ use Rattle.rbd_session.specs.Lines.{lines_of}
 use Rattle.rbd_session.specs.Session.{SessionView, running_at}
 use Rattle.rbd_world.specs.InLine.{IsPastWithout, KeepsTo}
 use Rattle.rbd_world.specs.Order.{IsBeforeFinding, IsBehindFinding, IsInOrder, IsWriterOf, found_before, has_found, has_written, writes_in}
-use Rattle.rbd_world.specs.Run.{Happening, asked_by, steps_in}
+use Rattle.rbd_world.specs.Run.{Happening, asked_by, or_asked, steps_in}
 use Rattle.rbd_world.specs.Sound.{IsDue, IsRight}
 use Rattle.rbd_world.proofs.FoundFirst.{finds_nothing, found_earlier, writes_nothing, wrote_was}
 use Rattle.rbd_world.proofs.Quiet.{IsQuiet}
@@ -50,25 +51,29 @@ pub written_before : (line : ℕ) (s : SiteId) (image number : ℕ) (h : Happeni
     → has_written line s image number (h ∷ run) ≡ true → has_written line s image number run ≡ true
 written_before line s image number h run none is = sym (ap (λ b. b || has_written line s image number run) none) ∙ is
 
-module _ {R : Type 0} (stands : R → Standing) (homes : ℕ → SiteId) (home : SiteId) (session : ℕ) (h : Happening) (run : List Happening) (c : SessionView R)
-    (due : IsDue homes h run) (right : IsRight homes run) (quiet : (x : ℕ) (r : Running R) → running_at x c ≡ Some r → IsQuiet r.line h)
-    (foreign : (other : ℕ) → IsWriterOf session other (h ∷ run) → steps_in other h ≡ []) where
-  pub quiet_order : IsInOrder stands home session run c → IsInOrder stands home session (h ∷ run) c
-  quiet_order old = record {
-    extents = λ x r runs asked is. old.extents x r runs asked (sym ((quiet x r runs).asked (asked_by r.line run)) ∙ is);
-    comes = λ x r runs writes. comes_still stands home h run r (quiet x r runs).steps (old.comes x r runs writes);
+module _ {R : Type 0} (stands : R → Standing) (homes : ℕ → SiteId) (home : SiteId) (who : Instance) (h : Happening) (run : List Happening) (c : SessionView R)
+    (due : IsDue homes h run) (right : IsRight homes run) (foreign : (other : ℕ) → IsWriterOf who other (h ∷ run) → steps_in other h ≡ []) where
+  -- it is no step of its writes, and begins none of its requests
+  pub still_order : ((x : ℕ) (r : Running R) → running_at x c ≡ Some r → or_asked r.line h (asked_by r.line run) ≡ asked_by r.line run)
+      → ((x : ℕ) (r : Running R) → running_at x c ≡ Some r → IsSome r.extent → steps_in r.line h ≡ []) → IsInOrder stands home who run c → IsInOrder stands home who (h ∷ run) c
+  still_order same none old = record {
+    extents = λ x r runs asked is. old.extents x r runs asked (sym (same x r runs) ∙ is);
+    comes = λ x r runs writes. comes_still stands home h run r (none x r runs writes) (old.comes x r runs writes);
     in_line = λ x y r q runs also writes other_writes s image before member.
         old.in_line x y r q runs also writes other_writes s image
-        (found_earlier r.line q.line s image h run (finds_nothing r.line s image h (quiet x r runs).steps) before) member;
+        (found_earlier r.line q.line s image h run (finds_nothing r.line s image h (none x r runs writes)) before) member;
     past = λ x r runs writes other writer s image number before written.
         let earlier = written_before other s image number h run (writes_nothing other s image number h (foreign other writer)) written in
-        old.past x r runs writes other (wrote_was homes session other s image number h run due right writer earlier) s image number
-        (found_earlier r.line other s image h run (finds_nothing r.line s image h (quiet x r runs).steps) before) earlier;
+        old.past x r runs writes other (wrote_was homes who other s image number h run due right writer earlier) s image number
+        (found_earlier r.line other s image h run (finds_nothing r.line s image h (none x r runs writes)) before) earlier;
   }
+
+  pub quiet_order : ((x : ℕ) (r : Running R) → running_at x c ≡ Some r → IsQuiet r.line h) → IsInOrder stands home who run c → IsInOrder stands home who (h ∷ run) c
+  quiet_order quiet = still_order (λ x r runs. (quiet x r runs).asked (asked_by r.line run)) (λ x r runs writes. (quiet x r runs).steps)
 
 -- ---- a session that holds the same requests in the same lines, or fewer
 
-module _ {R : Type 0} (stands : R → Standing) (home : SiteId) (session : ℕ) (run : List Happening) where
+module _ {R : Type 0} (stands : R → Standing) (home : SiteId) (who : Instance) (run : List Happening) where
   before_same : (r q : Running R) → IsSameStand stands r q → IsBeforeFinding stands home run r → IsBeforeFinding stands home run q
   before_same r q same b = record {
     command = b.command;
@@ -102,7 +107,7 @@ module _ {R : Type 0} (stands : R → Standing) (home : SiteId) (session : ℕ) 
     pub same : IsSameStand stands was q
 
   pub same_order : (c d : SessionView R) → ((x : ℕ) (q : Running R) → running_at x d ≡ Some q → WasThere x c q)
-      → ((s : SiteId) (image : ℕ) → lines_of d.lines s image ≡ lines_of c.lines s image) → IsInOrder stands home session run c → IsInOrder stands home session run d
+      → ((s : SiteId) (image : ℕ) → lines_of d.lines s image ≡ lines_of c.lines s image) → IsInOrder stands home who run c → IsInOrder stands home who run d
   same_order c d there lines old = record {
     extents = λ x q runs asked is.
         let w = there x q runs in w.same.extent ∙ old.extents x w.was w.there asked (sym (ap (λ l. asked_by l run) w.same.line) ∙ is);

@@ -1,94 +1,120 @@
 -- A poll of a request that is refused before any operation: its reply is meant, and its slot free.
-use Rattle.std.proofs.Common.{◌≡◌, ◌≢◌, ℕ, ◌==◌, Bool, true, false, [], ◌∷◌, ◌++◌, Some, refl, sym, ap, ◌∙◌, subst}
+use Rattle.std.proofs.Common.{◌≡◌, ◌≢◌, inl, inr, ℕ, ◌==◌, ◌||◌, Bool, true, false, [], ◌∷◌, ◌++◌, Some, refl, sym, ap, ◌∙◌, subst}
 use Rattle.std.proofs.lemmas.Bool.{true≢false, eq-eqb}
+use Rattle.rbd_client.specs.Client.{ClientView}
 use Rattle.rbd_commands.specs.declared.refusal.Refusal.{Refusal}
+use Rattle.rbd_held.specs.Truth.{IsTrueOf}
+use Rattle.rbd_held.proofs.Calls.{freed_is_true}
+use Rattle.rbd_kinds.specs.declared.id.Instance.{Instance}
+use Rattle.rbd_kinds.specs.declared.id.SiteId.{SiteId}
 use Rattle.rbd_kinds.specs.declared.reply.Reply.TheVariants as reply
 use Rattle.rbd_known.specs.Knowing.{KnowsIn}
-use Rattle.rbd_machine.specs.Knowledge.{nothing_known}
+use Rattle.rbd_machine.specs.Knowledge.{Knowledge, nothing_known}
 use Rattle.rbd_machine.specs.Plan.{Return, Standing}
 use Rattle.rbd_meaning.specs.Meant.{IsMeantBy}
-use Rattle.rbd_rely.specs.Truth.{IsTrueAt, IsParentless}
+use Rattle.rbd_rely.specs.Beside.{AreBeside}
 use Rattle.rbd_requests.specs.CommandsMeant.{command_is_meant}
 use Rattle.rbd_session.specs.declared.running.Occupant.TheVariants as occupant
-use Rattle.rbd_session.specs.Session.{SessionView, held_in, running_in, script_line}
+use Rattle.rbd_session.specs.Session.{held_in, running_in, script_line}
 use Rattle.rbd_session.proofs.Sound.{no_some, some_same}
 use Rattle.rbd_world.specs.declared.event.Event.TheVariants as event
+use Rattle.rbd_world.specs.Order.{IsInOrder}
 use Rattle.rbd_world.specs.Run.{Happening, Refused, steps_of}
-use Rattle.rbd_world.specs.Sound.{IsHeldRightly, IsInSlot, IsLedTo, IsOpen, IsRefusedAtOnce, IsReplyMeant, IsSoundWorld, first_life, line_at}
-use Rattle.rbd_world.specs.Step.{AreSlotsBut, Does, DoesAtSites, IsSoundIf, Serves}
-use Rattle.rbd_world.specs.World.{WorldView, session_in}
-use Rattle.rbd_world.proofs.Carried.{Carries}
-use Rattle.rbd_world.proofs.Changed.{HasBecome, IsElsewhere, all_but, apart_of, client_of, clients_of, has_become, line_apart, nobody_of}
-use Rattle.rbd_world.proofs.OrderedWorld.{freed_order, order_beside, orders_of}
-use Rattle.rbd_world.proofs.Quiet.{quiet_refused}
+use Rattle.rbd_world.specs.Sound.{InSlot, Sending, IsHeldRightly, IsInSlot, IsLedTo, IsLiving, IsOpen, IsRefusedAtOnce, IsReplyMeant, IsSoundWorld, held_of, known_in}
+use Rattle.rbd_world.specs.Step.{Does, DoesAtSites, IsSoundIf, Serves}
+use Rattle.rbd_world.specs.World.{WorldView, client_in, records_in, session_of}
+use Rattle.rbd_world.proofs.Carried.{IsCarried}
+use Rattle.rbd_world.proofs.Changed.{GoesOnAs, all_but, apart_of, client_is, has_become, line_apart, living_of}
+use Rattle.rbd_world.proofs.GoesOn.{goes_carries}
+use Rattle.rbd_world.proofs.OrderedWorld.{freed_order, order_beside}
+use Rattle.rbd_world.proofs.Quiet.{IsQuiet, quiet_refused}
+use Rattle.rbd_world.proofs.Rest.{StaysTrue, same_true, still_may_come, where_standing}
 use Rattle.rbd_world.proofs.Slots.{not_open, open_back, other_slots}
-use Rattle.rbd_world.proofs.Rest.{stay_beside, where_standing}
 
-module _ {R : Type 0} (stands : R → Standing) (old new : WorldView R) (w : IsSoundWorld stands old) (session slot : ℕ) (c : SessionView R) (there : session_in session old.sessions ≡ Some c)
-    (line : ℕ) (refusal : Refusal) (holds : held_in slot c.slots ≡ Some (occupant.Refused line refusal)) where
+module _ {R : Type 0} (stands : R → Standing) (old new : WorldView R) (w : IsSoundWorld stands old) (session slot : ℕ) (c : ClientView R) (there : client_in session old.lives ≡ Some c)
+    (line : ℕ) (refusal : Refusal) (holds : held_in slot c.session.slots ≡ Some (occupant.Refused line refusal)) where
+  abbrev me : Instance
+  me = c.session.instance
+
+  abbrev home : SiteId
+  home = w.homes session
+
+  abbrev knew : ℕ → Knowledge
+  knew = known_in w.knows session
+
   abbrev does_refuse : Happening
-  does_refuse = Refused c.home line (reply.Refused refusal)
+  does_refuse = Refused c.session.home line (reply.Refused refusal)
 
-  refused_there : IsRefusedAtOnce (w.homes session) session w.run line refusal
-  refused_there = subst (IsHeldRightly stands (w.homes session) session w.run (w.knows session slot)) holds ((w.clients session c there).held slot)
+  living : IsLiving stands home session w.run knew c
+  living = w.clients session c there
 
-  knows_nothing : w.knows session slot ≡ nothing_known
-  knows_nothing = subst (λ o. KnowsIn stands slot (running_in o) c.lines (w.knows session slot)) holds ((w.clients session c there).know slot)
+  refused_there : IsRefusedAtOnce home me w.run line refusal
+  refused_there = subst (IsHeldRightly stands home me w.run) holds (living.held slot)
+
+  knows_nothing : knew slot ≡ nothing_known
+  knows_nothing = subst (λ o. KnowsIn stands slot (running_in o) c.session.lines (knew slot)) holds (living.know slot)
 
   refusal_meant : IsReplyMeant w.homes line (reply.Refused refusal) w.run (does_refuse ∷ w.run)
   refusal_meant = let at = refused_there in record {
     begun = at.begun;
     ended =
-        subst (λ i. IsLedTo (w.homes i) at.begun.asked.command (steps_of line (does_refuse ∷ w.run)) (Return (reply.Refused refusal))) (sym at.mine)
-        (subst (λ steps. IsLedTo (w.homes session) at.begun.asked.command steps (Return (reply.Refused refusal))) (sym (ap (λ xs. xs ++ []) at.none))
+        subst (λ i. IsLedTo (w.homes i) at.begun.asked.command (steps_of line (does_refuse ∷ w.run)) (Return (reply.Refused refusal))) (sym (whose at.begun.asked.who at.mine))
+        (subst (λ steps. IsLedTo home at.begun.asked.command steps (Return (reply.Refused refusal))) (sym (ap (λ xs. xs ++ []) at.none))
         (record { start = at.start; plan = at.plan; feds = []; walk = (refl, sym at.ends); given = tt }));
     meant =
-        subst (λ i. IsMeantBy (w.homes i) at.begun.asked.command (steps_of line (does_refuse ∷ w.run)) (reply.Refused refusal)) (sym at.mine)
-        (subst (λ steps. IsMeantBy (w.homes session) at.begun.asked.command steps (reply.Refused refusal)) (sym (ap (λ xs. xs ++ []) at.none))
-        (command_is_meant (w.homes session) at.begun.asked.command at.start [] [] (reply.Refused refusal) at.plan tt (refl, sym at.ends)));
+        subst (λ i. IsMeantBy (w.homes i) at.begun.asked.command (steps_of line (does_refuse ∷ w.run)) (reply.Refused refusal)) (sym (whose at.begun.asked.who at.mine))
+        (subst (λ steps. IsMeantBy home at.begun.asked.command steps (reply.Refused refusal)) (sym (ap (λ xs. xs ++ []) at.none))
+        (command_is_meant home at.begun.asked.command at.start [] [] (reply.Refused refusal) at.plan tt (refl, sym at.ends)));
   }
+    where
+      whose : (i : Instance) → i ≡ me → i.session ≡ session
+      whose i mine = ap (λ (x : Instance). x.session) mine ∙ living.whose
+
+  module _ (d : ClientView R) (goes : GoesOnAs old new session c d) (serves : Serves stands slot c d) where
+    quiet : (x other : ℕ) → x ≢ slot → script_line (held_in x c.session.slots) ≡ Some other → IsQuiet other does_refuse
+    quiet x other differ is =
+        quiet_refused other c.session.home line (reply.Refused refusal)
+        (line_apart old new session c d goes slot serves.slots w.apart line (ap script_line holds) session x other (inr differ) (ap (λ o. script_line (held_of x (session_of o))) there ∙ is))
+
+    quiet_others : (m : ℕ) (q : ClientView R) → m ≢ session → client_in m old.lives ≡ Some q → (x other : ℕ) → script_line (held_in x q.session.slots) ≡ Some other → IsQuiet other does_refuse
+    quiet_others m q differ at x other is =
+        quiet_refused other c.session.home line (reply.Refused refusal)
+        (line_apart old new session c d goes slot serves.slots w.apart line (ap script_line holds) m x other (inl differ) (ap (λ o. script_line (held_of x (session_of o))) at ∙ is))
+
+    slots_then : (l : ℕ) → IsOpen l (does_refuse ∷ w.run) → (b : Bool) → (line == l) ≡ b → IsInSlot l new.lives
+    slots_then l begun true own = absurd (not_open l does_refuse w.run (ap (λ b. b || false) own) begun)
+    slots_then l begun false other =
+        other_slots old new session c d goes slot serves.slots l
+        (λ is. true≢false (sym (eq-eqb line l (some_same line l (sym (ap script_line holds) ∙ is))) ∙ other))
+        (w.slots l (open_back l does_refuse w.run (quiet_refused l c.session.home line (reply.Refused refusal) other) begun))
+
+    serve_carries : DoesAtSites does_refuse old.sites new.sites → ((m : ℕ) → IsSoundIf stands (client_in m new.lives)) → IsCarried stands old new w does_refuse
+    serve_carries at_sites sound =
+        let stays : (s : SiteId) → StaysTrue stands old new w s (records_in s new.sites) = λ s. same_true stands old new w s (records_in s new.sites) (at_sites.records s) in
+        let all =
+        all_but stands knew slot c.session d.session serves.slots serves.lines living.know
+        (subst (λ o. KnowsIn stands slot (running_in o) d.session.lines (knew slot)) (sym serves.held) knows_nothing) in
+        goes_carries stands old new w does_refuse session c d goes there serves.client.instance (λ m l. refl) (λ m x o. refl) knew
+        (λ g x apart s. (stays s).beside me (w.who g) (knew x) (w.knows g)
+        (subst (λ i. AreBeside s (records_in s old.sites) i (w.who g) (knew x) (w.knows g)) (w.in_slots session x c there) (w.beside (InSlot session x) g apart s)))
+        (λ a g apart s. (stays s).beside (w.who a) (w.who g) (w.knows a) (w.knows g) (w.beside a g apart s))
+        (where_standing w.homes w.run w.right) refusal_meant (λ s. (stays s).parentless (w.parentless s))
+        (living_of stands home session does_refuse w.run (λ m l. refl) knew knew slot c d living serves.slots serves.client quiet
+        (subst (IsSoundIf stands) (client_is old new session c d goes) (sound session)) all (subst (IsHeldRightly stands home me (does_refuse ∷ w.run)) (sym serves.held) tt))
+        quiet_others (apart_of old new session c d goes slot serves.slots w.apart (λ l is. absurd (no_some l (sym (ap script_line serves.held) ∙ is))))
+        (λ l now. slots_then l now (line == l) refl)
+        (λ s. (stays s).clients d.session.instance knew d
+        (subst (λ i. IsTrueOf s (records_in s old.sites) i knew d) (sym serves.client.instance)
+        (freed_is_true s (records_in s old.sites) me knew c d (w.truth session c there s) stands (subst (IsSoundIf stands) (client_is old new session c d goes) (sound session)) slot serves.held serves.states serves.house.locks)))
+        (λ m q apart is s. (stays s).clients q.session.instance (known_in w.knows m) q (w.truth m q is s))
+        (λ m x y is. still_may_come stands old new w (λ s. records_in s new.sites) stays m y (w.knows (Sending m x)) ((w.sending m x y is).1))
+        tt (λ m q apart is other writer. refl)
+        (subst (λ i. IsInOrder stands home i (does_refuse ∷ w.run) d.session) (sym serves.client.instance)
+        (freed_order stands home me (does_refuse ∷ w.run) slot c.session d.session serves.slots serves.lines (ap running_in serves.held)
+        (order_beside stands old new w does_refuse refusal_meant home me slot c.session quiet (ap running_in holds) (λ other writer. refl) (w.in_order session c there))))
 
   pub refused_keeps : Does stands (event.Poll session slot) does_refuse old new → DoesAtSites does_refuse old.sites new.sites
-      → ((m : ℕ) → IsSoundIf stands (session_in m new.sessions)) → Carries stands old new w does_refuse w.knows
-  refused_keeps does at_sites sound = by (has_become stands (event.Poll session slot) does_refuse old new session c there (λ m. refl) does)
-    where
-      slots_then : (d : SessionView R) → session_in session new.sessions ≡ Some d → ((m : ℕ) → m ≢ session → session_in m new.sessions ≡ session_in m old.sessions) → AreSlotsBut slot c d
-          → (l : ℕ) → IsOpen l (does_refuse ∷ w.run) → (b : Bool) → (line == l) ≡ b → IsInSlot l new.sessions
-      slots_then d after others slots l begun true own = absurd (not_open l does_refuse w.run own begun)
-      slots_then d after others slots l begun false other =
-          other_slots stands old new w does_refuse session slot c d there after others slots l
-          (λ is. true≢false (sym (eq-eqb line l (some_same line l (sym (ap script_line holds) ∙ is))) ∙ other))
-          (open_back l does_refuse w.run (quiet_refused l c.home line (reply.Refused refusal) other) begun)
-
-      by : HasBecome stands (event.Poll session slot) does_refuse old new session c → Carries stands old new w does_refuse w.knows
-      by become =
-          let d : SessionView R = become.after in
-          let serves : Serves stands slot c d = become.becomes in
-          let quiet = λ (m x other : ℕ) (where_else : IsElsewhere session slot m x) (is : line_at m x old.sessions ≡ Some other).
-          quiet_refused other c.home line (reply.Refused refusal)
-          (line_apart stands old new w does_refuse session slot c d there become.there become.others serves.slots line (ap script_line holds) m x other where_else is) in
-          let all =
-          all_but stands (w.knows session) slot c d serves.slots serves.lines (w.clients session c there).know
-          (subst (λ o. KnowsIn stands slot (running_in o) d.lines (w.knows session slot)) (sym serves.held) knows_nothing) in
-          let own =
-          client_of stands old new w does_refuse session slot c d there become.there become.others serves.slots (w.knows session) quiet
-          (subst (IsSoundIf stands) become.there (sound session)) serves.client all (λ x differ. refl)
-          (subst (IsHeldRightly stands (w.homes session) session (does_refuse ∷ w.run) (w.knows session slot)) (sym serves.held) tt) in
-          record {
-            standing = where_standing w.homes w.run w.right;
-            due = refusal_meant;
-            parentless = λ s. subst IsParentless (sym (at_sites.records s)) (w.parentless s);
-            clients = clients_of stands old new w does_refuse session slot c d there become.there become.others serves.slots w.knows (λ m differ. refl) quiet own;
-            nobody = nobody_of stands old new w does_refuse session slot c d there become.there become.others serves.slots w.knows (λ m differ. refl);
-            apart =
-                apart_of stands old new w does_refuse session slot c d there become.there become.others serves.slots
-                (λ l is. absurd (no_some l (sym (ap script_line serves.held) ∙ is)));
-            slots = λ l begun. slots_then d become.there become.others serves.slots l begun (line == l) refl;
-            truth = λ m x s. subst (λ r. IsTrueAt s r (first_life m) (w.knows m x)) (sym (at_sites.records s)) (w.truth m x s);
-            beside = stay_beside stands old new w at_sites.records;
-            turn = tt;
-            in_order =
-                orders_of stands old new w does_refuse refusal_meant session slot c there quiet d become.there become.others (λ m differ other writer. refl)
-                (freed_order stands (w.homes session) session (does_refuse ∷ w.run) slot c d serves.slots serves.lines (ap running_in serves.held)
-                (order_beside stands old new w does_refuse refusal_meant session slot c there quiet (ap running_in holds) (λ other writer. refl)));
-          }
+      → ((m : ℕ) → IsSoundIf stands (client_in m new.lives)) → IsCarried stands old new w does_refuse
+  refused_keeps does at_sites sound =
+      let become = has_become stands (event.Poll session slot) does_refuse old new session c there (λ m. refl) (λ at o n is. is) (λ l. refl) (λ l. refl) does in
+      serve_carries become.after become.goes become.becomes at_sites sound

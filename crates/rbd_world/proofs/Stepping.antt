@@ -2,42 +2,47 @@
 -- again.
 use Rattle.std.proofs.Common.{◌≡◌, ℕ, ◌||◌, Bool, true, false, Option, Some, None, refl, sym, ap, ◌∙◌, subst}
 use Rattle.std.proofs.Math.Path.{fun_ext}
+use Rattle.rbd_client.specs.Client.{ClientView}
 use Rattle.rbd_kinds.specs.declared.id.SiteId.TheVariants as site
 use Rattle.rbd_machine.specs.Plan.{Standing}
-use Rattle.rbd_session.specs.Session.{SessionView}
 use Rattle.rbd_world.specs.declared.event.Event.{Event}
 use Rattle.rbd_world.specs.declared.event.Outcome.{Outcome}
 use Rattle.rbd_world.specs.declared.sites.Sites.{Sites}
 use Rattle.rbd_world.specs.Begun.{LinesBegun, has_line}
 use Rattle.rbd_world.specs.Run.{Happening, entries_of}
 use Rattle.rbd_world.specs.Sound.{IsKept, IsSoundWorld}
-use Rattle.rbd_world.specs.Step.{AreOfOneClient, AreSameSites, Does, IsBuiltEvent, IsSoundIf, IsStep, IsUndone, LeavesParts, StepsParts, happening, happens, is_begun, is_start_of, names_session}
-use Rattle.rbd_world.specs.World.{WorldView, session_in}
+use Rattle.rbd_world.specs.Step.{AreSameSites, Does, IsBuiltEvent, IsSoundIf, IsStep, IsUndone, LeavesParts, StepsParts, happening, happens, is_begun, is_start_of, names_session}
+use Rattle.rbd_world.specs.World.{WorldView, client_in, running_of}
 use Rattle.rbd_world.proofs.Runs.{any_append}
 use Rattle.rbd_world.proofs.Steps.{steps_keep}
 use Rattle.rbd_world.proofs.Undone.{undone_is_sound}
 
 module _ {R : Type 0} (stands : R → Standing) where
+  clients_sound : (w : WorldView R) → IsSoundWorld stands w → (session : ℕ) (o : Option (ClientView R)) → client_in session w.lives ≡ o → IsSoundIf stands o
+  clients_sound w sound session None is = tt
+  clients_sound w sound session (Some c) is = (sound.clients session c is).sound
+
   -- the table of lines tells what the history does
   same_happening : (e : Event) (b : LinesBegun) (w : WorldView R) → IsKept stands b w
-      → happens stands e (λ line. has_line line b) w.sites w.sessions ≡ happening stands e w
-  same_happening e b w kept = ap (λ begun. happens stands e begun w.sites w.sessions) (fun_ext kept.lines)
+      → happens stands e (λ line. has_line line b) w.sites w.lives ≡ happening stands e w
+  same_happening e b w kept = ap (λ begun. happens stands e begun w.sites w.lives) (fun_ext kept.lines)
 
   module _ (e : Event) (b after : LinesBegun) (old new : WorldView R) (result : Outcome) (k : IsKept stands b old)
-      (did : StepsParts stands e (happens stands e (λ line. has_line line b) old.sites old.sessions) old.sites new.sites old.sessions new.sessions b after old.history new.history old.calls new.calls result) where
+      (did : StepsParts stands e (happens stands e (λ line. has_line line b) old.sites old.lives) old.sites new.sites old.lives new.lives b after old.history new.history old.calls new.calls result) where
     abbrev what : Happening
     what = happening stands e old
 
-    pub steps : StepsParts stands e what old.sites new.sites old.sessions new.sessions b after old.history new.history old.calls new.calls result
-    steps = subst (λ h. StepsParts stands e h old.sites new.sites old.sessions new.sessions b after old.history new.history old.calls new.calls result) (same_happening e b old k) did
+    pub steps : StepsParts stands e what old.sites new.sites old.lives new.lives b after old.history new.history old.calls new.calls result
+    steps = subst (λ h. StepsParts stands e h old.sites new.sites old.lives new.lives b after old.history new.history old.calls new.calls result) (same_happening e b old k) did
 
     pub does : Does stands e what old new
     does = record {
       calls = steps.calls;
       history = steps.history;
       sites = steps.parts.sites.sites;
-      named = steps.parts.sessions.named;
-      others = steps.parts.sessions.others;
+      mail = steps.parts.sites.mail;
+      named = steps.parts.lives.named;
+      others = steps.parts.lives.others;
     }
 
     pub stepped : IsStep stands e old result new
@@ -49,23 +54,20 @@ module _ {R : Type 0} (stands : R → Standing) where
         steps.parts.begun line ∙ ap (λ c. c || is_begun line (entries_of what)) (k.lines line)
         ∙ sym (any_append (is_start_of line) old.history (entries_of what)) ∙ sym (ap (is_begun line) steps.history)
 
-    pub sessions_sound : (session : ℕ) → IsSoundIf stands (session_in session new.sessions)
-    sessions_sound session = by (names_session e session) refl
+    pub lives_sound : (session : ℕ) → IsSoundIf stands (client_in session new.lives)
+    lives_sound session = by (names_session e what session) refl
       where
-        old_sound : (o : Option (SessionView R)) → session_in session old.sessions ≡ o → IsSoundIf stands o
-        old_sound None is = tt
-        old_sound (Some c) is = (k.sound.clients session c is).sound
-
-        named_sound : (o : Option (SessionView R)) → names_session e session ≡ true → session_in session new.sessions ≡ o → IsSoundIf stands o
+        named_sound : (o : Option (ClientView R)) → names_session e what session ≡ true → client_in session new.lives ≡ o → IsSoundIf stands o
         named_sound None named is = tt
-        named_sound (Some c) named is = steps.parts.sessions.sound session c named is
+        named_sound (Some c) named is = steps.parts.lives.sound session c named is
 
-        by : (named : Bool) → names_session e session ≡ named → IsSoundIf stands (session_in session new.sessions)
-        by true named = named_sound (session_in session new.sessions) named refl
-        by false named = subst (IsSoundIf stands) (sym (steps.parts.sessions.others session named)) (old_sound (session_in session old.sessions) refl)
+        by : (named : Bool) → names_session e what session ≡ named → IsSoundIf stands (client_in session new.lives)
+        by true named = named_sound (client_in session new.lives) named refl
+        by false named =
+            subst (IsSoundIf stands) (sym (ap running_of (steps.parts.lives.others session named))) (clients_sound old k.sound session (client_in session old.lives) refl)
 
-    pub sound_again : IsBuiltEvent e → AreOfOneClient old.calls e → IsSoundWorld stands new
-    sound_again built one = steps_keep stands e old new k.sound built one does steps.parts.sites sessions_sound
+    pub sound_again : IsBuiltEvent e → IsSoundWorld stands new
+    sound_again built = steps_keep stands e old new k.sound built does steps.parts.sites lives_sound
 
     pub kept_sound : IsSoundWorld stands new → IsKept stands after new
     kept_sound sound = record { sound = sound; lines = lines_kept }
@@ -73,32 +75,28 @@ module _ {R : Type 0} (stands : R → Standing) where
 -- ---- a step that is refused memory
 
 same_sites : (old new : Sites) → AreSameSites old new → new ≡ old
-same_sites old new same = ap (λ a. record { a = a; b = new.b }) (same site.A) ∙ ap (λ b. record { a = old.a; b = b }) (same site.B)
+same_sites old new same =
+    ap (λ a. record { a = a; b = new.b; mail = new.mail }) (same.sites site.A)
+    ∙ ap (λ b. record { a = old.a; b = b; mail = new.mail }) (same.sites site.B)
+    ∙ ap (λ mail. record { a = old.a; b = old.b; mail = mail }) same.mail
 
 module _ {R : Type 0} (stands : R → Standing) where
-  pub undone : (b after : LinesBegun) (old new : WorldView R) → LeavesParts stands old.sites new.sites old.sessions new.sessions b after
+  pub undone : (b after : LinesBegun) (old new : WorldView R) → LeavesParts stands old.sites new.sites old.lives new.lives b after
       → new.history ≡ old.history → new.calls ≡ old.calls → IsUndone stands old new
   undone b after old new left history calls = record {
     sites = same_sites old.sites new.sites left.sites;
-    sessions = left.sessions.alike;
+    lives = left.lives.alike;
     history = history;
     calls = calls;
   }
 
-  pub undone_sessions_sound : (b after : LinesBegun) (old new : WorldView R) → IsKept stands b old → LeavesParts stands old.sites new.sites old.sessions new.sessions b after
-      → (session : ℕ) → IsSoundIf stands (session_in session new.sessions)
-  undone_sessions_sound b after old new k left session = left.sessions.sound session (old_sound (session_in session old.sessions) refl)
-    where
-      old_sound : (o : Option (SessionView R)) → session_in session old.sessions ≡ o → IsSoundIf stands o
-      old_sound None is = tt
-      old_sound (Some c) is = (k.sound.clients session c is).sound
-
-  pub undone_sound : (b after : LinesBegun) (old new : WorldView R) → IsKept stands b old → LeavesParts stands old.sites new.sites old.sessions new.sessions b after
+  pub undone_sound : (b after : LinesBegun) (old new : WorldView R) → IsKept stands b old → LeavesParts stands old.sites new.sites old.lives new.lives b after
       → new.history ≡ old.history → new.calls ≡ old.calls → IsSoundWorld stands new
   undone_sound b after old new k left history calls =
-      undone_is_sound stands old new k.sound (undone b after old new left history calls) (undone_sessions_sound b after old new k left)
+      undone_is_sound stands old new k.sound (undone b after old new left history calls)
+      (λ session. left.lives.sound session (clients_sound stands old k.sound session (client_in session old.lives) refl))
 
-  pub undone_kept : (b after : LinesBegun) (old new : WorldView R) → IsKept stands b old → LeavesParts stands old.sites new.sites old.sessions new.sessions b after
+  pub undone_kept : (b after : LinesBegun) (old new : WorldView R) → IsKept stands b old → LeavesParts stands old.sites new.sites old.lives new.lives b after
       → new.history ≡ old.history → IsSoundWorld stands new → IsKept stands after new
   undone_kept b after old new k left history sound = record {
     sound = sound;

@@ -1,5 +1,11 @@
 -- A step that is refused memory leaves a sound world sound.
-use Rattle.std.proofs.Common.{◌≡◌, ◌≢◌, ◌⊎◌, ℕ, List, length, Option, Some, None, refl, sym, ap, ◌∙◌, subst}
+use Rattle.std.proofs.Common.{◌≡◌, ◌≤◌, ◌<◌, ℕ, List, length, is_some, Option, Some, None, refl, sym, ap, ◌∙◌, subst}
+use Rattle.rbd_client.specs.Client.{ClientView}
+use Rattle.rbd_client.specs.Feeding.{IsClientAlike}
+use Rattle.rbd_client.specs.Sound.{IsSoundClient}
+use Rattle.rbd_held.specs.Truth.{IsTrueOf}
+use Rattle.rbd_held.proofs.Calls.{readied_is_true}
+use Rattle.rbd_kinds.specs.declared.id.Instance.{Instance}
 use Rattle.rbd_kinds.specs.declared.id.SiteId.{SiteId}
 use Rattle.rbd_known.specs.Calm.{IsCalmRequest}
 use Rattle.rbd_known.proofs.Behind.{alike_know}
@@ -8,19 +14,19 @@ use Rattle.rbd_machine.specs.Path.{IsWalk}
 use Rattle.rbd_machine.specs.Plan.{Standing}
 use Rattle.rbd_machine.specs.Refused.{AreGiven}
 use Rattle.rbd_rely.specs.Beside.{AreBeside}
-use Rattle.rbd_rely.specs.Truth.{IsTrueAt, IsParentless}
+use Rattle.rbd_rely.specs.Truth.{IsParentless}
 use Rattle.rbd_session.specs.declared.running.Occupant.{Occupant}
 use Rattle.rbd_session.specs.declared.running.Occupant.TheVariants as occupant
 use Rattle.rbd_session.specs.declared.running.Running.{Running}
 use Rattle.rbd_session.specs.Advance.{IsSameStand}
-use Rattle.rbd_session.specs.Session.{SessionView, IsAlike, IsAlikeIn, IsSoundSession, held_in, script_line}
+use Rattle.rbd_session.specs.Session.{IsAlikeIn, held_in, script_line}
 use Rattle.rbd_session.proofs.Sound.{no_some, some_same}
 use Rattle.rbd_site.specs.InForm.{AreInForm}
 use Rattle.rbd_world.specs.declared.sites.Sites.{Sites}
 use Rattle.rbd_world.specs.Run.{Happening, AreCalls, asked_by, log_of, records_after, steps_of}
-use Rattle.rbd_world.specs.Sound.{IsHeldRightly, IsSoundClient, IsSoundWorld, IsUnderWay, first_life, has_reply, held_of, line_at}
-use Rattle.rbd_world.specs.Step.{IsAlikeOf, IsSoundIf, IsUndone}
-use Rattle.rbd_world.specs.World.{WorldView, records_in, session_in, site_in}
+use Rattle.rbd_world.specs.Sound.{AreLivesOf, AreStrangers, Holder, InSlot, Sending, IsHeldRightly, IsLiving, IsRunning, IsSoundWorld, IsUnderWay, MayStillCome, has_ended, held_of, known_in, line_at}
+use Rattle.rbd_world.specs.Step.{AreLivesAlike, IsAlikeOf, IsClientAlikeIf, IsSoundIf, IsUndone}
+use Rattle.rbd_world.specs.World.{LateView, LivesView, WorldView, client_in, late_at, late_of, lives_in, records_in, running_of, sent_in, session_of, site_in}
 use Rattle.rbd_world.proofs.OrderedWorld.{alike_order_if}
 use Rattle.rbd_world.proofs.Slots.{same_slots}
 
@@ -34,14 +40,14 @@ module _ {R : Type 0} (stands : R → Standing) where
   alike_line (Some (occupant.Refused line refusal)) p alike = ap script_line alike
   alike_line None p alike = ap script_line alike
 
-  module _ (home : SiteId) (session : ℕ) (run : List Happening) (k : Knowledge) where
+  module _ (home : SiteId) (who : Instance) (run : List Happening) where
     -- its request is under way as it was, whatever it is ready for
-    same_way : (r q : Running R) → IsSameStand stands r q → IsUnderWay stands home session run k r → IsUnderWay stands home session run k q
+    same_way : (r q : Running R) → IsSameStand stands r q → IsUnderWay stands home who run r → IsUnderWay stands home who run q
     same_way r q same way = record {
       begun = record {
         asked = way.begun.asked;
         is = subst (λ line. asked_by line run ≡ Some way.begun.asked) (sym same.line) way.begun.is;
-        unanswered = ap (λ line. has_reply line run) same.line ∙ way.begun.unanswered;
+        unended = ap (λ line. has_ended line run) same.line ∙ way.begun.unended;
       };
       mine = way.mine;
       start = way.start;
@@ -52,76 +58,145 @@ module _ {R : Type 0} (stands : R → Standing) where
           subst (λ line. IsWalk way.start.labels way.start.plan way.feds (steps_of line run) (stands q.request).plan) (sym same.line)
           (subst (λ (s : Standing). IsWalk way.start.labels way.start.plan way.feds (steps_of r.line run) s.plan) (sym same.same) way.walk);
       given = subst (λ line. AreGiven (steps_of line run)) (sym same.line) way.given;
-      calm = λ looks. let calm = way.calm looks in (subst IsCalmRequest (sym same.same) calm.0, calm.1);
+      calm = λ looks. let calm = way.calm looks in (subst IsCalmRequest (sym same.same) calm.0, same.place ∙ calm.1);
     }
 
-    alike_held : (o p : Option (Occupant R)) → IsAlikeIn stands o p → IsHeldRightly stands home session run k o → IsHeldRightly stands home session run k p
+    alike_held : (o p : Option (Occupant R)) → IsAlikeIn stands o p → IsHeldRightly stands home who run o → IsHeldRightly stands home who run p
     alike_held (Some (occupant.Running r)) (Some (occupant.Running q)) alike held = same_way r q alike held
-    alike_held (Some (occupant.Running r)) (Some (occupant.Refused line refusal)) alike held =
-        subst (IsHeldRightly stands home session run k) (sym alike) held
-    alike_held (Some (occupant.Running r)) None alike held = subst (IsHeldRightly stands home session run k) (sym alike) held
-    alike_held (Some (occupant.Refused line refusal)) p alike held = subst (IsHeldRightly stands home session run k) (sym alike) held
-    alike_held None p alike held = subst (IsHeldRightly stands home session run k) (sym alike) held
+    alike_held (Some (occupant.Running r)) (Some (occupant.Refused line refusal)) alike held = subst (IsHeldRightly stands home who run) (sym alike) held
+    alike_held (Some (occupant.Running r)) None alike held = subst (IsHeldRightly stands home who run) (sym alike) held
+    alike_held (Some (occupant.Refused line refusal)) p alike held = subst (IsHeldRightly stands home who run) (sym alike) held
+    alike_held None p alike held = subst (IsHeldRightly stands home who run) (sym alike) held
 
-  -- ---- a session
+  -- ---- a client
 
-  alike_client : (home : SiteId) (session : ℕ) (run : List Happening) (knows : ℕ → Knowledge) (s t : SessionView R) → IsAlike stands s t → IsSoundSession stands t
-      → IsSoundClient stands home session run knows s → IsSoundClient stands home session run knows t
-  alike_client home session run knows s t alike sound client = record {
-    who = alike.instance ∙ client.who;
-    at_home = alike.home ∙ client.at_home;
+  alike_client : (home : SiteId) (session : ℕ) (run : List Happening) (knows : ℕ → Knowledge) (c d : ClientView R) → IsClientAlike stands c d → IsSoundClient stands d
+      → IsLiving stands home session run knows c → IsLiving stands home session run knows d
+  alike_client home session run knows c d alike sound living = record {
+    whose = ap (λ (i : Instance). i.session) alike.session.instance ∙ living.whose;
+    runs = subst (λ i. IsRunning i run) (sym alike.session.instance) living.runs;
+    at_home = alike.session.home ∙ living.at_home;
     sound = sound;
-    know = alike_know stands s t knows alike client.know;
-    held = λ slot. alike_held home session run (knows slot) (held_in slot s.slots) (held_in slot t.slots) (alike.slots slot) (client.held slot);
+    know = alike_know stands c.session d.session knows alike.session living.know;
+    held = λ slot.
+        subst (λ i. IsHeldRightly stands home i run (held_in slot d.session.slots)) (sym alike.session.instance)
+        (alike_held home c.session.instance run (held_in slot c.session.slots) (held_in slot d.session.slots) (alike.session.slots slot) (living.held slot));
   }
 
-  -- of a session that is there, or of none
-  same_none : (o n : Option (SessionView R)) → IsAlikeOf stands o n → n ≡ None → o ≡ None
+  -- of one that is there, or of none
+  alike_if : (P : ClientView R → Type 0) (o n : Option (ClientView R)) → IsClientAlikeIf stands o n → IsSoundIf stands n
+      → ((c d : ClientView R) → o ≡ Some c → IsClientAlike stands c d → IsSoundClient stands d → P d) → (d : ClientView R) → n ≡ Some d → P d
+  alike_if P None n alike sound goes d is = absurd (no_some d (sym alike ∙ is))
+  alike_if P (Some c) None alike sound goes d is = absurd alike
+  alike_if P (Some c) (Some e) alike sound goes d is = subst P (some_same e d is) (goes c e refl alike sound)
+
+  same_none : (o n : Option (ClientView R)) → IsClientAlikeIf stands o n → n ≡ None → o ≡ None
   same_none None n alike none = refl
-  same_none (Some s) None alike none = elim alike [ ]
-  same_none (Some s) (Some t) alike none = absurd (no_some t (sym none))
+  same_none (Some c) None alike none = absurd alike
+  same_none (Some c) (Some d) alike none = absurd (no_some d (sym none))
 
-  same_line : (slot : ℕ) (o n : Option (SessionView R)) → IsAlikeOf stands o n → script_line (held_of slot n) ≡ script_line (held_of slot o)
-  same_line slot None n alike = ap (λ c. script_line (held_of slot c)) alike
-  same_line slot (Some s) None alike = elim alike [ ]
-  same_line slot (Some s) (Some t) alike = alike_line (held_in slot s.slots) (held_in slot t.slots) (alike.slots slot)
+  same_line : (slot : ℕ) (o n : Option (ClientView R)) → IsClientAlikeIf stands o n → script_line (held_of slot (session_of n)) ≡ script_line (held_of slot (session_of o))
+  same_line slot None n alike = ap (λ c. script_line (held_of slot (session_of c))) alike
+  same_line slot (Some c) None alike = absurd alike
+  same_line slot (Some c) (Some d) alike = alike_line (held_in slot c.session.slots) (held_in slot d.session.slots) (alike.session.slots slot)
 
-  alike_if : (home : SiteId) (session : ℕ) (run : List Happening) (knows : ℕ → Knowledge) (o n : Option (SessionView R)) → IsAlikeOf stands o n → IsSoundIf stands n
-      → ((s : SessionView R) → o ≡ Some s → IsSoundClient stands home session run knows s) → (t : SessionView R) → n ≡ Some t → IsSoundClient stands home session run knows t
-  alike_if home session run knows None n alike sound old t is = absurd (no_some t (sym alike ∙ is))
-  alike_if home session run knows (Some s) None alike sound old t is = elim alike [ ]
-  alike_if home session run knows (Some s) (Some c) alike sound old t is =
-      subst (IsSoundClient stands home session run knows) (some_same c t is) (alike_client home session run knows s c alike sound (old s refl))
+  same_runs : (o n : Option (ClientView R)) → IsClientAlikeIf stands o n → is_some n ≡ is_some o
+  same_runs None n alike = ap is_some alike
+  same_runs (Some c) None alike = absurd alike
+  same_runs (Some c) (Some d) alike = refl
+
+  -- ---- a session's lives
+
+  clients_alike : (o n : Option (LivesView R)) → IsAlikeOf stands o n → IsClientAlikeIf stands (running_of o) (running_of n)
+  clients_alike None n alike = ap running_of alike
+  clients_alike (Some l) None alike = absurd alike
+  clients_alike (Some l) (Some m) alike = alike.running
+
+  same_late : (o n : Option (LivesView R)) → IsAlikeOf stands o n → late_of n ≡ late_of o
+  same_late None n alike = ap late_of alike
+  same_late (Some l) None alike = absurd alike
+  same_late (Some l) (Some m) alike = alike.late
+
+  alike_lives : (run : List Happening) (home : SiteId) (session : ℕ) (l m : LivesView R) → AreLivesAlike stands l m → AreLivesOf run home session l → AreLivesOf run home session m
+  alike_lives run home session l m alike lives = record {
+    home_is = alike.home ∙ lives.home_is;
+    whose = ap (λ (i : Instance). i.session) alike.latest ∙ lives.whose;
+    life =
+        lives.life ∙ ap (λ b. record { number = l.latest.life; runs = b }) (sym (same_runs l.running m.running alike.running))
+        ∙ ap (λ (i : Instance). record { number = i.life; runs = is_some m.running }) (sym alike.latest);
+    latest = λ d runs. latest l.running m.running refl alike.running d runs;
+    most = λ v late. subst (λ (i : Instance). v.instance.life ≤ i.life) (sym alike.latest) (lives.most v (sym alike.late ∙ late));
+    older = λ v late d runs. older v (sym alike.late ∙ late) l.running m.running refl alike.running d runs;
+  }
+    where
+      latest : (o n : Option (ClientView R)) → l.running ≡ o → IsClientAlikeIf stands o n → (d : ClientView R) → n ≡ Some d → d.session.instance ≡ m.latest
+      latest None n was same d is = absurd (no_some d (sym same ∙ is))
+      latest (Some c) None was same d is = absurd same
+      latest (Some c) (Some e) was same d is =
+          ap (λ (v : ClientView R). v.session.instance) (sym (some_same e d is)) ∙ same.session.instance ∙ lives.latest c was ∙ sym alike.latest
+
+      older : (v : LateView) → l.late ≡ Some v → (o n : Option (ClientView R)) → l.running ≡ o → IsClientAlikeIf stands o n → (d : ClientView R) → n ≡ Some d → v.instance.life < m.latest.life
+      older v late None n was same d is = absurd (no_some d (sym same ∙ is))
+      older v late (Some c) None was same d is = absurd same
+      older v late (Some c) (Some e) was same d is = subst (λ (i : Instance). v.instance.life < i.life) (sym alike.latest) (lives.older v late c was)
+
+  lives_if : (run : List Happening) (home : SiteId) (session : ℕ) (o n : Option (LivesView R)) → IsAlikeOf stands o n → ((l : LivesView R) → o ≡ Some l → AreLivesOf run home session l)
+      → (m : LivesView R) → n ≡ Some m → AreLivesOf run home session m
+  lives_if run home session None n alike old m is = absurd (no_some m (sym alike ∙ is))
+  lives_if run home session (Some l) None alike old m is = absurd alike
+  lives_if run home session (Some l) (Some k) alike old m is = subst (AreLivesOf run home session) (some_same k m is) (alike_lives run home session l k alike (old l refl))
 
   -- ---- the world
 
-  pub undone_is_sound : (old new : WorldView R) → IsSoundWorld stands old → IsUndone stands old new → ((session : ℕ) → IsSoundIf stands (session_in session new.sessions)) → IsSoundWorld stands new
+  pub undone_is_sound : (old new : WorldView R) → IsSoundWorld stands old → IsUndone stands old new → ((session : ℕ) → IsSoundIf stands (client_in session new.lives)) → IsSoundWorld stands new
   undone_is_sound old new w undone sound = record {
     run = w.run;
     homes = w.homes;
+    who = w.who;
     knows = w.knows;
     calls = subst (λ calls. AreCalls calls w.run) (sym undone.calls) w.calls;
     history = undone.history ∙ w.history;
+    ids = subst (λ (sites : Sites). (s : SiteId) → (site_in s sites).id ≡ s) (sym undone.sites) w.ids;
     logs = subst (λ (sites : Sites). (s : SiteId) → (site_in s sites).log ≡ log_of s w.run) (sym undone.sites) w.logs;
     records = subst (λ (sites : Sites). (s : SiteId) → records_in s sites ≡ records_after s w.run) (sym undone.sites) w.records;
+    mail = ap (λ (sites : Sites). sites.mail) undone.sites ∙ w.mail;
     right = w.right;
     form = subst (λ (sites : Sites). (s : SiteId) → AreInForm (records_in s sites) (length (site_in s sites).log)) (sym undone.sites) w.form;
     parentless = subst (λ (sites : Sites). (s : SiteId) → IsParentless (records_in s sites)) (sym undone.sites) w.parentless;
+    lives = λ session. lives_if w.run (w.homes session) session (lives_in session old.lives) (lives_in session new.lives) (undone.lives session) (w.lives session);
     clients = λ session.
-        alike_if (w.homes session) session w.run (w.knows session) (session_in session old.sessions) (session_in session new.sessions) (undone.sessions session) (sound session) (w.clients session);
-    nobody = λ session none. w.nobody session (same_none (session_in session old.sessions) (session_in session new.sessions) (undone.sessions session) none);
-    apart = λ line session slot other there is also.
-        w.apart line session slot other there (sym (line_was session slot) ∙ is) (sym (line_was other there) ∙ also);
-    slots = λ line begun. same_slots old.sessions new.sessions line_was line (w.slots line begun);
-    truth = subst (λ (sites : Sites). (session slot : ℕ) (s : SiteId) → IsTrueAt s (records_in s sites) (first_life session) (w.knows session slot)) (sym undone.sites) w.truth;
+        alike_if (IsLiving stands (w.homes session) session w.run (known_in w.knows session)) (client_in session old.lives) (client_in session new.lives) (same session) (sound session)
+        (λ c d was alike is_sound. alike_client (w.homes session) session w.run (known_in w.knows session) c d alike is_sound (w.clients session c was));
+    in_slots = λ session slot.
+        alike_if (λ d. w.who (InSlot session slot) ≡ d.session.instance) (client_in session old.lives) (client_in session new.lives) (same session) (sound session)
+        (λ c d was alike is_sound. w.in_slots session slot c was ∙ sym alike.session.instance);
+    nobody = λ session none. w.nobody session (same_none (client_in session old.lives) (client_in session new.lives) (same session) none);
+    apart = λ line session slot other there is also. w.apart line session slot other there (sym (line_was session slot) ∙ is) (sym (line_was other there) ∙ also);
+    slots = λ line begun. same_slots old.lives new.lives line_was line (w.slots line begun);
+    truth = λ session d is s.
+        alike_if (λ d. IsTrueOf s (records_in s new.sites) d.session.instance (known_in w.knows session) d) (client_in session old.lives) (client_in session new.lives) (same session) (sound session)
+        (λ c d was alike is_sound.
+        subst (λ i. IsTrueOf s (records_in s new.sites) i (known_in w.knows session) d) (sym alike.session.instance)
+        (subst (λ (sites : Sites). IsTrueOf s (records_in s sites) c.session.instance (known_in w.knows session) d) (sym undone.sites)
+        (readied_is_true s (records_in s old.sites) c.session.instance (known_in w.knows session) c d (w.truth session c was s) alike.slots alike.locks)))
+        d is;
+    late = λ session slot. late_was session slot ∙ w.late session slot;
+    sending = λ session slot x is.
+        subst (λ (sites : Sites). (w.who (Sending session slot) ≡ x.instance) × MayStillCome session (λ s. records_in s sites) x (w.knows (Sending session slot))) (sym undone.sites)
+        (w.sending session slot x (sym (late_was session slot) ∙ is));
+    unsent = λ session slot none. w.unsent session slot (sym (late_was session slot) ∙ none);
+    drops = λ session slot there x differ is. w.drops session slot there x differ (sym (late_was session slot) ∙ is);
     beside =
-        subst
-        (λ (sites : Sites). (session slot other there : ℕ) → (session ≢ other) ⊎ (slot ≢ there) → (s : SiteId)
-        → AreBeside s (records_in s sites) (first_life session) (first_life other) (w.knows session slot) (w.knows other there)) (sym undone.sites) w.beside;
+        subst (λ (sites : Sites). (h g : Holder) → AreStrangers h g → (s : SiteId) → AreBeside s (records_in s sites) (w.who h) (w.who g) (w.knows h) (w.knows g)) (sym undone.sites) w.beside;
     order = w.order;
-    in_order = λ session.
-        alike_order_if stands (w.homes session) session w.run (session_in session old.sessions) (session_in session new.sessions) (undone.sessions session) (w.in_order session);
+    in_order = λ session. alike_order_if stands (w.homes session) w.run (client_in session old.lives) (client_in session new.lives) (same session) (w.in_order session);
   }
     where
-      line_was : (session slot : ℕ) → line_at session slot new.sessions ≡ line_at session slot old.sessions
-      line_was session slot = same_line slot (session_in session old.sessions) (session_in session new.sessions) (undone.sessions session)
+      same : (session : ℕ) → IsClientAlikeIf stands (client_in session old.lives) (client_in session new.lives)
+      same session = clients_alike (lives_in session old.lives) (lives_in session new.lives) (undone.lives session)
+
+      line_was : (session slot : ℕ) → line_at session slot new.lives ≡ line_at session slot old.lives
+      line_was session slot = same_line slot (client_in session old.lives) (client_in session new.lives) (same session)
+
+      late_was : (session slot : ℕ) → late_at session slot new.lives ≡ late_at session slot old.lives
+      late_was session slot = ap (sent_in slot) (same_late (lives_in session old.lives) (lives_in session new.lives) (undone.lives session))

@@ -32,7 +32,7 @@ use Rattle.rbd_requests.specs.Served.{IsPlanFor}
 use Rattle.rbd_session.specs.declared.running.Occupant.{Occupant}
 use Rattle.rbd_session.specs.declared.running.Occupant.TheVariants as occupant
 use Rattle.rbd_session.specs.declared.running.Running.{Running}
-use Rattle.rbd_session.specs.Session.{SessionView, held_in, script_line}
+use Rattle.rbd_session.specs.Session.{SessionView, held_in, is_look_at, kind_asked, script_line}
 use Rattle.rbd_site.specs.InForm.{AreInForm}
 use Rattle.rbd_site.specs.Records.{Records}
 use Rattle.rbd_site.specs.Step.{answer_to}
@@ -80,15 +80,16 @@ pub record IsReplyMeant (homes : ℕ → SiteId) (line : ℕ) (reply : Reply) (b
 abbrev pub look_answered : SiteId → (image : ℕ) → Answer → Answered
 look_answered site image told = record { site = site; op = op.Header image header.Get; answer = told }
 
--- A request that is refused on its way to the lock is refused as if its look under the lock, which
--- would have come next, had been answered as the last step of its way was: that something isn't
--- there, or that the instance is fenced.
+-- A request that is refused on its way to the lock wants its look under the lock next. It is refused
+-- as if that look had been answered as the last step of its way was: that something isn't there, or
+-- that the instance is fenced.
 pub record IsRefusedOnWay (homes : ℕ → SiteId) (line : ℕ) (reply : Reply) (o : Operation) (before : List Happening) : Type 0 where
   pub begun : IsOpen line before
   pub tells : EndsIt o.answer
   pub refuses : not_there o.answer ≡ Return reply
   pub plan : Plan
   pub led : IsLedTo (homes begun.asked.who.session) begun.asked.command (steps_of line before) plan
+  pub wants : is_look_at o.site (kind_asked plan) ≡ true
   pub image : ℕ
   pub meant : IsMeantBy (homes begun.asked.who.session) begun.asked.command (steps_of line before ++ look_answered o.site image o.answer ∷ []) reply
 
@@ -338,8 +339,8 @@ pub record IsSoundWorld {R : Type 0} (stands : R → Standing) (w : WorldView R)
   pub sending : (session slot : ℕ) (x : Sent) → late_at session slot w.lives ≡ Some x
       → (who (Sending session slot) ≡ x.instance) × MayStillCome session (λ s. records_in s w.sites) x (knows (Sending session slot))
   pub unsent : (session slot : ℕ) → late_at session slot w.lives ≡ None → knows (Sending session slot) ≡ nothing_known
-  pub drops : (session slot there : ℕ) (x : Sent) → slot ≢ there → late_at session slot w.lives ≡ Some x → (s : SiteId) (r : Records)
-      → MayLook s r (who (Sending session slot)) (who (Sending session there)) (knows (Sending session slot)) (knows (Sending session there)) x.op
+  pub drops : (session slot there : ℕ) (x : Sent) → slot ≢ there → late_at session slot w.lives ≡ Some x → (r : Records)
+      → MayLook x.site r (who (Sending session slot)) (who (Sending session there)) (knows (Sending session slot)) (knows (Sending session there)) x.op
   -- no two that aren't of one client are in each other's way
   pub beside : (h g : Holder) → AreStrangers h g → (s : SiteId) → AreBeside s (records_in s w.sites) (who h) (who g) (knows h) (knows g)
   -- the writes of each instance change an image in the order in which they found it

@@ -5,12 +5,9 @@
 ghost use Rattle.std.specs.Prelude.{◌≡◌, ◌≤◌, true, Some};
 ghost use Rattle.rbd_client.specs.Actor.{actor_at, op_wanted};
 ghost use Rattle.rbd_client.specs.Feeding.{CanGet, IsAtRest};
-ghost use Rattle.rbd_close.specs.Close.{rest_of_request};
 ghost use Rattle.rbd_kinds.specs.declared.machine.Fed.TheVariants as of_fed;
 ghost use Rattle.rbd_kinds.specs.declared.operation.Op.TheVariants as of_op;
-ghost use Rattle.rbd_machine.specs.Plan.{without_labels};
 ghost use Rattle.rbd_machine.specs.Answers.{IsHeaderToldInForm};
-ghost use Rattle.rbd_requests.specs.Session.{MayBeBrought};
 
 use super::operations::is_operation;
 use rbd_client::{Client, Quiescing};
@@ -25,7 +22,7 @@ use rbd_requests::{SessionRequest, Work, is_built};
 use std::alloc::Global;
 use std::process::Abort;
 
-/// A client of these tests.
+/// A client of these tests. No machine is brought to it.
 pub type Tested = Client<SessionRequest<CloseRequest>>;
 
 /// Who it is.
@@ -69,25 +66,11 @@ pub fn submit(
     client: &mut Tested,
     line: u32,
     command: Command,
+    quiescing: Quiescing,
 ) -> Result<Slot, NoMemory> {
     assert!(rt; has_room(client));
     assert!(rt; is_built(&command));
-    client.submit(alloc, line, Work::Plain(command), Quiescing::Leaves)
-}
-
-/// A request that closes an image, holds its changes back, or tells something takes a slot.
-pub fn submit_closing(
-    rt: &impl Abort,
-    alloc: Global,
-    client: &mut Tested,
-    line: u32,
-    request: CloseRequest,
-    quiescing: Quiescing,
-) -> Result<Slot, NoMemory>
-    requires { MayBeBrought (without_labels (rest_of_request request)) }
-{
-    assert!(rt; has_room(client));
-    client.submit(alloc, line, Work::Extra(request), quiescing)
+    client.submit(alloc, line, Work::Plain(command), quiescing)
 }
 
 /// Whether an operation is the one of these words at the home site, and of the kind that is wanted

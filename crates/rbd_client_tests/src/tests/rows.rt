@@ -17,11 +17,11 @@
 //! | `hears RequestLock@8` | the client hears this notice of the image 8; other rows are of image 7 |
 //! | `heard hello there` | these words were told, one after another |
 //! | `heard nothing` | none were |
-use super::drive::{Tested, holds, new_client, submit, submit_closing, tell, wants, wants_none};
+use super::drive::{Tested, holds, new_client, submit, tell, wants, wants_none};
 use super::notices::{hears, was_told};
 use super::operations::image;
 use super::told::told;
-use super::work::{closing, command, is_closing, quiescing};
+use super::work::{command, quiescing};
 use rbd_kinds::{ImageAt, NoMemory, Reply, SiteId, Slot};
 use std::alloc::Global;
 use std::process::Abort;
@@ -81,13 +81,9 @@ pub fn takes(
     word: &str,
 ) -> Result<bool, NoMemory> {
     let line = u32::from(slot.0);
-    if is_closing(word) {
-        let request = closing(rt, alloc, word)?;
-        let taken = submit_closing(rt, alloc, client, line, request, quiescing(word))?;
-        return Ok(taken == slot);
-    }
+    let quiescing = quiescing(word);
     let command = command(rt, alloc, word)?;
-    Ok(submit(rt, alloc, client, line, command)? == slot)
+    Ok(submit(rt, alloc, client, line, command, quiescing)? == slot)
 }
 
 /// Whether who acts at a slot is told an answer, and goes on.

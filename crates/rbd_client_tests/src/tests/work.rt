@@ -1,13 +1,7 @@
 //! The requests of these tests, each of a word.
-ghost use Rattle.std.specs.Prelude.{◌≡◌, true, IfOk};
-ghost use Rattle.rbd_close.specs.Close.{is_close, rest_of_request};
-ghost use Rattle.rbd_machine.specs.Plan.{without_labels};
-ghost use Rattle.rbd_requests.specs.Session.{MayBeBrought};
-
 use rbd_client::Quiescing;
-use rbd_close::CloseRequest;
 use rbd_kinds::{
-    AskedName, Bytes, Command, FillLength, NoMemory, Number, Payload, ReadLength, Shape, SiteId,
+    AskedName, Bytes, Command, FillLength, NoMemory, Number, Payload, ReadLength, Shape,
 };
 use std::alloc::Global;
 use std::process::Abort;
@@ -72,6 +66,24 @@ fn snap_create(rt: &impl Abort, alloc: Global) -> Result<Command, NoMemory> {
     Ok(Command::SnapCreate { image, snap })
 }
 
+/// A `tell` of `hello`.
+fn telling(rt: &impl Abort, alloc: Global, image: AskedName) -> Result<Command, NoMemory> {
+    let bytes = hello(rt, alloc)?;
+    Ok(Command::Tell { image, bytes })
+}
+
+/// The command of a word that closes an image, holds its changes back, or tells something.
+fn closing(rt: &impl Abort, alloc: Global, word: &str) -> Result<Command, NoMemory> {
+    let image = name(rt, alloc, b"disk")?;
+    match word {
+        "close" => Ok(Command::Close { image }),
+        "quiesce" => Ok(Command::Quiesce { image }),
+        "resume" => Ok(Command::Resume { image }),
+        "tell" => telling(rt, alloc, image),
+        _ => panic!(rt; "no command has the word {word}"),
+    }
+}
+
 /// The command of a word. That of a write or a fill names the objects that it changes: `write-0-1`
 /// puts the bytes 4,094 to 4,098, of which two lie in the object 0 and three in the object 1.
 pub fn command(rt: &impl Abort, alloc: Global, word: &str) -> Result<Command, NoMemory> {
@@ -82,20 +94,7 @@ pub fn command(rt: &impl Abort, alloc: Global, word: &str) -> Result<Command, No
         "snap-create" => snap_create(rt, alloc),
         "read" => read(rt, alloc),
         "create-outside" => create(rt, alloc),
-        _ => panic!(rt; "no command has the word {word}"),
-    }
-}
-
-// ---- what closes an image, holds its changes back, or tells something
-
-/// Whether the request of a word is one of these.
-pub fn is_closing(word: &str) -> bool {
-    match word {
-        "close" => true,
-        "quiesce" => true,
-        "resume" => true,
-        "tell" => true,
-        _ => false,
+        _ => closing(rt, alloc, word),
     }
 }
 
@@ -105,34 +104,5 @@ pub fn quiescing(word: &str) -> Quiescing {
         "quiesce" => Quiescing::Begins,
         "resume" => Quiescing::Ends,
         _ => Quiescing::Leaves,
-    }
-}
-
-/// The request of a command at the site of these tests.
-fn brought(command: Command) -> CloseRequest
-    requires { is_close command ≡ true }
-    ensures { MayBeBrought (without_labels (rest_of_request result)) }
-{
-    CloseRequest::new(SiteId::A, command)
-}
-
-/// A `tell` of `hello`.
-fn telling(rt: &impl Abort, alloc: Global, image: AskedName) -> Result<CloseRequest, NoMemory>
-    ensures { IfOk result (λ request. MayBeBrought (without_labels (rest_of_request request))) }
-{
-    let bytes = hello(rt, alloc)?;
-    Ok(brought(Command::Tell { image, bytes }))
-}
-
-/// The request of a word.
-pub fn closing(rt: &impl Abort, alloc: Global, word: &str) -> Result<CloseRequest, NoMemory>
-    ensures { IfOk result (λ request. MayBeBrought (without_labels (rest_of_request request))) }
-{
-    let image = name(rt, alloc, b"disk")?;
-    match word {
-        "close" => Ok(brought(Command::Close { image })),
-        "quiesce" => Ok(brought(Command::Quiesce { image })),
-        "resume" => Ok(brought(Command::Resume { image })),
-        _ => telling(rt, alloc, image),
     }
 }

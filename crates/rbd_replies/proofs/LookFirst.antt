@@ -1,0 +1,259 @@
+-- A request that wants a look at a header has only looked before: so has one that waits for its look
+-- under the lock, and is refused on its way there.
+use Rattle.std.proofs.Common.{◌≡◌, ◌⊎◌, inl, inr, ℕ, ◌==◌, Bool, true, false, List, [], ◌∷◌, ◌++◌, replicate, Option, Some, None, refl, sym, ◌∙◌, subst}
+use Rattle.std.proofs.lemmas.Bool.{true≢false}
+use Rattle.rbd_admin.proofs.Decided.{limits_or_not}
+use Rattle.rbd_admin.specs.Create.{IsCreate, IsCreatePlan, drawing, making}
+use Rattle.rbd_admin.specs.Listing.{listing_plan, showing, show_header}
+use Rattle.rbd_admin.specs.Snap.{remove, remove_listed, snap_plan, take}
+use Rattle.rbd_close.specs.Close.{close_plan, done, joining, on_dropped, quiesced, resumed, saying, unwatching}
+use Rattle.rbd_commands.specs.declared.command.Command.{Command}
+use Rattle.rbd_commands.specs.declared.command.Command.TheVariants as command
+use Rattle.rbd_commands.specs.declared.command.Shape.{Shape}
+use Rattle.rbd_commands.specs.declared.refusal.Refusal.{Refusal}
+use Rattle.rbd_header.specs.Header.{new_header, view_of}
+use Rattle.rbd_header.specs.declared.view.View.{View}
+use Rattle.rbd_kinds.specs.OperationKind.{kind_of}
+use Rattle.rbd_kinds.specs.declared.answer.Answer.{Answer}
+use Rattle.rbd_kinds.specs.declared.answer.Answer.TheVariants as answer
+use Rattle.rbd_kinds.specs.declared.header.HeaderView.{HeaderView}
+use Rattle.rbd_kinds.specs.declared.header.SnapView.{SnapView}
+use Rattle.rbd_kinds.specs.declared.id.SiteId.{SiteId}
+use Rattle.rbd_kinds.specs.declared.layout.Extent.{Extent}
+use Rattle.rbd_kinds.specs.declared.machine.Fed.{Fed}
+use Rattle.rbd_kinds.specs.declared.machine.Fed.TheVariants as fed
+use Rattle.rbd_kinds.specs.declared.reply.Reply.{Reply}
+use Rattle.rbd_kinds.specs.declared.reply.Reply.TheVariants as reply
+use Rattle.rbd_kinds.specs.Header.{snap_named}
+use Rattle.rbd_layout.specs.Asked.{KeepsLimits, layout_of}
+use Rattle.rbd_layout.specs.Pieces.{pieces_of}
+use Rattle.rbd_layout.specs.declared.types.Piece.{Piece}
+use Rattle.rbd_machine.specs.Label.{Label}
+use Rattle.rbd_machine.specs.Path.{Answered, IsWalk}
+use Rattle.rbd_machine.specs.Plan.{Plan, Ask, Await, Note, Return, Goto, Standing, settled, without_labels}
+use Rattle.rbd_machine.specs.Refused.{AreLooks, only_looks, refuses_none}
+use Rattle.rbd_machine.specs.Steps.{applied, change, holding, joining as change_joining, looked, owned}
+use Rattle.rbd_meaning.specs.Listings.{shown_snaps}
+use Rattle.rbd_meaning.specs.Range.{extent_at, out_of_range}
+use Rattle.rbd_meaning.specs.Snaps.{create_refuses, remove_refuses}
+use Rattle.rbd_meaning.specs.Writes.{write_refuses}
+use Rattle.rbd_piece.specs.Gather.{gather}
+use Rattle.rbd_request.specs.Read.{IsReadOf, closing, gathering, looking, on_closing, pass, reading, viewing}
+use Rattle.rbd_request.specs.Seen.{Seen, seen_at}
+use Rattle.rbd_request.specs.Write.{put, write, write_pieces, write_plan}
+use Rattle.rbd_requests.specs.Served.{IsPlanFor, Writes, Reads, Creates, Lists, Snaps, Closes}
+use Rattle.rbd_session.specs.Session.{is_look_at, kind_asked}
+use Rattle.rbd_world.specs.Sound.{IsLedTo}
+use Rattle.rbd_replies.proofs.PlanSteps.{at_bytes, at_done, at_drawn, at_either, at_header, at_id, at_names, at_not_there, at_snap, at_unless}
+
+-- ---- looks come first
+
+-- it looks at no header any more
+abbrev NoLook : Plan → Type 0
+NoLook (Ask site why o next) = ((s : SiteId) → is_look_at s (Some (site, kind_of o)) ≡ false) × ((a : Answer) → NoLook (next a))
+NoLook (Await wait next) = NoLook next
+NoLook (Note site image event next) = NoLook next
+NoLook (Return r) = Unit {0}
+NoLook (Goto label) = ⊥
+
+abbrev OneOf : Bool → (one other : Type 0) → Type 0
+OneOf true one other = one
+OneOf false one other = other
+
+-- behind an operation that doesn't only look
+abbrev LooksFirst : Plan → Type 0
+LooksFirst (Ask site why o next) = OneOf (only_looks o) ((a : Answer) → LooksFirst (next a)) ((a : Answer) → NoLook (next a))
+LooksFirst (Await wait next) = LooksFirst next
+LooksFirst (Note site image event next) = LooksFirst next
+LooksFirst (Return r) = Unit {0}
+LooksFirst (Goto label) = Unit {0}
+
+no_more : (r : Reply) → NoLook (Return r)
+no_more r = tt
+
+ends : (r : Reply) → LooksFirst (Return r)
+ends r = tt
+
+-- ---- along a walk
+
+wants_none : (s : SiteId) (plan : Plan) → NoLook plan → is_look_at s (kind_asked plan) ≡ true → ⊥
+wants_none s (Ask site why o next) none wants = true≢false (sym wants ∙ none.0 s)
+wants_none s (Await wait next) none wants = cc
+wants_none s (Note site image event next) none wants = cc
+wants_none s (Return r) none wants = cc
+wants_none s (Goto label) none wants = none
+
+module _ (labels : Label → Plan) (each : (label : Label) → LooksFirst (labels label)) (s : SiteId) where
+  settled_none : (plan : Plan) → NoLook plan → NoLook (settled labels plan)
+  settled_none (Ask site why o next) none = none
+  settled_none (Await wait next) none = none
+  settled_none (Note site image event next) none = none
+  settled_none (Return r) none = none
+  settled_none (Goto label) none = absurd none
+
+  settled_first : (plan : Plan) → LooksFirst plan → LooksFirst (settled labels plan)
+  settled_first (Ask site why o next) first = first
+  settled_first (Await wait next) first = first
+  settled_first (Note site image event next) first = first
+  settled_first (Return r) first = first
+  settled_first (Goto label) first = each label
+
+  never_again : (feds : List Fed) (plan : Plan) (steps : List Answered) (last : Plan) → NoLook plan → IsWalk labels plan feds steps last → is_look_at s (kind_asked last) ≡ true → ⊥
+  never_again [] plan steps last none (nothing, same) wants = wants_none s plan none (subst (λ p. is_look_at s (kind_asked p) ≡ true) same wants)
+  never_again (fed.Answer a ∷ more) (Ask site why o next) steps last none (first, walk) wants = never_again more (settled labels (next a)) first.rest last (settled_none (next a) (none.1 a)) walk wants
+  never_again (fed.Passed ∷ more) (Ask site why o next) steps last none walk wants = walk
+  never_again (fed.Passed ∷ more) (Await wait next) steps last none walk wants = never_again more (settled labels next) steps last (settled_none next none) walk wants
+  never_again (fed.Answer a ∷ more) (Await wait next) steps last none walk wants = walk
+  never_again (fed.Passed ∷ more) (Note site image event next) steps last none walk wants = never_again more (settled labels next) steps last (settled_none next none) walk wants
+  never_again (fed.Answer a ∷ more) (Note site image event next) steps last none walk wants = walk
+  never_again (f ∷ more) (Return r) steps last none walk wants = walk
+  never_again (f ∷ more) (Goto label) steps last none walk wants = walk
+
+  looks_before : (feds : List Fed) (plan : Plan) (steps : List Answered) (last : Plan) → LooksFirst plan → IsWalk labels plan feds steps last → is_look_at s (kind_asked last) ≡ true → AreLooks steps
+  looks_before [] plan steps last firsts (nothing, same) wants = subst AreLooks (sym nothing) tt
+  looks_before (fed.Answer a ∷ more) (Ask site why o next) steps last firsts (first, walk) wants =
+      by (only_looks o) refl firsts
+      (λ then. looks_before more (settled labels (next a)) first.rest last (settled_first (next a) then) walk wants)
+      (λ none. never_again more (settled labels (next a)) first.rest last (settled_none (next a) none) walk wants)
+    where
+      by : (b : Bool) → only_looks o ≡ b → OneOf b ((t : Answer) → LooksFirst (next t)) ((t : Answer) → NoLook (next t))
+          → (LooksFirst (next a) → AreLooks first.rest) → (NoLook (next a) → ⊥) → AreLooks steps
+      by true look then rest never = subst AreLooks (sym first.is) (look, rest (then a))
+      by false look none rest never = absurd (never (none a))
+  looks_before (fed.Passed ∷ more) (Ask site why o next) steps last firsts walk wants = absurd walk
+  looks_before (fed.Passed ∷ more) (Await wait next) steps last firsts walk wants = looks_before more (settled labels next) steps last (settled_first next firsts) walk wants
+  looks_before (fed.Answer a ∷ more) (Await wait next) steps last firsts walk wants = absurd walk
+  looks_before (fed.Passed ∷ more) (Note site image event next) steps last firsts walk wants = looks_before more (settled labels next) steps last (settled_first next firsts) walk wants
+  looks_before (fed.Answer a ∷ more) (Note site image event next) steps last firsts walk wants = absurd walk
+  looks_before (f ∷ more) (Return r) steps last firsts walk wants = absurd walk
+  looks_before (f ∷ more) (Goto label) steps last firsts walk wants = absurd walk
+
+-- ---- changes
+
+first_change : (site : SiteId) (name : List ℕ) (alone : Bool) (refuses : HeaderView → Option Refusal) (act : ℕ → HeaderView → Plan)
+    → ((image : ℕ) (h : HeaderView) → LooksFirst (act image h)) → LooksFirst (change site name alone refuses act)
+first_change site name alone refuses act acts =
+    at_id LooksFirst ends (change_joining site alone refuses act) (λ image.
+    at_header LooksFirst ends (looked site refuses act image) (λ h.
+    at_unless LooksFirst ends (refuses h) (holding site refuses act image)
+    (at_header LooksFirst ends (owned refuses act image) (λ own. at_unless LooksFirst ends (refuses own) (act image own) (acts image own)))))
+
+no_look_pieces : (pieces : List Piece) (site : SiteId) (image : ℕ) (h : HeaderView) (from : ℕ) (bytes : List ℕ) → NoLook (write_pieces site image h from bytes pieces (applied site image))
+no_look_pieces [] site image h from bytes = tt
+no_look_pieces (p ∷ pieces) site image h from bytes =
+    (λ s. refl, at_done NoLook no_more (write_pieces site image h from bytes pieces (applied site image)) (no_look_pieces pieces site image h from bytes))
+
+first_pieces : (pieces : List Piece) (site : SiteId) (image : ℕ) (h : HeaderView) (from : ℕ) (bytes : List ℕ) → LooksFirst (write_pieces site image h from bytes pieces (applied site image))
+first_pieces [] site image h from bytes = tt
+first_pieces (p ∷ pieces) site image h from bytes =
+    at_done NoLook no_more (write_pieces site image h from bytes pieces (applied site image)) (no_look_pieces pieces site image h from bytes)
+
+first_write : (site : SiteId) (name : List ℕ) (from : ℕ) (bytes : List ℕ) → LooksFirst (write site name from bytes)
+first_write site name from bytes =
+    first_change site name false (write_refuses (extent_at from bytes)) (put site from bytes)
+    (λ image h. first_pieces (pieces_of h.layout (extent_at from bytes)) site image h from bytes)
+
+first_write_plan : (site : SiteId) (c : Command) → LooksFirst (write_plan site c)
+first_write_plan site (command.Write image from bytes) = first_write site image from bytes
+first_write_plan site (command.Fill image from len byte) = first_write site image from (replicate len byte)
+first_write_plan site _ = tt
+
+first_removal : (site : SiteId) (snap : List ℕ) (image : ℕ) (listed : Option SnapView) → LooksFirst (remove_listed site snap image listed)
+first_removal site snap image None = tt
+first_removal site snap image (Some listed) = at_done NoLook no_more (applied site image) tt
+
+first_snap : (site : SiteId) (c : Command) → LooksFirst (snap_plan site c)
+first_snap site (command.SnapCreate image snap) = first_change site image true (create_refuses snap) (take site snap) (λ i h. at_snap NoLook no_more (applied site i) tt)
+first_snap site (command.SnapRemove image snap) =
+    first_change site image true (remove_refuses snap) (remove site snap) (λ i h. first_removal site snap i (snap_named h.snaps snap))
+first_snap site _ = tt
+
+-- ---- create
+
+first_drawing : (site : SiteId) (name : List ℕ) (h : HeaderView) → LooksFirst (drawing site name h)
+first_drawing site name h = at_drawn NoLook no_more (making site h) (λ image. (λ s. refl, at_done NoLook no_more (Return reply.Done) tt))
+
+first_is_create : (site : SiteId) (name : List ℕ) (size : ℕ) (shape : Shape) (plan : Plan) → IsCreate site name size shape plan → LooksFirst plan
+first_is_create site name size shape plan is = go (limits_or_not (layout_of shape) size)
+  where
+    go : KeepsLimits (layout_of shape) size ⊎ (KeepsLimits (layout_of shape) size → ⊥) → LooksFirst plan
+    go (inl keeps) = subst LooksFirst (sym (is.within keeps)) (first_drawing site name (new_header (layout_of shape) size))
+    go (inr fails) = subst LooksFirst (sym (is.outside fails)) tt
+
+first_create : (site : SiteId) (c : Command) (plan : Plan) → IsCreatePlan site c plan → LooksFirst plan
+first_create site (command.Create image size shape) plan is = first_is_create site image size shape plan is
+first_create site _ plan is = absurd is
+
+-- ---- what only shows
+
+first_gather : (site : SiteId) (image : ℕ) (snap : Option ℕ) (pieces : List Piece) (read : List ℕ) (next : List ℕ → Plan) → ((bytes : List ℕ) → LooksFirst (next bytes))
+    → LooksFirst (gather site image snap pieces read next)
+first_gather site image snap [] read next first = first read
+first_gather site image snap (p ∷ pieces) read next first =
+    at_bytes LooksFirst ends p.parts (λ bytes. gather site image snap pieces (read ++ bytes) next) (λ bytes. first_gather site image snap pieces (read ++ bytes) next first)
+
+first_closing : (seen : Seen) (read : List ℕ) (a : Answer) → LooksFirst (on_closing seen read a)
+first_closing seen read (answer.Header h) = at_either LooksFirst ends (h.generation == seen.generation) _ _ tt tt
+first_closing seen read answer.Absent = tt
+first_closing seen read a = at_not_there LooksFirst ends a
+
+first_viewing : (site : SiteId) (image : ℕ) (h : HeaderView) (e : Extent) (view : Option View) → LooksFirst (viewing site image h e view)
+first_viewing site image h e None = tt
+first_viewing site image h e (Some view) =
+    at_unless LooksFirst ends (out_of_range e view.size) (gathering site image h e view)
+    (first_gather site image view.snap (pieces_of h.layout e) [] (closing site image (seen_at h e)) (λ bytes. first_closing (seen_at h e) bytes))
+
+first_pass : (site : SiteId) (name : List ℕ) (snap : Option (List ℕ)) (e : Extent) → LooksFirst (pass site name snap e)
+first_pass site name snap e =
+    at_id LooksFirst ends (looking site snap e) (λ image. at_header LooksFirst ends (reading site snap e image) (λ h. first_viewing site image h e (view_of h snap)))
+
+first_show_header : (site : SiteId) (name : List ℕ) (shows : HeaderView → Reply) → LooksFirst (show_header site name shows)
+first_show_header site name shows = at_id LooksFirst ends (showing site shows) (λ image. at_header LooksFirst ends (λ h. Return (shows h)) (λ h. tt))
+
+first_listing : (site : SiteId) (c : Command) → LooksFirst (listing_plan site c)
+first_listing site command.List = at_names LooksFirst ends (λ names. Return (reply.Names names)) (λ names. tt)
+first_listing site (command.Info image) = first_show_header site image reply.Info
+first_listing site (command.SnapList image) = first_show_header site image shown_snaps
+first_listing site _ = tt
+
+-- ---- close, quiesce, resume, tell
+
+no_look_dropped : (site : SiteId) (image : ℕ) (a : Answer) → NoLook (on_dropped site image a)
+no_look_dropped site image answer.Done = (λ s. refl, at_done NoLook no_more (unwatching site image) (λ s. refl, at_done NoLook no_more done tt))
+no_look_dropped site image answer.Changed = (λ s. refl, at_done NoLook no_more done tt)
+no_look_dropped site image a = at_not_there NoLook no_more a
+
+first_close : (site : SiteId) (c : Command) → LooksFirst (close_plan site c)
+first_close site (command.Close image) = at_id LooksFirst ends (joining site) (λ i. no_look_dropped site i)
+first_close site (command.Quiesce image) = first_change site image true refuses_none quiesced (λ i h. tt)
+first_close site (command.Resume image) = at_id LooksFirst ends resumed (λ i. tt)
+first_close site (command.Tell image bytes) = at_id LooksFirst ends (saying site bytes) (λ i. at_done NoLook no_more done tt)
+first_close site _ = tt
+
+-- ---- all of them
+
+-- so is the plan at each label
+abbrev LookFirst : Standing → Type 0
+LookFirst s = LooksFirst s.plan × ((label : Label) → LooksFirst (s.labels label))
+
+from_plan : (plan : Plan) (s : Standing) → s ≡ without_labels plan → LooksFirst plan → LookFirst s
+from_plan plan s is first = subst LookFirst (sym is) (first, λ label. tt)
+
+first_read : (home : SiteId) (c : Command) (s : Standing) → IsReadOf home c s → LookFirst s
+first_read home (command.Read name snap at len) s is =
+    let one = first_pass home name snap (record { at = at; len = len }) in
+    subst LookFirst (sym is) (one, λ label. one)
+first_read home _ s is = absurd is
+
+plan_looks : (home : SiteId) (c : Command) (s : Standing) → IsPlanFor home c s → LookFirst s
+plan_looks home c s (Writes is at_plan) = from_plan (write_plan home c) s at_plan (first_write_plan home c)
+plan_looks home c s (Reads is) = first_read home c s is
+plan_looks home c s (Creates is at_plan) = from_plan s.plan s at_plan (first_create home c s.plan is)
+plan_looks home c s (Lists is at_plan) = from_plan (listing_plan home c) s at_plan (first_listing home c)
+plan_looks home c s (Snaps is at_plan) = from_plan (snap_plan home c) s at_plan (first_snap home c)
+plan_looks home c s (Closes is at_plan) = from_plan (close_plan home c) s at_plan (first_close home c)
+
+pub led_to_look : (home : SiteId) (c : Command) (steps : List Answered) (last : Plan) → IsLedTo home c steps last → (s : SiteId) → is_look_at s (kind_asked last) ≡ true → AreLooks steps
+led_to_look home c steps last is s wants =
+    let first = plan_looks home c is.start is.plan in
+    looks_before is.start.labels first.1 s is.feds is.start.plan steps last first.0 is.walk wants

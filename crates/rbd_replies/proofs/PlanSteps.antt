@@ -1,0 +1,60 @@
+-- What holds of each end of a plan holds of the steps that requests share, where it holds of what
+-- comes next.
+use Rattle.std.proofs.Common.{ℕ, cond, Bool, true, false, List, replicate, Option, Some, None}
+use Rattle.rbd_admin.specs.Create.{on_drawn}
+use Rattle.rbd_admin.specs.Listing.{on_names}
+use Rattle.rbd_admin.specs.Snap.{on_snap}
+use Rattle.rbd_commands.specs.declared.refusal.Refusal.{Refusal}
+use Rattle.rbd_kinds.specs.declared.answer.Answer.{Answer}
+use Rattle.rbd_kinds.specs.declared.answer.Answer.TheVariants as answer
+use Rattle.rbd_kinds.specs.declared.header.HeaderView.{HeaderView}
+use Rattle.rbd_kinds.specs.declared.layout.Part.{Part}
+use Rattle.rbd_kinds.specs.declared.reply.Reply.{Reply}
+use Rattle.rbd_kinds.specs.Parts.{parts_len}
+use Rattle.rbd_machine.specs.Plan.{Plan, Return}
+use Rattle.rbd_machine.specs.Steps.{not_there, on_done, on_header, on_id, unless}
+use Rattle.rbd_piece.specs.Gather.{on_bytes}
+
+module _ (P : Plan → Type 0) (ends : (r : Reply) → P (Return r)) where
+  pub at_not_there : (a : Answer) → P (not_there a)
+  at_not_there answer.Fenced = ends _
+  at_not_there _ = ends _
+
+  pub at_id : (next : ℕ → Plan) → ((image : ℕ) → P (next image)) → (a : Answer) → P (on_id next a)
+  at_id next holds (answer.Id image) = holds image
+  at_id next holds a = at_not_there a
+
+  pub at_header : (next : HeaderView → Plan) → ((h : HeaderView) → P (next h)) → (a : Answer) → P (on_header next a)
+  at_header next holds (answer.Header h) = holds h
+  at_header next holds a = at_not_there a
+
+  pub at_done : (next : Plan) → P next → (a : Answer) → P (on_done next a)
+  at_done next holds answer.Done = holds
+  at_done next holds a = at_not_there a
+
+  pub at_snap : (next : Plan) → P next → (a : Answer) → P (on_snap next a)
+  at_snap next holds (answer.Snap snap) = holds
+  at_snap next holds a = at_not_there a
+
+  pub at_drawn : (next : ℕ → Plan) → ((image : ℕ) → P (next image)) → (a : Answer) → P (on_drawn next a)
+  at_drawn next holds (answer.Id image) = holds image
+  at_drawn next holds answer.Exists = ends _
+  at_drawn next holds answer.Full = ends _
+  at_drawn next holds a = at_not_there a
+
+  pub at_names : (next : List (List ℕ) → Plan) → ((names : List (List ℕ)) → P (next names)) → (a : Answer) → P (on_names next a)
+  at_names next holds (answer.Names names) = holds names
+  at_names next holds a = at_not_there a
+
+  pub at_bytes : (parts : List Part) (next : List ℕ → Plan) → ((bytes : List ℕ) → P (next bytes)) → (a : Answer) → P (on_bytes parts next a)
+  at_bytes parts next holds (answer.Bytes bytes) = holds bytes
+  at_bytes parts next holds answer.Absent = holds (replicate (parts_len parts) 0)
+  at_bytes parts next holds a = at_not_there a
+
+  pub at_unless : (r : Option Refusal) (next : Plan) → P next → P (unless r next)
+  at_unless None next holds = holds
+  at_unless (Some r) next holds = ends _
+
+  pub at_either : (b : Bool) (one other : Plan) → P one → P other → P (cond b one other)
+  at_either true one other holds also = holds
+  at_either false one other holds also = also

@@ -1,0 +1,419 @@
+-- Where an operation comes that a stopped life had sent: it goes by what its slot knew at the stop,
+-- and the slot knows nothing then.
+use Rattle.std.proofs.Common.{◌≡◌, ◌≢◌, ◌⊎◌, inl, inr, ℕ, ◌≤◌, ◌<◌, ◌==◌, ◌&&◌, cond, Bool, true, false, List, ◌∷◌, length, slice_set, is_some, Option, Some, None, refl, sym, ap, ◌∙◌, subst, arith}
+use Rattle.std.specs.Prelude.{IsFalse, IsSome}
+use Rattle.std.proofs.lemmas.Bool.{true≢false, cases_lt, eq-eqb, eqb-true}
+use Rattle.std.proofs.lemmas.List.{length-set, get_or-set_same, get_or-set_other, get_or_past}
+use Rattle.rbd_client.specs.Client.{ClientView}
+use Rattle.rbd_held.specs.Truth.{IsTrueOf}
+use Rattle.rbd_kinds.specs.declared.header_op.HeaderOp.TheVariants as header
+use Rattle.rbd_kinds.specs.declared.id.Instance.{Instance}
+use Rattle.rbd_kinds.specs.declared.id.SiteId.{SiteId}
+use Rattle.rbd_kinds.specs.declared.operation.Op.{Op}
+use Rattle.rbd_kinds.specs.declared.operation.Op.TheVariants as op
+use Rattle.rbd_machine.specs.Knowledge.{Knowledge, nothing_known}
+use Rattle.rbd_machine.specs.Permits.{Permits}
+use Rattle.rbd_machine.specs.Plan.{Standing}
+use Rattle.rbd_rely.specs.Beside.{AreBeside, MayLook}
+use Rattle.rbd_rely.specs.Locks.{KnowsByLock, gives_up}
+use Rattle.rbd_rely.specs.Truth.{known_header}
+use Rattle.rbd_rely.proofs.Together.{nobody_knows}
+use Rattle.rbd_session.specs.Session.{held_in, script_line}
+use Rattle.rbd_session.proofs.Sound.{no_some, some_same}
+use Rattle.rbd_site.specs.Records.{Records}
+use Rattle.rbd_site.specs.Step.{is_fenced}
+use Rattle.rbd_world.specs.declared.event.Event.{Event}
+use Rattle.rbd_world.specs.declared.event.Event.TheVariants as event
+use Rattle.rbd_world.specs.Run.{AfterStop, Happening, Sent, sent_after, sent_of}
+use Rattle.rbd_world.specs.Sound.{AreLivesOf, AreStrangers, Holder, InSlot, Sending, IsDone, IsSoundWorld, MayStillCome, held_of, known_in, line_at}
+use Rattle.rbd_world.specs.Step.{BecomesOf, Does, DoesAtSites, LivesOnIf, come, operation_at, without_sent}
+use Rattle.rbd_world.specs.World.{LateView, LivesView, WorldView, client_in, late_at, late_of, lives_in, records_in, running_of, sent_in, session_of, site_in}
+use Rattle.rbd_world.proofs.AtSites.{beside_then, is_done, known_then, locks_then, others_true, parentless_then, sending_then, stands_then}
+use Rattle.rbd_world.proofs.Carried.{IsCarried}
+use Rattle.rbd_world.proofs.Changed.{IsElsewhere, here_or_elsewhere, lives_there, living_on, same_or_other}
+use Rattle.rbd_world.proofs.Elsewhere.{IsAs, Same, Silent, beside_still, unknown_looks}
+use Rattle.rbd_world.proofs.OrderedWorld.{no_turn, order_on}
+use Rattle.rbd_world.proofs.Quiet.{IsQuiet, lines_differ, quiet_did}
+use Rattle.rbd_world.proofs.Slots.{open_back, same_slots}
+
+-- ---- slots that are let go
+
+pub held_set_same : {T : Type 0} (slot : ℕ) (xs : List (Option T)) → held_in slot (slice_set xs slot None) ≡ None
+held_set_same {T} slot xs = by (cases_lt slot (length xs))
+  where
+    by : (slot < length xs) ⊎ (length xs ≤ slot) → held_in slot (slice_set xs slot None) ≡ None
+    by (inl less) = get_or-set_same xs slot None None less
+    by (inr past) = let long = length-set xs slot None in get_or_past (slice_set xs slot None) slot None (omega (arith, long, past))
+
+sent_set_same : (slot : ℕ) (late : Option LateView) → sent_in slot (without_sent slot late) ≡ None
+sent_set_same slot None = refl
+sent_set_same slot (Some v) = ap (sent_of v.instance) (held_set_same slot v.wanted)
+
+sent_set_other : (slot x : ℕ) (late : Option LateView) → x ≢ slot → sent_in x (without_sent slot late) ≡ sent_in x late
+sent_set_other slot x None differ = refl
+sent_set_other slot x (Some v) differ = ap (sent_of v.instance) (get_or-set_other v.wanted slot x None None differ)
+
+-- a life that was stopped stays the one that it was
+without_is : (slot : ℕ) (late : Option LateView) (v : LateView) → without_sent slot late ≡ Some v → (P : Instance → Type 0) → ((u : LateView) → late ≡ Some u → P u.instance) → P v.instance
+without_is slot None v is P each = absurd (no_some v is)
+without_is slot (Some u) v is P each = subst (λ (z : LateView). P z.instance) (some_same _ v is) (each u refl)
+
+-- ---- who sent it
+
+below_itself : (n : ℕ) → n < n → ⊥
+below_itself n less = omega (arith, less)
+
+pub record HasLate {R : Type 0} (session slot : ℕ) (lives : List (LivesView R)) (x : Sent) : Type 0 where
+  pub lives_are : LivesView R
+  pub there : lives_in session lives ≡ Some lives_are
+  pub late : LateView
+  pub is : lives_are.late ≡ Some late
+  pub instance : late.instance ≡ x.instance
+
+pub late_there : {R : Type 0} (session slot : ℕ) (lives : List (LivesView R)) (x : Sent) → late_at session slot lives ≡ Some x → HasLate session slot lives x
+late_there {R} session slot lives x is = by (lives_in session lives) refl is
+  where
+    by : (o : Option (LivesView R)) → lives_in session lives ≡ o → sent_in slot (late_of o) ≡ Some x → HasLate session slot lives x
+    by None at is = absurd (no_some x is)
+    by (Some l) at is = go l.late refl is
+      where
+        go : (o : Option LateView) → l.late ≡ o → sent_in slot o ≡ Some x → HasLate session slot lives x
+        go None late is = absurd (no_some x is)
+        go (Some v) late is = of (held_in slot v.wanted) is
+          where
+            of : (h : Option (SiteId × Op)) → sent_of v.instance h ≡ Some x → HasLate session slot lives x
+            of None is = absurd (no_some x is)
+            of (Some p) is = record { lives_are = l; there = at; late = v; is = late; instance = ap (λ (z : Sent). z.instance) (some_same _ x is) }
+
+module _ {R : Type 0} (stands : R → Standing) (old : WorldView R) (w : IsSoundWorld stands old) (session slot : ℕ) (x : Sent) (sent : late_at session slot old.lives ≡ Some x) where
+  whose : x.instance.session ≡ session
+  whose = (w.sending session slot x sent).1.whose
+
+  -- of another instance than any that runs
+  pub sent_by_another : (m : ℕ) (q : ClientView R) → client_in m old.lives ≡ Some q → x.instance ≢ q.session.instance
+  sent_by_another m q is same = by (same_or_other m session)
+    where
+      by : (m ≡ session) ⊎ (m ≢ session) → ⊥
+      by (inr differ) = differ (sym (w.clients m q is).whose ∙ sym (ap (λ (i : Instance). i.session) same) ∙ whose)
+      by (inl here) =
+          let has = late_there session slot old.lives x sent in
+          let runs = lives_there session old.lives q (ap (λ i. client_in i old.lives) (sym here) ∙ is) in
+          let one : runs.lives_are ≡ has.lives_are = some_same runs.lives_are has.lives_are (sym runs.there ∙ has.there) in
+          let lives : AreLivesOf w.run (w.homes session) session has.lives_are = w.lives session has.lives_are has.there in
+          let ran : has.lives_are.running ≡ Some q = ap (λ (l : LivesView R). l.running) (sym one) ∙ runs.runs in
+          let less : has.late.instance.life < has.lives_are.latest.life = lives.older has.late has.is q ran in
+          let mine : has.late.instance ≡ has.lives_are.latest = has.instance ∙ same ∙ lives.latest q ran in
+          below_itself has.lives_are.latest.life (subst (λ (i : Instance). i.life < has.lives_are.latest.life) mine less)
+
+  -- and than what other sessions may still send
+  pub sent_by_other : (m y : ℕ) (z : Sent) → m ≢ session → late_at m y old.lives ≡ Some z → x.instance ≢ z.instance
+  sent_by_other m y z differ is same = differ (sym (w.sending m y z is).1.whose ∙ sym (ap (λ (i : Instance). i.session) same) ∙ whose)
+
+-- ---- a lock that is dropped
+
+-- Whoever knows a header keeps its lock where another of its instance drops one.
+keeps_lock : (s : SiteId) (r : Records) (me : Instance) (k j : Knowledge) (o : Op) → Permits k s o → MayLook s r me me k j o → KnowsByLock s r me j
+    → (image : ℕ) → IsSome (known_header j s image) → IsFalse (is_fenced r me) → gives_up image o ≡ false
+keeps_lock s r me k j (op.Header other header.LockDrop) permits may locks image known free = by (image == other) refl
+  where
+    by : (b : Bool) → (image == other) ≡ b → b ≡ false
+    by false differ = refl
+    by true same =
+        let told : IsSome (known_header j s other) = subst (λ n. IsSome (known_header j s n)) (eqb-true image other same) known in
+        absurd (true≢false (sym told ∙ ap is_some (nobody_knows s r me me k j other (free, free) permits (may (locks other told free)))))
+keeps_lock s r me k j (op.Header other _) permits may locks image known free = refl
+keeps_lock s r me k j _ permits may locks image known free = refl
+
+-- the life of its session that goes on without it
+pub record GoesWithout {R : Type 0} (new : WorldView R) (session slot : ℕ) (l : LivesView R) : Type 0 where
+  pub behind : LivesView R
+  pub is : lives_in session new.lives ≡ Some behind
+  pub home : behind.home ≡ l.home
+  pub latest : behind.latest ≡ l.latest
+  pub runs : behind.running ≡ l.running
+  pub late : behind.late ≡ without_sent slot l.late
+
+module _ {R : Type 0} (stands : R → Standing) (old new : WorldView R) (w : IsSoundWorld stands old) (session slot : ℕ) (x : Sent) (sent : late_at session slot old.lives ≡ Some x)
+    (others : (m : ℕ) → m ≢ session → lives_in m new.lives ≡ lives_in m old.lives) (at_sites : DoesAtSites (come old.sites slot (Some x)) old.sites new.sites)
+    (l : LivesView R) (there : lives_in session old.lives ≡ Some l) (goes : GoesWithout new session slot l) where
+  abbrev h : Happening
+  h = come old.sites slot (Some x)
+
+  abbrev k : Knowledge
+  k = w.knows (Sending session slot)
+
+  may : MayStillCome session (λ s. records_in s old.sites) x k
+  may = (w.sending session slot x sent).1
+
+  who_is : w.who (Sending session slot) ≡ x.instance
+  who_is = (w.sending session slot x sent).0
+
+  quiet : (line : ℕ) → IsQuiet line h
+  quiet line = quiet_did line (operation_at (site_in x.site old.sites) x.instance (AfterStop slot) x.site x.op) None refl
+
+  due : IsDone (operation_at (site_in x.site old.sites) x.instance (AfterStop slot) x.site x.op) w.run
+  due =
+      is_done stands old new w x.instance (AfterStop slot) x.site x.op None k may.truth may.permits at_sites (may.locks x.site)
+      (ap (λ i. sent_after i slot w.run) may.whose ∙ sym (w.late session slot) ∙ sent)
+
+  -- ---- who is where
+
+  client_same : (m : ℕ) → client_in m new.lives ≡ client_in m old.lives
+  client_same m = by (same_or_other m session)
+    where
+      by : (m ≡ session) ⊎ (m ≢ session) → client_in m new.lives ≡ client_in m old.lives
+      by (inr differ) = ap running_of (others m differ)
+      by (inl same) =
+          subst (λ i. client_in i new.lives ≡ client_in i old.lives) (sym same) (ap running_of goes.is ∙ goes.runs ∙ sym (ap running_of there))
+
+  was : (m : ℕ) (q : ClientView R) → client_in m new.lives ≡ Some q → client_in m old.lives ≡ Some q
+  was m q is = sym (client_same m) ∙ is
+
+  line_same : (m y : ℕ) → line_at m y new.lives ≡ line_at m y old.lives
+  line_same m y = ap (λ o. script_line (held_of y (session_of o))) (client_same m)
+
+  late_here : late_at session slot new.lives ≡ None
+  late_here = ap (λ o. sent_in slot (late_of o)) goes.is ∙ ap (sent_in slot) goes.late ∙ sent_set_same slot l.late
+
+  late_elsewhere : (m y : ℕ) → IsElsewhere session slot m y → late_at m y new.lives ≡ late_at m y old.lives
+  late_elsewhere m y apart = by (same_or_other m session) apart
+    where
+      by : (m ≡ session) ⊎ (m ≢ session) → IsElsewhere session slot m y → late_at m y new.lives ≡ late_at m y old.lives
+      by (inr differ) apart = ap (λ o. sent_in y (late_of o)) (others m differ)
+      by (inl same) (inl differ) = absurd (differ same)
+      by (inl same) (inr differ) =
+          subst (λ i. late_at i y new.lives ≡ late_at i y old.lives) (sym same)
+          (ap (λ o. sent_in y (late_of o)) goes.is ∙ ap (sent_in y) goes.late ∙ sent_set_other slot y l.late differ ∙ sym (ap (λ o. sent_in y (late_of o)) there))
+
+  lives_now : (m : ℕ) (v : LivesView R) → lives_in m new.lives ≡ Some v → AreLivesOf (h ∷ w.run) (w.homes m) m v
+  lives_now m v is = by (same_or_other m session)
+    where
+      mine : AreLivesOf w.run (w.homes session) session l
+      mine = w.lives session l there
+
+      on : AreLivesOf w.run (w.homes m) m v → AreLivesOf (h ∷ w.run) (w.homes m) m v
+      on a = record { home_is = a.home_is; whose = a.whose; life = a.life; latest = a.latest; most = a.most; older = a.older }
+
+      here : AreLivesOf (h ∷ w.run) (w.homes session) session goes.behind
+      here = record {
+        home_is = goes.home ∙ mine.home_is;
+        whose = ap (λ (i : Instance). i.session) goes.latest ∙ mine.whose;
+        life =
+            mine.life ∙ ap (λ (i : Instance). record { number = i.life; runs = is_some l.running }) (sym goes.latest)
+            ∙ ap (λ o. record { number = goes.behind.latest.life; runs = is_some o }) (sym goes.runs);
+        latest = λ q runs. mine.latest q (sym goes.runs ∙ runs) ∙ sym goes.latest;
+        most = λ u late.
+            subst (λ (i : Instance). u.instance.life ≤ i.life) (sym goes.latest)
+            (without_is slot l.late u (sym goes.late ∙ late) (λ (i : Instance). i.life ≤ l.latest.life) mine.most);
+        older = λ u late q runs.
+            subst (λ (i : Instance). u.instance.life < i.life) (sym goes.latest)
+            (without_is slot l.late u (sym goes.late ∙ late) (λ (i : Instance). i.life < l.latest.life) (λ z at. mine.older z at q (sym goes.runs ∙ runs)));
+      }
+
+      by : (m ≡ session) ⊎ (m ≢ session) → AreLivesOf (h ∷ w.run) (w.homes m) m v
+      by (inr differ) = on (w.lives m v (sym (others m differ) ∙ is))
+      by (inl same) =
+          subst (λ i. AreLivesOf (h ∷ w.run) (w.homes i) i v) (sym same)
+          (subst (AreLivesOf (h ∷ w.run) (w.homes session) session) (some_same goes.behind v (sym goes.is ∙ ap (λ i. lives_in i new.lives) (sym same) ∙ is)) here)
+
+  -- ---- what is known then
+
+  abbrev knows_then : Holder → Knowledge
+  knows_then (InSlot m y) = w.knows (InSlot m y)
+  knows_then (Sending m y) = cond (m == session && y == slot) nothing_known (w.knows (Sending m y))
+
+  it_is : (m y : ℕ) → m ≡ session → y ≡ slot → (m == session && y == slot) ≡ true
+  it_is m y one two = ap (λ b. b && y == slot) (eq-eqb m session one) ∙ eq-eqb y slot two
+
+  it_isnt : (m y : ℕ) → IsElsewhere session slot m y → (m == session && y == slot) ≡ false
+  it_isnt m y (inl differ) = ap (λ b. b && y == slot) (lines_differ m session differ)
+  it_isnt m y (inr differ) = ap (λ b. m == session && b) (lines_differ y slot differ) ∙ none (m == session)
+    where
+      none : (b : Bool) → (b && false) ≡ false
+      none true = refl
+      none false = refl
+
+  knows_there : (m y : ℕ) → IsElsewhere session slot m y → knows_then (Sending m y) ≡ w.knows (Sending m y)
+  knows_there m y apart = ap (λ b. cond b nothing_known (w.knows (Sending m y))) (it_isnt m y apart)
+
+  knows_here : (m y : ℕ) → m ≡ session → y ≡ slot → knows_then (Sending m y) ≡ nothing_known
+  knows_here m y one two = ap (λ b. cond b nothing_known (w.knows (Sending m y))) (it_is m y one two)
+
+  each_is : (g : Holder) → IsAs w.who w.who w.knows knows_then g
+  each_is (InSlot m y) = Same refl refl
+  each_is (Sending m y) = by (here_or_elsewhere session slot m y)
+    where
+      by : ((m ≡ session) × (y ≡ slot)) ⊎ IsElsewhere session slot m y → IsAs w.who w.who w.knows knows_then (Sending m y)
+      by (inl (one, two)) = Silent (knows_here m y one two)
+      by (inr apart) = Same refl (knows_there m y apart)
+
+  beside_it : (g : Holder) (you : Instance) → AreStrangers g (Sending session slot) → w.who g ≡ you → (s : SiteId) → AreBeside s (records_in s old.sites) you x.instance (w.knows g) k
+  beside_it g you apart is s =
+      subst (λ i. AreBeside s (records_in s old.sites) i x.instance (w.knows g) k) is
+      (subst (λ i. AreBeside s (records_in s old.sites) (w.who g) i (w.knows g) k) who_is (w.beside g (Sending session slot) apart s))
+
+  truth_now : (m : ℕ) (q : ClientView R) → client_in m old.lives ≡ Some q → (s : SiteId) → IsTrueOf s (records_in s new.sites) q.session.instance (known_in w.knows m) q
+  truth_now m q is =
+      others_true stands old new w x.instance (AfterStop slot) x.site x.op None k may.truth may.permits at_sites q.session.instance (known_in w.knows m) q
+      (sent_by_another stands old w session slot x sent m q is) (w.truth m q is) (λ y s. beside_it (InSlot m y) q.session.instance tt (w.in_slots m y q is) s)
+
+  -- ---- what may still come
+
+  elsewhere : (m y : ℕ) (z : Sent) → late_at m y new.lives ≡ Some z → IsElsewhere session slot m y
+  elsewhere m y z is = by (here_or_elsewhere session slot m y)
+    where
+      by : ((m ≡ session) × (y ≡ slot)) ⊎ IsElsewhere session slot m y → IsElsewhere session slot m y
+      by (inr apart) = apart
+      by (inl (one, two)) =
+          absurd (no_some z (sym late_here ∙ sym (ap (λ i. late_at i y new.lives) one ∙ ap (λ i. late_at session i new.lives) two) ∙ is))
+
+  -- of the same life: it knows no header whose lock is dropped by it
+  beside_own : (y : ℕ) (z : Sent) → y ≢ slot → late_at session y old.lives ≡ Some z → x.instance ≡ z.instance → MayStillCome session (λ s. records_in s new.sites) z (w.knows (Sending session y))
+  beside_own y z differ is same = record {
+    whose = theirs.whose;
+    permits = theirs.permits;
+    truth = known_then stands old new w x.instance (AfterStop slot) x.site x.op None k may.truth may.permits at_sites z.instance (w.knows (Sending session y)) theirs.truth (beside_it (Sending session y) z.instance (inr differ) (w.sending session y z is).0);
+    locks = locks_then stands old new w x.instance (AfterStop slot) x.site x.op None k may.truth may.permits at_sites z.instance (w.knows (Sending session y)) theirs.locks
+        (λ image me known free. keeps_lock x.site (records_in x.site old.sites) z.instance k (w.knows (Sending session y)) x.op may.permits looks (theirs.locks x.site) image known free);
+  }
+    where
+      theirs : MayStillCome session (λ s. records_in s old.sites) z (w.knows (Sending session y))
+      theirs = (w.sending session y z is).1
+
+      looks : MayLook x.site (records_in x.site old.sites) z.instance z.instance k (w.knows (Sending session y)) x.op
+      looks =
+          subst (λ i. MayLook x.site (records_in x.site old.sites) i z.instance k (w.knows (Sending session y)) x.op) (who_is ∙ same)
+          (subst (λ i. MayLook x.site (records_in x.site old.sites) (w.who (Sending session slot)) i k (w.knows (Sending session y)) x.op) (w.sending session y z is).0
+          (w.drops session slot y x (λ e. differ (sym e)) sent (records_in x.site old.sites)))
+
+  same_life : (y : ℕ) (z : Sent) → late_at session y old.lives ≡ Some z → x.instance ≡ z.instance
+  same_life y z is =
+      let one = late_there session slot old.lives x sent in
+      let two = late_there session y old.lives z is in
+      let lives_same : one.lives_are ≡ two.lives_are = some_same one.lives_are two.lives_are (sym one.there ∙ two.there) in
+      sym one.instance ∙ ap (λ (v : LateView). v.instance) (some_same one.late two.late (sym one.is ∙ ap (λ (v : LivesView R). v.late) lives_same ∙ two.is)) ∙ two.instance
+
+  sending_before : (m y : ℕ) (z : Sent) → IsElsewhere session slot m y → late_at m y old.lives ≡ Some z → MayStillCome m (λ s. records_in s new.sites) z (w.knows (Sending m y))
+  sending_before m y z apart is = by (same_or_other m session) apart
+    where
+      by : (m ≡ session) ⊎ (m ≢ session) → IsElsewhere session slot m y → MayStillCome m (λ s. records_in s new.sites) z (w.knows (Sending m y))
+      by (inl same) (inl differ) = absurd (differ same)
+      by (inl same) (inr differ) =
+          let here = ap (λ i. late_at i y old.lives) (sym same) ∙ is in
+          subst (λ i. MayStillCome i (λ s. records_in s new.sites) z (w.knows (Sending i y))) (sym same) (beside_own y z differ here (same_life y z here))
+      by (inr differ) apart =
+          sending_then stands old new w x.instance (AfterStop slot) x.site x.op None k may.truth may.permits at_sites m z (w.knows (Sending m y))
+          (sent_by_other stands old w session slot x sent m y z differ is) (beside_it (Sending m y) z.instance (inl differ) (w.sending m y z is).0) (w.sending m y z is).1
+
+  sending_now : (m y : ℕ) (z : Sent) → late_at m y new.lives ≡ Some z → (w.who (Sending m y) ≡ z.instance) × MayStillCome m (λ s. records_in s new.sites) z (knows_then (Sending m y))
+  sending_now m y z is =
+      let apart = elsewhere m y z is in
+      let before = sym (late_elsewhere m y apart) ∙ is in
+      ((w.sending m y z before).0, subst (MayStillCome m (λ s. records_in s new.sites) z) (sym (knows_there m y apart)) (sending_before m y z apart before))
+
+  unsent_now : (m y : ℕ) → late_at m y new.lives ≡ None → knows_then (Sending m y) ≡ nothing_known
+  unsent_now m y is = by (here_or_elsewhere session slot m y)
+    where
+      by : ((m ≡ session) × (y ≡ slot)) ⊎ IsElsewhere session slot m y → knows_then (Sending m y) ≡ nothing_known
+      by (inl (one, two)) = knows_here m y one two
+      by (inr apart) = knows_there m y apart ∙ w.unsent m y (sym (late_elsewhere m y apart) ∙ is)
+
+  drops_now : (m y at : ℕ) (z : Sent) → y ≢ at → late_at m y new.lives ≡ Some z → (r : Records)
+      → MayLook z.site r (w.who (Sending m y)) (w.who (Sending m at)) (knows_then (Sending m y)) (knows_then (Sending m at)) z.op
+  drops_now m y at z differ is r =
+      let apart = elsewhere m y z is in
+      subst (λ q. MayLook z.site r (w.who (Sending m y)) (w.who (Sending m at)) q (knows_then (Sending m at)) z.op) (sym (knows_there m y apart))
+      (by (here_or_elsewhere session slot m at) (sym (late_elsewhere m y apart) ∙ is))
+    where
+      by : ((m ≡ session) × (at ≡ slot)) ⊎ IsElsewhere session slot m at → late_at m y old.lives ≡ Some z
+          → MayLook z.site r (w.who (Sending m y)) (w.who (Sending m at)) (w.knows (Sending m y)) (knows_then (Sending m at)) z.op
+      by (inl (one, two)) before =
+          subst (λ q. MayLook z.site r (w.who (Sending m y)) (w.who (Sending m at)) (w.knows (Sending m y)) q z.op) (sym (knows_here m at one two))
+          (unknown_looks z.site r (w.who (Sending m y)) (w.who (Sending m at)) (w.knows (Sending m y)) nothing_known (λ image. refl) z.op)
+      by (inr elsewhere) before =
+          subst (λ q. MayLook z.site r (w.who (Sending m y)) (w.who (Sending m at)) (w.knows (Sending m y)) q z.op) (sym (knows_there m at elsewhere)) (w.drops m y at z differ before r)
+
+  late_now : (m y : ℕ) → late_at m y new.lives ≡ sent_after m y (h ∷ w.run)
+  late_now m y = by (here_or_elsewhere session slot m y)
+    where
+      -- it comes from here
+      from : (b : Bool) → (m == session && y == slot) ≡ b → (x.instance.session == m && slot == y) ≡ b
+      from b is = ap (λ i. i == m && slot == y) may.whose ∙ flipped ∙ is
+        where
+          flip : (n i : ℕ) → (n == i) ≡ (i == n)
+          flip n i = go (same_or_other n i)
+            where
+              go : (n ≡ i) ⊎ (n ≢ i) → (n == i) ≡ (i == n)
+              go (inl same) = eq-eqb n i same ∙ sym (eq-eqb i n (sym same))
+              go (inr differ) = lines_differ n i differ ∙ sym (lines_differ i n (λ e. differ (sym e)))
+
+          flipped : (session == m && slot == y) ≡ (m == session && y == slot)
+          flipped = ap (λ c. c && slot == y) (flip session m) ∙ ap (λ c. m == session && c) (flip slot y)
+
+      by : ((m ≡ session) × (y ≡ slot)) ⊎ IsElsewhere session slot m y → late_at m y new.lives ≡ sent_after m y (h ∷ w.run)
+      by (inl (one, two)) =
+          ap (λ i. late_at i y new.lives) one ∙ ap (λ i. late_at session i new.lives) two ∙ late_here
+          ∙ sym (ap (λ b. cond b None (sent_after m y w.run)) (from true (it_is m y one two)))
+      by (inr apart) =
+          late_elsewhere m y apart ∙ w.late m y ∙ sym (ap (λ b. cond b None (sent_after m y w.run)) (from false (it_isnt m y apart)))
+
+  -- ---- all of it
+
+  coming_keeps : IsCarried stands old new w h
+  coming_keeps = record {
+    who = w.who;
+    knows = knows_then;
+    carries = record {
+      standing = stands_then stands old new w x.instance (AfterStop slot) x.site x.op None k may.truth may.permits at_sites;
+      due = (due, tt);
+      parentless = parentless_then stands old new w x.instance (AfterStop slot) x.site x.op None k may.truth may.permits at_sites;
+      lives = lives_now;
+      clients = λ m q is. living_on stands (w.homes m) m h w.run (λ n life. refl) (known_in w.knows m) q (λ y line at. quiet line) (w.clients m q (was m q is));
+      in_slots = λ m y q is. w.in_slots m y q (was m q is);
+      nobody = λ m is y. w.nobody m (sym (client_same m) ∙ is) y;
+      apart = λ line m y other there one two. w.apart line m y other there (sym (line_same m y) ∙ one) (sym (line_same other there) ∙ two);
+      slots = λ line begun. same_slots old.lives new.lives line_same line (w.slots line (open_back line h w.run (quiet line) begun));
+      truth = λ m q is s. truth_now m q (was m q is) s;
+      late = late_now;
+      sending = sending_now;
+      unsent = unsent_now;
+      drops = drops_now;
+      beside = beside_still w.who w.who w.knows knows_then (λ s. records_in s new.sites)
+          (λ a g apart s.
+          beside_then stands old new w x.instance (AfterStop slot) x.site x.op None k may.truth may.permits at_sites (w.who a) (w.who g) (w.knows a) (w.knows g) (w.beside a g apart) s)
+          each_is;
+      turn = no_turn (operation_at (site_in x.site old.sites) x.instance (AfterStop slot) x.site x.op) None w.run (λ line. refl);
+      in_order = λ m q is. order_on stands old new w h (due, tt) m q (was m q is) (λ y line at. quiet line) (λ other writer. refl);
+    };
+  }
+
+module _ {R : Type 0} (stands : R → Standing) where
+  same_running : (e : Event) (h : Happening) → ((a b : ClientView R) → BecomesOf stands e h (Some a) (Some b) → b ≡ a) → (o n : Option (ClientView R)) → BecomesOf stands e h o n → n ≡ o
+  same_running e h same None n is = is
+  same_running e h same (Some c) None is = absurd is
+  same_running e h same (Some c) (Some d) is = ap Some (same c d is)
+
+  goes_without : (old new : WorldView R) (session slot : ℕ) (x : Sent) (l : LivesView R) → lives_in session old.lives ≡ Some l
+      → Does stands (event.Late session slot) (come old.sites slot (Some x)) old new → GoesWithout new session slot l
+  goes_without old new session slot x l there does =
+      by (lives_in session new.lives) refl
+      (subst (λ o. LivesOnIf stands (event.Late session slot) (come old.sites slot (Some x)) o (lives_in session new.lives)) there (does.named session (eq-eqb session session refl)))
+    where
+      by : (o : Option (LivesView R)) → lives_in session new.lives ≡ o → LivesOnIf stands (event.Late session slot) (come old.sites slot (Some x)) (Some l) o → GoesWithout new session slot l
+      by None is on = absurd on
+      by (Some m) is on = record {
+        behind = m;
+        is = is;
+        home = on.home;
+        latest = on.latest;
+        runs = same_running (event.Late session slot) (come old.sites slot (Some x)) (λ a b same. same) l.running m.running on.running;
+        late = on.late;
+      }
+
+  pub came_keeps : (old new : WorldView R) (w : IsSoundWorld stands old) (session slot : ℕ) (x : Sent) → late_at session slot old.lives ≡ Some x
+      → Does stands (event.Late session slot) (come old.sites slot (Some x)) old new → DoesAtSites (come old.sites slot (Some x)) old.sites new.sites
+      → IsCarried stands old new w (come old.sites slot (Some x))
+  came_keeps old new w session slot x sent does at_sites =
+      let has = late_there session slot old.lives x sent in
+      coming_keeps stands old new w session slot x sent (λ m differ. does.others m (lines_differ session m (λ same. differ (sym same)))) at_sites has.lives_are has.there
+      (goes_without old new session slot x has.lives_are has.there does)

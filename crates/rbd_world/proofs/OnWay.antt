@@ -1,0 +1,174 @@
+-- A poll that has an operation done on a request's way to the lock of its image keeps a world sound.
+use Rattle.std.proofs.Common.{◌≡◌, ◌≢◌, inl, inr, ℕ, ◌==◌, ◌||◌, Bool, cond, true, false, is_some, [], ◌∷◌, Option, Some, None, IsSome, refl, sym, ap, ◌∙◌, subst}
+use Rattle.std.proofs.lemmas.Bool.{true≢false, eq-eqb, eqb-true}
+use Rattle.std.proofs.lemmas.List.{append-nil}
+use Rattle.rbd_client.specs.declared.actor.Actor.TheVariants as actor
+use Rattle.rbd_client.specs.Actor.{actor_at, op_by, op_wanted}
+use Rattle.rbd_client.specs.Client.{ClientView}
+use Rattle.rbd_client.specs.Feeding.{GoesItsWay, IsFedBy, WayIsFed}
+use Rattle.rbd_client.proofs.OnWay.{way_waits}
+use Rattle.rbd_kinds.specs.declared.answer.Answer.{Answer}
+use Rattle.rbd_kinds.specs.declared.id.Instance.{Instance}
+use Rattle.rbd_kinds.specs.declared.id.SiteId.{SiteId}
+use Rattle.rbd_kinds.specs.declared.machine.Fed.TheVariants as fed
+use Rattle.rbd_kinds.specs.declared.reply.Reply.{Reply}
+use Rattle.rbd_machine.specs.Answers.{CanGive}
+use Rattle.rbd_machine.specs.Plan.{Standing}
+use Rattle.rbd_owner.specs.Acquire.{op_of}
+use Rattle.rbd_owner.specs.declared.acquire.Acquire.{Acquire}
+use Rattle.rbd_session.specs.declared.running.Occupant.{Occupant}
+use Rattle.rbd_session.specs.declared.running.Occupant.TheVariants as occupant
+use Rattle.rbd_session.specs.declared.running.Running.{Running}
+use Rattle.rbd_session.specs.Session.{SessionView, held_in, running_at, running_in, script_line}
+use Rattle.rbd_session.proofs.Sound.{no_some, some_same}
+use Rattle.rbd_site.specs.Step.{answer_to}
+use Rattle.rbd_world.specs.declared.event.Event.TheVariants as event
+use Rattle.rbd_world.specs.Order.{IsInOrder}
+use Rattle.rbd_world.specs.Run.{Asked, OnWay, Happening, Did, Operation, asked_by, ends, steps_of}
+use Rattle.rbd_world.specs.Sound.{IsDone, IsDue, IsHeldRightly, IsInSlot, IsLiving, IsOpen, IsSoundWorld, IsUnderWay, has_ended, held_of, known_in}
+use Rattle.rbd_world.specs.Step.{Does, DoesAtSites, Goes, IsSoundIf, operation_at, reply_on_way}
+use Rattle.rbd_world.specs.World.{WorldView, client_in, records_in, session_of, site_in}
+use Rattle.rbd_world.proofs.Acting.{all_know, beside_now, beside_of_others, can, done_so, knows_now, parentless, sending_now, standing, truth_now, truth_of_others}
+use Rattle.rbd_world.proofs.Carried.{IsCarried}
+use Rattle.rbd_world.proofs.Changed.{GoesOnAs, apart_of, client_is, has_become, line_apart, living_of}
+use Rattle.rbd_world.proofs.GoesOn.{goes_carries}
+use Rattle.rbd_world.proofs.OrderedWorld.{given_up_order, no_turn, still_in_order}
+use Rattle.rbd_world.proofs.Quiet.{IsQuiet, quiet_did, underway_still}
+use Rattle.rbd_world.proofs.RefusedOnWay.{refused_on_way}
+use Rattle.rbd_world.proofs.Slots.{in_this_slot, not_open, open_back, other_slots}
+
+module _ {R : Type 0} (stands : R → Standing) (old new : WorldView R) (w : IsSoundWorld stands old) (session slot : ℕ) (c : ClientView R) (there : client_in session old.lives ≡ Some c)
+    (r : Running R) (holds : held_in slot c.session.slots ≡ Some (occupant.Running r)) (a : Acquire) (acts : actor_at stands slot c ≡ actor.Way a) where
+  abbrev me : Instance
+  me = c.session.instance
+
+  abbrev home : SiteId
+  home = w.homes session
+
+  abbrev told : Answer
+  told = answer_to (records_in a.site old.sites) me (op_of a)
+
+  abbrev result : Option Reply
+  result = reply_on_way a told
+
+  abbrev operation : Operation
+  operation = operation_at (site_in a.site old.sites) me (OnWay r.line) a.site (op_of a)
+
+  abbrev does_it : Happening
+  does_it = Did operation result
+
+  wanted : op_wanted stands slot c ≡ Some (a.site, op_of a)
+  wanted = ap (op_by stands slot c.session) acts
+
+  living : IsLiving stands home session w.run (known_in w.knows session) c
+  living = w.clients session c there
+
+  runs : running_at slot c.session ≡ Some r
+  runs = ap running_in holds
+
+  way : IsUnderWay stands home me w.run r
+  way = subst (IsHeldRightly stands home me w.run) holds (living.held slot)
+
+  -- its line is the instance's
+  is_mine : (asked : Asked) → asked_by r.line w.run ≡ Some asked → asked.who ≡ me
+  is_mine asked is = ap (λ (x : Asked). x.who) (some_same asked way.begun.asked (sym is ∙ way.begun.is)) ∙ way.mine
+
+  module _ (d : ClientView R) (became : Goes stands slot operation result c d) (goes_on : GoesOnAs old new session c d) (at_sites : DoesAtSites does_it old.sites new.sites)
+      (sound : (m : ℕ) → IsSoundIf stands (client_in m new.lives)) where
+    is_fed : WayIsFed a slot a.site (op_of a) (fed.Answer told) result c d
+    is_fed = subst (IsFedBy stands slot a.site (op_of a) (fed.Answer told) result c d) acts became.fed
+
+    quiet : (x other : ℕ) → x ≢ slot → script_line (held_in x c.session.slots) ≡ Some other → IsQuiet other does_it
+    quiet x other differ is =
+        quiet_did other operation result
+        (line_apart old new session c d goes_on slot became.slots w.apart r.line (ap script_line holds) session x other (inr differ) (ap (λ o. script_line (held_of x (session_of o))) there ∙ is))
+
+    quiet_others : (m : ℕ) (q : ClientView R) → m ≢ session → client_in m old.lives ≡ Some q → (x other : ℕ) → script_line (held_in x q.session.slots) ≡ Some other → IsQuiet other does_it
+    quiet_others m q differ at x other is =
+        quiet_did other operation result
+        (line_apart old new session c d goes_on slot became.slots w.apart r.line (ap script_line holds) m x other (inl differ) (ap (λ o. script_line (held_of x (session_of o))) at ∙ is))
+
+    sound_then : IsSoundIf stands (Some d)
+    sound_then = subst (IsSoundIf stands) (client_is old new session c d goes_on) (sound session)
+
+    can_give : CanGive (op_of a) told
+    can_give = can stands old new w session slot c there a.site (op_of a) wanted (OnWay r.line) result d became at_sites sound_then
+
+    -- ---- its line goes on, or is refused
+
+    done_there : IsDone operation w.run
+    done_there = done_so stands old new w session slot c there a.site (op_of a) wanted (OnWay r.line) result d became at_sites sound_then (λ asked is. sym (is_mine asked is))
+
+    due : IsDue w.homes does_it w.run
+    due = by result refl
+      where
+        by : (x : Option Reply) → result ≡ x → IsDue w.homes (Did operation x) w.run
+        by None is = (done_there, way.begun)
+        by (Some reply) is = (
+          done_there,
+          refused_on_way stands w.homes session slot w.run me living.whose c.session r runs way a (way_waits stands slot c a living.sound acts) operation refl can_give reply is,
+        )
+
+    -- ---- what its slot holds
+
+    still_held : (x : Option Reply) → result ≡ x → GoesItsWay slot x c.session d.session → IsHeldRightly stands home me (does_it ∷ w.run) (held_in slot d.session.slots)
+    still_held (Some reply) is gives_up = subst (IsHeldRightly stands home me (does_it ∷ w.run)) (sym (gives_up.free (subst IsSome (sym runs) refl))) tt
+    still_held None is same =
+        subst (IsHeldRightly stands home me (does_it ∷ w.run)) (sym (ap (λ (s : SessionView R). held_in slot s.slots) same ∙ holds))
+        (underway_still stands home me does_it w.run r
+        (record { asked = way.begun.asked; is = way.begun.is; unended = ap (λ x. ends r.line (Did operation x) || has_ended r.line w.run) is ∙ way.begun.unended })
+        (append-nil (steps_of r.line w.run)) way refl)
+
+    line_stays : (x : Option Reply) → GoesItsWay slot x c.session d.session → x ≡ None → script_line (held_in slot d.session.slots) ≡ Some r.line
+    line_stays None same none = ap (λ (s : SessionView R). script_line (held_in slot s.slots)) same ∙ ap script_line holds
+    line_stays (Some reply) gives_up none = absurd (no_some reply (sym none))
+
+    line_was : (x : Option Reply) → GoesItsWay slot x c.session d.session → (line : ℕ) → script_line (held_in slot d.session.slots) ≡ Some line → script_line (held_in slot c.session.slots) ≡ Some line
+    line_was None same line is = ap (λ (s : SessionView R). script_line (held_in slot s.slots)) (sym same) ∙ is
+    line_was (Some reply) gives_up line is = absurd (no_some line (sym (ap script_line (gives_up.free (subst IsSome (sym runs) refl))) ∙ is))
+
+    living_then : IsLiving stands home session (does_it ∷ w.run) (knows_now stands old new w session slot c there a.site (op_of a) wanted (OnWay r.line) result d became at_sites sound_then) d
+    living_then =
+        living_of stands home session does_it w.run (λ m l. refl) (known_in w.knows session)
+        (knows_now stands old new w session slot c there a.site (op_of a) wanted (OnWay r.line) result d became at_sites sound_then) slot c d living became.slots became.client quiet
+        sound_then (all_know stands old new w session slot c there a.site (op_of a) wanted (OnWay r.line) result d became at_sites sound_then) (still_held result refl is_fed.session)
+
+    -- its line stays in its slot, unless it has its reply
+    slots_then : (l : ℕ) → IsOpen l (does_it ∷ w.run) → (b : Bool) → (r.line == l) ≡ b → IsInSlot l new.lives
+    slots_then l now true own =
+        in_this_slot old new session c d goes_on slot became.slots l (line_stays result is_fed.session (unreplied result refl) ∙ ap Some (eqb-true r.line l own))
+      where
+        unreplied : (x : Option Reply) → result ≡ x → result ≡ None
+        unreplied None is = is
+        unreplied (Some reply) is = absurd (not_open l does_it w.run (ap (λ x. ends l (Did operation x)) is ∙ ap (λ b. b || false) own) now)
+    slots_then l now false other =
+        other_slots old new session c d goes_on slot became.slots l
+        (λ is. true≢false (sym (eq-eqb r.line l (some_same r.line l (sym (ap script_line holds) ∙ is))) ∙ other))
+        (w.slots l (open_back l does_it w.run (quiet_did l operation result other) now))
+
+    order : (x : Option Reply) → GoesItsWay slot x c.session d.session → IsInOrder stands home d.session.instance (does_it ∷ w.run) d.session
+    order None same = still_in_order stands old new w does_it due session c d there same (λ line before. refl) (λ other writer. refl)
+    order (Some reply) gives_up =
+        subst (λ i. IsInOrder stands home i (does_it ∷ w.run) d.session) (sym became.client.instance)
+        (given_up_order stands home me (does_it ∷ w.run) slot c.session d.session r runs gives_up became.slots
+        (still_in_order stands old new w does_it due session c c there refl (λ line before. refl) (λ other writer. refl)))
+
+    way_carries : IsCarried stands old new w does_it
+    way_carries =
+        goes_carries stands old new w does_it session c d goes_on there became.client.instance (λ m l. refl) (λ m x o. refl)
+        (knows_now stands old new w session slot c there a.site (op_of a) wanted (OnWay r.line) result d became at_sites sound_then)
+        (beside_now stands old new w session slot c there a.site (op_of a) wanted (OnWay r.line) result d became at_sites sound_then)
+        (beside_of_others stands old new w session slot c there a.site (op_of a) wanted (OnWay r.line) result d became at_sites sound_then)
+        (standing stands old new w session slot c there a.site (op_of a) wanted (OnWay r.line) result d became at_sites sound_then) due
+        (parentless stands old new w session slot c there a.site (op_of a) wanted (OnWay r.line) result d became at_sites sound_then)
+        living_then quiet_others (apart_of old new session c d goes_on slot became.slots w.apart (line_was result is_fed.session))
+        (λ l now. slots_then l now (r.line == l) refl)
+        (truth_now stands old new w session slot c there a.site (op_of a) wanted (OnWay r.line) result d became at_sites sound_then)
+        (truth_of_others stands old new w session slot c there a.site (op_of a) wanted (OnWay r.line) result d became at_sites sound_then)
+        (sending_now stands old new w session slot c there a.site (op_of a) wanted (OnWay r.line) result d became at_sites sound_then)
+        (no_turn operation result w.run (λ line. refl)) (λ m q apart is other writer. refl) (order result is_fed.session)
+
+  pub way_keeps : Does stands (event.Poll session slot) does_it old new → DoesAtSites does_it old.sites new.sites → ((m : ℕ) → IsSoundIf stands (client_in m new.lives)) → IsCarried stands old new w does_it
+  way_keeps does at_sites sound =
+      let become = has_become stands (event.Poll session slot) does_it old new session c there (λ m. refl) (λ at o n is. is) (λ l. refl) (λ l. refl) does in
+      way_carries become.after become.becomes become.goes at_sites sound
