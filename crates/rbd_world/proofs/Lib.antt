@@ -1,4 +1,6 @@
+pub mod Acting
 pub mod Ahead
+pub mod Alive
 pub mod Answered
 pub mod AtSites
 pub mod Beginning
@@ -10,6 +12,7 @@ pub mod Elsewhere
 pub mod FedAlike
 pub mod FirstClients
 pub mod FoundFirst
+pub mod GoesOn
 pub mod Hearing
 pub mod InLine
 pub mod InOrder
@@ -18,6 +21,7 @@ pub mod Latest
 pub mod Lost
 pub mod LostLines
 pub mod Newcomer
+pub mod OnWay
 pub mod OneLife
 pub mod OneMoreWrite
 pub mod Ongoing
@@ -25,10 +29,13 @@ pub mod Operated
 pub mod Ordered
 pub mod OrderedWorld
 pub mod Orderly
+pub mod Owned
 pub mod Parts
 pub mod Polling
 pub mod Quiet
 pub mod Refusal
+pub mod RefusedOnWay
+pub mod Releasing
 pub mod Rest
 pub mod Restarting
 pub mod Runs
