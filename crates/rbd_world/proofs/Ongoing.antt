@@ -1,13 +1,12 @@
 -- A life goes on where its client does: it neither stops nor begins, and nothing comes of an earlier
 -- one.
-use Rattle.std.proofs.Common.{◌≡◌, ℕ, ◌==◌, ◌||◌, Bool, true, false, cond, List, [], slice_set, is_some, IfOk, OnOk, Option, Some, None, OnErr, true≢false, Result, Ok, Err, refl, sym, ap, ◌∙◌, subst}
+use Rattle.std.proofs.Common.{◌≡◌, ℕ, ◌==◌, ◌||◌, Bool, true, false, cond, List, slice_set, is_some, OnOk, Option, Some, None, true≢false, Result, Ok, Err, refl, sym, ap, ◌∙◌, subst}
 use Rattle.std.specs.Prelude.{nat_lt}
 use Rattle.rbd_client.specs.declared.actor.Actor.{Actor}
 use Rattle.rbd_client.specs.declared.actor.Actor.TheVariants as actor
 use Rattle.rbd_client.specs.Actor.{actor_at}
 use Rattle.rbd_client.specs.Client.{ClientView}
 use Rattle.rbd_commands.specs.declared.command.Command.{Command}
-use Rattle.rbd_flat.specs.declared.entry.Entry.{Entry}
 use Rattle.rbd_kinds.specs.declared.id.Instance.{Instance}
 use Rattle.rbd_kinds.specs.declared.id.SiteId.{SiteId}
 use Rattle.rbd_kinds.specs.declared.notice.Notice.{Notice}
@@ -20,20 +19,13 @@ use Rattle.rbd_session.specs.declared.running.Running.{Running}
 use Rattle.rbd_session.specs.Advance.{track_of}
 use Rattle.rbd_session.specs.Session.{held_in}
 use Rattle.rbd_session.specs.Waits.{waits}
-use Rattle.rbd_watch.specs.Posting.{numbered}
-use Rattle.rbd_watch.specs.Watching.{oldest_of}
 use Rattle.rbd_world.specs.declared.event.Event.{Event}
 use Rattle.rbd_world.specs.declared.event.Event.TheVariants as event
-use Rattle.rbd_world.specs.declared.event.Outcome.{Outcome}
 use Rattle.rbd_world.specs.declared.sites.Sites.{Sites}
-use Rattle.rbd_world.specs.Begun.{LinesBegun, has_line}
-use Rattle.rbd_world.specs.Noted.{IsNotedStep, noted_by}
-use Rattle.rbd_world.specs.Run.{Happening, Nothing, Waited, Began, Did, Refused, Trimmed, Expired, Heard, Stopped, Restarted, Sent, sent_of, entries_of, ending_entries, outcome_of}
-use Rattle.rbd_world.specs.Step.{Becomes, BecomesOf, IsFresh, IsSoundIf, LivesOn, RunsOn, late_behind, latest_behind, AreSameSites, DoesAtSites, DoesToLives, DoesToParts, LeavesLives, LeavesParts, begins_of, begun_behind, come, delivered, done_by, ended_watch, expired_at, goes_on_by, happens, heard_by, is_begun, last_life, next_life, next_number, polled, polled_in, releases, restarted, restarted_of, stopped, submitted, trimmed_at}
-use Rattle.rbd_world.specs.World.{LateView, LivesView, client_in, late_at, lives_in, sent_in, records_in, site_in}
-use Rattle.rbd_world.proofs.BothSites.{left_sites}
+use Rattle.rbd_world.specs.Run.{Happening, Nothing, Waited, Began, Refused, Heard, Stopped, Restarted, Sent, sent_of}
+use Rattle.rbd_world.specs.Step.{Becomes, BecomesOf, IsFresh, IsSoundIf, LivesOn, RunsOn, late_behind, latest_behind, DoesToLives, begins_of, come, done_by, goes_on_by, heard_by, last_life, next_life, polled, polled_in, releases, restarted_of, submitted}
+use Rattle.rbd_world.specs.World.{LateView, LivesView, lives_in, sent_in}
 use Rattle.rbd_world.proofs.OneLife.{does_to_nobody, does_to_one, set_same}
-use Rattle.rbd_world.proofs.Runs.{endings_begin_nothing, lost_begin_nothing, no_start, or_false}
 
 -- it neither stops nor begins a life
 abbrev pub GoesOn : Happening → Type 0

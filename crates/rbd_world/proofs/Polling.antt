@@ -1,11 +1,11 @@
 -- A poll did what is said of it, by who acts at the slot, and nothing at the other site.
-use Rattle.std.proofs.Common.{◌≡◌, ℕ, ◌==◌, ◌||◌, cond, Bool, true, false, List, [], ◌∷◌, ◌++◌, is_some, Option, Some, None, refl, sym, ap, ◌∙◌, subst}
+use Rattle.std.proofs.Common.{◌≡◌, ℕ, ◌==◌, cond, Bool, true, false, List, [], ◌∷◌, Option, Some, None, refl, sym, ap, ◌∙◌, subst}
 use Rattle.std.proofs.lemmas.Bool.{true≢false, eqb-true}
 use Rattle.rbd_client.specs.declared.actor.Actor.{Actor}
 use Rattle.rbd_client.specs.declared.actor.Actor.TheVariants as actor
 use Rattle.rbd_client.specs.declared.slot_state.Way.{Way}
 use Rattle.rbd_client.specs.declared.slot_state.Way.TheVariants as way
-use Rattle.rbd_client.specs.Actor.{actor_at, actor_on, actor_at_look, due_release, op_by, op_wanted, releasing}
+use Rattle.rbd_client.specs.Actor.{actor_at, actor_on, due_release, op_by, op_wanted, releasing}
 use Rattle.rbd_client.specs.Client.{ClientView, state_in}
 use Rattle.rbd_client.specs.Feeding.{IsFedBy, WayComesTo, RefusesIt}
 use Rattle.rbd_client.specs.Sound.{IsSoundClient}
@@ -19,8 +19,7 @@ use Rattle.rbd_kinds.specs.declared.machine.Fed.TheVariants as fed
 use Rattle.rbd_kinds.specs.declared.operation.Op.{Op}
 use Rattle.rbd_kinds.specs.declared.reply.Reply.{Reply}
 use Rattle.rbd_kinds.specs.declared.reply.Reply.TheVariants as reply_is
-use Rattle.rbd_locks.specs.declared.lock_state.LockState.{LockState}
-use Rattle.rbd_locks.specs.Locks.{LocksView, state_at}
+use Rattle.rbd_locks.specs.Locks.{LocksView}
 use Rattle.rbd_machine.specs.Knowledge.{same_site}
 use Rattle.rbd_machine.specs.Label.{Label, Lock}
 use Rattle.rbd_machine.specs.Path.{at_operation}

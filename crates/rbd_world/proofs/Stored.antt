@@ -11,9 +11,9 @@ use Rattle.rbd_site.proofs.FormLemmas.{form_expired}
 use Rattle.rbd_site.proofs.TrimLemmas.{form_trimmed}
 use Rattle.rbd_watch.specs.Watching.{oldest_of}
 use Rattle.rbd_world.specs.declared.sites.Sites.{Sites}
-use Rattle.rbd_world.specs.Run.{Happening, Nothing, Trimmed, Expired}
+use Rattle.rbd_world.specs.Run.{Happening, Nothing, Trimmed}
 use Rattle.rbd_world.specs.Step.{DoesAt, DoesAtSites, ended_watch, expired_at, expired_of, mail_then, next_number, trimmed_at, trimmed_of, with_lines}
-use Rattle.rbd_world.specs.World.{records_in, site_in}
+use Rattle.rbd_world.specs.World.{site_in}
 use Rattle.rbd_world.proofs.BothSites.{IsNothingAt, done_at, left_at, nothing_done, same_site_itself}
 
 -- it is of one site, and posts no notice

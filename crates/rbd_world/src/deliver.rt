@@ -5,7 +5,6 @@ ghost use Rattle.rbd_machine.specs.Knowledge.{same_instance};
 ghost use Rattle.rbd_watch.specs.Posting.{numbered};
 ghost use Rattle.rbd_world.specs.Run.{outcome_of};
 ghost use Rattle.rbd_world.specs.Step.{Becomes, DoesToLives, IsSoundIf, LivesOn, delivered, heard_by};
-ghost use Rattle.rbd_world.specs.World.{client_in};
 ghost use Rattle.rbd_world.specs.declared.event.Event.TheVariants as of_event;
 
 use crate::event::Outcome;

@@ -106,10 +106,7 @@ fn come_from(
 }
 
 /// What a slot wanted, as a copy.
-fn wanted_at(
-    wanted: &[Option<(SiteId, Op)>],
-    slot: Slot,
-) -> Result<Option<(SiteId, Op)>, NoMemory>
+fn wanted_at(wanted: &[Option<(SiteId, Op)>], slot: Slot) -> Result<Option<(SiteId, Op)>, NoMemory>
     ensures { IfOk result (λ told. told ≡ held_in slot wanted.now) }
 {
     match wanted.get(slot.0 as usize) {

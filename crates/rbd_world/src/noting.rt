@@ -1,5 +1,5 @@
 //! What is noted of an event, in the history and among the calls.
-ghost use Rattle.std.specs.Prelude.{◌≡◌, ℕ, ◌+◌, ◌≤◌, ◌∷◌, ◌++◌, [], map, OnErr, OnOk};
+ghost use Rattle.std.specs.Prelude.{◌≡◌, ◌+◌, ◌≤◌, ◌∷◌, ◌++◌, [], map, OnErr, OnOk};
 ghost use Rattle.std.specs.Vec.{vec_len, vec_capacity};
 ghost use Rattle.rbd_flat.specs.declared.entry.Entry.TheVariants as of_entry;
 ghost use Rattle.rbd_world.specs.Run.{ending_entries, entry_by, entry_unfenced, reply_entries};

@@ -10,7 +10,6 @@
 ghost use Rattle.std.specs.Prelude.{◌≡◌, ◌≢◌, ℕ, ◌+◌, ◌≤◌, Some, IfOk, OnErr};
 ghost use Rattle.std.specs.Vec.{vec_capacity, vec_len};
 ghost use Rattle.rbd_client.specs.Actor.{actor_at, op_wanted};
-ghost use Rattle.rbd_client.specs.Client.{state_in};
 ghost use Rattle.rbd_client.specs.Feeding.{DropsAtRest, IsClientAlike, IsReadiedFor, StaysUnlessRequest};
 ghost use Rattle.rbd_client.specs.Sound.{IsSoundClient};
 ghost use Rattle.rbd_kinds.specs.OperationKind.{kind_of};

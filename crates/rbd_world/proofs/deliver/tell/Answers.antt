@@ -1,4 +1,4 @@
-use Rattle.std.proofs.Common.{◌≡◌, IfOk, OnOk, slice_set, Some, None, refl, sym, ap, ◌∙◌, subst}
+use Rattle.std.proofs.Common.{◌≡◌, IfOk, slice_set, Some, None, refl, sym, ap, ◌∙◌, subst}
 use Rattle.std.proofs.lemmas.Result.{on_ok_weaker}
 use Rattle.rbd_world.specs.Run.{outcome_of}
 use Rattle.rbd_world.specs.Step.{DoesToLives, heard_by}

@@ -1,4 +1,4 @@
-use Rattle.std.proofs.Common.{◌≡◌, ◌+◌, [], ◌∷◌, ◌++◌, ℕ, Bool, Option, Some, sym, ap, ◌∙◌, subst}
+use Rattle.std.proofs.Common.{◌∷◌, ◌++◌, ℕ, Bool, Some, ap, ◌∙◌, subst}
 use Rattle.rbd_client.specs.Actor.{actor_at}
 use Rattle.rbd_client.specs.Feeding.{DropsAtRest}
 use Rattle.rbd_client.proofs.Wanted.{wanted_alike}
@@ -45,7 +45,7 @@ returns-in-Some-clause-done g c =
         logged = subst (λ (who : Instance). IsLogged who due.op before (site_in due.site c.apply.new.sites) c.args.sites.now.mail c.apply.new.sites.mail) c.requires.whose c.in_ok-apply-in-Ok.ensures.logged;
         goes =
             goes_alike g.R.Machine.stands c.args.slot by due.site due.op c.in-Some.done.now before c.in-Ok.foreseen.fed reply c.args.client.now c.prepare.new.client c.feed-reply.new.self (same_op (site_in c.args.due.site c.args.sites.now) (site_in c.args.due.site c.apply.new.sites) c.at.result.now (next_number (site_in c.args.due.site c.args.sites.now)) c.args.due.who c.args.due.op
-    (answer_to (records_in c.args.due.site c.args.sites.now) c.args.due.who c.args.due.op) c.log.result.now c.in-Some.done.now c.in_ok-apply-in-Ok.ensures.logged.log c.at.ensures c.log.ensures.log c.in-Some.ensures)
+            (answer_to (records_in c.args.due.site c.args.sites.now) c.args.due.who c.args.due.op) c.log.result.now c.in-Some.done.now c.in_ok-apply-in-Ok.ensures.logged.log c.at.ensures c.log.ensures.log c.in-Some.ensures)
             (foreseen.fed ∙ ap (λ (who : Instance). of_fed.Answer (answer_to (records_in due.site c.args.sites.now) who due.op)) c.requires.whose)
             foreseen.alike foreseen.stays foreseen.others c.feed-reply.ensures.fed c.feed-reply.ensures.slots c.feed-reply.ensures.others c.feed-reply.ensures.who;
         noted = record {

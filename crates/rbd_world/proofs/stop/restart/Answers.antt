@@ -1,8 +1,7 @@
 use Rattle.std.proofs.Common.{◌≡◌, IfOk, OnOk, slice_set, Some, None, refl, sym, ap, ◌∙◌, subst}
-use Rattle.rbd_world.specs.Noted.{noted_by}
 use Rattle.rbd_world.specs.Run.{outcome_of}
 use Rattle.rbd_world.specs.Step.{DoesToLives, restarted}
-use Rattle.rbd_world.specs.World.{client_in, lives_in, running_of}
+use Rattle.rbd_world.specs.World.{lives_in}
 use Rattle.rbd_world.specs.declared.event.Event.TheVariants as of_event
 use Rattle.rbd_world.proofs.OneLife.{does_to_none, does_to_one, lent, none_there, on_both, set_unless}
 use Rattle.rbd_world.proofs.stop.restart.Goals as goal
