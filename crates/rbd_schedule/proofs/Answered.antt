@@ -27,7 +27,7 @@ use Rattle.rbd_schedule.specs.Given.{commands_of, given_by, given_in, of_session
 use Rattle.rbd_schedule.specs.InOrder.{AreDeclared, NamesDeclared}
 use Rattle.rbd_schedule.specs.Playing.{IsPlay, IsPlayable, homes_of}
 use Rattle.rbd_schedule.specs.Schedule.{Calm, Round, RoundsOn, closing_rounds, most_idle}
-use Rattle.rbd_schedule.specs.Starts.{IsQuiet, earliest, is_answered, is_reply_to}
+use Rattle.rbd_schedule.specs.Starts.{IsQuiet, earliest, is_ended, is_end_of}
 use Rattle.rbd_schedule.proofs.Ended.{free_there, idle_turns, nobody_in_turns, quiet_turn}
 use Rattle.rbd_schedule.proofs.Idle.{quiet_same}
 use Rattle.rbd_schedule.proofs.Kept.{kept_by_play}
@@ -41,11 +41,11 @@ eq_swap a b = by (cases_eq a b)
     by (inl same) = eq-eqb a b same ∙ sym (eq-eqb b a (sym same))
     by (inr other) = ne_eqb a b other ∙ sym (ne_eqb b a (λ same. other (sym same)))
 
-no_reply_entry : (line other : ℕ) (s : SiteId) (number : ℕ) (e : Option Effect) → is_reply_to line (entry_by other s number e) ≡ false
+no_reply_entry : (line other : ℕ) (s : SiteId) (number : ℕ) (e : Option Effect) → is_end_of line (entry_by other s number e) ≡ false
 no_reply_entry line other s number None = refl
 no_reply_entry line other s number (Some e) = refl
 
-replied_by : (line : ℕ) (h : Happening) → is_answered line (entries_of h) ≡ replies_to line h
+replied_by : (line : ℕ) (h : Happening) → is_ended line (entries_of h) ≡ replies_to line h
 replied_by line Nothing = refl
 replied_by line Waited = refl
 replied_by line (Began asked who slot) = refl
@@ -61,11 +61,11 @@ or_swap true false = refl
 or_swap false true = refl
 or_swap false false = refl
 
-answered_is_replied : (line : ℕ) (run : List Happening) → is_answered line (history_of run) ≡ has_reply line run
+answered_is_replied : (line : ℕ) (run : List Happening) → is_ended line (history_of run) ≡ has_reply line run
 answered_is_replied line [] = refl
 answered_is_replied line (h ∷ run) =
-    any_append (is_reply_to line) (history_of run) (entries_of h) ∙ or_swap (is_answered line (history_of run)) (is_answered line (entries_of h))
-    ∙ ap (λ b. b || is_answered line (history_of run)) (replied_by line h) ∙ ap (λ b. replies_to line h || b) (answered_is_replied line run)
+    any_append (is_end_of line) (history_of run) (entries_of h) ∙ or_swap (is_ended line (history_of run)) (is_ended line (entries_of h))
+    ∙ ap (λ b. b || is_ended line (history_of run)) (replied_by line h) ∙ ap (λ b. replies_to line h || b) (answered_is_replied line run)
 
 -- ---- all are answered
 
@@ -147,11 +147,11 @@ module _ {R : Type 0} (stands : R → Standing) (script : Script) (w : WorldView
         by (inr past) = none-some line (sym (ap (λ c. script_line (held_of there.slot c)) (sessions_there.past there.session past)) ∙ there.is)
 
     -- who was begun has its reply
-    begun_is_answered : (line : ℕ) → is_begun line w.history ≡ true → is_answered line w.history ≡ true
-    begun_is_answered line begun = by (asked_by line play.sound.run) refl (has_reply line play.sound.run) refl
+    begun_is_ended : (line : ℕ) → is_begun line w.history ≡ true → is_ended line w.history ≡ true
+    begun_is_ended line begun = by (asked_by line play.sound.run) refl (has_reply line play.sound.run) refl
       where
-        by : (asked : Option Asked) → asked_by line play.sound.run ≡ asked → (b : Bool) → has_reply line play.sound.run ≡ b → is_answered line w.history ≡ true
-        by asked is true replied = ap (is_answered line) play.sound.history ∙ answered_is_replied line play.sound.run ∙ replied
+        by : (asked : Option Asked) → asked_by line play.sound.run ≡ asked → (b : Bool) → has_reply line play.sound.run ≡ b → is_ended line w.history ≡ true
+        by asked is true replied = ap (is_ended line) play.sound.history ∙ answered_is_replied line play.sound.run ∙ replied
         by None is false unreplied = absurd (false≢true (sym (ap (is_begun line) play.sound.history ∙ begun_is_asked line play.sound.run ∙ ap is_some is) ∙ begun))
         by (Some asked) is false unanswered = absurd (in_no_slot line (play.sound.slots line (record { asked = asked; is = is; unanswered = unanswered })))
 
@@ -170,14 +170,14 @@ module _ {R : Type 0} (stands : R → Standing) (script : Script) (w : WorldView
             by (inl more) = absurd (none more)
             by (inr few) = omega (arith, some, few)
 
-    session_done : (s : ℕ) → s < length script.sessions → IsQuiet (given_in script.lines) w → All (λ (c : Given). is_answered c.line w.history ≡ true) (given_in script.lines s)
+    session_done : (s : ℕ) → s < length script.sessions → IsQuiet (given_in script.lines) w → All (λ (c : Given). is_ended c.line w.history ≡ true) (given_in script.lines s)
     session_done s below quiet = by (session_in s w.sessions) refl
       where
-        by : (x : Option (SessionView R)) → session_in s w.sessions ≡ x → All (λ (c : Given). is_answered c.line w.history ≡ true) (given_in script.lines s)
+        by : (x : Option (SessionView R)) → session_in s w.sessions ≡ x → All (λ (c : Given). is_ended c.line w.history ≡ true) (given_in script.lines s)
         by None is = absurd (false≢true (sym (ap is_some is) ∙ sessions_there.there s below))
         by (Some c) is =
-            earliest_done (λ line. is_begun line w.history) (λ line. is_answered line w.history) begun_is_answered (given_in script.lines s)
-            (sym (ap (λ b. cond b (earliest (λ line. is_begun line w.history) (λ line. is_answered line w.history) true (given_in script.lines s)) None) (room_there s c below is)) ∙ quiet s)
+            earliest_done (λ line. is_begun line w.history) (λ line. is_ended line w.history) begun_is_ended (given_in script.lines s)
+            (sym (ap (λ b. cond b (earliest (λ line. is_begun line w.history) (λ line. is_ended line w.history) true (given_in script.lines s)) None) (room_there s c below is)) ∙ quiet s)
 
 -- ---- sessions that aren't declared are given nothing
 
@@ -244,14 +244,14 @@ module _ {R : Type 0} (stands : R → Standing) (script : Script) (w : WorldView
       by nobody quiet (cases_lt session (length script.sessions))
     where
       by : ((s : ℕ) → s < length script.sessions → (slot : ℕ) → line_at s slot w.sessions ≡ None) → IsQuiet (given_in script.lines) w
-          → (session < length script.sessions) ⊎ (length script.sessions ≤ session) → All (λ (c : Given). is_answered c.line w.history ≡ true) (given_in script.lines session)
+          → (session < length script.sessions) ⊎ (length script.sessions ≤ session) → All (λ (c : Given). is_ended c.line w.history ≡ true) (given_in script.lines session)
       by nobody quiet (inl below) = session_done stands script w play nobody session below quiet
       by nobody quiet (inr past) =
-          subst (λ ys. All (λ (c : Given). is_answered c.line w.history ≡ true) ys) (sym (given_nothing (length script.sessions) script.lines session declared past)) (All-nil (λ (c : Given). is_answered c.line w.history ≡ true))
+          subst (λ ys. All (λ (c : Given). is_ended c.line w.history ≡ true) ys) (sym (given_nothing (length script.sessions) script.lines session declared past)) (All-nil (λ (c : Given). is_ended c.line w.history ≡ true))
 
   ends_with : (n : ℕ) → length script.sessions ≡ n → AreDeclared (length script.sessions) script.lines → play.plays.closing.idle ≡ most_idle → AreAnswered script w.history
   ends_with zero none declared eight session =
-      subst (λ ys. All (λ (c : Given). is_answered c.line w.history ≡ true) ys) (sym (given_nothing (length script.sessions) script.lines session declared (omega (arith, none)))) (All-nil (λ (c : Given). is_answered c.line w.history ≡ true))
+      subst (λ ys. All (λ (c : Given). is_ended c.line w.history ≡ true) ys) (sym (given_nothing (length script.sessions) script.lines session declared (omega (arith, none)))) (All-nil (λ (c : Given). is_ended c.line w.history ≡ true))
   ends_with (suc m) some declared eight session =
       let closing = subst (λ n. Deeds (λ i. RoundsOn stands (given_in script.lines) n) play.plays.closing.count (record { world = play.plays.between; idle = 0 }) (record { world = w; idle = play.plays.closing.idle })) some play.plays.closing.on in
       let last = last_round stands (given_in script.lines) m play.plays.closing.count (record { world = play.plays.between; idle = 0 }) (record { world = w; idle = play.plays.closing.idle }) closing refl eight in

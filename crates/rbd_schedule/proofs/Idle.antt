@@ -22,7 +22,7 @@ use Rattle.rbd_world.specs.Step.{is_begun}
 use Rattle.rbd_schedule.specs.declared.given.Given.{Given}
 use Rattle.rbd_schedule.specs.Deeds.{Deeds}
 use Rattle.rbd_schedule.specs.Schedule.{Comes, Pace, PollsIn, PollsWhere, Starts, goes_on, is_held}
-use Rattle.rbd_schedule.specs.Starts.{IsIdle, IsQuiet, earliest, is_answered}
+use Rattle.rbd_schedule.specs.Starts.{IsIdle, IsQuiet, earliest, is_ended}
 
 -- the sessions are as they were, and nothing was added to the history
 pub record IsSame {R : Type 0} (old new : WorldView R) : Type 0 where
@@ -42,8 +42,8 @@ module _ {R : Type 0} where
   -- so none may start in the one where none may in the other
   pub quiet_same : (given : (session : ℕ) → List Given) (old new : WorldView R) → IsSame old new → IsQuiet given old → IsQuiet given new
   quiet_same given old new same quiet session =
-      ap (λ c. cond (is_some (free_in c)) (earliest (λ line. is_begun line new.history) (λ line. is_answered line new.history) true (given session)) None) (same.sessions session)
-      ∙ ap (λ h. cond (is_some (free_in (session_in session old.sessions))) (earliest (λ line. is_begun line h) (λ line. is_answered line h) true (given session)) None) same.history
+      ap (λ c. cond (is_some (free_in c)) (earliest (λ line. is_begun line new.history) (λ line. is_ended line new.history) true (given session)) None) (same.sessions session)
+      ∙ ap (λ h. cond (is_some (free_in (session_in session old.sessions))) (earliest (λ line. is_begun line h) (λ line. is_ended line h) true (given session)) None) same.history
       ∙ quiet session
 
 module _ {R : Type 0} (stands : R → Standing) where

@@ -20,10 +20,10 @@ use Rattle.rbd_world.specs.World.{WorldView, session_in}
 use Rattle.rbd_schedule.specs.declared.given.Given.{Given}
 use Rattle.rbd_schedule.specs.Given.{commands_of, given_in}
 use Rattle.rbd_schedule.specs.InOrder.{AreInOrder}
-use Rattle.rbd_schedule.specs.InTurn.{AreInTurn, IsAnsweredBefore}
+use Rattle.rbd_schedule.specs.InTurn.{AreInTurn, IsEndedBefore}
 use Rattle.rbd_schedule.specs.Playing.{IsPlay}
 use Rattle.rbd_schedule.specs.Schedule.{Submits}
-use Rattle.rbd_schedule.specs.Starts.{earliest, is_answered}
+use Rattle.rbd_schedule.specs.Starts.{earliest, is_ended}
 use Rattle.rbd_schedule.proofs.Before.{begins_in_turn, nothing_before, stays_before}
 use Rattle.rbd_schedule.proofs.Begins.{poll_begins, trim_begins}
 use Rattle.rbd_schedule.proofs.Entries.{start_is_earliest}
@@ -107,7 +107,7 @@ turns_stay : (given : List Given) (old more new : List Entry) → new ≡ old ++
 turns_stay given old more new is none turns i j d less within behind =
     let a = get_or given i d in
     let b = get_or given j d in
-    subst (IsAnsweredBefore a.line b.line) (sym is) (stays_before a.line b.line old more (none b.line) (turns i j d less within behind))
+    subst (IsEndedBefore a.line b.line) (sym is) (stays_before a.line b.line old more (none b.line) (turns i j d less within behind))
 
 module _ {R : Type 0} (stands : R → Standing) where
   turns_by_poll : (given : List Given) (session slot : ℕ) (result : Outcome) (old new : WorldView R) → IsStep stands (event.Poll session slot) old result new → AreInTurn given old.history → AreInTurn given new.history
@@ -128,10 +128,10 @@ module _ (all : List Line) (in_order : AreInOrder all) (session : ℕ) where
     there : Contains (commands_of all) c
     submission : IsSubmission c
     turn : c.beside ≡ false → c.session ≡ session → (i j : ℕ) (d : Given) → i < j → j < length (given_in all session) → (get_or (given_in all session) j d).line ≡ c.line
-        → is_answered (get_or (given_in all session) i d).line history ≡ true
+        → is_ended (get_or (given_in all session) i d).line history ≡ true
 
   turn_of : (lines more : List Line) (other : ℕ) (c : Given) (history : List Entry) → all ≡ lines ++ more
-      → IsEarliest (λ line. is_answered line history) true (given_in lines other) c → IsTurnOf c history
+      → IsEarliest (λ line. is_ended line history) true (given_in lines other) c → IsTurnOf c history
   turn_of lines more other c history is first =
       let back = first.back ++ given_in more other in
       let whole : given_in all other ≡ first.front ++ c ∷ back
@@ -141,7 +141,7 @@ module _ (all : List Line) (in_order : AreInOrder all) (session : ℕ) where
         submission = all_at IsSubmission (given_in all other) first.front back c whole (submitted_in all other);
         turn = λ behind mine i j d less within number.
             let same : other ≡ session = sym (all_at (λ (x : Given). x.session ≡ other) (given_in all other) first.front back c whole (own_session all other)) ∙ mine in
-            in_front (λ (x : Given). is_answered x.line history ≡ true) (given_in all session) first.front back c
+            in_front (λ (x : Given). is_ended x.line history ≡ true) (given_in all session) first.front back c
             (subst (λ s. given_in all s ≡ first.front ++ c ∷ back) same whole)
             (session_numbered all session in_order) (first.turn behind).1 i j d less within number;
       }
@@ -150,14 +150,14 @@ module _ (all : List Line) (in_order : AreInOrder all) (session : ℕ) where
       → AreInTurn (given_in all session) old.history → AreInTurn (given_in all session) new.history
   turns_by_start stands lines more is other old new submits turns i j d less within behind =
       let c = submits.command in
-      let first = earliest_is (λ line. is_begun line old.history) (λ line. is_answered line old.history) true (given_in lines other) c (start_is_earliest (given_in lines other) old other c submits.may) in
+      let first = earliest_is (λ line. is_begun line old.history) (λ line. is_ended line old.history) true (given_in lines other) c (start_is_earliest (given_in lines other) old other c submits.may) in
       let turn = turn_of lines more other c old.history is first in
       let a = get_or (given_in all session) i d in
       let b = get_or (given_in all session) j d in
-      let answered : c.line ≡ b.line → is_answered a.line old.history ≡ true
+      let answered : c.line ≡ b.line → is_ended a.line old.history ≡ true
       = λ same. let one : c ≡ b = one_in_script all in_order c b turn.there (of_script all session j d within) same in
       turn.turn (ap (λ (x : Given). x.beside) one ∙ behind) (ap (λ (x : Given). x.session) one ∙ own_session all session j d within) i j d less within (sym same) in
-      subst (IsAnsweredBefore a.line b.line) (sym submits.step.1.history)
+      subst (IsEndedBefore a.line b.line) (sym submits.step.1.history)
       (begins_in_turn a.line b.line c.line old.history (entries_of (happening stands c.submission old))
       (other_begins stands c.submission c.session c.line turn.submission.command old turn.submission.is) answered (turns i j d less within behind))
 
@@ -167,4 +167,4 @@ play_takes_turns stands script w play in_order session =
     let given = given_in script.lines session in
     kept_by_parts stands (λ v. AreInTurn given v.history) (turns_by_poll stands given) (turns_by_trim stands given) script
     (turns_by_start script.lines in_order session stands) play.first w play.plays
-    (λ i j d less within behind. subst (IsAnsweredBefore (get_or given i d).line (get_or given j d).line) (sym play.new.history) (nothing_before (get_or given i d).line (get_or given j d).line))
+    (λ i j d less within behind. subst (IsEndedBefore (get_or given i d).line (get_or given j d).line) (sym play.new.history) (nothing_before (get_or given i d).line (get_or given j d).line))

@@ -72,6 +72,7 @@
 
 mod given;
 pub mod laws;
+mod notices;
 mod queue;
 mod rounds;
 mod runner;
