@@ -33,6 +33,10 @@ use Rattle.rbd_schedule.proofs.Passing.{heard_then, passed_more, passed_stays}
 use Rattle.rbd_schedule.proofs.Queues.{commands_with, each_with, set_other, set_there}
 use Rattle.rbd_schedule.proofs.Quiet.{line_held, quiet_event}
 
+told_delivers : (number : ℕ) (e : Event) → is_one_of number (told_by e) ≡ delivers number e
+told_delivers number (event.Deliver other) = refl
+told_delivers number _ = refl
+
 module _ {E : Type 0} where
   pub goes_same : {stands : SessionRequest E → Standing} (old : Runner E) → GoesOn stands old old
   goes_same old = record { keeps = λ keeps. keeps; given = refl; queues = refl; lost = refl }
@@ -82,10 +86,6 @@ module _ {E : Type 0} where
       same = fun_ext (λ number. ap (has_number number) lost)
 
   -- ---- an event that begins no command
-
-  told_delivers : (number : ℕ) (e : Event) → is_one_of number (told_by e) ≡ delivers number e
-  told_delivers number (event.Deliver other) = refl
-  told_delivers number _ = refl
 
   goes_by_event : (stands : SessionRequest E → Standing) (e : Event) (old new : Runner E) (result : Outcome) → IsNoStart e → IsStep stands e old.world result new.world → IsSoundWorld stands new.world
       → new.queues ≡ old.queues → new.lost ≡ old.lost → new.passed ≡ old.passed → new.highest ≡ old.highest

@@ -4,7 +4,7 @@ use Rattle.rbd_world.specs.declared.event.Event.TheVariants as event
 use Rattle.rbd_world.specs.Step.{IsStep}
 use Rattle.rbd_schedule.specs.Playing.{given_to}
 use Rattle.rbd_schedule.specs.declared.runner.Runner.{Runner}
-use Rattle.rbd_schedule.proofs.Goes.{comes_then, goes_by_note, goes_then, has_changer}
+use Rattle.rbd_schedule.proofs.Goes.{comes_then, goes_by_note, goes_then}
 use Rattle.rbd_schedule.proofs.runner.Runner.poll.Goals as goal
 
 pub start_all-requires : goal.start_all-requires

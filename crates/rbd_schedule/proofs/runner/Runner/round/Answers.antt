@@ -4,7 +4,7 @@ use Rattle.rbd_schedule.specs.Deeds.{Deeds}
 use Rattle.rbd_schedule.specs.Playing.{given_to}
 use Rattle.rbd_schedule.specs.Schedule.{Turn}
 use Rattle.rbd_schedule.proofs.Done.{none_done, one_more}
-use Rattle.rbd_schedule.proofs.Goes.{goes_same, goes_then, has_changer}
+use Rattle.rbd_schedule.proofs.Goes.{goes_same, goes_then}
 use Rattle.rbd_schedule.proofs.runner.Runner.round.Goals as goal
 
 pub loop-session-init : goal.loop-session-init
@@ -14,7 +14,7 @@ loop-session-init g c = record {
 }
 
 pub turn-requires : goal.turn-requires
-turn-requires g c = has_changer c.args.self.now c.loop-session.self c.requires c.loop-session.invariant.goes
+turn-requires g c = c.loop-session.invariant.goes.keeps c.requires
 
 pub loop-session-preserved : goal.loop-session-preserved
 loop-session-preserved g c =

@@ -3,7 +3,7 @@ use Rattle.rbd_requests.specs.Session.{stands_of}
 use Rattle.rbd_schedule.specs.Playing.{given_to}
 use Rattle.rbd_schedule.specs.Schedule.{Round, RoundsOn}
 use Rattle.rbd_schedule.proofs.Done.{none_done, one_more}
-use Rattle.rbd_schedule.proofs.Goes.{goes_same, goes_then, has_changer}
+use Rattle.rbd_schedule.proofs.Goes.{goes_same, goes_then}
 use Rattle.rbd_schedule.proofs.runner.Runner.settle.Goals as goal
 
 pub loop-left-init : goal.loop-left-init
@@ -16,7 +16,7 @@ loop-left-init g c = record {
 }
 
 pub round-requires : goal.round-requires
-round-requires g c = has_changer c.args.self.now c.loop-left.self c.requires c.loop-left.invariant.goes
+round-requires g c = c.loop-left.invariant.goes.keeps c.requires
 
 pub loop-left-smaller : goal.loop-left-smaller
 loop-left-smaller g c = omega (arith, c.loop-left-test.true)

@@ -4,7 +4,7 @@ use Rattle.rbd_requests.specs.Session.{stands_of}
 use Rattle.rbd_schedule.specs.Playing.{given_to}
 use Rattle.rbd_schedule.specs.Schedule.{PollsWhere, is_held}
 use Rattle.rbd_schedule.proofs.Done.{idle_on, none_done, one_more}
-use Rattle.rbd_schedule.proofs.Goes.{goes_then, has_changer}
+use Rattle.rbd_schedule.proofs.Goes.{goes_then}
 use Rattle.rbd_schedule.proofs.Polled.{not_held, polls_so}
 use Rattle.rbd_schedule.proofs.runner.Runner.turn.Goals as goal
 
@@ -16,20 +16,20 @@ loop-k-init g c = record {
 }
 
 pub held-held-requires : goal.held-held-requires
-held-held-requires g c = has_changer c.args.self.now c.poll_in.new.self c.requires c.in_ok-went_on.ensures.goes
+held-held-requires g c = c.in_ok-went_on.ensures.goes.keeps c.requires
 
 pub bounds-held-k : goal.bounds-held-k
 bounds-held-k g c =
-    let has = has_changer c.args.self.now c.poll_in.new.self c.requires c.in_ok-went_on.ensures.goes in
-    omega (arith, c.loop-k-test.true, c.highest-k-end.ensures, has.1.most)
+    let has = c.in_ok-went_on.ensures.goes.keeps c.requires in
+    omega (arith, c.loop-k-test.true, c.highest-k-end.ensures, has.most)
 
 pub poll_held-requires : goal.poll_held-requires
-poll_held-requires g c = has_changer c.args.self.now c.loop-k.self c.requires c.loop-k.invariant.goes
+poll_held-requires g c = c.loop-k.invariant.goes.keeps c.requires
 
 pub loop-k-preserved : goal.loop-k-preserved
 loop-k-preserved g c =
-    let has = has_changer c.args.self.now c.poll_in.new.self c.requires c.in_ok-went_on.ensures.goes in
-    let within : c.loop-k.k < 64 = omega (arith, c.loop-k-test.true, c.highest-k-end.ensures, has.1.most) in
+    let has = c.in_ok-went_on.ensures.goes.keeps c.requires in
+    let within : c.loop-k.k < 64 = omega (arith, c.loop-k-test.true, c.highest-k-end.ensures, has.most) in
     record {
       goes = goes_then c.args.self.now c.loop-k.self c.poll_held.new.self c.loop-k.invariant.goes c.in_ok-went_on-2.ensures.goes;
       polls = one_more (λ k. PollsWhere (stands_of g.E.Machine.stands) (given_to c.args.self.now) (is_held c.args.session (k + 1) c.poll_in.new.self.world) c.args.session (k + 1)) c.loop-k.k
@@ -44,7 +44,7 @@ loop-k-preserved g c =
 
 pub returns-clause-turn : goal.returns-clause-turn
 returns-clause-turn g c =
-    let has = has_changer c.args.self.now c.poll_in.new.self c.requires c.in_ok-went_on.ensures.goes in
+    let has = c.in_ok-went_on.ensures.goes.keeps c.requires in
     let all : c.loop-k.k ≡ c.poll_in.new.self.highest = omega (arith, c.loop-k-test.false, c.loop-k.auto.k-end, c.highest-k-end.ensures) in
     record {
       point = record { world = c.poll_in.new.self.world; went_on = c.in_ok-went_on.went_on };
@@ -53,10 +53,10 @@ returns-clause-turn g c =
           (λ k. PollsWhere (stands_of g.E.Machine.stands) (given_to c.args.self.now) (is_held c.args.session (k + 1) c.poll_in.new.self.world) c.args.session (k + 1))
           (64 - c.loop-k.k) c.loop-k.k 64
           (record { world = c.poll_in.new.self.world; went_on = c.in_ok-went_on.went_on }) (record { world = c.loop-k.self.world; went_on = c.loop-k.went_on })
-          (omega (arith, all, has.1.most)) c.loop-k.invariant.polls
+          (omega (arith, all, has.most)) c.loop-k.invariant.polls
           (λ k from below.
           not_held (stands_of g.E.Machine.stands) (given_to c.args.self.now) _ c.args.session (k + 1) (record { world = c.loop-k.self.world; went_on = c.loop-k.went_on })
-          (has.1.above c.args.session (k + 1) (omega (arith, all, from))));
+          (has.above c.args.session (k + 1) (omega (arith, all, from))));
     }
 
 pub returns-clause-goes : goal.returns-clause-goes
