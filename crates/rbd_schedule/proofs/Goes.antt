@@ -293,7 +293,7 @@ module _ {E : Type 0} where
       ap (λ o. to_start (commands_in o) w session) (slice_get_past r.queues.items session past) ∙ none_starts w session
 
 -- a command that may start is one that its session was given
-earliest_is_given : (P : Given → Type 0) (b a : (line : ℕ) → Bool) (before : Bool) (given : List Given) (c : Given) → All P given → earliest b a before given ≡ Some c → P c
+pub earliest_is_given : (P : Given → Type 0) (b a : (line : ℕ) → Bool) (before : Bool) (given : List Given) (c : Given) → All P given → earliest b a before given ≡ Some c → P c
 earliest_is_given P b a before [] c all is = absurd (none-some c is)
 earliest_is_given P b a before (x ∷ given) c all is =
     by (not (b x.line) && (x.beside || before)) (earliest_is_given P b a (before && a x.line) given c (All-tail P x given all)) (All-head P x given all) is

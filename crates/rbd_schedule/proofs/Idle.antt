@@ -305,7 +305,7 @@ module _ {R : Type 0} (stands : R → Standing) where
 
   -- ---- a notice that is delivered
 
-  abbrev HearsOf : (old new : Option (ClientView R)) → Type 0
+  abbrev pub HearsOf : (old new : Option (ClientView R)) → Type 0
   HearsOf None new = new ≡ None
   HearsOf (Some a) None = ⊥
   HearsOf (Some a) (Some b) = (b ≡ a) ⊎ ((n : Notice) × Hears stands n a b)
@@ -337,7 +337,7 @@ module _ {R : Type 0} (stands : R → Standing) where
           go true runs = heard_hears number n home old new runs
           go false runs = nothing_hears number home old new runs
 
-  delivery_leaves : (number : ℕ) (old new : WorldView R) (result : Outcome) → IsStep stands (event.Deliver number) old result new → (s : ℕ) → HearsOf (client_in s old.lives) (client_in s new.lives)
+  pub delivery_leaves : (number : ℕ) (old new : WorldView R) (result : Outcome) → IsStep stands (event.Deliver number) old result new → (s : ℕ) → HearsOf (client_in s old.lives) (client_in s new.lives)
   delivery_leaves number old new result (is, does) s = by (client_then stands (event.Deliver number) (delivered (numbered number old.sites.mail) old.lives) old new does s)
     where
       by : (client_in s new.lives ≡ client_in s old.lives)

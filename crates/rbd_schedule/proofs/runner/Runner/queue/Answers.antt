@@ -7,7 +7,7 @@ use Rattle.rbd_schedule.specs.declared.given.Given.{Given}
 use Rattle.rbd_schedule.specs.Playing.{commands_in, given_to}
 use Rattle.rbd_schedule.proofs.Goes.{keeps_more, one_given}
 use Rattle.rbd_schedule.proofs.Queues.{commands_more}
-use Rattle.rbd_schedule.proofs.runner.Runner.give.Goals as goal
+use Rattle.rbd_schedule.proofs.runner.Runner.queue.Goals as goal
 
 -- the queue of the command's session
 number : (g : _) (c : goal.After-self-in-Some-get_mut-1 g) → c.given.inside.0.0.0 ≡ c.in-Some.given.session
@@ -24,11 +24,11 @@ told g c = sym (ap listed c.in-Some.is) ∙ c.in_ok-given.ensures
 
 pub returns-in-Some-get_mut-clause-keeps : goal.returns-in-Some-get_mut-clause-keeps
 returns-in-Some-get_mut-clause-keeps g c =
-    on_ok_weaker c.push.result (λ commands changer keeps played.
-    keeps_more changer c.args.self.now (record { world = c.args.self.now.world; queues = with_item c.args.self.now.queues c.given.inside.0.0.0 c.push.new.self; answered = c.args.self.now.answered; is_due = true; highest = c.args.self.now.highest })
-    c.in-Some.given c.in-Some-get_mut.queue.now c.push.new.self keeps (there g c) refl refl refl refl
+    on_ok_weaker c.push.result (λ commands played keeps.
+    keeps_more c.args.self.now (record c.args.self.now { queues = with_item c.args.self.now.queues c.given.inside.0.0.0 c.push.new.self; is_due = true })
+    c.in-Some.given c.in-Some-get_mut.queue.now c.push.new.self keeps (there g c) refl
     (ap (λ n. slice_set c.args.self.now.queues.items n c.push.new.self) (number g c)) commands c.push.ensures.front c.push.ensures.next
-    (one_given c.args.line.now.number c.args.line.now.said c.in-Some.given changer (told g c) played)) c.push.ensures.commands
+    (one_given c.args.line.now.number c.args.line.now.said c.in-Some.given (told g c) played)) c.push.ensures.commands
 
 pub returns-in-Some-get_mut-clause-given : goal.returns-in-Some-get_mut-clause-given
 returns-in-Some-get_mut-clause-given g c =
