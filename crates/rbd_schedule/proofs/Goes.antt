@@ -425,9 +425,9 @@ module _ {E : Type 0} where
   }
 
   -- one more notice is lost
-  pub keeps_lost : {stands : SessionRequest E → Standing} (old new : Runner E) (number : ℕ) → KeepsUp stands old → new ≡ record old { lost = new.lost }
-      → ((other : ℕ) → lost_in new other ≡ (lost_in old other || (number == other))) → KeepsUp stands new
-  keeps_lost {stands} old new number keeps rest lost =
+  pub keeps_lost : {stands : SessionRequest E → Standing} (old new : Runner E) (more : (number : ℕ) → Bool) → KeepsUp stands old → new ≡ record old { lost = new.lost }
+      → ((number : ℕ) → lost_in new number ≡ (lost_in old number || more number)) → KeepsUp stands new
+  keeps_lost {stands} old new more keeps rest lost =
       subst (KeepsUp stands) (sym rest) (record {
         sound = keeps.sound;
         quiet = keeps.quiet;
@@ -438,7 +438,7 @@ module _ {E : Type 0} where
         over = keeps.over;
         heard = keeps.heard;
         passed = λ session k below.
-            passed_more stands (lost_in old) (lost_in new) old.world session (k + 1) (λ n is. lost n ∙ or_left (lost_in old n) (number == n) is) (keeps.passed session k below);
+            passed_more stands (lost_in old) (lost_in new) old.world session (k + 1) (λ n is. lost n ∙ or_left (lost_in old n) (more n) is) (keeps.passed session k below);
       })
 
   pub given_none : (r : Runner E) → All IsEmptyQueue r.queues.items → (s : ℕ) → given_to r s ≡ []

@@ -104,18 +104,18 @@ impl<E: Machine + Drop> Runner<E> {
         ensures queues { OnOk result (length self.new.queues.items ≡ length self.old.queues.items) }
         ensures world { OnOk result (self.new.world ≡ self.old.world) }
     {
-        if let Said::Lose(number) = &line.said {
-            return self.lose(*number);
-        }
+        self.lose_by(&line.said)?;
         self.queue(line)
     }
 
-    /// No settle delivers the notice any more.
-    fn lose(&mut self, number: Number) -> Result<(), NoMemory>
-        ensures lost { OnOk result ((other : ℕ) → lost_in self.new other ≡ (lost_in self.old other || (number == other))) }
+    /// The notice that a line loses, where it loses one, is one of those that no settle delivers.
+    fn lose_by(&mut self, said: &Said) -> Result<(), NoMemory>
+        ensures lost { OnOk result ((number : ℕ) → lost_in self.new number ≡ (lost_in self.old number || loses number said.now)) }
         ensures rest { self.new ≡ record self.old { lost = self.new.lost } }
     {
-        self.lost.insert(number.get())?;
+        if let Said::Lose(number) = said {
+            self.lost.insert(number.get())?;
+        }
         Ok(())
     }
 
