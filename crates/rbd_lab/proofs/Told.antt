@@ -5,7 +5,7 @@ use Rattle.rbd_kinds.specs.declared.id.SiteId.TheVariants.{A, B}
 use Rattle.rbd_replies.proofs.Worlds.{told_in_world}
 use Rattle.rbd_schedule.specs.InOrder.{AreInOrder}
 use Rattle.rbd_schedule.specs.Playing.{IsPlay, IsPlayable}
-use Rattle.rbd_schedule.proofs.Answered.{plays_end}
+use Rattle.rbd_schedule.proofs.Calmed.{plays_rest}
 use Rattle.rbd_schedule.proofs.Turns.{play_takes_turns}
 use Rattle.rbd_script.specs.declared.script.Script.{Script}
 use Rattle.rbd_site.specs.declared.done.Done.{Done}
@@ -21,7 +21,7 @@ told mode script w playable in_order play history a b of_history of_a of_b text 
   play = play;
   replies = told_in_world stands w play.sound;
   turns = play_takes_turns stands script w play in_order;
-  ends = plays_end stands script w play playable;
+  ends = plays_rest stands script w play;
   tells =
       is
       ∙ ap (λ h. told_text mode script h a b) of_history

@@ -8,7 +8,7 @@ use Rattle.rbd_machine.specs.Plan.{Standing, without_labels}
 use Rattle.rbd_replies.specs.Worlds.{IsToldIn}
 use Rattle.rbd_requests.specs.Session.{stands_of}
 use Rattle.rbd_requests.specs.declared.request.SessionRequest.{SessionRequest}
-use Rattle.rbd_schedule.specs.Ends.{AreAnswered, IsSpent}
+use Rattle.rbd_schedule.specs.Ends.{HasCalmed, IsSpent}
 use Rattle.rbd_schedule.specs.Given.{given_in}
 use Rattle.rbd_schedule.specs.InTurn.{AreInTurn}
 use Rattle.rbd_schedule.specs.Playing.{IsPlay}
@@ -36,12 +36,13 @@ text_of mode script w = told_text mode script w.history (site_in A w.sites).log 
 
 -- The text tells a world that the script's schedule led to, from a new one on: its history, its logs
 -- and its replies. Each reply in this history is the flat-copy machine's, at its place. The commands
--- of a session that wait for each other come one after another. Each command has its reply, unless
--- all the rounds that close a script were played, more than any machine plays.
+-- of a session that wait for each other come one after another. At the end nothing goes on any more:
+-- each command that was begun has its reply, or is lost, or is held up at a lock, or stands behind
+-- such a one; unless all the rounds that close a script were played, more than any machine plays.
 pub record IsTold (mode : Mode) (script : Script) (text : List ℕ) : Type 0 where
   pub world : WorldView Requests
   pub play : IsPlay stands script world
   pub replies : All (IsToldIn play.sound.run) world.history
   pub turns : (session : ℕ) → AreInTurn (given_in script.lines session) world.history
-  pub ends : AreAnswered script world.history ⊎ IsSpent stands script world play
+  pub ends : HasCalmed stands script world ⊎ IsSpent stands script world play
   pub tells : text ≡ text_of mode script world

@@ -1,6 +1,5 @@
 -- Which bytes are a script of built forms, and which fault is told of others.
-use Rattle.std.specs.Prelude.{ℕ, ◌==◌, ◌&&◌, ◌||◌, Bool, true, false, not, if◌then◌else◌, List, [], ◌∷◌, ◌++◌, codes, decimal, Option, Some, None, Result, Ok, Err}
-use Rattle.rbd_known.specs.Calm.{is_change}
+use Rattle.std.specs.Prelude.{ℕ, Bool, true, false, if◌then◌else◌, List, [], ◌∷◌, ◌++◌, codes, decimal, Option, Some, None, Result, Ok, Err}
 use Rattle.rbd_requests.specs.Served.{is_built}
 use Rattle.rbd_script.specs.declared.fault.LineCause.TheVariants.{UnknownWord}
 use Rattle.rbd_script.specs.declared.fault.LineFault.{LineFault}
@@ -13,32 +12,18 @@ use Rattle.rbd_script.specs.Reading.{reading}
 
 -- ---- the forms that are built
 
--- the session that makes the changes is the first that does
-abbrev pub is_only : (session : ℕ) → (changer : Option ℕ) → Bool
-is_only session None = true
-is_only session (Some other) = session == other
-
--- A command that is served; polls, settles and trims. As long as no lock keeps two sessions apart, a
--- change of an image that is there is said by one session alone.
-abbrev pub is_said : (changer : Option ℕ) → Said → Bool
-is_said changer (said.Command session beside command) = is_built command && (not (is_change command) || is_only session changer)
-is_said changer (said.Poll session slot times) = true
-is_said changer (said.Until session slot kind) = true
-is_said changer (said.Settle rounds) = true
-is_said changer (said.Trim site image object) = true
-is_said changer s = false
-
-abbrev pub changer_with : Said → (changer : Option ℕ) → Option ℕ
-changer_with (said.Command session beside command) changer = if is_change command then Some session else changer
-changer_with s changer = changer
+-- each command that is served, and each line of the schedule
+abbrev pub is_said : Said → Bool
+is_said (said.Command session beside command) = is_built command
+is_said s = true
 
 -- the first line with a form that isn't built, by its number
-abbrev pub unbuilt_line : (changer : Option ℕ) → List Line → Option ℕ
-unbuilt_line changer [] = None
-unbuilt_line changer (line ∷ lines) = if is_said changer line.said then unbuilt_line (changer_with line.said changer) lines else Some line.number
+abbrev pub unbuilt_line : List Line → Option ℕ
+unbuilt_line [] = None
+unbuilt_line (line ∷ lines) = if is_said line.said then unbuilt_line lines else Some line.number
 
 abbrev pub first_unbuilt : Script → Option ℕ
-first_unbuilt script = unbuilt_line None script.lines
+first_unbuilt script = unbuilt_line script.lines
 
 -- ---- what is played, or told
 

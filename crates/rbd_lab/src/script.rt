@@ -6,8 +6,7 @@ ghost use Rattle.rbd_schedule.specs.Playing.{IsPlayable};
 ghost use Rattle.rbd_lab.specs.Script as told;
 
 use itoa::Buffer;
-use rbd_kinds::{NoMemory, SessionNo};
-use rbd_known::is_change;
+use rbd_kinds::NoMemory;
 use rbd_requests::is_built;
 use rbd_script::{Line, LineCause, LineFault, Said, Script, ScriptFault, read};
 use std::alloc::Global;
@@ -30,61 +29,29 @@ pub fn judged(alloc: Global, bytes: &[u8]) -> Result<Script, ScriptFault>
     }
 }
 
-/// The first line with a form that isn't built yet, by its number from 1. As long as no lock keeps
-/// two sessions apart, a change by a second session is such a form: the session that is the first
-/// to change an image is the only one.
+/// The first line with a form that isn't built yet, by its number from 1.
 fn first_unbuilt(lines: &[Line]) -> Option<u32>
-    ensures { result ≡ told.unbuilt_line None lines.now }
+    ensures { result ≡ told.unbuilt_line lines.now }
 {
-    let mut changer = None;
     for line in lines {
-        if !is_said(&line.said, &changer) {
+        if !is_said(&line.said) {
             return Some(line.number);
         }
-        changer = changer_with(&line.said, &changer);
     }
     None
 }
 
-/// Whether what a line says is built, where this session made the changes so far.
-fn is_said(said: &Said, changer: &Option<SessionNo>) -> bool
-    ensures { result ≡ told.is_said changer.now said.now }
+/// Whether what a line says is built.
+fn is_said(said: &Said) -> bool
+    ensures { result ≡ told.is_said said.now }
 {
     match said {
         Said::Command {
-            session,
+            session: _,
             beside: _,
             command,
-        } => is_built(command) && (!is_change(command) || is_only(session, changer)),
-        Said::Poll { .. } => true,
-        Said::Until { .. } => true,
-        Said::Settle(_) => true,
-        Said::Trim { .. } => true,
-        _ => false,
-    }
-}
-
-/// Whether no other session made changes.
-fn is_only(session: &SessionNo, changer: &Option<SessionNo>) -> bool
-    ensures { result ≡ told.is_only session.now changer.now }
-{
-    match changer {
-        Some(other) => session == other,
-        None => true,
-    }
-}
-
-/// The session that makes the changes, with this line.
-fn changer_with(said: &Said, changer: &Option<SessionNo>) -> Option<SessionNo>
-    ensures { result ≡ told.changer_with said.now changer.now }
-{
-    match said {
-        Said::Command {
-            session,
-            beside: _,
-            command,
-        } if is_change(command) => Some(*session),
-        _ => *changer,
+        } => is_built(command),
+        _ => true,
     }
 }
 

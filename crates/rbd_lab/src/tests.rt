@@ -211,11 +211,9 @@ fn the_first_fault_is_told(rt: HostRuntime) -> Result<(), Fail> {
 fn a_form_that_isnt_built_is_an_unknown_word(rt: HostRuntime) -> Result<(), Fail> {
     let rows = [
         ("client c1 a\nc1 rm disk\n", "line 2: unknown word\n"),
-        ("client c1 a\n@deliver 1\n", "line 2: unknown word\n"),
-        ("client c1 a\nc1 ls\n@stop c1\n", "line 3: unknown word\n"),
         (
             "client c1 a\n@late c1 1\nc1 flatten disk\n",
-            "line 2: unknown word\n",
+            "line 3: unknown word\n",
         ),
         (
             "client c1 a\nc1 create disk 1 journal\n",
@@ -224,25 +222,6 @@ fn a_form_that_isnt_built_is_an_unknown_word(rt: HostRuntime) -> Result<(), Fail
         (
             "client c1 a\nc1 rm disk\nc1 read disk 00 1\n",
             "line 3: bad number\n",
-        ),
-    ];
-    all_print(&rt, rt.alloc(), "run", Status::BadLine, &rows)
-}
-
-#[test]
-fn a_second_session_that_changes_is_an_unknown_word(rt: HostRuntime) -> Result<(), Fail> {
-    let rows = [
-        (
-            "client c1 a\nclient c2 b\nc1 write d 0 11\nc2 write d 0 22\n",
-            "line 4: unknown word\n",
-        ),
-        (
-            "client c1 a\nclient c2 a\nc2 snap create d@s\nc1 fill d 0 1 11\n",
-            "line 4: unknown word\n",
-        ),
-        (
-            "client c1 a\nclient c2 a\nc1 snap rm d@s\nc2 create d 1\nc2 ls\nc2 snap create d@s\n",
-            "line 6: unknown word\n",
         ),
     ];
     all_print(&rt, rt.alloc(), "run", Status::BadLine, &rows)

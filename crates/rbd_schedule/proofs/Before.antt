@@ -1,4 +1,4 @@
--- Lines that began behind a reply, as the history goes on.
+-- Lines that began behind the end of another, as the history goes on.
 use Rattle.std.proofs.Common.{◌≡◌, ℕ, ◌==◌, ◌⊎◌, inl, inr, true, false, List, [], ◌∷◌, ◌++◌, refl, sym, ap, ◌∙◌}
 use Rattle.std.proofs.lemmas.Bool.{cases_eq, eq-eqb, false≢true, ne_eqb, or_left, or_right}
 use Rattle.rbd_flat.specs.declared.entry.Entry.{Entry}
@@ -6,8 +6,8 @@ use Rattle.rbd_flat.specs.declared.entry.Entry.TheVariants as entry
 use Rattle.rbd_kinds.specs.declared.id.Instance.{Instance}
 use Rattle.rbd_world.specs.Step.{is_begun, is_start_of}
 use Rattle.rbd_world.proofs.Runs.{any_append}
-use Rattle.rbd_schedule.specs.InTurn.{IsAnsweredBefore}
-use Rattle.rbd_schedule.specs.Starts.{is_answered, is_reply_to}
+use Rattle.rbd_schedule.specs.InTurn.{IsEndedBefore}
+use Rattle.rbd_schedule.specs.Starts.{is_ended, is_end_of}
 
 -- An element of two lists, one behind the other, stands in the first or in the second.
 abbrev StandsIn : {X : Type 0} → (xs ys before after : List X) → X → Type 0
@@ -31,31 +31,31 @@ begun_there line before after who =
     ∙ or_right (is_begun line before) (is_begun line (entry.Start line who ∷ after)) (or_left (line == line) (is_begun line after) (eq-eqb line line refl))
 
 -- nothing began yet
-pub nothing_before : (a b : ℕ) → IsAnsweredBefore a b []
+pub nothing_before : (a b : ℕ) → IsEndedBefore a b []
 nothing_before a b [] after who is = absurd (cc)
 nothing_before a b (e ∷ before) after who is = absurd (cc)
 
 -- b doesn't begin by what comes
-pub stays_before : (a b : ℕ) (old more : List Entry) → is_begun b more ≡ false → IsAnsweredBefore a b old → IsAnsweredBefore a b (old ++ more)
+pub stays_before : (a b : ℕ) (old more : List Entry) → is_begun b more ≡ false → IsEndedBefore a b old → IsEndedBefore a b (old ++ more)
 stays_before a b old more none was before after who is = by (stands_in old more before after (entry.Start b who) is)
   where
-    by : StandsIn old more before after (entry.Start b who) → is_answered a before ≡ true
+    by : StandsIn old more before after (entry.Start b who) → is_ended a before ≡ true
     by (inl at) = was before at.0 who at.1
     by (inr at) = absurd (false≢true (sym none ∙ ap (is_begun b) at.2 ∙ begun_there b at.0 after who))
 
--- a has its reply before what comes
-answered_before : (a b : ℕ) (old more : List Entry) → is_answered a old ≡ true → IsAnsweredBefore a b old → IsAnsweredBefore a b (old ++ more)
-answered_before a b old more answered was before after who is = by (stands_in old more before after (entry.Start b who) is)
+-- a ended before what comes
+ended_before : (a b : ℕ) (old more : List Entry) → is_ended a old ≡ true → IsEndedBefore a b old → IsEndedBefore a b (old ++ more)
+ended_before a b old more answered was before after who is = by (stands_in old more before after (entry.Start b who) is)
   where
-    by : StandsIn old more before after (entry.Start b who) → is_answered a before ≡ true
+    by : StandsIn old more before after (entry.Start b who) → is_ended a before ≡ true
     by (inl at) = was before at.0 who at.1
-    by (inr at) = ap (is_answered a) at.1 ∙ any_append (is_reply_to a) old at.0 ∙ or_left (is_answered a old) (is_answered a at.0) answered
+    by (inr at) = ap (is_ended a) at.1 ∙ any_append (is_end_of a) old at.0 ∙ or_left (is_ended a old) (is_ended a at.0) answered
 
--- Only this line begins by what comes; and where it is b, a has its reply before.
-pub begins_in_turn : (a b line : ℕ) (old more : List Entry) → ((other : ℕ) → (line == other) ≡ false → is_begun other more ≡ false) → (line ≡ b → is_answered a old ≡ true)
-    → IsAnsweredBefore a b old → IsAnsweredBefore a b (old ++ more)
+-- Only this line begins by what comes; and where it is b, a ended before.
+pub begins_in_turn : (a b line : ℕ) (old more : List Entry) → ((other : ℕ) → (line == other) ≡ false → is_begun other more ≡ false) → (line ≡ b → is_ended a old ≡ true)
+    → IsEndedBefore a b old → IsEndedBefore a b (old ++ more)
 begins_in_turn a b line old more others answered was = by (cases_eq line b)
   where
-    by : (line ≡ b) ⊎ (line ≡ b → ⊥) → IsAnsweredBefore a b (old ++ more)
-    by (inl same) = answered_before a b old more (answered same) was
+    by : (line ≡ b) ⊎ (line ≡ b → ⊥) → IsEndedBefore a b (old ++ more)
+    by (inl same) = ended_before a b old more (answered same) was
     by (inr other) = stays_before a b old more (others b (ne_eqb line b other)) was

@@ -1,56 +1,37 @@
--- Behind an idle round nobody is in a slot, and each command has its reply.
-use Rattle.std.proofs.Common.{◌≡◌, ℕ, zero, suc, ◌+◌, ◌<◌, ◌≤◌, ◌⊎◌, inl, inr, cond, true, false, List, is_some, Option, Some, None, refl, sym, ap, ◌∙◌, subst, arith}
-use Rattle.std.proofs.lemmas.Bool.{cases_lt, or_right, true≢false}
-use Rattle.std.proofs.lemmas.Option.{none-some}
-use Rattle.rbd_kinds.specs.declared.id.Instance.{Instance}
-use Rattle.rbd_machine.specs.Label.{Label}
-use Rattle.rbd_machine.specs.Plan.{Plan, Ask, Await, Note, Return, Goto, IsAsking, Standing}
-use Rattle.rbd_session.specs.Session.{SessionView, IsSoundSession, held_in, running_in, script_line}
+-- A round in which nothing went on: at its end each slot of each session is still.
+use Rattle.std.proofs.Common.{◌≡◌, ℕ, zero, suc, ◌+◌, ◌<◌, ◌≤◌, ◌==◌, ◌||◌, ◌⊎◌, inl, inr, Bool, true, false, List, length, is_some, Option, Some, None, refl, sym, ap, ◌∙◌, subst, arith}
+use Rattle.std.proofs.lemmas.Bool.{cases_lt, ne_eqb, or_parts, true≢false}
+use Rattle.std.proofs.lemmas.Option.{none-some, same_Some}
+use Rattle.rbd_client.specs.Actor.{actor_at}
+use Rattle.rbd_client.specs.Client.{ClientView}
+use Rattle.rbd_machine.specs.Plan.{Standing}
+use Rattle.rbd_session.specs.Session.{IsSoundSession, SessionView, held_in, script_line}
 use Rattle.rbd_session.specs.declared.running.Occupant.{Occupant}
 use Rattle.rbd_session.specs.declared.running.Occupant.TheVariants as occupant
-use Rattle.rbd_session.specs.declared.running.Running.{Running}
+use Rattle.rbd_world.specs.declared.event.Event.{Event}
 use Rattle.rbd_world.specs.declared.event.Event.TheVariants as event
 use Rattle.rbd_world.specs.declared.event.Outcome.{Outcome}
-use Rattle.rbd_world.specs.declared.sites.Sites.{Sites}
-use Rattle.rbd_world.specs.Run.{Waited, outcome_of}
-use Rattle.rbd_world.specs.Sound.{held_of, line_at}
-use Rattle.rbd_world.specs.Step.{IsStep, done_by, polled, polled_in}
-use Rattle.rbd_world.specs.World.{WorldView, session_in}
+use Rattle.rbd_world.specs.Run.{outcome_of}
+use Rattle.rbd_world.specs.Sound.{held_of}
+use Rattle.rbd_world.specs.Step.{IsStep, polled}
+use Rattle.rbd_world.specs.World.{WorldView, client_in, session_in, session_of}
 use Rattle.rbd_schedule.specs.declared.given.Given.{Given}
 use Rattle.rbd_schedule.specs.Deeds.{Deeds}
-use Rattle.rbd_schedule.specs.Going.{GoesIn, MayGo}
-use Rattle.rbd_schedule.specs.Schedule.{Pace, PollsIn, PollsWhere, Turn, goes_on, is_held}
-use Rattle.rbd_schedule.specs.Starts.{IsQuiet}
-use Rattle.rbd_schedule.proofs.Going.{somebody_goes}
-use Rattle.rbd_schedule.proofs.Idle.{HeldPolls, IsIdleSo, IsSame, idle_poll, idle_polls, idle_where, quiet_poll, quiet_polls, same_itself, same_then}
+use Rattle.rbd_schedule.specs.Notices.{is_due, runs}
+use Rattle.rbd_schedule.specs.Schedule.{Comes, DeliversWhere, Happens, Pace, PollsAll, PollsIn, PollsWhere, Starts, Turn, TurnOf, TurnWhere, goes_on, is_held}
+use Rattle.rbd_schedule.specs.Starts.{IsIdle, IsQuiet}
+use Rattle.rbd_schedule.proofs.Idle.{Asked, IsIdleStep, IsStill, IsStillIn, StaysIn, Told, same_sessions, stays_quiet, stays_still, still_before}
 
--- ---- who may go on goes on by a poll
+-- a slot whose line isn't there is free
+pub free_there : {R : Type 0} (o : Option (Occupant R)) → script_line o ≡ None → o ≡ None
+free_there None is = refl
+free_there (Some (occupant.Refused line refusal)) is = absurd (none-some line (sym is))
+free_there (Some (occupant.Running r)) is = absurd (none-some r.line (sym is))
 
-module _ {R : Type 0} (stands : R → Standing) where
-  goes_plan : (sites : Sites) (who : Instance) (line : ℕ) (labels : Label → Plan) (plan : Plan) → IsAsking plan → goes_on (outcome_of (done_by sites who line labels plan)) ≡ true
-  goes_plan sites who line labels (Ask s why o next) asks = refl
-  goes_plan sites who line labels (Await wait next) asks = absurd asks
-  goes_plan sites who line labels (Note s image e next) asks = absurd asks
-  goes_plan sites who line labels (Return reply) asks = absurd asks
-  goes_plan sites who line labels (Goto label) asks = absurd asks
-
-  goes_held : (sites : Sites) (c : SessionView R) (slot : ℕ) (o : Occupant R) → IsSoundSession stands c → held_in slot c.slots ≡ Some o → GoesIn c slot o → goes_on (outcome_of (polled_in stands sites c slot (Some o))) ≡ true
-  goes_held sites c slot (occupant.Refused line refusal) sound is goes = refl
-  goes_held sites c slot (occupant.Running r) sound is goes =
-      ap (λ b. goes_on (outcome_of (cond b Waited (done_by sites c.instance r.line (stands r.request).labels (stands r.request).plan)))) goes
-      ∙ goes_plan sites c.instance r.line (stands r.request).labels (stands r.request).plan (sound.asks slot r (ap running_in is))
-
-  goes_polled : (sites : Sites) (c : SessionView R) → IsSoundSession stands c → (may : MayGo c) → goes_on (outcome_of (polled stands sites may.slot (Some c))) ≡ true
-  goes_polled sites c sound may =
-      ap (λ o. goes_on (outcome_of (polled_in stands sites c may.slot o))) may.held ∙ goes_held sites c may.slot may.occupant sound may.held may.goes
-
-  -- a poll of its slot is a step
-  goes_step : (session : ℕ) (c : SessionView R) (w : WorldView R) (result : Outcome) (new : WorldView R) → session_in session w.sessions ≡ Some c → IsSoundSession stands c → (may : MayGo c)
-      → IsStep stands (event.Poll session may.slot) w result new → goes_on result ≡ true
-  goes_step session c w result new is sound may step =
-      ap goes_on step.0 ∙ ap (λ o. goes_on (outcome_of (polled stands w.sites may.slot o))) is ∙ goes_polled w.sites c sound may
-
--- ---- a turn in which nobody went on
+unheld_there : {R : Type 0} (o : Option (Occupant R)) → is_some (script_line o) ≡ false → o ≡ None
+unheld_there None is = refl
+unheld_there (Some (occupant.Refused line refusal)) is = absurd (true≢false is)
+unheld_there (Some (occupant.Running r)) is = absurd (true≢false is)
 
 either_way : {P : Type 0} (n m : ℕ) → (n < m → P) → (m ≤ n → P) → P
 either_way {P} n m less more = by (cases_lt n m)
@@ -59,107 +40,247 @@ either_way {P} n m less more = by (cases_lt n m)
     by (inl is) = less is
     by (inr is) = more is
 
-line_there : {R : Type 0} (o : Occupant R) → is_some (script_line (Some o)) ≡ true
-line_there (occupant.Refused line refusal) = refl
-line_there (occupant.Running r) = refl
-
-module _ {R : Type 0} where
-  held_there : (session : ℕ) (c : SessionView R) (w : WorldView R) (slot : ℕ) (o : Occupant R) → session_in session w.sessions ≡ Some c → held_in slot c.slots ≡ Some o → is_held session slot w ≡ true
-  held_there session c w slot o is held = ap (λ x. is_some (script_line (held_of slot x))) is ∙ ap (λ x. is_some (script_line x)) held ∙ line_there o
-
-  -- a slot whose line isn't there is free
-  pub free_there : (o : Option (Occupant R)) → script_line o ≡ None → o ≡ None
-  free_there None is = refl
-  free_there (Some (occupant.Refused line refusal)) is = absurd (none-some line (sym is))
-  free_there (Some (occupant.Running r)) is = absurd (none-some r.line (sym is))
-
 module _ {R : Type 0} (stands : R → Standing) (given : (session : ℕ) → List Given) where
-  polled_there : (session slot n : ℕ) (point old new : Pace R) → slot ≡ n + 1 → is_held session slot point.world ≡ true → PollsWhere stands given (is_held session (n + 1) point.world) session (n + 1) old new
-      → PollsIn stands given session slot old new
-  polled_there session slot n point old new same held polls =
-      subst (λ b. PollsWhere stands given b session slot old new) held
-      (subst (λ k. PollsWhere stands given (is_held session k point.world) session k old new) (sym same) polls)
-
-  -- a poll of who may go on is no idle one
-  no_idle_poll : (session : ℕ) (c : SessionView R) (old new : Pace R) → session_in session old.world.sessions ≡ Some c → IsSoundSession stands c → (may : MayGo c)
-      → PollsIn stands given session may.slot old new → new.went_on ≡ false → ⊥
-  no_idle_poll session c old new is sound may polls still =
-      let goes = goes_step stands session c old.world polls.result polls.comes.between is sound may polls.comes.step in
-      true≢false (sym (or_right old.went_on (goes_on polls.result) goes) ∙ sym polls.pace ∙ still)
-
-  -- who may go on at the point of a turn goes on in it
-  some_goes : (session : ℕ) (point new : Pace R) (c : SessionView R) → session_in session point.world.sessions ≡ Some c → IsSoundSession stands c → (may : MayGo c) → (n : ℕ) → may.slot ≤ n
-      → Deeds (HeldPolls stands given session point) n point new → IsQuiet given point.world → new.went_on ≡ false → ⊥
+  -- where none may start, none does
+  no_starts : (count : ℕ) (old new : WorldView R) → Deeds (λ k. Starts stands given) count old new → IsQuiet given old → new ≡ old
   unfolding Deeds
-  some_goes session point new c is sound may zero within done quiet still = let least = may.within.0 in absurd (omega (arith, least, within))
-  some_goes session point new c is sound may (suc n) within (between, before, it) quiet still =
-      let later = quiet_polls stands given session point n point between before quiet in
-      let last = idle_where stands given (is_held session (n + 1) point.world) session (n + 1) between new it still later in
-      let first = idle_polls stands given session point n point between before last.before quiet in
-      either_way n may.slot
-      (λ less. let at : may.slot ≡ n + 1 = omega (arith, less, within) in
-      no_idle_poll session c between new (first.same.sessions session ∙ is) sound may
-      (polled_there session may.slot n point between new at (held_there session c point.world may.slot may.occupant is may.held) it) still)
-      (λ more. some_goes session point between c is sound may n more before quiet last.before)
+  no_starts zero old new done quiet = done
+  no_starts (suc n) old new (between, before, it) quiet =
+      let same : between ≡ old = no_starts n old between before quiet in
+      absurd (none-some it.submits.command (sym (subst (λ w. IsIdle given w it.session) (sym same) (quiet it.session)) ∙ it.submits.may))
 
-  -- so where none went on, nobody is there
-  nobody_there : (session : ℕ) (point new : Pace R) → ((c : SessionView R) → session_in session point.world.sessions ≡ Some c → IsSoundSession stands c)
-      → Deeds (HeldPolls stands given session point) 64 point new → IsQuiet given point.world → new.went_on ≡ false → (slot : ℕ) → line_at session slot point.world.sessions ≡ None
-  nobody_there session point new sound polls quiet still slot = by (session_in session point.world.sessions) refl
-    where
-      in_slot : (c : SessionView R) → session_in session point.world.sessions ≡ Some c → (o : Option (Occupant R)) → held_in slot c.slots ≡ o → script_line o ≡ None
-      in_slot c is None held = refl
-      in_slot c is (Some o) held =
-          let may = somebody_goes stands c (sound c is) slot o held in
-          absurd (some_goes session point new c is (sound c is) may 64 may.within.1 polls quiet still)
+  -- so an event of an idle round is all that comes
+  told_alone : (number : ℕ) (old new : WorldView R) → Happens stands given (event.Deliver number) old new → IsQuiet given old → IsIdleStep stands old new
+  told_alone number old new happens quiet =
+      let comes = happens.comes in
+      let first : IsIdleStep stands old comes.between = Told number happens.result comes.step in
+      subst (IsIdleStep stands old) (sym (no_starts comes.starts.count comes.between new comes.starts.starts (stays_quiet stands given old comes.between first quiet))) first
 
-      by : (x : Option (SessionView R)) → session_in session point.world.sessions ≡ x → script_line (held_of slot x) ≡ None
-      by None is = refl
-      by (Some c) is = in_slot c is (held_in slot c.slots) refl
+  polled_alone : (session slot : ℕ) (result : Outcome) (old new : WorldView R) → Comes stands given (event.Poll session slot) result old new → goes_on result ≡ false → IsQuiet given old → IsIdleStep stands old new
+  polled_alone session slot result old new comes still quiet =
+      let first : IsIdleStep stands old comes.between = Asked session slot result still comes.step in
+      subst (IsIdleStep stands old) (sym (no_starts comes.starts.count comes.between new comes.starts.starts (stays_quiet stands given old comes.between first quiet))) first
 
-  -- ---- turns and rounds
+  -- ---- nothing went on before either
 
-  pub quiet_turn : (session : ℕ) (old new : Pace R) → Turn stands given session old new → IsQuiet given new.world
-  quiet_turn session old new turn = quiet_polls stands given session turn.point 64 turn.point new turn.held (quiet_poll stands given session 0 old turn.point turn.slot_0)
+  before_poll : (session slot : ℕ) (old new : Pace R) → PollsIn stands given session slot old new → new.went_on ≡ false → old.went_on ≡ false
+  before_poll session slot old new polls still = (or_parts old.went_on (goes_on polls.result) (sym polls.pace ∙ still)).0
 
-  idle_turn : (session : ℕ) (old new : Pace R) → Turn stands given session old new → new.went_on ≡ false → IsQuiet given old.world → IsIdleSo stands given old new
-  idle_turn session old new turn still quiet =
-      let rest = idle_polls stands given session turn.point 64 turn.point new turn.held still (quiet_poll stands given session 0 old turn.point turn.slot_0) in
-      let first = idle_poll stands given session 0 old turn.point turn.slot_0 rest.before quiet in
-      record { before = first.before; same = same_then old.world turn.point.world new.world first.same rest.same }
+  step_of : (session slot : ℕ) (old new : Pace R) → (polls : PollsIn stands given session slot old new) → new.went_on ≡ false → goes_on polls.result ≡ false
+  step_of session slot old new polls still = (or_parts old.went_on (goes_on polls.result) (sym polls.pace ∙ still)).1
 
-  quiet_turns : (n : ℕ) (old new : Pace R) → Deeds (Turn stands given) n old new → IsQuiet given old.world → IsQuiet given new.world
+  before_where : (held : Bool) (session slot : ℕ) (old new : Pace R) → PollsWhere stands given held session slot old new → new.went_on ≡ false → old.went_on ≡ false
+  before_where true session slot old new polls still = before_poll session slot old new polls still
+  before_where false session slot old new same still = subst (λ (p : Pace R). p.went_on ≡ false) same still
+
+  abbrev pub HeldPolls : (session : ℕ) → (point : Pace R) → ℕ → Pace R → Pace R → Type 0
+  HeldPolls session point k = PollsWhere stands given (is_held session (k + 1) point.world) session (k + 1)
+
+  before_polls : (session : ℕ) (point : Pace R) (n : ℕ) (old new : Pace R) → Deeds (HeldPolls session point) n old new → new.went_on ≡ false → old.went_on ≡ false
   unfolding Deeds
-  quiet_turns zero old new done quiet = subst (λ (p : Pace R). IsQuiet given p.world) (sym done) quiet
-  quiet_turns (suc n) old new (between, before, it) quiet = quiet_turn n between new it
+  before_polls session point zero old new done still = subst (λ (p : Pace R). p.went_on ≡ false) done still
+  before_polls session point (suc n) old new (between, first, it) still =
+      before_polls session point n old between first (before_where (is_held session (n + 1) point.world) session (n + 1) between new it still)
 
-  pub idle_turns : (n : ℕ) (old new : Pace R) → Deeds (Turn stands given) n old new → new.went_on ≡ false → IsQuiet given old.world → IsIdleSo stands given old new
-  unfolding Deeds
-  idle_turns zero old new done still quiet = record {
-    before = subst (λ (p : Pace R). p.went_on ≡ false) done still;
-    same = subst (λ (p : Pace R). IsSame old.world p.world) (sym done) (same_itself old.world);
-  }
-  idle_turns (suc n) old new (between, before, it) still quiet =
-      let last = idle_turn n between new it still (quiet_turns n old between before quiet) in
-      let rest = idle_turns n old between before last.before quiet in
-      record { before = rest.before; same = same_then old.world between.world new.world rest.same last.same }
+  before_all : (session : ℕ) (old new : Pace R) → PollsAll stands given session old new → new.went_on ≡ false → old.went_on ≡ false
+  before_all session old new polls still = before_poll session 0 old polls.point polls.slot_0 (before_polls session polls.point 64 polls.point new polls.held still)
 
-  -- in an idle round nobody is in a slot of the sessions that had their turn
-  pub nobody_in_turns : (n : ℕ) (old new : Pace R) → ((session : ℕ) (c : SessionView R) → session_in session old.world.sessions ≡ Some c → IsSoundSession stands c)
-      → Deeds (Turn stands given) n old new → new.went_on ≡ false → IsQuiet given old.world → (session : ℕ) → session < n → (slot : ℕ) → line_at session slot old.world.sessions ≡ None
+  module _ (lost : (number : ℕ) → Bool) where
+    before_turn : (running : Bool) (session : ℕ) (old new : Pace R) → TurnWhere stands given lost running session old new → new.went_on ≡ false → old.went_on ≡ false
+    before_turn true session old new turn still = before_all session (record { world = turn.told; went_on = old.went_on }) new turn.polls still
+    before_turn false session old new same still = subst (λ (p : Pace R). p.went_on ≡ false) same still
+
+  -- ---- what each of these events keeps, an idle round keeps, and its parts
+
+  module _ (P : WorldView R → Type 0) (step : (a b : WorldView R) → IsIdleStep stands a b → P a → P b) where
+    -- it holds again, and none may start
+    abbrev Keeps : WorldView R → Type 0
+    Keeps w = P w × IsQuiet given w
+
+    keeps_step : (a b : WorldView R) → IsIdleStep stands a b → Keeps a → Keeps b
+    keeps_step a b is (holds, quiet) = (step a b is holds, stays_quiet stands given a b is quiet)
+
+    pub keeps_poll : (session slot : ℕ) (old new : Pace R) → PollsIn stands given session slot old new → new.went_on ≡ false → Keeps old.world → Keeps new.world
+    keeps_poll session slot old new polls still keeps =
+        keeps_step old.world new.world (polled_alone session slot polls.result old.world new.world polls.comes (step_of session slot old new polls still) keeps.1) keeps
+
+    pub keeps_where : (held : Bool) (session slot : ℕ) (old new : Pace R) → PollsWhere stands given held session slot old new → new.went_on ≡ false → Keeps old.world → Keeps new.world
+    keeps_where true session slot old new polls still keeps = keeps_poll session slot old new polls still keeps
+    keeps_where false session slot old new same still keeps = subst (λ (p : Pace R). Keeps p.world) (sym same) keeps
+
+    pub keeps_polls : (session : ℕ) (point : Pace R) (n : ℕ) (old new : Pace R) → Deeds (HeldPolls session point) n old new → new.went_on ≡ false → Keeps old.world → Keeps new.world
+    unfolding Deeds
+    keeps_polls session point zero old new done still keeps = subst (λ (p : Pace R). Keeps p.world) (sym done) keeps
+    keeps_polls session point (suc n) old new (between, first, it) still keeps =
+        keeps_where (is_held session (n + 1) point.world) session (n + 1) between new it still
+        (keeps_polls session point n old between first (before_where (is_held session (n + 1) point.world) session (n + 1) between new it still) keeps)
+
+    pub keeps_all : (session : ℕ) (old new : Pace R) → PollsAll stands given session old new → new.went_on ≡ false → Keeps old.world → Keeps new.world
+    keeps_all session old new polls still keeps =
+        keeps_polls session polls.point 64 polls.point new polls.held still
+        (keeps_poll session 0 old polls.point polls.slot_0 (before_polls session polls.point 64 polls.point new polls.held still) keeps)
+
+    keeps_due : (due : Bool) (number : ℕ) (old new : WorldView R) → DeliversWhere stands given due number old new → Keeps old → Keeps new
+    keeps_due true number old new happens keeps = keeps_step old new (told_alone number old new happens keeps.1) keeps
+    keeps_due false number old new same keeps = subst Keeps (sym same) keeps
+
+    pub keeps_dues : (due : ℕ → Bool) (n : ℕ) (old new : WorldView R) → Deeds (λ k. DeliversWhere stands given (due k) (k + 1)) n old new → Keeps old → Keeps new
+    unfolding Deeds
+    keeps_dues due zero old new done keeps = subst Keeps (sym done) keeps
+    keeps_dues due (suc n) old new (between, first, it) keeps = keeps_due (due n) (n + 1) between new it (keeps_dues due n old between first keeps)
+
+    module _ (lost : (number : ℕ) → Bool) where
+      pub keeps_turn : (running : Bool) (session : ℕ) (old new : Pace R) → TurnWhere stands given lost running session old new → new.went_on ≡ false → Keeps old.world → Keeps new.world
+      keeps_turn true session old new turn still keeps =
+          keeps_all session (record { world = turn.told; went_on = old.went_on }) new turn.polls still
+          (keeps_dues (λ k. is_due lost session (k + 1) old.world) (length old.world.sites.mail) old.world turn.told turn.notices keeps)
+      keeps_turn false session old new same still keeps = subst (λ (p : Pace R). Keeps p.world) (sym same) keeps
+
+      pub keeps_turns : (n : ℕ) (old new : Pace R) → Deeds (TurnOf stands given lost) n old new → new.went_on ≡ false → Keeps old.world → Keeps new.world
+      unfolding Deeds
+      keeps_turns zero old new done still keeps = subst (λ (p : Pace R). Keeps p.world) (sym done) keeps
+      keeps_turns (suc n) old new (between, first, it) still keeps =
+          keeps_turn (runs n between.world) n between new it still (keeps_turns n old between first (before_turn lost (runs n between.world) n between new it still) keeps)
+
+  -- ---- sessions with their requests
+
+  abbrev pub AreSoundSessions : WorldView R → Type 0
+  AreSoundSessions w = (s : ℕ) (c : ClientView R) → client_in s w.lives ≡ Some c → IsSoundSession stands c.session
+
+  session_at : (s : ℕ) (w : WorldView R) (c : ClientView R) → client_in s w.lives ≡ Some c → session_in s w.lives ≡ Some c.session
+  session_at s w c is = ap session_of is
+
+  client_of : (s : ℕ) (o : Option (ClientView R)) (x : SessionView R) → session_of o ≡ Some x → (c : ClientView R) × (o ≡ Some c) × (c.session ≡ x)
+  client_of s None x is = absurd (none-some x is)
+  client_of s (Some c) x is = (c, refl, same_Some c.session x is)
+
+  -- where the requests are the same, they are sound again
+  pub sound_again : (old new : WorldView R) → ((s : ℕ) → session_in s new.lives ≡ session_in s old.lives) → AreSoundSessions old → AreSoundSessions new
+  sound_again old new same sound s c is =
+      let was = client_of s (client_in s old.lives) c.session (sym (same s) ∙ session_at s new c is) in
+      subst (IsSoundSession stands) was.2 (sound s was.0 was.1)
+
+  pub sounds_step : (a b : WorldView R) → IsIdleStep stands a b → AreSoundSessions a → AreSoundSessions b
+  sounds_step a b is sound = sound_again a b (same_sessions stands a b is) sound
+
+  -- the requests are those of an earlier world
+  abbrev pub HasRequestsOf : (before w : WorldView R) → Type 0
+  HasRequestsOf before w = (s : ℕ) → session_in s w.lives ≡ session_in s before.lives
+
+  pub requests_step : (before a b : WorldView R) → IsIdleStep stands a b → HasRequestsOf before a → HasRequestsOf before b
+  requests_step before a b is same s = same_sessions stands a b is s ∙ same s
+
+  -- ---- a slot that was polled is still
+
+  still_by_poll : (session slot : ℕ) (old new : WorldView R) (result : Outcome) → IsStep stands (event.Poll session slot) old result new → goes_on result ≡ false → AreSoundSessions old → IsStillIn stands session slot old
+  still_by_poll session slot old new result (is, does) still sound c at =
+      still_before stands old.sites c slot (sound session c at)
+      (ap (λ o. goes_on (outcome_of (polled stands old.sites slot o))) (sym at) ∙ sym (ap goes_on is) ∙ still)
+
+  not_zero : (k : ℕ) → ((k + 1) == 0) ≡ false
+  not_zero k = ne_eqb (k + 1) 0 (λ is. absurd (omega (arith, is)))
+
+  -- a slot that was polled, or wasn't held
+  still_where : (held : Bool) (session k : ℕ) (point old new : Pace R) → is_held session (k + 1) point.world ≡ held → PollsWhere stands given held session (k + 1) old new → new.went_on ≡ false
+      → IsQuiet given old.world → AreSoundSessions old.world → HasRequestsOf point.world old.world → IsStillIn stands session (k + 1) new.world
+  still_where true session k point old new at polls still quiet sound same =
+      let none = step_of session (k + 1) old new polls still in
+      let alone = polled_alone session (k + 1) polls.result old.world new.world polls.comes none quiet in
+      stays_still stands session (k + 1) (not_zero k) old.world new.world alone
+      (still_by_poll session (k + 1) old.world polls.comes.between polls.result polls.comes.step none sound)
+  still_where false session k point old new at same_pace still quiet sound same = λ c is.
+      let there : session_in session point.world.lives ≡ Some c.session = sym (same session) ∙ session_at session old.world c (ap (λ (p : Pace R). client_in session p.world.lives) (sym same_pace) ∙ is) in
+      let free : held_in (k + 1) c.session.slots ≡ None = unheld_there (held_in (k + 1) c.session.slots) (sym (ap (λ x. is_some (script_line (held_of (k + 1) x))) there) ∙ at) in
+      subst (StaysIn (k + 1) c.session.lines (actor_at stands (k + 1) c)) (sym free) tt
+
+  -- so each of them is, behind the polls of a turn
+  still_polls : (session : ℕ) (point : Pace R) (n : ℕ) (new : Pace R) → Deeds (HeldPolls session point) n point new → new.went_on ≡ false → IsQuiet given point.world → AreSoundSessions point.world
+      → (k : ℕ) → k < n → IsStillIn stands session (k + 1) new.world
   unfolding Deeds
-  nobody_in_turns zero old new sound done still quiet session below slot = absurd (omega (arith, below))
-  nobody_in_turns (suc n) old new sound (between, before, it) still quiet session below slot =
-      let later = quiet_turns n old between before quiet in
-      let last = idle_turn n between new it still later in
-      let rest = idle_turns n old between before last.before quiet in
-      let at_point = quiet_poll stands given n 0 between it.point it.slot_0 in
-      let polls = idle_polls stands given n it.point 64 it.point new it.held still at_point in
-      let first = idle_poll stands given n 0 between it.point it.slot_0 polls.before later in
-      let same = same_then old.world between.world it.point.world rest.same first.same in
-      either_way session n
-      (λ less. nobody_in_turns n old between sound before last.before quiet session less slot)
-      (λ more. let at : session ≡ n = omega (arith, below, more) in
-      subst (λ k. line_at k slot old.world.sessions ≡ None) (sym at)
-      (ap (λ x. script_line (held_of slot x)) (sym (same.sessions n))
-      ∙ nobody_there n it.point new (λ c is. sound n c (sym (same.sessions n) ∙ is)) it.held at_point still slot))
+  still_polls session point zero new done still quiet sound k below = absurd (omega (arith, below))
+  still_polls session point (suc n) new (between, first, it) still quiet sound k below =
+      let before = before_where (is_held session (n + 1) point.world) session (n + 1) between new it still in
+      let sounds = keeps_polls AreSoundSessions sounds_step session point n point between first before (sound, quiet) in
+      let requests = keeps_polls (HasRequestsOf point.world) (requests_step point.world) session point n point between first before ((λ s. refl), quiet) in
+      either_way k n
+      (λ less. (keeps_where (IsStillIn stands session (k + 1)) (stays_still stands session (k + 1) (not_zero k)) (is_held session (n + 1) point.world) session (n + 1) between new it still
+      (still_polls session point n between first before quiet sound k less, sounds.1)).0)
+      (λ more.
+      let same : k ≡ n = omega (arith, below, more) in
+      subst (λ j. IsStillIn stands session (j + 1) new.world) (sym same)
+      (still_where (is_held session (n + 1) point.world) session n point between new refl it still sounds.1 sounds.0 requests.0))
+
+  module _ (lost : (number : ℕ) → Bool) where
+    stopped_still : (session slot : ℕ) (w : WorldView R) → runs session w ≡ false → IsStillIn stands session slot w
+    stopped_still session slot w none c is = absurd (true≢false (sym (ap is_some is) ∙ none))
+
+    still_turn : (running : Bool) (session : ℕ) (old new : Pace R) → runs session old.world ≡ running → TurnWhere stands given lost running session old new → new.went_on ≡ false → IsQuiet given old.world
+        → AreSoundSessions old.world → (k : ℕ) → k < 64 → IsStillIn stands session (k + 1) new.world
+    still_turn true session old new at turn still quiet sound k below =
+        let polls = turn.polls in
+        let before = before_polls session polls.point 64 polls.point new polls.held still in
+        let told = keeps_dues AreSoundSessions sounds_step (λ k. is_due lost session (k + 1) old.world) (length old.world.sites.mail) old.world turn.told turn.notices (sound, quiet) in
+        let point = keeps_poll AreSoundSessions sounds_step session 0 (record { world = turn.told; went_on = old.went_on }) polls.point polls.slot_0 before told in
+        still_polls session polls.point 64 new polls.held still point.1 point.0 k below
+    still_turn false session old new at same still quiet sound k below =
+        subst (λ (p : Pace R). IsStillIn stands session (k + 1) p.world) (sym same) (stopped_still session (k + 1) old.world at)
+
+    -- and behind a round, those of all sessions
+    pub still_turns : (n : ℕ) (old new : Pace R) → Deeds (TurnOf stands given lost) n old new → new.went_on ≡ false → IsQuiet given old.world → AreSoundSessions old.world
+        → (session : ℕ) → session < n → (k : ℕ) → k < 64 → IsStillIn stands session (k + 1) new.world
+    unfolding Deeds
+    still_turns zero old new done still quiet sound session below k within = absurd (omega (arith, below))
+    still_turns (suc n) old new (between, first, it) still quiet sound session below k within =
+        let before = before_turn lost (runs n between.world) n between new it still in
+        let sounds = keeps_turns AreSoundSessions sounds_step lost n old between first before (sound, quiet) in
+        either_way session n
+        (λ less. (keeps_turn (IsStillIn stands session (k + 1)) (stays_still stands session (k + 1) (not_zero k)) lost (runs n between.world) n between new it still
+        (still_turns n old between first before quiet sound session less k within, sounds.1)).0)
+        (λ more.
+        let same : session ≡ n = omega (arith, below, more) in
+        subst (λ s. IsStillIn stands s (k + 1) new.world) (sym same) (still_turn (runs n between.world) n between new refl it still sounds.1 sounds.0 k within))
+
+    -- ---- whether none may start behind a round
+
+    quiet_where : (held : Bool) (session slot : ℕ) (old new : Pace R) → PollsWhere stands given held session slot old new → IsQuiet given old.world → IsQuiet given new.world
+    quiet_where true session slot old new polls quiet = polls.comes.starts.quiet
+    quiet_where false session slot old new same quiet = subst (λ (p : Pace R). IsQuiet given p.world) (sym same) quiet
+
+    quiet_polls : (session : ℕ) (point : Pace R) (n : ℕ) (old new : Pace R) → Deeds (HeldPolls session point) n old new → IsQuiet given old.world → IsQuiet given new.world
+    unfolding Deeds
+    quiet_polls session point zero old new done quiet = subst (λ (p : Pace R). IsQuiet given p.world) (sym done) quiet
+    quiet_polls session point (suc n) old new (between, first, it) quiet = quiet_where (is_held session (n + 1) point.world) session (n + 1) between new it (quiet_polls session point n old between first quiet)
+
+    -- none runs of the first so many
+    abbrev pub NoneRuns : (n : ℕ) → WorldView R → Type 0
+    NoneRuns n w = (s : ℕ) → s < n → runs s w ≡ false
+
+    quiet_turn : (running : Bool) (n : ℕ) (old between new : Pace R) → runs n between.world ≡ running → TurnWhere stands given lost running n between new
+        → IsQuiet given between.world ⊎ ((between ≡ old) × NoneRuns n between.world) → IsQuiet given new.world ⊎ ((new ≡ old) × NoneRuns (suc n) new.world)
+    quiet_turn true n old between new at turn so_far = inl (quiet_polls n turn.polls.point 64 turn.polls.point new turn.polls.held turn.polls.slot_0.comes.starts.quiet)
+    quiet_turn false n old between new at same (inl quiet) = inl (subst (λ (p : Pace R). IsQuiet given p.world) (sym same) quiet)
+    quiet_turn false n old between new at same (inr (was, none)) = inr (
+      same ∙ was,
+      λ s below. subst (λ (p : Pace R). runs s p.world ≡ false) (sym same)
+          (either_way s n (none s) (λ more. let is : s ≡ n = omega (arith, below, more) in subst (λ k. runs k between.world ≡ false) (sym is) at)),
+    )
+
+    pub quiet_turns : (n : ℕ) (old new : Pace R) → Deeds (TurnOf stands given lost) n old new → IsQuiet given new.world ⊎ ((new ≡ old) × NoneRuns n new.world)
+    unfolding Deeds
+    quiet_turns zero old new done = inr (done, λ s below. absurd (omega (arith, below)))
+    quiet_turns (suc n) old new (between, first, it) = quiet_turn (runs n between.world) n old between new refl it (quiet_turns n old between first)
+
+    -- where none runs, nothing happens in a round
+    skip_turn : (running : Bool) (session : ℕ) (old new : Pace R) → runs session old.world ≡ running → runs session old.world ≡ false → TurnWhere stands given lost running session old new → new ≡ old
+    skip_turn true session old new at none turn = absurd (true≢false (sym at ∙ none))
+    skip_turn false session old new at none same = same
+
+    skip_turns : (n : ℕ) (old new : Pace R) → Deeds (TurnOf stands given lost) n old new → NoneRuns n old.world → new ≡ old
+    unfolding Deeds
+    skip_turns zero old new done none = done
+    skip_turns (suc n) old new (between, first, it) none =
+        let same : between ≡ old = skip_turns n old between first (λ s below. none s (omega (arith, below))) in
+        skip_turn (runs n between.world) n between new refl (ap (λ (p : Pace R). runs n p.world) same ∙ none n (omega arith)) it ∙ same
+
+    pub none_still : (n : ℕ) (old new : Pace R) → Deeds (TurnOf stands given lost) n old new → NoneRuns n old.world → NoneRuns n new.world
+    none_still n old new turns none = subst (λ (p : Pace R). NoneRuns n p.world) (sym (skip_turns n old new turns none)) none

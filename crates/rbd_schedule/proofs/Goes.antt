@@ -1,189 +1,275 @@
 -- The runner goes on: one part after another.
 use mathlib.Core.Path.{fun_ext}
-use Rattle.std.proofs.Common.{◌≡◌, ℕ, zero, suc, ◌++◌, take, ◌<◌, ◌≤◌, ◌||◌, ◌&&◌, ◌∷◌, not, cond, Bool, true, false, List, All, length, slice_set, slice_get, is_some, IfSome, length-set, get_or, arith, [], Option, Some, None, refl, sym, ap, ◌∙◌, subst}
-use Rattle.std.proofs.lemmas.Bool.{false≢true, or_left, or_parts}
+use Rattle.std.proofs.Common.{◌≡◌, ℕ, zero, suc, ◌+◌, ◌++◌, drop, take, ◌<◌, ◌≤◌, ◌==◌, ◌||◌, ◌&&◌, ◌∷◌, ◌⊎◌, inl, inr, not, cond, Bool, true, false, List, All, length, slice_set, slice_get, is_some, IfSome, length-set, get_or, arith, [], Option, Some, None, refl, sym, ap, ◌∙◌, subst}
+use Rattle.std.proofs.lemmas.Bool.{cases_eq, false≢true, or_left, or_parts}
 use Rattle.std.proofs.lemmas.List.Elements.{All-get_or, All-head, All-nil, All-same, All-tail}
 use Rattle.std.proofs.lemmas.Option.{IfSome_then, get_or_from_slice_get, none-some, same_Some, slice_get_past, slice_get_read, slice_get_within}
-use Rattle.rbd_kinds.specs.declared.id.SiteId.{SiteId}
+use Rattle.rbd_client.specs.Client.{ClientView}
+use Rattle.rbd_flat.specs.declared.entry.Entry.{Entry}
 use Rattle.rbd_machine.specs.Plan.{Standing}
 use Rattle.rbd_requests.specs.declared.request.SessionRequest.{SessionRequest}
-use Rattle.rbd_flat.specs.declared.entry.Entry.{Entry}
 use Rattle.rbd_script.specs.declared.script.Said.{Said}
 use Rattle.rbd_script.specs.declared.script.Said.TheVariants as said
-use Rattle.rbd_world.specs.declared.event.Call.{Call}
+use Rattle.rbd_session.specs.Session.{held_in, script_line}
 use Rattle.rbd_world.specs.declared.event.Event.{Event}
 use Rattle.rbd_world.specs.declared.event.Event.TheVariants as event
 use Rattle.rbd_world.specs.declared.event.Outcome.{Outcome}
-use Rattle.rbd_session.specs.Session.{SessionView, held_in, script_line}
-use Rattle.rbd_world.specs.Sound.{IsNewWorld, IsSoundWorld, held_of, line_at}
-use Rattle.rbd_world.specs.Step.{AreOfOneClient, IsChangeOf, IsStep, happening, is_begun}
-use Rattle.rbd_world.specs.World.{WorldView, free_in, session_in}
+use Rattle.rbd_world.specs.Sound.{IsNewWorld, IsSoundWorld, held_of}
+use Rattle.rbd_world.specs.Step.{IsStep, happening, is_begun}
+use Rattle.rbd_world.specs.World.{LivesView, WorldView, client_in, free_in, lives_in, running_of, session_of}
 use Rattle.rbd_schedule.specs.declared.given.Given.{Given}
 use Rattle.rbd_schedule.specs.declared.queue.Queue.{Queue}
 use Rattle.rbd_schedule.specs.declared.runner.Runner.{Runner}
-use Rattle.rbd_schedule.specs.Playing.{GoesOn, HasChanger, IsEmptyQueue, IsGiven, IsPlayed, IsQueue, IsQueueIn, KeepsUp, StartsIf, answers, at_place, commands_in, given_to, has_line, has_reply_by, highest_after, is_beside, is_over}
+use Rattle.rbd_schedule.specs.Notices.{delivers, hears, is_heard, was_heard}
+use Rattle.rbd_schedule.specs.Playing.{GoesOn, IsEmptyQueue, IsGiven, IsNoStart, IsPassed, IsPlayed, IsQueue, IsQueueIn, KeepsUp, StartsIf, at_place, commands_in, count_of, given_to, has_line, has_number, highest_after, is_beside, is_one_of, is_over, lets_start, lost_in, passed_by, told_by}
 use Rattle.rbd_schedule.specs.Given.{given_by}
 use Rattle.rbd_schedule.specs.Schedule.{Comes, Starts, StartsAll, is_held}
-use Rattle.rbd_schedule.specs.Starts.{IsQuiet, earliest, is_answered, to_start}
-use Rattle.rbd_schedule.proofs.Above.{poll_above, submit_above, submit_most, trim_above}
-use Rattle.rbd_schedule.proofs.Entries.{begun_stays, poll_answers, start_is_earliest, starting_begins, submit_answers, trim_answers}
-use Rattle.rbd_schedule.proofs.Keeping.{calls_stay, queue_in_stays, queue_more}
+use Rattle.rbd_schedule.specs.Starts.{IsQuiet, earliest, is_ended, to_start}
+use Rattle.rbd_schedule.proofs.Above.{event_above, submit_above, submit_most}
+use Rattle.rbd_schedule.proofs.Entries.{begun_stays, ended_by_step, ended_stays, start_is_earliest, starting_begins, submit_ends}
+use Rattle.rbd_schedule.proofs.Keeping.{queue_in_stays, queue_more}
 use Rattle.rbd_schedule.proofs.Left.{left_in, one_fewer, one_fewer_in}
-use Rattle.rbd_schedule.proofs.Quiet.{line_held, quiet_poll, quiet_trim}
-use Rattle.rbd_schedule.proofs.Queues.{commands_with, each_with}
+use Rattle.rbd_schedule.proofs.Passing.{heard_then, passed_more, passed_stays}
+use Rattle.rbd_schedule.proofs.Queues.{commands_with, each_with, set_other, set_there}
+use Rattle.rbd_schedule.proofs.Quiet.{line_held, quiet_event}
+
+told_delivers : (number : ℕ) (e : Event) → is_one_of number (told_by e) ≡ delivers number e
+told_delivers number (event.Deliver other) = refl
+told_delivers number _ = refl
 
 module _ {E : Type 0} where
   pub goes_same : {stands : SessionRequest E → Standing} (old : Runner E) → GoesOn stands old old
-  goes_same old = record { keeps = λ changer keeps. keeps; sound = λ sound. sound; given = refl; queues = refl }
+  goes_same old = record { keeps = λ keeps. keeps; given = refl; queues = refl; lost = refl }
 
   pub goes_then : {stands : SessionRequest E → Standing} (old between new : Runner E) → GoesOn stands old between → GoesOn stands between new → GoesOn stands old new
   goes_then old between new first second = record {
-    keeps = λ changer keeps. second.keeps changer (first.keeps changer keeps);
-    sound = λ sound. second.sound (first.sound sound);
+    keeps = λ keeps. second.keeps (first.keeps keeps);
     given = second.given ∙ first.given;
     queues = second.queues ∙ first.queues;
+    lost = second.lost ∙ first.lost;
   }
 
-  pub has_changer : {stands : SessionRequest E → Standing} (old new : Runner E) → HasChanger old → GoesOn stands old new → HasChanger new
-  has_changer old new keeps goes = (keeps.0, goes.keeps keeps.0 keeps.1)
-
-  -- an event of this session's changes, or of none
-  pub one_client : (r : Runner E) (e : Event) → (keeps : HasChanger r) → IsChangeOf keeps.0 e → AreOfOneClient r.world.calls e
-  one_client r e keeps is = record { client = keeps.0; before = keeps.1.calls; now = is }
-
-  -- the world took a step, and the lines that were answered by it were noted
-  pub goes_by_step : (stands : SessionRequest E → Standing) (e : Event) (old new : Runner E) (result : Outcome) → ((changer : ℕ) → KeepsUp changer old → IsChangeOf changer e)
-      → IsStep stands e old.world result new.world → IsSoundWorld stands new.world → new.queues ≡ old.queues
-      → ((line : ℕ) → has_line line old.answered ≡ is_answered line old.world.history → has_line line new.answered ≡ is_answered line new.world.history)
-      → ((line : ℕ) → is_answered line old.world.history ≡ true → is_answered line new.world.history ≡ true)
-      → (HasChanger old → new.is_due ≡ false → IsQuiet (given_to old) new.world) → (old.highest ≤ 64 → new.highest ≤ 64)
-      → (((s slot : ℕ) → old.highest < slot → is_held s slot old.world ≡ false) → (s slot : ℕ) → new.highest < slot → is_held s slot new.world ≡ false)
+  -- the world took a step, and what the runner keeps beside it is true of it again
+  goes_by_step : (stands : SessionRequest E → Standing) (e : Event) (old new : Runner E) (result : Outcome) → IsStep stands e old.world result new.world → IsSoundWorld stands new.world
+      → new.queues ≡ old.queues → new.lost ≡ old.lost → new.passed ≡ old.passed
+      → (KeepsUp stands old → (line : ℕ) → has_line line new.over ≡ is_ended line new.world.history)
+      → (KeepsUp stands old → (number : ℕ) → has_number number new.heard ≡ was_heard number new.world.calls)
+      → (KeepsUp stands old → new.is_due ≡ false → IsQuiet (given_to old) new.world) → (KeepsUp stands old → new.highest ≤ 64)
+      → (KeepsUp stands old → (s slot : ℕ) → new.highest < slot → is_held s slot new.world ≡ false)
       → GoesOn stands old new
-  goes_by_step stands e old new result mine step sound queues answered stays quiet most above = record {
-    keeps = λ changer keeps. record {
-      quiet = λ due. subst (λ given. IsQuiet given new.world) (sym given) (quiet (changer, keeps) due);
-      most = most keeps.most;
-      above = above keeps.above;
+  goes_by_step stands e old new result step sound queues lost passed over heard quiet most above = record {
+    keeps = λ keeps. record {
+      sound = sound;
+      quiet = λ due. subst (λ given. IsQuiet given new.world) (sym given) (quiet keeps due);
+      most = most keeps;
+      above = above keeps;
       few = subst (λ qs. length qs.items ≤ 32) (sym queues) keeps.few;
-      calls = calls_stay stands changer e (happening stands e old.world) old.world new.world step.1 (mine changer keeps) keeps.calls;
       queues = λ session q is.
-          queue_in_stays changer old.world.history new.world.history session q (begun_stays stands e (happening stands e old.world) old.world new.world step.1) stays
-          (keeps.queues session q (ap (λ qs. slice_get qs.items session) (sym queues) ∙ is));
-      answered = λ line. answered line (keeps.answered line);
+          queue_in_stays old.world.history new.world.history session q (begun_stays stands e (happening stands e old.world) old.world new.world step.1)
+          (ended_stays stands e (happening stands e old.world) old.world new.world step.1) (keeps.queues session q (ap (λ qs. slice_get qs.items session) (sym queues) ∙ is));
+      over = over keeps;
+      heard = heard keeps;
+      passed = λ session k below.
+          subst (λ (l : (number : ℕ) → Bool). IsPassed l session (k + 1) new.world) (sym same)
+          (passed_stays stands (lost_in old) e result old.world new.world step keeps.sound session (k + 1)
+          (keeps.passed session k (subst (λ ps. k < count_of (slice_get ps.items session)) passed below)));
     };
-    sound = λ before. sound;
     given = given;
     queues = ap (λ qs. length qs.items) queues;
+    lost = same;
   }
     where
       given : given_to new ≡ given_to old
       given = fun_ext (λ session. ap (λ qs. commands_in (slice_get qs.items session)) queues)
 
+      same : lost_in new ≡ lost_in old
+      same = fun_ext (λ number. ap (has_number number) lost)
+
+  -- ---- an event that begins no command
+
+  goes_by_event : (stands : SessionRequest E → Standing) (e : Event) (old new : Runner E) (result : Outcome) → IsNoStart e → IsStep stands e old.world result new.world → IsSoundWorld stands new.world
+      → new.queues ≡ old.queues → new.lost ≡ old.lost → new.passed ≡ old.passed → new.highest ≡ old.highest
+      → ((line : ℕ) → has_line line new.over ≡ (has_line line old.over || is_ended line (drop (length old.world.history) new.world.history)))
+      → ((number : ℕ) → has_number number new.heard ≡ (has_number number old.heard || (is_one_of number (told_by e) && is_heard result)))
+      → new.is_due ≡ (old.is_due || lets_start result) → GoesOn stands old new
+  goes_by_event stands e old new result plain step sound queues lost passed highest over heard due =
+      goes_by_step stands e old new result step sound queues lost passed
+      (λ keeps line. over line ∙ ap (λ b. b || is_ended line (drop (length old.world.history) new.world.history)) (keeps.over line)
+      ∙ sym (ended_by_step stands e (happening stands e old.world) old.world new.world step.1 line))
+      (λ keeps number. heard number ∙ ap (λ b. b || (is_one_of number (told_by e) && is_heard result)) (keeps.heard number)
+      ∙ ap (λ b. was_heard number old.world.calls || (b && is_heard result)) (told_delivers number e) ∙ sym (heard_then stands e result old.world new.world step number))
+      (λ keeps none.
+      let parts = or_parts old.is_due (lets_start result) (sym due ∙ none) in
+      quiet_event stands (given_to old) e old.world result new.world plain step keeps.sound sound parts.1 (keeps.quiet parts.0))
+      (λ keeps. subst (λ n. n ≤ 64) (sym highest) keeps.most)
+      (λ keeps s slot more. event_above stands e old.world result new.world plain keeps.sound step s slot (keeps.above s slot (subst (λ n. n < slot) highest more)))
+
+  -- its step, and then what was noted of it
+  pub goes_by_note : (stands : SessionRequest E → Standing) (e : Event) (old between new : Runner E) (from : ℕ) (told : Option ℕ) (result : Outcome) → IsNoStart e → from ≡ length old.world.history → told ≡ told_by e
+      → IsStep stands e old.world result between.world → IsSoundWorld stands between.world → between ≡ record old { world = between.world }
+      → new ≡ record between { over = new.over; heard = new.heard; is_due = new.is_due }
+      → ((line : ℕ) → has_line line new.over ≡ (has_line line between.over || is_ended line (drop from between.world.history)))
+      → ((number : ℕ) → has_number number new.heard ≡ (has_number number between.heard || (is_one_of number told && is_heard result)))
+      → new.is_due ≡ (between.is_due || lets_start result) → GoesOn stands old new
+  goes_by_note stands e old between new from told result plain len is_told step sound first rest over heard due =
+      subst (GoesOn stands old) (sym all)
+      (goes_by_event stands e old (record old { world = between.world; over = new.over; heard = new.heard; is_due = new.is_due }) result plain step sound refl refl refl refl
+      (λ line. over line ∙ ap (λ (r : Runner E). has_line line r.over || is_ended line (drop from between.world.history)) first
+      ∙ ap (λ n. has_line line old.over || is_ended line (drop n between.world.history)) len)
+      (λ number. heard number ∙ ap (λ (r : Runner E). has_number number r.heard || (is_one_of number told && is_heard result)) first
+      ∙ ap (λ t. has_number number old.heard || (is_one_of number t && is_heard result)) is_told)
+      (due ∙ ap (λ (r : Runner E). r.is_due || lets_start result) first))
+    where
+      all : new ≡ record old { world = between.world; over = new.over; heard = new.heard; is_due = new.is_due }
+      all = rest ∙ ap (λ (r : Runner E). record r { over = new.over; heard = new.heard; is_due = new.is_due }) first
+
   -- nothing may start, and so none is looked for
   pub goes_quiet : (stands : SessionRequest E → Standing) (old : Runner E) → IsQuiet (given_to old) old.world → GoesOn stands old (record old { is_due = false })
   goes_quiet stands old quiet = record {
-    keeps = λ changer keeps. record { quiet = λ due. quiet; most = keeps.most; above = keeps.above; few = keeps.few; calls = keeps.calls; queues = keeps.queues; answered = keeps.answered };
-    sound = λ sound. sound;
+    keeps = λ keeps. record {
+      sound = keeps.sound;
+      quiet = λ due. quiet;
+      most = keeps.most;
+      above = keeps.above;
+      few = keeps.few;
+      queues = keeps.queues;
+      over = keeps.over;
+      heard = keeps.heard;
+      passed = keeps.passed;
+    };
     given = refl;
     queues = refl;
+    lost = refl;
   }
 
--- what is answered stays so
-pub answered_more : (was more is : Bool) → is ≡ (was || more) → was ≡ true → is ≡ true
-answered_more was more is same it = same ∙ or_left was more it
-
-module _ {E : Type 0} where
   -- ---- the queue of a session
 
-  abbrev was_answered : Runner E → (line : ℕ) → Bool
-  was_answered r line = is_answered line r.world.history
+  abbrev is_over_now : Runner E → (line : ℕ) → Bool
+  is_over_now r line = is_ended line r.world.history
 
   abbrev noted_in : Runner E → (line : ℕ) → Bool
-  noted_in r line = has_line line r.answered
+  noted_in r line = has_line line r.over
 
-  same_answers : (r : Runner E) → HasChanger r → was_answered r ≡ noted_in r
-  same_answers r keeps = fun_ext (λ line. sym (keeps.1.answered line))
+  same_ends : {stands : SessionRequest E → Standing} (r : Runner E) → KeepsUp stands r → is_over_now r ≡ noted_in r
+  same_ends r keeps = fun_ext (λ line. sym (keeps.over line))
 
-  pub kept_queue : (r : Runner E) → HasChanger r → (session : ℕ) (q : Queue) → slice_get r.queues.items session ≡ Some q
-      → IsQueue (λ line. is_begun line r.world.history) (λ line. has_line line r.answered) q
-  kept_queue r keeps session q is = subst (λ a. IsQueue (λ line. is_begun line r.world.history) a q) (same_answers r keeps) (keeps.1.queues session q is).queue
+  pub kept_queue : {stands : SessionRequest E → Standing} (r : Runner E) → KeepsUp stands r → (session : ℕ) (q : Queue) → slice_get r.queues.items session ≡ Some q
+      → IsQueue (λ line. is_begun line r.world.history) (λ line. has_line line r.over) q
+  kept_queue r keeps session q is = subst (λ a. IsQueue (λ line. is_begun line r.world.history) a q) (same_ends r keeps) (keeps.queues session q is).queue
 
   -- the place that a queue tells is that of the command that may start
-  pub place_found : (r : Runner E) → HasChanger r → (session : ℕ) (q : Queue) (result : Option ℕ) (slot : ℕ) → slice_get r.queues.items session ≡ Some q
-      → free_in (session_in session r.world.sessions) ≡ Some slot
-      → at_place q.commands.items result ≡ earliest (λ line. is_begun line r.world.history) (λ line. has_line line r.answered) true q.commands.items
+  pub place_found : {stands : SessionRequest E → Standing} (r : Runner E) → KeepsUp stands r → (session : ℕ) (q : Queue) (result : Option ℕ) (slot : ℕ) → slice_get r.queues.items session ≡ Some q
+      → free_in (client_in session r.world.lives) ≡ Some slot
+      → at_place q.commands.items result ≡ earliest (λ line. is_begun line r.world.history) (λ line. has_line line r.over) true q.commands.items
       → at_place (given_to r session) result ≡ to_start (given_to r session) r.world session
   place_found r keeps session q result slot is room found =
       ap (λ o. at_place (commands_in o) result) is ∙ found
-      ∙ ap (λ a. earliest (λ line. is_begun line r.world.history) a true q.commands.items) (sym (same_answers r keeps))
-      ∙ ap (λ o. earliest (λ line. is_begun line r.world.history) (λ line. is_answered line r.world.history) true (commands_in o)) (sym is)
-      ∙ ap (λ o. cond (is_some o) (earliest (λ line. is_begun line r.world.history) (λ line. is_answered line r.world.history) true (given_to r session)) None) (sym room)
+      ∙ ap (λ a. earliest (λ line. is_begun line r.world.history) a true q.commands.items) (sym (same_ends r keeps))
+      ∙ ap (λ o. earliest (λ line. is_begun line r.world.history) (λ line. is_ended line r.world.history) true (commands_in o)) (sym is)
+      ∙ ap (λ o. cond (is_some o) (earliest (λ line. is_begun line r.world.history) (λ line. is_ended line r.world.history) true (given_to r session)) None) (sym room)
 
   pub within_given : (r : Runner E) (session : ℕ) (q : Queue) (result : Option ℕ) → slice_get r.queues.items session ≡ Some q
       → IfSome result (λ place. place < length q.commands.items) → IfSome result (λ place. place < length (given_to r session))
   within_given r session q result is within = IfSome_then result within (λ place below. subst (λ o. place < length (commands_in o)) (sym is) below)
 
   -- a queue looked, and goes on from there
-  pub goes_by_look : {stands : SessionRequest E → Standing} (old new : Runner E) → HasChanger old → (session : ℕ) (q q' : Queue) → slice_get old.queues.items session ≡ Some q → new.world ≡ old.world → new.answered ≡ old.answered
-      → new.is_due ≡ old.is_due → new.highest ≡ old.highest → new.queues.items ≡ slice_set old.queues.items session q' → q'.commands ≡ q.commands
-      → IsQueue (λ line. is_begun line old.world.history) (λ line. has_line line old.answered) q' → GoesOn stands old new
-  goes_by_look {stands} old new has session q q' is world answered due highest items commands queue = record {
-    keeps = λ changer keeps.
-        let q_is : IsQueueIn changer old.world.history session q' = record {
-          queue = subst (λ a. IsQueue (λ line. is_begun line old.world.history) a q') (sym (same_answers old has)) queue;
-          given = subst (λ cs. All (IsGiven changer session) cs.items) (sym commands) (keeps.queues session q is).given;
-        } in
-        let all : (s : ℕ) (x : Queue) → slice_get (slice_set old.queues.items session q') s ≡ Some x → IsQueueIn changer old.world.history s x
-        = each_with (λ s x. IsQueueIn changer old.world.history s x) old.queues.items session q' (slice_get_within old.queues.items session q is) keeps.queues q_is in
-        record {
-          quiet = λ none. subst (IsQuiet (given_to new)) (sym world) (subst (λ given. IsQuiet given old.world) (sym same) (keeps.quiet (sym due ∙ none)));
-          most = subst (λ n. n ≤ 64) (sym highest) keeps.most;
-          above = λ s slot more. ap (is_held s slot) world ∙ keeps.above s slot (subst (λ n. n < slot) highest more);
-          few = subst (λ n. n ≤ 32) (sym (ap length items ∙ length-set old.queues.items session q')) keeps.few;
-          calls = subst (λ w. All (λ (c : Call). IsChangeOf changer c.event) w.calls) (sym world) keeps.calls;
-          queues = λ s x found. subst (λ w. IsQueueIn changer w.history s x) (sym world) (all s x (ap (λ qs. slice_get qs s) (sym items) ∙ found));
-          answered = λ line. ap (has_line line) answered ∙ keeps.answered line ∙ ap (λ w. is_answered line w.history) (sym world);
-        };
-    sound = λ sound. subst (IsSoundWorld stands) (sym world) sound;
-    given = same;
-    queues = ap length items ∙ length-set old.queues.items session q';
-  }
+  pub goes_by_look : {stands : SessionRequest E → Standing} (old new : Runner E) → KeepsUp stands old → (session : ℕ) (q q' : Queue) → slice_get old.queues.items session ≡ Some q
+      → new ≡ record old { queues = new.queues } → new.queues.items ≡ slice_set old.queues.items session q' → q'.commands ≡ q.commands
+      → IsQueue (λ line. is_begun line old.world.history) (λ line. has_line line old.over) q' → GoesOn stands old new
+  goes_by_look {stands} old new has session q q' is rest items commands queue =
+      subst (GoesOn stands old) (sym rest) (record {
+        keeps = λ keeps.
+            let q_is : IsQueueIn old.world.history session q' = record {
+              queue = subst (λ a. IsQueue (λ line. is_begun line old.world.history) a q') (sym (same_ends old has)) queue;
+              given = subst (λ cs. All (IsGiven session) cs.items) (sym commands) (keeps.queues session q is).given;
+            } in
+            let all : (s : ℕ) (x : Queue) → slice_get (slice_set old.queues.items session q') s ≡ Some x → IsQueueIn old.world.history s x
+            = each_with (λ s x. IsQueueIn old.world.history s x) old.queues.items session q' (slice_get_within old.queues.items session q is) keeps.queues q_is in
+            record {
+              sound = keeps.sound;
+              quiet = λ none. subst (λ given. IsQuiet given old.world) (sym same) (keeps.quiet none);
+              most = keeps.most;
+              above = keeps.above;
+              few = subst (λ n. n ≤ 32) (sym (ap length items ∙ length-set old.queues.items session q')) keeps.few;
+              queues = λ s x found. all s x (ap (λ qs. slice_get qs s) (sym items) ∙ found);
+              over = keeps.over;
+              heard = keeps.heard;
+              passed = keeps.passed;
+            };
+        given = same;
+        queues = ap length items ∙ length-set old.queues.items session q';
+        lost = refl;
+      })
     where
       same : given_to new ≡ given_to old
       same = fun_ext (λ s. ap (λ qs. commands_in (slice_get qs s)) items
           ∙ commands_with old.queues.items session q' (slice_get_within old.queues.items session q is) (ap (λ cs. cs.items) commands ∙ sym (ap commands_in is)) s)
 
+  -- ---- the notices that a session is past
+
+  pub goes_by_pass : {stands : SessionRequest E → Standing} (old new : Runner E) (session count before : ℕ) → KeepsUp stands old → slice_get old.passed.items session ≡ Some before
+      → new ≡ record old { passed = new.passed } → new.passed.items ≡ slice_set old.passed.items session count
+      → ((k : ℕ) → k < count → IsPassed (lost_in old) session (k + 1) old.world) → GoesOn stands old new
+  goes_by_pass {stands} old new session count before has there rest items passed =
+      subst (GoesOn stands old) (sym rest) (record {
+        keeps = λ keeps. record {
+          sound = keeps.sound;
+          quiet = keeps.quiet;
+          most = keeps.most;
+          above = keeps.above;
+          few = keeps.few;
+          queues = keeps.queues;
+          over = keeps.over;
+          heard = keeps.heard;
+          passed = λ s k below. by s k (cases_eq s session) below;
+        };
+        given = refl;
+        queues = refl;
+        lost = refl;
+      })
+    where
+      at : (s : ℕ) → passed_by new s ≡ count_of (slice_get (slice_set old.passed.items session count) s)
+      at s = ap (λ ps. count_of (slice_get ps s)) items
+
+      by : (s k : ℕ) → (s ≡ session) ⊎ (s ≡ session → ⊥) → k < passed_by new s → IsPassed (lost_in old) s (k + 1) old.world
+      by s k (inl same) below =
+          subst (λ n. IsPassed (lost_in old) n (k + 1) old.world) (sym same)
+          (passed k (subst (λ n. k < n) (at s ∙ ap (λ n. count_of (slice_get (slice_set old.passed.items session count) n)) same
+          ∙ ap count_of (set_there old.passed.items session count (slice_get_within old.passed.items session before there))) below))
+      by s k (inr other) below = has.passed s k (subst (λ n. k < n) (at s ∙ ap count_of (set_other old.passed.items session s count other)) below)
+
   -- ---- a command of a queue
 
-  pub given_there : (changer : ℕ) (r : Runner E) → KeepsUp changer r → (session place : ℕ) (c : Given) → slice_get (given_to r session) place ≡ Some c → IsGiven changer session c
-  given_there changer r keeps session place c is = by (slice_get r.queues.items session) refl is
+  pub given_there : {stands : SessionRequest E → Standing} (r : Runner E) → KeepsUp stands r → (session place : ℕ) (c : Given) → slice_get (given_to r session) place ≡ Some c → IsGiven session c
+  given_there r keeps session place c is = by (slice_get r.queues.items session) refl is
     where
-      by : (o : Option Queue) → slice_get r.queues.items session ≡ o → slice_get (commands_in o) place ≡ Some c → IsGiven changer session c
+      by : (o : Option Queue) → slice_get r.queues.items session ≡ o → slice_get (commands_in o) place ≡ Some c → IsGiven session c
       by None e is = absurd (none-some c is)
       by (Some q) e is =
-          subst (IsGiven changer session) (get_or_from_slice_get q.commands.items place c c is)
-          (All-get_or (IsGiven changer session) q.commands.items place c (slice_get_within q.commands.items place c is) (keeps.queues session q e).given)
+          subst (IsGiven session) (get_or_from_slice_get q.commands.items place c c is)
+          (All-get_or (IsGiven session) q.commands.items place c (slice_get_within q.commands.items place c is) (keeps.queues session q e).given)
 
   -- it is submitted
-  pub goes_by_start : (stands : SessionRequest E → Standing) (session place : ℕ) (c : Given) (old : Runner E) (w : WorldView (SessionRequest E)) (highest : ℕ) (result : Outcome) → HasChanger old
+  pub goes_by_start : (stands : SessionRequest E → Standing) (session place : ℕ) (c : Given) (old : Runner E) (w : WorldView (SessionRequest E)) (highest : ℕ) (result : Outcome) → KeepsUp stands old
       → slice_get (given_to old session) place ≡ Some c → to_start (given_to old session) old.world session ≡ slice_get (given_to old session) place
       → IsStep stands c.submission old.world result w → IsSoundWorld stands w → highest ≡ highest_after old.highest result → GoesOn stands old (record old { world = w; highest = highest })
   goes_by_start stands session place c old w highest result has is may step sound high =
-      let it = given_there has.0 old has.1 session place c is in
+      let it = given_there old has session place c is in
       let step' : IsStep stands (event.Submit session c.line it.command) old.world result w = subst (λ e. IsStep stands e old.world result w) it.submission step in
-      let same : (line : ℕ) → is_answered line w.history ≡ is_answered line old.world.history = submit_answers stands session c.line it.command old.world result w step' in
-      goes_by_step stands c.submission old (record old { world = w; highest = highest }) result
-      (λ changer keeps. let mine = given_there changer old keeps session place c is in subst (IsChangeOf changer) (sym mine.submission) mine.served.change)
-      step sound refl
-      (λ line was. was ∙ sym (same line))
-      (λ line was. same line ∙ was)
-      (λ keeps due. absurd (none-some c (sym (keeps.1.quiet due session) ∙ may ∙ is)))
-      (λ few. subst (λ n. n ≤ 64) (sym high) (submit_most stands session c.line it.command old.world result w old.highest step' few))
-      (λ above s slot more. submit_above stands session c.line it.command old.world result w old.highest step' above s slot (subst (λ n. n < slot) high more))
+      goes_by_step stands (event.Submit session c.line it.command) old (record old { world = w; highest = highest }) result step' sound refl refl refl
+      (λ keeps line. keeps.over line ∙ sym (submit_ends stands session c.line it.command old.world result w step' line))
+      (λ keeps number. keeps.heard number ∙ sym (heard_then stands (event.Submit session c.line it.command) result old.world w step' number ∙ or_end (was_heard number old.world.calls)))
+      (λ keeps due. absurd (none-some c (sym (keeps.quiet due session) ∙ may ∙ is)))
+      (λ keeps. subst (λ n. n ≤ 64) (sym high) (submit_most stands session c.line it.command old.world result w old.highest step' keeps.most))
+      (λ keeps s slot more. submit_above stands session c.line it.command old.world result w old.highest step' keeps.above s slot (subst (λ n. n < slot) high more))
+    where
+      or_end : (b : Bool) → (b || false) ≡ b
+      or_end true = refl
+      or_end false = refl
 
 -- a session that isn't there has no command that may start
 none_starts : {R : Type 0} (w : WorldView R) (session : ℕ) → to_start [] w session ≡ None
-none_starts w session = by (is_some (free_in (session_in session w.sessions)))
+none_starts w session = by (is_some (free_in (client_in session w.lives)))
   where
     by : (b : Bool) → ◌≡◌ {A = Option Given} (cond b None None) None
     by true = refl
@@ -207,7 +293,7 @@ module _ {E : Type 0} where
       ap (λ o. to_start (commands_in o) w session) (slice_get_past r.queues.items session past) ∙ none_starts w session
 
 -- a command that may start is one that its session was given
-earliest_is_given : (P : Given → Type 0) (b a : (line : ℕ) → Bool) (before : Bool) (given : List Given) (c : Given) → All P given → earliest b a before given ≡ Some c → P c
+pub earliest_is_given : (P : Given → Type 0) (b a : (line : ℕ) → Bool) (before : Bool) (given : List Given) (c : Given) → All P given → earliest b a before given ≡ Some c → P c
 earliest_is_given P b a before [] c all is = absurd (none-some c is)
 earliest_is_given P b a before (x ∷ given) c all is =
     by (not (b x.line) && (x.beside || before)) (earliest_is_given P b a (before && a x.line) given c (All-tail P x given all)) (All-head P x given all) is
@@ -216,16 +302,16 @@ earliest_is_given P b a before (x ∷ given) c all is =
     by true rest it is = subst P (same_Some x c is) it
     by false rest it is = rest is
 
-start_is_given : {E : Type 0} (r : Runner E) → (has : HasChanger r) → (session : ℕ) (c : Given)
-    → earliest (λ line. is_begun line r.world.history) (λ line. is_answered line r.world.history) true (given_to r session) ≡ Some c → (session < length r.queues.items) × IsGiven has.0 session c
+start_is_given : {E : Type 0} {stands : SessionRequest E → Standing} (r : Runner E) → KeepsUp stands r → (session : ℕ) (c : Given)
+    → earliest (λ line. is_begun line r.world.history) (λ line. is_ended line r.world.history) true (given_to r session) ≡ Some c → (session < length r.queues.items) × IsGiven session c
 start_is_given r has session c is = by (slice_get r.queues.items session) refl is
   where
-    by : (o : Option Queue) → slice_get r.queues.items session ≡ o → earliest (λ line. is_begun line r.world.history) (λ line. is_answered line r.world.history) true (commands_in o) ≡ Some c
-        → (session < length r.queues.items) × IsGiven has.0 session c
+    by : (o : Option Queue) → slice_get r.queues.items session ≡ o → earliest (λ line. is_begun line r.world.history) (λ line. is_ended line r.world.history) true (commands_in o) ≡ Some c
+        → (session < length r.queues.items) × IsGiven session c
     by None e is = absurd (none-some c is)
     by (Some q) e is = (
       slice_get_within r.queues.items session q e,
-      earliest_is_given (IsGiven has.0 session) (λ line. is_begun line r.world.history) (λ line. is_answered line r.world.history) true q.commands.items c (has.1.queues session q e).given is,
+      earliest_is_given (IsGiven session) (λ line. is_begun line r.world.history) (λ line. is_ended line r.world.history) true q.commands.items c (has.queues session q e).given is,
     )
 
 -- told of the commands that were given, and of the world, as they were
@@ -235,7 +321,7 @@ starts_so stands given given' session started w w' new same world starts =
     subst (λ v. StartsIf stands given session started v new) world (subst (λ h. StartsIf stands h session started w' new) same starts)
 
 -- a command that is started is one fewer that is left
-pub starts_one : {E : Type 0} (stands : SessionRequest E → Standing) (r : Runner E) → HasChanger r → (new : WorldView (SessionRequest E)) → Starts stands (given_to r) r.world new
+pub starts_one : {E : Type 0} (stands : SessionRequest E → Standing) (r : Runner E) → KeepsUp stands r → (new : WorldView (SessionRequest E)) → Starts stands (given_to r) r.world new
     → left_in (λ line. is_begun line new.history) (given_to r) (length r.queues.items) < left_in (λ line. is_begun line r.world.history) (given_to r) (length r.queues.items)
 starts_one stands r has new starts =
     let c = starts.submits.command in
@@ -245,7 +331,7 @@ starts_one stands r has new starts =
     (subst (λ e. IsStep stands e r.world starts.submits.result new) it.1.submission starts.submits.step) in
     let later = begun_stays stands c.submission (happening stands c.submission r.world) r.world new starts.submits.step.1 in
     one_fewer_in (λ line. is_begun line r.world.history) (λ line. is_begun line new.history) later (given_to r) (length r.queues.items) starts.session it.0
-    (one_fewer (λ line. is_begun line r.world.history) (λ line. is_begun line new.history) later (λ line. is_answered line r.world.history) true (given_to r starts.session) c found begun.1)
+    (one_fewer (λ line. is_begun line r.world.history) (λ line. is_begun line new.history) later (λ line. is_ended line r.world.history) true (given_to r starts.session) c found begun.1)
 
 pub left_again : {E : Type 0} {stands : SessionRequest E → Standing} (old new : Runner E) → GoesOn stands old new
     → left_in (λ line. is_begun line new.world.history) (given_to old) (length old.queues.items) < left_in (λ line. is_begun line old.world.history) (given_to old) (length old.queues.items)
@@ -263,56 +349,20 @@ pub comes_then : {R : Type 0} (stands : R → Standing) (e : Event) (result : Ou
 comes_then stands e result old between new given given' same step starts =
     record { between = between; step = step; starts = subst (λ h. StartsAll stands h between new) same starts }
 
-module _ {E : Type 0} (stands : SessionRequest E → Standing) where
-  pub goes_by_trim : (s : SiteId) (image object : ℕ) (old : Runner E) (w : WorldView (SessionRequest E)) (result : Outcome) → IsStep stands (event.Trim s image object) old.world result w
-      → IsSoundWorld stands w → GoesOn stands old (record old { world = w })
-  goes_by_trim s image object old w result step sound =
-      goes_by_step stands (event.Trim s image object) old (record old { world = w }) result (λ changer keeps. tt) step sound refl
-      (λ line was. was ∙ sym (trim_answers stands s image object old.world result w step line))
-      (λ line was. trim_answers stands s image object old.world result w step line ∙ was)
-      (λ keeps due. quiet_trim stands (given_to old) s image object old.world result w step (keeps.1.quiet due)) (λ few. few)
-      (λ above session slot more. trim_above stands s image object old.world result w step session slot (above session slot more))
-
-  -- the runner noted what was answered by a poll
-  pub goes_by_poll : (session slot : ℕ) (old : Runner E) (w : WorldView (SessionRequest E)) (new : Runner E) (result : Outcome) → IsSoundWorld stands old.world → IsStep stands (event.Poll session slot) old.world result w
-      → IsSoundWorld stands w → new ≡ record old { world = w; answered = new.answered; is_due = new.is_due }
-      → ((line : ℕ) → has_line line new.answered ≡ (has_line line old.answered || answers line (line_at session slot old.world.sessions) result)) → new.is_due ≡ (old.is_due || has_reply_by result) → GoesOn stands old new
-  goes_by_poll session slot old w new result before step sound rest answered due =
-      subst (GoesOn stands old) (sym rest)
-      (goes_by_step stands (event.Poll session slot) old (record old { world = w; answered = new.answered; is_due = new.is_due }) result (λ changer keeps. tt) step sound refl
-      (λ line was. answered line ∙ ap (λ b. b || answers line (line_at session slot old.world.sessions) result) was ∙ sym (poll_answers stands session slot old.world result w step line))
-      (λ line was. answered_more (is_answered line old.world.history) (answers line (line_at session slot old.world.sessions) result) (is_answered line w.history) (poll_answers stands session slot old.world result w step line) was)
-      (λ keeps none.
-      let parts = or_parts old.is_due (has_reply_by result) (sym due ∙ none) in
-      quiet_poll stands (given_to old) session slot old.world result w step before sound parts.1 (keeps.1.quiet parts.0))
-      (λ few. few)
-      (λ above s other more. poll_above stands session slot old.world result w step s other (above s other more)))
-
-  -- a poll's step, and then what was noted of it
-  pub goes_by_note : (session slot : ℕ) (old between new : Runner E) (before : Option ℕ) (result : Outcome) → before ≡ line_at session slot old.world.sessions → IsSoundWorld stands old.world
-      → IsStep stands (event.Poll session slot) old.world result between.world → IsSoundWorld stands between.world → between ≡ record old { world = between.world }
-      → new ≡ record between { answered = new.answered; is_due = new.is_due } → ((line : ℕ) → has_line line new.answered ≡ (has_line line between.answered || answers line before result))
-      → new.is_due ≡ (between.is_due || has_reply_by result) → GoesOn stands old new
-  goes_by_note session slot old between new before result line was step sound first rest noted due =
-      goes_by_poll session slot old between.world new result was step sound
-      (rest ∙ ap (λ (r : Runner E). record r { answered = new.answered; is_due = new.is_due }) first)
-      (λ l. noted l ∙ ap (λ (r : Runner E). has_line l r.answered || answers l before result) first ∙ ap (λ o. has_line l old.answered || answers l o result) line)
-      (due ∙ ap (λ (r : Runner E). r.is_due || has_reply_by result) first)
-
 -- ---- a command that a line gives
 
 not_given : (c : Given) → c ∷ [] ≡ [] → ⊥
 not_given c is = let one = ap length is in absurd (omega (arith, one))
 
-queue_new : (changer : ℕ) (history : List Entry) (s : ℕ) (q : Queue) → IsEmptyQueue q → IsQueueIn changer history s q
-queue_new changer history s q is = record {
+queue_new : (history : List Entry) (s : ℕ) (q : Queue) → IsEmptyQueue q → IsQueueIn history s q
+queue_new history s q is = record {
   queue = record {
     front = let front = is.front in omega (arith, front);
-    over = none_in (λ c. is_over (λ line. is_begun line history) (λ line. is_answered line history) c ≡ true) (take q.front q.commands.items) (take_none q.front q.commands.items is.commands);
+    over = none_in (λ c. is_over (λ line. is_begun line history) (λ line. is_ended line history) c ≡ true) (take q.front q.commands.items) (take_none q.front q.commands.items is.commands);
     next = let next = is.next in omega (arith, next);
     passed = none_in (λ c. is_beside (λ line. is_begun line history) c ≡ false) (take q.next q.commands.items) (take_none q.next q.commands.items is.commands);
   };
-  given = none_in (IsGiven changer s) q.commands.items is.commands;
+  given = none_in (IsGiven s) q.commands.items is.commands;
 }
   where
     take_none : (n : ℕ) (xs : List Given) → xs ≡ [] → take n xs ≡ []
@@ -324,38 +374,72 @@ queue_new changer history s q is = record {
     none_in : (P : Given → Type 0) (xs : List Given) → xs ≡ [] → All P xs
     none_in P xs none = All-same P xs [] none (All-nil P)
 
-pub one_given : (number : ℕ) (s : Said) (c : Given) (changer : ℕ) → c ∷ [] ≡ given_by number s → IsPlayed changer s → IsGiven changer c.session c
-one_given number (said.Command session beside command) c changer is played =
+pub one_given : (number : ℕ) (s : Said) (c : Given) → c ∷ [] ≡ given_by number s → IsPlayed s → IsGiven c.session c
+one_given number (said.Command session beside command) c is played =
     let same : c ≡ record { session = session; line = number; beside = beside; submission = event.Submit session number command } = ap (λ (xs : List Given). get_or xs 0 c) is in
-    subst (λ (x : Given). IsGiven changer x.session x) (sym same) (record { mine = refl; command = command; submission = refl; served = played })
-one_given number (said.Poll session slot times) c changer is played = absurd (not_given c is)
-one_given number (said.Until session slot kind) c changer is played = absurd (not_given c is)
-one_given number (said.Settle rounds) c changer is played = absurd (not_given c is)
-one_given number (said.Deliver n) c changer is played = absurd (not_given c is)
-one_given number (said.Lose n) c changer is played = absurd (not_given c is)
-one_given number (said.Expire session site image) c changer is played = absurd (not_given c is)
-one_given number (said.Stop session) c changer is played = absurd (not_given c is)
-one_given number (said.Restart session) c changer is played = absurd (not_given c is)
-one_given number (said.Late session slot) c changer is played = absurd (not_given c is)
-one_given number (said.Trim site image object) c changer is played = absurd (not_given c is)
+    subst (λ (x : Given). IsGiven x.session x) (sym same) (record { mine = refl; command = command; submission = refl; built = played })
+one_given number (said.Poll session slot times) c is played = absurd (not_given c is)
+one_given number (said.Until session slot kind) c is played = absurd (not_given c is)
+one_given number (said.Settle rounds) c is played = absurd (not_given c is)
+one_given number (said.Deliver n) c is played = absurd (not_given c is)
+one_given number (said.Lose n) c is played = absurd (not_given c is)
+one_given number (said.Expire session site image) c is played = absurd (not_given c is)
+one_given number (said.Stop session) c is played = absurd (not_given c is)
+one_given number (said.Restart session) c is played = absurd (not_given c is)
+one_given number (said.Late session slot) c is played = absurd (not_given c is)
+one_given number (said.Trim site image object) c is played = absurd (not_given c is)
 
 module _ {E : Type 0} where
   -- a session has it behind the others
-  pub keeps_more : (changer : ℕ) (old new : Runner E) (c : Given) (q q' : Queue) → KeepsUp changer old → slice_get old.queues.items c.session ≡ Some q → new.world ≡ old.world → new.answered ≡ old.answered
-      → new.is_due ≡ true → new.highest ≡ old.highest → new.queues.items ≡ slice_set old.queues.items c.session q' → q'.commands.items ≡ q.commands.items ++ c ∷ [] → q'.front ≡ q.front → q'.next ≡ q.next → IsGiven changer c.session c → KeepsUp changer new
-  keeps_more changer old new c q q' keeps is world answered due highest items commands front next given =
-      let it = queue_more changer old.world.history c.session q q' c (keeps.queues c.session q is) commands front next given in
-      let all : (s : ℕ) (x : Queue) → slice_get (slice_set old.queues.items c.session q') s ≡ Some x → IsQueueIn changer old.world.history s x
-      = each_with (λ s x. IsQueueIn changer old.world.history s x) old.queues.items c.session q' (slice_get_within old.queues.items c.session q is) keeps.queues it in
-      record {
-        quiet = λ none. absurd (false≢true (sym none ∙ due));
-        most = subst (λ n. n ≤ 64) (sym highest) keeps.most;
-        above = λ s slot more. ap (is_held s slot) world ∙ keeps.above s slot (subst (λ n. n < slot) highest more);
+  pub keeps_more : {stands : SessionRequest E → Standing} (old new : Runner E) (c : Given) (q q' : Queue) → KeepsUp stands old → slice_get old.queues.items c.session ≡ Some q
+      → new ≡ record old { queues = new.queues; is_due = true } → new.queues.items ≡ slice_set old.queues.items c.session q'
+      → q'.commands.items ≡ q.commands.items ++ c ∷ [] → q'.front ≡ q.front → q'.next ≡ q.next → IsGiven c.session c → KeepsUp stands new
+  keeps_more {stands} old new c q q' keeps is rest items commands front next given =
+      let it = queue_more old.world.history c.session q q' c (keeps.queues c.session q is) commands front next given in
+      let all : (s : ℕ) (x : Queue) → slice_get (slice_set old.queues.items c.session q') s ≡ Some x → IsQueueIn old.world.history s x
+      = each_with (λ s x. IsQueueIn old.world.history s x) old.queues.items c.session q' (slice_get_within old.queues.items c.session q is) keeps.queues it in
+      subst (KeepsUp stands) (sym rest) (record {
+        sound = keeps.sound;
+        quiet = λ none. absurd (false≢true (sym none));
+        most = keeps.most;
+        above = keeps.above;
         few = subst (λ n. n ≤ 32) (sym (ap length items ∙ length-set old.queues.items c.session q')) keeps.few;
-        calls = subst (λ w. All (λ (c : Call). IsChangeOf changer c.event) w.calls) (sym world) keeps.calls;
-        queues = λ s x found. subst (λ w. IsQueueIn changer w.history s x) (sym world) (all s x (ap (λ qs. slice_get qs s) (sym items) ∙ found));
-        answered = λ line. ap (has_line line) answered ∙ keeps.answered line ∙ ap (λ w. is_answered line w.history) (sym world);
-      }
+        queues = λ s x found. all s x (ap (λ qs. slice_get qs s) (sym items) ∙ found);
+        over = keeps.over;
+        heard = keeps.heard;
+        passed = keeps.passed;
+      })
+
+  -- a command may have come to start
+  pub keeps_due : {stands : SessionRequest E → Standing} (old : Runner E) → KeepsUp stands old → KeepsUp stands (record old { is_due = true })
+  keeps_due old keeps = record {
+    sound = keeps.sound;
+    quiet = λ none. absurd (false≢true (sym none));
+    most = keeps.most;
+    above = keeps.above;
+    few = keeps.few;
+    queues = keeps.queues;
+    over = keeps.over;
+    heard = keeps.heard;
+    passed = keeps.passed;
+  }
+
+  -- one more notice is lost
+  pub keeps_lost : {stands : SessionRequest E → Standing} (old new : Runner E) (more : (number : ℕ) → Bool) → KeepsUp stands old → new ≡ record old { lost = new.lost }
+      → ((number : ℕ) → lost_in new number ≡ (lost_in old number || more number)) → KeepsUp stands new
+  keeps_lost {stands} old new more keeps rest lost =
+      subst (KeepsUp stands) (sym rest) (record {
+        sound = keeps.sound;
+        quiet = keeps.quiet;
+        most = keeps.most;
+        above = keeps.above;
+        few = keeps.few;
+        queues = keeps.queues;
+        over = keeps.over;
+        heard = keeps.heard;
+        passed = λ session k below.
+            passed_more stands (lost_in old) (lost_in new) old.world session (k + 1) (λ n is. lost n ∙ or_left (lost_in old n) (more n) is) (keeps.passed session k below);
+      })
 
   pub given_none : (r : Runner E) → All IsEmptyQueue r.queues.items → (s : ℕ) → given_to r s ≡ []
   given_none r empty s = by (slice_get r.queues.items s) refl
@@ -365,18 +449,22 @@ module _ {E : Type 0} where
       by (Some q) e = (subst IsEmptyQueue (get_or_from_slice_get r.queues.items s q q e) (All-get_or IsEmptyQueue r.queues.items s q (slice_get_within r.queues.items s q e) empty)).commands
 
   -- a new runner
-  pub keeps_new : (stands : SessionRequest E → Standing) (changer : ℕ) (r : Runner E) → length r.queues.items ≤ 32 → All IsEmptyQueue r.queues.items → IsNewWorld stands r.world → ((line : ℕ) → has_line line r.answered ≡ false)
-      → r.highest ≡ 0 → KeepsUp changer r
-  keeps_new stands changer r few empty new answered highest = record {
+  pub keeps_new : (stands : SessionRequest E → Standing) (r : Runner E) → IsSoundWorld stands r.world → length r.queues.items ≤ 32 → All IsEmptyQueue r.queues.items → IsNewWorld stands r.world
+      → ((line : ℕ) → has_line line r.over ≡ false) → ((number : ℕ) → has_number number r.heard ≡ false) → r.highest ≡ 0 → ((session : ℕ) → passed_by r session ≡ 0) → KeepsUp stands r
+  keeps_new stands r sound few empty new over heard highest passed = record {
+    sound = sound;
     quiet = λ due session. ap (λ given. to_start given r.world session) (given_none r empty session) ∙ none_starts r.world session;
     most = omega (arith, highest);
-    above = λ session slot more. nobody session (session_in session r.world.sessions) refl slot;
+    above = λ session slot more. nobody session (lives_in session r.world.lives) refl slot;
     few = few;
-    calls = All-same (λ (c : Call). IsChangeOf changer c.event) r.world.calls [] new.calls (All-nil (λ (c : Call). IsChangeOf changer c.event));
-    queues = λ s q is. queue_new changer r.world.history s q (subst IsEmptyQueue (get_or_from_slice_get r.queues.items s q q is) (All-get_or IsEmptyQueue r.queues.items s q (slice_get_within r.queues.items s q is) empty));
-    answered = λ line. answered line ∙ sym (ap (is_answered line) new.history);
+    queues = λ s q is. queue_new r.world.history s q (subst IsEmptyQueue (get_or_from_slice_get r.queues.items s q q is) (All-get_or IsEmptyQueue r.queues.items s q (slice_get_within r.queues.items s q is) empty));
+    over = λ line. over line ∙ sym (ap (is_ended line) new.history);
+    heard = λ number. heard number ∙ sym (ap (was_heard number) new.calls);
+    passed = λ session k below. let none = passed session in absurd (omega (arith, below, none));
   }
     where
-      nobody : (session : ℕ) (c : Option (SessionView (SessionRequest E))) → session_in session r.world.sessions ≡ c → (slot : ℕ) → is_some (script_line (held_of slot c)) ≡ false
+      nobody : (session : ℕ) (l : Option (LivesView (SessionRequest E))) → lives_in session r.world.lives ≡ l → (slot : ℕ) → is_some (script_line (held_of slot (session_of (running_of l)))) ≡ false
       nobody session None is slot = refl
-      nobody session (Some c) is slot = line_held (held_in slot c.slots) ∙ ap is_some ((new.clients session c is).slots slot)
+      nobody session (Some l) is slot =
+          let first = new.lives session l is in
+          ap (λ o. is_some (script_line (held_of slot (session_of o)))) first.runs ∙ line_held (held_in slot first.client.session.slots) ∙ ap is_some (first.fresh.slots slot)

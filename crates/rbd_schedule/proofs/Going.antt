@@ -18,7 +18,7 @@ use Rattle.rbd_session.proofs.Sound.{held_range, no_some, some_same}
 use Rattle.rbd_schedule.specs.Going.{MayGo}
 
 -- who is in no line doesn't wait
-alone_goes : (slot : ℕ) (place : Option ImageAt) (turn : Option ℕ) (due : List ℕ) (lines : Lines) → place ≡ None
+pub alone_goes : (slot : ℕ) (place : Option ImageAt) (turn : Option ℕ) (due : List ℕ) (lines : Lines) → place ≡ None
     → HasNext slot (record { place = place; turn = turn; due = due; lines = lines })
     → waits slot (record { place = place; turn = turn; due = due; lines = lines }) ≡ false
 alone_goes slot None None due lines is next = refl
@@ -26,7 +26,7 @@ alone_goes slot None (Some object) due lines is next = absurd (true≢false (sym
 alone_goes slot (Some p) turn due lines is next = absurd (no_some p (sym is))
 
 module _ {R : Type 0} where
-  runs_there : (o : Option (Occupant R)) (r : Running R) → running_in o ≡ Some r → o ≡ Some (occupant.Running r)
+  pub runs_there : (o : Option (Occupant R)) (r : Running R) → running_in o ≡ Some r → o ≡ Some (occupant.Running r)
   runs_there None r is = absurd (no_some r is)
   runs_there (Some (occupant.Refused line refusal)) r is = absurd (no_some r is)
   runs_there (Some (occupant.Running q)) r is = ap (λ x. Some (occupant.Running x)) (some_same q r is)

@@ -4,15 +4,11 @@ use Rattle.std.proofs.lemmas.Bool.{true≢false, false≢true}
 use Rattle.std.proofs.lemmas.List.{length_push}
 use Rattle.std.proofs.lemmas.List.Elements.{All-push, All-same, All-weaker}
 use Rattle.rbd_flat.specs.declared.entry.Entry.{Entry}
-use Rattle.rbd_world.specs.declared.event.Call.{Call}
-use Rattle.rbd_world.specs.declared.event.Event.{Event}
-use Rattle.rbd_world.specs.Run.{Happening}
-use Rattle.rbd_world.specs.Step.{Does, IsChangeOf, call_of, is_begun}
-use Rattle.rbd_world.specs.World.{WorldView}
+use Rattle.rbd_world.specs.Step.{is_begun}
 use Rattle.rbd_schedule.specs.declared.given.Given.{Given}
 use Rattle.rbd_schedule.specs.declared.queue.Queue.{Queue}
 use Rattle.rbd_schedule.specs.Playing.{IsGiven, IsQueue, IsQueueIn, is_beside, is_over}
-use Rattle.rbd_schedule.specs.Starts.{is_answered}
+use Rattle.rbd_schedule.specs.Starts.{is_ended}
 
 module _ (b b' a a' : (line : ℕ) → Bool) (begun : (line : ℕ) → b line ≡ true → b' line ≡ true) (answered : (line : ℕ) → a line ≡ true → a' line ≡ true) where
   over_stays : (c : Given) → is_over b a c ≡ true → is_over b' a' c ≡ true
@@ -42,19 +38,13 @@ module _ (b b' a a' : (line : ℕ) → Bool) (begun : (line : ℕ) → b line �
     passed = All-weaker (λ c. is_beside b c ≡ false) (λ c. is_beside b' c ≡ false) beside_stays (take q.next q.commands.items) is.passed;
   }
 
-pub queue_in_stays : (changer : ℕ) (old new : List Entry) (session : ℕ) (q : Queue)
-    → ((line : ℕ) → is_begun line old ≡ true → is_begun line new ≡ true) → ((line : ℕ) → is_answered line old ≡ true → is_answered line new ≡ true)
-    → IsQueueIn changer old session q → IsQueueIn changer new session q
-queue_in_stays changer old new session q begun answered is = record {
-  queue = queue_stays (λ line. is_begun line old) (λ line. is_begun line new) (λ line. is_answered line old) (λ line. is_answered line new) begun answered q is.queue;
+pub queue_in_stays : (old new : List Entry) (session : ℕ) (q : Queue)
+    → ((line : ℕ) → is_begun line old ≡ true → is_begun line new ≡ true) → ((line : ℕ) → is_ended line old ≡ true → is_ended line new ≡ true)
+    → IsQueueIn old session q → IsQueueIn new session q
+queue_in_stays old new session q begun answered is = record {
+  queue = queue_stays (λ line. is_begun line old) (λ line. is_begun line new) (λ line. is_ended line old) (λ line. is_ended line new) begun answered q is.queue;
   given = is.given;
 }
-
--- the calls are this session's, with one more that is
-pub calls_stay : {R : Type 0} (stands : _) (changer : ℕ) (e : Event) (h : Happening) (old new : WorldView R) → Does stands e h old new → IsChangeOf changer e
-    → All (λ (c : Call). IsChangeOf changer c.event) old.calls → All (λ (c : Call). IsChangeOf changer c.event) new.calls
-calls_stay stands changer e h old new does is all =
-    All-same (λ (c : Call). IsChangeOf changer c.event) new.calls (old.calls ++ call_of e h ∷ []) does.calls (All-push (λ (c : Call). IsChangeOf changer c.event) old.calls (call_of e h) all is)
 
 take_front : {X : Type 0} (n : ℕ) (xs : List X) (y : X) → n ≤ length xs → take n (xs ++ y ∷ []) ≡ take n xs
 take_front zero xs y within = refl
@@ -62,16 +52,16 @@ take_front (suc n) [] y within = absurd (omega (arith, within))
 take_front (suc n) (x ∷ xs) y within = ap (λ ys. x ∷ ys) (take_front n xs y (omega (arith, within)))
 
 -- one more command is given
-pub queue_more : (changer : ℕ) (history : List Entry) (session : ℕ) (q q' : Queue) (c : Given) → IsQueueIn changer history session q
-    → q'.commands.items ≡ q.commands.items ++ c ∷ [] → q'.front ≡ q.front → q'.next ≡ q.next → IsGiven changer session c → IsQueueIn changer history session q'
-queue_more changer history session q q' c is items front next given = record {
+pub queue_more : (history : List Entry) (session : ℕ) (q q' : Queue) (c : Given) → IsQueueIn history session q
+    → q'.commands.items ≡ q.commands.items ++ c ∷ [] → q'.front ≡ q.front → q'.next ≡ q.next → IsGiven session c → IsQueueIn history session q'
+queue_more history session q q' c is items front next given = record {
   queue = record {
     front = let within = is.queue.front in let more = length_push q.commands.items c in subst (λ xs. q'.front ≤ length xs) (sym items) (omega (arith, within, more, front));
-    over = All-same (λ x. is_over (λ line. is_begun line history) (λ line. is_answered line history) x ≡ true) (take q'.front q'.commands.items) (take q.front q.commands.items)
+    over = All-same (λ x. is_over (λ line. is_begun line history) (λ line. is_ended line history) x ≡ true) (take q'.front q'.commands.items) (take q.front q.commands.items)
         (ap (take q'.front) items ∙ ap (λ n. take n (q.commands.items ++ c ∷ [])) front ∙ take_front q.front q.commands.items c is.queue.front) is.queue.over;
     next = let within = is.queue.next in let more = length_push q.commands.items c in subst (λ xs. q'.next ≤ length xs) (sym items) (omega (arith, within, more, next));
     passed = All-same (λ x. is_beside (λ line. is_begun line history) x ≡ false) (take q'.next q'.commands.items) (take q.next q.commands.items)
         (ap (take q'.next) items ∙ ap (λ n. take n (q.commands.items ++ c ∷ [])) next ∙ take_front q.next q.commands.items c is.queue.next) is.queue.passed;
   };
-  given = All-same (IsGiven changer session) q'.commands.items (q.commands.items ++ c ∷ []) items (All-push (IsGiven changer session) q.commands.items c is.given given);
+  given = All-same (IsGiven session) q'.commands.items (q.commands.items ++ c ∷ []) items (All-push (IsGiven session) q.commands.items c is.given given);
 }

@@ -1,6 +1,5 @@
--- What each poll, each step of the store and each start keeps, a play keeps.
+-- What each event and each start keeps, a play keeps.
 use Rattle.std.proofs.Common.{◌≡◌, ℕ, zero, suc, ◌+◌, Bool, true, false, List, [], ◌++◌, length, take, drop, take-append-drop, append-nil, sym, subst}
-use Rattle.rbd_kinds.specs.declared.id.SiteId.{SiteId}
 use Rattle.rbd_machine.specs.Plan.{Standing}
 use Rattle.rbd_script.specs.declared.script.Line.{Line}
 use Rattle.rbd_script.specs.declared.script.Said.{Said}
@@ -13,8 +12,10 @@ use Rattle.rbd_world.specs.Step.{IsStep}
 use Rattle.rbd_world.specs.World.{WorldView}
 use Rattle.rbd_schedule.specs.declared.given.Given.{Given}
 use Rattle.rbd_schedule.specs.Deeds.{Deeds}
-use Rattle.rbd_schedule.specs.Given.{commands_of, given_in}
-use Rattle.rbd_schedule.specs.Schedule.{Calm, Comes, Pace, Plays, PlaysLine, PlaysScript, Polls, PollsBefore, PollsIn, PollsWhere, Round, RoundsOn, Settles, Starts, StartsAll, Submits, Turn, closing_rounds, is_held}
+use Rattle.rbd_schedule.specs.Given.{commands_of, given_in, is_lost_by}
+use Rattle.rbd_schedule.specs.Notices.{is_due, runs}
+use Rattle.rbd_schedule.specs.Playing.{IsNoStart}
+use Rattle.rbd_schedule.specs.Schedule.{Calm, Comes, DeliversWhere, Happens, Pace, Plays, PlaysLine, PlaysScript, Polls, PollsAll, PollsBefore, PollsIn, PollsWhere, Round, RoundsOn, Settles, Starts, StartsAll, Submits, Turn, TurnOf, TurnWhere, closing_rounds, is_held}
 
 -- what each of the deeds keeps, all keep
 pub kept_by_deeds : {S : Type 0} (P : S → Type 0) (deed : ℕ → S → S → Type 0) → ((k : ℕ) (old new : S) → deed k old new → P old → P new) → (n : ℕ) (old new : S) → Deeds deed n old new → P old → P new
@@ -22,10 +23,9 @@ unfolding Deeds
 kept_by_deeds P deed each zero old new done is = subst P (sym done) is
 kept_by_deeds P deed each (suc n) old new (between, before, it) is = each n between new it (kept_by_deeds P deed each n old between before is)
 
--- What each poll, each step of the store and each start keeps.
+-- What each event keeps that begins no command, and each start.
 module _ {R : Type 0} (stands : R → Standing) (P : WorldView R → Type 0)
-    (poll : (session slot : ℕ) (result : Outcome) (old new : WorldView R) → IsStep stands (event.Poll session slot) old result new → P old → P new)
-    (trim : (s : SiteId) (image object : ℕ) (result : Outcome) (old new : WorldView R) → IsStep stands (event.Trim s image object) old result new → P old → P new) where
+    (event_keeps : (e : Event) (result : Outcome) (old new : WorldView R) → IsNoStart e → IsStep stands e old result new → P old → P new) where
   module _ (given : (session : ℕ) → List Given) (start : (session : ℕ) (old new : WorldView R) → Submits stands given session old new → P old → P new) where
     kept_by_start : (k : ℕ) (old new : WorldView R) → Starts stands given old new → P old → P new
     kept_by_start k old new starts is = start starts.session old new starts.submits is
@@ -33,66 +33,81 @@ module _ {R : Type 0} (stands : R → Standing) (P : WorldView R → Type 0)
     kept_by_starts : (old new : WorldView R) → StartsAll stands given old new → P old → P new
     kept_by_starts old new starts is = kept_by_deeds P (λ k. Starts stands given) kept_by_start starts.count old new starts.starts is
 
-    kept_by_poll : (session slot : ℕ) (result : Outcome) (old new : WorldView R) → Comes stands given (event.Poll session slot) result old new → P old → P new
-    kept_by_poll session slot result old new comes is = kept_by_starts comes.between new comes.starts (poll session slot result old comes.between comes.step is)
+    kept_by_coming : (e : Event) (result : Outcome) (old new : WorldView R) → IsNoStart e → Comes stands given e result old new → P old → P new
+    kept_by_coming e result old new plain comes is = kept_by_starts comes.between new comes.starts (event_keeps e result old comes.between plain comes.step is)
 
-    kept_by_trim : (s : SiteId) (image object : ℕ) (result : Outcome) (old new : WorldView R) → Comes stands given (event.Trim s image object) result old new → P old → P new
-    kept_by_trim s image object result old new comes is = kept_by_starts comes.between new comes.starts (trim s image object result old comes.between comes.step is)
-
-    kept_by_polls : (session slot : ℕ) (old new : WorldView R) → Polls stands given session slot old new → P old → P new
-    kept_by_polls session slot old new polls is = kept_by_poll session slot polls.result old new polls.comes is
+    kept_by_event : (e : Event) (old new : WorldView R) → IsNoStart e → Happens stands given e old new → P old → P new
+    kept_by_event e old new plain happens is = kept_by_coming e happens.result old new plain happens.comes is
 
     kept_in_round : (session slot : ℕ) (old new : Pace R) → PollsIn stands given session slot old new → P old.world → P new.world
-    kept_in_round session slot old new polls is = kept_by_poll session slot polls.result old.world new.world polls.comes is
+    kept_in_round session slot old new polls is = kept_by_coming (event.Poll session slot) polls.result old.world new.world tt polls.comes is
 
     kept_where : (held : Bool) (session slot : ℕ) (old new : Pace R) → PollsWhere stands given held session slot old new → P old.world → P new.world
     kept_where true session slot old new polls is = kept_in_round session slot old new polls is
     kept_where false session slot old new same is = subst (λ (p : Pace R). P p.world) (sym same) is
 
-    kept_by_turn : (session : ℕ) (old new : Pace R) → Turn stands given session old new → P old.world → P new.world
-    kept_by_turn session old new turn is =
-        kept_by_deeds (λ (p : Pace R). P p.world) (λ k. PollsWhere stands given (is_held session (k + 1) turn.point.world) session (k + 1))
-        (λ k. kept_where (is_held session (k + 1) turn.point.world) session (k + 1)) 64 turn.point new turn.held
-        (kept_in_round session 0 old turn.point turn.slot_0 is)
+    kept_where_due : (due : Bool) (number : ℕ) (old new : WorldView R) → DeliversWhere stands given due number old new → P old → P new
+    kept_where_due true number old new delivers is = kept_by_event (event.Deliver number) old new tt delivers is
+    kept_where_due false number old new same is = subst P (sym same) is
 
-    kept_by_round : (sessions : ℕ) (went_on : Bool) (old new : WorldView R) → Round stands given sessions went_on old new → P old → P new
-    kept_by_round sessions went_on old new round is =
-        kept_by_deeds (λ (p : Pace R). P p.world) (Turn stands given) kept_by_turn sessions (record { world = old; went_on = false }) (record { world = new; went_on = went_on }) round is
+    kept_by_polls : (session : ℕ) (old new : Pace R) → PollsAll stands given session old new → P old.world → P new.world
+    kept_by_polls session old new polls is =
+        kept_by_deeds (λ (p : Pace R). P p.world) (λ k. PollsWhere stands given (is_held session (k + 1) polls.point.world) session (k + 1))
+        (λ k. kept_where (is_held session (k + 1) polls.point.world) session (k + 1)) 64 polls.point new polls.held
+        (kept_in_round session 0 old polls.point polls.slot_0 is)
 
-    kept_by_rounds : (sessions k : ℕ) (old new : Calm R) → RoundsOn stands given sessions old new → P old.world → P new.world
-    kept_by_rounds sessions k old new on is = kept_by_round sessions on.went_on old.world new.world on.round is
+    module _ (lost : (number : ℕ) → Bool) where
+      kept_by_turn : (session : ℕ) (old new : Pace R) → Turn stands given lost session old new → P old.world → P new.world
+      kept_by_turn session old new turn is =
+          kept_by_polls session (record { world = turn.told; went_on = old.went_on }) new turn.polls
+          (kept_by_deeds P (λ k. DeliversWhere stands given (is_due lost session (k + 1) old.world) (k + 1)) (λ k. kept_where_due (is_due lost session (k + 1) old.world) (k + 1))
+          (length old.world.sites.mail) old.world turn.told turn.notices is)
 
-    kept_by_settle : (sessions rounds : ℕ) (old new : WorldView R) → Settles stands given sessions rounds old new → P old → P new
-    kept_by_settle sessions rounds old new settles is =
-        kept_by_deeds (λ (c : Calm R). P c.world) (λ k. RoundsOn stands given sessions) (kept_by_rounds sessions) settles.count (record { world = old; idle = 0 }) (record { world = new; idle = settles.idle }) settles.on is
+      kept_where_runs : (running : Bool) (session : ℕ) (old new : Pace R) → TurnWhere stands given lost running session old new → P old.world → P new.world
+      kept_where_runs true session old new turn is = kept_by_turn session old new turn is
+      kept_where_runs false session old new same is = subst (λ (p : Pace R). P p.world) (sym same) is
 
-    kept_by_line : (sessions : ℕ) (s : Said) (old new : WorldView R) → Plays stands given sessions s old new → P old → P new
-    kept_by_line sessions (said.Command session beside command) old new plays is = kept_by_starts old new plays is
-    kept_by_line sessions (said.Poll session slot times) old new plays is = kept_by_deeds P (λ k. Polls stands given session slot) (λ k. kept_by_polls session slot) times old new plays is
-    kept_by_line sessions (said.Until session slot kind) old new plays is =
-        kept_by_deeds P (λ k. PollsBefore stands given session slot kind) (λ k a b before. kept_by_polls session slot a b before.polls) plays.count old new plays.polls is
-    kept_by_line sessions (said.Settle rounds) old new plays is = kept_by_settle sessions rounds old new plays is
-    kept_by_line sessions (said.Deliver number) old new plays is = absurd plays
-    kept_by_line sessions (said.Lose number) old new plays is = absurd plays
-    kept_by_line sessions (said.Expire session site image) old new plays is = absurd plays
-    kept_by_line sessions (said.Stop session) old new plays is = absurd plays
-    kept_by_line sessions (said.Restart session) old new plays is = absurd plays
-    kept_by_line sessions (said.Late session slot) old new plays is = absurd plays
-    kept_by_line sessions (said.Trim site image object) old new plays is = kept_by_trim site image object plays.0 old new plays.1 is
+      kept_by_round : (sessions : ℕ) (went_on : Bool) (old new : WorldView R) → Round stands given lost sessions went_on old new → P old → P new
+      kept_by_round sessions went_on old new round is =
+          kept_by_deeds (λ (p : Pace R). P p.world) (TurnOf stands given lost) (λ session a b. kept_where_runs (runs session a.world) session a b) sessions (record { world = old; went_on = false }) (record { world = new; went_on = went_on }) round is
+
+      kept_by_rounds : (sessions k : ℕ) (old new : Calm R) → RoundsOn stands given lost sessions old new → P old.world → P new.world
+      kept_by_rounds sessions k old new on is = kept_by_round sessions on.went_on old.world new.world on.round is
+
+      kept_by_settle : (sessions rounds : ℕ) (old new : WorldView R) → Settles stands given lost sessions rounds old new → P old → P new
+      kept_by_settle sessions rounds old new settles is =
+          kept_by_deeds (λ (c : Calm R). P c.world) (λ k. RoundsOn stands given lost sessions) (kept_by_rounds sessions) settles.count (record { world = old; idle = 0 }) (record { world = new; idle = settles.idle }) settles.on is
+
+      kept_by_line : (sessions : ℕ) (s : Said) (old new : WorldView R) → Plays stands given lost sessions s old new → P old → P new
+      kept_by_line sessions (said.Command session beside command) old new plays is = kept_by_starts old new plays is
+      kept_by_line sessions (said.Poll session slot times) old new plays is =
+          kept_by_deeds P (λ k. Polls stands given session slot) (λ k a b. kept_by_event (event.Poll session slot) a b tt) times old new plays is
+      kept_by_line sessions (said.Until session slot kind) old new plays is =
+          kept_by_deeds P (λ k. PollsBefore stands given session slot kind) (λ k a b before. kept_by_event (event.Poll session slot) a b tt before.polls) plays.count old new plays.polls is
+      kept_by_line sessions (said.Settle rounds) old new plays is = kept_by_settle sessions rounds old new plays is
+      kept_by_line sessions (said.Deliver number) old new plays is = kept_by_event (event.Deliver number) old new tt plays is
+      kept_by_line sessions (said.Lose number) old new plays is = subst P (sym plays) is
+      kept_by_line sessions (said.Expire session site image) old new plays is = kept_by_event (event.Expire session site image) old new tt plays is
+      kept_by_line sessions (said.Stop session) old new plays is = kept_by_event (event.Stop session) old new tt plays is
+      kept_by_line sessions (said.Restart session) old new plays is = kept_by_event (event.Restart session) old new tt plays is
+      kept_by_line sessions (said.Late session slot) old new plays is = kept_by_event (event.Late session slot) old new tt plays is
+      kept_by_line sessions (said.Trim site image object) old new plays is = kept_by_event (event.Trim site image object) old new tt plays is
 
   -- so a play keeps it, where each start of one of the first lines' commands does
   pub kept_by_parts : (script : Script)
       → ((lines more : List Line) → script.lines ≡ lines ++ more → (session : ℕ) (old new : WorldView R) → Submits stands (given_in lines) session old new → P old → P new)
       → (old new : WorldView R) → PlaysScript stands script old new → P old → P new
   kept_by_parts script start old new plays is =
-      kept_by_settle (given_in script.lines) (start script.lines [] (sym (append-nil script.lines))) (length script.sessions) (closing_rounds (length (commands_of script.lines))) plays.between new plays.closing
+      kept_by_settle (given_in script.lines) (start script.lines [] (sym (append-nil script.lines))) (is_lost_by script.lines) (length script.sessions) (closing_rounds (length (commands_of script.lines))) plays.between new plays.closing
       (kept_by_deeds P (PlaysLine stands script)
-      (λ k a b line. kept_by_line (given_in (take (k + 1) script.lines)) (start (take (k + 1) script.lines) (drop (k + 1) script.lines) (sym (take-append-drop (k + 1) script.lines))) (length script.sessions) line.line.said a b line.plays)
+      (λ k a b line.
+      kept_by_line (given_in (take (k + 1) script.lines)) (start (take (k + 1) script.lines) (drop (k + 1) script.lines) (sym (take-append-drop (k + 1) script.lines))) (is_lost_by (take (k + 1) script.lines))
+      (length script.sessions) line.line.said a b line.plays)
       (length script.lines) old plays.between plays.lines is)
 
 -- and what each step keeps, whatever the event
 pub kept_by_play : {R : Type 0} (stands : R → Standing) (P : WorldView R → Type 0) → ((e : Event) (result : Outcome) (old new : WorldView R) → IsStep stands e old result new → P old → P new)
     → (script : Script) (old new : WorldView R) → PlaysScript stands script old new → P old → P new
 kept_by_play stands P step script old new plays is =
-    kept_by_parts stands P (λ session slot. step (event.Poll session slot)) (λ s image object. step (event.Trim s image object)) script
-    (λ lines more whole session old new submits. step submits.command.submission submits.result old new submits.step) old new plays is
+    kept_by_parts stands P (λ e result a b plain. step e result a b) script
+    (λ lines more whole session a b submits. step submits.command.submission submits.result a b submits.step) old new plays is

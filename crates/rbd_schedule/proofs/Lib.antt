@@ -1,8 +1,10 @@
 pub mod Above
-pub mod Answered
 pub mod Ascending
 pub mod Before
 pub mod Begins
+pub mod Calmed
+pub mod Clients
+pub mod Delivered
 pub mod Done
 pub mod Earliest
 pub mod Ended
@@ -15,7 +17,9 @@ pub mod Kept
 pub mod Left
 pub mod Lines
 pub mod Numbered
+pub mod Passing
 pub mod Polled
 pub mod Queues
 pub mod Quiet
+pub mod Stuck
 pub mod Turns

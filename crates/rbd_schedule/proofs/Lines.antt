@@ -1,8 +1,9 @@
 -- The commands of a script's lines so far, with those of one more.
 use mathlib.Core.Path.{fun_ext}
-use Rattle.std.proofs.Common.{◌≡◌, ℕ, zero, suc, ◌+◌, ◌<◌, ◌≤◌, ◌==◌, ◌⊎◌, inl, inr, cond, Bool, true, false, List, [], ◌∷◌, ◌++◌, All, length, take, get_or, refl, sym, ap, ◌∙◌, subst, arith}
+use Rattle.std.proofs.Common.{◌≡◌, ℕ, zero, suc, ◌+◌, ◌<◌, ◌≤◌, ◌==◌, ◌||◌, ◌⊎◌, inl, inr, cond, Bool, true, false, List, [], ◌∷◌, ◌++◌, All, length, take, get_or, refl, sym, ap, ◌∙◌, subst, arith}
 use Rattle.std.proofs.lemmas.Bool.{cases_lt, eqb-true}
 use Rattle.std.proofs.lemmas.List.{flat_map_more, length-append, take_more}
+use Rattle.std.proofs.lemmas.List.Folds.{list_any_more}
 use Rattle.std.proofs.lemmas.List.Elements.{All-get_or, filter-append}
 use Rattle.std.proofs.lemmas.Option.{slice_get_past}
 use Rattle.rbd_script.specs.declared.script.Line.{Line}
@@ -10,7 +11,7 @@ use Rattle.rbd_script.specs.declared.script.Said.{Said}
 use Rattle.rbd_script.specs.declared.script.Said.TheVariants as said
 use Rattle.rbd_schedule.specs.declared.given.Given.{Given}
 use Rattle.rbd_schedule.specs.declared.runner.Runner.{Runner}
-use Rattle.rbd_schedule.specs.Given.{commands_of, given_by, given_in, of_session}
+use Rattle.rbd_schedule.specs.Given.{commands_of, given_by, given_in, is_lost_by, loses, of_session}
 use Rattle.rbd_schedule.specs.InOrder.{AreDeclared, NamesDeclared}
 use Rattle.rbd_schedule.specs.Playing.{IsPlayed, commands_in, given_to}
 
@@ -26,10 +27,15 @@ given_more lines k line session within is =
     ap (of_session session) (commands_more lines k line within is)
     ∙ filter-append (λ (c : Given). c.session == session) (commands_of (take k lines)) (given_by line.number line.said)
 
-pub played_at : (changer : ℕ) (lines : List Line) (k : ℕ) (line : Line) → All (λ (l : Line). IsPlayed changer l.said) lines → k < length lines → line ≡ get_or lines k line
-    → IsPlayed changer line.said
-played_at changer lines k line all within is =
-    subst (λ (l : Line). IsPlayed changer l.said) (sym is) (All-get_or (λ (l : Line). IsPlayed changer l.said) lines k line within all)
+pub played_at : (lines : List Line) (k : ℕ) (line : Line) → All (λ (l : Line). IsPlayed l.said) lines → k < length lines → line ≡ get_or lines k line → IsPlayed line.said
+played_at lines k line all within is = subst (λ (l : Line). IsPlayed l.said) (sym is) (All-get_or (λ (l : Line). IsPlayed l.said) lines k line within all)
+
+-- ---- the notices that are lost
+
+pub lost_more : (lines : List Line) (k : ℕ) (line : Line) (number : ℕ) → k < length lines → line ≡ get_or lines k line
+    → is_lost_by (take (k + 1) lines) number ≡ (is_lost_by (take k lines) number || loses number line.said)
+lost_more lines k line number within is =
+    list_any_more (λ (l : Line). loses number l.said) lines k line within ∙ ap (λ (l : Line). is_lost_by (take k lines) number || loses number l.said) (sym is)
 
 -- ---- lines of sessions that are declared
 

@@ -27,18 +27,20 @@ pub not_held : {R : Type 0} (stands : R → Standing) (given : (session : ℕ) �
 not_held stands given true session slot p is = absurd (true≢false is)
 not_held stands given false session slot p is = refl
 
--- what a line does, and how a script settles, told of the same commands, sessions and world
-pub plays_so : {R : Type 0} (stands : R → Standing) (given given' : (session : ℕ) → List Given) (sessions sessions' : ℕ) (s : Said) (old old' new : WorldView R)
-    → given' ≡ given → sessions' ≡ sessions → old' ≡ old → Plays stands given' sessions' s old' new → Plays stands given sessions s old new
-plays_so stands given given' sessions sessions' s old old' new same count world plays =
-    subst (λ w. Plays stands given sessions s w new) world
-    (subst (λ n. Plays stands given n s old' new) count (subst (λ gs. Plays stands gs sessions' s old' new) same plays))
+-- what a line does, and how a script settles, told of the same commands, notices, sessions and world
+pub plays_so : {R : Type 0} (stands : R → Standing) (given given' : (session : ℕ) → List Given) (lost lost' : (number : ℕ) → Bool) (sessions sessions' : ℕ) (s : Said) (old old' new : WorldView R)
+    → given' ≡ given → lost' ≡ lost → sessions' ≡ sessions → old' ≡ old → Plays stands given' lost' sessions' s old' new → Plays stands given lost sessions s old new
+plays_so stands given given' lost lost' sessions sessions' s old old' new same losing count world plays =
+    subst (λ w. Plays stands given lost sessions s w new) world
+    (subst (λ n. Plays stands given lost n s old' new) count
+    (subst (λ l. Plays stands given l sessions' s old' new) losing (subst (λ gs. Plays stands gs lost' sessions' s old' new) same plays)))
 
-pub settles_so : {R : Type 0} (stands : R → Standing) (given given' : (session : ℕ) → List Given) (sessions sessions' rounds rounds' : ℕ) (old new : WorldView R)
-    → given' ≡ given → sessions' ≡ sessions → rounds' ≡ rounds → Settles stands given' sessions' rounds' old new → Settles stands given sessions rounds old new
-settles_so stands given given' sessions sessions' rounds rounds' old new same count all settles =
-    subst (λ n. Settles stands given sessions n old new) all
-    (subst (λ n. Settles stands given n rounds' old new) count (subst (λ gs. Settles stands gs sessions' rounds' old new) same settles))
+pub settles_so : {R : Type 0} (stands : R → Standing) (given given' : (session : ℕ) → List Given) (lost lost' : (number : ℕ) → Bool) (sessions sessions' rounds rounds' : ℕ) (old new : WorldView R)
+    → given' ≡ given → lost' ≡ lost → sessions' ≡ sessions → rounds' ≡ rounds → Settles stands given' lost' sessions' rounds' old new → Settles stands given lost sessions rounds old new
+settles_so stands given given' lost lost' sessions sessions' rounds rounds' old new same losing count all settles =
+    subst (λ n. Settles stands given lost sessions n old new) all
+    (subst (λ n. Settles stands given lost n rounds' old new) count
+    (subst (λ l. Settles stands given l sessions' rounds' old new) losing (subst (λ gs. Settles stands gs lost' sessions' rounds' old new) same settles)))
 
 -- in a list of one value each place has it
 pub all_alike : {X : Type 0} (x : X) (n j : ℕ) → j < n → slice_get (replicate n x) j ≡ Some x

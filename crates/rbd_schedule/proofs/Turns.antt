@@ -4,28 +4,27 @@ use Rattle.std.specs.Prelude.{Contains}
 use Rattle.std.proofs.lemmas.Bool.{and_parts}
 use Rattle.std.proofs.lemmas.List.Elements.{All-cons, All-head, All-nil, All-tail}
 use Rattle.std.proofs.lemmas.Option.{none-some, same_Some}
+use Rattle.rbd_client.specs.Client.{ClientView}
 use Rattle.rbd_flat.specs.declared.entry.Entry.{Entry}
 use Rattle.rbd_commands.specs.declared.command.Command.{Command}
-use Rattle.rbd_kinds.specs.declared.id.SiteId.{SiteId}
 use Rattle.rbd_machine.specs.Plan.{Standing}
 use Rattle.rbd_script.specs.declared.script.Line.{Line}
 use Rattle.rbd_script.specs.declared.script.Script.{Script}
-use Rattle.rbd_session.specs.Session.{SessionView}
 use Rattle.rbd_world.specs.declared.event.Event.{Event}
 use Rattle.rbd_world.specs.declared.event.Event.TheVariants as event
 use Rattle.rbd_world.specs.declared.event.Outcome.{Outcome}
-use Rattle.rbd_world.specs.Run.{Asked, Nothing, Began, entries_of}
-use Rattle.rbd_world.specs.Step.{IsStep, happening, is_begun, submitted}
-use Rattle.rbd_world.specs.World.{WorldView, session_in}
+use Rattle.rbd_world.specs.Run.{Nothing, Began, entries_of}
+use Rattle.rbd_world.specs.Step.{IsStep, begins_of, happening, is_begun, submitted}
+use Rattle.rbd_world.specs.World.{WorldView, client_in}
 use Rattle.rbd_schedule.specs.declared.given.Given.{Given}
 use Rattle.rbd_schedule.specs.Given.{commands_of, given_in}
 use Rattle.rbd_schedule.specs.InOrder.{AreInOrder}
-use Rattle.rbd_schedule.specs.InTurn.{AreInTurn, IsAnsweredBefore}
-use Rattle.rbd_schedule.specs.Playing.{IsPlay}
+use Rattle.rbd_schedule.specs.InTurn.{AreInTurn, IsEndedBefore}
+use Rattle.rbd_schedule.specs.Playing.{IsNoStart, IsPlay}
 use Rattle.rbd_schedule.specs.Schedule.{Submits}
-use Rattle.rbd_schedule.specs.Starts.{earliest, is_answered}
+use Rattle.rbd_schedule.specs.Starts.{earliest, is_ended}
 use Rattle.rbd_schedule.proofs.Before.{begins_in_turn, nothing_before, stays_before}
-use Rattle.rbd_schedule.proofs.Begins.{poll_begins, trim_begins}
+use Rattle.rbd_schedule.proofs.Begins.{event_begins}
 use Rattle.rbd_schedule.proofs.Entries.{start_is_earliest}
 use Rattle.rbd_schedule.proofs.Kept.{kept_by_parts}
 use Rattle.rbd_schedule.proofs.Numbered.{IsSubmission, given_append, in_front, of_script, one_in_script, own_session, session_numbered, submitted_in}
@@ -33,7 +32,7 @@ use Rattle.rbd_schedule.proofs.Numbered.{IsSubmission, given_append, in_front, o
 -- ---- the earliest command that may start
 
 -- It is one of those that were given; and unless it stands beside the others, all in front of it
--- have their replies.
+-- have ended.
 record IsEarliest (a : (line : ℕ) → Bool) (before : Bool) (given : List Given) (c : Given) : Type 0 where
   front : List Given
   back : List Given
@@ -84,11 +83,11 @@ all_at P given front back c is all = at front (subst (All P) is all)
 
 -- ---- what begins by an event
 
-submission_begins : {R : Type 0} (line : ℕ) (begun : Bool) (asked : Asked) (c : Option (SessionView R)) → (asked.line == line) ≡ false → is_begun line (entries_of (submitted begun asked c)) ≡ false
-submission_begins line begun asked None other = refl
-submission_begins line begun asked (Some c) other = by (begun || nat_lt 64 c.lowest)
+submission_begins : {R : Type 0} (line : ℕ) (begun : Bool) (number : ℕ) (command : Command) (c : Option (ClientView R)) → (number == line) ≡ false → is_begun line (entries_of (submitted begun number command c)) ≡ false
+submission_begins line begun number command None other = refl
+submission_begins line begun number command (Some c) other = by (begun || nat_lt 64 c.session.lowest)
   where
-    by : (b : Bool) → is_begun line (entries_of (cond b Nothing (Began asked c.instance c.lowest))) ≡ false
+    by : (b : Bool) → is_begun line (entries_of (cond b Nothing (Began (begins_of c.session.instance number command) c.session.lowest))) ≡ false
     by true = refl
     by false = ap (λ b. b || false) other
 
@@ -98,7 +97,7 @@ module _ {R : Type 0} (stands : R → Standing) where
       → is_begun line (entries_of (happening stands e w)) ≡ false
   other_begins e session number command w is line other =
       ap (λ x. is_begun line (entries_of (happening stands x w))) is
-      ∙ submission_begins line (is_begun number w.history) (record { session = session; line = number; command = command }) (session_in session w.sessions) other
+      ∙ submission_begins line (is_begun number w.history) number command (client_in session w.lives) other
 
 -- ---- the commands of a session in a play
 
@@ -107,31 +106,24 @@ turns_stay : (given : List Given) (old more new : List Entry) → new ≡ old ++
 turns_stay given old more new is none turns i j d less within behind =
     let a = get_or given i d in
     let b = get_or given j d in
-    subst (IsAnsweredBefore a.line b.line) (sym is) (stays_before a.line b.line old more (none b.line) (turns i j d less within behind))
+    subst (IsEndedBefore a.line b.line) (sym is) (stays_before a.line b.line old more (none b.line) (turns i j d less within behind))
 
-module _ {R : Type 0} (stands : R → Standing) where
-  turns_by_poll : (given : List Given) (session slot : ℕ) (result : Outcome) (old new : WorldView R) → IsStep stands (event.Poll session slot) old result new → AreInTurn given old.history → AreInTurn given new.history
-  turns_by_poll given session slot result old new step turns =
-      turns_stay given old.history (entries_of (happening stands (event.Poll session slot) old)) new.history step.1.history
-      (λ line. poll_begins stands line old.sites slot (session_in session old.sessions)) turns
-
-  turns_by_trim : (given : List Given) (s : SiteId) (image object : ℕ) (result : Outcome) (old new : WorldView R) → IsStep stands (event.Trim s image object) old result new → AreInTurn given old.history → AreInTurn given new.history
-  turns_by_trim given s image object result old new step turns =
-      turns_stay given old.history (entries_of (happening stands (event.Trim s image object) old)) new.history step.1.history
-      (λ line. trim_begins line _ s _ image object) turns
+turns_by_event : {R : Type 0} (stands : R → Standing) (given : List Given) (e : Event) (result : Outcome) (old new : WorldView R) → IsNoStart e → IsStep stands e old result new → AreInTurn given old.history → AreInTurn given new.history
+turns_by_event stands given e result old new plain step turns =
+    turns_stay given old.history (entries_of (happening stands e old)) new.history step.1.history (λ line. event_begins stands line e old plain) turns
 
 -- a command begins whose turn it is
 module _ (all : List Line) (in_order : AreInOrder all) (session : ℕ) where
   -- What is known of a command that starts: it is one of the script's, its event submits it, and
-  -- where it is this session's and waits, who stands before it has the reply.
+  -- where it is this session's and waits, who stands before it has ended.
   record IsTurnOf (c : Given) (history : List Entry) : Type 0 where
     there : Contains (commands_of all) c
     submission : IsSubmission c
     turn : c.beside ≡ false → c.session ≡ session → (i j : ℕ) (d : Given) → i < j → j < length (given_in all session) → (get_or (given_in all session) j d).line ≡ c.line
-        → is_answered (get_or (given_in all session) i d).line history ≡ true
+        → is_ended (get_or (given_in all session) i d).line history ≡ true
 
   turn_of : (lines more : List Line) (other : ℕ) (c : Given) (history : List Entry) → all ≡ lines ++ more
-      → IsEarliest (λ line. is_answered line history) true (given_in lines other) c → IsTurnOf c history
+      → IsEarliest (λ line. is_ended line history) true (given_in lines other) c → IsTurnOf c history
   turn_of lines more other c history is first =
       let back = first.back ++ given_in more other in
       let whole : given_in all other ≡ first.front ++ c ∷ back
@@ -141,7 +133,7 @@ module _ (all : List Line) (in_order : AreInOrder all) (session : ℕ) where
         submission = all_at IsSubmission (given_in all other) first.front back c whole (submitted_in all other);
         turn = λ behind mine i j d less within number.
             let same : other ≡ session = sym (all_at (λ (x : Given). x.session ≡ other) (given_in all other) first.front back c whole (own_session all other)) ∙ mine in
-            in_front (λ (x : Given). is_answered x.line history ≡ true) (given_in all session) first.front back c
+            in_front (λ (x : Given). is_ended x.line history ≡ true) (given_in all session) first.front back c
             (subst (λ s. given_in all s ≡ first.front ++ c ∷ back) same whole)
             (session_numbered all session in_order) (first.turn behind).1 i j d less within number;
       }
@@ -150,14 +142,14 @@ module _ (all : List Line) (in_order : AreInOrder all) (session : ℕ) where
       → AreInTurn (given_in all session) old.history → AreInTurn (given_in all session) new.history
   turns_by_start stands lines more is other old new submits turns i j d less within behind =
       let c = submits.command in
-      let first = earliest_is (λ line. is_begun line old.history) (λ line. is_answered line old.history) true (given_in lines other) c (start_is_earliest (given_in lines other) old other c submits.may) in
+      let first = earliest_is (λ line. is_begun line old.history) (λ line. is_ended line old.history) true (given_in lines other) c (start_is_earliest (given_in lines other) old other c submits.may) in
       let turn = turn_of lines more other c old.history is first in
       let a = get_or (given_in all session) i d in
       let b = get_or (given_in all session) j d in
-      let answered : c.line ≡ b.line → is_answered a.line old.history ≡ true
+      let answered : c.line ≡ b.line → is_ended a.line old.history ≡ true
       = λ same. let one : c ≡ b = one_in_script all in_order c b turn.there (of_script all session j d within) same in
       turn.turn (ap (λ (x : Given). x.beside) one ∙ behind) (ap (λ (x : Given). x.session) one ∙ own_session all session j d within) i j d less within (sym same) in
-      subst (IsAnsweredBefore a.line b.line) (sym submits.step.1.history)
+      subst (IsEndedBefore a.line b.line) (sym submits.step.1.history)
       (begins_in_turn a.line b.line c.line old.history (entries_of (happening stands c.submission old))
       (other_begins stands c.submission c.session c.line turn.submission.command old turn.submission.is) answered (turns i j d less within behind))
 
@@ -165,6 +157,6 @@ module _ (all : List Line) (in_order : AreInOrder all) (session : ℕ) where
 pub play_takes_turns : {R : Type 0} (stands : R → Standing) (script : Script) (w : WorldView R) → IsPlay stands script w → AreInOrder script.lines → (session : ℕ) → AreInTurn (given_in script.lines session) w.history
 play_takes_turns stands script w play in_order session =
     let given = given_in script.lines session in
-    kept_by_parts stands (λ v. AreInTurn given v.history) (turns_by_poll stands given) (turns_by_trim stands given) script
+    kept_by_parts stands (λ v. AreInTurn given v.history) (turns_by_event stands given) script
     (turns_by_start script.lines in_order session stands) play.first w play.plays
-    (λ i j d less within behind. subst (IsAnsweredBefore (get_or given i d).line (get_or given j d).line) (sym play.new.history) (nothing_before (get_or given i d).line (get_or given j d).line))
+    (λ i j d less within behind. subst (IsEndedBefore (get_or given i d).line (get_or given j d).line) (sym play.new.history) (nothing_before (get_or given i d).line (get_or given j d).line))

@@ -1,6 +1,6 @@
--- The commands that a script gives to its sessions.
-use Rattle.std.specs.Prelude.{ℕ, ◌==◌, List, [], ◌∷◌, filter, Option, Some, None}
-use Rattle.std.specs.List.{flat_map}
+-- The commands that a script gives to its sessions, and the notices that it loses.
+use Rattle.std.specs.Prelude.{ℕ, ◌==◌, Bool, true, false, List, [], ◌∷◌, filter, Option, Some, None}
+use Rattle.std.specs.List.{flat_map, list_any}
 use Rattle.rbd_script.specs.declared.script.Line.{Line}
 use Rattle.rbd_script.specs.declared.script.Said.{Said}
 use Rattle.rbd_script.specs.declared.script.Said.TheVariants as said
@@ -27,3 +27,14 @@ given_in lines session = of_session session (commands_of lines)
 abbrev pub listed : Option Given → List Given
 listed None = []
 listed (Some c) = c ∷ []
+
+-- ---- notices
+
+-- settles don't deliver the notice behind this line
+abbrev pub loses : (number : ℕ) → Said → Bool
+loses number (said.Lose other) = other == number
+loses number s = false
+
+-- behind these lines
+abbrev pub is_lost_by : List Line → (number : ℕ) → Bool
+is_lost_by lines number = list_any (λ (line : Line). loses number line.said) lines

@@ -4,6 +4,7 @@ pub mod Deeds
 pub mod Ends
 pub mod Given
 pub mod Going
+pub mod Notices
 pub mod Starts
 pub mod Schedule
 pub mod Playing

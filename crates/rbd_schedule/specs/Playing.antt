@@ -1,9 +1,12 @@
 -- What is played, and by what.
-use Rattle.std.specs.Prelude.{◌≡◌, ℕ, ◌<◌, ◌≤◌, ◌==◌, ◌&&◌, nat_eq, nat_lt, cond, not, Bool, true, false, List, [], length, take, map, All, slice_get, Option, Some, None}
+use Rattle.std.specs.Prelude.{◌≡◌, ℕ, ◌<◌, ◌≤◌, ◌==◌, ◌&&◌, ◌||◌, ◌+◌, nat_eq, nat_lt, cond, not, Bool, true, false, List, [], length, take, map, All, slice_get, Option, Some, None}
 use Rattle.std.specs.HashSet.{HashSet, contains_by}
-use Rattle.rbd_known.specs.Calm.{is_change}
 use Rattle.rbd_commands.specs.declared.command.Command.{Command}
+use Rattle.rbd_flat.specs.declared.entry.Entry.{Entry}
+use Rattle.rbd_flat.specs.declared.entry.Entry.TheVariants as entry
+use Rattle.rbd_kinds.specs.declared.id.Instance.{Instance}
 use Rattle.rbd_kinds.specs.declared.id.SiteId.{SiteId}
+use Rattle.rbd_kinds.specs.declared.notice.Notice.{Notice}
 use Rattle.rbd_machine.specs.Plan.{Standing}
 use Rattle.rbd_requests.specs.declared.request.SessionRequest.{SessionRequest}
 use Rattle.rbd_requests.specs.Served.{is_built}
@@ -12,47 +15,34 @@ use Rattle.rbd_script.specs.declared.script.Line.{Line}
 use Rattle.rbd_script.specs.declared.script.Said.{Said}
 use Rattle.rbd_script.specs.declared.script.Said.TheVariants as said
 use Rattle.rbd_script.specs.declared.script.Script.{Script}
-use Rattle.rbd_flat.specs.declared.entry.Entry.{Entry}
-use Rattle.rbd_world.specs.declared.event.Call.{Call}
+use Rattle.rbd_watch.specs.Posting.{numbered}
+use Rattle.rbd_world.specs.declared.event.Event.{Event}
 use Rattle.rbd_world.specs.declared.event.Event.TheVariants as event
-use Rattle.rbd_world.specs.Sound.{AreFirstClients, IsNewWorld, IsSoundWorld}
-use Rattle.rbd_world.specs.Step.{IsChangeOf, is_begun}
-use Rattle.rbd_world.specs.World.{WorldView}
+use Rattle.rbd_world.specs.declared.event.Outcome.{Outcome}
+use Rattle.rbd_world.specs.declared.event.Outcome.TheVariants as outcome
+use Rattle.rbd_world.specs.Sound.{AreAtHome, IsNewWorld, IsSoundWorld}
+use Rattle.rbd_world.specs.Step.{is_begun}
+use Rattle.rbd_world.specs.World.{LivesView, WorldView, lives_in}
 use Rattle.rbd_schedule.specs.declared.given.Given.{Given}
 use Rattle.rbd_schedule.specs.declared.queue.Queue.{Queue}
 use Rattle.rbd_schedule.specs.declared.runner.Runner.{Runner}
-use Rattle.rbd_world.specs.declared.event.Outcome.{Outcome}
-use Rattle.rbd_world.specs.declared.event.Outcome.TheVariants as outcome
 use Rattle.rbd_schedule.specs.InOrder.{AreDeclared}
+use Rattle.rbd_schedule.specs.Notices.{was_heard}
 use Rattle.rbd_schedule.specs.Schedule.{PlaysScript, Starts, Submits, is_held}
-use Rattle.rbd_schedule.specs.Starts.{IsIdle, IsQuiet, is_answered}
+use Rattle.rbd_schedule.specs.Starts.{IsIdle, IsQuiet, is_ended}
 
 -- ---- which scripts are played
 
--- a command that is served; and a change of an image that is there is this session's, as long as no
--- lock keeps two apart
-pub record IsServed (changer : ℕ) (session : ℕ) (c : Command) : Type 0 where
-  pub built : is_built c ≡ true
-  pub change : is_change c ≡ true → session ≡ changer
+-- each command that is served, and each line of the schedule
+abbrev pub IsPlayed : Said → Type 0
+IsPlayed (said.Command session beside command) = is_built command ≡ true
+IsPlayed s = Unit {0}
 
-abbrev pub IsPlayed : (changer : ℕ) → Said → Type 0
-IsPlayed changer (said.Command session beside command) = IsServed changer session command
-IsPlayed changer (said.Poll session slot times) = Unit {0}
-IsPlayed changer (said.Until session slot kind) = Unit {0}
-IsPlayed changer (said.Settle rounds) = Unit {0}
-IsPlayed changer (said.Trim site image object) = Unit {0}
-IsPlayed changer s = ⊥
-
-abbrev pub IsPlayedBySome : Said → Type 0
-IsPlayedBySome s = (changer : ℕ) × IsPlayed changer s
-
--- The forms that are played, of at most 32 sessions, one of which makes all changes; and whom a
--- line names is declared.
+-- The forms that are played, of at most 32 sessions; and whom a line names is declared.
 pub record IsPlayable (script : Script) : Type 0 where
   pub few : length script.sessions ≤ 32
   pub declared : AreDeclared (length script.sessions) script.lines
-  pub changer : ℕ
-  pub lines : All (λ (line : Line). IsPlayed changer line.said) script.lines
+  pub lines : All (λ (line : Line). IsPlayed line.said) script.lines
 
 -- ---- a play
 
@@ -64,7 +54,7 @@ homes_of sessions = map (λ (d : Declared). d.home) sessions
 pub record IsPlay {R : Type 0} (stands : R → Standing) (script : Script) (w : WorldView R) : Type 0 where
   pub first : WorldView R
   pub new : IsNewWorld stands first
-  pub clients : AreFirstClients (homes_of script.sessions) first.sessions
+  pub homes : AreAtHome (homes_of script.sessions) first.lives
   pub plays : PlaysScript stands script first w
   pub sound : IsSoundWorld stands w
 
@@ -74,23 +64,27 @@ pub record IsPlay {R : Type 0} (stands : R → Standing) (script : Script) (w : 
 abbrev pub has_line : {S : Type 0} → (line : ℕ) → HashSet ℕ S → Bool
 has_line line lines = contains_by (nat_eq line) lines
 
+-- a notice is one of these
+abbrev pub has_number : {S : Type 0} → (number : ℕ) → HashSet ℕ S → Bool
+has_number number numbers = contains_by (nat_eq number) numbers
+
 -- what stands at a place, where there is one
 abbrev pub at_place : List Given → Option ℕ → Option Given
 at_place given None = None
 at_place given (Some place) = slice_get given place
 
 -- a command that is over: nothing waits for it any more
-abbrev pub is_over : (begun answered : (line : ℕ) → Bool) → Given → Bool
-is_over begun answered c = begun c.line && answered c.line
+abbrev pub is_over : (begun ended : (line : ℕ) → Bool) → Given → Bool
+is_over begun ended c = begun c.line && ended c.line
 
 -- a command that stands beside the others, and may start where it wasn't begun
 abbrev pub is_beside : (begun : (line : ℕ) → Bool) → Given → Bool
 is_beside begun c = c.beside && not (begun c.line)
 
 -- All before `front` are over, and none before `next` stands beside the others and wasn't begun.
-pub record IsQueue (begun answered : (line : ℕ) → Bool) (q : Queue) : Type 0 where
+pub record IsQueue (begun ended : (line : ℕ) → Bool) (q : Queue) : Type 0 where
   pub front : q.front ≤ length q.commands.items
-  pub over : All (λ c. is_over begun answered c ≡ true) (take q.front q.commands.items)
+  pub over : All (λ c. is_over begun ended c ≡ true) (take q.front q.commands.items)
   pub next : q.next ≤ length q.commands.items
   pub passed : All (λ c. is_beside begun c ≡ false) (take q.next q.commands.items)
 
@@ -110,37 +104,66 @@ commands_in (Some q) = q.commands.items
 abbrev pub given_to : {E : Type 0} → Runner E → (session : ℕ) → List Given
 given_to r session = commands_in (slice_get r.queues.items session)
 
+-- the notices that no settle delivers
+abbrev pub lost_in : {E : Type 0} → Runner E → (number : ℕ) → Bool
+lost_in r number = has_number number r.lost
+
 -- a command of a session, as it was given
-pub record IsGiven (changer : ℕ) (session : ℕ) (c : Given) : Type 0 where
+pub record IsGiven (session : ℕ) (c : Given) : Type 0 where
   pub mine : c.session ≡ session
   pub command : Command
   pub submission : c.submission ≡ event.Submit session c.line command
-  pub served : IsServed changer session command
+  pub built : is_built command ≡ true
 
-pub record IsQueueIn (changer : ℕ) (history : List Entry) (session : ℕ) (q : Queue) : Type 0 where
-  pub queue : IsQueue (λ line. is_begun line history) (λ line. is_answered line history) q
-  pub given : All (IsGiven changer session) q.commands.items
+pub record IsQueueIn (history : List Entry) (session : ℕ) (q : Queue) : Type 0 where
+  pub queue : IsQueue (λ line. is_begun line history) (λ line. is_ended line history) q
+  pub given : All (IsGiven session) q.commands.items
 
--- What the runner keeps beside the world is true of it, where one session makes all changes.
-pub record KeepsUp {E : Type 0} (changer : ℕ) (r : Runner E) : Type 0 where
+-- ---- notices that a session is past
+
+-- a notice to this instance is none for that life of a session, or a later one
+abbrev pub is_past : (to latest : Instance) → Bool
+is_past to latest = not (to.session == latest.session) || nat_lt to.life latest.life
+
+-- the notice is there, and the life, and each later one, has no more to do with it
+abbrev pub is_settled : (heard lost : (number : ℕ) → Bool) → (latest : Instance) → (number : ℕ) → Option Notice → Bool
+is_settled heard lost latest number None = false
+is_settled heard lost latest number (Some n) = is_past n.to latest || (heard number || lost number)
+
+-- No turn of the session will deliver it any more.
+abbrev pub IsPassed : {R : Type 0} → (lost : (number : ℕ) → Bool) → (session number : ℕ) → WorldView R → Type 0
+IsPassed {R} lost session number w =
+    (l : LivesView R) → lives_in session w.lives ≡ Some l → is_settled (λ n. was_heard n w.calls) lost l.latest number (numbered number w.sites.mail) ≡ true
+
+abbrev pub count_of : Option ℕ → ℕ
+count_of None = 0
+count_of (Some count) = count
+
+-- how many of the first notices the session is past
+abbrev pub passed_by : {E : Type 0} → Runner E → (session : ℕ) → ℕ
+passed_by r session = count_of (slice_get r.passed.items session)
+
+-- ---- all of it
+
+-- The world is sound, and what the runner keeps beside it is true of it.
+pub record KeepsUp {E : Type 0} (stands : SessionRequest E → Standing) (r : Runner E) : Type 0 where
+  pub sound : IsSoundWorld stands r.world
   pub quiet : r.is_due ≡ false → IsQuiet (given_to r) r.world
   pub most : r.highest ≤ 64
   pub above : (session slot : ℕ) → r.highest < slot → is_held session slot r.world ≡ false
   pub few : length r.queues.items ≤ 32
-  pub calls : All (λ (c : Call). IsChangeOf changer c.event) r.world.calls
-  pub queues : (session : ℕ) (q : Queue) → slice_get r.queues.items session ≡ Some q → IsQueueIn changer r.world.history session q
-  pub answered : (line : ℕ) → has_line line r.answered ≡ is_answered line r.world.history
+  pub queues : (session : ℕ) (q : Queue) → slice_get r.queues.items session ≡ Some q → IsQueueIn r.world.history session q
+  pub over : (line : ℕ) → has_line line r.over ≡ is_ended line r.world.history
+  pub heard : (number : ℕ) → has_number number r.heard ≡ was_heard number r.world.calls
+  pub passed : (session k : ℕ) → k < passed_by r session → IsPassed (lost_in r) session (k + 1) r.world
 
-abbrev pub HasChanger : {E : Type 0} → Runner E → Type 0
-HasChanger r = (changer : ℕ) × KeepsUp changer r
-
--- The runner goes on so: it keeps up, its sessions were given nothing more, and a sound world stays
--- sound.
+-- The runner goes on so: it keeps up, its sessions were given nothing more, and no notice more is
+-- lost.
 pub record GoesOn {E : Type 0} (stands : SessionRequest E → Standing) (old new : Runner E) : Type 0 where
-  pub keeps : (changer : ℕ) → KeepsUp changer old → KeepsUp changer new
-  pub sound : IsSoundWorld stands old.world → IsSoundWorld stands new.world
+  pub keeps : KeepsUp stands old → KeepsUp stands new
   pub given : given_to new ≡ given_to old
   pub queues : length new.queues.items ≡ length old.queues.items
+  pub lost : lost_in new ≡ lost_in old
 
 -- a session's earliest command that may start was submitted, or there was none
 abbrev pub StartsIf : {R : Type 0} → (stands : R → Standing) → (given : (session : ℕ) → List Given) → (session : ℕ) → (started : Bool) → (old new : WorldView R) → Type 0
@@ -152,19 +175,35 @@ abbrev pub StartsWhere : {R : Type 0} → (stands : R → Standing) → (given :
 StartsWhere stands given true old new = Starts stands given old new
 StartsWhere stands given false old new = (new ≡ old) × IsQuiet given old
 
--- ---- what a step answers
+-- ---- what an event comes to
 
-abbrev pub has_reply_by : Outcome → Bool
-has_reply_by (outcome.Step site number waiting replied) = replied
-has_reply_by result = false
+-- it is none that begins a command
+abbrev pub IsNoStart : Event → Type 0
+IsNoStart (event.Submit session line command) = ⊥
+IsNoStart e = Unit {0}
 
-abbrev pub is_one_of : (line : ℕ) → Option ℕ → Bool
-is_one_of line None = false
-is_one_of line (Some other) = line == other
+-- Behind it a command may have come to start: a request has its reply, or lines are lost, or a
+-- session runs again.
+abbrev pub lets_start : Outcome → Bool
+lets_start (outcome.Step site number waiting replied) = replied
+lets_start outcome.Stopped = true
+lets_start outcome.Restarted = true
+lets_start result = false
 
--- the line that was in the slot before it, where the request has its reply now
-abbrev pub answers : (line : ℕ) → (before : Option ℕ) → Outcome → Bool
-answers line before result = has_reply_by result && is_one_of line before
+abbrev pub is_one_of : (number : ℕ) → Option ℕ → Bool
+is_one_of number None = false
+is_one_of number (Some other) = other == number
+
+-- the line that an entry ends, where it ends one
+abbrev pub ended_by : Entry → Option ℕ
+ended_by (entry.Reply line reply) = Some line
+ended_by (entry.Lost line) = Some line
+ended_by e = None
+
+-- the notice that an event delivers, where it delivers one
+abbrev pub told_by : Event → Option ℕ
+told_by (event.Deliver number) = Some number
+told_by e = None
 
 -- the highest slot that was given so far, behind this
 abbrev pub highest_after : (highest : ℕ) → Outcome → ℕ

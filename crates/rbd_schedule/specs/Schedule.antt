@@ -13,13 +13,14 @@ use Rattle.rbd_world.specs.declared.event.Outcome.{Outcome}
 use Rattle.rbd_world.specs.declared.event.Outcome.TheVariants as outcome
 use Rattle.rbd_world.specs.Sound.{line_at}
 use Rattle.rbd_world.specs.Step.{IsStep}
-use Rattle.rbd_world.specs.World.{WorldView, kind_in, session_in}
+use Rattle.rbd_world.specs.World.{WorldView, client_in, kind_in}
 use Rattle.rbd_schedule.specs.declared.given.Given.{Given}
 use Rattle.rbd_schedule.specs.Deeds.{Deeds}
-use Rattle.rbd_schedule.specs.Given.{commands_of, given_in}
+use Rattle.rbd_schedule.specs.Given.{commands_of, given_in, is_lost_by}
+use Rattle.rbd_schedule.specs.Notices.{is_due, runs}
 use Rattle.rbd_schedule.specs.Starts.{IsIdle, IsQuiet, to_start}
 
--- a request went on: a step, and none that only asks again for a lock
+-- something went on: a step, and none that only asks again for a lock
 abbrev pub goes_on : Outcome → Bool
 goes_on (outcome.Step site number waiting replied) = not waiting
 goes_on result = false
@@ -46,15 +47,29 @@ most_polls = 4096
 abbrev pub most_idle : ℕ
 most_idle = 8
 
+-- ---- lines that are one event
+
+abbrev pub IsOneEventAt : Said → Type 0
+IsOneEventAt (said.Expire session site image) = Unit {0}
+IsOneEventAt (said.Late session slot) = Unit {0}
+IsOneEventAt (said.Trim site image object) = Unit {0}
+IsOneEventAt s = ⊥
+
+abbrev pub IsOneEvent : Said → Type 0
+IsOneEvent (said.Deliver number) = Unit {0}
+IsOneEvent (said.Stop session) = Unit {0}
+IsOneEvent (said.Restart session) = Unit {0}
+IsOneEvent s = IsOneEventAt s
+
 -- ---- slots
 
 abbrev pub is_held : {R : Type 0} → (session slot : ℕ) → WorldView R → Bool
-is_held session slot w = is_some (line_at session slot w.sessions)
+is_held session slot w = is_some (line_at session slot w.lives)
 
 -- the slot wants an operation of the kind
 pub record Wants {R : Type 0} (stands : R → Standing) (session slot : ℕ) (kind : OpKind) (w : WorldView R) : Type 0 where
   pub site : SiteId
-  pub wants : kind_in stands slot (session_in session w.sessions) ≡ Some (site, kind)
+  pub wants : kind_in stands slot (client_in session w.lives) ≡ Some (site, kind)
 
 -- `given` are the commands of the lines so far, for each session
 module _ {R : Type 0} (stands : R → Standing) (given : (session : ℕ) → List Given) where
@@ -85,11 +100,15 @@ module _ {R : Type 0} (stands : R → Standing) (given : (session : ℕ) → Lis
     pub step : IsStep stands e old result between
     pub starts : StartsAll between new
 
+  -- it comes, whatever comes of it
+  pub record Happens (e : Event) (old new : WorldView R) : Type 0 where
+    pub result : Outcome
+    pub comes : Comes e result old new
+
   -- ---- polls
 
-  pub record Polls (session slot : ℕ) (old new : WorldView R) : Type 0 where
-    pub result : Outcome
-    pub comes : Comes (event.Poll session slot) result old new
+  abbrev pub Polls : (session slot : ℕ) → (old new : WorldView R) → Type 0
+  Polls session slot old new = Happens (event.Poll session slot) old new
 
   -- a poll of a slot that doesn't want it yet
   pub record PollsBefore (session slot : ℕ) (kind : OpKind) (old new : WorldView R) : Type 0 where
@@ -115,53 +134,78 @@ module _ {R : Type 0} (stands : R → Standing) (given : (session : ℕ) → Lis
   PollsWhere true session slot old new = PollsIn session slot old new
   PollsWhere false session slot old new = new ≡ old
 
-  -- The turn of a session: its slot 0 is polled, and then each slot that is held at this point, in
-  -- ascending order.
-  pub record Turn (session : ℕ) (old new : Pace R) : Type 0 where
+  -- slot 0 of a session is polled, and then each slot that is held at this point, in ascending order
+  pub record PollsAll (session : ℕ) (old new : Pace R) : Type 0 where
     pub point : Pace R
     pub slot_0 : PollsIn session 0 old point
     pub held : Deeds (λ k. PollsWhere (is_held session (k + 1) point.world) session (k + 1)) 64 point new
 
-  -- a round of so many sessions, in the order of their declaration
-  abbrev pub Round : (sessions : ℕ) → (went_on : Bool) → (old new : WorldView R) → Type 0
-  Round sessions went_on old new = Deeds Turn sessions (record { world = old; went_on = false }) (record { world = new; went_on = went_on })
+  abbrev pub DeliversWhere : (is_due : Bool) → (number : ℕ) → (old new : WorldView R) → Type 0
+  DeliversWhere true number old new = Happens (event.Deliver number) old new
+  DeliversWhere false number old new = new ≡ old
 
-  -- one more round, as long as no eight were idle in a row
-  pub record RoundsOn (sessions : ℕ) (old new : Calm R) : Type 0 where
-    pub few : old.idle < most_idle
-    pub went_on : Bool
-    pub round : Round sessions went_on old.world new.world
-    pub idle : new.idle ≡ (if went_on then 0 else old.idle + 1)
+  -- `lost` are the notices that no settle delivers
+  module _ (lost : (number : ℕ) → Bool) where
+    -- The turn of a session that runs: each notice that is due to it when its turn begins is
+    -- delivered, in ascending order, and then its slots are polled. Notices are numbered from 1.
+    pub record Turn (session : ℕ) (old new : Pace R) : Type 0 where
+      pub told : WorldView R
+      pub notices : Deeds (λ k. DeliversWhere (is_due lost session (k + 1) old.world) (k + 1)) (length old.world.sites.mail) old.world told
+      pub polls : PollsAll session (record { world = told; went_on = old.went_on }) new
 
-  -- so many rounds, or as many as it takes until eight are idle in a row
-  pub record Settles (sessions : ℕ) (rounds : ℕ) (old new : WorldView R) : Type 0 where
-    pub count : ℕ
-    pub idle : ℕ
-    pub most : count ≤ rounds
-    pub on : Deeds (λ k. RoundsOn sessions) count (record { world = old; idle = 0 }) (record { world = new; idle = idle })
-    pub ends : (count ≡ rounds) ⊎ (idle ≡ most_idle)
+    -- one that is stopped has none
+    abbrev pub TurnWhere : (runs : Bool) → (session : ℕ) → (old new : Pace R) → Type 0
+    TurnWhere true session old new = Turn session old new
+    TurnWhere false session old new = new ≡ old
 
-  -- ---- lines
+    abbrev pub TurnOf : (session : ℕ) → (old new : Pace R) → Type 0
+    TurnOf session old new = TurnWhere (runs session old.world) session old new
 
-  -- What a line does when it is reached. Behind its last event nothing may start any more; so only
-  -- where a line gives a command is there more to be started.
-  abbrev pub Plays : (sessions : ℕ) → Said → (old new : WorldView R) → Type 0
-  Plays sessions (said.Command session beside command) old new = StartsAll old new
-  Plays sessions (said.Poll session slot times) old new = Deeds (λ k. Polls session slot) times old new
-  Plays sessions (said.Until session slot kind) old new = PollsUntil session slot kind old new
-  Plays sessions (said.Settle rounds) old new = Settles sessions rounds old new
-  Plays sessions (said.Trim site image object) old new = (result : Outcome) × Comes (event.Trim site image object) result old new
-  Plays sessions s old new = ⊥
+    -- a round of so many sessions, in the order of their declaration
+    abbrev pub Round : (sessions : ℕ) → (went_on : Bool) → (old new : WorldView R) → Type 0
+    Round sessions went_on old new = Deeds TurnOf sessions (record { world = old; went_on = false }) (record { world = new; went_on = went_on })
+
+    -- one more round, as long as no eight were idle in a row
+    pub record RoundsOn (sessions : ℕ) (old new : Calm R) : Type 0 where
+      pub few : old.idle < most_idle
+      pub went_on : Bool
+      pub round : Round sessions went_on old.world new.world
+      pub idle : new.idle ≡ (if went_on then 0 else old.idle + 1)
+
+    -- so many rounds, or as many as it takes until eight are idle in a row
+    pub record Settles (sessions : ℕ) (rounds : ℕ) (old new : WorldView R) : Type 0 where
+      pub count : ℕ
+      pub idle : ℕ
+      pub most : count ≤ rounds
+      pub on : Deeds (λ k. RoundsOn sessions) count (record { world = old; idle = 0 }) (record { world = new; idle = idle })
+      pub ends : (count ≡ rounds) ⊎ (idle ≡ most_idle)
+
+    -- ---- lines
+
+    -- What a line does when it is reached. Behind its last event nothing may start any more; so only
+    -- where a line gives a command is there more to be started. A notice that is lost is no event.
+    abbrev pub Plays : (sessions : ℕ) → Said → (old new : WorldView R) → Type 0
+    Plays sessions (said.Command session beside command) old new = StartsAll old new
+    Plays sessions (said.Poll session slot times) old new = Deeds (λ k. Polls session slot) times old new
+    Plays sessions (said.Until session slot kind) old new = PollsUntil session slot kind old new
+    Plays sessions (said.Settle rounds) old new = Settles sessions rounds old new
+    Plays sessions (said.Deliver number) old new = Happens (event.Deliver number) old new
+    Plays sessions (said.Lose number) old new = new ≡ old
+    Plays sessions (said.Expire session site image) old new = Happens (event.Expire session site image) old new
+    Plays sessions (said.Stop session) old new = Happens (event.Stop session) old new
+    Plays sessions (said.Restart session) old new = Happens (event.Restart session) old new
+    Plays sessions (said.Late session slot) old new = Happens (event.Late session slot) old new
+    Plays sessions (said.Trim site image object) old new = Happens (event.Trim site image object) old new
 
 module _ {R : Type 0} (stands : R → Standing) where
   -- the line of a script with this place, from 0, with the commands so far
   pub record PlaysLine (script : Script) (k : ℕ) (old new : WorldView R) : Type 0 where
     pub line : Line
     pub is : slice_get script.lines k ≡ Some line
-    pub plays : Plays stands (given_in (take (k + 1) script.lines)) (length script.sessions) line.said old new
+    pub plays : Plays stands (given_in (take (k + 1) script.lines)) (is_lost_by (take (k + 1) script.lines)) (length script.sessions) line.said old new
 
   -- All lines, in their order; and at the end rounds until all that can go on has gone.
   pub record PlaysScript (script : Script) (old new : WorldView R) : Type 0 where
     pub between : WorldView R
     pub lines : Deeds (PlaysLine script) (length script.lines) old between
-    pub closing : Settles stands (given_in script.lines) (length script.sessions) (closing_rounds (length (commands_of script.lines))) between new
+    pub closing : Settles stands (given_in script.lines) (is_lost_by script.lines) (length script.sessions) (closing_rounds (length (commands_of script.lines))) between new

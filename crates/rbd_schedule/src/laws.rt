@@ -6,7 +6,7 @@ ghost use Rattle.rbd_script.specs.declared.script.Script.{Script};
 ghost use Rattle.rbd_session.specs.Session.{SessionView, IsSoundSession, held_in};
 ghost use Rattle.rbd_session.specs.declared.running.Occupant.{Occupant};
 ghost use Rattle.rbd_world.specs.World.{WorldView};
-ghost use Rattle.rbd_schedule.specs.Ends.{AreAnswered, IsSpent};
+ghost use Rattle.rbd_schedule.specs.Ends.{HasCalmed, IsSpent};
 ghost use Rattle.rbd_schedule.specs.Given.{given_in};
 ghost use Rattle.rbd_schedule.specs.Going.{MayGo};
 ghost use Rattle.rbd_schedule.specs.InOrder.{AreDeclared, AreInOrder};
@@ -29,14 +29,16 @@ pub fn somebody_goes_on<R: Request>()
     ensures { (s : SessionView R) (slot : ℕ) (o : Occupant R) → IsSoundSession R.stands s → held_in slot s.slots ≡ Some o → MayGo s }
 {}
 
-/// At the end of a play each command has its reply; or all the rounds that close a script were
-/// played, `2^60` for each command and once more, and never were eight in a row idle.
-pub fn plays_end_with_replies<R: Request>()
-    ensures { (script : Script) (w : WorldView R) → IsPlayable script → (play : IsPlay R.stands script w) → AreAnswered script w.history ⊎ IsSpent R.stands script w play }
+/// At the end of a play nothing goes on any more: each command that was begun has its reply, or is
+/// lost, or is held up at a lock, or stands behind such a one in the line of its image; and where
+/// nobody is held up, each command of a session that runs is over. Or all the rounds that close a
+/// script were played, `2^60` for each command and once more, and never were eight in a row idle.
+pub fn plays_come_to_rest<R: Request>()
+    ensures { (script : Script) (w : WorldView R) → IsPlayable script → (play : IsPlay R.stands script w) → HasCalmed R.stands script w ⊎ IsSpent R.stands script w play }
 {}
 
 /// In each play the commands of a session that wait for each other come one after another: one
-/// without `&` begins when all before it have their replies. The script's lines have to be in
+/// without `&` begins when all before it have their replies or are lost. The script's lines have to be in
 /// order, as those of each script that was read are: a history tells commands by their lines. Own.
 pub fn commands_take_turns<R: Request>()
     ensures { (script : Script) (w : WorldView R) → AreInOrder script.lines → IsPlay R.stands script w → (session : ℕ) → AreInTurn (given_in script.lines session) w.history }

@@ -22,13 +22,17 @@
 //! - When a line with a command is reached, its session is given the command. Behind each line and
 //!   each event all commands that may start are submitted, one after another: that of the first
 //!   session, in the order of declaration, which has one, and of its commands the earliest. One may
-//!   start where its session has a free slot, and either it has `&`, or each earlier command of its
-//!   session has its reply.
+//!   start where its session runs and has a free slot, and either it has `&`, or each earlier command
+//!   of its session has its reply or is lost.
 //! - `@poll` polls a slot so many times. `@until` looks before each poll, and polls until the slot
 //!   wants the operation of that word, 4,096 times at most.
-//! - `@settle` plays rounds. In a round each session has its turn, in the order of declaration: its
-//!   slot 0 is polled, and then each slot that is held at this point, in ascending order. A round in
-//!   which no request went on is idle, and eight of these in a row end it.
+//! - `@deliver`, `@expire`, `@stop`, `@restart`, `@late` and `@trim` are one event each. `@lose` is
+//!   none: it keeps settles from delivering a notice, for good, also one that isn't there yet.
+//! - `@settle` plays rounds. In a round each session that runs has its turn, in the order of
+//!   declaration: first each notice is delivered that is to its instance and was neither delivered
+//!   nor lost, in ascending order; then slot 0 is polled, and then each slot that is held at this
+//!   point, in ascending order. A round in which no step was done, but such as ask again for a lock,
+//!   is idle, and eight of these in a row end it. A delivery is no step.
 //! - Behind the last line come `2^60 * (commands + 1)` rounds more, or as many as it takes until eight
 //!   in a row are idle.
 //!
@@ -36,7 +40,8 @@
 //!
 //! | file | what it says |
 //! |---|---|
-//! | `specs/Given.antt` | the commands that lines give to sessions |
+//! | `specs/Given.antt` | the commands that lines give to sessions, and the notices that they lose |
+//! | `specs/Notices.antt` | which notices were delivered (`was_heard`), and which are due to a session (`is_due`) |
 //! | `specs/Starts.antt` | which of them may start (`to_start`), and that none may (`IsQuiet`) |
 //! | `specs/Schedule.antt` | the schedule, as a relation on worlds: an event and what starts behind it, polls, turns, rounds, lines, a script (`PlaysScript`) |
 //! | `specs/Deeds.antt` | deeds, one after another |
@@ -44,14 +49,15 @@
 //! | `specs/InOrder.antt` | what holds of the lines of each script that was read |
 //! | `specs/InTurn.antt` | that commands that wait for each other come one after another (`AreInTurn`) |
 //! | `specs/Going.antt` | whether a request of a session may go on (`MayGo`) |
-//! | `specs/Ends.antt` | that each command has its reply at the end (`AreAnswered`), or all closing rounds were played (`IsSpent`) |
+//! | `specs/Ends.antt` | that at the end each command that was begun has its reply, is lost, or is held up at a lock (`HasCalmed`), or all closing rounds were played (`IsSpent`) |
 //!
 //! [`play`] answers with a world to which the script's schedule led, from a new one on: each of its
 //! calls is the event that the rules name behind the calls before it. [`laws`] says of each script
 //! that was read that its lines ascend and name declared sessions; of each session with a request
-//! that one of its requests may go on; and so of each play that at its end each command has its
-//! reply, or all the closing rounds were played. And of each play that a command without `&` begins
-//! when all before it of its session have their replies.
+//! that one of its requests may go on, as long as no lock holds it; and so of each play that at its
+//! end each command that was begun has its reply, or is lost, or is held up at a lock, or stands
+//! behind such a one in the line of its image; or all the closing rounds were played. And of each play
+//! that a command without `&` begins when all before it of its session have ended.
 //!
 //! # Cost
 //!
@@ -64,14 +70,21 @@
 //! # How it works
 //!
 //! Beside the world the runner has a queue of commands for each session, the lines that have their
-//! reply, whether a command may have come to start, and the highest slot that was given. A queue
-//! has two places that only go on: all commands before the one are over, and none before the other
-//! stands beside the others and wasn't begun. An event without a reply lets none start: it begins
-//! and answers no line, and frees no slot (`proofs/Quiet.antt`).
+//! reply or are lost, whether a command may have come to start, and the highest slot that was given.
+//! A queue has two places that only go on: all commands before the one are over, and none before the
+//! other stands beside the others and wasn't begun. An event by which no line ends and no session
+//! runs again lets none start (`proofs/Quiet.antt`). What ended is read from the entries that an event
+//! adds to the history.
+//!
+//! Of the notices it has those that were delivered and those that are lost, and for each session how
+//! many of the first it is past: these are to others or to earlier lives, or were delivered or lost,
+//! and never are due to it again (`proofs/Passing.antt`). So a turn looks at what is new to its
+//! session alone.
 #![tactic(auto)]
 
 mod given;
 pub mod laws;
+mod notices;
 mod queue;
 mod rounds;
 mod runner;

@@ -26,7 +26,7 @@ use std::collections::HashSet;
 #[derive(Debug, Drop)]
 pub struct Queue {
     pub commands: Vec<Given>,
-    /// All before it are begun and answered.
+    /// All before it were begun, and have their replies or are lost.
     front: usize,
     /// None before it stands beside the others and wasn't begun.
     next: usize,
@@ -60,15 +60,15 @@ impl Queue {
     pub fn earliest<E: Machine + Drop>(
         &mut self,
         world: &World<E>,
-        answered: &HashSet<u32>,
+        ended: &HashSet<u32>,
     ) -> Option<usize>
-        requires { IsQueue (λ line. is_begun line world.now.history) (λ line. has_line line answered.now) self.old }
-        ensures earliest { at_place self.old.commands.items result ≡ earliest_of (λ line. is_begun line world.now.history) (λ line. has_line line answered.now) true self.old.commands.items }
+        requires { IsQueue (λ line. is_begun line world.now.history) (λ line. has_line line ended.now) self.old }
+        ensures earliest { at_place self.old.commands.items result ≡ earliest_of (λ line. is_begun line world.now.history) (λ line. has_line line ended.now) true self.old.commands.items }
         ensures place { IfSome result (λ place. place < length self.old.commands.items) }
-        ensures queue { IsQueue (λ line. is_begun line world.now.history) (λ line. has_line line answered.now) self.new }
+        ensures queue { IsQueue (λ line. is_begun line world.now.history) (λ line. has_line line ended.now) self.new }
         ensures commands { self.new.commands ≡ self.old.commands }
     {
-        self.front = first_open(self.commands.as_slice(), self.front, world, answered);
+        self.front = first_open(self.commands.as_slice(), self.front, world, ended);
         let first = self.commands.get(self.front)?;
         if !world.has_begun(first.line) {
             return Some(self.front);
@@ -87,27 +87,27 @@ fn first_open<E: Machine + Drop>(
     commands: &[Given],
     from: usize,
     world: &World<E>,
-    answered: &HashSet<u32>,
+    ended: &HashSet<u32>,
 ) -> usize
     requires from { from ≤ length commands.now }
-    requires over { All (λ c. over (λ line. is_begun line world.now.history) (λ line. has_line line answered.now) c ≡ true) (take from commands.now) }
+    requires over { All (λ c. over (λ line. is_begun line world.now.history) (λ line. has_line line ended.now) c ≡ true) (take from commands.now) }
     ensures end { result ≤ length commands.now }
-    ensures over { All (λ c. over (λ line. is_begun line world.now.history) (λ line. has_line line answered.now) c ≡ true) (take result commands.now) }
-    ensures open { (c : Commanded) → slice_get commands.now result ≡ Some c → over (λ line. is_begun line world.now.history) (λ line. has_line line answered.now) c ≡ false }
+    ensures over { All (λ c. over (λ line. is_begun line world.now.history) (λ line. has_line line ended.now) c ≡ true) (take result commands.now) }
+    ensures open { (c : Commanded) → slice_get commands.now result ≡ Some c → over (λ line. is_begun line world.now.history) (λ line. has_line line ended.now) c ≡ false }
 {
     for place in from..commands.len() {
-        if !is_over(&commands[place], world, answered) {
+        if !is_over(&commands[place], world, ended) {
             return place;
         }
     }
     commands.len()
 }
 
-/// Whether a command is begun and answered.
-fn is_over<E: Machine + Drop>(given: &Given, world: &World<E>, answered: &HashSet<u32>) -> bool
-    ensures { result ≡ over (λ line. is_begun line world.now.history) (λ line. has_line line answered.now) given.now }
+/// Whether a command was begun, and has its reply or is lost.
+fn is_over<E: Machine + Drop>(given: &Given, world: &World<E>, ended: &HashSet<u32>) -> bool
+    ensures { result ≡ over (λ line. is_begun line world.now.history) (λ line. has_line line ended.now) given.now }
 {
-    answered.contains(&given.line) && world.has_begun(given.line)
+    ended.contains(&given.line) && world.has_begun(given.line)
 }
 
 /// The first place from this one on whose command stands beside the others and wasn't begun, and the

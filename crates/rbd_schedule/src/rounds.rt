@@ -3,12 +3,12 @@
 //! ```text
 //! settle    round, round, .. ── as many as asked, or until eight in a row were idle
 //! round     turn of session 0, turn of session 1, ..
-//! turn      slot 0, and then each slot that is held at this point
+//! turn      of a session that runs: its notices, slot 0, and then each slot that is held at this point
 //! ```
 ghost use Rattle.std.specs.Prelude.{◌≡◌, ℕ, ◌+◌, ◌<◌, ◌≤◌, if◌then◌else◌, length, slice_get, Some, IfOk, OnOk};
 ghost use Rattle.rbd_requests.specs.Session.{stands_of};
-ghost use Rattle.rbd_schedule.specs.Playing.{GoesOn, HasChanger, given_to};
-ghost use Rattle.rbd_schedule.specs.Schedule.{PollsIn, PollsWhere, Round, Settles, Turn, goes_on as goes_on_by, is_held};
+ghost use Rattle.rbd_schedule.specs.Playing.{GoesOn, KeepsUp, given_to, lost_in};
+ghost use Rattle.rbd_schedule.specs.Schedule.{PollsAll, PollsIn, PollsWhere, Round, Settles, Turn, TurnOf, goes_on as goes_on_by, is_held};
 
 use crate::runner::Runner;
 use rbd_kinds::{NoMemory, SessionNo, Slot};
@@ -22,8 +22,8 @@ const MOST_IDLE: u8 = 8;
 impl<E: Machine + Drop> Runner<E> {
     /// So many rounds, or as many as it takes until eight are idle in a row.
     pub fn settle(&mut self, alloc: Global, rounds: u128) -> Result<(), NoMemory>
-        requires { HasChanger self.old }
-        ensures settles { OnOk result (Settles (stands_of E.stands) (given_to self.old) (length self.old.queues.items) rounds self.old.world self.new.world) }
+        requires { KeepsUp (stands_of E.stands) self.old }
+        ensures settles { OnOk result (Settles (stands_of E.stands) (given_to self.old) (lost_in self.old) (length self.old.queues.items) rounds self.old.world self.new.world) }
         ensures goes { OnOk result (GoesOn (stands_of E.stands) self.old self.new) }
     {
         let mut left = rounds;
@@ -38,21 +38,44 @@ impl<E: Machine + Drop> Runner<E> {
 
     /// A round: whether a request went on in it.
     fn round(&mut self, alloc: Global) -> Result<bool, NoMemory>
-        requires { HasChanger self.old }
-        ensures round { IfOk result (λ went_on. Round (stands_of E.stands) (given_to self.old) (length self.old.queues.items) went_on self.old.world self.new.world) }
+        requires { KeepsUp (stands_of E.stands) self.old }
+        ensures round { IfOk result (λ went_on. Round (stands_of E.stands) (given_to self.old) (lost_in self.old) (length self.old.queues.items) went_on self.old.world self.new.world) }
         ensures goes { OnOk result (GoesOn (stands_of E.stands) self.old self.new) }
     {
         let mut went_on = false;
         for session in 0..self.sessions() {
-            went_on = self.turn(alloc, SessionNo(session as u8), went_on)?;
+            went_on = self.turn_of(alloc, SessionNo(session as u8), went_on)?;
         }
         Ok(went_on)
     }
 
-    /// The turn of a session: slot 0, and then each slot that is held at this point.
+    /// The turn of a session, where it runs.
+    fn turn_of(&mut self, alloc: Global, session: SessionNo, went_on: bool) -> Result<bool, NoMemory>
+        requires { KeepsUp (stands_of E.stands) self.old }
+        ensures turn { IfOk result (λ went_on'. TurnOf (stands_of E.stands) (given_to self.old) (lost_in self.old) session (record { world = self.old.world; went_on = went_on }) (record { world = self.new.world; went_on = went_on' })) }
+        ensures goes { OnOk result (GoesOn (stands_of E.stands) self.old self.new) }
+    {
+        if !self.world.runs(session) {
+            return Ok(went_on);
+        }
+        self.turn(alloc, session, went_on)
+    }
+
+    /// The turn of a session: the notices that are due to it, slot 0, and then each slot that is held
+    /// at this point.
     fn turn(&mut self, alloc: Global, session: SessionNo, went_on: bool) -> Result<bool, NoMemory>
-        requires { HasChanger self.old }
-        ensures turn { IfOk result (λ went_on'. Turn (stands_of E.stands) (given_to self.old) session (record { world = self.old.world; went_on = went_on }) (record { world = self.new.world; went_on = went_on' })) }
+        requires { KeepsUp (stands_of E.stands) self.old }
+        ensures turn { IfOk result (λ went_on'. Turn (stands_of E.stands) (given_to self.old) (lost_in self.old) session (record { world = self.old.world; went_on = went_on }) (record { world = self.new.world; went_on = went_on' })) }
+        ensures goes { OnOk result (GoesOn (stands_of E.stands) self.old self.new) }
+    {
+        self.deliver_due(alloc, session)?;
+        self.polls(alloc, session, went_on)
+    }
+
+    /// The polls of a session's turn: slot 0, and then each slot that is held at this point.
+    fn polls(&mut self, alloc: Global, session: SessionNo, went_on: bool) -> Result<bool, NoMemory>
+        requires { KeepsUp (stands_of E.stands) self.old }
+        ensures polls { IfOk result (λ went_on'. PollsAll (stands_of E.stands) (given_to self.old) session (record { world = self.old.world; went_on = went_on }) (record { world = self.new.world; went_on = went_on' })) }
         ensures goes { OnOk result (GoesOn (stands_of E.stands) self.old self.new) }
     {
         let mut went_on = self.poll_in(alloc, session, Slot(0), went_on)?;
@@ -72,7 +95,7 @@ impl<E: Machine + Drop> Runner<E> {
         held: bool,
         went_on: bool,
     ) -> Result<bool, NoMemory>
-        requires { HasChanger self.old }
+        requires { KeepsUp (stands_of E.stands) self.old }
         ensures polls { IfOk result (λ went_on'. PollsWhere (stands_of E.stands) (given_to self.old) held session slot (record { world = self.old.world; went_on = went_on }) (record { world = self.new.world; went_on = went_on' })) }
         ensures goes { OnOk result (GoesOn (stands_of E.stands) self.old self.new) }
     {
@@ -91,7 +114,7 @@ impl<E: Machine + Drop> Runner<E> {
         slot: Slot,
         went_on: bool,
     ) -> Result<bool, NoMemory>
-        requires { HasChanger self.old }
+        requires { KeepsUp (stands_of E.stands) self.old }
         ensures polls { IfOk result (λ went_on'. PollsIn (stands_of E.stands) (given_to self.old) session slot (record { world = self.old.world; went_on = went_on }) (record { world = self.new.world; went_on = went_on' })) }
         ensures goes { OnOk result (GoesOn (stands_of E.stands) self.old self.new) }
     {
@@ -101,7 +124,7 @@ impl<E: Machine + Drop> Runner<E> {
 
     /// Which slots of a session are held: those from 1 on.
     fn held(&self, session: SessionNo) -> [bool; 64]
-        requires { HasChanger self.now }
+        requires { KeepsUp (stands_of E.stands) self.now }
         ensures { (k : ℕ) → k < 64 → slice_get result k ≡ Some (is_held session (k + 1) self.now.world) }
     {
         let mut held = [false; 64];

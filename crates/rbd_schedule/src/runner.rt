@@ -3,22 +3,23 @@
 //! ```text
 //! an event ── step ── is there a reply? ── start ── start ── .. ── nothing may start
 //! ```
-ghost use Rattle.std.specs.Prelude.{◌≡◌, ℕ, ◌<◌, ◌≤◌, ◌||◌, ◌++◌, [], true, All, length, slice_get, IfOk, IfSome, OnOk};
+ghost use Rattle.std.specs.Prelude.{◌≡◌, ℕ, ◌<◌, ◌≤◌, ◌&&◌, ◌||◌, ◌==◌, ◌++◌, [], true, false, drop, length, All, slice_get, IfOk, IfSome, OnOk};
 ghost use Rattle.rbd_requests.specs.Session.{stands_of};
-ghost use Rattle.rbd_world.specs.Sound.{AreFirstClients, IsNewWorld, IsSoundWorld};
-ghost use Rattle.rbd_world.specs.Step.{AreOfOneClient, IsBuiltEvent, IsStep};
+ghost use Rattle.rbd_world.specs.Sound.{AreAtHome, IsNewWorld, IsSoundWorld};
+ghost use Rattle.rbd_world.specs.Step.{IsBuiltEvent, IsStep};
 ghost use Rattle.rbd_world.specs.declared.event.Event.TheVariants as of_event;
-ghost use Rattle.rbd_world.specs.declared.event.Outcome.{Outcome as Came};
-ghost use Rattle.rbd_schedule.specs.Given.{given_by as told_by, of_session};
-ghost use Rattle.rbd_schedule.specs.Starts.{to_start};
-ghost use Rattle.rbd_schedule.specs.Playing.{at_place, GoesOn, HasChanger, IsEmptyQueue, IsPlayed, KeepsUp, StartsIf, StartsWhere, answers, given_to, has_line, has_reply_by, highest_after, homes_of};
-ghost use Rattle.rbd_schedule.specs.Schedule.{Comes, StartsAll};
+ghost use Rattle.rbd_schedule.specs.Given.{given_by as told_by_line, loses, of_session};
+ghost use Rattle.rbd_schedule.specs.Notices.{hears, is_heard as heard_by};
+ghost use Rattle.rbd_schedule.specs.Starts.{is_ended, to_start};
+ghost use Rattle.rbd_schedule.specs.Playing.{at_place, count_of, GoesOn, IsEmptyQueue, IsNoStart, IsPlayed, KeepsUp, StartsIf, StartsWhere, ended_by as end_of, given_to, has_line, has_number, highest_after, homes_of, is_one_of, lets_start as may_start_by, lost_in, told_by};
+ghost use Rattle.rbd_schedule.specs.Schedule.{Comes, Happens, StartsAll};
 
 use crate::given::given_by;
 use crate::queue::Queue;
+use rbd_flat::Entry;
 use rbd_kinds::{ImageId, NoMemory, Number, SessionNo, SiteId, Slot};
 use rbd_machine::Machine;
-use rbd_script::{Declared, Line};
+use rbd_script::{Declared, Line, Said};
 use rbd_world::{Event, Outcome, World};
 use std::alloc::Global;
 use std::collections::HashSet;
@@ -28,13 +29,19 @@ use std::collections::HashSet;
 pub struct Runner<E: Machine + Drop> {
     pub world: World<E>,
     /// The commands that each session was given so far.
-    queues: Vec<Queue>,
-    /// The lines that have their reply.
-    answered: HashSet<u32>,
+    pub queues: Vec<Queue>,
+    /// The lines that have their reply, or are lost.
+    over: HashSet<u32>,
     /// Whether a command may have come to start: where it is false, none may.
     is_due: bool,
     /// No session holds a slot above it.
     highest: u8,
+    /// The notices that were delivered.
+    pub heard: HashSet<u64>,
+    /// The notices that no settle delivers.
+    pub lost: HashSet<u64>,
+    /// How many of the first notices each session is past: no turn of it will deliver them.
+    pub passed: Vec<u64>,
 }
 
 impl<E: Machine + Drop> Runner<E> {
@@ -42,21 +49,25 @@ impl<E: Machine + Drop> Runner<E> {
     pub fn new(alloc: Global, sessions: &[Declared]) -> Result<Self, NoMemory>
         requires { length sessions.now ≤ 32 }
         ensures new { IfOk result (λ r. IsNewWorld (stands_of E.stands) r.world) }
-        ensures clients { IfOk result (λ r. AreFirstClients (homes_of sessions.now) r.world.sessions) }
-        ensures sound { IfOk result (λ r. IsSoundWorld (stands_of E.stands) r.world) }
-        ensures keeps { IfOk result (λ r. (changer : ℕ) → KeepsUp changer r) }
+        ensures homes { IfOk result (λ r. AreAtHome (homes_of sessions.now) r.world.lives) }
+        ensures keeps { IfOk result (KeepsUp (stands_of E.stands)) }
         ensures given { IfOk result (λ r. (session : ℕ) → given_to r session ≡ []) }
+        ensures lost { IfOk result (λ r. (number : ℕ) → lost_in r number ≡ false) }
         ensures queues { IfOk result (λ r. length r.queues.items ≡ length sessions.now) }
     {
         let homes = homes(alloc, sessions)?;
         let queues = no_commands(alloc, sessions.len())?;
+        let passed = no_numbers(alloc, sessions.len())?;
         let world = World::new(alloc, homes.as_slice())?;
         Ok(Runner {
             world,
             queues,
-            answered: HashSet::new(alloc),
+            over: HashSet::new(alloc),
             is_due: false,
             highest: 0,
+            heard: HashSet::new(alloc),
+            lost: HashSet::new(alloc),
+            passed,
         })
     }
 
@@ -74,17 +85,45 @@ impl<E: Machine + Drop> Runner<E> {
         let Runner {
             world,
             queues: _,
-            answered: _,
+            over: _,
             is_due: _,
             highest: _,
+            heard: _,
+            lost: _,
+            passed: _,
         } = self;
         world
     }
 
-    /// The command of a line, where it gives one, waits behind the others of its session.
+    /// A line is reached: the command that it gives, where it gives one, waits behind the others of
+    /// its session, and the notice that it loses is one of those.
     pub fn give(&mut self, line: &Line) -> Result<(), NoMemory>
-        ensures keeps { OnOk result ((changer : ℕ) → KeepsUp changer self.old → IsPlayed changer line.now.said → KeepsUp changer self.new) }
-        ensures given { OnOk result ((session : ℕ) → session < length self.old.queues.items → given_to self.new session ≡ given_to self.old session ++ of_session session (told_by line.now.number line.now.said)) }
+        ensures keeps { OnOk result (IsPlayed line.now.said → KeepsUp (stands_of E.stands) self.old → KeepsUp (stands_of E.stands) self.new) }
+        ensures given { OnOk result ((session : ℕ) → session < length self.old.queues.items → given_to self.new session ≡ given_to self.old session ++ of_session session (told_by_line line.now.number line.now.said)) }
+        ensures lost { OnOk result ((number : ℕ) → lost_in self.new number ≡ (lost_in self.old number || loses number line.now.said)) }
+        ensures queues { OnOk result (length self.new.queues.items ≡ length self.old.queues.items) }
+        ensures world { OnOk result (self.new.world ≡ self.old.world) }
+    {
+        self.lose_by(&line.said)?;
+        self.queue(line)
+    }
+
+    /// The notice that a line loses, where it loses one, is one of those that no settle delivers.
+    fn lose_by(&mut self, said: &Said) -> Result<(), NoMemory>
+        ensures lost { OnOk result ((number : ℕ) → lost_in self.new number ≡ (lost_in self.old number || loses number said.now)) }
+        ensures rest { self.new ≡ record self.old { lost = self.new.lost } }
+    {
+        if let Said::Lose(number) = said {
+            self.lost.insert(number.get())?;
+        }
+        Ok(())
+    }
+
+    /// The command of a line, where it gives one, waits behind the others of its session.
+    fn queue(&mut self, line: &Line) -> Result<(), NoMemory>
+        ensures keeps { OnOk result (IsPlayed line.now.said → KeepsUp (stands_of E.stands) self.old → KeepsUp (stands_of E.stands) self.new) }
+        ensures given { OnOk result ((session : ℕ) → session < length self.old.queues.items → given_to self.new session ≡ given_to self.old session ++ of_session session (told_by_line line.now.number line.now.said)) }
+        ensures lost { lost_in self.new ≡ lost_in self.old }
         ensures queues { OnOk result (length self.new.queues.items ≡ length self.old.queues.items) }
         ensures world { OnOk result (self.new.world ≡ self.old.world) }
     {
@@ -108,15 +147,78 @@ impl<E: Machine + Drop> Runner<E> {
         session: SessionNo,
         slot: Slot,
     ) -> Result<Outcome, NoMemory>
-        requires { HasChanger self.old }
+        requires { KeepsUp (stands_of E.stands) self.old }
         ensures comes { IfOk result (λ outcome. Comes (stands_of E.stands) (given_to self.old) (of_event.Poll session slot) outcome self.old.world self.new.world) }
         ensures goes { OnOk result (GoesOn (stands_of E.stands) self.old self.new) }
     {
-        let line = self.world.line(session, slot);
+        let from = self.world.history().len();
         let outcome = self.poll_alone(alloc, session, slot)?;
-        self.note(line, &outcome)?;
+        self.note(from, None, &outcome)?;
         self.start_all(alloc)?;
         Ok(outcome)
+    }
+
+    /// An event that begins no command, and then all that may start.
+    pub fn happen(&mut self, alloc: Global, event: Event) -> Result<(), NoMemory>
+        requires keeps { KeepsUp (stands_of E.stands) self.old }
+        requires none { IsNoStart event }
+        ensures happens { OnOk result (Happens (stands_of E.stands) (given_to self.old) event self.old.world self.new.world) }
+        ensures goes { OnOk result (GoesOn (stands_of E.stands) self.old self.new) }
+    {
+        let from = self.world.history().len();
+        let told = notice_of(&event);
+        let outcome = self.step(alloc, event)?;
+        self.note(from, told, &outcome)?;
+        self.start_all(alloc)
+    }
+
+    /// A session's watch of an image ends, and then all that may start does.
+    pub fn expire(
+        &mut self,
+        alloc: Global,
+        session: SessionNo,
+        site: SiteId,
+        image: ImageId,
+    ) -> Result<(), NoMemory>
+        requires { KeepsUp (stands_of E.stands) self.old }
+        ensures happens { OnOk result (Happens (stands_of E.stands) (given_to self.old) (of_event.Expire session site image) self.old.world self.new.world) }
+        ensures goes { OnOk result (GoesOn (stands_of E.stands) self.old self.new) }
+    {
+        let event = Event::Expire {
+            session,
+            site,
+            image,
+        };
+        self.happen(alloc, event)
+    }
+
+    /// What a slot wanted comes, and then all that may start does.
+    pub fn late(&mut self, alloc: Global, session: SessionNo, slot: Slot) -> Result<(), NoMemory>
+        requires { KeepsUp (stands_of E.stands) self.old }
+        ensures happens { OnOk result (Happens (stands_of E.stands) (given_to self.old) (of_event.Late session slot) self.old.world self.new.world) }
+        ensures goes { OnOk result (GoesOn (stands_of E.stands) self.old self.new) }
+    {
+        self.happen(alloc, Event::Late { session, slot })
+    }
+
+    /// A step of the store, and then all that may start does.
+    pub fn trim(
+        &mut self,
+        alloc: Global,
+        site: SiteId,
+        image: ImageId,
+        object: u64,
+    ) -> Result<(), NoMemory>
+        requires { KeepsUp (stands_of E.stands) self.old }
+        ensures happens { OnOk result (Happens (stands_of E.stands) (given_to self.old) (of_event.Trim site image object) self.old.world self.new.world) }
+        ensures goes { OnOk result (GoesOn (stands_of E.stands) self.old self.new) }
+    {
+        let event = Event::Trim {
+            site,
+            image,
+            object,
+        };
+        self.happen(alloc, event)
     }
 
     /// A poll, and nothing else.
@@ -126,7 +228,6 @@ impl<E: Machine + Drop> Runner<E> {
         session: SessionNo,
         slot: Slot,
     ) -> Result<Outcome, NoMemory>
-        requires one_client { AreOfOneClient self.old.world.calls (of_event.Poll session slot) }
         ensures step { IfOk result (λ outcome. IsStep (stands_of E.stands) (of_event.Poll session slot) self.old.world outcome self.new.world) }
         ensures sound { IsSoundWorld (stands_of E.stands) self.new.world }
         ensures rest { self.new ≡ record self.old { world = self.new.world } }
@@ -136,8 +237,7 @@ impl<E: Machine + Drop> Runner<E> {
 
     /// One event, and nothing else.
     fn step(&mut self, alloc: Global, event: Event) -> Result<Outcome, NoMemory>
-        requires built { IsBuiltEvent event }
-        requires one_client { AreOfOneClient self.old.world.calls event }
+        requires { IsBuiltEvent event }
         ensures step { IfOk result (λ outcome. IsStep (stands_of E.stands) event self.old.world outcome self.new.world) }
         ensures sound { IsSoundWorld (stands_of E.stands) self.new.world }
         ensures rest { self.new ≡ record self.old { world = self.new.world } }
@@ -145,47 +245,29 @@ impl<E: Machine + Drop> Runner<E> {
         self.world.step(alloc, &event)
     }
 
-    /// The line that was in a slot before a poll of it has its reply, where the request ended: then
-    /// another may start.
-    fn note(&mut self, before: Option<u32>, outcome: &Outcome) -> Result<(), NoMemory>
-        ensures answered { OnOk result ((other : ℕ) → has_line other self.new.answered ≡ (has_line other self.old.answered || answers other before outcome.now)) }
-        ensures due { OnOk result (self.new.is_due ≡ (self.old.is_due || has_reply_by outcome.now)) }
-        ensures rest { self.new ≡ record self.old { answered = self.new.answered; is_due = self.new.is_due } }
-    {
-        if !has_replied(outcome) {
-            return Ok(());
-        }
-        self.is_due = true;
-        if let Some(line) = before {
-            self.answered.insert(line)?;
-        }
-        Ok(())
-    }
-
-    /// A step of the store, and then all that may start.
-    pub fn trim(
+    /// What came of an event is noted: the lines that have ended by it, from this place of the
+    /// history on; the notice that it told, where one heard it; and whether another command may start.
+    fn note(
         &mut self,
-        alloc: Global,
-        site: SiteId,
-        image: ImageId,
-        object: u64,
+        from: usize,
+        told: Option<u64>,
+        outcome: &Outcome,
     ) -> Result<(), NoMemory>
-        requires { HasChanger self.old }
-        ensures comes { OnOk result ((outcome : Came) × Comes (stands_of E.stands) (given_to self.old) (of_event.Trim site image object) outcome self.old.world self.new.world) }
-        ensures goes { OnOk result (GoesOn (stands_of E.stands) self.old self.new) }
+        requires { from ≤ length self.old.world.history }
+        ensures over { OnOk result ((line : ℕ) → has_line line self.new.over ≡ (has_line line self.old.over || is_ended line (drop from self.old.world.history))) }
+        ensures heard { OnOk result ((number : ℕ) → has_number number self.new.heard ≡ (has_number number self.old.heard || (is_one_of number told && heard_by outcome.now))) }
+        ensures due { OnOk result (self.new.is_due ≡ (self.old.is_due || may_start_by outcome.now)) }
+        ensures rest { self.new ≡ record self.old { over = self.new.over; heard = self.new.heard; is_due = self.new.is_due } }
     {
-        let event = Event::Trim {
-            site,
-            image,
-            object,
-        };
-        self.step(alloc, event)?;
-        self.start_all(alloc)
+        note_ends(&mut self.over, &self.world.history()[from..])?;
+        note_hearing(&mut self.heard, told, outcome)?;
+        self.is_due = self.is_due || lets_start(outcome);
+        Ok(())
     }
 
     /// Starts one command after another, until none may start. None is looked for where none may.
     pub fn start_all(&mut self, alloc: Global) -> Result<(), NoMemory>
-        requires { HasChanger self.old }
+        requires { KeepsUp (stands_of E.stands) self.old }
         ensures starts { OnOk result (StartsAll (stands_of E.stands) (given_to self.old) self.old.world self.new.world) }
         ensures goes { OnOk result (GoesOn (stands_of E.stands) self.old self.new) }
     {
@@ -199,7 +281,7 @@ impl<E: Machine + Drop> Runner<E> {
 
     /// Starts the command that starts next: `false` exactly where none may start.
     fn start_next(&mut self, alloc: Global) -> Result<bool, NoMemory>
-        requires { HasChanger self.old }
+        requires { KeepsUp (stands_of E.stands) self.old }
         ensures starts { IfOk result (λ started. StartsWhere (stands_of E.stands) (given_to self.old) started self.old.world self.new.world) }
         ensures goes { OnOk result (GoesOn (stands_of E.stands) self.old self.new) }
     {
@@ -213,7 +295,7 @@ impl<E: Machine + Drop> Runner<E> {
 
     /// Starts the earliest command of a session that may start: `false` exactly where there is none.
     fn start_of(&mut self, alloc: Global, session: SessionNo) -> Result<bool, NoMemory>
-        requires { HasChanger self.old }
+        requires { KeepsUp (stands_of E.stands) self.old }
         ensures starts { IfOk result (λ started. StartsIf (stands_of E.stands) (given_to self.old) session started self.old.world self.new.world) }
         ensures goes { OnOk result (GoesOn (stands_of E.stands) self.old self.new) }
     {
@@ -225,7 +307,7 @@ impl<E: Machine + Drop> Runner<E> {
 
     /// The place of a session's earliest command that may start.
     fn place_of(&mut self, session: SessionNo) -> Option<usize>
-        requires { HasChanger self.old }
+        requires { KeepsUp (stands_of E.stands) self.old }
         ensures place { at_place (given_to self.old session) result ≡ to_start (given_to self.old session) self.old.world session }
         ensures within { IfSome result (λ place. place < length (given_to self.old session)) }
         ensures goes { GoesOn (stands_of E.stands) self.old self.new }
@@ -233,7 +315,7 @@ impl<E: Machine + Drop> Runner<E> {
     {
         self.world.free(session)?;
         let queue = self.queues.get_mut(session.0 as usize)?;
-        queue.earliest(&self.world, &self.answered)
+        queue.earliest(&self.world, &self.over)
     }
 
     /// Starts a session's command at a place, which may start. It answers `true`.
@@ -243,7 +325,7 @@ impl<E: Machine + Drop> Runner<E> {
         session: SessionNo,
         place: usize,
     ) -> Result<bool, NoMemory>
-        requires keeps { HasChanger self.old }
+        requires keeps { KeepsUp (stands_of E.stands) self.old }
         requires within { place < length (given_to self.old session) }
         requires may { to_start (given_to self.old session) self.old.world session ≡ slice_get (given_to self.old session) place }
         ensures starts { IfOk result (λ started. StartsIf (stands_of E.stands) (given_to self.old) session started self.old.world self.new.world) }
@@ -274,9 +356,78 @@ fn highest_behind(highest: u8, outcome: &Outcome) -> u8
     }
 }
 
-/// Whether a request has its reply by a step.
-fn has_replied(outcome: &Outcome) -> bool
-    ensures { result ≡ has_reply_by outcome.now }
+/// The lines that have ended by entries of a history.
+fn note_ends(over: &mut HashSet<u32>, entries: &[Entry]) -> Result<(), NoMemory>
+    ensures { OnOk result ((line : ℕ) → has_line line over.new ≡ (has_line line over.old || is_ended line entries.now)) }
+{
+    for entry in entries {
+        note_end(over, entry)?;
+    }
+    Ok(())
+}
+
+/// The line that has ended by an entry, where one has.
+fn note_end(over: &mut HashSet<u32>, entry: &Entry) -> Result<(), NoMemory>
+    ensures { OnOk result ((line : ℕ) → has_line line over.new ≡ (has_line line over.old || is_one_of line (end_of entry.now))) }
+{
+    if let Some(line) = line_ended_by(entry) {
+        over.insert(line)?;
+    }
+    Ok(())
+}
+
+/// The line that has its reply, or is lost, by an entry.
+fn line_ended_by(entry: &Entry) -> Option<u32>
+    ensures { result ≡ end_of entry.now }
+{
+    match entry {
+        Entry::Reply { line, reply: _ } => Some(*line),
+        Entry::Lost { line } => Some(*line),
+        _ => None,
+    }
+}
+
+/// The notice that an event told, where an instance heard it.
+fn note_hearing(
+    heard: &mut HashSet<u64>,
+    told: Option<u64>,
+    outcome: &Outcome,
+) -> Result<(), NoMemory>
+    ensures { OnOk result ((number : ℕ) → has_number number heard.new ≡ (has_number number heard.old || (is_one_of number told && heard_by outcome.now))) }
+{
+    if !is_heard(outcome) {
+        return Ok(());
+    }
+    if let Some(number) = told {
+        heard.insert(number)?;
+    }
+    Ok(())
+}
+
+/// Whether an instance heard a notice.
+fn is_heard(outcome: &Outcome) -> bool
+    ensures { result ≡ heard_by outcome.now }
+{
+    match outcome {
+        Outcome::Heard => true,
+        _ => false,
+    }
+}
+
+/// The notice that an event delivers, where it delivers one.
+fn notice_of(event: &Event) -> Option<u64>
+    ensures { result ≡ told_by event.now }
+{
+    match event {
+        Event::Deliver { number } => Some(*number),
+        _ => None,
+    }
+}
+
+/// Whether a command may have come to start by an event: a request has its reply, lines are lost, or
+/// a session runs again.
+fn lets_start(outcome: &Outcome) -> bool
+    ensures { result ≡ may_start_by outcome.now }
 {
     match outcome {
         Outcome::Step {
@@ -285,6 +436,8 @@ fn has_replied(outcome: &Outcome) -> bool
             waiting: _,
             replied,
         } => *replied,
+        Outcome::Stopped => true,
+        Outcome::Restarted => true,
         _ => false,
     }
 }
@@ -310,4 +463,15 @@ fn no_commands(alloc: Global, sessions: usize) -> Result<Vec<Queue>, NoMemory>
         queues.push(Queue::new(alloc))?;
     }
     Ok(queues)
+}
+
+/// 0 for each of so many sessions.
+fn no_numbers(alloc: Global, sessions: usize) -> Result<Vec<u64>, NoMemory>
+    ensures { IfOk result (λ numbers. (k : ℕ) → count_of (slice_get numbers.items k) ≡ 0) }
+{
+    let mut numbers = Vec::new(alloc);
+    for _session in 0..sessions {
+        numbers.push(0)?;
+    }
+    Ok(numbers)
 }

@@ -3,14 +3,14 @@ ghost use Rattle.std.specs.Prelude.{◌≡◌, ◌↔◌, length, IsTrue, IfOk, 
 ghost use Rattle.rbd_requests.specs.Session.{stands_of};
 ghost use Rattle.rbd_schedule.specs.Deeds.{Deeds};
 ghost use Rattle.rbd_schedule.specs.Given.{commands_of, given_by};
-ghost use Rattle.rbd_schedule.specs.Playing.{GoesOn, HasChanger, IsPlay, IsPlayable, IsPlayedBySome, given_to};
-ghost use Rattle.rbd_schedule.specs.Schedule.{Plays, Polls, PollsUntil, Wants, closing_rounds as rounds_for};
+ghost use Rattle.rbd_schedule.specs.Playing.{GoesOn, IsPlay, IsPlayable, KeepsUp, given_to, lost_in};
+ghost use Rattle.rbd_schedule.specs.Schedule.{IsOneEvent, IsOneEventAt, Plays, Polls, PollsUntil, Wants, closing_rounds as rounds_for};
 
 use crate::runner::Runner;
 use rbd_kinds::{NoMemory, OpKind, SessionNo, Slot};
 use rbd_machine::Machine;
 use rbd_script::{Line, Said, Script};
-use rbd_world::World;
+use rbd_world::{Event, World};
 use std::alloc::Global;
 
 /// How many polls an `@until` makes at most.
@@ -38,9 +38,8 @@ pub fn play<E: Machine + Drop>(alloc: Global, script: &Script) -> Result<World<E
 impl<E: Machine + Drop> Runner<E> {
     /// What a line does when it is reached.
     fn play_line(&mut self, alloc: Global, said: &Said) -> Result<(), NoMemory>
-        requires changer { HasChanger self.old }
-        requires played { IsPlayedBySome said.now }
-        ensures plays { OnOk result (Plays (stands_of E.stands) (given_to self.old) (length self.old.queues.items) said.now self.old.world self.new.world) }
+        requires keeps { KeepsUp (stands_of E.stands) self.old }
+        ensures plays { OnOk result (Plays (stands_of E.stands) (given_to self.old) (lost_in self.old) (length self.old.queues.items) said.now self.old.world self.new.world) }
         ensures goes { OnOk result (GoesOn (stands_of E.stands) self.old self.new) }
     {
         match said {
@@ -60,12 +59,51 @@ impl<E: Machine + Drop> Runner<E> {
                 kind,
             } => self.poll_until(alloc, *session, *slot, *kind),
             Said::Settle(rounds) => self.settle(alloc, rounds.get() as u128),
+            Said::Lose(_) => Ok(()),
+            _ => self.play_event(alloc, said),
+        }
+    }
+
+    /// A line that is one event.
+    fn play_event(&mut self, alloc: Global, said: &Said) -> Result<(), NoMemory>
+        requires keeps { KeepsUp (stands_of E.stands) self.old }
+        requires one { IsOneEvent said.now }
+        ensures plays { OnOk result (Plays (stands_of E.stands) (given_to self.old) (lost_in self.old) (length self.old.queues.items) said.now self.old.world self.new.world) }
+        ensures goes { OnOk result (GoesOn (stands_of E.stands) self.old self.new) }
+    {
+        match said {
+            Said::Deliver(number) => self.happen(
+                alloc,
+                Event::Deliver {
+                    number: number.get(),
+                },
+            ),
+            Said::Stop(session) => self.happen(alloc, Event::Stop { session: *session }),
+            Said::Restart(session) => self.happen(alloc, Event::Restart { session: *session }),
+            _ => self.play_event_at(alloc, said),
+        }
+    }
+
+    /// A line that is one event at a slot, an image or an object.
+    fn play_event_at(&mut self, alloc: Global, said: &Said) -> Result<(), NoMemory>
+        requires keeps { KeepsUp (stands_of E.stands) self.old }
+        requires one { IsOneEventAt said.now }
+        ensures plays { OnOk result (Plays (stands_of E.stands) (given_to self.old) (lost_in self.old) (length self.old.queues.items) said.now self.old.world self.new.world) }
+        ensures goes { OnOk result (GoesOn (stands_of E.stands) self.old self.new) }
+    {
+        match said {
+            Said::Expire {
+                session,
+                site,
+                image,
+            } => self.expire(alloc, *session, *site, *image),
+            Said::Late { session, slot } => self.late(alloc, *session, *slot),
             Said::Trim {
                 site,
                 image,
                 object,
             } => self.trim(alloc, *site, *image, object.get()),
-            _ => Ok(()),
+            _ => unreachable!(),
         }
     }
 
@@ -77,7 +115,7 @@ impl<E: Machine + Drop> Runner<E> {
         slot: Slot,
         times: u32,
     ) -> Result<(), NoMemory>
-        requires { HasChanger self.old }
+        requires { KeepsUp (stands_of E.stands) self.old }
         ensures polls { OnOk result (Deeds (λ k. Polls (stands_of E.stands) (given_to self.old) session slot) times self.old.world self.new.world) }
         ensures goes { OnOk result (GoesOn (stands_of E.stands) self.old self.new) }
     {
@@ -95,7 +133,7 @@ impl<E: Machine + Drop> Runner<E> {
         slot: Slot,
         kind: OpKind,
     ) -> Result<(), NoMemory>
-        requires { HasChanger self.old }
+        requires { KeepsUp (stands_of E.stands) self.old }
         ensures polls { OnOk result (PollsUntil (stands_of E.stands) (given_to self.old) session slot kind self.old.world self.new.world) }
         ensures goes { OnOk result (GoesOn (stands_of E.stands) self.old self.new) }
     {

@@ -9,7 +9,7 @@ use Rattle.rbd_schedule.proofs.queue.first_open.Goals as goal
 
 pub loop-place-preserved : goal.loop-place-preserved
 loop-place-preserved g c =
-    let P : Given → Type 0 = λ x. is_over (λ line. is_begun line c.args.world.now.history) (λ line. has_line line c.args.answered.now) x ≡ true in
+    let P : Given → Type 0 = λ x. is_over (λ line. is_begun line c.args.world.now.history) (λ line. has_line line c.args.ended.now) x ≡ true in
     All-more P c.args.commands.now c.loop-place.place c.index-commands-place.result c.loop-place-test.true c.loop-place.invariant
     (subst P c.index-commands-place.is (sym c.is_over.ensures ∙ c.if-not-is_over.false))
 
@@ -19,13 +19,13 @@ returns-then-not-is_over-clause-over g c = c.loop-place.invariant
 pub returns-then-not-is_over-clause-open : goal.returns-then-not-is_over-clause-open
 returns-then-not-is_over-clause-open g c = λ x is.
     let same = c.index-commands-place.is ∙ get_or_from_slice_get c.args.commands.now c.loop-place.place x c.index-commands-place.result is in
-    subst (λ y. is_over (λ line. is_begun line c.args.world.now.history) (λ line. has_line line c.args.answered.now) y ≡ false) same
+    subst (λ y. is_over (λ line. is_begun line c.args.world.now.history) (λ line. has_line line c.args.ended.now) y ≡ false) same
     (sym c.is_over.ensures ∙ c.if-not-is_over.true)
 
 pub returns-clause-over : goal.returns-clause-over
 returns-clause-over g c =
     let n = c.loop-place.place in
-    All-same (λ x. is_over (λ line. is_begun line c.args.world.now.history) (λ line. has_line line c.args.answered.now) x ≡ true)
+    All-same (λ x. is_over (λ line. is_begun line c.args.world.now.history) (λ line. has_line line c.args.ended.now) x ≡ true)
     (take (length c.args.commands.now) c.args.commands.now) (take n c.args.commands.now)
     (take_all (length c.args.commands.now) c.args.commands.now (omega arith) ∙ sym (take_all n c.args.commands.now c.loop-place-test.false)) c.loop-place.invariant
 

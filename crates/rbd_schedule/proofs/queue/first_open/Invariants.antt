@@ -5,4 +5,4 @@ use Rattle.rbd_schedule.proofs.queue.first_open.Given as goal
 
 -- all so far are over
 abbrev pub invariant-loop-place : goal.invariant-loop-place
-invariant-loop-place g l = All (λ c. is_over (λ line. is_begun line l.world.history) (λ line. has_line line l.answered) c ≡ true) (take l.place l.commands)
+invariant-loop-place g l = All (λ c. is_over (λ line. is_begun line l.world.history) (λ line. has_line line l.ended) c ≡ true) (take l.place l.commands)

@@ -1,10 +1,9 @@
 use Rattle.std.proofs.Common.{◌≡◌, length, take}
 use Rattle.rbd_requests.specs.Session.{stands_of}
-use Rattle.rbd_world.specs.Sound.{IsSoundWorld}
 use Rattle.rbd_schedule.specs.Deeds.{Deeds}
-use Rattle.rbd_schedule.specs.Given.{given_in}
+use Rattle.rbd_schedule.specs.Given.{given_in, is_lost_by}
 use Rattle.rbd_schedule.specs.InOrder.{AreDeclared}
-use Rattle.rbd_schedule.specs.Playing.{IsPlayable, KeepsUp, given_to}
+use Rattle.rbd_schedule.specs.Playing.{IsPlayable, KeepsUp, given_to, lost_in}
 use Rattle.rbd_schedule.specs.Schedule.{PlaysLine}
 use Rattle.rbd_schedule.proofs.script.play.Given as goal
 
@@ -12,8 +11,8 @@ use Rattle.rbd_schedule.proofs.script.play.Given as goal
 abbrev pub invariant-loop-line : goal.invariant-loop-line
 invariant-loop-line g l = record {
   queues : length l.runner.queues.items ≡ length l.fn.script.sessions;
-  keeps : (playable : IsPlayable l.fn.script) → KeepsUp playable.changer l.runner;
-  sound : IsSoundWorld (stands_of g.E.Machine.stands) l.runner.world;
+  keeps : IsPlayable l.fn.script → KeepsUp (stands_of g.E.Machine.stands) l.runner;
+  lost : lost_in l.runner ≡ is_lost_by (take l.line-index l.fn.script.lines);
   given : AreDeclared (length l.fn.script.sessions) l.fn.script.lines → given_to l.runner ≡ given_in (take l.line-index l.fn.script.lines);
   lines : AreDeclared (length l.fn.script.sessions) l.fn.script.lines
       → Deeds (PlaysLine (stands_of g.E.Machine.stands) l.fn.script) l.line-index l.initial.runner.world l.runner.world;

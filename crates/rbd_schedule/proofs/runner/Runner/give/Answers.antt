@@ -1,39 +1,27 @@
-use Rattle.std.proofs.Common.{◌≡◌, Some, true, [], ◌∷◌, ◌++◌, slice_get, slice_set, sym, ap, ◌∙◌, refl}
-use Rattle.std.proofs.lemmas.Option.{slice_get_read, slice_get_within}
+use Rattle.std.proofs.Common.{ℕ, ◌<◌, ◌++◌, length, sym, ap, ◌∙◌, subst}
 use Rattle.std.proofs.lemmas.Result.{on_ok_weaker}
-use Rattle.std.specs.Vec.{vec_len, with_item}
-use Rattle.rbd_schedule.specs.Given.{given_by, listed, of_session}
-use Rattle.rbd_schedule.specs.declared.given.Given.{Given}
-use Rattle.rbd_schedule.specs.Playing.{commands_in, given_to}
-use Rattle.rbd_schedule.proofs.Goes.{keeps_more, one_given}
-use Rattle.rbd_schedule.proofs.Queues.{commands_more}
+use Rattle.rbd_schedule.specs.Given.{given_by, loses, of_session}
+use Rattle.rbd_schedule.specs.Playing.{given_to}
+use Rattle.rbd_schedule.specs.declared.runner.Runner.{Runner}
+use Rattle.rbd_schedule.proofs.Goes.{keeps_lost}
 use Rattle.rbd_schedule.proofs.runner.Runner.give.Goals as goal
 
--- the queue of the command's session
-number : (g : _) (c : goal.After-self-in-Some-get_mut-1 g) → c.given.inside.0.0.0 ≡ c.in-Some.given.session
-number g c = ap (λ (x : Given). x.session) c.given.view_is
+pub returns-clause-keeps : goal.returns-clause-keeps
+returns-clause-keeps g c =
+    on_ok_weaker c.queue.result (λ keeps played before.
+    keeps played (keeps_lost c.args.self.now c.lose_by.new.self (λ number. loses number c.args.line.now.said) before c.lose_by.ensures.rest c.in_ok-lose_by.ensures.lost)) c.queue.ensures.keeps
 
-there : (g : _) (c : goal.After-self-in-Some-get_mut-1 g) → slice_get c.args.self.now.queues.items c.in-Some.given.session ≡ Some c.in-Some-get_mut.queue.now
-there g c =
-    ap (slice_get c.args.self.now.queues.items) (sym (number g c))
-    ∙ slice_get_read c.args.self.now.queues.items (vec_len c.args.self.now.queues) c.given.inside.0.0.0 c.in-Some-get_mut.queue.now c.args.self.now.queues.ok.0
-    (c.in-Some-get_mut.ensures.variant.0 refl) c.in-Some-get_mut.ensures.value
+pub returns-clause-given : goal.returns-clause-given
+returns-clause-given g c =
+    on_ok_weaker c.queue.result (λ given session below.
+    given session (subst (λ (r : Runner g.row.E.Denot). session < length r.queues.items) (sym c.lose_by.ensures.rest) below)
+    ∙ ap (λ (r : Runner g.row.E.Denot). given_to r session ++ of_session session (given_by c.args.line.now.number c.args.line.now.said)) c.lose_by.ensures.rest) c.queue.ensures.given
 
-told : (g : _) (c : goal.After-self-in-Some-get_mut-1 g) → c.in-Some.given ∷ [] ≡ given_by c.args.line.now.number c.args.line.now.said
-told g c = sym (ap listed c.in-Some.is) ∙ c.in_ok-given.ensures
+pub returns-clause-lost : goal.returns-clause-lost
+returns-clause-lost g c = on_ok_weaker c.queue.result (λ queues number. ap (λ f. f number) c.queue.ensures.lost ∙ c.in_ok-lose_by.ensures.lost number) c.queue.ensures.queues
 
-pub returns-in-Some-get_mut-clause-keeps : goal.returns-in-Some-get_mut-clause-keeps
-returns-in-Some-get_mut-clause-keeps g c =
-    on_ok_weaker c.push.result (λ commands changer keeps played.
-    keeps_more changer c.args.self.now (record { world = c.args.self.now.world; queues = with_item c.args.self.now.queues c.given.inside.0.0.0 c.push.new.self; answered = c.args.self.now.answered; is_due = true; highest = c.args.self.now.highest })
-    c.in-Some.given c.in-Some-get_mut.queue.now c.push.new.self keeps (there g c) refl refl refl refl
-    (ap (λ n. slice_set c.args.self.now.queues.items n c.push.new.self) (number g c)) commands c.push.ensures.front c.push.ensures.next
-    (one_given c.args.line.now.number c.args.line.now.said c.in-Some.given changer (told g c) played)) c.push.ensures.commands
+pub returns-clause-queues : goal.returns-clause-queues
+returns-clause-queues g c = on_ok_weaker c.queue.result (λ queues. queues ∙ ap (λ (r : Runner g.row.E.Denot). length r.queues.items) c.lose_by.ensures.rest) c.queue.ensures.queues
 
-pub returns-in-Some-get_mut-clause-given : goal.returns-in-Some-get_mut-clause-given
-returns-in-Some-get_mut-clause-given g c =
-    on_ok_weaker c.push.result (λ commands session below.
-    ap (λ n. commands_in (slice_get (slice_set c.args.self.now.queues.items n c.push.new.self) session)) (number g c)
-    ∙ commands_more c.args.self.now.queues.items c.in-Some.given c.push.new.self (slice_get_within c.args.self.now.queues.items c.in-Some.given.session c.in-Some-get_mut.queue.now (there g c))
-    (commands ∙ ap (λ o. commands_in o ++ c.in-Some.given ∷ []) (sym (there g c))) session
-    ∙ ap (λ cs. given_to c.args.self.now session ++ of_session session cs) (told g c)) c.push.ensures.commands
+pub returns-clause-world : goal.returns-clause-world
+returns-clause-world g c = on_ok_weaker c.queue.result (λ world. world ∙ ap (λ (r : Runner g.row.E.Denot). r.world) c.lose_by.ensures.rest) c.queue.ensures.world

@@ -10,7 +10,7 @@ loop-k-init g c = record { count = refl; held = λ j below. absurd (omega (arith
 
 pub loop-k-preserved : goal.loop-k-preserved
 loop-k-preserved g c =
-    let below : c.loop-k.k < 64 = omega (arith, c.loop-k-test.true, c.highest-k-end.ensures, c.requires.1.most) in
+    let below : c.loop-k.k < 64 = omega (arith, c.loop-k-test.true, c.highest-k-end.ensures, c.requires.most) in
     record {
       count = length-set c.loop-k.held c.loop-k.k c.is_some.result ∙ c.loop-k.invariant.count;
       held = λ j before.
@@ -28,4 +28,4 @@ returns g c = λ k below. by k below (cases_lt k c.loop-k.k)
     by k below (inl before) = c.loop-k.invariant.held k before
     by k below (inr past) =
         c.loop-k.invariant.rest k past below
-        ∙ ap Some (sym (c.requires.1.above c.args.session (k + 1) (omega (arith, past, c.loop-k-test.false, c.highest-k-end.ensures))))
+        ∙ ap Some (sym (c.requires.above c.args.session (k + 1) (omega (arith, past, c.loop-k-test.false, c.highest-k-end.ensures))))

@@ -5,12 +5,15 @@ use Rattle.rbd_schedule.proofs.Goes.{given_none, keeps_new}
 use Rattle.rbd_schedule.proofs.runner.Runner.new.Goals as goal
 
 pub returns-clause-keeps : goal.returns-clause-keeps
-returns-clause-keeps g c = λ changer.
-    keeps_new (stands_of g.E.Machine.stands) changer (record { world = c.in_ok-world.world; queues = c.in_ok-queues.queues; answered = c.new-2.result; is_due = false; highest = 0 })
-    (subst (λ n. n ≤ 32) (sym c.in_ok-queues.ensures.count) c.requires) c.in_ok-queues.ensures.empty c.in_ok-world.ensures.new (λ line. ap (list_any (nat_eq line)) c.new-2.ensures.empty) refl
+returns-clause-keeps g c =
+    keeps_new (stands_of g.E.Machine.stands)
+    (record { world = c.in_ok-world.world; queues = c.in_ok-queues.queues; over = c.new-2.result; is_due = false; highest = 0; heard = c.new-3.result; lost = c.new-4.result; passed = c.in_ok-passed.passed })
+    c.in_ok-world.ensures.sound
+    (subst (λ n. n ≤ 32) (sym c.in_ok-queues.ensures.count) c.requires) c.in_ok-queues.ensures.empty c.in_ok-world.ensures.new (λ line. ap (list_any (nat_eq line)) c.new-2.ensures.empty)
+    (λ number. ap (list_any (nat_eq number)) c.new-3.ensures.empty) refl c.in_ok-passed.ensures
 
 pub returns-clause-given : goal.returns-clause-given
-returns-clause-given g c = given_none (record { world = c.in_ok-world.world; queues = c.in_ok-queues.queues; answered = c.new-2.result; is_due = false; highest = 0 }) c.in_ok-queues.ensures.empty
+returns-clause-given g c = given_none (record { world = c.in_ok-world.world; queues = c.in_ok-queues.queues; over = c.new-2.result; is_due = false; highest = 0; heard = c.new-3.result; lost = c.new-4.result; passed = c.in_ok-passed.passed }) c.in_ok-queues.ensures.empty
 
 pub returns-clause-queues : goal.returns-clause-queues
 returns-clause-queues g c = c.in_ok-queues.ensures.count

@@ -25,6 +25,6 @@ returns-clause-within g c = within_given c.args.self.now c.args.session c.in_ok-
 
 pub returns-clause-goes : goal.returns-clause-goes
 returns-clause-goes g c =
-    goes_by_look c.args.self.now (record { world = c.args.self.now.world; queues = with_item c.args.self.now.queues c.session.inside.0 c.earliest.new.self; answered = c.args.self.now.answered; is_due = c.args.self.now.is_due; highest = c.args.self.now.highest })
+    goes_by_look c.args.self.now (record c.args.self.now { queues = with_item c.args.self.now.queues c.session.inside.0 c.earliest.new.self })
     c.requires c.session.inside.0 c.in_ok-queue.queue.now c.earliest.new.self
-    (ap (slice_get c.args.self.now.queues.items) c.session.view_is ∙ there g c) refl refl refl refl refl c.earliest.ensures.commands c.earliest.ensures.queue
+    (ap (slice_get c.args.self.now.queues.items) c.session.view_is ∙ there g c) refl refl c.earliest.ensures.commands c.earliest.ensures.queue

@@ -1,20 +1,24 @@
-use Rattle.std.proofs.Common.{sym, ap, subst}
+use Rattle.std.proofs.Common.{length, refl, sym, ap, ◌∙◌, subst, None}
+use Rattle.std.proofs.lemmas.Result.{on_ok_weaker}
 use Rattle.rbd_requests.specs.Session.{stands_of}
 use Rattle.rbd_world.specs.declared.event.Event.TheVariants as event
 use Rattle.rbd_world.specs.Step.{IsStep}
-use Rattle.rbd_schedule.specs.Playing.{given_to}
+use Rattle.rbd_schedule.specs.Playing.{GoesOn, given_to}
 use Rattle.rbd_schedule.specs.declared.runner.Runner.{Runner}
-use Rattle.rbd_schedule.proofs.Goes.{comes_then, goes_by_note, goes_then, has_changer}
+use Rattle.rbd_schedule.proofs.Goes.{comes_then, goes_by_note, goes_then}
 use Rattle.rbd_schedule.proofs.runner.Runner.poll.Goals as goal
 
 pub start_all-requires : goal.start_all-requires
 start_all-requires g c =
-    has_changer c.args.self.now c.note.new.self c.requires
-    (goes_by_note (stands_of g.E.Machine.stands) c.args.session c.args.slot c.args.self.now c.poll_alone.new.self c.note.new.self c.line-line.result c.in_ok-outcome.outcome c.line-line.ensures.line c.line-line.ensures.sound c.in_ok-outcome.ensures.step c.poll_alone.ensures.sound c.poll_alone.ensures.rest c.note.ensures.rest c.in_ok-note.ensures.answered c.in_ok-note.ensures.due)
+    (goes_by_note (stands_of g.E.Machine.stands) (event.Poll c.args.session c.args.slot) c.args.self.now c.poll_alone.new.self c.note.new.self (length c.history-from.result.now) None c.in_ok-outcome.outcome tt
+    (ap length c.history-from.ensures) refl c.in_ok-outcome.ensures.step c.poll_alone.ensures.sound c.poll_alone.ensures.rest c.note.ensures.rest
+    c.in_ok-note.ensures.over c.in_ok-note.ensures.heard c.in_ok-note.ensures.due).keeps c.requires
 
 pub returns-clause-comes : goal.returns-clause-comes
 returns-clause-comes g c =
-    let goes = goes_by_note (stands_of g.E.Machine.stands) c.args.session c.args.slot c.args.self.now c.poll_alone.new.self c.note.new.self c.line-line.result c.in_ok-outcome.outcome c.line-line.ensures.line c.line-line.ensures.sound c.in_ok-outcome.ensures.step c.poll_alone.ensures.sound c.poll_alone.ensures.rest c.note.ensures.rest c.in_ok-note.ensures.answered c.in_ok-note.ensures.due in
+    let goes = goes_by_note (stands_of g.E.Machine.stands) (event.Poll c.args.session c.args.slot) c.args.self.now c.poll_alone.new.self c.note.new.self (length c.history-from.result.now) None c.in_ok-outcome.outcome tt
+    (ap length c.history-from.ensures) refl c.in_ok-outcome.ensures.step c.poll_alone.ensures.sound c.poll_alone.ensures.rest c.note.ensures.rest
+    c.in_ok-note.ensures.over c.in_ok-note.ensures.heard c.in_ok-note.ensures.due in
     comes_then (stands_of g.E.Machine.stands) (event.Poll c.args.session c.args.slot) c.in_ok-outcome.outcome c.args.self.now.world c.note.new.self.world c.start_all.new.self.world
     (given_to c.args.self.now) (given_to c.note.new.self) goes.given
     (subst (λ w. IsStep (stands_of g.E.Machine.stands) (event.Poll c.args.session c.args.slot) c.args.self.now.world c.in_ok-outcome.outcome w) (sym (ap (λ (r : Runner g.row.E.Denot). r.world) c.note.ensures.rest)) c.in_ok-outcome.ensures.step)
@@ -23,5 +27,7 @@ returns-clause-comes g c =
 pub returns-clause-goes : goal.returns-clause-goes
 returns-clause-goes g c =
     goes_then c.args.self.now c.note.new.self c.start_all.new.self
-    (goes_by_note (stands_of g.E.Machine.stands) c.args.session c.args.slot c.args.self.now c.poll_alone.new.self c.note.new.self c.line-line.result c.in_ok-outcome.outcome c.line-line.ensures.line c.line-line.ensures.sound c.in_ok-outcome.ensures.step c.poll_alone.ensures.sound c.poll_alone.ensures.rest c.note.ensures.rest c.in_ok-note.ensures.answered c.in_ok-note.ensures.due)
+    (goes_by_note (stands_of g.E.Machine.stands) (event.Poll c.args.session c.args.slot) c.args.self.now c.poll_alone.new.self c.note.new.self (length c.history-from.result.now) None c.in_ok-outcome.outcome tt
+    (ap length c.history-from.ensures) refl c.in_ok-outcome.ensures.step c.poll_alone.ensures.sound c.poll_alone.ensures.rest c.note.ensures.rest
+    c.in_ok-note.ensures.over c.in_ok-note.ensures.heard c.in_ok-note.ensures.due)
     c.in_ok-start_all.ensures.goes

@@ -4,7 +4,7 @@ use Rattle.rbd_schedule.specs.Deeds.{Deeds}
 use Rattle.rbd_schedule.specs.Playing.{given_to}
 use Rattle.rbd_schedule.specs.Schedule.{Polls}
 use Rattle.rbd_schedule.proofs.Done.{none_done, one_more}
-use Rattle.rbd_schedule.proofs.Goes.{goes_same, goes_then, has_changer}
+use Rattle.rbd_schedule.proofs.Goes.{goes_same, goes_then}
 use Rattle.rbd_schedule.proofs.runner.Runner.poll_times.Goals as goal
 
 pub loop-init : goal.loop-init
@@ -14,7 +14,7 @@ loop-init g c = record {
 }
 
 pub poll-requires : goal.poll-requires
-poll-requires g c = has_changer c.args.self.now c.loop.self c.requires c.loop.invariant.goes
+poll-requires g c = c.loop.invariant.goes.keeps c.requires
 
 pub loop-preserved : goal.loop-preserved
 loop-preserved g c = record {

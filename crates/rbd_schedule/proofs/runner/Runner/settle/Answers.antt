@@ -1,9 +1,9 @@
 use Rattle.std.proofs.Common.{inl, inr, ◌+◌, length, subst, arith}
 use Rattle.rbd_requests.specs.Session.{stands_of}
-use Rattle.rbd_schedule.specs.Playing.{given_to}
+use Rattle.rbd_schedule.specs.Playing.{given_to, lost_in}
 use Rattle.rbd_schedule.specs.Schedule.{Round, RoundsOn}
 use Rattle.rbd_schedule.proofs.Done.{none_done, one_more}
-use Rattle.rbd_schedule.proofs.Goes.{goes_same, goes_then, has_changer}
+use Rattle.rbd_schedule.proofs.Goes.{goes_same, goes_then}
 use Rattle.rbd_schedule.proofs.runner.Runner.settle.Goals as goal
 
 pub loop-left-init : goal.loop-left-init
@@ -12,11 +12,11 @@ loop-left-init g c = record {
   count = 0;
   all = omega arith;
   few = omega arith;
-  on = none_done (λ k. RoundsOn (stands_of g.E.Machine.stands) (given_to c.args.self.now) (length c.args.self.now.queues.items)) (record { world = c.args.self.now.world; idle = 0 });
+  on = none_done (λ k. RoundsOn (stands_of g.E.Machine.stands) (given_to c.args.self.now) (lost_in c.args.self.now) (length c.args.self.now.queues.items)) (record { world = c.args.self.now.world; idle = 0 });
 }
 
 pub round-requires : goal.round-requires
-round-requires g c = has_changer c.args.self.now c.loop-left.self c.requires c.loop-left.invariant.goes
+round-requires g c = c.loop-left.invariant.goes.keeps c.requires
 
 pub loop-left-smaller : goal.loop-left-smaller
 loop-left-smaller g c = omega (arith, c.loop-left-test.true)
@@ -27,15 +27,17 @@ loop-left-preserved g c = record {
   count = c.loop-left.invariant.count + 1;
   all = omega (arith, c.loop-left.invariant.all, c.loop-left-test.true);
   few = c.idle_after-idle.ensures.few;
-  on = one_more (λ k. RoundsOn (stands_of g.E.Machine.stands) (given_to c.args.self.now) (length c.args.self.now.queues.items)) c.loop-left.invariant.count
+  on = one_more (λ k. RoundsOn (stands_of g.E.Machine.stands) (given_to c.args.self.now) (lost_in c.args.self.now) (length c.args.self.now.queues.items)) c.loop-left.invariant.count
       (record { world = c.args.self.now.world; idle = 0 }) (record { world = c.loop-left.self.world; idle = c.loop-left.idle }) (record { world = c.round.new.self.world; idle = c.idle_after-idle.result })
       c.loop-left.invariant.on
       (record {
         few = c.if-idle-lt-MOST_IDLE.true;
         went_on = c.in_ok-went_on.went_on;
-        round = subst (λ n. Round (stands_of g.E.Machine.stands) (given_to c.args.self.now) n c.in_ok-went_on.went_on c.loop-left.self.world c.round.new.self.world) c.loop-left.invariant.goes.queues
-            (subst (λ given. Round (stands_of g.E.Machine.stands) given (length c.loop-left.self.queues.items) c.in_ok-went_on.went_on c.loop-left.self.world c.round.new.self.world)
-            c.loop-left.invariant.goes.given c.in_ok-went_on.ensures.round);
+        round = subst (λ n. Round (stands_of g.E.Machine.stands) (given_to c.args.self.now) (lost_in c.args.self.now) n c.in_ok-went_on.went_on c.loop-left.self.world c.round.new.self.world) c.loop-left.invariant.goes.queues
+            (subst (λ lost. Round (stands_of g.E.Machine.stands) (given_to c.args.self.now) lost (length c.loop-left.self.queues.items) c.in_ok-went_on.went_on c.loop-left.self.world c.round.new.self.world)
+            c.loop-left.invariant.goes.lost
+            (subst (λ given. Round (stands_of g.E.Machine.stands) given (lost_in c.loop-left.self) (length c.loop-left.self.queues.items) c.in_ok-went_on.went_on c.loop-left.self.world c.round.new.self.world)
+            c.loop-left.invariant.goes.given c.in_ok-went_on.ensures.round));
         idle = c.idle_after-idle.ensures.idle;
       });
 }

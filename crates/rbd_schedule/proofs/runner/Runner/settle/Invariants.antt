@@ -1,7 +1,7 @@
 use Rattle.std.proofs.Common.{◌≡◌, ℕ, ◌+◌, ◌≤◌, length}
 use Rattle.rbd_requests.specs.Session.{stands_of}
 use Rattle.rbd_schedule.specs.Deeds.{Deeds}
-use Rattle.rbd_schedule.specs.Playing.{GoesOn, given_to}
+use Rattle.rbd_schedule.specs.Playing.{GoesOn, given_to, lost_in}
 use Rattle.rbd_schedule.specs.Schedule.{RoundsOn}
 use Rattle.rbd_schedule.proofs.runner.Runner.settle.Given as goal
 
@@ -12,7 +12,7 @@ invariant-loop-left g l = record {
   count : ℕ;
   all : count + l.left ≡ l.fn.rounds;
   few : l.idle ≤ 8;
-  on : Deeds (λ k. RoundsOn (stands_of g.E.Machine.stands) (given_to l.fn.self) (length l.fn.self.queues.items)) count
+  on : Deeds (λ k. RoundsOn (stands_of g.E.Machine.stands) (given_to l.fn.self) (lost_in l.fn.self) (length l.fn.self.queues.items)) count
       (record { world = l.fn.self.world; idle = 0 }) (record { world = l.self.world; idle = l.idle });
 }
 

@@ -4,19 +4,19 @@ use Rattle.rbd_schedule.specs.Deeds.{Deeds}
 use Rattle.rbd_schedule.specs.Playing.{StartsWhere, given_to}
 use Rattle.rbd_schedule.specs.Schedule.{Starts}
 use Rattle.rbd_schedule.proofs.Done.{none_done, one_more}
-use Rattle.rbd_schedule.proofs.Goes.{goes_quiet, goes_same, goes_then, has_changer, left_again, quiet_again, starts_one}
+use Rattle.rbd_schedule.proofs.Goes.{goes_quiet, goes_same, goes_then, left_again, quiet_again, starts_one}
 use Rattle.rbd_schedule.proofs.runner.Runner.start_all.Goals as goal
 
 pub loop-init : goal.loop-init
 loop-init g c = record { goes = goes_same c.args.self.now; count = 0; starts = none_done (λ k. Starts (stands_of g.E.Machine.stands) (given_to c.args.self.now)) c.args.self.now.world }
 
 pub start_next-requires : goal.start_next-requires
-start_next-requires g c = has_changer c.args.self.now c.loop.self c.requires c.loop.invariant.goes
+start_next-requires g c = c.loop.invariant.goes.keeps c.requires
 
 pub loop-smaller : goal.loop-smaller
 loop-smaller g c =
     left_again c.loop.self c.start_next.new.self c.in_ok-start_next.ensures.goes
-    (starts_one (stands_of g.E.Machine.stands) c.loop.self (has_changer c.args.self.now c.loop.self c.requires c.loop.invariant.goes) c.start_next.new.self.world
+    (starts_one (stands_of g.E.Machine.stands) c.loop.self (c.loop.invariant.goes.keeps c.requires) c.start_next.new.self.world
     (subst (λ b. StartsWhere (stands_of g.E.Machine.stands) (given_to c.loop.self) b c.loop.self.world c.start_next.new.self.world) c.if-branch.true c.in_ok-start_next.ensures.starts))
 
 pub loop-preserved : goal.loop-preserved
@@ -32,7 +32,7 @@ pub returns-then-not-self-clause-starts : goal.returns-then-not-self-clause-star
 returns-then-not-self-clause-starts g c = record {
   count = 0;
   starts = none_done (λ k. Starts (stands_of g.E.Machine.stands) (given_to c.args.self.now)) c.args.self.now.world;
-  quiet = c.requires.1.quiet c.if-not-self.true;
+  quiet = c.requires.quiet c.if-not-self.true;
 }
 
 pub returns-then-not-self-clause-goes : goal.returns-then-not-self-clause-goes

@@ -1,7 +1,17 @@
-use Rattle.std.proofs.Common.{◌≡◌, subst, get_or}
+use Rattle.std.proofs.Common.{◌≡◌, ◌∙◌, subst, get_or}
 use Rattle.rbd_requests.specs.Session.{stands_of}
 use Rattle.rbd_schedule.proofs.Goes.{command_at, goes_by_start}
 use Rattle.rbd_schedule.proofs.runner.Runner.start_at.Goals as goal
+
+pub returns-clause-starts : goal.returns-clause-starts
+returns-clause-starts g c = record {
+  command = c.index-command.result.now;
+  may = c.requires.may
+      ∙ command_at c.args.self.now c.args.session c.args.place c.index.result.now c.index-command.result.now c.requires.within
+          (subst (λ s. c.index.result.now ≡ get_or c.args.self.now.queues.items s c.index.result.now) c.session.view_is c.index.ensures) c.index-command.ensures;
+  result = c.in_ok-outcome.outcome;
+  step = c.in_ok-outcome.ensures.step;
+}
 
 pub returns-clause-goes : goal.returns-clause-goes
 returns-clause-goes g c =

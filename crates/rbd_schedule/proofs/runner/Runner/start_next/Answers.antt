@@ -2,7 +2,7 @@ use Rattle.std.proofs.Common.{subst, refl, arith}
 use Rattle.rbd_requests.specs.Session.{stands_of}
 use Rattle.rbd_schedule.specs.Playing.{StartsIf, given_to}
 use Rattle.rbd_schedule.specs.Starts.{IsIdle}
-use Rattle.rbd_schedule.proofs.Goes.{goes_same, goes_then, has_changer, nobody_starts, starts_so}
+use Rattle.rbd_schedule.proofs.Goes.{goes_same, goes_then, nobody_starts, starts_so}
 use Rattle.rbd_schedule.proofs.Done.{all_idle, one_more_idle}
 use Rattle.rbd_schedule.proofs.runner.Runner.start_next.Goals as goal
 
@@ -10,7 +10,7 @@ pub loop-session-init : goal.loop-session-init
 loop-session-init g c = record { goes = goes_same c.args.self.now; world = refl; idle = λ s below. absurd (omega (arith, below)) }
 
 pub start_of-requires : goal.start_of-requires
-start_of-requires g c = has_changer c.args.self.now c.loop-session.self c.requires c.loop-session.invariant.goes
+start_of-requires g c = c.loop-session.invariant.goes.keeps c.requires
 
 pub returns-then-branch-clause-starts : goal.returns-then-branch-clause-starts
 returns-then-branch-clause-starts g c = record {

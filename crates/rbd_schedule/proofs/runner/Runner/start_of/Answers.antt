@@ -3,11 +3,11 @@ use Rattle.std.proofs.lemmas.Result.{on_ok_weaker}
 use Rattle.rbd_requests.specs.Session.{stands_of}
 use Rattle.rbd_schedule.specs.Playing.{StartsIf, at_place, given_to}
 use Rattle.rbd_schedule.specs.Starts.{to_start}
-use Rattle.rbd_schedule.proofs.Goes.{goes_then, has_changer}
+use Rattle.rbd_schedule.proofs.Goes.{goes_then}
 use Rattle.rbd_schedule.proofs.runner.Runner.start_of.Goals as goal
 
 pub start_at-requires-clause-keeps : goal.start_at-requires-clause-keeps
-start_at-requires-clause-keeps g c = has_changer c.args.self.now c.place_of.new.self c.requires c.place_of.ensures.goes
+start_at-requires-clause-keeps g c = c.place_of.ensures.goes.keeps c.requires
 
 pub start_at-requires-clause-within : goal.start_at-requires-clause-within
 start_at-requires-clause-within g c =

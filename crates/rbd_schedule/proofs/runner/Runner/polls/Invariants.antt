@@ -3,7 +3,7 @@ use Rattle.rbd_requests.specs.Session.{stands_of}
 use Rattle.rbd_schedule.specs.Deeds.{Deeds}
 use Rattle.rbd_schedule.specs.Playing.{GoesOn, given_to}
 use Rattle.rbd_schedule.specs.Schedule.{PollsWhere, is_held}
-use Rattle.rbd_schedule.proofs.runner.Runner.turn.Given as goal
+use Rattle.rbd_schedule.proofs.runner.Runner.polls.Given as goal
 
 -- the slots so far were polled where they were held at first
 abbrev pub invariant-loop-k : goal.invariant-loop-k

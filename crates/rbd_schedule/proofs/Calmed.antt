@@ -1,0 +1,402 @@
+-- At the end of a play nothing goes on any more: who isn't over is held up at a lock.
+use Rattle.std.proofs.Common.{◌≡◌, ℕ, zero, suc, ◌+◌, ◌<◌, ◌≤◌, ◌==◌, ◌&&◌, ◌||◌, ◌⊎◌, inl, inr, cond, not, nat_lt, Bool, true, false, List, [], ◌∷◌, ◌++◌, map, All, length, is_some, slice_get, Option, Some, None, refl, sym, ap, ◌∙◌, subst, arith}
+use Rattle.std.proofs.lemmas.Bool.{cases_eq, cases_lt, eq-eqb, false≢true, ne_eqb, true≢false}
+use Rattle.std.proofs.lemmas.List.Elements.{All-cons, All-nil, filter-append}
+use Rattle.std.proofs.lemmas.Option.{none-some, same_Some}
+use Rattle.rbd_client.specs.Client.{ClientView}
+use Rattle.rbd_client.specs.Sound.{IsSoundClient}
+use Rattle.rbd_flat.specs.declared.entry.Entry.TheVariants as entry
+use Rattle.rbd_kinds.specs.declared.id.SiteId.{SiteId}
+use Rattle.rbd_kinds.specs.declared.reply.Reply.{Reply}
+use Rattle.rbd_machine.specs.Plan.{Standing}
+use Rattle.rbd_script.specs.declared.script.Declared.{Declared}
+use Rattle.rbd_script.specs.declared.script.Line.{Line}
+use Rattle.rbd_script.specs.declared.script.Said.{Said}
+use Rattle.rbd_script.specs.declared.script.Said.TheVariants as said
+use Rattle.rbd_script.specs.declared.script.Script.{Script}
+use Rattle.rbd_session.specs.Session.{IsSoundSession, held_in, script_line}
+use Rattle.rbd_session.specs.declared.running.Occupant.{Occupant}
+use Rattle.rbd_world.specs.declared.event.Event.{Event}
+use Rattle.rbd_world.specs.declared.event.Event.TheVariants as event
+use Rattle.rbd_world.specs.declared.event.Outcome.{Outcome}
+use Rattle.rbd_world.specs.Run.{Asked, Doer, Itself, OnWay, House, AfterStop, Happening, Nothing, Waited, Began, Did, Refused, Trimmed, Expired, Heard, Stopped, Restarted, asked_by, cause_of, ending_entries, ends, entries_of, entry_of, fence_of, history_of, is_among, is_for, loses, replies_to}
+use Rattle.rbd_world.specs.Sound.{IsAtHome, IsInSlot, has_ended, held_of, line_at}
+use Rattle.rbd_world.specs.Step.{Does, IsStep, LivesOnIf, happening, is_begun, names_session}
+use Rattle.rbd_world.specs.World.{LivesView, WorldView, client_in, free_in, lives_in, running_of, session_in, session_of}
+use Rattle.rbd_world.proofs.Runs.{any_append, begun_is_asked, or_false}
+use Rattle.rbd_session.proofs.Sound.{held_range}
+use Rattle.rbd_schedule.specs.declared.given.Given.{Given}
+use Rattle.rbd_schedule.specs.Deeds.{Deeds}
+use Rattle.rbd_schedule.specs.Ends.{AreOver, HasCalmed, IsHeldUp, IsSpent, IsStuck, IsStuckIn, SomebodyIsHeldUp}
+use Rattle.rbd_schedule.specs.Given.{commands_of, given_by, given_in, is_lost_by, of_session}
+use Rattle.rbd_schedule.specs.InOrder.{AreDeclared, NamesDeclared}
+use Rattle.rbd_schedule.specs.Notices.{runs}
+use Rattle.rbd_schedule.specs.Playing.{IsPlay, IsPlayable, homes_of}
+use Rattle.rbd_schedule.specs.Schedule.{Calm, Pace, Round, RoundsOn, TurnOf, closing_rounds, is_held, most_idle}
+use Rattle.rbd_schedule.specs.Starts.{IsQuiet, earliest, is_end_of, is_ended}
+use Rattle.rbd_schedule.proofs.Ended.{AreSoundSessions, HasRequestsOf, NoneRuns, free_there, keeps_turns, none_still, quiet_turns, requests_step, sound_again, still_turns}
+use Rattle.rbd_schedule.proofs.Idle.{IsStill}
+use Rattle.rbd_schedule.proofs.Kept.{kept_by_play}
+use Rattle.rbd_schedule.proofs.Quiet.{no_end}
+use Rattle.rbd_schedule.proofs.Stuck.{stuck}
+
+-- ---- the end of a line in the history is one in the run
+
+eq_swap : (a b : ℕ) → (a == b) ≡ (b == a)
+eq_swap a b = by (cases_eq a b)
+  where
+    by : (a ≡ b) ⊎ (a ≡ b → ⊥) → (a == b) ≡ (b == a)
+    by (inl same) = eq-eqb a b same ∙ sym (eq-eqb b a (sym same))
+    by (inr other) = ne_eqb a b other ∙ sym (ne_eqb b a (λ same. other (sym same)))
+
+or_swap : (a b : Bool) → (a || b) ≡ (b || a)
+or_swap true true = refl
+or_swap true false = refl
+or_swap false true = refl
+or_swap false false = refl
+
+ended_entries : (line : ℕ) (by : Doer) (reply : Reply) → is_ended line (ending_entries by (Some reply)) ≡ (is_for line by || false)
+ended_entries line (Itself other) reply = ap (λ b. b || false) (eq_swap line other ∙ sym (or_false (other == line)))
+ended_entries line (OnWay other) reply = ap (λ b. b || false) (eq_swap line other)
+ended_entries line House reply = refl
+ended_entries line (AfterStop slot) reply = refl
+
+open_entries : (line : ℕ) (by : Doer) → is_ended line (ending_entries by None) ≡ false
+open_entries line (Itself other) = refl
+open_entries line (OnWay other) = refl
+open_entries line House = refl
+open_entries line (AfterStop slot) = refl
+
+lost_entries : (line : ℕ) (lost : List ℕ) → is_ended line (map entry.Lost lost) ≡ is_among line lost
+lost_entries line [] = refl
+lost_entries line (other ∷ lost) = ap (λ b. b || is_ended line (map entry.Lost lost)) (eq_swap line other) ∙ ap (λ b. (other == line) || b) (lost_entries line lost)
+
+ended_by : (line : ℕ) (h : Happening) → is_ended line (entries_of h) ≡ ends line h
+ended_by line Nothing = refl
+ended_by line Waited = refl
+ended_by line (Began asked slot) = refl
+ended_by line (Did o None) = ap (λ b. b || is_ended line (ending_entries o.by None)) (no_end line (cause_of o.instance o.by) o.site o.number (fence_of o.op o.answer) o.effect) ∙ open_entries line o.by
+ended_by line (Did o (Some reply)) =
+    ap (λ b. b || is_ended line (ending_entries o.by (Some reply))) (no_end line (cause_of o.instance o.by) o.site o.number (fence_of o.op o.answer) o.effect) ∙ ended_entries line o.by reply
+ended_by line (Refused s other reply) = ap (λ b. b || false) (eq_swap line other)
+ended_by line (Trimmed s number image object) = refl
+ended_by line (Expired s number image who) = refl
+ended_by line (Heard notice) = refl
+ended_by line (Stopped who wanted lost) = lost_entries line lost
+ended_by line (Restarted who) = refl
+
+ended_is_ended : (line : ℕ) (run : List Happening) → is_ended line (history_of run) ≡ has_ended line run
+ended_is_ended line [] = refl
+ended_is_ended line (h ∷ run) =
+    any_append (is_end_of line) (history_of run) (entries_of h) ∙ or_swap (is_ended line (history_of run)) (is_ended line (entries_of h))
+    ∙ ap (λ b. b || is_ended line (history_of run)) (ended_by line h) ∙ ap (λ b. ends line h || b) (ended_is_ended line run)
+
+-- ---- all are over
+
+earliest_done : (b a : (line : ℕ) → Bool) → ((line : ℕ) → b line ≡ true → a line ≡ true) → (given : List Given) → earliest b a true given ≡ None → All (λ (c : Given). a c.line ≡ true) given
+earliest_done b a done [] is = All-nil (λ (c : Given). a c.line ≡ true)
+earliest_done b a done (c ∷ given) is = by (b c.line) c.beside (done c.line) (earliest_done b a done given) is
+  where
+    by : (p q : Bool) → (p ≡ true → a c.line ≡ true) → (earliest b a true given ≡ None → All (λ (c : Given). a c.line ≡ true) given)
+        → cond (not p && (q || true)) (Some c) (earliest b a (true && a c.line) given) ≡ None → All (λ (c : Given). a c.line ≡ true) (c ∷ given)
+    by true q begun rest is = All-cons (λ (c : Given). a c.line ≡ true) c given (begun refl) (rest (subst (λ r. earliest b a r given ≡ None) (begun refl) is))
+    by false true begun rest is = absurd (none-some c (sym is))
+    by false false begun rest is = absurd (none-some c (sym is))
+
+-- ---- the sessions of a play
+
+-- so many sessions are there
+record AreSessions {R : Type 0} (n : ℕ) (w : WorldView R) : Type 0 where
+  there : (session : ℕ) → session < n → is_some (lives_in session w.lives) ≡ true
+  past : (session : ℕ) → n ≤ session → lives_in session w.lives ≡ None
+
+none_there : {T : Type 0} (o : Option T) → is_some o ≡ false → o ≡ None
+none_there None is = refl
+none_there (Some c) is = absurd (true≢false is)
+
+module _ {R : Type 0} (stands : R → Standing) where
+  there_stays : (e : Event) (h : Happening) (old new : Option (LivesView R)) → LivesOnIf stands e h old new → is_some new ≡ is_some old
+  there_stays e h None new on = ap is_some on
+  there_stays e h (Some a) None on = absurd on
+  there_stays e h (Some a) (Some b) on = refl
+
+  same_there : (e : Event) (h : Happening) (old new : WorldView R) → Does stands e h old new → (s : ℕ) (b : Bool) → names_session e h s ≡ b → is_some (lives_in s new.lives) ≡ is_some (lives_in s old.lives)
+  same_there e h old new does s true named = there_stays e h (lives_in s old.lives) (lives_in s new.lives) (does.named s named)
+  same_there e h old new does s false other = ap is_some (does.others s other)
+
+  sessions_stay : (n : ℕ) (e : Event) (result : Outcome) (old new : WorldView R) → IsStep stands e old result new → AreSessions n old → AreSessions n new
+  sessions_stay n e result old new (is, does) are =
+      let h = happening stands e old in
+      record {
+        there = λ s below. same_there e h old new does s (names_session e h s) refl ∙ are.there s below;
+        past = λ s past. none_there (lives_in s new.lives) (same_there e h old new does s (names_session e h s) refl ∙ ap is_some (are.past s past));
+      }
+
+home_there : {R : Type 0} (home : Option SiteId) (l : Option (LivesView R)) → IsAtHome home l → is_some l ≡ is_some home
+home_there None None at = refl
+home_there None (Some l) at = absurd at
+home_there (Some home) None at = absurd at
+home_there (Some home) (Some l) at = refl
+
+homes_within : (sessions : List Declared) (s : ℕ) → s < length sessions → is_some (slice_get (homes_of sessions) s) ≡ true
+homes_within [] s below = absurd (omega (arith, below))
+homes_within (x ∷ sessions) zero below = refl
+homes_within (x ∷ sessions) (suc s) below = homes_within sessions s (omega (arith, below))
+
+homes_past : (sessions : List Declared) (s : ℕ) → length sessions ≤ s → is_some (slice_get (homes_of sessions) s) ≡ false
+homes_past [] s past = refl
+homes_past (x ∷ sessions) zero past = absurd (omega (arith, past))
+homes_past (x ∷ sessions) (suc s) past = homes_past sessions s (omega (arith, past))
+
+-- ---- one or none, of so many
+
+any_of : (P Q : ℕ → Type 0) → ((k : ℕ) → P k ⊎ Q k) → (n : ℕ) → ((k : ℕ) × (k < n) × P k) ⊎ ((k : ℕ) → k < n → Q k)
+any_of P Q each zero = inr (λ k below. absurd (omega (arith, below)))
+any_of P Q each (suc n) = by (any_of P Q each n) (each n)
+  where
+    by : ((k : ℕ) × (k < n) × P k) ⊎ ((k : ℕ) → k < n → Q k) → P n ⊎ Q n → ((k : ℕ) × (k < suc n) × P k) ⊎ ((k : ℕ) → k < suc n → Q k)
+    by (inl (k, below, is)) last = inl (k, omega (arith, below), is)
+    by (inr none) (inl is) = inl (n, omega arith, is)
+    by (inr none) (inr last) = inr (λ k below. go k below (cases_lt k n))
+      where
+        go : (k : ℕ) → k < suc n → (k < n) ⊎ (n ≤ k) → Q k
+        go k below (inl less) = none k less
+        go k below (inr more) = let same : n ≡ k = omega (arith, below, more) in subst Q same last
+
+module _ {R : Type 0} (stands : R → Standing) (script : Script) (w : WorldView R) (play : IsPlay stands script w) where
+  sessions_there : AreSessions (length script.sessions) w
+  sessions_there =
+      kept_by_play stands (AreSessions (length script.sessions)) (sessions_stay stands (length script.sessions)) script play.first w play.plays (record {
+        there = λ s below. home_there (slice_get (homes_of script.sessions) s) (lives_in s play.first.lives) (play.homes s) ∙ homes_within script.sessions s below;
+        past = λ s past. none_there (lives_in s play.first.lives) (home_there (slice_get (homes_of script.sessions) s) (lives_in s play.first.lives) (play.homes s) ∙ homes_past script.sessions s past);
+      })
+
+  sound_there : (s : ℕ) (c : ClientView R) → client_in s w.lives ≡ Some c → IsSoundClient stands c
+  sound_there s c is = (play.sound.clients s c is).sound
+
+  -- who runs is one of them
+  runs_below : (s : ℕ) (c : ClientView R) → client_in s w.lives ≡ Some c → s < length script.sessions
+  runs_below s c is = by (cases_lt s (length script.sessions))
+    where
+      by : (s < length script.sessions) ⊎ (length script.sessions ≤ s) → s < length script.sessions
+      by (inl below) = below
+      by (inr past) = absurd (none-some c (sym (ap running_of (sessions_there.past s past)) ∙ is))
+
+  -- a line that was begun has ended, or is in a slot
+  begun_comes : (line : ℕ) → is_begun line w.history ≡ true → (is_ended line w.history ≡ true) ⊎ IsInSlot line w.lives
+  begun_comes line begun = by (asked_by line play.sound.run) refl (has_ended line play.sound.run) refl
+    where
+      by : (asked : Option Asked) → asked_by line play.sound.run ≡ asked → (b : Bool) → has_ended line play.sound.run ≡ b → (is_ended line w.history ≡ true) ⊎ IsInSlot line w.lives
+      by asked is true ended = inl (ap (is_ended line) play.sound.history ∙ ended_is_ended line play.sound.run ∙ ended)
+      by None is false unended = absurd (false≢true (sym (ap (is_begun line) play.sound.history ∙ begun_is_asked line play.sound.run ∙ ap is_some is) ∙ begun))
+      by (Some asked) is false unended = inr (play.sound.slots line (record { asked = asked; is = is; unended = unended }))
+
+  -- a slot with a line is one of a client that runs
+  record IsHolder (session slot line : ℕ) : Type 0 where
+    client : ClientView R
+    runs : client_in session w.lives ≡ Some client
+    occupant : Occupant R
+    held : held_in slot client.session.slots ≡ Some occupant
+
+  holder : (session slot line : ℕ) → line_at session slot w.lives ≡ Some line → IsHolder session slot line
+  holder session slot line is = by (client_in session w.lives) refl is
+    where
+      slot_of : (c : ClientView R) → client_in session w.lives ≡ Some c → (o : Option (Occupant R)) → held_in slot c.session.slots ≡ o → script_line o ≡ Some line → IsHolder session slot line
+      slot_of c runs None held at = absurd (none-some line at)
+      slot_of c runs (Some o) held at = record { client = c; runs = runs; occupant = o; held = held }
+
+      by : (o : Option (ClientView R)) → client_in session w.lives ≡ o → script_line (held_of slot (session_of o)) ≡ Some line → IsHolder session slot line
+      by None runs at = absurd (none-some line at)
+      by (Some c) runs at = slot_of c runs (held_in slot c.session.slots) refl at
+
+  -- ---- where each slot of a session that runs is still
+  module _ (still : (s : ℕ) (c : ClientView R) → client_in s w.lives ≡ Some c → (slot : ℕ) → 1 ≤ slot → slot ≤ 64 → IsStill stands slot c) where
+    stuck_at : (session slot line : ℕ) → (at : line_at session slot w.lives ≡ Some line) → IsStuck stands w line
+    stuck_at session slot line at =
+        let there = holder session slot line at in
+        record {
+          session = session;
+          client = there.client;
+          runs = there.runs;
+          slot = slot;
+          holds = at;
+          stuck = stuck stands there.client (sound_there session there.client there.runs) (still session there.client there.runs) slot there.occupant there.held;
+        }
+
+    each_line : (line : ℕ) → is_begun line w.history ≡ true → (is_ended line w.history ≡ true) ⊎ IsStuck stands w line
+    each_line line begun = by (begun_comes line begun)
+      where
+        by : (is_ended line w.history ≡ true) ⊎ IsInSlot line w.lives → (is_ended line w.history ≡ true) ⊎ IsStuck stands w line
+        by (inl ended) = inl ended
+        by (inr there) = inr (stuck_at there.session there.slot line there.is)
+
+    held_somewhere : (line : ℕ) → IsStuck stands w line → SomebodyIsHeldUp stands w
+    held_somewhere line it = by it.stuck
+      where
+        by : IsStuckIn stands it.client it.slot → SomebodyIsHeldUp stands w
+        by (inl up) = record { session = it.session; client = it.client; runs = it.runs; slot = it.slot; held = up }
+        by (inr (first, behind, up)) = record { session = it.session; client = it.client; runs = it.runs; slot = first; held = up }
+
+    -- ---- where nobody is in a slot
+    module _ (quiet : IsQuiet (given_in script.lines) w) (nobody : (s : ℕ) → s < length script.sessions → (slot : ℕ) → slot < 65 → line_at s slot w.lives ≡ None) where
+      in_no_slot : (line : ℕ) → IsInSlot line w.lives → ⊥
+      in_no_slot line there =
+          let it = holder there.session there.slot line there.is in
+          let range = range_of (there.session) it.client it.runs there.slot it.occupant it.held in
+          none-some line (sym (nobody there.session (runs_below there.session it.client it.runs) there.slot (omega (arith, range))) ∙ there.is)
+        where
+          range_of : (s : ℕ) (c : ClientView R) → client_in s w.lives ≡ Some c → (slot : ℕ) (o : Occupant R) → held_in slot c.session.slots ≡ Some o → slot ≤ 64
+          range_of s c is slot o held = (held_range stands c.session (sound_there s c is).session slot o held).1
+
+      begun_ended : (line : ℕ) → is_begun line w.history ≡ true → is_ended line w.history ≡ true
+      begun_ended line begun = by (begun_comes line begun)
+        where
+          by : (is_ended line w.history ≡ true) ⊎ IsInSlot line w.lives → is_ended line w.history ≡ true
+          by (inl ended) = ended
+          by (inr there) = absurd (in_no_slot line there)
+
+      -- a session without requests has room
+      room_there : (s : ℕ) (c : ClientView R) → client_in s w.lives ≡ Some c → is_some (free_in (client_in s w.lives)) ≡ true
+      room_there s c is =
+          let sound = (sound_there s c is).session in
+          let free : held_in 1 c.session.slots ≡ None
+          = free_there (held_in 1 c.session.slots) (sym (ap (λ x. script_line (held_of 1 (session_of x))) is) ∙ nobody s (runs_below s c is) 1 (omega arith)) in
+          let least : c.session.lowest ≡ 1 = only_one c.session.lowest sound.lowest.some (λ more. false≢true (sym (ap is_some free) ∙ sound.lowest.below 1 (omega arith) more)) in
+          ap (λ x. is_some (free_in x)) is ∙ ap (λ n. is_some (cond (nat_lt 64 n) None (Some n))) least
+        where
+          only_one : (n : ℕ) → 1 ≤ n → (1 < n → ⊥) → n ≡ 1
+          only_one n some none = by (cases_lt 1 n)
+            where
+              by : (1 < n) ⊎ (n ≤ 1) → n ≡ 1
+              by (inl more) = absurd (none more)
+              by (inr few) = omega (arith, some, few)
+
+      all_over : AreOver script w
+      all_over = record { begun = begun_ended; given = λ s running. by s (client_in s w.lives) refl running }
+        where
+          by : (s : ℕ) (o : Option (ClientView R)) → client_in s w.lives ≡ o → is_some o ≡ true → All (λ (c : Given). is_ended c.line w.history ≡ true) (given_in script.lines s)
+          by s None is running = absurd (false≢true running)
+          by s (Some c) is running =
+              earliest_done (λ line. is_begun line w.history) (λ line. is_ended line w.history) begun_ended (given_in script.lines s)
+              (sym (ap (λ b. cond b (earliest (λ line. is_begun line w.history) (λ line. is_ended line w.history) true (given_in script.lines s)) None) (room_there s c is)) ∙ quiet s)
+
+    -- ---- somebody is in a slot, or nobody
+    all_or_held : IsQuiet (given_in script.lines) w → AreOver script w ⊎ SomebodyIsHeldUp stands w
+    all_or_held quiet = by (any_of (λ s. (slot : ℕ) × (slot < 65) × Holds s slot) (λ s. (slot : ℕ) → slot < 65 → line_at s slot w.lives ≡ None) (λ s. any_of (Holds s) (λ slot. line_at s slot w.lives ≡ None) (line_or_none s) 65) (length script.sessions))
+      where
+        Holds : (s slot : ℕ) → Type 0
+        Holds s slot = (line : ℕ) × (line_at s slot w.lives ≡ Some line)
+
+        line_or_none : (s slot : ℕ) → Holds s slot ⊎ (line_at s slot w.lives ≡ None)
+        line_or_none s slot = go (line_at s slot w.lives) refl
+          where
+            go : (o : Option ℕ) → line_at s slot w.lives ≡ o → Holds s slot ⊎ (line_at s slot w.lives ≡ None)
+            go None is = inr is
+            go (Some line) is = inl (line, is)
+
+        by : ((s : ℕ) × (s < length script.sessions) × ((slot : ℕ) × (slot < 65) × Holds s slot)) ⊎ ((s : ℕ) → s < length script.sessions → (slot : ℕ) → slot < 65 → line_at s slot w.lives ≡ None)
+            → AreOver script w ⊎ SomebodyIsHeldUp stands w
+        by (inl (s, below, (slot, within, (line, is)))) = inr (held_somewhere line (stuck_at s slot line is))
+        by (inr nobody) = inl (all_over quiet nobody)
+
+    calmed : IsQuiet (given_in script.lines) w → HasCalmed stands script w
+    calmed quiet = record { each = each_line; all = all_or_held quiet }
+
+-- ---- the last round
+
+module _ {R : Type 0} (stands : R → Standing) (given : (session : ℕ) → List Given) (lost : (number : ℕ) → Bool) (n : ℕ) where
+  -- None may start, or no session runs.
+  abbrev IsAtRest : WorldView R → Type 0
+  IsAtRest w = IsQuiet given w ⊎ NoneRuns stands given lost n w
+
+  record IsLastRound (w : WorldView R) : Type 0 where
+    before : WorldView R
+    round : Round stands given lost n false before w
+    rest : IsAtRest before
+
+  round_rests : (went_on : Bool) (old new : WorldView R) → Round stands given lost n went_on old new → IsAtRest new
+  round_rests went_on old new round = by (quiet_turns stands given lost n (record { world = old; went_on = false }) (record { world = new; went_on = went_on }) round)
+    where
+      by : IsQuiet given new ⊎ (◌≡◌ {A = Pace R} (record { world = new; went_on = went_on }) (record { world = old; went_on = false }) × NoneRuns stands given lost n new) → IsAtRest new
+      by (inl quiet) = inl quiet
+      by (inr (same, none)) = inr none
+
+  -- behind at least one round none may start
+  rounds_rest : (count : ℕ) (old new : Calm R) (k : ℕ) → Deeds (λ i. RoundsOn stands given lost n) count old new → old.idle ≡ 0 → new.idle ≡ suc k → IsAtRest new.world
+  unfolding Deeds
+  rounds_rest zero old new k done none some = let no : 0 ≡ suc k = sym none ∙ ap (λ (c : Calm R). c.idle) (sym done) ∙ some in absurd (omega (arith, no))
+  rounds_rest (suc count) old new k (between, before, it) none some = round_rests it.went_on between.world new.world it.round
+
+  last_round : (count : ℕ) (old new : Calm R) → Deeds (λ i. RoundsOn stands given lost n) count old new → old.idle ≡ 0 → new.idle ≡ most_idle → IsLastRound new.world
+  unfolding Deeds
+  last_round zero old new done none eight = let no : 0 ≡ 8 = sym none ∙ ap (λ (c : Calm R). c.idle) (sym done) ∙ eight in absurd (omega (arith, no))
+  last_round (suc count) old new (between, before, it) none eight = by it.went_on it.idle it.round
+    where
+      by : (b : Bool) → new.idle ≡ cond b 0 (between.idle + 1) → Round stands given lost n b between.world new.world → IsLastRound new.world
+      by true idle round = let no : 8 ≡ 0 = sym eight ∙ idle in absurd (omega (arith, no))
+      by false idle round =
+          let seven : between.idle ≡ suc 6 = let e : 8 ≡ between.idle + 1 = sym eight ∙ idle in omega (arith, e) in
+          record { before = between.world; round = round; rest = rounds_rest count old between 6 before none seven }
+
+-- where no session runs, none may start
+none_quiet : {R : Type 0} (given : (session : ℕ) → List Given) (w : WorldView R) → ((s : ℕ) → runs s w ≡ false) → IsQuiet given w
+none_quiet {R} given w none s = by (client_in s w.lives) refl
+  where
+    by : (o : Option (ClientView R)) → client_in s w.lives ≡ o → cond (is_some (free_in o)) (earliest (λ line. is_begun line w.history) (λ line. is_ended line w.history) true (given s)) None ≡ None
+    by None is = refl
+    by (Some c) is = absurd (true≢false (sym (ap is_some is) ∙ none s))
+
+-- ---- the end of a play
+
+module _ {R : Type 0} (stands : R → Standing) (script : Script) (w : WorldView R) (play : IsPlay stands script w) where
+  abbrev given : (session : ℕ) → List Given
+  given = given_in script.lines
+
+  abbrev lost : (number : ℕ) → Bool
+  lost = is_lost_by script.lines
+
+  abbrev count : ℕ
+  count = length script.sessions
+
+  sounds : AreSoundSessions stands given w
+  sounds s c is = (sound_there stands script w play s c is).session
+
+  -- a round whose sessions all stopped
+  nobody_calms : NoneRuns stands given lost count w → HasCalmed stands script w
+  nobody_calms none =
+      let all : (s : ℕ) → runs s w ≡ false = λ s. by s (cases_lt s count) in
+      calmed stands script w play (λ s c is slot least most. absurd (true≢false (sym (ap is_some is) ∙ all s))) (none_quiet given w all)
+    where
+      by : (s : ℕ) → (s < count) ⊎ (count ≤ s) → runs s w ≡ false
+      by s (inl below) = none s below
+      by s (inr past) = ap (λ l. is_some (running_of l)) ((sessions_there stands script w play).past s past)
+
+  round_calms : (before : WorldView R) → Round stands given lost count false before w → IsQuiet given before → HasCalmed stands script w
+  round_calms before round quiet =
+      let old : Pace R = record { world = before; went_on = false } in
+      let new : Pace R = record { world = w; went_on = false } in
+      let kept = keeps_turns stands given (HasRequestsOf stands given before) (requests_step stands given before) lost count old new round refl ((λ s. refl), quiet) in
+      let sound = sound_again stands given w before (λ s. sym (kept.0 s)) sounds in
+      calmed stands script w play
+      (λ s c is slot least most. by s c is slot least most (still_turns stands given lost count old new round refl quiet sound s (runs_below stands script w play s c is))) kept.1
+    where
+      by : (s : ℕ) (c : ClientView R) → client_in s w.lives ≡ Some c → (slot : ℕ) → 1 ≤ slot → slot ≤ 64 → ((k : ℕ) → k < 64 → (c : ClientView R) → client_in s w.lives ≡ Some c → IsStill stands (k + 1) c) → IsStill stands slot c
+      by s c is zero least most still = absurd (omega (arith, least))
+      by s c is (suc k) least most still = let same : k + 1 ≡ suc k = omega arith in subst (λ n. IsStill stands n c) same (still k (omega (arith, most)) c is)
+
+  ends_with : play.plays.closing.idle ≡ most_idle → HasCalmed stands script w
+  ends_with eight = by (last_round stands given lost count play.plays.closing.count (record { world = play.plays.between; idle = 0 }) (record { world = w; idle = play.plays.closing.idle }) play.plays.closing.on refl eight)
+    where
+      by : IsLastRound stands given lost count w → HasCalmed stands script w
+      by last = go last.rest
+        where
+          go : IsAtRest stands given lost count last.before → HasCalmed stands script w
+          go (inl quiet) = round_calms last.before last.round quiet
+          go (inr none) = nobody_calms (none_still stands given lost count (record { world = last.before; went_on = false }) (record { world = w; went_on = false }) last.round none)
+
+  pub plays_rest : HasCalmed stands script w ⊎ IsSpent stands script w play
+  plays_rest = by play.plays.closing.ends
+    where
+      by : (play.plays.closing.count ≡ closing_rounds (length (commands_of script.lines))) ⊎ (play.plays.closing.idle ≡ most_idle) → HasCalmed stands script w ⊎ IsSpent stands script w play
+      by (inl spent) = inr spent
+      by (inr eight) = inl (ends_with eight)

@@ -1,0 +1,44 @@
+use Rattle.std.proofs.Common.{◌≡◌, ℕ, ◌==◌, ◌||◌, Bool, true, false, length, take, refl, sym, ap, ◌∙◌}
+use Rattle.std.proofs.lemmas.Bool.{cases_eq, eq-eqb, ne_eqb}
+use Rattle.std.proofs.Common.{◌⊎◌, inl, inr}
+use Rattle.std.proofs.lemmas.List.{take_all}
+use Rattle.std.proofs.lemmas.List.Folds.{list_any_more}
+use Rattle.rbd_flat.specs.declared.entry.Entry.{Entry}
+use Rattle.rbd_flat.specs.declared.entry.Entry.TheVariants as entry
+use Rattle.rbd_schedule.specs.Playing.{ended_by, has_line, is_one_of}
+use Rattle.rbd_schedule.specs.Starts.{is_end_of, is_ended}
+use Rattle.rbd_schedule.proofs.runner.note_ends.Goals as goal
+
+eq_swap : (a b : ℕ) → (a == b) ≡ (b == a)
+eq_swap a b = by (cases_eq a b)
+  where
+    by : (a ≡ b) ⊎ (a ≡ b → ⊥) → (a == b) ≡ (b == a)
+    by (inl same) = eq-eqb a b same ∙ sym (eq-eqb b a (sym same))
+    by (inr other) = ne_eqb a b other ∙ sym (ne_eqb b a (λ same. other (sym same)))
+
+ends_it : (line : ℕ) (e : Entry) → is_one_of line (ended_by e) ≡ is_end_of line e
+ends_it line (entry.Reply other reply) = eq_swap other line
+ends_it line (entry.Lost other) = eq_swap other line
+ends_it line _ = refl
+
+or_none : (b : Bool) → b ≡ (b || false)
+or_none true = refl
+or_none false = refl
+
+or_more : (a b c : Bool) → ((a || b) || c) ≡ (a || (b || c))
+or_more true b c = refl
+or_more false b c = refl
+
+pub loop-entry-init : goal.loop-entry-init
+loop-entry-init c = λ line. or_none (has_line line c.args.over.now)
+
+pub loop-entry-preserved : goal.loop-entry-preserved
+loop-entry-preserved c = λ line.
+    c.in_ok-note_end.ensures line
+    ∙ ap (λ b. b || is_one_of line (ended_by c.entry-item.result)) (c.loop-entry.invariant line)
+    ∙ or_more (has_line line c.args.over.now) (is_ended line (take c.loop-entry.entry-index c.args.entries.now)) (is_one_of line (ended_by c.entry-item.result))
+    ∙ ap (λ b. has_line line c.args.over.now || (is_ended line (take c.loop-entry.entry-index c.args.entries.now) || b)) (ends_it line c.entry-item.result ∙ ap (is_end_of line) c.entry-item.is)
+    ∙ ap (λ b. has_line line c.args.over.now || b) (sym (list_any_more (is_end_of line) c.args.entries.now c.loop-entry.entry-index c.entry-item.result c.loop-entry-test.true))
+
+pub returns : goal.returns
+returns c = λ line. c.loop-entry.invariant line ∙ ap (λ es. has_line line c.args.over.now || is_ended line es) (take_all c.loop-entry.entry-index c.args.entries.now c.loop-entry-test.false)
