@@ -1,5 +1,7 @@
 //! The world, and its events.
-ghost use Rattle.std.specs.Prelude.{◌≡◌, ◌≤◌, length, option_copied, is_some, IfOk, OnErr};
+ghost use Rattle.std.specs.Prelude.{◌≡◌, ◌≤◌, length, option_copied, option_map, is_some, IfOk, OnErr};
+ghost use Rattle.rbd_client.specs.Client.{ClientView};
+ghost use Rattle.rbd_requests.specs.declared.request.SessionRequest.{SessionRequest as Of};
 ghost use Rattle.rbd_requests.specs.Session.{stands_of};
 ghost use Rattle.rbd_watch.specs.Posting.{numbered};
 ghost use Rattle.rbd_world.specs.Sound.{AreAtHome, AreFirst, IsFirst, IsNewWorld, IsSoundWorld, line_at};
@@ -175,6 +177,14 @@ impl<E: Machine + Drop> World<E> {
         ensures { result ≡ is_some (client_in session self.now.lives) }
     {
         client_of(self.lives.as_slice(), session).is_some()
+    }
+
+    /// The life of a session that runs: `None` exactly where the session isn't there or doesn't run.
+    /// It takes no memory.
+    pub fn running(&self, session: SessionNo) -> Option<Instance>
+        ensures running { result ≡ option_map (λ (c : ClientView (Of E)). c.session.instance) (client_in session self.now.lives) }
+    {
+        Some(client_of(self.lives.as_slice(), session)?.instance())
     }
 
     /// The lowest free slot of a session: `None` exactly where it isn't there or doesn't run, or 64
