@@ -38,7 +38,7 @@ pub fn play<E: Machine + Drop>(alloc: Global, script: &Script) -> Result<World<E
 impl<E: Machine + Drop> Runner<E> {
     /// What a line does when it is reached.
     fn play_line(&mut self, alloc: Global, said: &Said) -> Result<(), NoMemory>
-        requires keeps { KeepsUp (stands_of E.stands) self.old }
+        requires { KeepsUp (stands_of E.stands) self.old }
         ensures plays { OnOk result (Plays (stands_of E.stands) (given_to self.old) (lost_in self.old) (length self.old.queues.items) said.now self.old.world self.new.world) }
         ensures goes { OnOk result (GoesOn (stands_of E.stands) self.old self.new) }
     {
