@@ -1,8 +1,8 @@
 -- At the end of a play nothing goes on any more: who isn't over is held up at a lock.
-use Rattle.std.proofs.Common.{◌≡◌, ℕ, zero, suc, ◌+◌, ◌<◌, ◌≤◌, ◌==◌, ◌&&◌, ◌||◌, ◌⊎◌, inl, inr, cond, not, nat_lt, Bool, true, false, List, [], ◌∷◌, ◌++◌, map, All, length, is_some, slice_get, Option, Some, None, refl, sym, ap, ◌∙◌, subst, arith}
+use Rattle.std.proofs.Common.{◌≡◌, ℕ, zero, suc, ◌+◌, ◌<◌, ◌≤◌, ◌==◌, ◌&&◌, ◌||◌, ◌⊎◌, inl, inr, cond, not, nat_lt, Bool, true, false, List, [], ◌∷◌, map, All, length, is_some, slice_get, Option, Some, None, refl, sym, ap, ◌∙◌, subst, arith}
 use Rattle.std.proofs.lemmas.Bool.{cases_eq, cases_lt, eq-eqb, false≢true, ne_eqb, true≢false}
-use Rattle.std.proofs.lemmas.List.Elements.{All-cons, All-nil, filter-append}
-use Rattle.std.proofs.lemmas.Option.{none-some, same_Some}
+use Rattle.std.proofs.lemmas.List.Elements.{All-cons, All-nil}
+use Rattle.std.proofs.lemmas.Option.{none-some}
 use Rattle.rbd_client.specs.Client.{ClientView}
 use Rattle.rbd_client.specs.Sound.{IsSoundClient}
 use Rattle.rbd_flat.specs.declared.entry.Entry.TheVariants as entry
@@ -10,29 +10,24 @@ use Rattle.rbd_kinds.specs.declared.id.SiteId.{SiteId}
 use Rattle.rbd_kinds.specs.declared.reply.Reply.{Reply}
 use Rattle.rbd_machine.specs.Plan.{Standing}
 use Rattle.rbd_script.specs.declared.script.Declared.{Declared}
-use Rattle.rbd_script.specs.declared.script.Line.{Line}
-use Rattle.rbd_script.specs.declared.script.Said.{Said}
-use Rattle.rbd_script.specs.declared.script.Said.TheVariants as said
 use Rattle.rbd_script.specs.declared.script.Script.{Script}
-use Rattle.rbd_session.specs.Session.{IsSoundSession, held_in, script_line}
+use Rattle.rbd_session.specs.Session.{held_in, script_line}
 use Rattle.rbd_session.specs.declared.running.Occupant.{Occupant}
 use Rattle.rbd_world.specs.declared.event.Event.{Event}
-use Rattle.rbd_world.specs.declared.event.Event.TheVariants as event
 use Rattle.rbd_world.specs.declared.event.Outcome.{Outcome}
-use Rattle.rbd_world.specs.Run.{Asked, Doer, Itself, OnWay, House, AfterStop, Happening, Nothing, Waited, Began, Did, Refused, Trimmed, Expired, Heard, Stopped, Restarted, asked_by, cause_of, ending_entries, ends, entries_of, entry_of, fence_of, history_of, is_among, is_for, loses, replies_to}
+use Rattle.rbd_world.specs.Run.{Asked, Doer, Itself, OnWay, House, AfterStop, Happening, Nothing, Waited, Began, Did, Refused, Trimmed, Expired, Heard, Stopped, Restarted, asked_by, cause_of, ending_entries, ends, entries_of, fence_of, history_of, is_among, is_for}
 use Rattle.rbd_world.specs.Sound.{IsAtHome, IsInSlot, has_ended, held_of, line_at}
 use Rattle.rbd_world.specs.Step.{Does, IsStep, LivesOnIf, happening, is_begun, names_session}
-use Rattle.rbd_world.specs.World.{LivesView, WorldView, client_in, free_in, lives_in, running_of, session_in, session_of}
+use Rattle.rbd_world.specs.World.{LivesView, WorldView, client_in, free_in, lives_in, running_of, session_of}
 use Rattle.rbd_world.proofs.Runs.{any_append, begun_is_asked, or_false}
 use Rattle.rbd_session.proofs.Sound.{held_range}
 use Rattle.rbd_schedule.specs.declared.given.Given.{Given}
 use Rattle.rbd_schedule.specs.Deeds.{Deeds}
-use Rattle.rbd_schedule.specs.Ends.{AreOver, HasCalmed, IsHeldUp, IsSpent, IsStuck, IsStuckIn, SomebodyIsHeldUp}
-use Rattle.rbd_schedule.specs.Given.{commands_of, given_by, given_in, is_lost_by, of_session}
-use Rattle.rbd_schedule.specs.InOrder.{AreDeclared, NamesDeclared}
+use Rattle.rbd_schedule.specs.Ends.{AreOver, HasCalmed, IsSpent, IsStuck, IsStuckIn, SomebodyIsHeldUp}
+use Rattle.rbd_schedule.specs.Given.{commands_of, given_in, is_lost_by}
 use Rattle.rbd_schedule.specs.Notices.{runs}
-use Rattle.rbd_schedule.specs.Playing.{IsPlay, IsPlayable, homes_of}
-use Rattle.rbd_schedule.specs.Schedule.{Calm, Pace, Round, RoundsOn, TurnOf, closing_rounds, is_held, most_idle}
+use Rattle.rbd_schedule.specs.Playing.{IsPlay, homes_of}
+use Rattle.rbd_schedule.specs.Schedule.{Calm, Pace, Round, RoundsOn, closing_rounds, most_idle}
 use Rattle.rbd_schedule.specs.Starts.{IsQuiet, earliest, is_end_of, is_ended}
 use Rattle.rbd_schedule.proofs.Ended.{AreSoundSessions, HasRequestsOf, NoneRuns, free_there, keeps_turns, none_still, quiet_turns, requests_step, sound_again, still_turns}
 use Rattle.rbd_schedule.proofs.Idle.{IsStill}

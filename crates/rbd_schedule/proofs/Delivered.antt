@@ -1,5 +1,5 @@
 -- A notice that is delivered leaves the others due that were.
-use Rattle.std.proofs.Common.{◌≡◌, ◌≢◌, ℕ, zero, suc, ◌==◌, ◌&&◌, ◌||◌, ◌⊎◌, inl, inr, cond, nat_lt, not, Bool, true, false, List, All, [], ◌∷◌, slice_get, Option, Some, None, refl, sym, ap, ◌∙◌, subst}
+use Rattle.std.proofs.Common.{◌≡◌, ◌≢◌, ℕ, zero, suc, ◌&&◌, ◌||◌, ◌⊎◌, inl, inr, cond, nat_lt, not, Bool, true, false, List, All, slice_get, Option, Some, None, refl, sym, ap, ◌∙◌, subst}
 use Rattle.std.proofs.lemmas.Bool.{ne_eqb}
 use Rattle.std.proofs.lemmas.List.Elements.{All-nil}
 use Rattle.std.proofs.lemmas.Option.{none-some, same_Some}
@@ -22,7 +22,7 @@ use Rattle.rbd_schedule.specs.declared.runner.Runner.{Runner}
 use Rattle.rbd_schedule.specs.Deeds.{Deeds}
 use Rattle.rbd_schedule.specs.Notices.{hears, is_due, is_heard, is_to, was_heard}
 use Rattle.rbd_schedule.specs.Playing.{IsGiven, KeepsUp, commands_in, given_to}
-use Rattle.rbd_schedule.specs.Schedule.{DeliversWhere, Starts, Submits}
+use Rattle.rbd_schedule.specs.Schedule.{DeliversWhere, Starts}
 use Rattle.rbd_schedule.proofs.Above.{submitted_then}
 use Rattle.rbd_schedule.proofs.Entries.{start_is_earliest}
 use Rattle.rbd_schedule.proofs.Goes.{earliest_is_given}

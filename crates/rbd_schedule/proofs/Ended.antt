@@ -1,5 +1,5 @@
 -- A round in which nothing went on: at its end each slot of each session is still.
-use Rattle.std.proofs.Common.{◌≡◌, ℕ, zero, suc, ◌+◌, ◌<◌, ◌≤◌, ◌==◌, ◌||◌, ◌⊎◌, inl, inr, Bool, true, false, List, length, is_some, Option, Some, None, refl, sym, ap, ◌∙◌, subst, arith}
+use Rattle.std.proofs.Common.{◌≡◌, ℕ, zero, suc, ◌+◌, ◌<◌, ◌≤◌, ◌==◌, ◌⊎◌, inl, inr, Bool, true, false, List, length, is_some, Option, Some, None, refl, sym, ap, ◌∙◌, subst, arith}
 use Rattle.std.proofs.lemmas.Bool.{cases_lt, ne_eqb, or_parts, true≢false}
 use Rattle.std.proofs.lemmas.Option.{none-some, same_Some}
 use Rattle.rbd_client.specs.Actor.{actor_at}
@@ -8,7 +8,6 @@ use Rattle.rbd_machine.specs.Plan.{Standing}
 use Rattle.rbd_session.specs.Session.{IsSoundSession, SessionView, held_in, script_line}
 use Rattle.rbd_session.specs.declared.running.Occupant.{Occupant}
 use Rattle.rbd_session.specs.declared.running.Occupant.TheVariants as occupant
-use Rattle.rbd_world.specs.declared.event.Event.{Event}
 use Rattle.rbd_world.specs.declared.event.Event.TheVariants as event
 use Rattle.rbd_world.specs.declared.event.Outcome.{Outcome}
 use Rattle.rbd_world.specs.Run.{outcome_of}
@@ -18,9 +17,9 @@ use Rattle.rbd_world.specs.World.{WorldView, client_in, session_in, session_of}
 use Rattle.rbd_schedule.specs.declared.given.Given.{Given}
 use Rattle.rbd_schedule.specs.Deeds.{Deeds}
 use Rattle.rbd_schedule.specs.Notices.{is_due, runs}
-use Rattle.rbd_schedule.specs.Schedule.{Comes, DeliversWhere, Happens, Pace, PollsAll, PollsIn, PollsWhere, Starts, Turn, TurnOf, TurnWhere, goes_on, is_held}
+use Rattle.rbd_schedule.specs.Schedule.{Comes, DeliversWhere, Happens, Pace, PollsAll, PollsIn, PollsWhere, Starts, TurnOf, TurnWhere, goes_on, is_held}
 use Rattle.rbd_schedule.specs.Starts.{IsIdle, IsQuiet}
-use Rattle.rbd_schedule.proofs.Idle.{Asked, IsIdleStep, IsStill, IsStillIn, StaysIn, Told, same_sessions, stays_quiet, stays_still, still_before}
+use Rattle.rbd_schedule.proofs.Idle.{Asked, IsIdleStep, IsStillIn, StaysIn, Told, same_sessions, stays_quiet, stays_still, still_before}
 
 -- a slot whose line isn't there is free
 pub free_there : {R : Type 0} (o : Option (Occupant R)) → script_line o ≡ None → o ≡ None

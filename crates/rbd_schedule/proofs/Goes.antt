@@ -1,10 +1,9 @@
 -- The runner goes on: one part after another.
 use mathlib.Core.Path.{fun_ext}
-use Rattle.std.proofs.Common.{◌≡◌, ℕ, zero, suc, ◌+◌, ◌++◌, drop, take, ◌<◌, ◌≤◌, ◌==◌, ◌||◌, ◌&&◌, ◌∷◌, ◌⊎◌, inl, inr, not, cond, Bool, true, false, List, All, length, slice_set, slice_get, is_some, IfSome, length-set, get_or, arith, [], Option, Some, None, refl, sym, ap, ◌∙◌, subst}
+use Rattle.std.proofs.Common.{◌≡◌, ℕ, zero, suc, ◌+◌, ◌++◌, drop, take, ◌<◌, ◌≤◌, ◌||◌, ◌&&◌, ◌∷◌, ◌⊎◌, inl, inr, not, cond, Bool, true, false, List, All, length, slice_set, slice_get, is_some, IfSome, length-set, get_or, arith, [], Option, Some, None, refl, sym, ap, ◌∙◌, subst}
 use Rattle.std.proofs.lemmas.Bool.{cases_eq, false≢true, or_left, or_parts}
 use Rattle.std.proofs.lemmas.List.Elements.{All-get_or, All-head, All-nil, All-same, All-tail}
 use Rattle.std.proofs.lemmas.Option.{IfSome_then, get_or_from_slice_get, none-some, same_Some, slice_get_past, slice_get_read, slice_get_within}
-use Rattle.rbd_client.specs.Client.{ClientView}
 use Rattle.rbd_flat.specs.declared.entry.Entry.{Entry}
 use Rattle.rbd_machine.specs.Plan.{Standing}
 use Rattle.rbd_requests.specs.declared.request.SessionRequest.{SessionRequest}
@@ -20,7 +19,7 @@ use Rattle.rbd_world.specs.World.{LivesView, WorldView, client_in, free_in, live
 use Rattle.rbd_schedule.specs.declared.given.Given.{Given}
 use Rattle.rbd_schedule.specs.declared.queue.Queue.{Queue}
 use Rattle.rbd_schedule.specs.declared.runner.Runner.{Runner}
-use Rattle.rbd_schedule.specs.Notices.{delivers, hears, is_heard, was_heard}
+use Rattle.rbd_schedule.specs.Notices.{delivers, is_heard, was_heard}
 use Rattle.rbd_schedule.specs.Playing.{GoesOn, IsEmptyQueue, IsGiven, IsNoStart, IsPassed, IsPlayed, IsQueue, IsQueueIn, KeepsUp, StartsIf, at_place, commands_in, count_of, given_to, has_line, has_number, highest_after, is_beside, is_one_of, is_over, lets_start, lost_in, passed_by, told_by}
 use Rattle.rbd_schedule.specs.Given.{given_by}
 use Rattle.rbd_schedule.specs.Schedule.{Comes, Starts, StartsAll, is_held}

@@ -1,6 +1,6 @@
 -- Events of an idle round: a notice that is delivered, and a poll by which nothing goes on.
-use Rattle.std.proofs.Common.{◌≡◌, ◌≢◌, ℕ, zero, suc, ◌+◌, ◌==◌, ◌||◌, ◌⊎◌, inl, inr, cond, not, Bool, true, false, List, is_some, Option, Some, None, refl, sym, ap, ◌∙◌, subst}
-use Rattle.std.proofs.lemmas.Bool.{cases_eq, eqb-true, false≢true, or_parts, true≢false}
+use Rattle.std.proofs.Common.{◌≡◌, ◌≢◌, ℕ, ◌==◌, ◌||◌, ◌⊎◌, inl, inr, cond, not, Bool, true, false, List, is_some, Option, Some, None, refl, sym, ap, ◌∙◌, subst}
+use Rattle.std.proofs.lemmas.Bool.{cases_eq, eqb-true, false≢true, true≢false}
 use Rattle.std.proofs.lemmas.Option.{none-some, same_Some}
 use Rattle.rbd_client.specs.declared.actor.Actor.{Actor}
 use Rattle.rbd_client.specs.declared.actor.Actor.TheVariants as actor
@@ -13,7 +13,6 @@ use Rattle.rbd_client.specs.Feeding.{AreStatesAlike, IsFedBy, WayComesTo}
 use Rattle.rbd_kinds.specs.OperationKind.{kind_of}
 use Rattle.rbd_kinds.specs.declared.answer.Answer.{Answer}
 use Rattle.rbd_kinds.specs.declared.answer.Answer.TheVariants as answer
-use Rattle.rbd_kinds.specs.declared.id.Instance.{Instance}
 use Rattle.rbd_kinds.specs.declared.id.SiteId.{SiteId}
 use Rattle.rbd_kinds.specs.declared.image_at.ImageAt.{ImageAt}
 use Rattle.rbd_kinds.specs.declared.machine.Fed.{Fed}
@@ -44,17 +43,16 @@ use Rattle.rbd_session.specs.declared.running.Occupant.TheVariants as occupant
 use Rattle.rbd_session.specs.declared.running.Running.{Running}
 use Rattle.rbd_site.specs.Step.{answer_to}
 use Rattle.rbd_watch.specs.Posting.{numbered}
-use Rattle.rbd_world.specs.declared.event.Event.{Event}
 use Rattle.rbd_world.specs.declared.event.Event.TheVariants as event
 use Rattle.rbd_world.specs.declared.event.Outcome.{Outcome}
 use Rattle.rbd_world.specs.declared.sites.Sites.{Sites}
-use Rattle.rbd_world.specs.Run.{OnWay, Happening, Nothing, Waited, Did, Heard, cause_of, entries_of, fence_of, outcome_of}
-use Rattle.rbd_world.specs.Step.{Becomes, BecomesOf, Goes, Hears, IsStep, RunsOn, delivered, done_by, gone_by, goes_on_by, happening, heard_by, is_begun, operation_at, polled, polled_in, releases, reply_at, reply_on_way}
+use Rattle.rbd_world.specs.Run.{OnWay, Happening, Nothing, Waited, Did, Heard, outcome_of}
+use Rattle.rbd_world.specs.Step.{Becomes, BecomesOf, Goes, Hears, IsStep, RunsOn, delivered, done_by, gone_by, goes_on_by, heard_by, operation_at, polled, polled_in, releases, reply_at, reply_on_way}
 use Rattle.rbd_world.specs.World.{LivesView, WorldView, client_in, free_in, records_in, running_of, session_in, session_of, site_in}
 use Rattle.rbd_schedule.specs.declared.given.Given.{Given}
 use Rattle.rbd_schedule.specs.Playing.{lets_start}
 use Rattle.rbd_schedule.specs.Schedule.{goes_on}
-use Rattle.rbd_schedule.specs.Starts.{IsQuiet, is_ended}
+use Rattle.rbd_schedule.specs.Starts.{IsQuiet}
 use Rattle.rbd_schedule.proofs.Begins.{event_begins}
 use Rattle.rbd_schedule.proofs.Clients.{client_then}
 use Rattle.rbd_schedule.proofs.Quiet.{begun_then, open_then, quiet_along, still_open}

@@ -1,6 +1,6 @@
 -- The notices that a session is past, as the world goes on.
-use Rattle.std.proofs.Common.{◌≡◌, ◌≢◌, ℕ, ◌+◌, ◌<◌, ◌≤◌, ◌==◌, ◌&&◌, ◌||◌, ◌⊎◌, inl, inr, cond, nat_lt, not, Bool, true, false, List, [], ◌∷◌, ◌++◌, append-nil, Option, Some, None, refl, sym, ap, ◌∙◌, subst, arith}
-use Rattle.std.proofs.lemmas.Bool.{and_left, and_right, eq-eqb, eqb-true, false≢true, lt-ltb, ltb-true, ne_eqb, or_cases, or_left, or_right, true≢false}
+use Rattle.std.proofs.Common.{◌≡◌, ℕ, ◌≤◌, ◌==◌, ◌&&◌, ◌||◌, ◌⊎◌, inl, inr, cond, nat_lt, not, Bool, true, false, List, [], ◌++◌, append-nil, Option, Some, None, refl, sym, ap, ◌∙◌, subst, arith}
+use Rattle.std.proofs.lemmas.Bool.{and_left, and_right, eq-eqb, eqb-true, false≢true, lt-ltb, ltb-true, or_cases, or_left, or_right}
 use Rattle.std.proofs.lemmas.List.Folds.{find-append, list_any-append}
 use Rattle.std.proofs.lemmas.Option.{none-some, same_Some}
 use Rattle.std.specs.Option.{option_map, option_or}
@@ -17,7 +17,7 @@ use Rattle.rbd_machine.specs.Plan.{Standing}
 use Rattle.rbd_site.specs.Records.{Records}
 use Rattle.rbd_site.specs.Step.{is_fenced, mail_after, mail_served}
 use Rattle.rbd_site.specs.WatchStep.{notified}
-use Rattle.rbd_watch.specs.Posting.{notices, numbered}
+use Rattle.rbd_watch.specs.Posting.{numbered}
 use Rattle.rbd_world.specs.declared.event.Call.{Call}
 use Rattle.rbd_world.specs.declared.event.Event.{Event}
 use Rattle.rbd_world.specs.declared.event.Event.TheVariants as event
@@ -25,7 +25,7 @@ use Rattle.rbd_world.specs.declared.event.Outcome.{Outcome}
 use Rattle.rbd_world.specs.declared.sites.Sites.{Sites}
 use Rattle.rbd_world.specs.Run.{Happening, Nothing, Waited, Began, Did, Refused, Trimmed, Expired, Heard, Stopped, Restarted, IsOfEvent, outcome_of}
 use Rattle.rbd_world.specs.Sound.{IsSoundWorld}
-use Rattle.rbd_world.specs.Step.{Does, IsStep, LivesOnIf, happening, latest_behind, mail_then, names_session, next_life, restarted, restarted_of}
+use Rattle.rbd_world.specs.Step.{IsStep, LivesOnIf, happening, latest_behind, mail_then, names_session, next_life, restarted, restarted_of}
 use Rattle.rbd_world.specs.World.{LivesView, WorldView, client_in, lives_in, records_in, running_of}
 use Rattle.rbd_world.proofs.Carried.{of_event}
 use Rattle.rbd_schedule.specs.Notices.{hears, is_due, is_to, was_heard}

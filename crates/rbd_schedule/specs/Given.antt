@@ -1,5 +1,5 @@
 -- The commands that a script gives to its sessions, and the notices that it loses.
-use Rattle.std.specs.Prelude.{ℕ, ◌==◌, Bool, true, false, List, [], ◌∷◌, filter, Option, Some, None}
+use Rattle.std.specs.Prelude.{ℕ, ◌==◌, Bool, false, List, [], ◌∷◌, filter, Option, Some, None}
 use Rattle.std.specs.List.{flat_map, list_any}
 use Rattle.rbd_script.specs.declared.script.Line.{Line}
 use Rattle.rbd_script.specs.declared.script.Said.{Said}

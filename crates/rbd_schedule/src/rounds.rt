@@ -50,7 +50,12 @@ impl<E: Machine + Drop> Runner<E> {
     }
 
     /// The turn of a session, where it runs.
-    fn turn_of(&mut self, alloc: Global, session: SessionNo, went_on: bool) -> Result<bool, NoMemory>
+    fn turn_of(
+        &mut self,
+        alloc: Global,
+        session: SessionNo,
+        went_on: bool,
+    ) -> Result<bool, NoMemory>
         requires { KeepsUp (stands_of E.stands) self.old }
         ensures turn { IfOk result (λ went_on'. TurnOf (stands_of E.stands) (given_to self.old) (lost_in self.old) session (record { world = self.old.world; went_on = went_on }) (record { world = self.new.world; went_on = went_on' })) }
         ensures goes { OnOk result (GoesOn (stands_of E.stands) self.old self.new) }

@@ -247,12 +247,7 @@ impl<E: Machine + Drop> Runner<E> {
 
     /// What came of an event is noted: the lines that have ended by it, from this place of the
     /// history on; the notice that it told, where one heard it; and whether another command may start.
-    fn note(
-        &mut self,
-        from: usize,
-        told: Option<u64>,
-        outcome: &Outcome,
-    ) -> Result<(), NoMemory>
+    fn note(&mut self, from: usize, told: Option<u64>, outcome: &Outcome) -> Result<(), NoMemory>
         requires { from ≤ length self.old.world.history }
         ensures over { OnOk result ((line : ℕ) → has_line line self.new.over ≡ (has_line line self.old.over || is_ended line (drop from self.old.world.history))) }
         ensures heard { OnOk result ((number : ℕ) → has_number number self.new.heard ≡ (has_number number self.old.heard || (is_one_of number told && heard_by outcome.now))) }

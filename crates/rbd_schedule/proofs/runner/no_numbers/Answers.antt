@@ -1,4 +1,4 @@
-use Rattle.std.proofs.Common.{◌≡◌, ℕ, zero, suc, List, [], ◌∷◌, ◌++◌, slice_get, refl, sym, ap, ◌∙◌}
+use Rattle.std.proofs.Common.{◌≡◌, ℕ, zero, suc, List, [], ◌∷◌, ◌++◌, slice_get, refl, ap, ◌∙◌}
 use Rattle.rbd_schedule.specs.Playing.{count_of}
 use Rattle.rbd_schedule.proofs.runner.no_numbers.Goals as goal
 

@@ -1,11 +1,10 @@
 use mathlib.Core.Path.{fun_ext}
-use Rattle.std.proofs.Common.{◌≡◌, ℕ, ◌+◌, ◌<◌, ◌≤◌, ◌⊎◌, inl, inr, Bool, true, Some, slice_get, slice_set, refl, sym, ap, ◌∙◌, subst}
+use Rattle.std.proofs.Common.{◌≡◌, ℕ, ◌+◌, ◌<◌, ◌≤◌, ◌⊎◌, inl, inr, Bool, true, Some, slice_get, refl, sym, ap, ◌∙◌, subst}
 use Rattle.std.proofs.lemmas.Bool.{cases_lt}
 use Rattle.std.proofs.lemmas.Option.{slice_get_read}
 use Rattle.std.specs.Vec.{vec_len, with_item}
 use Rattle.rbd_requests.specs.Session.{stands_of}
 use Rattle.rbd_watch.specs.Posting.{numbered}
-use Rattle.rbd_schedule.specs.Notices.{was_heard}
 use Rattle.rbd_schedule.specs.Playing.{IsPassed, count_of, is_settled, lost_in}
 use Rattle.rbd_schedule.proofs.Goes.{goes_by_pass}
 use Rattle.rbd_schedule.proofs.Passing.{passed_not_due, settled_passed}

@@ -1,9 +1,8 @@
-use Rattle.std.proofs.Common.{length, refl, sym, ap, ◌∙◌, subst, None}
-use Rattle.std.proofs.lemmas.Result.{on_ok_weaker}
+use Rattle.std.proofs.Common.{length, refl, sym, ap, subst, None}
 use Rattle.rbd_requests.specs.Session.{stands_of}
 use Rattle.rbd_world.specs.declared.event.Event.TheVariants as event
 use Rattle.rbd_world.specs.Step.{IsStep}
-use Rattle.rbd_schedule.specs.Playing.{GoesOn, given_to}
+use Rattle.rbd_schedule.specs.Playing.{given_to}
 use Rattle.rbd_schedule.specs.declared.runner.Runner.{Runner}
 use Rattle.rbd_schedule.proofs.Goes.{comes_then, goes_by_note, goes_then}
 use Rattle.rbd_schedule.proofs.runner.Runner.poll.Goals as goal

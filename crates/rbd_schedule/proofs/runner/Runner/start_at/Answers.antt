@@ -8,7 +8,7 @@ returns-clause-starts g c = record {
   command = c.index-command.result.now;
   may = c.requires.may
       ∙ command_at c.args.self.now c.args.session c.args.place c.index.result.now c.index-command.result.now c.requires.within
-          (subst (λ s. c.index.result.now ≡ get_or c.args.self.now.queues.items s c.index.result.now) c.session.view_is c.index.ensures) c.index-command.ensures;
+      (subst (λ s. c.index.result.now ≡ get_or c.args.self.now.queues.items s c.index.result.now) c.session.view_is c.index.ensures) c.index-command.ensures;
   result = c.in_ok-outcome.outcome;
   step = c.in_ok-outcome.ensures.step;
 }
