@@ -6,12 +6,16 @@
 //! | `slot1` | the command has slot 1 |
 //! | `waits` | the request waits |
 //! | `a5` | the operation 5 of site A was done |
+//! | `a5~` | the same, on the way to a lock, and it asks again |
 //! | `a5!` | the same, and the request has its reply |
+//! | `heard` | an instance heard a notice |
 //! | `stored` | the store did a step of its own |
+//! | `stopped`, `restarted` | the client was stopped, or began its next life |
 //!
 //! A line may end before each `|`, and between words. Replies stand in the order in which they
 //! came, each behind its line: `3 ok;6 ok 11220000`.
 use super::drive::{Clients, holds, new_world};
+use super::mail::mail_is;
 use super::schedule::{goes, play};
 use super::script::{SCRIPT, script};
 use super::texts::{
@@ -111,6 +115,15 @@ pub fn keeps_as(
     Ok(())
 }
 
+/// A new world does what a row says, and this is its mail then.
+pub fn posts_as(rt: &impl Abort, alloc: Global, row: &str, mail: &str) -> Result<(), NoMemory> {
+    let script = script(rt, alloc, SCRIPT.as_bytes());
+    let mut world = new_world(alloc)?;
+    goes_by(rt, alloc, &mut world, script.lines.as_slice(), row);
+    assert!(rt; holds(mail_is(alloc, &world, mail)), "{mail}");
+    Ok(())
+}
+
 /// A new world goes by a schedule, and its calls then have these events.
 pub fn calls_as(
     rt: &impl Abort,
@@ -127,7 +140,8 @@ pub fn calls_as(
 
 /// What isn't so of a world in which line 3 has had its first poll: words of a schedule.
 const NOT_SO: &str =
-    "4 2 99 1.1=dir-add 1.1=none 2.1=header-create 1.2>end 1.2>data-read trim:1 1.1>ls";
+    "4 2 99 1.1=dir-add 1.1=none 2.1=header-create 1.2>end 1.2>data-read trims:1.0 1.1>ls
+heard:1=hi heard:1=+ told:1=";
 
 /// And what didn't come of that.
 const NOT_CAME: &str = "slot1|
@@ -135,6 +149,9 @@ slot1 a1 a2!|
 slot1 a2|
 slot1 b1|
 slot1 a1!|
+slot1 a1~|
+slot1 heard|
+slot1 stopped|
 slot2 a1|
 a1 slot1|
 nothing a1|
@@ -158,7 +175,7 @@ fn did_not_come(rt: &impl Abort, alloc: Global, told: &str) -> Result<bool, NoMe
 
 #[test]
 fn what_is_not_so_does_not_hold(rt: HostRuntime) -> Result<(), Fail> {
-    for word in NOT_SO.split(' ') {
+    for word in NOT_SO.split_whitespace() {
         assert!(rt; holds(is_not_so(&rt, rt.alloc(), word)), "{word}");
     }
     for told in NOT_CAME.split('\n') {
