@@ -122,17 +122,9 @@ fn stops(
     Ok(wants && loses && is_behind(alloc, world, cell(row, 3), cell(row, 4))?)
 }
 
-fn row_stops(rt: &impl Abort, alloc: Global, row: &str) -> Result<bool, NoMemory> {
-    let script = script(rt, alloc, SCRIPT.as_bytes());
-    let mut world = new_world(alloc)?;
-    stops(rt, alloc, &mut world, script.lines.as_slice(), row)
-}
-
 #[test]
 fn a_write_that_is_stopped_leaves_what_it_had_done(rt: HostRuntime) -> Result<(), Fail> {
-    for row in NEVER.split('\n') {
-        assert!(rt; holds(row_stops(&rt, rt.alloc(), row)), "{row}");
-    }
+    rows_hold(&rt, rt.alloc(), When::Never, NEVER);
     Ok(())
 }
 
@@ -171,19 +163,11 @@ fn comes_at_once(
     Ok(came && is_behind(alloc, world, cell(row, 2), cell(row, 3))?)
 }
 
-fn row_comes_at_once(rt: &impl Abort, alloc: Global, row: &str) -> Result<bool, NoMemory> {
-    let script = script(rt, alloc, SCRIPT.as_bytes());
-    let mut world = new_world(alloc)?;
-    comes_at_once(rt, alloc, &mut world, script.lines.as_slice(), row)
-}
-
 #[test]
 fn what_a_stopped_write_wanted_may_come_before_another_client_takes_the_lock(
     rt: HostRuntime,
 ) -> Result<(), Fail> {
-    for row in AT_ONCE.split('\n') {
-        assert!(rt; holds(row_comes_at_once(&rt, rt.alloc(), row)), "{row}");
-    }
+    rows_hold(&rt, rt.alloc(), When::AtOnce, AT_ONCE);
     Ok(())
 }
 
@@ -222,16 +206,45 @@ fn comes_behind(
     Ok(came && is_behind(alloc, world, cell(row, 2), cell(row, 3))?)
 }
 
-fn row_comes_behind(rt: &impl Abort, alloc: Global, row: &str) -> Result<bool, NoMemory> {
-    let script = script(rt, alloc, SCRIPT.as_bytes());
-    let mut world = new_world(alloc)?;
-    comes_behind(rt, alloc, &mut world, script.lines.as_slice(), row)
-}
-
 #[test]
 fn what_a_fenced_write_wanted_changes_nothing(rt: HostRuntime) -> Result<(), Fail> {
-    for row in BEHIND.split('\n') {
-        assert!(rt; holds(row_comes_behind(&rt, rt.alloc(), row)), "{row}");
-    }
+    rows_hold(&rt, rt.alloc(), When::Behind, BEHIND);
     Ok(())
+}
+
+// ---- a table
+
+/// When what the slot wanted comes.
+#[derive(Clone, Copy, Debug)]
+enum When {
+    Never,
+    AtOnce,
+    Behind,
+}
+
+fn goes(
+    rt: &impl Abort,
+    alloc: Global,
+    world: &mut Clients,
+    lines: &[Line],
+    when: When,
+    row: &str,
+) -> Result<bool, NoMemory> {
+    match when {
+        When::Never => stops(rt, alloc, world, lines, row),
+        When::AtOnce => comes_at_once(rt, alloc, world, lines, row),
+        When::Behind => comes_behind(rt, alloc, world, lines, row),
+    }
+}
+
+fn row_holds(rt: &impl Abort, alloc: Global, when: When, row: &str) -> Result<bool, NoMemory> {
+    let script = script(rt, alloc, SCRIPT.as_bytes());
+    let mut world = new_world(alloc)?;
+    goes(rt, alloc, &mut world, script.lines.as_slice(), when, row)
+}
+
+fn rows_hold(rt: &impl Abort, alloc: Global, when: When, rows: &str) {
+    for row in rows.split('\n') {
+        assert!(rt; holds(row_holds(rt, alloc, when, row)), "{row}");
+    }
 }

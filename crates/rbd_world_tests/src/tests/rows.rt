@@ -48,14 +48,6 @@ fn goes_by(rt: &impl Abort, alloc: Global, world: &mut Clients, lines: &[Line], 
     assert!(rt; holds(came_to(alloc, world, told)), "{row}");
 }
 
-/// A new world does what a row says.
-pub fn goes_as(rt: &impl Abort, alloc: Global, row: &str) -> Result<(), NoMemory> {
-    let script = script(rt, alloc, SCRIPT.as_bytes());
-    let mut world = new_world(alloc)?;
-    goes_by(rt, alloc, &mut world, script.lines.as_slice(), row);
-    Ok(())
-}
-
 fn mixes_by(rt: &impl Abort, alloc: Global, world: &mut Clients, lines: &[Line], row: &str) {
     let (schedule, replies) = row.split_once('|').unwrap_or((row, ""));
     play(rt, alloc, world, lines, schedule);
@@ -90,13 +82,63 @@ fn keeps(rt: &impl Abort, alloc: Global, world: &Clients, sessions: &[Declared],
     );
 }
 
-/// A new world does what a row says, and then has this history, a line for each entry.
-pub fn tells_as(rt: &impl Abort, alloc: Global, row: &str, history: &str) -> Result<(), NoMemory> {
+fn posts(rt: &impl Abort, alloc: Global, world: &Clients, mail: &str) {
+    assert!(rt; holds(mail_is(alloc, world, mail)), "{mail}");
+}
+
+/// What is asked of a world behind a row: its history, its logs with `|` between them, and its mail.
+#[derive(Clone, Copy, Debug)]
+struct Asked<'a> {
+    history: Option<&'a str>,
+    logs: Option<&'a str>,
+    mail: Option<&'a str>,
+}
+
+fn meets(
+    rt: &impl Abort,
+    alloc: Global,
+    world: &Clients,
+    sessions: &[Declared],
+    asked: &Asked<'_>,
+) {
+    if let Some(history) = asked.history {
+        tells(rt, alloc, world, sessions, history);
+    }
+    if let Some(logs) = asked.logs {
+        keeps(rt, alloc, world, sessions, logs);
+    }
+    if let Some(mail) = asked.mail {
+        posts(rt, alloc, world, mail);
+    }
+}
+
+/// A new world does what a row says, and then is as it is asked.
+fn does(rt: &impl Abort, alloc: Global, row: &str, asked: &Asked<'_>) -> Result<(), NoMemory> {
     let script = script(rt, alloc, SCRIPT.as_bytes());
     let mut world = new_world(alloc)?;
     goes_by(rt, alloc, &mut world, script.lines.as_slice(), row);
-    tells(rt, alloc, &world, script.sessions.as_slice(), history);
+    meets(rt, alloc, &world, script.sessions.as_slice(), asked);
     Ok(())
+}
+
+/// A new world does what a row says.
+pub fn goes_as(rt: &impl Abort, alloc: Global, row: &str) -> Result<(), NoMemory> {
+    let asked = Asked {
+        history: None,
+        logs: None,
+        mail: None,
+    };
+    does(rt, alloc, row, &asked)
+}
+
+/// The same, and then it has this history, a line for each entry.
+pub fn tells_as(rt: &impl Abort, alloc: Global, row: &str, history: &str) -> Result<(), NoMemory> {
+    let asked = Asked {
+        history: Some(history),
+        logs: None,
+        mail: None,
+    };
+    does(rt, alloc, row, &asked)
 }
 
 /// The same, and its sites have these logs, with `|` between them.
@@ -107,21 +149,22 @@ pub fn keeps_as(
     history: &str,
     logs: &str,
 ) -> Result<(), NoMemory> {
-    let script = script(rt, alloc, SCRIPT.as_bytes());
-    let mut world = new_world(alloc)?;
-    goes_by(rt, alloc, &mut world, script.lines.as_slice(), row);
-    tells(rt, alloc, &world, script.sessions.as_slice(), history);
-    keeps(rt, alloc, &world, script.sessions.as_slice(), logs);
-    Ok(())
+    let asked = Asked {
+        history: Some(history),
+        logs: Some(logs),
+        mail: None,
+    };
+    does(rt, alloc, row, &asked)
 }
 
 /// A new world does what a row says, and this is its mail then.
 pub fn posts_as(rt: &impl Abort, alloc: Global, row: &str, mail: &str) -> Result<(), NoMemory> {
-    let script = script(rt, alloc, SCRIPT.as_bytes());
-    let mut world = new_world(alloc)?;
-    goes_by(rt, alloc, &mut world, script.lines.as_slice(), row);
-    assert!(rt; holds(mail_is(alloc, &world, mail)), "{mail}");
-    Ok(())
+    let asked = Asked {
+        history: None,
+        logs: None,
+        mail: Some(mail),
+    };
+    does(rt, alloc, row, &asked)
 }
 
 /// A new world goes by a schedule, and its calls then have these events.
