@@ -8,7 +8,7 @@ use Rattle.rbd_client.specs.declared.slot_state.Way.{Way}
 use Rattle.rbd_client.specs.declared.slot_state.Way.TheVariants as way
 use Rattle.rbd_client.specs.Actor.{actor_at, actor_at_look, actor_by, actor_on, any_taken, due_release, may_release, releasing}
 use Rattle.rbd_client.specs.Client.{ClientView, state_in}
-use Rattle.rbd_client.specs.Feeding.{AreStatesAlike, CanGet, IsClientAlike, IsReadiedFor, IsReadyBy}
+use Rattle.rbd_client.specs.Feeding.{AreStatesAlike, CanGet, IsClientAlike, IsReadiedFor, IsReadyBy, StaysUnlessRequest}
 use Rattle.rbd_client.specs.Sound.{IsOwned, IsSoundClient, IsTelling, IsWellOnWay, WaitsForLook}
 use Rattle.rbd_kinds.specs.declared.answer.Answer.{Answer}
 use Rattle.rbd_kinds.specs.declared.id.SiteId.{SiteId}
@@ -189,3 +189,9 @@ module _ {R : Type 0} (stands : R → Standing) where
         go actor.Request other can = absurd (other refl)
         go (actor.Way a) other can = can
         go (actor.Release r) other can = can
+
+pub stays_where_same : {R : Type 0} (who : Actor) (old new : SessionView R) → new ≡ old → StaysUnlessRequest who old new
+stays_where_same actor.Nobody old new same = same
+stays_where_same actor.Request old new same = tt
+stays_where_same (actor.Way a) old new same = same
+stays_where_same (actor.Release r) old new same = same

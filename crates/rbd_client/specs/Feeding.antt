@@ -59,6 +59,11 @@ pub record IsReadiedFor {R : Type 0} (stands : R → Standing) (is_ready : R →
   pub ready : IsReadyBy stands is_ready slot c.session f (actor_at stands slot c)
   pub room : 0 < c.locks.room
 
+-- only a request is made ready itself: a way and a release leave the session as it is
+abbrev pub StaysUnlessRequest : {R : Type 0} → Actor → (old new : SessionView R) → Type 0
+StaysUnlessRequest actor.Request old new = Unit {0}
+StaysUnlessRequest who old new = new ≡ old
+
 -- the states of all images are the same
 abbrev pub AreStatesAlike : (old new : LocksView) → Type 0
 AreStatesAlike old new = (site : SiteId) (image : ℕ) → state_at site image new ≡ state_at site image old

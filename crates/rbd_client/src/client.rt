@@ -3,7 +3,7 @@ ghost use Rattle.std.specs.Prelude.{◌≡◌, ◌≢◌, ℕ, ◌≤◌, [], �
 ghost use Rattle.rbd_client.specs.declared.actor.Actor.TheVariants as actor;
 ghost use Rattle.rbd_client.specs.Actor.{actor_at, due_release, is_acquiring, is_at_rest, kind_wanted, may_release, op_wanted};
 ghost use Rattle.rbd_client.specs.Client.{heard_with, newcomer, state_in};
-ghost use Rattle.rbd_client.specs.Feeding.{CanGet, DropsAtRest, IsClientAlike, IsFedBy, IsReadiedFor};
+ghost use Rattle.rbd_client.specs.Feeding.{CanGet, DropsAtRest, IsClientAlike, IsFedBy, IsReadiedFor, StaysUnlessRequest};
 ghost use Rattle.rbd_client.specs.Sound.{IsSoundClient};
 ghost use Rattle.rbd_kinds.specs.declared.id.SiteId.{SiteId as Site};
 ghost use Rattle.rbd_locks.specs.Locks.{heard as counted_heard, state_at};
@@ -194,6 +194,7 @@ impl<R: Request> Client<R> {
         ensures alike { IsClientAlike R.stands self.old self.new }
         ensures others { (other : ℕ) → other ≢ slot → held_in other self.new.session.slots ≡ held_in other self.old.session.slots }
         ensures ready { OnOk result (IsReadiedFor R.stands R.is_ready slot fed.now self.new) }
+        ensures stays { StaysUnlessRequest (actor_at R.stands slot self.old) self.old.session self.new.session }
         ensures sound { IsSoundClient R.stands self.new }
     {
         let actor = self.actor(slot);

@@ -31,7 +31,7 @@ use Rattle.rbd_world.specs.World.{LateView, LivesView, WorldView, client_in, lat
 use Rattle.rbd_world.proofs.AtSites.{beside_then, is_done, known_then, locks_then, others_true, parentless_then, sending_then, stands_then}
 use Rattle.rbd_world.proofs.Carried.{IsCarried}
 use Rattle.rbd_world.proofs.Changed.{IsElsewhere, here_or_elsewhere, lives_there, living_on, same_or_other}
-use Rattle.rbd_world.proofs.Elsewhere.{IsAs, Same, Silent, beside_still}
+use Rattle.rbd_world.proofs.Elsewhere.{IsAs, Same, Silent, beside_still, unknown_looks}
 use Rattle.rbd_world.proofs.OrderedWorld.{no_turn, order_on}
 use Rattle.rbd_world.proofs.Quiet.{IsQuiet, lines_differ, quiet_did}
 use Rattle.rbd_world.proofs.Slots.{open_back, same_slots}
@@ -109,12 +109,7 @@ module _ {R : Type 0} (stands : R → Standing) (old : WorldView R) (w : IsSound
   pub sent_by_other : (m y : ℕ) (z : Sent) → m ≢ session → late_at m y old.lives ≡ Some z → x.instance ≢ z.instance
   sent_by_other m y z differ is same = differ (sym (w.sending m y z is).1.whose ∙ sym (ap (λ (i : Instance). i.session) same) ∙ whose)
 
--- ---- nobody is looked at who knows nothing
-
-nothing_looks : (s : SiteId) (r : Records) (me you : Instance) (k : Knowledge) (o : Op) → MayLook s r me you k nothing_known o
-nothing_looks s r me you k (op.Header image header.Get) = λ free some told. absurd (true≢false (sym told))
-nothing_looks s r me you k (op.Header image header.LockDrop) = λ lock free some told. absurd (true≢false (sym told))
-nothing_looks s r me you k _ = tt
+-- ---- a lock that is dropped
 
 -- Whoever knows a header keeps its lock where another of its instance drops one.
 keeps_lock : (s : SiteId) (r : Records) (me : Instance) (k j : Knowledge) (o : Op) → Permits k s o → MayLook s r me me k j o → KnowsByLock s r me j
@@ -334,7 +329,7 @@ module _ {R : Type 0} (stands : R → Standing) (old new : WorldView R) (w : IsS
           → MayLook z.site r (w.who (Sending m y)) (w.who (Sending m at)) (w.knows (Sending m y)) (knows_then (Sending m at)) z.op
       by (inl (one, two)) before =
           subst (λ q. MayLook z.site r (w.who (Sending m y)) (w.who (Sending m at)) (w.knows (Sending m y)) q z.op) (sym (knows_here m at one two))
-          (nothing_looks z.site r (w.who (Sending m y)) (w.who (Sending m at)) (w.knows (Sending m y)) z.op)
+          (unknown_looks z.site r (w.who (Sending m y)) (w.who (Sending m at)) (w.knows (Sending m y)) nothing_known (λ image. refl) z.op)
       by (inr elsewhere) before =
           subst (λ q. MayLook z.site r (w.who (Sending m y)) (w.who (Sending m at)) (w.knows (Sending m y)) q z.op) (sym (knows_there m at elsewhere)) (w.drops m y at z differ before r)
 

@@ -1,12 +1,16 @@
 -- What begins or ends a life of one session leaves the other sessions as they are.
-use Rattle.std.proofs.Common.{◌≡◌, ◌≢◌, ℕ, ◌==◌, cond, List, ◌∷◌, Some, refl, sym, ap, ◌∙◌, subst}
-use Rattle.std.proofs.lemmas.Bool.{eq-eqb}
+use Rattle.std.proofs.Common.{◌≡◌, ◌≢◌, ℕ, ◌==◌, cond, List, ◌∷◌, is_some, None, Some, refl, sym, ap, ◌∙◌, subst}
+use Rattle.std.proofs.lemmas.Bool.{true≢false, eq-eqb}
 use Rattle.rbd_client.specs.Client.{ClientView}
+use Rattle.rbd_kinds.specs.declared.header_op.HeaderOp.TheVariants as header
 use Rattle.rbd_kinds.specs.declared.id.Instance.{Instance}
 use Rattle.rbd_kinds.specs.declared.id.SiteId.{SiteId}
+use Rattle.rbd_kinds.specs.declared.operation.Op.{Op}
+use Rattle.rbd_kinds.specs.declared.operation.Op.TheVariants as op
 use Rattle.rbd_machine.specs.Knowledge.{Knowledge, nothing_known}
 use Rattle.rbd_machine.specs.Plan.{Standing}
-use Rattle.rbd_rely.specs.Beside.{AreBeside}
+use Rattle.rbd_rely.specs.Beside.{AreBeside, MayLook}
+use Rattle.rbd_rely.specs.Truth.{known_header}
 use Rattle.rbd_rely.proofs.Nothing.{nothing_is_beside}
 use Rattle.rbd_rely.proofs.Together.{beside_mutual}
 use Rattle.rbd_session.specs.Session.{held_in, script_line}
@@ -62,6 +66,12 @@ beside_as s r me i you y k q j p one two three four beside =
 
 pub nothing_beside : (s : SiteId) (r : Records) (me you : Instance) (k : Knowledge) → AreBeside s r me you k nothing_known
 nothing_beside s r me you k = beside_mutual s r you me nothing_known k (nothing_is_beside s r you me k)
+
+-- beside one who knows no header anybody may look, and drop a lock
+pub unknown_looks : (s : SiteId) (r : Records) (me you : Instance) (k j : Knowledge) → ((image : ℕ) → known_header j s image ≡ None) → (o : Op) → MayLook s r me you k j o
+unknown_looks s r me you k j none (op.Header image header.Get) = λ free some told. absurd (true≢false (sym told ∙ ap is_some (none image)))
+unknown_looks s r me you k j none (op.Header image header.LockDrop) = λ lock free some told. absurd (true≢false (sym told ∙ ap is_some (none image)))
+unknown_looks s r me you k j none _ = tt
 
 module _ (who who_now : Holder → Instance) (knows knows_now : Holder → Knowledge) where
   -- who knows nothing any more, or knows what he knew

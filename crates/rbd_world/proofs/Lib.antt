@@ -16,6 +16,7 @@ pub mod InLine
 pub mod InOrder
 pub mod KeptAhead
 pub mod Logged
+pub mod Lost
 pub mod Newcomer
 pub mod OneMoreWrite
 pub mod OneSession
@@ -33,6 +34,7 @@ pub mod Runs
 pub mod Slots
 pub mod Stepping
 pub mod Steps
+pub mod Stopping
 pub mod Submitted
 pub mod Submitting
 pub mod Told

@@ -4,6 +4,7 @@ use Rattle.std.proofs.Common.{◌≡◌, ℕ, length, Option, Some, None, refl}
 use Rattle.rbd_client.specs.Actor.{actor_at}
 use Rattle.rbd_client.specs.Client.{ClientView}
 use Rattle.rbd_held.specs.Knowing.{known_to}
+use Rattle.rbd_held.proofs.Drops.{drops_rest}
 use Rattle.rbd_held.proofs.Permitted.{does_what_it_may, knows_truly}
 use Rattle.rbd_kinds.specs.declared.id.Instance.{Instance}
 use Rattle.rbd_kinds.specs.declared.id.SiteId.{SiteId}
@@ -15,7 +16,7 @@ use Rattle.rbd_rely.specs.Truth.{IsTrueAt}
 use Rattle.rbd_rely.proofs.Done.{may_do, gives_it}
 use Rattle.rbd_world.specs.Run.{Sent}
 use Rattle.rbd_world.specs.Sound.{InSlot, IsSoundWorld, Sending, known_in}
-use Rattle.rbd_world.specs.Step.{IsPermitted, MayCome, WantsWhatItMay}
+use Rattle.rbd_world.specs.Step.{DropsWhatItMay, IsPermitted, MayCome, WantsWhatItMay}
 use Rattle.rbd_world.specs.World.{WorldView, client_in, late_at, records_in, site_in}
 
 module _ {R : Type 0} (stands : R → Standing) (w : WorldView R) (session slot : ℕ) where
@@ -30,6 +31,11 @@ module _ {R : Type 0} (stands : R → Standing) (w : WorldView R) (session slot 
       permitted sound c.session.instance (known_to (sound.knows (InSlot session slot)) (actor_at stands slot c)) s o
       (knows_truly stands slot c (known_in sound.knows session) s (records_in s w.sites) c.session.instance (sound.truth session c is s))
       (does_what_it_may stands slot c (known_in sound.knows session) s o (sound.clients session c is).know wants)
+
+  pub drops_what_it_may : (c : ClientView R) → IsSoundWorld stands w → client_in session w.lives ≡ Some c → DropsWhatItMay stands slot c
+  drops_what_it_may c sound is s o wants =
+      let living = sound.clients session c is in
+      drops_rest stands c (known_in sound.knows session) living.sound living.know slot s o wants (does_what_it_may stands slot c (known_in sound.knows session) s o living.know wants)
 
   pub may_come : IsSoundWorld stands w → MayCome w.sites (late_at session slot w.lives)
   may_come sound = by (late_at session slot w.lives) refl

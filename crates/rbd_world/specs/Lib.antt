@@ -1,5 +1,6 @@
 pub mod Begun
 pub mod InLine
+pub mod Late
 pub mod Noted
 pub mod Operate
 pub mod Order

@@ -7,7 +7,7 @@ use Rattle.rbd_client.specs.declared.slot_state.Quiescing.{Quiescing}
 use Rattle.rbd_client.specs.declared.slot_state.Quiescing.TheVariants as quiescing
 use Rattle.rbd_client.specs.Actor.{actor_at, op_wanted}
 use Rattle.rbd_client.specs.Client.{ClientView, heard_with, newcomer, state_in}
-use Rattle.rbd_client.specs.Feeding.{IsClientAlike, IsFedBy}
+use Rattle.rbd_client.specs.Feeding.{DropsAtRest, IsClientAlike, IsFedBy}
 use Rattle.rbd_client.specs.Sound.{IsSoundClient}
 use Rattle.rbd_commands.specs.declared.command.Command.{Command}
 use Rattle.rbd_commands.specs.declared.command.Command.TheVariants as command
@@ -484,6 +484,10 @@ module _ {R : Type 0} (stands : R → Standing) where
   -- so it is with the wanted operation of a slot that may go on
   abbrev pub WantsWhatItMay : Sites → (slot : ℕ) → ClientView R → Type 0
   WantsWhatItMay sites slot c = (s : SiteId) (o : Op) → op_wanted stands slot c ≡ Some (s, o) → IsPermitted sites c.session.instance s o
+
+  -- and a lock that it would drop may be dropped: no request of its client relies on it
+  abbrev pub DropsWhatItMay : (slot : ℕ) → ClientView R → Type 0
+  DropsWhatItMay slot c = (s : SiteId) (o : Op) → op_wanted stands slot c ≡ Some (s, o) → DropsAtRest (actor_at stands slot c) s o c
 
 -- the lines that were begun behind it
 abbrev pub begun_behind : (begun : (line : ℕ) → Bool) → Happening → (line : ℕ) → Bool

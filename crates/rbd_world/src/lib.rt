@@ -1,15 +1,19 @@
-//! One world: two sites, up to 32 clients, and one history of what they did, in whatever order.
+//! One world: two sites, up to 32 sessions, and one history of what their clients did, in whatever
+//! order, whatever notice was lost, and whoever was stopped.
 //!
 //! ```text
-//! let mut world: World<Follower> = World::new(alloc, &[SiteId::A, SiteId::A])?;   // clients 0 and 1
-//! world.step(alloc, &submit(0, 3, create))?;    // Submitted(1): line 3, in slot 1 of client 0
+//! let mut world: World<Follower> = World::new(alloc, &[SiteId::A, SiteId::A])?;   // sessions 0, 1
+//! world.step(alloc, &submit(0, 3, create))?;    // Submitted(1): line 3, in slot 1 of session 0
 //! world.step(alloc, &poll(0, 1))?;              // Step, number 1 at site A: dir-add
 //! world.step(alloc, &poll(0, 1))?;              // Step, number 2: header-create; it has its reply
 //! world.step(alloc, &submit(0, 5, write))?;     // Submitted(1)
-//! world.step(alloc, &submit(1, 6, read))?;      // Submitted(1), of client 1
-//! world.kind(SessionNo(1), Slot(1))             // site A, dir-find
-//! world.step(alloc, &poll(1, 1))?;              // the two go on in any order
-//! world.history()                               // start 3, effect name, effect create, reply 3, start 5, ..
+//! world.step(alloc, &poll(0, 1))?;              // Step: dir-find, and so on: its way to the lock ..
+//! world.step(alloc, &Event::Stop { session })?; // Stopped: line 5 is lost, the lock is still c1.0's
+//! world.step(alloc, &expire(0, A, 1))?;         // Stored: c1.0 watches no more
+//! world.step(alloc, &submit(1, 6, write))?;     // session 1 fences c1.0, breaks its lock, and writes
+//! world.step(alloc, &late(0, 1))?;              // Step: what c1.0 had sent comes, and is fenced
+//! world.step(alloc, &restart(0))?;              // Restarted: session 0 goes on as c1.1
+//! world.history()                               // start 3, effect name, .., stop, lost 5, .., fence, ..
 //! ```
 //!
 //! # Rules
@@ -17,81 +21,96 @@
 //! | event | outcome | what it does |
 //! |---|---|---|
 //! | submit | `Submitted` | a session begins the command of a line, in its lowest free slot |
-//! | poll | `Step` | the request in a slot does the one operation that it wants, and goes on to its next or to its reply |
+//! | poll | `Step` | who acts in a slot does the one operation that is wanted: the request itself, its way to the lock of its image, or, in slot 0, the release of a lock |
 //! | poll | `Step` with the number 0 | a request that is refused before any operation has its reply |
-//! | poll | `Waits` | nothing: the line of its image, or another's turn, holds the request back (`rbd_session`) |
+//! | poll | `Waits` | nothing: the line of its image, another's turn, a quiesce or another client's wish holds the request back; or slot 0 has no lock to let go |
+//! | deliver | `Heard` | the instance that a notice is for, if it runs, hears it: once for each delivery |
+//! | expire | `Stored` | a site ends the watch of a session's oldest instance that watches the image |
+//! | stop | `Stopped` | the session's instance stops: its lines without a reply are lost, and what each slot wanted is kept |
+//! | late | `Step` | what a slot of the stopped instance wanted comes, once |
+//! | restart | `Restarted` | a session that doesn't run begins its next life, which knows nothing |
 //! | trim | `Stored` | the store drops what an object keeps for snapshots that are gone |
-//! | any | `Nothing` | nothing: no such session, no free slot, a line that was begun before, an empty slot, no such object |
+//! | any | `Nothing` | nothing: no such session, or none that runs; no free slot; a line that was begun before; an empty slot; no such notice, watch or object |
 //!
 //! - A step does at most one operation on one object of one site. Each call is kept, with what came
 //!   of it; and an operation has one entry of the history, with its number in its site's log.
-//! - As long as no lock keeps two sessions apart, all changes of images that are there (`write`,
-//!   `fill`, `snap create`, `snap rm`) have to be submitted by one client. That is a condition of
-//!   [`World::step`], and goes with the lock.
+//! - An instance that is fenced at a site changes nothing there, late operations included: they are
+//!   answered `fenced`.
+//! - A notice that is never delivered holds nobody up for ever: who wants a lock asks again.
 //!
 //! # Contracts
 //!
-//! Contracts see a world as its sites' logs, its sessions, its history and its calls (`WorldView`).
-//! What an event does is a function of these (`happening`): so the outcome, what is added to the
-//! history, to a log and to the calls are each an equation, and `Nothing` and `Waits` come exactly
-//! where they are to come. Only what becomes of the session that the event names is told by the
-//! session's own clauses, since a request holds more than contracts see.
+//! Contracts see a world as its sites' logs and mail, its sessions with their lives, its history
+//! and its calls (`WorldView`). What an event does is a function of these (`happening`): so the
+//! outcome, what is added to the history, to a log, to the mail and to the calls are each an
+//! equation, and `Nothing` and `Waits` come exactly where they are to come. Only what becomes of the
+//! client of the session that the event names is told by the client's own clauses, since a request
+//! holds more than contracts see.
 //!
 //! | file | what it says |
 //! |---|---|
 //! | `specs/World.antt` | what contracts see of a world |
-//! | `specs/Run.antt` | a *run*: what the calls did, one after another; its history, its logs, its records and flat sites at each place, and the operations of a line |
+//! | `specs/Run.antt` | a *run*: what the calls did, one after another; its history, its logs, its records, flat sites and mail at each place, the operations of a line, and the lives of a session |
 //! | `specs/Step.antt` | what an event does (`happening`, `IsStep`), what a step that is refused memory leaves (`IsUndone`), and what is asked of an event |
 //! | `specs/Sound.antt` | what holds of each world (`IsSoundWorld`) |
-//! | `specs/Order.antt` | the order in which the writes of one session change an image (`KeepsOrder`), and where they stand meanwhile |
+//! | `specs/Order.antt` | the order in which the writes of one instance change an image (`KeepsOrder`), and where they stand meanwhile |
 //! | `specs/InLine.antt` | how a write goes through the line of its image |
-//! | `specs/Operate.antt` | one operation at a site, and its session |
+//! | `specs/Late.antt` | what comes behind a stop |
+//! | `specs/Operate.antt`, `specs/Sending.antt` | one operation at a site, and who has it done |
 //!
 //! Each world is sound, whatever events came (`IsSoundWorld`, a clause of each step):
 //!
-//! - its calls, history and logs are those of one run;
+//! - its calls, history, logs and mail are those of one run;
 //! - at *each place* of the run each site's records stand for its flat site: that of the effects so
 //!   far;
-//! - a line is begun once; each operation for it comes behind its start and before its reply, has
-//!   the answer and the effect that its site has for it there, and its reply, which is one, is the
-//!   command's behind all of its operations (`IsMeantBy` of `rbd_meaning`);
+//! - a line is begun once, by an instance that runs; each operation for it comes behind its start
+//!   and before its end, and has the answer and the effect that its site has for it there;
+//! - its reply, which is one, is the command's behind all of its operations (`IsMeantBy` of
+//!   `rbd_meaning`), or, where it is refused on its way to the lock, as if its look under the lock
+//!   had been answered so; and a line is lost exactly where its instance is stopped before;
 //! - the request in a slot stands where a walk of its command's plan led it, by just the operations
-//!   that were done for its line; and each line that has no reply yet is in a slot;
-//! - what each request knows is true at its site, and no two are in each other's way. So the
-//!   operation that it wants, where it doesn't wait, may be done;
-//! - of two writes or fills of one session, the one that found an image first writes each of its
+//!   that were done for its line; and each line that has neither reply nor loss is in a slot;
+//! - whoever does an operation is permitted it by what it knows, and what it knows is true; what
+//!   changes an image is its owner's, and a lock is broken only where its owner is fenced
+//!   (`IsOwnedStep`). No two clients are in each other's way, nor what stopped lives may still send;
+//! - of two writes or fills of one instance, the one that found an image first writes each of its
 //!   objects first, however their operations are mixed.
 //!
 //! [`laws`] has these as laws over any sessions: a world begins sound, and each event, and each
-//! refusal of memory, leaves it so; and that order as a law on whole runs.
-//!
-//! All of it holds of fenced instances too: an operation of one is answered `fenced`, changes
-//! nothing and has no effect. What sites tell those that watch is no part of it yet, since no
-//! request notifies.
+//! refusal of memory, leaves it so; that order as a law on whole runs; and that who acts is a life
+//! that runs, but for what a stopped one had sent, which comes once. What a fence stops, and whose
+//! changes are, are laws of `rbd_replies`.
 //!
 //! # Cost
 //!
-//! A step costs its operation, and look-ups by number: of a session, of a slot, and of a line in a
-//! hash table. History, calls and logs grow at their end, and are never copied or read. A poll
-//! whose operation is done looks once more at the header of its image, whose list of snapshots is
-//! shared.
+//! A step costs its operation, and look-ups by number: of a session, of a slot, of a notice, and of
+//! a line in a hash table. History, calls, logs and mail grow at their end, and are never copied or
+//! read. A poll whose operation is done looks once more at the header of its image, whose list of
+//! snapshots is shared. A stop costs its session's 65 slots.
 //!
 //! # How it works
 //!
-//! Room for the call and for two entries is taken first. A poll asks the session for its operation
-//! and the site for its answer, makes the session ready for it, does the operation, and feeds the
-//! session; only the last two change anything, and the last takes no memory. So a step that is
-//! refused memory has done nothing.
+//! Room for the call and for two entries is taken first. A poll asks the client for its operation
+//! and the site for its answer, makes the client ready for it, does the operation, and feeds the
+//! client; only the last two change anything, and the last takes no memory. So a step that is
+//! refused memory has done nothing. A stop makes its lists, and room for them, before the client
+//! goes.
 #![tactic(auto)]
 
 mod begun;
+mod deliver;
 mod event;
+mod foresee;
 pub mod laws;
+mod late;
+mod lives;
 mod noting;
 mod operate;
 mod poll;
+mod sender;
 mod sites;
 mod step;
+mod stop;
 mod submit;
 mod trim;
 mod world;

@@ -5,7 +5,7 @@ use Rattle.rbd_client.specs.Client.{ClientView}
 use Rattle.rbd_client.specs.Feeding.{CanGet, IsClientAlike}
 use Rattle.rbd_session.specs.Session.{held_in}
 use Rattle.rbd_session.proofs.Readied.{alike_itself}
-use Rattle.rbd_client.proofs.Alike.{ready_then, ready_without, sound_alike}
+use Rattle.rbd_client.proofs.Alike.{ready_then, ready_without, sound_alike, stays_where_same}
 use Rattle.rbd_client.proofs.client.Client.ready.Goals as goal
 
 abbrev before : (g : _) → goal.After-ready g → ClientView g.row.R.Denot
@@ -48,5 +48,7 @@ returns g c = record {
       (ap (actor_at g.R.Machine.stands c.args.slot) c.self.view_is ∙ sym c.actor-actor.ensures.actor) c.in_default.not-Request
       (subst (CanGet g.R.Machine.stands c.args.slot c.self.inside.session c.args.fed.now) (sym c.actor-actor.ensures.actor)
       (subst (λ (v : ClientView _). CanGet g.R.Machine.stands c.args.slot v.session c.args.fed.now (actor_at g.R.Machine.stands c.args.slot c.args.self.now)) (sym c.self.view_is) c.requires));
+  stays =
+      stays_where_same (actor_at g.R.Machine.stands c.args.slot c.args.self.now) c.args.self.now.session c.self.inside.session (ap (λ (v : ClientView _). v.session) c.self.view_is);
   sound = sound_alike g.R.Machine.stands (was g c) (then g c) c.self.invariant c.self.invariant.session (alike_then g c);
 }

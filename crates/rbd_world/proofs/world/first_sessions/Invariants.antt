@@ -1,5 +1,0 @@
-use Rattle.rbd_world.proofs.FirstClients.{AreMade}
-use Rattle.rbd_world.proofs.world.first_sessions.Given as goal
-
-abbrev pub invariant-loop-number : goal.invariant-loop-number
-invariant-loop-number g l = AreMade g.R.Machine.stands l.homes l.number l.sessions.items
