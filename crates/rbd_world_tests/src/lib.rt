@@ -29,7 +29,7 @@
 //! | `stopping`, `late`, `places` | stops, next lives, and what comes late |
 //! | `expiring`, `sites` | steps of the store, and logs |
 //! | `telling`, `quiescing` | what clients tell each other, and what holds changes back |
-//! | `nothing`, `slots` | events of which nothing comes |
+//! | `nothing`, `slots`, `clients` | events of which nothing comes, and what a world tells of a client |
 #![tactic(auto)]
 
 #[cfg(test)]

@@ -1,4 +1,5 @@
 mod asked;
+mod clients;
 mod drive;
 mod expiring;
 mod fencing;

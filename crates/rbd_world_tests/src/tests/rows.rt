@@ -142,12 +142,12 @@ pub fn tells_as(rt: &impl Abort, alloc: Global, row: &str, history: &str) -> Res
 }
 
 /// The same, and its sites have these logs, with `|` between them.
-pub fn keeps_as(
+pub fn keeps_as<'a>(
     rt: &impl Abort,
     alloc: Global,
     row: &str,
-    history: &str,
-    logs: &str,
+    history: &'a str,
+    logs: &'a str,
 ) -> Result<(), NoMemory> {
     let asked = Asked {
         history: Some(history),
