@@ -1,7 +1,7 @@
 -- Who acts at a slot of a client has an operation done: what is known then, by everybody.
-use Rattle.std.proofs.Common.{◌≡◌, ◌≢◌, ◌⊎◌, inl, inr, ℕ, ◌==◌, ◌<◌, cond, Bool, true, false, [], ◌∷◌, Option, Some, None, refl, sym, ap, ◌∙◌, subst, arith}
+use Rattle.std.proofs.Common.{◌≡◌, ◌≢◌, ◌⊎◌, inl, inr, ℕ, ◌<◌, cond, false, ◌∷◌, Option, Some, None, refl, sym, ap, ◌∙◌, subst, arith}
 use Rattle.std.specs.Prelude.{IsSome}
-use Rattle.std.proofs.lemmas.Bool.{true≢false, eq-eqb, eqb-true}
+use Rattle.std.proofs.lemmas.Bool.{true≢false, eq-eqb}
 use Rattle.rbd_client.specs.declared.actor.Actor.{Actor}
 use Rattle.rbd_client.specs.declared.actor.Actor.TheVariants as actor
 use Rattle.rbd_client.specs.Actor.{actor_at, op_by, op_wanted}
@@ -23,14 +23,13 @@ use Rattle.rbd_kinds.specs.declared.id.SiteId.{SiteId}
 use Rattle.rbd_kinds.specs.declared.machine.Fed.TheVariants as fed
 use Rattle.rbd_kinds.specs.declared.operation.Op.{Op}
 use Rattle.rbd_kinds.specs.declared.reply.Reply.{Reply}
-use Rattle.rbd_known.specs.Knowing.{AllKnow, known_at_operation, known_behind, unless_ended}
+use Rattle.rbd_known.specs.Knowing.{AllKnow, known_behind, unless_ended}
 use Rattle.rbd_known.proofs.Little.{still_beside}
-use Rattle.rbd_known.proofs.Wanting.{Wants, wants}
+use Rattle.rbd_known.proofs.Wanting.{wants}
 use Rattle.rbd_machine.specs.Answers.{CanGive}
 use Rattle.rbd_machine.specs.Knowledge.{Knowledge, learned, nothing_known, same_site}
 use Rattle.rbd_machine.specs.Permits.{Permits}
-use Rattle.rbd_machine.specs.Plan.{Plan, Ask, Standing, plan_after}
-use Rattle.rbd_owner.specs.declared.acquire.Acquire.{Acquire}
+use Rattle.rbd_machine.specs.Plan.{Ask, Standing}
 use Rattle.rbd_owner.specs.declared.release.Release.{Release}
 use Rattle.rbd_rely.specs.Beside.{AreBeside, MayLook}
 use Rattle.rbd_rely.specs.Locks.{KnowsByLock}
@@ -38,19 +37,17 @@ use Rattle.rbd_rely.specs.Truth.{IsTrueAt, IsParentless, known_header}
 use Rattle.rbd_rely.proofs.Elsewhere.{beside_elsewhere}
 use Rattle.rbd_rely.proofs.Nothing.{nothing_is_beside}
 use Rattle.rbd_rely.proofs.Together.{beside_mutual, learned_beside}
-use Rattle.rbd_session.specs.declared.running.Running.{Running}
-use Rattle.rbd_session.specs.Session.{SessionView, held_in, op_at, running_at, running_in}
+use Rattle.rbd_session.specs.Session.{held_in, running_at, running_in}
 use Rattle.rbd_session.proofs.Sound.{no_some, some_same}
 use Rattle.rbd_site.specs.Records.{Records}
-use Rattle.rbd_site.specs.Step.{after, answer_to}
-use Rattle.rbd_world.specs.declared.event.Event.TheVariants as event
+use Rattle.rbd_site.specs.Step.{answer_to}
 use Rattle.rbd_world.specs.Run.{Doer, Happening, Did, Sent, flat_after, sent_of}
-use Rattle.rbd_world.specs.Sound.{AreLivesOf, AreStrangers, Holder, InSlot, Sending, IsDone, IsLiving, IsOf, IsSoundWorld, MayStillCome, known_in}
-use Rattle.rbd_world.specs.Step.{DoesAtSites, Goes, IsSoundIf, operation_at}
+use Rattle.rbd_world.specs.Sound.{AreStrangers, Holder, InSlot, Sending, IsDone, IsLiving, IsOf, IsSoundWorld, MayStillCome, known_in}
+use Rattle.rbd_world.specs.Step.{DoesAtSites, Goes, operation_at}
 use Rattle.rbd_world.specs.World.{LateView, LivesView, WorldView, client_in, late_at, late_of, lives_in, records_in, sent_in, site_in}
 use Rattle.rbd_world.proofs.AtSites.{at_either, beside_then, can_give, elsewhere_now, here_now, is_done, others_true, parentless_then, sending_then, stands_in, stands_then, unless_over}
 use Rattle.rbd_world.proofs.Carried.{StandFlat}
-use Rattle.rbd_world.proofs.Changed.{GoesOnAs, HasLives, client_was, lives_there, same_or_other}
+use Rattle.rbd_world.proofs.Changed.{lives_there, same_or_other}
 use Rattle.rbd_world.proofs.Quiet.{lines_differ}
 
 below_itself : (n : ℕ) → n < n → ⊥

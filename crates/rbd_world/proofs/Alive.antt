@@ -1,16 +1,14 @@
 -- Who acts is a life that runs; a stopped one does no more than what it had sent, and that once.
-use Rattle.std.proofs.Common.{◌≡◌, ℕ, ◌==◌, ◌||◌, ◌&&◌, cond, Bool, true, false, List, [], ◌∷◌, ◌++◌, Option, Some, None, refl, sym, ap, ◌∙◌, subst}
-use Rattle.std.specs.List.{list_any}
+use Rattle.std.proofs.Common.{◌≡◌, ℕ, ◌==◌, ◌||◌, cond, Bool, true, false, List, [], ◌∷◌, ◌++◌, Option, Some, None, refl, sym, ap, ◌∙◌, subst}
 use Rattle.std.proofs.lemmas.Bool.{true≢false, and_parts, eqb-true, or_parts}
 use Rattle.rbd_kinds.specs.declared.id.Instance.{Instance}
 use Rattle.rbd_kinds.specs.declared.id.SiteId.{SiteId}
-use Rattle.rbd_kinds.specs.declared.operation.Op.{Op}
 use Rattle.rbd_kinds.specs.declared.reply.Reply.{Reply}
 use Rattle.rbd_session.specs.Session.{held_in}
 use Rattle.rbd_session.proofs.Sound.{no_some, some_same}
 use Rattle.rbd_world.specs.Late.{comes_among, comes_in, is_late, is_stopped_among, stops_in}
-use Rattle.rbd_world.specs.Run.{Asked, Doer, Itself, OnWay, House, AfterStop, Happening, Nothing, Waited, Began, Did, Refused, Trimmed, Expired, Heard, Stopped, Restarted, Life, Operation, Sent, asked_by, comes_of, ends, is_among, life_after, or_asked, sent_after, sent_behind, sent_of}
-use Rattle.rbd_world.specs.Sound.{EndsWith, GoesOnBehind, IsDone, IsDue, IsOf, IsOpen, IsRight, IsRunning, has_ended}
+use Rattle.rbd_world.specs.Run.{Asked, Doer, Itself, OnWay, House, AfterStop, Happening, Nothing, Waited, Began, Did, Refused, Trimmed, Expired, Heard, Stopped, Restarted, Life, Operation, Sent, asked_by, comes_of, ends, life_after, or_asked, sent_after, sent_behind, sent_of}
+use Rattle.rbd_world.specs.Sound.{EndsWith, GoesOnBehind, IsDue, IsOf, IsOpen, IsRight, IsRunning, has_ended}
 
 -- ---- a line that is open is of a life that runs
 

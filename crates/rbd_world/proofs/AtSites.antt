@@ -1,9 +1,8 @@
 -- What an operation that is permitted does to both sites: they stand, and what others know stays
 -- true.
 use Rattle.std.specs.Prelude.{IsFalse, IsSome}
-use Rattle.std.proofs.Common.{◌≡◌, ◌≢◌, ◌⊎◌, ℕ, cond, Bool, true, false, [], ◌∷◌, length, ◌+◌, Option, Some, None, refl, sym, ap, ◌∙◌, subst}
+use Rattle.std.proofs.Common.{◌≡◌, ◌≢◌, ℕ, cond, false, [], ◌∷◌, length, ◌+◌, Option, Some, None, refl, sym, ap, ◌∙◌, subst}
 use Rattle.rbd_client.specs.Client.{ClientView}
-use Rattle.rbd_flat.specs.Flat.{Flat}
 use Rattle.rbd_held.specs.Truth.{IsTrueOf}
 use Rattle.rbd_held.proofs.Others.{others_leave_it_true}
 use Rattle.rbd_kinds.specs.declared.answer.Answer.{Answer}
@@ -34,7 +33,7 @@ use Rattle.rbd_stands.specs.Owned.{IsOwnedStep}
 use Rattle.rbd_stands.specs.Site.{StandsFor}
 use Rattle.rbd_world.specs.Run.{Doer, Happening, Did, Operation, Sent, flat_after, records_after}
 use Rattle.rbd_world.specs.Sound.{IsDone, IsOf, IsSoundWorld, MayStillCome}
-use Rattle.rbd_world.specs.Step.{DoesAtSites, next_number, operation_at}
+use Rattle.rbd_world.specs.Step.{DoesAtSites, operation_at}
 use Rattle.rbd_world.specs.World.{WorldView, records_in, site_in}
 use Rattle.rbd_world.proofs.BothSites.{same_site_itself}
 use Rattle.rbd_world.proofs.Carried.{StandFlat}

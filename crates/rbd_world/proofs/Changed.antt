@@ -1,22 +1,22 @@
 -- Where the client of one session goes on: the other sessions stay, and so do all lives.
-use Rattle.std.proofs.Common.{◌≡◌, ◌≢◌, ◌⊎◌, inl, inr, ℕ, ◌==◌, ◌<◌, ◌≤◌, cond, Bool, true, false, List, ◌∷◌, is_some, Option, Some, None, refl, sym, ap, ◌∙◌, subst}
+use Rattle.std.proofs.Common.{◌≡◌, ◌≢◌, ◌⊎◌, inl, inr, ℕ, ◌==◌, ◌<◌, ◌≤◌, Bool, true, false, List, ◌∷◌, is_some, Option, Some, None, refl, sym, ap, ◌∙◌, subst}
 use Rattle.std.proofs.lemmas.Bool.{true≢false, eq-eqb, eqb-true}
 use Rattle.rbd_client.specs.Client.{ClientView}
 use Rattle.rbd_client.specs.Sound.{IsSoundClient}
 use Rattle.rbd_kinds.specs.declared.id.Instance.{Instance}
 use Rattle.rbd_kinds.specs.declared.id.SiteId.{SiteId}
 use Rattle.rbd_known.specs.Knowing.{AllKnow, KnowsIn}
-use Rattle.rbd_machine.specs.Knowledge.{Knowledge, nothing_known}
+use Rattle.rbd_machine.specs.Knowledge.{Knowledge}
 use Rattle.rbd_machine.specs.Plan.{Standing}
 use Rattle.rbd_session.specs.declared.running.Occupant.{Occupant}
 use Rattle.rbd_session.specs.declared.running.Occupant.TheVariants as occupant
 use Rattle.rbd_session.specs.Session.{SessionView, held_in, running_at, running_in, script_line}
 use Rattle.rbd_session.proofs.Sound.{no_some, some_same}
 use Rattle.rbd_world.specs.declared.event.Event.{Event}
-use Rattle.rbd_world.specs.Run.{Happening, Life, Sent, life_after, life_behind, sent_after, sent_behind}
-use Rattle.rbd_world.specs.Sound.{AreApart, AreLivesOf, IsHeldRightly, IsLiving, IsOpen, IsRunning, IsSoundWorld, held_of, known_in, line_at}
-use Rattle.rbd_world.specs.Step.{AreSlotsBut, Becomes, BecomesOf, Does, IsSameClient, LivesOn, LivesOnIf, RunsOn, late_behind, latest_behind, names_session}
-use Rattle.rbd_world.specs.World.{LateView, LivesView, WorldView, client_in, late_at, late_of, lives_in, running_of, sent_in, session_in, session_of}
+use Rattle.rbd_world.specs.Run.{Happening, Life, Sent, life_after, life_behind, sent_behind}
+use Rattle.rbd_world.specs.Sound.{AreApart, AreLivesOf, IsHeldRightly, IsLiving, IsOpen, IsRunning, IsSoundWorld, held_of, line_at}
+use Rattle.rbd_world.specs.Step.{AreSlotsBut, Becomes, BecomesOf, Does, IsSameClient, LivesOnIf, RunsOn, late_behind, latest_behind, names_session}
+use Rattle.rbd_world.specs.World.{LateView, LivesView, WorldView, client_in, late_at, late_of, lives_in, running_of, sent_in, session_of}
 use Rattle.rbd_world.proofs.Quiet.{IsQuiet, held_on, lines_differ}
 
 -- ---- this slot, or another one

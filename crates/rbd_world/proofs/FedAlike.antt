@@ -1,8 +1,24 @@
--- What comes of a session that was made ready comes of it as it was before.
-use Rattle.std.proofs.Common.{◌≡◌, ℕ, true, Option, Some, None, sym, ap, ◌∙◌, subst}
+-- What comes of a client that was made ready comes of it as it was before.
+use Rattle.std.proofs.Common.{◌≡◌, ◌≢◌, ℕ, true, List, Option, Some, None, refl, sym, ap, ◌∙◌, subst}
 use Rattle.std.proofs.lemmas.Bool.{true≢false}
 use Rattle.std.specs.Prelude.{IsSome, is_some}
+use Rattle.rbd_client.specs.declared.actor.Actor.{Actor}
+use Rattle.rbd_client.specs.declared.actor.Actor.TheVariants as actor
+use Rattle.rbd_client.specs.declared.slot_state.Quiescing.TheVariants as quiescing
+use Rattle.rbd_client.specs.declared.slot_state.SlotState.{SlotState}
+use Rattle.rbd_client.specs.Actor.{actor_at}
+use Rattle.rbd_client.specs.Client.{ClientView, state_in}
+use Rattle.rbd_client.specs.Feeding.{CountsAll, DropsAtRest, GoesItsWay, IsClientAlike, IsFedBy, ReleaseIsFed, RequestIsFed, StaysUnlessRequest, WayIsFed, comings_of, state_behind, state_on_way}
+use Rattle.rbd_client.proofs.Alike.{actor_alike, look_alike}
+use Rattle.rbd_client.proofs.Wanted.{drops_alike}
 use Rattle.rbd_kinds.specs.declared.answer.Answer.{Answer}
+use Rattle.rbd_kinds.specs.declared.id.SiteId.{SiteId}
+use Rattle.rbd_kinds.specs.declared.image_at.ImageAt.{ImageAt}
+use Rattle.rbd_kinds.specs.declared.operation.Op.{Op}
+use Rattle.rbd_locks.specs.Comings.{Coming, after_all}
+use Rattle.rbd_locks.specs.Locks.{state_at}
+use Rattle.rbd_owner.specs.declared.acquire.Acquire.{Acquire}
+use Rattle.rbd_owner.specs.declared.release.Release.{Release}
 use Rattle.rbd_kinds.specs.declared.layout.Extent.{Extent}
 use Rattle.rbd_kinds.specs.declared.machine.Fed.{Fed}
 use Rattle.rbd_kinds.specs.declared.machine.Fed.TheVariants as fed
@@ -16,11 +32,14 @@ use Rattle.rbd_session.specs.declared.running.Running.{Running}
 use Rattle.rbd_session.specs.Advance.{track_of, fed_by, GoesFurther, ComesTo, IsSameStand}
 use Rattle.rbd_session.specs.Lines.{LinesView, lines_of}
 use Rattle.rbd_session.specs.OnTrack.{LeavesOthers, IsOnTrack}
-use Rattle.rbd_session.specs.Session.{SessionView, IsAlike, IsAlikeIn, IsFed, ComesToIn, OfRunning, held_in, running_in}
+use Rattle.rbd_session.specs.Session.{SessionView, IsAlike, IsAlikeIn, IsFed, ComesToIn, OfRunning, held_in, own_look_at, running_in}
 use Rattle.rbd_session.specs.Track.{Track, run}
 use Rattle.rbd_session.proofs.Sound.{no_some}
 use Rattle.rbd_session.proofs.Readied.{same_track}
-use Rattle.rbd_world.specs.Step.{AreSlotsBut, Goes}
+use Rattle.rbd_site.specs.Log.{SiteLog, records_of}
+use Rattle.rbd_site.specs.Step.{answer_to}
+use Rattle.rbd_world.specs.Run.{Doer}
+use Rattle.rbd_world.specs.Step.{Goes, operation_at}
 
 module _ {R : Type 0} (stands : R → Standing) where
   -- ---- a request goes on from where it stood
@@ -91,13 +110,85 @@ module _ {R : Type 0} (stands : R → Standing) where
   fed_alike slot f result s m t alike is_fed =
       fed_in slot f result t.lines (held_in slot s.slots) (held_in slot m.slots) (held_in slot t.slots) s.lines m.lines (alike.slots slot) alike.lines is_fed
 
+  -- ---- a client
+
+  module _ (slot : ℕ) (s : SiteId) (o : Op) (f : Fed) (result : Option Reply) (c m t : ClientView R) (alike : IsClientAlike stands c m) where
+    same_look : own_look_at stands slot m.session ≡ own_look_at stands slot c.session
+    same_look = look_alike stands slot c.session m.session alike.session
+
+    same_comings : comings_of (state_in slot m.slots).quiescing (own_look_at stands slot m.session) s o f ≡ comings_of (state_in slot c.slots).quiescing (own_look_at stands slot c.session) s o f
+    same_comings =
+        ap (λ (xs : List SlotState). comings_of (state_in slot xs).quiescing (own_look_at stands slot m.session) s o f) alike.slots
+        ∙ ap (λ (l : Option ImageAt). comings_of (state_in slot c.slots).quiescing l s o f) same_look
+
+    -- what is counted is counted from where it was
+    counts_before : (old new : List Coming) → new ≡ old → CountsAll new m.locks t.locks → CountsAll old c.locks t.locks
+    counts_before old new same counts = λ site image.
+        counts site image ∙ ap (λ (xs : List Coming). after_all xs site image (state_at site image m.locks)) same ∙ ap (after_all old site image) (alike.locks site image)
+
+    request_before : RequestIsFed stands slot s o f result m t → RequestIsFed stands slot s o f result c t
+    request_before is = record {
+      fed = fed_alike slot f result c.session m.session t.session alike.session is.fed;
+      counts = counts_before _ _ same_comings is.counts;
+      state =
+          is.state
+          ∙ ap (λ (l : Option ImageAt). state_behind (is_some result) (is_some l) (state_in slot m.slots)) same_look
+          ∙ ap (λ (xs : List SlotState). state_behind (is_some result) (is_some (own_look_at stands slot c.session)) (state_in slot xs)) alike.slots;
+      release = is.release ∙ alike.release;
+    }
+
+    way_before : (a : Acquire) → m.session ≡ c.session → WayIsFed a slot s o f result m t → WayIsFed a slot s o f result c t
+    way_before a same is = record {
+      comes = is.comes;
+      session = subst (λ (x : SessionView R). GoesItsWay slot result x t.session) same is.session;
+      counts = counts_before (comings_of quiescing.Leaves None s o f) (comings_of quiescing.Leaves None s o f) refl is.counts;
+      state = is.state ∙ ap (λ (xs : List SlotState). state_on_way (is_some result) (state_in slot t.slots).way (state_in slot xs)) alike.slots;
+      release = is.release ∙ alike.release;
+    }
+
+    release_before : (r : Release) → m.session ≡ c.session → ReleaseIsFed r s o f result m t → ReleaseIsFed r s o f result c t
+    release_before r same is = record {
+      none = is.none;
+      session = is.session ∙ same;
+      counts = counts_before (comings_of quiescing.Leaves None s o f) (comings_of quiescing.Leaves None s o f) refl is.counts;
+      slots = is.slots ∙ alike.slots;
+      release = is.release;
+    }
+
+    fed_before : (who : Actor) → StaysUnlessRequest who c.session m.session → IsFedBy stands slot s o f result m t who → IsFedBy stands slot s o f result c t who
+    fed_before actor.Nobody stays is = is
+    fed_before actor.Request stays is = request_before is
+    fed_before (actor.Way a) stays is = way_before a stays is
+    fed_before (actor.Release r) stays is = release_before r stays is
+
+  -- what may be dropped may be dropped once all is ready
+  pub drops_still : (slot : ℕ) (s : SiteId) (o : Op) (c m : ClientView R) → IsClientAlike stands c m → DropsAtRest (actor_at stands slot c) s o c → DropsAtRest (actor_at stands slot m) s o m
+  drops_still slot s o c m alike drops = by (actor_at stands slot c) (actor_alike stands slot c m alike) drops
+    where
+      by : (who : Actor) → actor_at stands slot m ≡ who → DropsAtRest who s o c → DropsAtRest (actor_at stands slot m) s o m
+      by actor.Nobody is d = subst (λ w. DropsAtRest w s o m) (sym is) tt
+      by actor.Request is d = drops_alike stands slot s o c m alike d
+      by (actor.Way a) is d = subst (λ w. DropsAtRest w s o m) (sym is) tt
+      by (actor.Release r) is d = subst (λ w. DropsAtRest w s o m) (sym is) tt
+
   -- it was made ready, and then fed
-  pub goes_alike : (slot : ℕ) (a : Answer) (result : Option Reply) (s m t : SessionView R) → IsAlike stands s m → AreSlotsBut slot s m
-      → IsFed stands slot (fed.Answer a) result m t → AreSlotsBut slot m t → LeavesOthers slot (lines_of m.lines) (lines_of t.lines)
-      → (t.instance ≡ m.instance) × (t.home ≡ m.home) → Goes stands slot a result s t
-  goes_alike slot a result s m t alike before is_fed slots others who = record {
-    fed = fed_alike slot (fed.Answer a) result s m t alike is_fed;
-    slots = λ other apart. slots other apart ∙ before other apart;
-    others = subst (λ ls. LeavesOthers slot ls (lines_of t.lines)) alike.lines others;
-    client = record { instance = who.0 ∙ alike.instance; home = who.1 ∙ alike.home };
+  pub goes_alike : (slot : ℕ) (by : Doer) (s : SiteId) (o done : Op) (before : SiteLog) (f : Fed) (result : Option Reply) (c m t : ClientView R)
+      → o ≡ done → f ≡ fed.Answer (answer_to (records_of before) c.session.instance o) → IsClientAlike stands c m → StaysUnlessRequest (actor_at stands slot c) c.session m.session
+      → ((other : ℕ) → other ≢ slot → held_in other m.session.slots ≡ held_in other c.session.slots)
+      → IsFedBy stands slot s done f result m t (actor_at stands slot m)
+      → ((other : ℕ) → other ≢ slot → (held_in other t.session.slots ≡ held_in other m.session.slots) × (state_in other t.slots ≡ state_in other m.slots))
+      → LeavesOthers slot (lines_of m.session.lines) (lines_of t.session.lines)
+      → (t.session.instance ≡ m.session.instance) × (t.session.home ≡ m.session.home) × (t.heard ≡ m.heard)
+      → Goes stands slot (operation_at before c.session.instance by s o) result c t
+  goes_alike slot by s o done before f result c m t same told alike stays others is_fed slots lines who = record {
+    fed =
+        fed_before slot s o (fed.Answer (answer_to (records_of before) c.session.instance o)) result c m t alike (actor_at stands slot c) stays
+        (subst (λ (g : Fed). IsFedBy stands slot s o g result m t (actor_at stands slot c)) told
+        (subst (λ (x : Op). IsFedBy stands slot s x f result m t (actor_at stands slot c)) (sym same)
+        (subst (IsFedBy stands slot s done f result m t) (actor_alike stands slot c m alike) is_fed)));
+    slots = λ other differ. (slots other differ).0 ∙ others other differ;
+    states = λ other differ. (slots other differ).1 ∙ ap (state_in other) alike.slots;
+    others = subst (λ ls. LeavesOthers slot ls (lines_of t.session.lines)) alike.session.lines lines;
+    client = record { instance = who.0 ∙ alike.session.instance; home = who.1 ∙ alike.session.home };
+    heard = who.2 ∙ alike.heard;
   }

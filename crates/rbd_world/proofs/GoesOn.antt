@@ -1,9 +1,8 @@
 -- What has to be shown where the client of one session goes on in its life, put together.
-use Rattle.std.proofs.Common.{◌≡◌, ◌≢◌, ◌⊎◌, inl, inr, ℕ, ◌==◌, cond, Bool, true, false, List, [], ◌∷◌, Option, Some, None, refl, sym, ap, ◌∙◌, subst}
+use Rattle.std.proofs.Common.{◌≡◌, ◌≢◌, ◌⊎◌, inl, inr, ℕ, ◌==◌, cond, [], ◌∷◌, Some, None, refl, sym, ap, ◌∙◌, subst}
 use Rattle.std.proofs.lemmas.Bool.{eq-eqb}
 use Rattle.rbd_client.specs.Client.{ClientView}
 use Rattle.rbd_held.specs.Truth.{IsTrueOf}
-use Rattle.rbd_kinds.specs.declared.id.Instance.{Instance}
 use Rattle.rbd_kinds.specs.declared.id.SiteId.{SiteId}
 use Rattle.rbd_machine.specs.Knowledge.{Knowledge, nothing_known}
 use Rattle.rbd_machine.specs.Plan.{Standing}
@@ -14,9 +13,9 @@ use Rattle.rbd_session.specs.Session.{held_in, script_line}
 use Rattle.rbd_session.proofs.Sound.{no_some, some_same}
 use Rattle.rbd_world.specs.Order.{IsInOrder, IsInTurn, IsWriterOf}
 use Rattle.rbd_world.specs.Run.{Happening, Sent, sent_after, steps_in}
-use Rattle.rbd_world.specs.Sound.{AreApart, AreInSlots, AreStrangers, Holder, InSlot, Sending, IsDue, IsLiving, IsSoundWorld, MayStillCome, held_of, known_in}
+use Rattle.rbd_world.specs.Sound.{AreApart, AreInSlots, AreStrangers, Holder, InSlot, Sending, IsDue, IsLiving, IsSoundWorld, MayStillCome, known_in}
 use Rattle.rbd_world.specs.World.{WorldView, client_in, late_at, records_in}
-use Rattle.rbd_world.proofs.Carried.{Carries, IsCarried, StandFlat}
+use Rattle.rbd_world.proofs.Carried.{IsCarried, StandFlat}
 use Rattle.rbd_world.proofs.Changed.{GoesOnAs, IsLifeless, SendsNothing, client_is, clients_stay, late_stays, lives_go_on, living_on, same_or_other}
 use Rattle.rbd_world.proofs.OrderedWorld.{orders_of}
 use Rattle.rbd_world.proofs.Quiet.{IsQuiet, lines_differ}

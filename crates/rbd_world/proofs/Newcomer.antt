@@ -7,7 +7,7 @@ use Rattle.rbd_held.specs.Truth.{IsTrueOf}
 use Rattle.rbd_held.proofs.Calls.{submitted_is_true}
 use Rattle.rbd_kinds.specs.declared.id.Instance.{Instance}
 use Rattle.rbd_kinds.specs.declared.id.SiteId.{SiteId}
-use Rattle.rbd_known.specs.Knowing.{AllKnow, KnowsIn}
+use Rattle.rbd_known.specs.Knowing.{KnowsIn}
 use Rattle.rbd_known.proofs.Calmly.{look_is_calm}
 use Rattle.rbd_known.proofs.Newcomers.{newcomer_knows}
 use Rattle.rbd_machine.specs.Knowledge.{Knowledge, nothing_known}
@@ -30,7 +30,7 @@ use Rattle.rbd_world.specs.Sound.{AreApart, InSlot, Sending, IsBegin, IsHeldRigh
 use Rattle.rbd_world.specs.Step.{Begins, BeginsIn, Does, DoesAtSites, IsSoundIf, begins_of, is_begun, quiescing_of}
 use Rattle.rbd_world.specs.World.{WorldView, client_in, records_in, session_of}
 use Rattle.rbd_world.proofs.Carried.{IsCarried}
-use Rattle.rbd_world.proofs.Changed.{GoesOnAs, HasBecome, IsElsewhere, all_but, client_is, has_become, here_or_elsewhere, line_elsewhere, line_is, living_of, open_there}
+use Rattle.rbd_world.proofs.Changed.{GoesOnAs, IsElsewhere, all_but, client_is, has_become, here_or_elsewhere, line_elsewhere, line_is, living_of, open_there}
 use Rattle.rbd_world.proofs.GoesOn.{goes_carries}
 use Rattle.rbd_world.proofs.OneMoreWrite.{begun_order}
 use Rattle.rbd_world.proofs.OrderedWorld.{freed_order, order_beside}

@@ -1,8 +1,7 @@
 -- What is permitted by true knowledge is the owner's, and breaks no lock but that of a fenced owner.
-use Rattle.std.proofs.Common.{◌≡◌, ℕ, ◌==◌, ◌&&◌, cond, Bool, true, false, Option, Some, None, refl, sym, ap, ◌∙◌, subst}
+use Rattle.std.proofs.Common.{◌≡◌, ℕ, ◌==◌, ◌&&◌, cond, Bool, true, false, refl, sym, ap, subst}
 use Rattle.std.specs.Prelude.{IsSome, IsTrue, IsFalse}
 use Rattle.std.proofs.lemmas.Bool.{true≢false, and_parts, eqb-true}
-use Rattle.rbd_kinds.specs.declared.answer.Answer.{Answer}
 use Rattle.rbd_kinds.specs.declared.answer.Answer.TheVariants as answer
 use Rattle.rbd_kinds.specs.declared.data_op.DataOp.{DataOp}
 use Rattle.rbd_kinds.specs.declared.data_op.DataOp.TheVariants as object
@@ -16,7 +15,7 @@ use Rattle.rbd_kinds.specs.declared.operation.Op.TheVariants as op
 use Rattle.rbd_machine.specs.Knowledge.{Knowledge}
 use Rattle.rbd_machine.specs.Permits.{OwnsBy, Permits, PermitsOnHeader, PermitsOnObject}
 use Rattle.rbd_rely.specs.Locks.{KnowsByLock}
-use Rattle.rbd_rely.specs.Truth.{IsTrueAt, header_of_own, known_header}
+use Rattle.rbd_rely.specs.Truth.{IsTrueAt, header_of_own}
 use Rattle.rbd_site.specs.Records.{Records}
 use Rattle.rbd_site.specs.Step.{answer_served, answer_to, is_fenced}
 use Rattle.rbd_stands.specs.Owned.{HasLock, IsOwnedStep, IsOwner, changes_data, changes_header, changes_image, was_done}

@@ -1,37 +1,56 @@
--- A poll whose operation was done did what the request's plan says, and nothing at the other site.
-use Rattle.std.proofs.Common.{◌≡◌, ℕ, cond, false, List, [], ◌∷◌, ◌++◌, is_some, Option, Some, None, refl, sym, ap, ◌∙◌, subst}
+-- A poll did what is said of it, by who acts at the slot, and nothing at the other site.
+use Rattle.std.proofs.Common.{◌≡◌, ℕ, ◌==◌, cond, Bool, true, false, List, [], ◌∷◌, Option, Some, None, refl, sym, ap, ◌∙◌, subst}
+use Rattle.std.proofs.lemmas.Bool.{true≢false, eqb-true}
+use Rattle.rbd_client.specs.declared.actor.Actor.{Actor}
+use Rattle.rbd_client.specs.declared.actor.Actor.TheVariants as actor
+use Rattle.rbd_client.specs.declared.slot_state.Way.{Way}
+use Rattle.rbd_client.specs.declared.slot_state.Way.TheVariants as way
+use Rattle.rbd_client.specs.Actor.{actor_at, actor_on, due_release, op_by, op_wanted, releasing}
+use Rattle.rbd_client.specs.Client.{ClientView, state_in}
+use Rattle.rbd_client.specs.Feeding.{IsFedBy, WayComesTo, RefusesIt}
+use Rattle.rbd_client.specs.Sound.{IsSoundClient}
 use Rattle.rbd_flat.specs.declared.entry.Entry.{Entry}
 use Rattle.rbd_kinds.specs.declared.answer.Answer.{Answer}
+use Rattle.rbd_kinds.specs.declared.id.Instance.{Instance}
 use Rattle.rbd_kinds.specs.declared.id.SiteId.{SiteId}
+use Rattle.rbd_kinds.specs.declared.image_at.ImageAt.{ImageAt}
 use Rattle.rbd_kinds.specs.declared.machine.Fed.{Fed}
 use Rattle.rbd_kinds.specs.declared.machine.Fed.TheVariants as fed
 use Rattle.rbd_kinds.specs.declared.operation.Op.{Op}
 use Rattle.rbd_kinds.specs.declared.reply.Reply.{Reply}
+use Rattle.rbd_kinds.specs.declared.reply.Reply.TheVariants as reply_is
+use Rattle.rbd_locks.specs.Locks.{LocksView}
 use Rattle.rbd_machine.specs.Knowledge.{same_site}
-use Rattle.rbd_machine.specs.Label.{Label}
+use Rattle.rbd_machine.specs.Label.{Label, Lock}
 use Rattle.rbd_machine.specs.Path.{at_operation}
-use Rattle.rbd_machine.specs.Plan.{Plan, Ask, Await, Note, Return, Goto, Standing, plan_after}
+use Rattle.rbd_machine.specs.Plan.{Plan, Ask, Await, Note, Return, Goto, Standing, IsAsking, IsLive, plan_after, settled}
+use Rattle.rbd_machine.specs.Steps.{IsGoing}
+use Rattle.rbd_owner.specs.Acquire.{lock_of, op_of, rest_at, rest_of_acquire, taking}
+use Rattle.rbd_owner.specs.declared.acquire.Acquire.{Acquire}
+use Rattle.rbd_owner.specs.declared.acquire.Stage.{Stage}
+use Rattle.rbd_owner.specs.declared.release.Release.{Release}
+use Rattle.rbd_owner.specs.Release.{release_op}
 use Rattle.rbd_session.specs.declared.running.Occupant.{Occupant}
 use Rattle.rbd_session.specs.declared.running.Occupant.TheVariants as occupant
 use Rattle.rbd_session.specs.declared.running.Running.{Running}
-use Rattle.rbd_session.specs.Advance.{ComesTo}
+use Rattle.rbd_session.specs.Advance.{ComesTo, track_of}
 use Rattle.rbd_session.specs.Lines.{LinesView}
-use Rattle.rbd_session.specs.Session.{SessionView, ComesToIn, IsFed, OfRunning, held_in, op_at, refusal_in, reply_of, script_line}
+use Rattle.rbd_session.specs.Session.{ComesToIn, OfRunning, going_in, held_in, of_going, op_asked, op_at, own_look_at, refusal_in, reply_of, running_in, script_line}
 use Rattle.rbd_session.specs.Track.{Track}
+use Rattle.rbd_session.specs.Waits.{waits}
 use Rattle.rbd_session.proofs.Sound.{no_some, some_same}
 use Rattle.rbd_site.specs.Log.{line_of}
 use Rattle.rbd_site.specs.Step.{after, answer_to}
 use Rattle.rbd_world.specs.declared.event.Event.TheVariants as event
 use Rattle.rbd_world.specs.declared.event.Outcome.{Outcome}
-use Rattle.rbd_world.specs.declared.event.Outcome.TheVariants as outcome
 use Rattle.rbd_world.specs.declared.sites.Sites.{Sites}
 use Rattle.rbd_world.specs.Noted.{noted_by}
-use Rattle.rbd_world.specs.Operate.{IsOperatedAt}
-use Rattle.rbd_world.specs.Run.{Happening, Waited, Did, Operation, entry_of, outcome_of, reply_entries}
-use Rattle.rbd_world.specs.Step.{Becomes, DoesAt, DoesAtSites, Goes, done_by, operation_at, polled_in, reply_at, with_lines}
+use Rattle.rbd_world.specs.Operate.{IsLogged, IsNoted, IsOperatedAt, IsSameElsewhere}
+use Rattle.rbd_world.specs.Run.{Doer, Itself, OnWay, House, Happening, Nothing, Waited, Did, Operation, outcome_of}
+use Rattle.rbd_world.specs.Sending.{ActsAt, IsHeldUp, doer_at}
+use Rattle.rbd_world.specs.Step.{Becomes, DoesAt, DoesAtSites, Goes, done_by, goes_on_by, gone_by, operation_at, polled_in, released_by, releases, reply_at, reply_on_way, with_lines}
 use Rattle.rbd_world.specs.World.{records_in, site_in}
-use Rattle.rbd_world.proofs.BothSites.{IsNothingAt, done_at, left_sites, nothing_done, same_site_itself}
-use Rattle.rbd_known.proofs.Wanting.{Wants, wants}
+use Rattle.rbd_world.proofs.BothSites.{IsNothingAt, done_at, left_sites, same_site_itself}
 
 -- ---- the sites
 
@@ -41,15 +60,80 @@ nothing_else o reply q other = record {
   records = λ r. ap (λ b. cond b (after r o.instance o.op) r) other;
 }
 
+-- It was done there, and so it is noted.
+pub record IsDone (before behind : Sites) (earlier later : List Entry) (h : Happening) (result : Outcome) : Type 0 where
+  pub outcome : result ≡ outcome_of h
+  pub noted : later ≡ noted_by earlier h
+  pub sites : DoesAtSites h before behind
+
+module _ (who : Instance) (by : Doer) (s : SiteId) (o : Op) (before behind : Sites) where
+  abbrev operates : Operation
+  operates = operation_at (site_in s before) who by s o
+
+  here : (reply : Option Reply) → IsLogged who o (site_in s before) (site_in s behind) before.mail behind.mail → DoesAt s (Did operates reply) (site_in s before) (site_in s behind)
+  here reply logged = record {
+    site = logged.log ∙ sym (ap (λ b. with_lines (cond b (line_of operates.number operates.instance o operates.answer ∷ []) []) (site_in s before)) (same_site_itself s));
+    records = logged.records ∙ sym (ap (λ b. cond b (after (records_in s before) who o) (records_in s before)) (same_site_itself s));
+    form = λ form. logged.form;
+  }
+
+  pub done_there : (reply told : Option Reply) (earlier later : List Entry) (result : Outcome) → IsLogged who o (site_in s before) (site_in s behind) before.mail behind.mail
+      → IsNoted who by s o (site_in s before) reply earlier later result → IsSameElsewhere s before behind → reply ≡ told → IsDone before behind earlier later (Did operates told) result
+  done_there reply told earlier later result logged noted elsewhere is = record {
+    outcome = noted.outcome ∙ ap (λ (r : Option Reply). outcome_of (Did operates r)) is;
+    noted = noted.history ∙ ap (λ (r : Option Reply). noted_by earlier (Did operates r)) is;
+    sites = done_at s (Did operates told) before behind (here told logged) (λ q other. nothing_else operates told q other) elsewhere logged.mail;
+  }
+
+-- ---- the reply of a way
+
+live_reply : (labels : Label → Plan) (plan left : Plan) → IsGoing (settled labels plan) left → reply_at plan ≡ None
+live_reply labels (Return reply) left going = absurd (subst IsLive going.is going.live)
+live_reply labels (Ask site why o next) left going = refl
+live_reply labels (Await w next) left going = refl
+live_reply labels (Note site image e next) left going = refl
+live_reply labels (Goto label) left going = refl
+
+way_reply : (a : Acquire) (told : Answer) (result : Option Reply) (w : Way) → WayComesTo a (fed.Answer told) result w → result ≡ reply_on_way a told
+way_reply a told None (way.On b) comes =
+    sym (live_reply (λ l. lock_of a (Goto Lock)) (plan_after (rest_of_acquire a (Goto Lock)) (fed.Answer told)) (rest_of_acquire b (Goto Lock)) (comes.goes (λ l. lock_of a (Goto Lock)) (Goto Lock) refl))
+way_reply a told None (way.Taken p) comes =
+    sym (ap (λ (at : Stage). reply_at (plan_after (rest_at at a.site a.image (Goto Lock)) (fed.Answer told))) comes.asked
+    ∙ ap (λ (f : Fed). reply_at (plan_after (taking a.site a.image (Goto Lock)) f)) comes.done)
+way_reply a told None way.Unbegun comes = elim comes [ ]
+way_reply a told (Some r) w comes = by r comes.1
+  where
+    by : (r : Reply) → RefusesIt a (fed.Answer told) r → Some r ≡ reply_on_way a told
+    by (reply_is.Refused x) refuses = sym (ap reply_at (refuses (Goto Lock)))
+    by _ refuses = elim refuses [ ]
+
+-- ---- who acts where
+
+abbrev is_release : Actor → Bool
+is_release (actor.Release r) = true
+is_release _ = false
+
+abbrev is_way : Actor → Bool
+is_way (actor.Way a) = true
+is_way _ = false
+
+chosen_no_release : (b owned : Bool) (a : Acquire) → is_release (cond b actor.Nobody (cond owned actor.Request (actor.Way a))) ≡ false
+chosen_no_release true owned a = refl
+chosen_no_release false true a = refl
+chosen_no_release false false a = refl
+
+no_release : (w : Way) (look : Option ImageAt) (locks : LocksView) → is_release (actor_on w look locks) ≡ false
+no_release way.Unbegun None locks = refl
+no_release way.Unbegun (Some p) locks = chosen_no_release _ _ _
+no_release (way.On a) look locks = refl
+no_release (way.Taken p) look locks = refl
+
+no_way : (begun : Option Release) (due : Option ImageAt) → is_way (releasing begun due) ≡ false
+no_way (Some r) due = refl
+no_way None (Some p) = refl
+no_way None None = refl
+
 module _ {R : Type 0} (stands : R → Standing) where
-  -- ---- who is refused before any operation
-
-  pub refused_sites : (sites : Sites) (s : SessionView R) (slot : ℕ) (reply : Reply) (o : Option (Occupant R)) → Some reply ≡ reply_of (refusal_in o)
-      → DoesAtSites (polled_in stands sites s slot o) sites sites
-  refused_sites sites s slot reply (Some (occupant.Refused line refusal)) is = left_sites _ sites (λ q. record { lines = refl; records = λ r. refl })
-  refused_sites sites s slot reply (Some (occupant.Running r)) is = absurd (no_some reply (sym is))
-  refused_sites sites s slot reply None is = left_sites _ sites nothing_done
-
   -- ---- the reply is that of the plan
 
   comes_reply : (slot : ℕ) (labels : Label → Plan) (plan : Plan) (t : Track) (result : Option Reply) (r q : Running R) (lines : LinesView)
@@ -70,59 +154,127 @@ module _ {R : Type 0} (stands : R → Standing) where
 
   -- ---- the poll
 
-  -- it is noted, and sites and session are as it says
-  pub record IsPolled (before behind : Sites) (slot : ℕ) (s t : SessionView R) (earlier history : List Entry) (p : Happening) (result : Outcome) : Type 0 where
-    pub outcome : result ≡ outcome_of p
-    pub noted : history ≡ noted_by earlier p
-    pub sites : DoesAtSites p before behind
-    pub becomes : (session : ℕ) → Becomes stands (event.Poll session slot) p s t
+  -- it is noted, and sites and client are as it says
+  pub record IsPolled (before behind : Sites) (slot : ℕ) (c t : ClientView R) (earlier later : List Entry) (h : Happening) (result : Outcome) : Type 0 where
+    pub outcome : result ≡ outcome_of h
+    pub noted : later ≡ noted_by earlier h
+    pub sites : DoesAtSites h before behind
+    pub becomes : (session : ℕ) → Becomes stands (event.Poll session slot) h c t
 
-  module _ (slot line : ℕ) (site : SiteId) (o : Op) (before behind : Sites) (s t : SessionView R) (line_is : Some line ≡ script_line (held_in slot s.slots))
-      (w : Wants stands slot s.lines site o (held_in slot s.slots)) where
-    abbrev answers : Answer
-    answers = answer_to (records_in site before) s.instance o
+  module _ (slot : ℕ) (before behind : Sites) (c t : ClientView R) (earlier later : List Entry) (result : Outcome) where
+    abbrev Acts : Doer → Option (SiteId × Op) → Type 0
+    Acts by wanted = ActsAt stands slot by wanted before behind c t earlier later result
 
-    abbrev operates : Operation
-    operates = operation_at (site_in site before) s.instance line site o
+    abbrev Polls : Happening → Type 0
+    Polls h = IsPolled before behind slot c t earlier later h result
 
-    abbrev ends : Option Reply
-    ends = reply_at (at_operation (stands w.request.request).labels (w.next answers))
+    held_up : IsHeldUp before behind c t earlier later result → Polls Waited
+    held_up is = record {
+      outcome = is.outcome;
+      noted = is.history;
+      sites = subst (DoesAtSites Waited before) (sym is.sites) (left_sites Waited before (λ q. record { lines = refl; records = λ r. refl }) refl);
+      becomes = λ session. is.client;
+    }
 
-    polls : polled_in stands before s slot (held_in slot s.slots) ≡ Did operates ends
-    polls =
-        ap (polled_in stands before s slot) w.is
-        ∙ ap (λ b. cond b Waited (done_by before s.instance w.request.line (stands w.request.request).labels (stands w.request.request).plan)) w.goes
-        ∙ ap (done_by before s.instance w.request.line (stands w.request.request).labels) w.plan
-        ∙ ap (λ l. Did (operation_at (site_in site before) s.instance l site o) ends) (some_same w.request.line line (sym (line_is ∙ ap script_line w.is)))
+    operated : (by : Doer) (s : SiteId) (o : Op) (told : Option Reply) → (is : IsOperatedAt stands slot by s o before behind c t earlier later result) → is.here.reply ≡ told
+        → Polls (Did (operation_at (site_in s before) c.session.instance by s o) told)
+    operated by s o told is replied =
+        let done = done_there c.session.instance by s o before behind is.here.reply told earlier later result is.here.logged is.here.noted is.elsewhere replied in
+        record {
+          outcome = done.outcome;
+          noted = done.noted;
+          sites = done.sites;
+          becomes = λ session. subst (λ (r : Option Reply). Goes stands slot (operation_at (site_in s before) c.session.instance by s o) r c t) replied is.here.goes;
+        }
 
-    fed_reply : (reply : Option Reply) → IsFed stands slot (fed.Answer answers) reply s t → reply ≡ ends
-    fed_reply reply is_fed =
-        in_reply slot s.lines (fed.Answer answers) reply w.request (held_in slot t.slots) t.lines
-        (subst (OfRunning (λ r. ComesToIn stands slot s.lines (fed.Answer answers) reply r (held_in slot t.slots) t.lines)) w.is is_fed)
-        ∙ ap (λ plan. reply_at (at_operation (stands w.request.request).labels (plan_after plan (fed.Answer answers)))) w.plan
+    -- ---- the request in the slot
 
-    module _ (earlier history : List Entry) (result : Outcome) (is : IsOperatedAt stands slot line site o before behind s t earlier history result) where
-      here : DoesAt site (Did operates ends) (site_in site before) (site_in site behind)
-      here = record {
-        site = is.here.logged.log ∙ sym (ap (λ b. with_lines (cond b (line_of operates.number operates.instance o answers ∷ []) []) (site_in site before)) (same_site_itself site));
-        records = is.here.logged.records ∙ sym (ap (λ b. cond b (after (records_in site before) s.instance o) (records_in site before)) (same_site_itself site));
-        form = λ form. is.here.logged.form;
-      }
+    module _ (line : ℕ) (r : Running R) (held : held_in slot c.session.slots ≡ Some (occupant.Running r)) (line_is : line ≡ r.line) (acts_is : actor_at stands slot c ≡ actor.Request) where
+      asks : (plan : Plan) → (stands r.request).plan ≡ plan → IsAsking plan → Acts (Itself line) (op_asked plan)
+          → Polls (done_by before c.session.instance r.line (stands r.request).labels plan)
+      asks (Ask s why o next) is asking acts =
+          let told = answer_to (records_in s before) c.session.instance o in
+          let ends = reply_at (at_operation (stands r.request).labels (next told)) in
+          let is_fed = subst (IsFedBy stands slot s o (fed.Answer told) acts.here.reply c t) acts_is acts.here.goes.fed in
+          subst (λ (l : ℕ). Polls (Did (operation_at (site_in s before) c.session.instance (Itself l) s o) ends)) line_is
+          (operated (Itself line) s o ends acts
+          (in_reply slot c.session.lines (fed.Answer told) acts.here.reply r (held_in slot t.session.slots) t.session.lines
+          (subst (OfRunning (λ q. ComesToIn stands slot c.session.lines (fed.Answer told) acts.here.reply q (held_in slot t.session.slots) t.session.lines)) held is_fed.fed)
+          ∙ ap (λ (p : Plan). reply_at (at_operation (stands r.request).labels (plan_after p (fed.Answer told)))) is))
+      asks (Await w next) is asking acts = elim asking [ ]
+      asks (Note s image e next) is asking acts = elim asking [ ]
+      asks (Return x) is asking acts = elim asking [ ]
+      asks (Goto label) is asking acts = elim asking [ ]
 
-      replied : is.here.reply ≡ ends
-      replied = fed_reply is.here.reply is.here.goes.fed
+      goes : (b : Bool) → IsAsking (stands r.request).plan → Acts (Itself line) (of_going stands op_asked (cond b None (Some r)))
+          → Polls (cond b Waited (done_by before c.session.instance r.line (stands r.request).labels (stands r.request).plan))
+      goes true asking acts = held_up acts
+      goes false asking acts = asks (stands r.request).plan refl asking acts
 
-      did_so : IsPolled before behind slot s t earlier history (Did operates ends) result
-      did_so = record {
-        outcome = is.here.outcome ∙ ap (λ (r : Option Reply). outcome.Step site operates.number false (is_some r)) replied;
-        noted = is.here.history ∙ ap (λ (r : Option Reply). earlier ++ entry_of operates ∷ reply_entries line r) replied;
-        sites = done_at site (Did operates ends) before behind here (λ q other. nothing_else operates ends q other) is.elsewhere;
-        becomes = λ session. subst (λ told. Goes stands slot answers told s t) replied is.here.goes;
-      }
+      request_acts : IsAsking (stands r.request).plan → Acts (Itself line) (op_at stands slot c.session) → Polls (goes_on_by stands before c slot r actor.Request)
+      request_acts asking acts =
+          goes (waits slot (track_of r c.session.lines)) asking
+          (subst (λ (o : Option (Occupant R)). Acts (Itself line) (of_going stands op_asked (going_in slot o c.session.lines))) held acts)
 
-  pub polled_so : (slot line : ℕ) (site : SiteId) (o : Op) (before behind : Sites) (s t : SessionView R) (earlier history : List Entry) (result : Outcome) → Some line ≡ script_line (held_in slot s.slots)
-      → op_at stands slot s ≡ Some (site, o) → IsOperatedAt stands slot line site o before behind s t earlier history result
-      → IsPolled before behind slot s t earlier history (polled_in stands before s slot (held_in slot s.slots)) result
-  polled_so slot line site o before behind s t earlier history result line_is asks is =
-      let w = wants stands slot s.lines site o (held_in slot s.slots) asks in
-      subst (λ p. IsPolled before behind slot s t earlier history p result) (sym (polls slot line site o before behind s t line_is w)) (did_so slot line site o before behind s t line_is w earlier history result is)
+    -- ---- its way, and a release
+
+    way_acts : (line : ℕ) (a : Acquire) → actor_at stands slot c ≡ actor.Way a → Acts (OnWay line) (Some (a.site, op_of a)) → Polls (gone_by before c.session.instance line a)
+    way_acts line a acts_is acts =
+        let told = answer_to (records_in a.site before) c.session.instance (op_of a) in
+        let is_fed = subst (IsFedBy stands slot a.site (op_of a) (fed.Answer told) acts.here.reply c t) acts_is acts.here.goes.fed in
+        operated (OnWay line) a.site (op_of a) (reply_on_way a told) acts (way_reply a told acts.here.reply (state_in slot t.slots).way is_fed.comes)
+
+    release_acts : (r : Release) → actor_at stands slot c ≡ actor.Release r → Acts House (Some (r.site, release_op r)) → Polls (released_by before c.session.instance r)
+    release_acts r acts_is acts =
+        let told = answer_to (records_in r.site before) c.session.instance (release_op r) in
+        let is_fed = subst (IsFedBy stands slot r.site (release_op r) (fed.Answer told) acts.here.reply c t) acts_is acts.here.goes.fed in
+        operated House r.site (release_op r) None acts is_fed.none
+
+    -- ---- by who acts
+
+    module _ (line : ℕ) (r : Running R) (held : held_in slot c.session.slots ≡ Some (occupant.Running r)) (line_is : line ≡ r.line) (place : (slot == 0) ≡ false) where
+      acts_by : (who : Actor) → actor_at stands slot c ≡ who → IsAsking (stands r.request).plan → Acts (doer_at line who) (op_by stands slot c.session who) → Polls (goes_on_by stands before c slot r who)
+      acts_by actor.Nobody is asking acts = held_up acts
+      acts_by actor.Request is asking acts = request_acts line r held line_is is asking acts
+      acts_by (actor.Way a) is asking acts = subst (λ (l : ℕ). Polls (gone_by before c.session.instance l a)) line_is (way_acts line a is acts)
+      acts_by (actor.Release x) is asking acts =
+          absurd (true≢false (sym (ap is_release is) ∙ ap (λ b. is_release (cond b (releasing c.release (due_release c)) (actor_on (state_in slot c.slots).way (own_look_at stands slot c.session) c.locks))) place
+          ∙ no_release (state_in slot c.slots).way (own_look_at stands slot c.session) c.locks))
+
+    pub polled_so : (line : ℕ) (by : Doer) → (slot == 0) ≡ false → Some line ≡ script_line (held_in slot c.session.slots) → None ≡ reply_of (refusal_in (held_in slot c.session.slots))
+        → by ≡ doer_at line (actor_at stands slot c) → IsSoundClient stands c → Acts by (op_wanted stands slot c) → Polls (polled_in stands before c slot (held_in slot c.session.slots))
+    polled_so line by place line_is unrefused by_is sound acts = go (held_in slot c.session.slots) refl line_is unrefused
+      where
+        go : (o : Option (Occupant R)) → held_in slot c.session.slots ≡ o → Some line ≡ script_line o → None ≡ reply_of (refusal_in o) → Polls (polled_in stands before c slot o)
+        go None is line_is unrefused = absurd (no_some line (sym line_is))
+        go (Some (occupant.Refused n x)) is line_is unrefused = absurd (no_some _ unrefused)
+        go (Some (occupant.Running r)) is line_is unrefused =
+            acts_by line r is (some_same line r.line line_is) place (actor_at stands slot c) refl (sound.session.asks slot r (ap running_in is))
+            (subst (λ (d : Doer). Acts d (op_wanted stands slot c)) by_is acts)
+
+    pub released_so : slot ≡ 0 → IsSoundClient stands c → Acts House (op_wanted stands slot c) → Polls (polled_in stands before c slot (held_in slot c.session.slots))
+    released_so is sound acts =
+        subst (λ (o : Option (Occupant R)). Polls (polled_in stands before c slot o)) (sym free)
+        (subst (λ (b : Bool). Polls (cond b (releases before c.session.instance (actor_at stands slot c)) Nothing)) (sym place)
+        (by (actor_at stands slot c) refl acts))
+      where
+        place : (slot == 0) ≡ true
+        place = ap (λ (n : ℕ). n == 0) is
+
+        free : held_in slot c.session.slots ≡ None
+        free = ap (λ (n : ℕ). held_in n c.session.slots) is ∙ sound.session.zero
+
+        by : (who : Actor) → actor_at stands slot c ≡ who → Acts House (op_by stands slot c.session who) → Polls (releases before c.session.instance who)
+        by actor.Nobody acts_is a = held_up a
+        by actor.Request acts_is a = held_up (subst (λ (o : Option (Occupant R)). Acts House (of_going stands op_asked (going_in slot o c.session.lines))) free a)
+        by (actor.Way w) acts_is a =
+            absurd (true≢false (sym (ap is_way acts_is) ∙ ap (λ b. is_way (cond b (releasing c.release (due_release c)) (actor_on (state_in slot c.slots).way (own_look_at stands slot c.session) c.locks))) place
+            ∙ no_way c.release (due_release c)))
+        by (actor.Release r) acts_is a = release_acts r acts_is a
+
+pub not_zero : (n : ℕ) → (n ≡ 0 → ⊥) → (n == 0) ≡ false
+not_zero n apart = by (n == 0) refl
+  where
+    by : (b : Bool) → (n == 0) ≡ b → b ≡ false
+    by true is = absurd (apart (eqb-true n 0 is))
+    by false is = refl

@@ -16,7 +16,7 @@ use Rattle.rbd_requests.specs.Served.{IsPlanFor}
 use Rattle.rbd_session.specs.declared.running.Occupant.{Occupant}
 use Rattle.rbd_session.specs.declared.running.Occupant.TheVariants as occupant
 use Rattle.rbd_session.specs.declared.running.Running.{Running}
-use Rattle.rbd_session.specs.Session.{held_in, script_line}
+use Rattle.rbd_session.specs.Session.{script_line}
 use Rattle.rbd_world.specs.Run.{Asked, Doer, Itself, OnWay, House, AfterStop, Happening, Nothing, Waited, Began, Did, Refused, Trimmed, Expired, Heard, Stopped, Restarted, Operation, ends, is_among, is_for, is_on_way, is_own, or_asked, step_of, steps_in, steps_of, way_in, way_of}
 use Rattle.rbd_world.specs.Sound.{IsHeldRightly, IsOpen, IsRefusedAtOnce, IsUnderWay, has_ended}
 

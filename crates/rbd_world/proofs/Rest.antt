@@ -1,5 +1,5 @@
 -- Where no session changes: nothing happened, a slot waits, or the store did a step of its own.
-use Rattle.std.proofs.Common.{◌≡◌, ◌≢◌, ◌⊎◌, ℕ, Bool, true, false, cond, List, [], ◌∷◌, length, ◌+◌, is_some, Option, Some, None, refl, sym, ap, ◌∙◌, subst}
+use Rattle.std.proofs.Common.{◌≡◌, ℕ, Bool, true, false, cond, List, [], ◌∷◌, length, ◌+◌, is_some, Option, Some, None, refl, sym, ap, ◌∙◌, subst}
 use Rattle.rbd_client.specs.Client.{ClientView}
 use Rattle.rbd_held.specs.Truth.{IsTrueOf}
 use Rattle.rbd_held.proofs.Others.{expiries_leave_it_true, trims_leave_it_true}
@@ -8,7 +8,7 @@ use Rattle.rbd_kinds.specs.declared.id.SiteId.{SiteId}
 use Rattle.rbd_machine.specs.Knowledge.{Knowledge, same_site}
 use Rattle.rbd_machine.specs.Plan.{Standing}
 use Rattle.rbd_rely.specs.Beside.{AreBeside}
-use Rattle.rbd_rely.specs.Locks.{HasLockWhileFree, KnowsByLock}
+use Rattle.rbd_rely.specs.Locks.{KnowsByLock}
 use Rattle.rbd_rely.specs.Truth.{IsTrueAt, IsParentless}
 use Rattle.rbd_rely.proofs.Kept.{expiries_keep, trims_keep}
 use Rattle.rbd_session.specs.Session.{script_line}
@@ -20,10 +20,10 @@ use Rattle.rbd_watch.specs.Watching.{oldest_of}
 use Rattle.rbd_world.specs.declared.event.Event.{Event}
 use Rattle.rbd_world.specs.Order.{IsInTurn}
 use Rattle.rbd_world.specs.Run.{Happening, Nothing, Waited, Trimmed, Expired, Sent, life_after, records_after, flat_after, sent_after}
-use Rattle.rbd_world.specs.Sound.{AreLivesOf, AreStrangers, Holder, IsDue, IsExpired, IsRight, IsSoundWorld, IsTrimmed, MayStillCome, held_of, known_in, line_at}
+use Rattle.rbd_world.specs.Sound.{AreLivesOf, IsDue, IsExpired, IsRight, IsSoundWorld, IsTrimmed, MayStillCome, held_of, known_in, line_at}
 use Rattle.rbd_world.specs.Step.{Does, DoesAtSites, LivesOn, LivesOnIf, names_session, next_number}
 use Rattle.rbd_world.specs.World.{LivesView, WorldView, client_in, late_at, late_of, lives_in, records_in, running_of, sent_in, session_of, site_in}
-use Rattle.rbd_world.proofs.Carried.{Carries, IsCarried, StandFlat}
+use Rattle.rbd_world.proofs.Carried.{IsCarried, StandFlat}
 use Rattle.rbd_world.proofs.Changed.{IsLifeless, SendsNothing, living_on}
 use Rattle.rbd_world.proofs.OrderedWorld.{order_on}
 use Rattle.rbd_world.proofs.Quiet.{IsQuiet, quiet_expired, quiet_nothing, quiet_trimmed, quiet_waited}

@@ -9,7 +9,7 @@ use Rattle.rbd_kinds.specs.declared.reply.Reply.{Reply}
 use Rattle.rbd_flat.specs.declared.entry.Cause.{Cause}
 use Rattle.rbd_flat.specs.declared.entry.Entry.TheVariants as entry
 use Rattle.rbd_kinds.specs.declared.id.Instance.{Instance}
-use Rattle.rbd_world.specs.Run.{Asked, Doer, Itself, OnWay, House, AfterStop, Happening, Nothing, Waited, Began, Did, Refused, Trimmed, Expired, Heard, Stopped, Restarted, Operation, asked_by, ending_entries, ends, entries_of, entry_by, entry_of, entry_unfenced, history_of, is_among, is_for, is_own, or_asked, reply_entries, step_of, steps_in, steps_of, way_in, way_of}
+use Rattle.rbd_world.specs.Run.{Asked, Doer, Itself, OnWay, House, AfterStop, Happening, Nothing, Waited, Began, Did, Refused, Trimmed, Expired, Heard, Stopped, Restarted, Operation, asked_by, ending_entries, ends, entries_of, entry_by, entry_unfenced, history_of, is_among, is_for, or_asked, reply_entries, steps_in, steps_of, way_in, way_of}
 use Rattle.rbd_world.specs.Sound.{EndsWith, GoesOnBehind, IsDue, IsOpen, IsRight, has_ended}
 use Rattle.rbd_world.specs.Step.{is_begun, is_start_of}
 use Rattle.rbd_world.proofs.Quiet.{IsQuiet, quiet_began, quiet_did, quiet_expired, quiet_heard, quiet_nothing, quiet_refused, quiet_restarted, quiet_stopped, quiet_trimmed, quiet_waited}

@@ -1,6 +1,8 @@
--- A command that begins, as the session tells it and as the world does.
-use Rattle.std.proofs.Common.{◌≡◌, ◌||◌, ℕ, Bool, false, cond, Option, Some, None, sym, ap, ◌∙◌, subst}
+-- A command that begins, as the client tells it and as the world does.
+use Rattle.std.proofs.Common.{◌≡◌, ◌≢◌, ◌||◌, ℕ, Bool, false, cond, Option, Some, None, sym, ap, ◌∙◌, subst}
 use Rattle.std.specs.Prelude.{nat_lt}
+use Rattle.rbd_client.specs.declared.slot_state.Quiescing.{Quiescing}
+use Rattle.rbd_client.specs.Client.{ClientView, newcomer, state_in}
 use Rattle.rbd_commands.specs.declared.command.Command.{Command}
 use Rattle.rbd_kinds.specs.declared.id.SiteId.{SiteId}
 use Rattle.rbd_machine.specs.Plan.{Standing}
@@ -11,10 +13,10 @@ use Rattle.rbd_requests.specs.Session.{StandsFor, extent_for, stands_of}
 use Rattle.rbd_requests.specs.Touched.{extent_of}
 use Rattle.rbd_session.specs.declared.running.Occupant.{Occupant}
 use Rattle.rbd_session.specs.declared.running.Occupant.TheVariants as occupant
-use Rattle.rbd_session.specs.Session.{IsNewcomer, SessionView, held_in}
+use Rattle.rbd_session.specs.Session.{IsNewcomer, held_in}
 use Rattle.rbd_world.specs.declared.event.Event.TheVariants as event
 use Rattle.rbd_world.specs.Run.{Nothing, Began}
-use Rattle.rbd_world.specs.Step.{AreSlotsBut, Becomes, IsSameClient}
+use Rattle.rbd_world.specs.Step.{Becomes, begins_of, quiescing_of, submitted}
 
 module _ {E : Type 0} (extra : E → Standing) where
   -- a command's work stands where its plan begins, and changes its extent
@@ -31,10 +33,23 @@ module _ {E : Type 0} (extra : E → Standing) where
     turn = n.turn;
   }
 
-  pub begins : (session line : ℕ) (c copy : Command) → copy ≡ c → (begun : Bool) → begun ≡ false → (old new : SessionView (SessionRequest E)) → nat_lt 64 old.lowest ≡ false
-      → IsNewcomer (stands_of extra) (StandsFor extra) extent_for old.home line (work.Plain copy) (held_in old.lowest new.slots)
-      → AreSlotsBut old.lowest old new → new.lines ≡ old.lines → IsSameClient old new
-      → Becomes (stands_of extra) (event.Submit session line c) (cond (begun || nat_lt 64 old.lowest) Nothing (Began (record { session = session; line = line; command = c }) old.instance old.lowest)) old new
-  begins session line c copy same begun first old new room held slots lines client =
-      subst (λ b. Becomes (stands_of extra) (event.Submit session line c) (cond b Nothing (Began (record { session = session; line = line; command = c }) old.instance old.lowest)) old new) (sym (ap (λ f. f || nat_lt 64 old.lowest) first ∙ room))
-      (record { held = newcomer_of old.home line c (held_in old.lowest new.slots) (subst (λ w. IsNewcomer (stands_of extra) (StandsFor extra) extent_for old.home line (work.Plain w) (held_in old.lowest new.slots)) same held); slots = slots; lines = lines; client = client })
+  pub begins : (session line : ℕ) (c copy : Command) → copy ≡ c → (begun : Bool) → begun ≡ false → (old new : ClientView (SessionRequest E)) → nat_lt 64 old.session.lowest ≡ false
+      → IsNewcomer (stands_of extra) (StandsFor extra) extent_for old.session.home line (work.Plain copy) (held_in old.session.lowest new.session.slots)
+      → (q : Quiescing) → q ≡ quiescing_of c → state_in old.session.lowest new.slots ≡ newcomer q
+      → ((slot : ℕ) → slot ≢ old.session.lowest → (held_in slot new.session.slots ≡ held_in slot old.session.slots) × (state_in slot new.slots ≡ state_in slot old.slots))
+      → new.session.lines ≡ old.session.lines
+      → (new.session.instance ≡ old.session.instance) × (new.session.home ≡ old.session.home) × (new.locks ≡ old.locks) × (new.release ≡ old.release) × (new.heard ≡ old.heard)
+      → Becomes (stands_of extra) (event.Submit session line c) (submitted begun line c (Some old)) old new
+  begins session line c copy same begun first old new room held q q_is state others lines rest =
+      subst (λ b. Becomes (stands_of extra) (event.Submit session line c) (cond b Nothing (Began (begins_of old.session.instance line c) old.session.lowest)) old new) (sym (ap (λ f. f || nat_lt 64 old.session.lowest) first ∙ room))
+      (record {
+        begins = record {
+          held = newcomer_of old.session.home line c (held_in old.session.lowest new.session.slots) (subst (λ w. IsNewcomer (stands_of extra) (StandsFor extra) extent_for old.session.home line (work.Plain w) (held_in old.session.lowest new.session.slots)) same held);
+          slots = λ slot apart. (others slot apart).0;
+          lines = lines;
+          client = record { instance = rest.0; home = rest.1 };
+        };
+        state = state ∙ ap newcomer q_is;
+        states = λ slot apart. (others slot apart).1;
+        house = record { locks = rest.2; release = rest.3; heard = rest.4 };
+      })

@@ -5,6 +5,7 @@ pub mod Noted
 pub mod Operate
 pub mod Order
 pub mod Run
+pub mod Sending
 pub mod Sound
 pub mod Step
 pub mod World

@@ -1,5 +1,5 @@
 -- A run: what the calls of a world did, one after another.
-use Rattle.std.specs.Prelude.{◌≡◌, ℕ, ◌+◌, ◌==◌, ◌&&◌, ◌||◌, if◌then◌else◌, List, [], ◌∷◌, ◌++◌, map, Bool, true, false, is_some, Option, Some, None}
+use Rattle.std.specs.Prelude.{◌≡◌, ℕ, ◌==◌, ◌&&◌, ◌||◌, if◌then◌else◌, List, [], ◌∷◌, ◌++◌, map, Bool, true, false, is_some, Option, Some, None}
 use Rattle.std.specs.List.{list_any}
 use Rattle.rbd_commands.specs.declared.command.Command.{Command}
 use Rattle.rbd_flat.specs.Flat.{Flat, no_images}

@@ -1,20 +1,30 @@
 //! What is noted of an event, in the history and among the calls.
-ghost use Rattle.std.specs.Prelude.{◌≡◌, ◌+◌, ◌≤◌, ◌∷◌, ◌++◌, [], OnOk};
+ghost use Rattle.std.specs.Prelude.{◌≡◌, ◌+◌, ◌≤◌, ◌∷◌, ◌++◌, [], map, OnErr, OnOk};
 ghost use Rattle.std.specs.Vec.{vec_len, vec_capacity};
-ghost use Rattle.rbd_world.specs.Run.{entry_by, reply_entries};
+ghost use Rattle.rbd_flat.specs.declared.entry.Entry.TheVariants as of_entry;
+ghost use Rattle.rbd_world.specs.Run.{ending_entries, entry_by, entry_unfenced, reply_entries};
+ghost use Rattle.rbd_world.specs.Sending.{doer_of};
 
 use crate::event::{Call, Event, Outcome};
+use crate::sender::Sender;
 use rbd_flat::{Cause, Effect, Entry};
-use rbd_kinds::{NoMemory, Reply, SiteId};
+use rbd_kinds::{Instance, NoMemory, Reply, SiteId};
 
-/// Makes room for all that one event adds.
-pub fn reserve(history: &mut Vec<Entry>, calls: &mut Vec<Call>) -> Result<(), NoMemory>
-    ensures history { history.new.items ≡ history.old.items }
-    ensures calls { calls.new.items ≡ calls.old.items }
-    ensures ok { OnOk result ((vec_len history.new + 2 ≤ vec_capacity history.new) × (vec_len calls.new + 1 ≤ vec_capacity calls.new)) }
+/// What happened, and by which calls.
+#[derive(Debug, Drop)]
+pub struct Book {
+    pub history: Vec<Entry>,
+    pub calls: Vec<Call>,
+}
+
+/// Makes room for all that one event adds, but for the lines that a stop loses.
+pub fn reserve(book: &mut Book) -> Result<(), NoMemory>
+    ensures history { book.new.history.items ≡ book.old.history.items }
+    ensures calls { book.new.calls.items ≡ book.old.calls.items }
+    ensures ok { OnOk result ((vec_len book.new.history + 2 ≤ vec_capacity book.new.history) × (vec_len book.new.calls + 1 ≤ vec_capacity book.new.calls)) }
 {
-    history.reserve(2)?;
-    calls.reserve(1)?;
+    book.history.reserve(2)?;
+    book.calls.reserve(1)?;
     Ok(())
 }
 
@@ -29,27 +39,55 @@ pub fn keep_call(calls: &mut Vec<Call>, event: Event, outcome: &Outcome)
     });
 }
 
-/// Notes an operation that was done, and the reply where the request has it. It takes no memory.
-pub fn note(
-    history: &mut Vec<Entry>,
-    line: u32,
-    site: SiteId,
-    number: u64,
-    effect: Option<Effect>,
-    reply: Option<Reply>,
-)
+/// Notes an operation that was done, and the reply where its command has it. It takes no memory.
+pub fn note(history: &mut Vec<Entry>, by: &Sender, entry: Entry, reply: Option<Reply>)
     requires { vec_len history.old + 2 ≤ vec_capacity history.old }
-    ensures { history.new.items ≡ history.old.items ++ entry_by line site number effect ∷ reply_entries line reply }
+    ensures { history.new.items ≡ history.old.items ++ entry ∷ ending_entries (doer_of by.now) reply }
 {
-    history.push_reserved(entry(line, site, number, effect));
-    push_reply(history, line, reply);
+    history.push_reserved(entry);
+    match by {
+        Sender::Itself(line) => push_reply(history, *line, reply),
+        Sender::OnWay(line) => push_reply(history, *line, reply),
+        _ => drop(reply),
+    }
 }
 
-/// The entry of an operation, which says its effect where it has one.
-fn entry(line: u32, site: SiteId, number: u64, effect: Option<Effect>) -> Entry
-    ensures { result ≡ entry_by line site number effect }
+/// Notes a reply, where there is one.
+fn push_reply(history: &mut Vec<Entry>, line: u32, reply: Option<Reply>)
+    requires { vec_len history.old + 1 ≤ vec_capacity history.old }
+    ensures { history.new.items ≡ history.old.items ++ reply_entries line reply }
 {
-    let cause = Cause::Line(line);
+    if let Some(reply) = reply {
+        history.push_reserved(Entry::Reply { line, reply });
+    }
+}
+
+/// The entry of an operation: an instance that it put into its site's blocklist, or its effect
+/// where it has one.
+pub fn entry_by(
+    cause: Cause,
+    site: SiteId,
+    number: u64,
+    fence: Option<Instance>,
+    effect: Option<Effect>,
+) -> Entry
+    ensures { result ≡ entry_by cause site number fence effect }
+{
+    match fence {
+        Some(instance) => Entry::Fence {
+            cause,
+            site,
+            number,
+            instance,
+        },
+        None => unfenced(cause, site, number, effect),
+    }
+}
+
+/// The entry of an operation that fenced nobody.
+fn unfenced(cause: Cause, site: SiteId, number: u64, effect: Option<Effect>) -> Entry
+    ensures { result ≡ entry_unfenced cause site number effect }
+{
     match effect {
         Some(effect) => Entry::Effect {
             cause,
@@ -65,12 +103,17 @@ fn entry(line: u32, site: SiteId, number: u64, effect: Option<Effect>) -> Entry
     }
 }
 
-/// Notes a reply, where there is one.
-fn push_reply(history: &mut Vec<Entry>, line: u32, reply: Option<Reply>)
-    requires { vec_len history.old + 1 ≤ vec_capacity history.old }
-    ensures { history.new.items ≡ history.old.items ++ reply_entries line reply }
+/// Notes a stop, and each line that it lost. Refused memory, nothing is noted.
+pub fn note_stop(history: &mut Vec<Entry>, who: &Instance, lost: &[u32]) -> Result<(), NoMemory>
+    ensures ok { OnOk result (history.new.items ≡ history.old.items ++ of_entry.Stop who.now.session ∷ map of_entry.Lost lost.now) }
+    ensures err { OnErr result (history.new.items ≡ history.old.items) }
 {
-    if let Some(reply) = reply {
-        history.push_reserved(Entry::Reply { line, reply });
+    history.reserve(1 + lost.len())?;
+    history.push_reserved(Entry::Stop {
+        session: who.session,
+    });
+    for index in 0..lost.len() {
+        history.push_reserved(Entry::Lost { line: lost[index] });
     }
+    Ok(())
 }

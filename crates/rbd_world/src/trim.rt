@@ -1,11 +1,11 @@
-//! The store's own step.
+//! The store's own steps.
 ghost use Rattle.std.specs.Prelude.{◌≡◌, IfOk, OnOk, OnErr};
 ghost use Rattle.rbd_world.specs.Run.{outcome_of};
-ghost use Rattle.rbd_world.specs.Step.{AreSameSites, DoesAt, DoesAtSites, trimmed_at, trimmed_of};
+ghost use Rattle.rbd_world.specs.Step.{AreSameSites, DoesAt, DoesAtSites, expired_at, expired_of, trimmed_at, trimmed_of};
 
 use crate::event::Outcome;
 use crate::sites::Sites;
-use rbd_kinds::{ImageId, NoMemory, SiteId};
+use rbd_kinds::{ImageId, NoMemory, SessionNo, SiteId};
 use rbd_site::Site;
 
 /// The store trims an object: nothing where there is no such object. Refused memory, nothing
@@ -33,6 +33,41 @@ fn trim_at(at: &mut Site, site: SiteId, image: ImageId, object: u64) -> Result<O
     ensures err { OnErr result (at.new ≡ at.old) }
 {
     if at.trim(image, object)? {
+        return Ok(Outcome::Stored);
+    }
+    Ok(Outcome::Nothing)
+}
+
+/// The store ends the watch of an image by a session, which is that of its oldest instance that
+/// watches: nothing where none does. Refused memory, nothing changes.
+pub fn expire(
+    sites: &mut Sites,
+    session: SessionNo,
+    site: SiteId,
+    image: ImageId,
+) -> Result<Outcome, NoMemory>
+    ensures outcome { IfOk result (λ o. o ≡ outcome_of (expired_at sites.old session site image)) }
+    ensures sites { OnOk result (DoesAtSites (expired_at sites.old session site image) sites.old sites.new) }
+    ensures err { OnErr result (AreSameSites sites.old sites.new) }
+{
+    match site {
+        SiteId::A => expire_at(&mut sites.a, session, site, image),
+        SiteId::B => expire_at(&mut sites.b, session, site, image),
+    }
+}
+
+/// The same at one site.
+fn expire_at(
+    at: &mut Site,
+    session: SessionNo,
+    site: SiteId,
+    image: ImageId,
+) -> Result<Outcome, NoMemory>
+    ensures outcome { IfOk result (λ o. o ≡ outcome_of (expired_of at.old session site image)) }
+    ensures done { OnOk result (DoesAt site (expired_of at.old session site image) at.old at.new) }
+    ensures err { OnErr result (at.new ≡ at.old) }
+{
+    if at.expire(image, session)? {
         return Ok(Outcome::Stored);
     }
     Ok(Outcome::Nothing)

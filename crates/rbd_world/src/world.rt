@@ -1,47 +1,53 @@
 //! The world, and its events.
-ghost use Rattle.std.specs.Prelude.{◌≡◌, ◌≤◌, length, IfOk, OnErr};
+ghost use Rattle.std.specs.Prelude.{◌≡◌, ◌≤◌, length, option_copied, option_map, is_some, IfOk, OnErr};
+ghost use Rattle.rbd_client.specs.Client.{ClientView};
+ghost use Rattle.rbd_requests.specs.declared.request.SessionRequest.{SessionRequest as Of};
 ghost use Rattle.rbd_requests.specs.Session.{stands_of};
-ghost use Rattle.rbd_world.specs.Sound.{AreFirstClients, AreNewClients, IsNewWorld, IsSoundWorld, line_at};
-ghost use Rattle.rbd_world.specs.Step.{AreOfOneClient, IsBuiltEvent, IsStep, IsUndone, is_begun};
-ghost use Rattle.rbd_world.specs.World.{free_in, kind_in, session_in, site_in};
+ghost use Rattle.rbd_watch.specs.Posting.{numbered};
+ghost use Rattle.rbd_world.specs.Sound.{AreAtHome, AreFirst, IsFirst, IsNewWorld, IsSoundWorld, line_at};
+ghost use Rattle.rbd_world.specs.Step.{IsBuiltEvent, IsStep, IsUndone, is_begun};
+ghost use Rattle.rbd_world.specs.World.{client_in, free_in, heard_in, kind_in, site_in};
 ghost use Rattle.rbd_world.specs.declared.event.Event.TheVariants as of_event;
 
 use crate::begun::BegunLines;
 use crate::event::{Call, Event, Outcome};
+use crate::lives::Lives;
+use crate::noting::Book;
 use crate::sites::Sites;
 use crate::step::{poll_parts, step_parts};
+use rbd_client::Client;
 use rbd_course::Request;
 use rbd_flat::Entry;
-use rbd_kinds::{Instance, NoMemory, OpKind, SessionNo, SiteId, Slot};
+use rbd_kinds::{Instance, NoMemory, Notice, OpKind, SessionNo, SiteId, Slot};
 use rbd_machine::Machine;
 use rbd_requests::SessionRequest;
-use rbd_session::Session;
 use rbd_site::Done;
-use rbd_watch::Mail;
 use std::alloc::Global;
 use std::marker::Model;
 
-/// Both sites and all clients.
+/// Both sites with their mail, and all sessions with their lives.
 ///
 /// ```text
-/// step(event)
-///    │
-///    ├─ room for the call and for the history's entries
-///    ├─ submit: a request in the session's lowest free slot
-///    │  poll: one operation at one site, and the request goes on
-///    │  trim: one step of the store
-///    └─ the history has what was done, the calls the event and what came of it
+///              submit, poll, deliver                  expire, trim
+///                      │                                   │
+///  ┌───────────────────▼────────────────────┐   ┌──────────▼──────────┐
+///  │ session: home, latest life             │   │ site A      site B  │
+///  │   running ── client ───────────────────┼───▶ records     records │
+///  │      │ stop            one operation   │   │ log         log     │
+///  │      ▼                                 │   ├─────────────────────┤
+///  │   late ── what its slots wanted ───────┼───▶ mail of both        │
+///  │                          late          │   └─────────────────────┘
+///  │   restart: the next life               │
+///  └────────────────────────────────────────┘
+///      history: what was done, in order        calls: the events, and what came of each
 /// ```
 #[derive(Debug, Drop)]
 pub struct World<E: Machine + Drop> {
     sites: Sites,
-    /// What both sites told those that watch. No request tells anybody anything yet.
-    mail: Mail,
-    sessions: Vec<Session<SessionRequest<E>>>,
+    lives: Vec<Lives<SessionRequest<E>>>,
     /// The lines that have a start in the history.
     begun: BegunLines,
-    history: Vec<Entry>,
-    calls: Vec<Call>,
+    book: Book,
 }
 
 impl<E: Machine + Drop> Model for World<E> {
@@ -52,38 +58,37 @@ impl<E: Machine + Drop> Model for World<E> {
 
     ghost Value = { WorldView (Of E) };
 
-    ghost view = { λ w. record { sites = w.sites; sessions = w.sessions.items; history = w.history.items; calls = w.calls.items } };
+    ghost view = { λ w. record { sites = w.sites; lives = w.lives.items; history = w.book.history.items; calls = w.book.calls.items } };
 
-    ghost invariant = { λ w. IsKept (stands_of E.stands) w.begun (record { sites = w.sites; sessions = w.sessions.items; history = w.history.items; calls = w.calls.items }) };
+    ghost invariant = { λ w. IsKept (stands_of E.stands) w.begun (record { sites = w.sites; lives = w.lives.items; history = w.book.history.items; calls = w.book.calls.items }) };
 }
 
 impl<E: Machine + Drop> World<E> {
-    /// A world of clients at these sites, at most 32, each in its first life. The sites are empty, and
+    /// A world of sessions at these sites, at most 32, each in its first life. The sites are empty, and
     /// nothing happened.
     pub fn new(alloc: Global, homes: &[SiteId]) -> Result<Self, NoMemory>
         requires { length homes.now ≤ 32 }
         ensures new { IfOk result (IsNewWorld (stands_of E.stands)) }
-        ensures clients { IfOk result (λ w. AreFirstClients homes.now w.sessions) }
+        ensures clients { IfOk result (λ w. AreAtHome homes.now w.lives) }
         ensures sound { IfOk result (IsSoundWorld (stands_of E.stands)) }
     {
         let sites = Sites::new(alloc)?;
-        let sessions = first_sessions(alloc, homes)?;
+        let lives = first_lives(alloc, homes)?;
         Ok(World {
             sites,
-            mail: Mail::new(alloc),
-            sessions,
+            lives,
             begun: BegunLines::new(alloc),
-            history: Vec::new(alloc),
-            calls: Vec::new(alloc),
+            book: Book {
+                history: Vec::new(alloc),
+                calls: Vec::new(alloc),
+            },
         })
     }
 
     /// One event. What it does, and what comes of it, is a function of the world (`happening`).
-    /// Refused memory, nothing happened. A command that isn't built is ruled out, and so is a change
-    /// by a second client, as long as no lock keeps two apart.
+    /// Refused memory, nothing happened. A command that isn't built is ruled out.
     pub fn step(&mut self, alloc: Global, event: &Event) -> Result<Outcome, NoMemory>
         requires built { IsBuiltEvent event.now }
-        requires one_client { AreOfOneClient self.old.calls event.now }
         ensures step { IfOk result (λ outcome. IsStep (stands_of E.stands) event.now self.old outcome self.new) }
         ensures err { OnErr result (IsUndone (stands_of E.stands) self.old self.new) }
         ensures sound { IsSoundWorld (stands_of E.stands) self.new }
@@ -91,11 +96,9 @@ impl<E: Machine + Drop> World<E> {
         let outcome = step_parts(
             alloc,
             &mut self.sites,
-            &mut self.mail,
-            &mut self.sessions,
+            &mut self.lives,
             &mut self.begun,
-            &mut self.history,
-            &mut self.calls,
+            &mut self.book,
             event,
         )?;
         Ok(outcome)
@@ -108,7 +111,6 @@ impl<E: Machine + Drop> World<E> {
         session: SessionNo,
         slot: Slot,
     ) -> Result<Outcome, NoMemory>
-        requires one_client { AreOfOneClient self.old.calls (of_event.Poll session slot) }
         ensures step { IfOk result (λ outcome. IsStep (stands_of E.stands) (of_event.Poll session slot) self.old outcome self.new) }
         ensures err { OnErr result (IsUndone (stands_of E.stands) self.old self.new) }
         ensures sound { IsSoundWorld (stands_of E.stands) self.new }
@@ -116,10 +118,8 @@ impl<E: Machine + Drop> World<E> {
         let outcome = poll_parts(
             alloc,
             &mut self.sites,
-            &mut self.mail,
-            &mut self.sessions,
-            &mut self.history,
-            &mut self.calls,
+            &mut self.lives,
+            &mut self.book,
             session,
             slot,
         )?;
@@ -130,14 +130,14 @@ impl<E: Machine + Drop> World<E> {
     pub fn history(&self) -> &[Entry]
         ensures { result.now ≡ self.now.history }
     {
-        self.history.as_slice()
+        self.book.history.as_slice()
     }
 
     /// The events so far, each with what came of it, in order.
     pub fn calls(&self) -> &[Call]
         ensures { result.now ≡ self.now.calls }
     {
-        self.calls.as_slice()
+        self.book.calls.as_slice()
     }
 
     /// The operations of a site, in order, numbered from 1.
@@ -150,6 +150,21 @@ impl<E: Machine + Drop> World<E> {
         }
     }
 
+    /// How many notices were posted at both sites, which is also the number of the last. It takes no
+    /// memory.
+    pub fn notices(&self) -> u64
+        ensures count { result ≡ length self.now.sites.mail }
+    {
+        self.sites.mail.count()
+    }
+
+    /// The notice that has a number: `None` exactly where none has. It takes no memory.
+    pub fn notice(&self, number: u64) -> Option<&Notice>
+        ensures { option_copied result ≡ numbered number self.now.sites.mail }
+    {
+        self.sites.mail.get(number)
+    }
+
     /// Whether a session has begun the command of a line. It takes no memory.
     pub fn has_begun(&self, line: u32) -> bool
         ensures begun { result ≡ is_begun line self.now.history }
@@ -157,46 +172,93 @@ impl<E: Machine + Drop> World<E> {
         self.begun.has(line)
     }
 
-    /// The lowest free slot of a session: `None` exactly where there is no such session, or 64 are
-    /// held. It takes no memory.
-    pub fn free(&self, session: SessionNo) -> Option<Slot>
-        ensures free { result ≡ free_in (session_in session self.now.sessions) }
+    /// Whether a session is there and runs. It takes no memory.
+    pub fn runs(&self, session: SessionNo) -> bool
+        ensures { result ≡ is_some (client_in session self.now.lives) }
     {
-        self.sessions.get(session.0 as usize)?.free()
+        client_of(self.lives.as_slice(), session).is_some()
     }
 
-    /// The line whose command is in a slot of a session: `None` exactly where there is no such
-    /// session, or the slot is free. It takes no memory.
+    /// The life of a session that runs: `None` exactly where the session isn't there or doesn't run.
+    /// It takes no memory.
+    pub fn running(&self, session: SessionNo) -> Option<Instance>
+        ensures running { result ≡ option_map (λ (c : ClientView (Of E)). c.session.instance) (client_in session self.now.lives) }
+    {
+        Some(client_of(self.lives.as_slice(), session)?.instance())
+    }
+
+    /// The lowest free slot of a session: `None` exactly where it isn't there or doesn't run, or 64
+    /// are held. It takes no memory.
+    pub fn free(&self, session: SessionNo) -> Option<Slot>
+        ensures free { result ≡ free_in (client_in session self.now.lives) }
+    {
+        client_of(self.lives.as_slice(), session)?.free()
+    }
+
+    /// The line whose command is in a slot of a session: `None` exactly where the session isn't
+    /// there or doesn't run, or the slot is free. It takes no memory.
     pub fn line(&self, session: SessionNo, slot: Slot) -> Option<u32>
-        ensures line { result ≡ line_at session slot self.now.sessions }
+        ensures line { result ≡ line_at session slot self.now.lives }
         ensures sound { IsSoundWorld (stands_of E.stands) self.now }
     {
-        self.sessions.get(session.0 as usize)?.line(slot)
+        client_of(self.lives.as_slice(), session)?.line(slot)
     }
 
-    /// The site and the kind of the operation that the request in a slot of a session wants: `None`
-    /// exactly where there is no such session, its slot is free, or its request waits or is refused
-    /// before any operation. It takes no memory.
+    /// The site and the kind of the operation that is wanted at a slot of a session: `None` exactly
+    /// where the session isn't there or doesn't run, its slot is free or waits, or its request is
+    /// refused before any operation; and at slot 0 where no lock is to be let go. It takes no memory.
     pub fn kind(&self, session: SessionNo, slot: Slot) -> Option<(SiteId, OpKind)>
-        ensures { result ≡ kind_in (stands_of E.stands) slot (session_in session self.now.sessions) }
+        ensures { result ≡ kind_in (stands_of E.stands) slot (client_in session self.now.lives) }
     {
-        self.sessions.get(session.0 as usize)?.kind(slot)
+        client_of(self.lives.as_slice(), session)?.kind(slot)
+    }
+
+    /// What other clients told the life of a session that runs, in the order in which it was heard:
+    /// nothing where none runs. It takes no memory.
+    pub fn heard(&self, session: SessionNo) -> &[Notice]
+        ensures { result.now ≡ heard_in (client_in session self.now.lives) }
+    {
+        match client_of(self.lives.as_slice(), session) {
+            Some(client) => client.heard(),
+            None => &[],
+        }
     }
 }
 
-/// The first life of each client, at its home.
-fn first_sessions<R: Request>(alloc: Global, homes: &[SiteId]) -> Result<Vec<Session<R>>, NoMemory>
-    requires { length homes.now ≤ 32 }
-    ensures first { IfOk result (λ sessions. AreFirstClients homes.now sessions.items) }
-    ensures new { IfOk result (λ sessions. AreNewClients R.stands sessions.items) }
+/// The client of a session that is there and runs.
+fn client_of<R: Request>(lives: &[Lives<R>], session: SessionNo) -> Option<&Client<R>>
+    ensures { option_copied result ≡ client_in session lives.now }
 {
-    let mut sessions = Vec::new(alloc);
+    lives.get(session.0 as usize)?.running.as_ref()
+}
+
+/// The first life of each session, at its home.
+fn first_lives<R: Request>(alloc: Global, homes: &[SiteId]) -> Result<Vec<Lives<R>>, NoMemory>
+    requires { length homes.now ≤ 32 }
+    ensures first { IfOk result (λ lives. AreFirst R.stands lives.items) }
+    ensures homes { IfOk result (λ lives. AreAtHome homes.now lives.items) }
+{
+    let mut lives = Vec::new(alloc);
     for number in 0..homes.len() {
-        let instance = Instance {
-            session: SessionNo(number as u8),
-            life: 0,
-        };
-        sessions.push(Session::new(alloc, instance, homes[number])?)?;
+        lives.push(first_life(alloc, SessionNo(number as u8), homes[number])?)?;
     }
-    Ok(sessions)
+    Ok(lives)
+}
+
+/// The first life of one session.
+fn first_life<R: Request>(
+    alloc: Global,
+    session: SessionNo,
+    home: SiteId,
+) -> Result<Lives<R>, NoMemory>
+    ensures first { IfOk result (IsFirst R.stands session) }
+    ensures home { IfOk result (λ l. l.home ≡ home) }
+{
+    let client = Client::new(alloc, Instance { session, life: 0 }, home)?;
+    Ok(Lives {
+        home,
+        latest: client.instance(),
+        running: Some(client),
+        late: None,
+    })
 }

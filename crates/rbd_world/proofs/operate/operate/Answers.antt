@@ -1,42 +1,63 @@
-use Rattle.std.proofs.Common.{◌≡◌, ◌+◌, ◌∷◌, ◌++◌, ℕ, false, length, Option, sym, ap, ◌∙◌, subst}
-use Rattle.rbd_flat.specs.declared.effect.Effect.{Effect}
-use Rattle.rbd_kinds.specs.declared.machine.Fed.{Fed}
+use Rattle.std.proofs.Common.{◌∷◌, ◌++◌, ℕ, Bool, Some, ap, ◌∙◌, subst}
+use Rattle.rbd_client.specs.Actor.{actor_at}
+use Rattle.rbd_client.specs.Feeding.{DropsAtRest}
+use Rattle.rbd_client.proofs.Wanted.{wanted_alike}
+use Rattle.rbd_flat.specs.declared.entry.Entry.{Entry}
+use Rattle.rbd_kinds.specs.OperationKind.{kind_of}
+use Rattle.rbd_kinds.specs.declared.id.Instance.{Instance}
 use Rattle.rbd_kinds.specs.declared.machine.Fed.TheVariants as of_fed
-use Rattle.rbd_session.specs.Session.{IsFed}
-use Rattle.rbd_site.specs.Log.{records_of}
+use Rattle.rbd_kinds.specs.declared.operation.Op.{Op}
+use Rattle.rbd_owner.specs.Waiting.{is_waiting}
 use Rattle.rbd_site.specs.Step.{answer_to}
 use Rattle.rbd_world.specs.declared.event.Outcome.TheVariants as outcome
 use Rattle.rbd_world.specs.Operate.{IsLogged}
-use Rattle.rbd_world.specs.Run.{entry_by, reply_entries}
-use Rattle.rbd_world.proofs.FedAlike.{goes_alike}
+use Rattle.rbd_world.specs.Run.{ending_entries, entry_of, reason_of}
+use Rattle.rbd_world.specs.Sending.{doer_of}
+use Rattle.rbd_world.specs.Step.{next_number, operation_at}
+use Rattle.rbd_world.specs.World.{records_in, site_in}
+use Rattle.rbd_world.proofs.FedAlike.{drops_still, goes_alike}
+use Rattle.rbd_world.proofs.Latest.{same_op}
 use Rattle.rbd_world.proofs.operate.operate.Goals as goal
 
-pub foresee-requires-clause-wants : goal.foresee-requires-clause-wants
-foresee-requires-clause-wants g c = (c.args.site, c.requires.wants)
+pub feed-reply-requires-clause-op : goal.feed-reply-requires-clause-op
+feed-reply-requires-clause-op g c =
+    wanted_alike g.R.Machine.stands c.args.slot c.args.client.now c.prepare.new.client c.in-Ok.ensures.alike
+    ∙ c.requires.wants ∙ ap (λ (o : Op). Some (c.args.due.site, o)) (same_op (site_in c.args.due.site c.args.sites.now) (site_in c.args.due.site c.apply.new.sites) c.at.result.now (next_number (site_in c.args.due.site c.args.sites.now)) c.args.due.who c.args.due.op
+    (answer_to (records_in c.args.due.site c.args.sites.now) c.args.due.who c.args.due.op) c.log.result.now c.in-Some.done.now c.in_ok-apply-in-Ok.ensures.logged.log c.at.ensures c.log.ensures.log c.in-Some.ensures)
 
-pub apply_fed-requires-clause-fed : goal.apply_fed-requires-clause-fed
-apply_fed-requires-clause-fed g c =
-    c.in-Ok.ensures.fed
-    ∙ ap (λ me. of_fed.Answer (answer_to (records_of c.args.at.now) me c.args.op)) (sym (c.instance.ensures ∙ c.in-Ok.ensures.alike.instance))
+pub feed-reply-requires-clause-rest : goal.feed-reply-requires-clause-rest
+feed-reply-requires-clause-rest g c =
+    subst (λ (o : Op). DropsAtRest (actor_at g.R.Machine.stands c.args.slot c.prepare.new.client) c.args.due.site o c.prepare.new.client) (same_op (site_in c.args.due.site c.args.sites.now) (site_in c.args.due.site c.apply.new.sites) c.at.result.now (next_number (site_in c.args.due.site c.args.sites.now)) c.args.due.who c.args.due.op
+    (answer_to (records_in c.args.due.site c.args.sites.now) c.args.due.who c.args.due.op) c.log.result.now c.in-Some.done.now c.in_ok-apply-in-Ok.ensures.logged.log c.at.ensures c.log.ensures.log c.in-Some.ensures)
+    (drops_still g.R.Machine.stands c.args.slot c.args.due.site c.args.due.op c.args.client.now c.prepare.new.client c.in-Ok.ensures.alike c.requires.rest)
 
-pub returns-in_ok-apply_fed-in-Ok-clause-done : goal.returns-in_ok-apply_fed-in-Ok-clause-done
-returns-in_ok-apply_fed-in-Ok-clause-done g c =
+pub returns-in-Some-clause-done : goal.returns-in-Some-clause-done
+returns-in-Some-clause-done g c =
+    let due = c.args.due in
+    let before = site_in due.site c.args.sites.now in
+    let me = c.args.client.now.session.instance in
     let reply = c.feed-reply.result in
-    let number : length c.log.result.now + 1 ≡ length c.args.at.now.log + 1 = ap (λ log. length log + 1) c.log.ensures.log in
+    let by = doer_of due.by in
+    let foreseen = c.in-Ok.ensures in
     record {
-      reply = reply;
-      logged =
-          subst (λ me. IsLogged me c.args.op c.args.at.now c.apply_fed.new.at) (c.instance.ensures ∙ c.in-Ok.ensures.alike.instance) c.in_ok-apply_fed-in-Ok.ensures.done;
-      goes =
-          goes_alike g.R.Machine.stands c.args.slot (answer_to (records_of c.args.at.now) c.args.client.now.instance c.args.op) reply c.args.client.now c.foresee.new.client c.feed-reply.new.self c.in-Ok.ensures.alike
-          c.in-Ok.ensures.others
-          (subst (λ (f : Fed). IsFed g.R.Machine.stands c.args.slot f reply c.foresee.new.client c.feed-reply.new.self) c.in-Ok.ensures.fed c.feed-reply.ensures.fed)
-          c.feed-reply.ensures.slots c.feed-reply.ensures.others c.feed-reply.ensures.who;
-      history =
-          c.note.ensures
-          ∙ ap (λ (n : ℕ). c.args.history.now.items ++ entry_by c.args.line c.args.site n c.in-Ok.foreseen.effect ∷ reply_entries c.args.line reply) number
-          ∙ ap (λ (e : Option Effect). c.args.history.now.items ++ entry_by c.args.line c.args.site (length c.args.at.now.log + 1) e ∷ reply_entries c.args.line reply) c.in-Ok.ensures.effect;
-      outcome =
-          ap (λ (n : ℕ). outcome.Step c.args.site n false c.is_some.result) number
-          ∙ ap (outcome.Step c.args.site (length c.args.at.now.log + 1) false) c.is_some.ensures;
+      here = record {
+        reply = reply;
+        logged = subst (λ (who : Instance). IsLogged who due.op before (site_in due.site c.apply.new.sites) c.args.sites.now.mail c.apply.new.sites.mail) c.requires.whose c.in_ok-apply-in-Ok.ensures.logged;
+        goes =
+            goes_alike g.R.Machine.stands c.args.slot by due.site due.op c.in-Some.done.now before c.in-Ok.foreseen.fed reply c.args.client.now c.prepare.new.client c.feed-reply.new.self (same_op (site_in c.args.due.site c.args.sites.now) (site_in c.args.due.site c.apply.new.sites) c.at.result.now (next_number (site_in c.args.due.site c.args.sites.now)) c.args.due.who c.args.due.op
+            (answer_to (records_in c.args.due.site c.args.sites.now) c.args.due.who c.args.due.op) c.log.result.now c.in-Some.done.now c.in_ok-apply-in-Ok.ensures.logged.log c.at.ensures c.log.ensures.log c.in-Some.ensures)
+            (foreseen.fed ∙ ap (λ (who : Instance). of_fed.Answer (answer_to (records_in due.site c.args.sites.now) who due.op)) c.requires.whose)
+            foreseen.alike foreseen.stays foreseen.others c.feed-reply.ensures.fed c.feed-reply.ensures.slots c.feed-reply.ensures.others c.feed-reply.ensures.who;
+        noted = record {
+          history =
+              c.note.ensures
+              ∙ ap (λ (e : Entry). c.args.history.now.items ++ e ∷ ending_entries by reply) (foreseen.entry ∙ ap (λ (who : Instance). entry_of (operation_at before who by due.site due.op)) c.requires.whose);
+          outcome =
+              ap (λ (n : ℕ). outcome.Step due.site n c.in-Ok.foreseen.waiting c.is_some.result) foreseen.number
+              ∙ ap (λ (w : Bool). outcome.Step due.site (next_number before) w c.is_some.result)
+              (foreseen.waiting ∙ ap (λ (who : Instance). is_waiting (reason_of by) (kind_of due.op) (answer_to (records_in due.site c.args.sites.now) who due.op)) c.requires.whose)
+              ∙ ap (outcome.Step due.site (next_number before) (is_waiting (reason_of by) (kind_of due.op) (answer_to (records_in due.site c.args.sites.now) me due.op))) c.is_some.ensures;
+        };
+      };
+      elsewhere = c.in_ok-apply-in-Ok.ensures.elsewhere;
     }

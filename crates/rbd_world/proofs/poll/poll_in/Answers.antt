@@ -1,34 +1,35 @@
-use Rattle.std.proofs.Common.{rules, ◌≡◌, Some, IfOk, sym, ap, ◌∙◌, subst}
-use Rattle.rbd_session.specs.Session.{held_in, op_at}
-use Rattle.rbd_world.specs.Operate.{IsOperatedAt}
-use Rattle.rbd_world.specs.Step.{polled_in}
-use Rattle.rbd_world.proofs.Polling.{IsPolled, polled_so, refused_sites}
+use Rattle.std.proofs.Common.{rules, ◌≡◌, ◌==◌, false, None, IfOk, ap, ◌∙◌, subst}
 use Rattle.std.proofs.lemmas.Result.{IfOk-weaker}
+use Rattle.rbd_client.specs.Actor.{actor_at, op_wanted}
+use Rattle.rbd_client.specs.Client.{ClientView}
+use Rattle.rbd_session.specs.Session.{held_in, refusal_in, reply_of}
+use Rattle.rbd_world.specs.Sending.{ActsAt, doer_at, doer_of}
+use Rattle.rbd_world.specs.Step.{polled_in}
+use Rattle.rbd_world.proofs.Polling.{IsPolled, not_zero, polled_so}
 use Rattle.rbd_world.proofs.poll.poll_in.Goals as goal
 
-pub returns-in-Some-refuse-clause-sites : goal.returns-in-Some-refuse-clause-sites
-returns-in-Some-refuse-clause-sites g c =
-    refused_sites g.R.Machine.stands c.args.sites.now c.args.client.now c.args.slot c.in-Some-refuse.reply (held_in c.args.slot c.args.client.now.slots) c.in-Some-refuse.ensures.reply
-
-polled_there : (g : _) (c : goal.After-go_on g)
-    → IfOk c.go_on.result (IsPolled g.R.Machine.stands c.args.sites.now c.go_on.new.sites c.args.slot c.args.client.now c.go_on.new.client c.args.history.now.items c.go_on.new.history.items (polled_in g.R.Machine.stands c.args.sites.now c.args.client.now c.args.slot (held_in c.args.slot c.args.client.now.slots)))
+polled_there : (g : _) (c : goal.After-act-2 g)
+    → IfOk c.act-2.result (IsPolled g.R.Machine.stands c.args.sites.now c.act-2.new.sites c.args.slot c.args.client.now c.act-2.new.client c.args.history.now.items c.act-2.new.history.items (polled_in g.R.Machine.stands c.args.sites.now c.args.client.now c.args.slot (held_in c.args.slot c.args.client.now.session.slots)))
 polled_there g c =
-    let stays : c.refuse.new.self ≡ c.args.client.now = search rules in
-    let asks : op_at g.R.Machine.stands c.args.slot c.args.client.now ≡ Some (c.in-Some-2.site, c.in-Some-2.op) =
-    ap (op_at g.R.Machine.stands c.args.slot) (sym stays) ∙ sym c.in_ok-site.ensures.op ∙ c.in-Some-2.is in
-    IfOk-weaker c.go_on.result (IsOperatedAt g.R.Machine.stands c.args.slot c.in-Some.line c.in-Some-2.site c.in-Some-2.op c.args.sites.now c.go_on.new.sites c.args.client.now c.go_on.new.client c.args.history.now.items c.go_on.new.history.items) _
-    (λ o done. polled_so g.R.Machine.stands c.args.slot c.in-Some.line c.in-Some-2.site c.in-Some-2.op c.args.sites.now c.go_on.new.sites c.args.client.now c.go_on.new.client c.args.history.now.items c.go_on.new.history.items o
-    c.in-Some.ensures.line asks done)
-    (subst (λ s. IfOk c.go_on.result (IsOperatedAt g.R.Machine.stands c.args.slot c.in-Some.line c.in-Some-2.site c.in-Some-2.op c.args.sites.now c.go_on.new.sites s c.go_on.new.client c.args.history.now.items c.go_on.new.history.items)) stays c.go_on.ensures.done)
+    let before = c.args.client.now in
+    let by = doer_of c.sender_at-by.result in
+    let stays : c.refuse.new.self ≡ before = search rules in
+    let unrefused : None ≡ reply_of (refusal_in (held_in c.args.slot before.session.slots)) = search rules in
+    let place : (c.args.slot == 0) ≡ false = not_zero c.args.slot (λ e. c.if-slot-eq0.false (c.slot.view_is ∙ e)) in
+    IfOk-weaker c.act-2.result (ActsAt g.R.Machine.stands c.args.slot by (op_wanted g.R.Machine.stands c.args.slot before) c.args.sites.now c.act-2.new.sites before c.act-2.new.client c.args.history.now.items c.act-2.new.history.items) _
+    (λ o acts. polled_so g.R.Machine.stands c.args.slot c.args.sites.now c.act-2.new.sites before c.act-2.new.client c.args.history.now.items c.act-2.new.history.items o
+    c.in-Some.line by place c.in-Some.ensures.line unrefused
+    (c.sender_at-by.ensures.sender ∙ ap (λ (x : ClientView _). doer_at c.in-Some.line (actor_at g.R.Machine.stands c.args.slot x)) stays) c.in-Some.ensures.sound acts)
+    (subst (λ (x : ClientView _). IfOk c.act-2.result (ActsAt g.R.Machine.stands c.args.slot by (op_wanted g.R.Machine.stands c.args.slot x) c.args.sites.now c.act-2.new.sites x c.act-2.new.client c.args.history.now.items c.act-2.new.history.items)) stays c.act-2.ensures.acts)
 
 pub returns-clause-outcome : goal.returns-clause-outcome
-returns-clause-outcome g c = IfOk-weaker c.go_on.result _ _ (λ o is. is.outcome) (polled_there g c)
+returns-clause-outcome g c = IfOk-weaker c.act-2.result _ _ (λ o is. is.outcome) (polled_there g c)
 
 pub returns-clause-history : goal.returns-clause-history
-returns-clause-history g c = IfOk-weaker c.go_on.result _ _ (λ o is. is.noted) (polled_there g c)
+returns-clause-history g c = IfOk-weaker c.act-2.result _ _ (λ o is. is.noted) (polled_there g c)
 
 pub returns-clause-sites : goal.returns-clause-sites
-returns-clause-sites g c = IfOk-weaker c.go_on.result _ _ (λ o is. is.sites) (polled_there g c)
+returns-clause-sites g c = IfOk-weaker c.act-2.result _ _ (λ o is. is.sites) (polled_there g c)
 
 pub returns-clause-becomes : goal.returns-clause-becomes
-returns-clause-becomes g c = IfOk-weaker c.go_on.result _ _ (λ o is. is.becomes) (polled_there g c)
+returns-clause-becomes g c = IfOk-weaker c.act-2.result _ _ (λ o is. is.becomes) (polled_there g c)

@@ -1,42 +1,57 @@
-use Rattle.std.proofs.Common.{◌≡◌, Some, None, is_some, sym, ap, ◌∙◌, slice_get}
-use Rattle.std.specs.Vec.{vec_len}
-use Rattle.std.proofs.lemmas.Bool.{true≢false}
-use Rattle.std.proofs.lemmas.Option.{slice_get_read}
+use Rattle.std.proofs.Common.{◌≡◌, IfOk, OnOk, slice_set, Some, None, refl, sym, ap, ◌∙◌, subst}
+use Rattle.std.proofs.lemmas.Result.{on_ok_weaker}
 use Rattle.rbd_requests.specs.Session.{stands_of}
-use Rattle.rbd_world.specs.World.{session_in}
-use Rattle.rbd_world.proofs.Submitting.{get_none, set_unless, submitted_nothing, submitted_to, submitted_to_none, submitted_unnoted}
+use Rattle.rbd_world.specs.Noted.{noted_by}
+use Rattle.rbd_world.specs.Run.{outcome_of}
+use Rattle.rbd_world.specs.Step.{DoesToLives, submitted}
+use Rattle.rbd_world.specs.World.{client_in, lives_in, running_of}
+use Rattle.rbd_world.specs.declared.event.Event.TheVariants as of_event
+use Rattle.rbd_world.proofs.OneLife.{does_to_none, does_to_one, lent, none_there, set_unless}
 use Rattle.rbd_world.proofs.submit.submit_to.Goals as goal
 
-there : (g : _) (c : goal.After-sessions-in-Some-1 g) → slice_get c.args.sessions.now.items c.session.inside.0 ≡ Some c.in-Some.client.now
+there : (g : _) (c : goal.After-lives-in-Some-1 g) → lives_in c.args.session c.args.lives.now.items ≡ Some c.in-Some.life.now
 there g c =
-    slice_get_read c.args.sessions.now.items (vec_len c.args.sessions.now) c.session.inside.0 c.in-Some.client.now c.args.sessions.now.ok.0
-    (c.get_mut.ensures.variant.0 (ap is_some c.in-Some.is)) c.in-Some.ensures.value
+    lent c.args.session c.session.inside.0 c.args.lives.now.items c.in-Some.life.now c.session.view_is c.in-Some.ensures.item.3.0 c.in-Some.ensures.value
 
-none : (g : _) (c : goal.After-sessions-in-None-2-1 g) → session_in c.args.session c.args.sessions.now.items ≡ None
-none g c =
-    ap (slice_get c.args.sessions.now.items) (sym c.session.view_is)
-    ∙ get_none c.args.sessions.now.items (vec_len c.args.sessions.now) c.session.inside.0 c.args.sessions.now.ok.0
-    (λ within. true≢false (sym (c.get_mut.ensures.variant.1 within) ∙ ap is_some c.in-None.is))
+found : (g : _) (c : goal.After-lives-in-Some-1 g) → client_in c.args.session c.args.lives.now.items ≡ c.in-Some.life.now.running
+found g c = ap running_of (there g c)
 
-pub returns-in-Some-clause-sessions : goal.returns-in-Some-clause-sessions
-returns-in-Some-clause-sessions g c =
-    submitted_to (stands_of g.E.Machine.stands) c.args.session c.args.line c.args.command.now c.begin.result c.args.is_begun
-    (record { session = c.args.session; line = c.args.line; command = c.args.command.now }) c.args.sessions.now.items c.session.inside.0 c.in-Some.client.now c.begin.new.client
-    c.session.view_is (there g c) c.begin.ensures.becomes c.begin.ensures.sound
+pub returns-in-Some-clause-outcome : goal.returns-in-Some-clause-outcome
+returns-in-Some-clause-outcome g c =
+    subst (λ o. IfOk c.submit_in.result (λ r. r ≡ outcome_of (submitted c.args.is_begun c.args.line c.args.command.now o))) (sym (found g c)) c.submit_in.ensures.outcome
+
+pub returns-in-Some-clause-history : goal.returns-in-Some-clause-history
+returns-in-Some-clause-history g c =
+    subst (λ o. OnOk c.submit_in.result (c.submit_in.new.history.items ≡ noted_by c.args.history.now.items (submitted c.args.is_begun c.args.line c.args.command.now o))) (sym (found g c))
+    c.submit_in.ensures.history
+
+pub returns-in-Some-clause-lives : goal.returns-in-Some-clause-lives
+returns-in-Some-clause-lives g c =
+    let e = of_event.Submit c.args.session c.args.line c.args.command.now in
+    let xs = c.args.lives.now.items in
+    let behind = slice_set xs c.session.inside.0 c.submit_in.new.life in
+    subst (λ o. OnOk c.submit_in.result (DoesToLives (stands_of g.E.Machine.stands) e (submitted c.args.is_begun c.args.line c.args.command.now o) xs behind)) (sym (found g c))
+    (on_ok_weaker c.submit_in.result (λ goes.
+    does_to_one (stands_of g.E.Machine.stands) e (submitted c.args.is_begun c.args.line c.args.command.now c.in-Some.life.now.running) c.args.session c.session.inside.0 xs
+    c.in-Some.life.now c.submit_in.new.life (λ n. refl) c.session.view_is (there g c) (goes c.args.session) c.submit_in.ensures.sound)
+    c.submit_in.ensures.life)
 
 pub returns-in-Some-clause-err : goal.returns-in-Some-clause-err
 returns-in-Some-clause-err g c =
-    set_unless c.begin.result c.args.sessions.now.items c.session.inside.0 c.in-Some.client.now c.begin.new.client (there g c) c.begin.ensures.err
+    set_unless c.submit_in.result c.args.lives.now.items c.session.inside.0 c.in-Some.life.now c.submit_in.new.life
+    (ap (λ k. lives_in k c.args.lives.now.items) c.session.view_is ∙ there g c) c.submit_in.ensures.err
+
+none : (g : _) (c : goal.After-lives-in-None-2-1 g) → lives_in c.args.session c.args.lives.now.items ≡ None
+none g c = none_there c.args.session c.session.inside.0 c.args.lives.now.items c.session.view_is c.in-None.ensures.item.3
 
 pub returns-in-None-clause-outcome : goal.returns-in-None-clause-outcome
-returns-in-None-clause-outcome g c =
-    submitted_nothing c.args.is_begun (record { session = c.args.session; line = c.args.line; command = c.args.command.now }) (session_in c.args.session c.args.sessions.now.items) (none g c)
-
-pub returns-in-None-clause-sessions : goal.returns-in-None-clause-sessions
-returns-in-None-clause-sessions g c =
-    submitted_to_none (stands_of g.E.Machine.stands) c.args.session c.args.line c.args.command.now c.args.is_begun
-    (record { session = c.args.session; line = c.args.line; command = c.args.command.now }) c.args.sessions.now.items (none g c)
+returns-in-None-clause-outcome g c = sym (ap (λ l. outcome_of (submitted c.args.is_begun c.args.line c.args.command.now (running_of l))) (none g c))
 
 pub returns-in-None-clause-history : goal.returns-in-None-clause-history
-returns-in-None-clause-history g c =
-    submitted_unnoted c.args.is_begun (record { session = c.args.session; line = c.args.line; command = c.args.command.now }) c.args.history.now.items (session_in c.args.session c.args.sessions.now.items) (none g c)
+returns-in-None-clause-history g c = sym (ap (λ l. noted_by c.args.history.now.items (submitted c.args.is_begun c.args.line c.args.command.now (running_of l))) (none g c))
+
+pub returns-in-None-clause-lives : goal.returns-in-None-clause-lives
+returns-in-None-clause-lives g c =
+    does_to_none (stands_of g.E.Machine.stands) (of_event.Submit c.args.session c.args.line c.args.command.now)
+    (submitted c.args.is_begun c.args.line c.args.command.now (client_in c.args.session c.args.lives.now.items)) c.args.session c.args.lives.now.items (λ n. refl)
+    (none g c)

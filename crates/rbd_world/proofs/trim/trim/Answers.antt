@@ -1,4 +1,4 @@
-use Rattle.rbd_world.proofs.BothSites.{trimmed_in_a, trimmed_in_b}
+use Rattle.rbd_world.proofs.Stored.{trimmed_in_a, trimmed_in_b}
 use Rattle.std.proofs.lemmas.Result.{on_ok_weaker}
 use Rattle.rbd_world.proofs.trim.trim.Goals as goal
 

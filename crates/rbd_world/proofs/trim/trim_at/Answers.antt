@@ -1,7 +1,7 @@
 use Rattle.std.proofs.Common.{sym, ap, ◌∙◌, cond, ◌∷◌, []}
 use Rattle.rbd_site.specs.Log.{trim_line}
 use Rattle.rbd_world.specs.Step.{next_number, with_lines}
-use Rattle.rbd_world.proofs.BothSites.{trimmed_here}
+use Rattle.rbd_world.proofs.Stored.{trimmed_here}
 use Rattle.rbd_world.proofs.trim.trim_at.Goals as goal
 
 pub returns-then-branch-clause-done : goal.returns-then-branch-clause-done

@@ -1,0 +1,135 @@
+//! What an operation will come to at its site.
+ghost use Rattle.std.specs.Prelude.{◌≡◌, IfOk, IfSome};
+ghost use Rattle.rbd_kinds.specs.Form.{IsHeaderInForm};
+ghost use Rattle.rbd_kinds.specs.OperationKind.{kind_of};
+ghost use Rattle.rbd_kinds.specs.declared.machine.Fed.TheVariants as of_fed;
+ghost use Rattle.rbd_owner.specs.Waiting.{is_waiting as waits};
+ghost use Rattle.rbd_site.specs.Log.{records_of};
+ghost use Rattle.rbd_site.specs.Step.{MayDo, answer_to};
+ghost use Rattle.rbd_site.specs.declared.done.DoneOp.TheVariants as of_done;
+ghost use Rattle.rbd_stands.specs.Effect.{effect_of as effect_there};
+ghost use Rattle.rbd_world.specs.Operate.{image_of_op};
+ghost use Rattle.rbd_world.specs.Run.{entry_of, fence_of, reason_of};
+ghost use Rattle.rbd_world.specs.Sending.{doer_of};
+ghost use Rattle.rbd_world.specs.Step.{next_number, operation_at};
+
+use crate::noting::entry_by;
+use crate::sender::Sender;
+use rbd_effect::effect_of;
+use rbd_flat::{Effect, Entry};
+use rbd_kinds::{Answer, Fed, HeaderView, ImageId, Instance, NoMemory, Op, SiteId};
+use rbd_owner::is_waiting;
+use rbd_site::Site;
+use std::alloc::Global;
+
+/// An operation that is to be done: whose, by whom, and where.
+#[derive(Debug, Drop)]
+pub struct Due {
+    pub who: Instance,
+    pub by: Sender,
+    pub site: SiteId,
+    pub op: Op,
+}
+
+/// What it will come to.
+#[derive(Debug, Drop)]
+pub struct Foreseen {
+    /// What its sender is fed.
+    pub fed: Fed,
+    /// Its number in its site's log.
+    pub number: u64,
+    /// It asks again, on its way to a lock.
+    pub waiting: bool,
+    /// What the history has of it.
+    pub entry: Entry,
+}
+
+/// What an operation will come to at its site. Nothing changes.
+pub fn foresee(alloc: Global, at: &Site, due: &Due) -> Result<Foreseen, NoMemory>
+    requires may { MayDo (records_of at.now) due.now.who due.now.op }
+    ensures fed { IfOk result (λ f. f.fed ≡ of_fed.Answer (answer_to (records_of at.now) due.now.who due.now.op)) }
+    ensures number { IfOk result (λ f. f.number ≡ next_number at.now) }
+    ensures waiting { IfOk result (λ f. f.waiting ≡ waits (reason_of (doer_of due.now.by)) (kind_of due.now.op) (answer_to (records_of at.now) due.now.who due.now.op)) }
+    ensures entry { IfOk result (λ f. f.entry ≡ entry_of (operation_at at.now due.now.who (doer_of due.now.by) due.now.site due.now.op)) }
+{
+    let answer = at.answer(due.who, &due.op)?;
+    let effect = effect_now(alloc, at, &due.op, &answer)?;
+    let number = at.log().len() as u64 + 1;
+    let waiting = is_waiting(due.by.reason(), due.op.kind(), &answer);
+    let fence = fence_of(&due.op, &answer);
+    let entry = entry_by(due.by.cause(&due.who), due.site, number, fence, effect);
+    Ok(Foreseen {
+        fed: Fed::Answer(answer),
+        number,
+        waiting,
+        entry,
+    })
+}
+
+/// The instance that an operation puts into its site's blocklist.
+fn fence_of(op: &Op, answer: &Answer) -> Option<Instance>
+    ensures { result ≡ fence_of op.now answer.now }
+{
+    let Op::BlockAdd { instance } = op else {
+        return None;
+    };
+    match answer {
+        Answer::Done => Some(*instance),
+        _ => None,
+    }
+}
+
+/// The effect of an operation that will be answered so. Only what is done has one that the header of
+/// its image tells.
+fn effect_now(
+    alloc: Global,
+    at: &Site,
+    op: &Op,
+    answer: &Answer,
+) -> Result<Option<Effect>, NoMemory>
+    ensures { IfOk result (λ effect. effect ≡ effect_there (records_of at.now) (of_done.Op op.now) answer.now) }
+{
+    match answer {
+        Answer::Done => effect_done(alloc, at, op, answer),
+        _ => effect_of(alloc, op, answer, None),
+    }
+}
+
+/// The same, by the header that its image has now.
+fn effect_done(
+    alloc: Global,
+    at: &Site,
+    op: &Op,
+    answer: &Answer,
+) -> Result<Option<Effect>, NoMemory>
+    ensures { IfOk result (λ effect. effect ≡ effect_there (records_of at.now) (of_done.Op op.now) answer.now) }
+{
+    match image_of(op) {
+        Some(image) => {
+            let header = header_at(at, image)?;
+            effect_of(alloc, op, answer, header.as_ref())
+        }
+        None => effect_of(alloc, op, answer, None),
+    }
+}
+
+/// The image whose header tells an operation's effect: that of a header or of a data object.
+fn image_of(op: &Op) -> Option<ImageId>
+    ensures { result ≡ image_of_op op.now }
+{
+    match op {
+        Op::Header { image, .. } => Some(*image),
+        Op::Data { image, .. } => Some(*image),
+        _ => None,
+    }
+}
+
+/// The header of an image, where it is there.
+fn header_at(at: &Site, image: ImageId) -> Result<Option<HeaderView>, NoMemory>
+    ensures header { IfOk result (λ header. header ≡ (records_of at.now).headers image) }
+    ensures form { IfOk result (λ header. IfSome header IsHeaderInForm) }
+{
+    // (the log tells that each header is in form)
+    let _form = at.log();
+    at.header(image)
+}
