@@ -2,8 +2,8 @@
 use super::rows::{goes_as, posts_as};
 use std::test::Fail;
 
-/// Line 7 is past its own look when c1 is asked, and line 12 at its own: it waits until the lock was
-/// dropped (a23). c2 is faster then, and line 12 asks for the lock in its turn.
+/// Line 7 is past its own look when c1 is asked, and line 12 at its own: it waits until the lock
+/// was dropped (a23). c2 is faster then, and line 12 asks for the lock in its turn.
 const AT_OWN_LOOK: &str = "3 1.1>end 5 1.1>end 7 1.1*3 12 1.2*2 1.2=header-get 26 2.1>notify 2.1
 deliver:1 1.2=none 1.2 1.0=none 1.0 1.1=data-write 1.1 1.0 1.1 1.2=none 1.2
 1.0=lock-drop 1.0 1.2=lock-take 1.0 2.1>end 1.2>notify 1.2 deliver:3 2.0*2 1.2>end 6 2.1>end

@@ -2,9 +2,9 @@
 use super::rows::{goes_as, posts_as};
 use std::test::Fail;
 
-/// Both lives of c1 watch, and the first has the lock. The first end is that one's: the second finds
-/// it not watching, and fences it. The second end is the second life's own, which c2 then fences.
-/// There is no third. Nor has c2 a watch at first, nor c1 one of another image.
+/// Both lives of c1 watch, and the first has the lock. The first end is that one's: the second
+/// finds it not watching, and fences it. The second end is the second life's own, which c2 then
+/// fences. There is no third. Nor has c2 a watch at first, nor c1 one of another image.
 const LIVES: &str = "3 1.1>end 5 1.1>end expire:2.1 expire:1.2 stop:1 restart:1 34 1.1>notify 1.1
 expire:1.1 1.1*2 1.1=block-add expire:1.1 expire:1.1 1.1>end 26 2.1>block-add 2.1>end 6 2.1>end
 |slot1 a1 a2! slot1 a3 a4 a5 a6 a7 a8 a9! nothing nothing stopped restarted
@@ -18,8 +18,8 @@ fn the_oldest_watch_of_a_client_ends_first(rt: HostRuntime) -> Result<(), Fail> 
     Ok(())
 }
 
-/// The first life's watch comes late (a11), behind that of the second life, which has the lock. It is
-/// the oldest all the same: behind its end c2 finds the second life watching, and asks it alone.
+/// The first life's watch comes late (a11), behind that of the second life, which has the lock. It
+/// is the oldest all the same: behind its end c2 finds the second life watching, and asks it alone.
 /// Behind the next end c2 fences that.
 const LATE_WATCH: &str =
     "3 1.1>end 5 1.1*2 1.1=watch stop:1 restart:1 34 1.1>end late:1.1 expire:1.1

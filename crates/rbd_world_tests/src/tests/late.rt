@@ -2,8 +2,8 @@
 use super::rows::{goes_as, posts_as, tells_as};
 use std::test::Fail;
 
-/// Line 7 is about to write the object 0 when c1 stops. Only its slot had wanted something, and that
-/// comes once.
+/// Line 7 is about to write the object 0 when c1 stops. Only its slot had wanted something, and
+/// that comes once.
 const ONCE: &str = "3 1.1>end 5 1.1>end 7 1.1*3 late:1.1 stop:1
 late:1.2 late:1.0 late:1.65 late:2.1 late:5.1 late:1.1 late:1.1 6 2.1>end
 |slot1 a1 a2! slot1 a3 a4 a5 a6 a7 a8 a9! slot1 a10 a11 a12 nothing stopped
@@ -72,8 +72,8 @@ fn what_several_slots_wanted_comes_in_any_order(rt: HostRuntime) -> Result<(), F
     Ok(())
 }
 
-/// c1 is about to let its lock go, in slot 0. The drop comes late, and nobody is told of it. Line 26
-/// was on its way, and takes the lock without a fence.
+/// c1 is about to let its lock go, in slot 0. The drop comes late, and nobody is told of it. Line
+/// 26 was on its way, and takes the lock without a fence.
 const RELEASE: &str = "3 1.1>end 5 1.1>end 26 2.1>notify 2.1 deliver:1 1.0=lock-drop stop:1
 late:1.0 late:1.0 2.1=lock-take 2.1>end 6 2.1>end
 |slot1 a1 a2! slot1 a3 a4 a5 a6 a7 a8 a9! slot1 a10 a11 a12 a13~ a14~ a15~ heard stopped

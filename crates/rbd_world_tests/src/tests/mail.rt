@@ -1,6 +1,6 @@
 //! The mail of a world, as a text: `1 c2.0>c1.0 a1 RequestLock;2 c1.0>c2.0 a1 hi`. The notice 1 is
-//! from c2 to c1, both in their first lives, about the image 1 of site A, and the notice 2 tells the
-//! word hi.
+//! from c2 to c1, both in their first lives, about the image 1 of site A, and the notice 2 tells
+//! the word hi.
 use super::drive::Clients;
 use super::texts::letter;
 use rbd_kinds::{Instance, NoMemory, Notice, NoticeKind};

@@ -2,9 +2,9 @@
 //! what its slot wants, and what is there behind it.
 //!
 //! c2 has the lock of the image, has written the bytes 4095 and 4096 as cc, and was stopped. Line 5
-//! of c1 then does 14 operations: it finds the image and looks at it, watches it, finds the lock held
-//! and c2 watching, asks, and finds the lock held again. There the watch of c2 ends. So it finds c2
-//! not watching, fences it, breaks its lock and takes it, looks, and writes both objects.
+//! of c1 then does 14 operations: it finds the image and looks at it, watches it, finds the lock
+//! held and c2 watching, asks, and finds the lock held again. There the watch of c2 ends. So it
+//! finds c2 not watching, fences it, breaks its lock and takes it, looks, and writes both objects.
 //!
 //! ```text
 //! 1 dir-find   2 header-get   3 watch   4 lock-take   5 watchers-get   6 notify   7 lock-take
@@ -130,8 +130,8 @@ fn a_write_that_is_stopped_leaves_what_it_had_done(rt: HostRuntime) -> Result<()
 
 // ---- what the slot wanted comes at once
 
-/// Place, what its operation is answered, who is fenced, and the bytes. At 8 the fence comes, and c4
-/// fences c2 again; at 9 c2's lock is broken; and at 10 c1 has the lock, though it doesn't run.
+/// Place, what its operation is answered, who is fenced, and the bytes. At 8 the fence comes, and
+/// c4 fences c2 again; at 9 c2's lock is broken; and at 10 c1 has the lock, though it doesn't run.
 const AT_ONCE: &str = "0 id c2.0 00ccccee
 1 header c2.0 00ccccee
 2 done c2.0 00ccccee

@@ -16,8 +16,8 @@ fn a_quiesce_holds_its_own_clients_changes_until_a_resume(rt: HostRuntime) -> Re
     Ok(())
 }
 
-/// c1 is asked for the lock of the quiesced image, and keeps it until line 30. Then it lets it go, and
-/// line 5 asks for it anew.
+/// c1 is asked for the lock of the quiesced image, and keeps it until line 30. Then it lets it go,
+/// and line 5 asks for it anew.
 const KEPT: &str = "3 1.1>end 29 1.1>end 26 2.1>notify 2.1 deliver:1 1.0=none 1.0 2.1*3
 5 1.1*2 1.1=none 1.1 30 1.2>end 1.1=none 1.1 1.0=lock-drop 1.0*2 2.1>end
 1.1=lock-take 1.1>notify 1.1 deliver:4 2.0*2 1.1>end 10 2.1>end

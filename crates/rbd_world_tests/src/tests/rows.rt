@@ -86,7 +86,8 @@ fn posts(rt: &impl Abort, alloc: Global, world: &Clients, mail: &str) {
     assert!(rt; holds(mail_is(alloc, world, mail)), "{mail}");
 }
 
-/// What is asked of a world behind a row: its history, its logs with `|` between them, and its mail.
+/// What is asked of a world behind a row: its history, its logs with `|` between them, and its
+/// mail.
 #[derive(Clone, Copy, Debug)]
 struct Asked<'a> {
     history: Option<&'a str>,

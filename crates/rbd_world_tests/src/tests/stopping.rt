@@ -77,9 +77,9 @@ fn a_stop_leaves_the_other_clients(rt: HostRuntime) -> Result<(), Fail> {
     Ok(())
 }
 
-/// The first life has the lock, watches, and has quiesced the image. The second knows nothing of it:
-/// line 34 isn't held back, watches, and goes the whole way to the lock. It asks the first life, which
-/// hears no notice any more (nor does the second hear it), and then fences it.
+/// The first life has the lock, watches, and has quiesced the image. The second knows nothing of
+/// it: line 34 isn't held back, watches, and goes the whole way to the lock. It asks the first
+/// life, which hears no notice any more (nor does the second hear it), and then fences it.
 const KNOWS_NOTHING: &str = "3 1.1>end 5 1.1>end 29 1.1>end stop:1 restart:1 34 1.1*2 1.1=watch
 1.1>notify 1.1 deliver:1 1.0=none 1.0 expire:1.1 1.1*2 1.1=block-add 1.1>end 33 1.1>end
 |slot1 a1 a2! slot1 a3 a4 a5 a6 a7 a8 a9! slot1 a10 a11 a12! stopped restarted slot1 a13 a14

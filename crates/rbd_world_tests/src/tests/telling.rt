@@ -1,5 +1,5 @@
-//! What clients tell each other: a notice to each other one that watches, which is heard as often as
-//! it is delivered.
+//! What clients tell each other: a notice to each other one that watches, which is heard as often
+//! as it is delivered.
 use super::rows::{goes_as, posts_as};
 use std::test::Fail;
 

@@ -49,8 +49,8 @@ fn push_slot(alloc: Global, text: &mut Vec<u8>, slot: Slot) -> Result<(), NoMemo
     push_numbered(alloc, text, "slot", u64::from(slot.0))
 }
 
-/// Appends what came of an event: `nothing`, `waits`, `slot1`, `a5`, one that asks again `a5~`, with
-/// its reply `a5!`, `heard`, `stored`, `stopped` or `restarted`.
+/// Appends what came of an event: `nothing`, `waits`, `slot1`, `a5`, one that asks again `a5~`,
+/// with its reply `a5!`, `heard`, `stored`, `stopped` or `restarted`.
 fn push_outcome(alloc: Global, text: &mut Vec<u8>, outcome: &Outcome) -> Result<(), NoMemory> {
     match outcome {
         Outcome::Nothing => text.extend_from_slice(b"nothing")?,
@@ -153,8 +153,8 @@ fn push_expired(
     Ok(())
 }
 
-/// Appends an event: `3:c1`, `1.2`, `deliver:1`, `expire:c1.a1`, `stop:c1`, `late:1.2`, `restart:c1`
-/// or `trim:a1.0`.
+/// Appends an event: `3:c1`, `1.2`, `deliver:1`, `expire:c1.a1`, `stop:c1`, `late:1.2`,
+/// `restart:c1` or `trim:a1.0`.
 fn push_event(alloc: Global, text: &mut Vec<u8>, event: &Event) -> Result<(), NoMemory> {
     match event {
         Event::Submit {
