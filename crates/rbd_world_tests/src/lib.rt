@@ -17,8 +17,20 @@
 //! ```
 //!
 //! What a row wants was worked out from the rules in prose: how many operations each command has
-//! (`rbd_request`, `rbd_admin`), who waits (`rbd_session`), and which bytes a flat list has at the
-//! moment at which it is looked at. The numbers of a site's operations are counted from 1.
+//! (`rbd_request`, `rbd_admin`, `rbd_close`), who waits (`rbd_session`), how a lock is taken and
+//! let go (`rbd_owner`, `rbd_client`), and which bytes a flat list has at the moment at which it is
+//! looked at. The numbers of a site's operations are counted from 1.
+//!
+//! | file | subject |
+//! |---|---|
+//! | `writes`, `snapshots`, `waits` | commands side by side, and which bytes they show |
+//! | `handover`, `asked` | a lock goes to who asks for it, and who waits meanwhile |
+//! | `fencing` | an owner that doesn't watch is fenced |
+//! | `stopping`, `late`, `places` | stops, next lives, and what comes late |
+//! | `expiring`, `sites` | steps of the store, and logs |
+//! | `telling`, `quiescing` | what clients tell each other, and what holds changes back |
+//! | `nothing`, `slots` | events of which nothing comes |
+//! | `clients` | what a world tells of a client |
 #![tactic(auto)]
 
 #[cfg(test)]

@@ -2,15 +2,26 @@
 use super::rows::{calls_as, goes_as, keeps_as};
 use std::test::Fail;
 
-/// No world has the clients c4 and c0. c1 has nothing in any slot, and no slot has the number 65.
-/// No image is there.
-const NOT_THERE: &str = "21 4.1 4.1=none 0.1 1.1 1.1=none 1.0 1.64 1.65 1.65=none trim:1.0
+/// No world has the clients c5 and c0. c1 has nothing in any slot, and no slot has the number 65.
+/// No image is there, and no notice. Nobody was stopped.
+const NOT_THERE: &str = "24 5.1 5.1=none 0.1 5.0 1.1 1.1=none 1.64 1.65 1.65=none trim:1.0
+deliver:1 deliver:0 expire:1.1 expire:5.1 stop:5 late:1.1 late:1.0 late:5.1 restart:1 restart:5
 |nothing nothing nothing nothing nothing nothing nothing nothing
+nothing nothing nothing nothing nothing nothing nothing nothing nothing nothing
 |";
 
 #[test]
 fn nothing_comes_of_what_names_nothing_that_is_there(rt: HostRuntime) -> Result<(), Fail> {
     keeps_as(&rt, rt.alloc(), NOT_THERE, "", "|")?;
+    Ok(())
+}
+
+/// Slot 0 of a client that runs is there, and waits: no lock is to be let go.
+const NO_LOCK: &str = "1.0 1.0=none 3 1.1>end 1.0 1.0=none|waits slot1 a1 a2! waits|3 ok";
+
+#[test]
+fn a_client_without_a_lock_waits_at_slot_0(rt: HostRuntime) -> Result<(), Fail> {
+    goes_as(&rt, rt.alloc(), NO_LOCK)?;
     Ok(())
 }
 
@@ -64,13 +75,17 @@ fn a_look_at_no_image_is_refused_by_its_first_operation(rt: HostRuntime) -> Resu
     Ok(())
 }
 
-/// Nothing comes of the polls of c4 and of slot 2, nor of line 21, and the first trim finds no
-/// object.
+/// Nothing comes of the polls of c5 and of slot 2, nor of line 24. The first trim finds no object,
+/// no notice is delivered, and c2 wants nothing when it stops.
+const ALL: &str = "3 5.1 1.1*2 1.2 trim:1.0 24 17 1.1=none 2.1>end 5 1.1>end trim:1.1
+deliver:1 expire:1.1 stop:2 late:2.1 restart:2";
+
+const ALL_EVENTS: &str = "3:c1 5.1 1.1 1.1 1.2 trim:a1.0 24:c5 17:c2 2.1
+5:c1 1.1 1.1 1.1 1.1 1.1 1.1 1.1 trim:a1.1
+deliver:1 expire:c1.a1 stop:c2 late:2.1 restart:c2";
+
 #[test]
 fn the_calls_have_each_event_also_where_nothing_came(rt: HostRuntime) -> Result<(), Fail> {
-    let schedule = "3 4.1 1.1*2 1.2 trim:1.0 21 17 1.1=none 2.1>end 5 1.1>end trim:1.1";
-    let events =
-        "3:c1 4.1 1.1 1.1 1.2 trim:a1.0 21:c4 17:c2 2.1 5:c1 1.1 1.1 1.1 1.1 1.1 trim:a1.1";
-    calls_as(&rt, rt.alloc(), schedule, events)?;
+    calls_as(&rt, rt.alloc(), ALL, ALL_EVENTS)?;
     Ok(())
 }

@@ -8,9 +8,10 @@
 //! | `1.2>data-write` | it is polled until it wants this |
 //! | `1.2>end` | it is polled until its request has its reply |
 //! | `1.2=none` | nothing: this is what it wants |
-//! | `trim:1.0` | the store of site A trims the object 0 of the image 1 |
+//! | `stop:1`, and others with a colon | see `others` |
 use super::drive::{Clients, comes, holds, wanted};
-use rbd_kinds::{ImageId, NoMemory, SessionNo, SiteId, Slot, TryClone};
+use super::others::other_goes;
+use rbd_kinds::{NoMemory, SessionNo, Slot, TryClone};
 use rbd_script::{Line, Said};
 use rbd_world::{Event, Outcome};
 use std::alloc::Global;
@@ -19,12 +20,19 @@ use std::process::Abort;
 /// More polls than any request of these tests has operations.
 const ENOUGH: u32 = 100;
 
-fn number(word: &str) -> u32 {
+/// The number that a word spells, and 0 where it spells none.
+pub fn number(word: &str) -> u32 {
     word.parse::<u32>().unwrap_or(0)
 }
 
-fn small_number(word: &str) -> u8 {
+/// The same below 256.
+pub fn small_number(word: &str) -> u8 {
     word.parse::<u8>().unwrap_or(0)
+}
+
+/// The client of a word: `1` is c1.
+pub fn session_of(client: &str) -> SessionNo {
+    SessionNo(small_number(client).wrapping_sub(1))
 }
 
 /// What the line says is begun, where it is a command.
@@ -76,7 +84,7 @@ struct Place {
 /// The slot of a word, as `1.2`.
 fn slot_of(client: &str, slot: &str) -> Place {
     Place {
-        session: SessionNo(small_number(client).wrapping_sub(1)),
+        session: session_of(client),
         slot: Slot(small_number(slot)),
     }
 }
@@ -173,20 +181,6 @@ fn slot_goes(
     }
 }
 
-/// The store trims the object of a word, as `1.0`.
-fn trim(rt: &impl Abort, alloc: Global, world: &mut Clients, word: &str) -> Result<bool, NoMemory> {
-    let Some((image, object)) = word.split_once('.') else {
-        return Ok(false);
-    };
-    let event = Event::Trim {
-        site: SiteId::A,
-        image: ImageId(number(image)),
-        object: u64::from(number(object)),
-    };
-    comes(rt, alloc, world, event)?;
-    Ok(true)
-}
-
 /// What a word says happens. It is false where what it says isn't so.
 pub fn goes(
     rt: &impl Abort,
@@ -195,8 +189,8 @@ pub fn goes(
     lines: &[Line],
     word: &str,
 ) -> Result<bool, NoMemory> {
-    if let Some((_, object)) = word.split_once(':') {
-        return trim(rt, alloc, world, object);
+    if let Some((kind, rest)) = word.split_once(':') {
+        return other_goes(rt, alloc, world, kind, rest);
     }
     if let Some((client, rest)) = word.split_once('.') {
         return slot_goes(rt, alloc, world, client, rest);

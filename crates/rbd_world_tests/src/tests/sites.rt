@@ -32,7 +32,7 @@ fn each_site_numbers_its_own_operations(rt: HostRuntime) -> Result<(), Fail> {
 /// The image 1 has the objects 0 and 1, and there is no image 2. Both trims take a number, and no
 /// entry of the history.
 const TRIMMED: &str = "3 1.1>end 5 1.1>end trim:1.0 trim:1.1 trim:1.2 trim:2.0 17 2.1
-|slot1 a1 a2! slot1 a3 a4 a5 a6 a7! stored stored nothing nothing slot1 a10!
+|slot1 a1 a2! slot1 a3 a4 a5 a6 a7 a8 a9! stored stored nothing nothing slot1 a12!
 |3 ok;5 ok;17 ok disk";
 
 const TRIMMED_HISTORY: &str = "h 1 start 3 c1.0
@@ -43,24 +43,28 @@ h 5 start 5 c1.0
 h 6 look 5 a3
 h 7 look 5 a4
 h 8 look 5 a5
-h 9 effect 5 a6 piece
-h 10 effect 5 a7 piece
-h 11 reply 5
-h 12 start 17 c2.0
-h 13 look 17 a10
-h 14 reply 17
+h 9 look 5 a6
+h 10 look 5 a7
+h 11 effect 5 a8 piece
+h 12 effect 5 a9 piece
+h 13 reply 5
+h 14 start 17 c2.0
+h 15 look 17 a12
+h 16 reply 17
 ";
 
 const TRIMMED_LOGS: &str = "o a1 c1.0 dir-add rbd_directory id
 o a2 c1.0 header-create rbd_header.1 done
 o a3 c1.0 dir-find rbd_directory id
 o a4 c1.0 header-get rbd_header.1 header
-o a5 c1.0 header-get rbd_header.1 header
-o a6 c1.0 data-write rbd_data.1.0000000000000000 done
-o a7 c1.0 data-write rbd_data.1.0000000000000001 done
-o a8 store trim rbd_data.1.0000000000000000 done
-o a9 store trim rbd_data.1.0000000000000001 done
-o a10 c2.0 dir-list rbd_directory names
+o a5 c1.0 watch rbd_header.1 done
+o a6 c1.0 lock-take rbd_header.1 done
+o a7 c1.0 header-get rbd_header.1 header
+o a8 c1.0 data-write rbd_data.1.0000000000000000 done
+o a9 c1.0 data-write rbd_data.1.0000000000000001 done
+o a10 store trim rbd_data.1.0000000000000000 done
+o a11 store trim rbd_data.1.0000000000000001 done
+o a12 c2.0 dir-list rbd_directory names
 |";
 
 #[test]
@@ -73,8 +77,8 @@ fn a_trim_is_a_line_of_the_log_alone(rt: HostRuntime) -> Result<(), Fail> {
 /// 10. The image's own bytes stay.
 const TRIMMED_BENEATH: &str =
     "3 1.1>end 5 1.1>end 9 1.1>end 12 1.1>end 14 1.1>end 10 2.1*3 trim:1.0 trim:1.1 2.1>end
-|slot1 a1 a2! slot1 a3 a4 a5 a6 a7! slot1 a8 a9 a10 a11! slot1 a12 a13 a14 a15 a16!
-slot1 a17 a18 a19 a20! slot1 a21 a22 a23 stored stored a26 a27!
+|slot1 a1 a2! slot1 a3 a4 a5 a6 a7 a8 a9! slot1 a10 a11 a12 a13! slot1 a14 a15 a16 a17 a18!
+slot1 a19 a20 a21 a22! slot1 a23 a24 a25 stored stored a28 a29!
 |3 ok;5 ok;9 ok;12 ok;14 ok;10 ok 55667788";
 
 #[test]

@@ -1,5 +1,5 @@
 //! What a world shows, as texts.
-use rbd_flat::{Cause, Entry};
+use rbd_flat::Entry;
 use rbd_kinds::{ImageId, NoMemory, Reply, SessionNo, SiteId, Slot};
 use rbd_script::Declared;
 use rbd_site::Done;
@@ -19,7 +19,8 @@ fn push_numbered(
     Ok(())
 }
 
-fn letter(site: SiteId) -> &'static str {
+/// The letter of a site.
+pub fn letter(site: SiteId) -> &'static str {
     match site {
         SiteId::A => "a",
         SiteId::B => "b",
@@ -31,9 +32,13 @@ fn push_step(
     text: &mut Vec<u8>,
     site: SiteId,
     number: u64,
+    waiting: bool,
     replied: bool,
 ) -> Result<(), NoMemory> {
     push_numbered(alloc, text, letter(site), number)?;
+    if waiting {
+        text.push(b'~')?;
+    }
     if replied {
         text.push(b'!')?;
     }
@@ -44,8 +49,8 @@ fn push_slot(alloc: Global, text: &mut Vec<u8>, slot: Slot) -> Result<(), NoMemo
     push_numbered(alloc, text, "slot", u64::from(slot.0))
 }
 
-/// Appends what came of an event: `nothing`, `waits`, `slot1`, `a5`, with its reply `a5!`, or
-/// `stored`.
+/// Appends what came of an event: `nothing`, `waits`, `slot1`, `a5`, one that asks again `a5~`,
+/// with its reply `a5!`, `heard`, `stored`, `stopped` or `restarted`.
 fn push_outcome(alloc: Global, text: &mut Vec<u8>, outcome: &Outcome) -> Result<(), NoMemory> {
     match outcome {
         Outcome::Nothing => text.extend_from_slice(b"nothing")?,
@@ -54,10 +59,13 @@ fn push_outcome(alloc: Global, text: &mut Vec<u8>, outcome: &Outcome) -> Result<
         Outcome::Step {
             site,
             number,
-            waiting: _,
+            waiting,
             replied,
-        } => push_step(alloc, text, *site, *number, *replied)?,
+        } => push_step(alloc, text, *site, *number, *waiting, *replied)?,
+        Outcome::Heard => text.extend_from_slice(b"heard")?,
         Outcome::Stored => text.extend_from_slice(b"stored")?,
+        Outcome::Stopped => text.extend_from_slice(b"stopped")?,
+        Outcome::Restarted => text.extend_from_slice(b"restarted")?,
     }
     Ok(())
 }
@@ -86,15 +94,27 @@ pub fn outcomes_are(alloc: Global, calls: &[Call], want: &str) -> Result<bool, N
     Ok(text.as_slice() == spaced(alloc, want)?.as_slice())
 }
 
-fn push_polled(
+/// Appends a word, a client's number, and the number of one of its slots.
+fn push_at_slot(
     alloc: Global,
     text: &mut Vec<u8>,
+    word: &str,
     session: SessionNo,
     slot: Slot,
 ) -> Result<(), NoMemory> {
-    let told = format!(in alloc; "{}.{}", u32::from(session.0) + 1, slot.0)?;
+    let told = format!(in alloc; "{word}{}.{}", u32::from(session.0) + 1, slot.0)?;
     text.extend_from_slice(told.as_bytes())?;
     Ok(())
+}
+
+/// Appends a word and a client.
+fn push_client(
+    alloc: Global,
+    text: &mut Vec<u8>,
+    word: &str,
+    session: SessionNo,
+) -> Result<(), NoMemory> {
+    push_numbered(alloc, text, word, u64::from(session.0) + 1)
 }
 
 fn push_begun(
@@ -120,7 +140,21 @@ fn push_trimmed(
     Ok(())
 }
 
-/// Appends an event: `3:c1`, `1.2` or `trim:a1.0`.
+fn push_expired(
+    alloc: Global,
+    text: &mut Vec<u8>,
+    session: SessionNo,
+    site: SiteId,
+    image: ImageId,
+) -> Result<(), NoMemory> {
+    let client = u32::from(session.0) + 1;
+    let told = format!(in alloc; "expire:c{client}.{}{}", letter(site), image.0)?;
+    text.extend_from_slice(told.as_bytes())?;
+    Ok(())
+}
+
+/// Appends an event: `3:c1`, `1.2`, `deliver:1`, `expire:c1.a1`, `stop:c1`, `late:1.2`,
+/// `restart:c1` or `trim:a1.0`.
 fn push_event(alloc: Global, text: &mut Vec<u8>, event: &Event) -> Result<(), NoMemory> {
     match event {
         Event::Submit {
@@ -128,7 +162,16 @@ fn push_event(alloc: Global, text: &mut Vec<u8>, event: &Event) -> Result<(), No
             line,
             command: _,
         } => push_begun(alloc, text, *session, *line)?,
-        Event::Poll { session, slot } => push_polled(alloc, text, *session, *slot)?,
+        Event::Poll { session, slot } => push_at_slot(alloc, text, "", *session, *slot)?,
+        Event::Deliver { number } => push_numbered(alloc, text, "deliver:", *number)?,
+        Event::Expire {
+            session,
+            site,
+            image,
+        } => push_expired(alloc, text, *session, *site, *image)?,
+        Event::Stop { session } => push_client(alloc, text, "stop:c", *session)?,
+        Event::Late { session, slot } => push_at_slot(alloc, text, "late:", *session, *slot)?,
+        Event::Restart { session } => push_client(alloc, text, "restart:c", *session)?,
         Event::Trim {
             site,
             image,
@@ -151,7 +194,7 @@ pub fn events_are(alloc: Global, calls: &[Call], want: &str) -> Result<bool, NoM
 }
 
 /// Appends a reply: done, bytes, names or a refusal. Of others only that there is one.
-fn push_plain(text: &mut Vec<u8>, reply: &Reply) -> Result<(), NoMemory> {
+pub fn push_plain(text: &mut Vec<u8>, reply: &Reply) -> Result<(), NoMemory> {
     match reply {
         Reply::Done => push_reply(text, &[], reply)?,
         Reply::Bytes(_) => push_reply(text, &[], reply)?,
@@ -213,20 +256,26 @@ pub fn log_is(
     Ok(text.as_slice() == want.as_bytes())
 }
 
-/// The operation of an entry: its line, its site and its number.
-fn operation(entry: &Entry) -> Option<(u32, SiteId, u64)> {
+/// The operation of an entry: its site and its number.
+fn operation(entry: &Entry) -> Option<(SiteId, u64)> {
     match entry {
         Entry::Effect {
-            cause: Cause::Line(line),
+            cause: _,
             site,
             number,
             effect: _,
-        } => Some((*line, *site, *number)),
+        } => Some((*site, *number)),
         Entry::Look {
-            cause: Cause::Line(line),
+            cause: _,
             site,
             number,
-        } => Some((*line, *site, *number)),
+        } => Some((*site, *number)),
+        Entry::Fence {
+            cause: _,
+            site,
+            number,
+            instance: _,
+        } => Some((*site, *number)),
         _ => None,
     }
 }
@@ -243,8 +292,8 @@ fn has_operation(log: &[Done], number: u64) -> bool {
 pub fn numbers_are_of_logs(history: &[Entry], a: &[Done], b: &[Done]) -> bool {
     for entry in history {
         let is_there = match operation(entry) {
-            Some((_, SiteId::A, number)) => has_operation(a, number),
-            Some((_, SiteId::B, number)) => has_operation(b, number),
+            Some((SiteId::A, number)) => has_operation(a, number),
+            Some((SiteId::B, number)) => has_operation(b, number),
             None => true,
         };
         if !is_there {

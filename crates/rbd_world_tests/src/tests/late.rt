@@ -1,0 +1,147 @@
+//! What a slot wanted when its client was stopped comes late, once, or never.
+use super::rows::{goes_as, posts_as, tells_as};
+use std::test::Fail;
+
+/// Line 7 is about to write the object 0 when c1 stops. Only its slot had wanted something, and
+/// that comes once.
+const ONCE: &str = "3 1.1>end 5 1.1>end 7 1.1*3 late:1.1 stop:1
+late:1.2 late:1.0 late:1.65 late:2.1 late:5.1 late:1.1 late:1.1 6 2.1>end
+|slot1 a1 a2! slot1 a3 a4 a5 a6 a7 a8 a9! slot1 a10 a11 a12 nothing stopped
+nothing nothing nothing nothing nothing a13 nothing slot1 a14 a15 a16 a17 a18!
+|3 ok;5 ok;6 ok 11aa3344";
+
+const ONCE_HISTORY: &str = "h 1 start 3 c1.0
+h 2 effect 3 a1 name
+h 3 effect 3 a2 create
+h 4 reply 3
+h 5 start 5 c1.0
+h 6 look 5 a3
+h 7 look 5 a4
+h 8 look 5 a5
+h 9 look 5 a6
+h 10 look 5 a7
+h 11 effect 5 a8 piece
+h 12 effect 5 a9 piece
+h 13 reply 5
+h 14 start 7 c1.0
+h 15 look 7 a10
+h 16 look 7 a11
+h 17 look 7 a12
+h 18 stop c1
+h 19 lost 7
+h 20 effect late:c1.0 a13 piece
+h 21 start 6 c2.0
+h 22 look 6 a14
+h 23 look 6 a15
+h 24 look 6 a16
+h 25 look 6 a17
+h 26 look 6 a18
+h 27 reply 6
+";
+
+#[test]
+fn a_late_operation_comes_once_and_none_of_an_empty_slot(rt: HostRuntime) -> Result<(), Fail> {
+    tells_as(&rt, rt.alloc(), ONCE, ONCE_HISTORY)?;
+    Ok(())
+}
+
+/// Line 12 waits behind line 7 at the object 0, and wants nothing.
+const WAITED: &str =
+    "3 1.1>end 5 1.1>end 7 1.1*3 12 1.2*3 1.2=none stop:1 late:1.2 late:1.1 6 2.1>end
+|slot1 a1 a2! slot1 a3 a4 a5 a6 a7 a8 a9! slot1 a10 a11 a12 slot2 a13 a14 a15 stopped nothing a16
+slot1 a17 a18 a19 a20 a21!
+|3 ok;5 ok;6 ok 11aa3344";
+
+#[test]
+fn what_waits_at_a_stop_sends_nothing(rt: HostRuntime) -> Result<(), Fail> {
+    goes_as(&rt, rt.alloc(), WAITED)?;
+    Ok(())
+}
+
+/// Line 7 is about to write the object 1, and line 12 behind it the object 0. Their operations come
+/// in the other order.
+const ANY_ORDER: &str = "3 1.1>end 5 1.1>end 7 1.1*3 12 1.2*3 1.1 1.1=data-write 1.2=data-write
+stop:1 late:1.2 late:1.1 late:1.2 6 2.1>end
+|slot1 a1 a2! slot1 a3 a4 a5 a6 a7 a8 a9! slot1 a10 a11 a12 slot2 a13 a14 a15 a16
+stopped a17 a18 nothing slot1 a19 a20 a21 a22 a23!
+|3 ok;5 ok;6 ok 5566bb44";
+
+#[test]
+fn what_several_slots_wanted_comes_in_any_order(rt: HostRuntime) -> Result<(), Fail> {
+    goes_as(&rt, rt.alloc(), ANY_ORDER)?;
+    Ok(())
+}
+
+/// c1 is about to let its lock go, in slot 0. The drop comes late, and nobody is told of it. Line
+/// 26 was on its way, and takes the lock without a fence.
+const RELEASE: &str = "3 1.1>end 5 1.1>end 26 2.1>notify 2.1 deliver:1 1.0=lock-drop stop:1
+late:1.0 late:1.0 2.1=lock-take 2.1>end 6 2.1>end
+|slot1 a1 a2! slot1 a3 a4 a5 a6 a7 a8 a9! slot1 a10 a11 a12 a13~ a14~ a15~ heard stopped
+a16 nothing a17 a18 a19 a20! slot1 a21 a22 a23 a24 a25!
+|3 ok;5 ok;26 ok;6 ok 11cccc44";
+
+#[test]
+fn a_release_may_come_late_too(rt: HostRuntime) -> Result<(), Fail> {
+    posts_as(&rt, rt.alloc(), RELEASE, "1 c2.0>c1.0 a1 RequestLock")?;
+    Ok(())
+}
+
+/// What the first life wanted comes while the second runs. Then the second stops, and what that
+/// wanted comes.
+const NEXT_LIFE: &str = "3 1.1>end 5 1.1>end 7 1.1*3 stop:1 restart:1 late:1.1 late:1.1
+34 1.1 1.1=header-get stop:1 late:1.1 late:1.1 6 2.1>end
+|slot1 a1 a2! slot1 a3 a4 a5 a6 a7 a8 a9! slot1 a10 a11 a12 stopped restarted a13 nothing
+slot1 a14 stopped a15 nothing slot1 a16 a17 a18 a19 a20!
+|3 ok;5 ok;6 ok 11aa3344";
+
+const NEXT_LIFE_HISTORY: &str = "h 1 start 3 c1.0
+h 2 effect 3 a1 name
+h 3 effect 3 a2 create
+h 4 reply 3
+h 5 start 5 c1.0
+h 6 look 5 a3
+h 7 look 5 a4
+h 8 look 5 a5
+h 9 look 5 a6
+h 10 look 5 a7
+h 11 effect 5 a8 piece
+h 12 effect 5 a9 piece
+h 13 reply 5
+h 14 start 7 c1.0
+h 15 look 7 a10
+h 16 look 7 a11
+h 17 look 7 a12
+h 18 stop c1
+h 19 lost 7
+h 20 effect late:c1.0 a13 piece
+h 21 start 34 c1.1
+h 22 look 34 a14
+h 23 stop c1
+h 24 lost 34
+h 25 look late:c1.1 a15
+h 26 start 6 c2.0
+h 27 look 6 a16
+h 28 look 6 a17
+h 29 look 6 a18
+h 30 look 6 a19
+h 31 look 6 a20
+h 32 reply 6
+";
+
+#[test]
+fn what_a_life_wanted_may_come_beside_the_next_one(rt: HostRuntime) -> Result<(), Fail> {
+    tells_as(&rt, rt.alloc(), NEXT_LIFE, NEXT_LIFE_HISTORY)?;
+    Ok(())
+}
+
+/// The second life stops, too, and wanted nothing. What the first one wanted comes no more.
+const NO_MORE: &str = "3 1.1>end 5 1.1>end 7 1.1*3 stop:1 restart:1 stop:1 late:1.1 6 2.1>end
+|slot1 a1 a2! slot1 a3 a4 a5 a6 a7 a8 a9! slot1 a10 a11 a12 stopped restarted stopped nothing
+slot1 a13 a14 a15 a16 a17!
+|3 ok;5 ok;6 ok 11223344";
+
+#[test]
+fn what_a_life_wanted_comes_no_more_behind_the_next_stop(rt: HostRuntime) -> Result<(), Fail> {
+    goes_as(&rt, rt.alloc(), NO_MORE)?;
+    Ok(())
+}

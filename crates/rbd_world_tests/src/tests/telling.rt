@@ -1,0 +1,59 @@
+//! What clients tell each other: a notice to each other one that watches, which is heard as often
+//! as it is delivered.
+use super::rows::{goes_as, posts_as};
+use std::test::Fail;
+
+/// c1, c2 and c4 watch. c1 tells hi, and c2 yo.
+const EACH: &str = "3 1.1>end 5 1.1>end 26 2.1>lock-take 27 4.1>lock-take 31 1.1>end
+heard:2= deliver:1 heard:2=hi heard:4= deliver:2 deliver:1 heard:2=hi+hi heard:4=hi
+32 2.2>end deliver:4 heard:4=hi+yo heard:1= deliver:3 heard:1=yo heard:2=hi+hi heard:3=
+|slot1 a1 a2! slot1 a3 a4 a5 a6 a7 a8 a9! slot1 a10 a11 a12 slot1 a13 a14 a15 slot1 a16 a17!
+heard heard heard slot2 a18 a19! heard heard
+|3 ok;5 ok;31 ok;32 ok";
+
+#[test]
+fn each_other_client_that_watches_hears_what_is_told_as_often_as_it_comes(
+    rt: HostRuntime,
+) -> Result<(), Fail> {
+    let mail = "1 c1.0>c2.0 a1 hi;2 c1.0>c4.0 a1 hi;3 c2.0>c1.0 a1 yo;4 c2.0>c4.0 a1 yo";
+    posts_as(&rt, rt.alloc(), EACH, mail)?;
+    Ok(())
+}
+
+/// Nobody watches when c4 tells something first, and c1 when it does so again. c3 tells its own at
+/// the other site, whose image 1 nobody watches.
+const NOBODY: &str = "3 1.1>end 35 4.1>end 5 1.1>end 19 3.1>end 36 3.1>end deliver:1 heard:1=
+|slot1 a1 a2! slot1 a3 a4! slot1 a5 a6 a7 a8 a9 a10 a11! slot1 b1 b2! slot1 b3 b4! nothing
+|3 ok;35 ok;5 ok;19 ok;36 ok";
+
+#[test]
+fn what_is_told_where_nobody_watches_comes_to_nobody(rt: HostRuntime) -> Result<(), Fail> {
+    posts_as(&rt, rt.alloc(), NOBODY, "")?;
+    Ok(())
+}
+
+/// c4 tells me, and doesn't watch. c1 hears it once, and stops. Its next life hears it no more.
+const STOPPED: &str = "3 1.1>end 5 1.1>end 35 4.1>end deliver:1 heard:1=me heard:4= deliver:2
+stop:1 heard:1= deliver:1 restart:1 deliver:1 heard:1=
+|slot1 a1 a2! slot1 a3 a4 a5 a6 a7 a8 a9! slot1 a10 a11! heard nothing
+stopped nothing restarted nothing
+|3 ok;5 ok;35 ok";
+
+#[test]
+fn a_stopped_life_hears_nothing_and_its_next_one_nothing_of_its(
+    rt: HostRuntime,
+) -> Result<(), Fail> {
+    posts_as(&rt, rt.alloc(), STOPPED, "1 c4.0>c1.0 a1 me")?;
+    Ok(())
+}
+
+/// Line 31 is told, and line 5 is in the middle of its pieces: neither waits for the other.
+const BESIDE: &str = "3 1.1>end 5 1.1*6 31 1.2>end 1.1>end
+|slot1 a1 a2! slot1 a3 a4 a5 a6 a7 a8 slot2 a9 a10! a11!
+|3 ok;31 ok;5 ok";
+
+#[test]
+fn a_tell_waits_for_no_write(rt: HostRuntime) -> Result<(), Fail> {
+    goes_as(&rt, rt.alloc(), BESIDE)?;
+    Ok(())
+}
