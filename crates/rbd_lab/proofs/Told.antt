@@ -2,6 +2,7 @@
 use Rattle.std.proofs.Common.{◌≡◌, ℕ, List, ap, ◌∙◌}
 use Rattle.rbd_flat.specs.declared.entry.Entry.{Entry}
 use Rattle.rbd_kinds.specs.declared.id.SiteId.TheVariants.{A, B}
+use Rattle.rbd_replies.proofs.AtPlaces.{fences_hold, locks_hold}
 use Rattle.rbd_replies.proofs.Worlds.{told_in_world}
 use Rattle.rbd_schedule.specs.InOrder.{AreInOrder}
 use Rattle.rbd_schedule.specs.Playing.{IsPlay, IsPlayable}
@@ -20,6 +21,8 @@ told mode script w playable in_order play history a b of_history of_a of_b text 
   world = w;
   play = play;
   replies = told_in_world stands w play.sound;
+  fences = fences_hold play.sound.homes play.sound.run play.sound.right;
+  locks = locks_hold play.sound.homes play.sound.run play.sound.right;
   turns = play_takes_turns stands script w play in_order;
   ends = plays_rest stands script w play;
   tells =

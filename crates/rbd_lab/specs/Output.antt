@@ -5,6 +5,7 @@ use Rattle.rbd_admin.specs.declared.create.CreateRequest.{CreateRequest}
 use Rattle.rbd_flat.specs.declared.entry.Entry.{Entry}
 use Rattle.rbd_kinds.specs.declared.id.SiteId.TheVariants.{A, B}
 use Rattle.rbd_machine.specs.Plan.{Standing, without_labels}
+use Rattle.rbd_replies.specs.Fenced.{AtEachOperation, IsStoppedByTheFence, IsTheOwners}
 use Rattle.rbd_replies.specs.Worlds.{IsToldIn}
 use Rattle.rbd_requests.specs.Session.{stands_of}
 use Rattle.rbd_requests.specs.declared.request.SessionRequest.{SessionRequest}
@@ -34,15 +35,19 @@ told_text Trace script history a b = trace_text script history a b
 abbrev pub text_of : Mode → Script → WorldView Requests → List ℕ
 text_of mode script w = told_text mode script w.history (site_in A w.sites).log (site_in B w.sites).log
 
--- The text tells a world that the script's schedule led to, from a new one on: its history, its logs
--- and its replies. Each reply in this history is the flat-copy machine's, at its place. The commands
--- of a session that wait for each other come one after another. At the end nothing goes on any more:
--- each command that was begun has its reply, or is lost, or is held up at a lock, or stands behind
--- such a one; unless all the rounds that close a script were played, more than any machine plays.
+-- The text tells a world that the script's schedule led to, from a new one on: its history, its
+-- logs and its replies. Each reply in this history is the flat-copy machine's, at its place. No
+-- operation of a fenced instance changes anything; who changes an image has its lock, and nobody
+-- loses a lock who isn't fenced. The commands of a session that wait for each other come one
+-- after another. At the end nothing goes on any more: each command that was begun has its reply,
+-- or is lost, or is held up at a lock, or stands behind such a one; unless all the rounds that
+-- close a script were played, more than any machine plays.
 pub record IsTold (mode : Mode) (script : Script) (text : List ℕ) : Type 0 where
   pub world : WorldView Requests
   pub play : IsPlay stands script world
   pub replies : All (IsToldIn play.sound.run) world.history
+  pub fences : AtEachOperation IsStoppedByTheFence play.sound.run
+  pub locks : AtEachOperation IsTheOwners play.sound.run
   pub turns : (session : ℕ) → AreInTurn (given_in script.lines session) world.history
   pub ends : HasCalmed stands script world ⊎ IsSpent stands script world play
   pub tells : text ≡ text_of mode script world

@@ -1,3 +1,4 @@
+pub mod AtPlaces
 pub mod ChangesDone
 pub mod Fencing
 pub mod HeadersShown

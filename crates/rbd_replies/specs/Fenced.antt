@@ -1,8 +1,13 @@
--- What an operation of a fenced client does: nothing.
-use Rattle.std.specs.Prelude.{◌≡◌, List, ◌∷◌, Option, None}
+-- What an operation of a fenced client does, which is nothing; and whose changes are.
+use Rattle.std.specs.Prelude.{◌≡◌, ℕ, true, List, [], ◌∷◌, Option, None}
 use Rattle.rbd_kinds.specs.declared.answer.Answer.TheVariants as answer
+use Rattle.rbd_kinds.specs.declared.header_op.HeaderOp.TheVariants as header
+use Rattle.rbd_kinds.specs.declared.id.Instance.{Instance}
 use Rattle.rbd_kinds.specs.declared.id.SiteId.{SiteId}
+use Rattle.rbd_kinds.specs.declared.operation.Op.TheVariants as op
 use Rattle.rbd_kinds.specs.declared.reply.Reply.{Reply}
+use Rattle.rbd_site.specs.Step.{is_fenced}
+use Rattle.rbd_stands.specs.Owned.{HasLock, changes_image, was_done}
 use Rattle.rbd_world.specs.Run.{Happening, Did, Operation, flat_after, mail_of, records_after}
 
 -- It is answered so, has no effect, and leaves the flat sites, the records of both sites and the
@@ -13,3 +18,20 @@ pub record ChangesNothing (o : Operation) (reply : Option Reply) (before : List 
   pub flat : (s : SiteId) → flat_after s (Did o reply ∷ before) ≡ flat_after s before
   pub records : (s : SiteId) → records_after s (Did o reply ∷ before) ≡ records_after s before
   pub mail : mail_of (Did o reply ∷ before) ≡ mail_of before
+
+-- It is nothing where its instance is fenced at its site.
+abbrev pub IsStoppedByTheFence : Operation → Option Reply → List Happening → Type 0
+IsStoppedByTheFence o reply before = is_fenced (records_after o.site before) o.instance ≡ true → ChangesNothing o reply before
+
+-- Who changes an image has its lock, by its header; and a lock is broken only where its owner is
+-- fenced.
+pub record IsTheOwners (o : Operation) (reply : Option Reply) (before : List Happening) : Type 0 where
+  pub change : (image : ℕ) → changes_image image o.op ≡ true → was_done o.answer ≡ true → HasLock image o.instance (records_after o.site before)
+  pub broken : (image : ℕ) (owner : Instance) → o.op ≡ op.Header image (header.LockBreak owner) → o.answer ≡ answer.Done
+      → is_fenced (records_after o.site before) owner ≡ true
+
+-- so it is with each operation of a run, at its place
+abbrev pub AtEachOperation : (Operation → Option Reply → List Happening → Type 0) → List Happening → Type 0
+AtEachOperation Holds [] = Unit {0}
+AtEachOperation Holds (Did o reply ∷ run) = Holds o reply run × AtEachOperation Holds run
+AtEachOperation Holds (h ∷ run) = AtEachOperation Holds run

@@ -16,7 +16,7 @@ ghost use Rattle.rbd_world.specs.Sound.{IsRight, IsSoundWorld, has_ended, line_a
 ghost use Rattle.rbd_world.specs.World.{WorldView};
 ghost use Rattle.rbd_world.specs.declared.event.Call.{Call};
 ghost use Rattle.rbd_replies.specs.Bounds.{KeepsBound};
-ghost use Rattle.rbd_replies.specs.Fenced.{ChangesNothing};
+ghost use Rattle.rbd_replies.specs.Fenced.{AtEachOperation, ChangesNothing, IsStoppedByTheFence, IsTheOwners};
 ghost use Rattle.rbd_replies.specs.Home.{AreDoneAt};
 ghost use Rattle.rbd_replies.specs.Places.{Placed, effects_of, places_of};
 ghost use Rattle.rbd_replies.specs.Replies.{IsReplyOf, changes_no_image, only_shows};
@@ -159,6 +159,14 @@ pub fn changes_are_the_owners()
     ensures broken { (homes : ℕ → Site) (run : List Happening) (o : Operation) (reply : Option Reply) (image : ℕ) (owner : Who)
         → IsRight homes (Did o reply ∷ run) → o.op ≡ op.Header image (header.LockBreak owner) → o.answer ≡ answer.Done
         → is_fenced (records_after o.site run) owner ≡ true }
+{}
+
+/// So it is in each world, whatever events came: at the place of each operation, one of an instance that
+/// is fenced at its site changes nothing; and who changes an image has its lock, which nobody loses
+/// who isn't fenced.
+pub fn fences_and_locks_hold_in_worlds<R: Request>()
+    ensures fences { (w : WorldView R) (sound : IsSoundWorld R.stands w) → AtEachOperation IsStoppedByTheFence sound.run }
+    ensures locks { (w : WorldView R) (sound : IsSoundWorld R.stands w) → AtEachOperation IsTheOwners sound.run }
 {}
 
 /// The calls are the events that came, each with its outcome, one after another; and what the
