@@ -1,5 +1,5 @@
 -- A script without a form that isn't built is one that can be played.
-use Rattle.std.proofs.Common.{◌≡◌, ℕ, ◌≤◌, cond, Bool, true, false, List, [], ◌∷◌, All, length, Option, Some, None, refl, sym}
+use Rattle.std.proofs.Common.{◌≡◌, ◌≤◌, cond, Bool, true, false, List, [], ◌∷◌, All, length, Some, None, refl, sym}
 use Rattle.std.proofs.lemmas.List.Elements.{All-cons, All-nil}
 use Rattle.std.proofs.lemmas.Option.{none-some}
 use Rattle.rbd_schedule.specs.InOrder.{AreDeclared}

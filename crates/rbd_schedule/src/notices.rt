@@ -10,7 +10,6 @@
 //! A notice is passed by each session once, so that all looks together cost as much as there are
 //! notices, for each session.
 ghost use Rattle.std.specs.Prelude.{◌≡◌, ℕ, ◌+◌, ◌<◌, ◌≤◌, false, true, length, OnOk};
-ghost use Rattle.rbd_kinds.specs.declared.id.Instance.{Instance as Life};
 ghost use Rattle.rbd_requests.specs.Session.{stands_of};
 ghost use Rattle.rbd_watch.specs.Posting.{numbered};
 ghost use Rattle.rbd_schedule.specs.Deeds.{Deeds};

@@ -3,13 +3,13 @@
 //! ```text
 //! an event ── step ── is there a reply? ── start ── start ── .. ── nothing may start
 //! ```
-ghost use Rattle.std.specs.Prelude.{◌≡◌, ℕ, ◌<◌, ◌≤◌, ◌&&◌, ◌||◌, ◌==◌, ◌++◌, [], true, false, drop, length, All, slice_get, IfOk, IfSome, OnOk};
+ghost use Rattle.std.specs.Prelude.{◌≡◌, ℕ, ◌<◌, ◌≤◌, ◌&&◌, ◌||◌, ◌++◌, [], true, false, drop, length, All, slice_get, IfOk, IfSome, OnOk};
 ghost use Rattle.rbd_requests.specs.Session.{stands_of};
 ghost use Rattle.rbd_world.specs.Sound.{AreAtHome, IsNewWorld, IsSoundWorld};
 ghost use Rattle.rbd_world.specs.Step.{IsBuiltEvent, IsStep};
 ghost use Rattle.rbd_world.specs.declared.event.Event.TheVariants as of_event;
 ghost use Rattle.rbd_schedule.specs.Given.{given_by as told_by_line, loses, of_session};
-ghost use Rattle.rbd_schedule.specs.Notices.{hears, is_heard as heard_by};
+ghost use Rattle.rbd_schedule.specs.Notices.{is_heard as heard_by};
 ghost use Rattle.rbd_schedule.specs.Starts.{is_ended, to_start};
 ghost use Rattle.rbd_schedule.specs.Playing.{at_place, count_of, GoesOn, IsEmptyQueue, IsNoStart, IsPlayed, KeepsUp, StartsIf, StartsWhere, ended_by as end_of, given_to, has_line, has_number, highest_after, homes_of, is_one_of, lets_start as may_start_by, lost_in, told_by};
 ghost use Rattle.rbd_schedule.specs.Schedule.{Comes, Happens, StartsAll};
