@@ -20,7 +20,8 @@
 //! ```
 //!
 //! [`run::run_alone`] has the contract: what is printed tells a world to which the script's
-//! schedule led, and each reply in its history is the flat-copy machine's. Reading and printing
+//! schedule led, and each reply in its history is the flat-copy machine's; no operation of a session
+//! that was fenced changes anything, and who changes an image has its lock. Reading and printing
 //! take time in proportion to the text; a command's work grows with the objects that it touches and
 //! the logarithm of their number, not with the image's size or with what was done before. The
 //! script, the objects, history, logs, events and the output lie in memory at the same time.
