@@ -15,7 +15,7 @@ use Rattle.rbd_kinds.specs.declared.operation.Op.TheVariants as op
 use Rattle.rbd_commands.specs.declared.refusal.Refusal.{Refusal}
 use Rattle.rbd_kinds.specs.Form.{IsHeaderInForm}
 use Rattle.rbd_machine.specs.Answers.{CanGive, CanBeFed}
-use Rattle.rbd_machine.specs.Knowledge.{Knowledge, Own, nothing_known, same_site, is_at, own_of, learned, passed}
+use Rattle.rbd_machine.specs.Knowledge.{Knowledge, Own, nothing_known, same_site, is_at, own_of, learned, passed, maps_owned, maps_told, unmapped}
 use Rattle.rbd_machine.specs.Label.{Label}
 use Rattle.rbd_machine.specs.Lawful.{IsLawful, known_after}
 use Rattle.rbd_machine.specs.Permits.{OwnsBy}
@@ -42,14 +42,21 @@ abbrev pub own_at : (alone : Bool) → SiteId → (image : ℕ) → HeaderView �
 own_at alone s image h = record { site = s; image = image; alone = alone; header = Some h }
 
 abbrev pub owning_known : (alone : Bool) → (turn : Option ℕ) → SiteId → (image : ℕ) → HeaderView → Knowledge
-owning_known alone turn s image h = record { alone = alone; owns = own_at alone s image h ∷ []; turn = turn; drawn = []; fenced = [] }
+owning_known alone turn s image h = record { alone = alone; owns = own_at alone s image h ∷ []; turn = turn; drawn = []; fenced = []; maps = maps_told s image unmapped [] }
 
 abbrev pub holding_known : (alone : Bool) → SiteId → (image : ℕ) → Knowledge
-holding_known alone s image = record { alone = alone; owns = record { site = s; image = image; alone = alone; header = None } ∷ []; turn = None; drawn = []; fenced = [] }
+holding_known alone s image = record { alone = alone; owns = record { site = s; image = image; alone = alone; header = None } ∷ []; turn = None; drawn = []; fenced = []; maps = [] }
 
 own_told : (alone : Bool) (s : SiteId) (image : ℕ) (h : HeaderView) → owning_known alone None s image h ≡ learned (holding_known alone s image) s (op.Header image header.Get) (answer.Header h)
 own_told alone s image h =
-    ap (λ b. record { alone = alone; owns = cond b (own_at alone s image h) (record { site = s; image = image; alone = alone; header = None }) ∷ []; turn = None; drawn = []; fenced = [] }) (sym (at_itself s image))
+    ap (λ b. record {
+      alone = alone;
+      owns = cond b (own_at alone s image h) (record { site = s; image = image; alone = alone; header = None }) ∷ [];
+      turn = None;
+      drawn = [];
+      fenced = [];
+      maps = maps_owned (cond b (Some (record { site = s; image = image; alone = alone; header = None })) None) s image [];
+    }) (sym (at_itself s image))
 
 pub own_is_found : (alone : Bool) (turn : Option ℕ) (s : SiteId) (image : ℕ) (h : HeaderView)
     → own_of (owning_known alone turn s image h).owns s image ≡ Some (own_at alone s image h)
@@ -94,7 +101,7 @@ module _ (at : Label → Knowledge) where
         lawful_on_id (learned nothing_known s (op.Directory (directory.Find name))) (joining s alone refuses act) (λ image. (
           tt,
           lawful_on_header s image (learned (passed nothing_known (wait.Join s image alone)) s (op.Header image header.Get)) (looked s refuses act image) (λ h form.
-              lawful_unless (record { alone = alone; owns = []; turn = None; drawn = []; fenced = [] }) (refuses h) (holding s refuses act image) (λ may_wait. (
+              lawful_unless (record nothing_known { alone = alone }) (refuses h) (holding s refuses act image) (λ may_wait. (
                 tt,
                 lawful_on_header s image (learned (holding_known alone s image) s (op.Header image header.Get)) (owned refuses act image) (λ own form.
                     lawful_unless (learned (holding_known alone s image) s (op.Header image header.Get) (answer.Header own)) (refuses own) (act image own) (λ may.

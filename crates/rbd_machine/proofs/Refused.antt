@@ -14,10 +14,9 @@ use Rattle.rbd_commands.specs.declared.refusal.Refusal.{Refusal}
 use Rattle.rbd_commands.specs.declared.refusal.Refusal.TheVariants as refusal
 use Rattle.rbd_kinds.specs.declared.reply.Reply.{Reply}
 use Rattle.rbd_kinds.specs.declared.reply.Reply.TheVariants as reply
-use Rattle.rbd_machine.specs.Answers.{CanGive}
 use Rattle.rbd_machine.specs.Path.{Answered, IsWalk}
 use Rattle.rbd_machine.specs.Plan.{Plan, Ask, Await, Note, Return, Goto, IsLive, settled}
-use Rattle.rbd_machine.specs.Refused.{refusal_by, only_looks, AreGiven, IsRefusedBy}
+use Rattle.rbd_machine.specs.Refused.{refusal_by, only_looks, IsGiven, AreGiven, IsRefusedBy}
 use Rattle.rbd_machine.specs.Steps.{unless, on_id, on_header, change, joining, looked, holding, owned}
 use Rattle.rbd_machine.proofs.Settled.{settled_goto}
 use Rattle.rbd_machine.proofs.Walked.{ended, jump_ends_otherwise}
@@ -38,7 +37,7 @@ module _ (refuses : HeaderView → Option Refusal) (late : Refusal → Type 0) (
   -- refused it grants a reply.
   abbrev pub IsRefusing : Bool → Plan → Type 0
   IsRefusing changed (Ask site why o next) =
-      (a : Answer) → CanGive o a
+      (a : Answer) → IsGiven o a
       → EndsRefused refuses late changed o a (next a) ⊎ ((IsLive (next a) → refusal_by refuses o a ≡ None) × IsRefusing (changed_by changed o) (next a))
   IsRefusing changed (Await wait next) = IsRefusing changed next
   IsRefusing changed (Note site image event next) = IsRefusing changed next
@@ -156,20 +155,20 @@ module _ (refuses : HeaderView → Option Refusal) (late : Refusal → Type 0) (
 
   -- ---- steps
 
-  pub refusing_find : (name : List ℕ) (next : ℕ → Plan) → ((image : ℕ) → IsRefusing false (next image)) → (a : Answer) → CanGive (op.Directory (directory.Find name)) a
+  pub refusing_find : (name : List ℕ) (next : ℕ → Plan) → ((image : ℕ) → IsRefusing false (next image)) → (a : Answer) → IsGiven (op.Directory (directory.Find name)) a
       → Answers false (op.Directory (directory.Find name)) a (on_id next a)
   refusing_find name next goes_on (answer.Id image) can = inr (λ live. refl, goes_on image)
   refusing_find name next goes_on answer.Absent can = inl (record { why = refusal.NoImage; is = refl; ends = refl; comes = λ was. cc })
   refusing_find name next goes_on answer.Fenced can = inl (record { why = refusal.Fenced; is = refl; ends = refl; comes = λ was. cc })
-  refusing_find name next goes_on _ can = let no = can.word in cc
+  refusing_find name next goes_on _ can = let no = can.can.word in cc
 
   pub refusing_look : (image : ℕ) (next : HeaderView → Plan)
       → ((h : HeaderView) → Answers false (op.Header image header.Get) (answer.Header h) (next h))
-      → (a : Answer) → CanGive (op.Header image header.Get) a → Answers false (op.Header image header.Get) a (on_header next a)
+      → (a : Answer) → IsGiven (op.Header image header.Get) a → Answers false (op.Header image header.Get) a (on_header next a)
   refusing_look image next goes_on (answer.Header h) can = goes_on h
   refusing_look image next goes_on answer.Absent can = inl (record { why = refusal.NoImage; is = refl; ends = refl; comes = λ was. cc })
   refusing_look image next goes_on answer.Fenced can = inl (record { why = refusal.Fenced; is = refl; ends = refl; comes = λ was. cc })
-  refusing_look image next goes_on _ can = let no = can.word in cc
+  refusing_look image next goes_on _ can = let no = can.can.word in cc
 
   pub refusing_header : (image : ℕ) (h : HeaderView) (r : Option Refusal) (next : Plan) → refuses h ≡ r → (refuses h ≡ None → IsRefusing false next)
       → Answers false (op.Header image header.Get) (answer.Header h) (unless r next)

@@ -1,6 +1,6 @@
 -- What a request knows: what its operations were answered, and what it waited for. It names no
 -- site's state.
-use Rattle.std.specs.Prelude.{ℕ, ◌==◌, ◌&&◌, Bool, true, false, not, if◌then◌else◌, List, [], ◌∷◌, map, filter, Option, Some, None, option_map}
+use Rattle.std.specs.Prelude.{ℕ, ◌*◌, ◌==◌, ◌&&◌, Bool, true, false, not, if◌then◌else◌, List, [], ◌∷◌, length, map, filter, slice_set, Option, Some, None, option_map}
 use Rattle.rbd_kinds.specs.declared.answer.Answer.{Answer}
 use Rattle.rbd_kinds.specs.declared.answer.Answer.TheVariants as answer
 use Rattle.rbd_kinds.specs.declared.directory_op.DirectoryOp.{DirectoryOp}
@@ -11,10 +11,13 @@ use Rattle.rbd_kinds.specs.declared.header_op.HeaderOp.TheVariants as header
 use Rattle.rbd_kinds.specs.declared.id.Instance.{Instance}
 use Rattle.rbd_kinds.specs.declared.id.SiteId.{SiteId}
 use Rattle.rbd_kinds.specs.declared.id.SiteId.TheVariants as site
+use Rattle.rbd_kinds.specs.declared.map_op.MapOp.{MapOp}
+use Rattle.rbd_kinds.specs.declared.map_op.MapOp.TheVariants as states
 use Rattle.rbd_kinds.specs.declared.operation.Op.{Op}
 use Rattle.rbd_kinds.specs.declared.operation.Op.TheVariants as op
 pub use Rattle.rbd_kinds.specs.Images.{is_at, same_site}
 use Rattle.rbd_header.specs.Header.{with_snap, without_snap}
+use Rattle.rbd_map.specs.States.{states_of}
 use Rattle.rbd_machine.specs.Wait.{Wait}
 use Rattle.rbd_machine.specs.Wait as wait
 
@@ -31,6 +34,26 @@ pub record Own : Type 0 where
   pub alone : Bool
   pub header : Option HeaderView
 
+-- The state of an object at a view, the head (None) or a snapshot, that isn't 0: this request set it.
+pub record Mark : Type 0 where
+  pub view : Option ℕ
+  pub object : ℕ
+
+-- What is known of an image's object maps, by what it was told of them and its own changes since.
+pub record MapsKnown : Type 0 where
+  pub raised : List Mark
+  -- the states of the head's map, and some zeros behind them
+  pub states : Option (List ℕ)
+  -- the head's map is there, and has so many objects at least
+  pub count : Option ℕ
+  -- the snapshot whose map has the head's states
+  pub put : Option ℕ
+
+pub record ImageMaps : Type 0 where
+  pub site : SiteId
+  pub image : ℕ
+  pub known : MapsKnown
+
 -- an instance that it put into a site's blocklist
 pub record Fence : Type 0 where
   pub site : SiteId
@@ -46,9 +69,11 @@ pub record Knowledge : Type 0 where
   pub drawn : List Place
   -- instances that it fenced, and whose lock it didn't break yet
   pub fenced : List Fence
+  -- of images that it drew or owns, the latest first
+  pub maps : List ImageMaps
 
 abbrev pub nothing_known : Knowledge
-nothing_known = record { alone = false; owns = []; turn = None; drawn = []; fenced = [] }
+nothing_known = record { alone = false; owns = []; turn = None; drawn = []; fenced = []; maps = [] }
 
 -- ---- where
 
@@ -59,6 +84,13 @@ own_of (o ∷ owns) site image = if is_at site image o.site o.image then Some o 
 abbrev pub is_drawn : List Place → SiteId → (image : ℕ) → Bool
 is_drawn [] site image = false
 is_drawn (d ∷ drawn) site image = if is_at site image d.site d.image then true else is_drawn drawn site image
+
+abbrev pub unmapped : MapsKnown
+unmapped = record { raised = []; states = None; count = None; put = None }
+
+abbrev pub maps_of : List ImageMaps → SiteId → (image : ℕ) → MapsKnown
+maps_of [] site image = unmapped
+maps_of (m ∷ maps) site image = if is_at site image m.site m.image then m.known else maps_of maps site image
 
 -- ---- who
 
@@ -74,6 +106,22 @@ is_fenced_by [] site i = false
 is_fenced_by (f ∷ fenced) site i = if is_fence_of site i f then true else is_fenced_by fenced site i
 
 -- ---- what an answer teaches
+
+-- what is known of an image's maps from now on
+abbrev pub maps_told : SiteId → (image : ℕ) → MapsKnown → List ImageMaps → List ImageMaps
+maps_told site image m maps = record { site = site; image = image; known = m } ∷ maps
+
+-- What it was told of an image's maps before its first look behind the lock is forgotten.
+abbrev pub maps_looked : (header : Option HeaderView) → SiteId → (image : ℕ) → List ImageMaps → List ImageMaps
+maps_looked None site image maps = maps_told site image unmapped maps
+maps_looked (Some h) site image maps = maps
+
+abbrev pub maps_owned : Option Own → SiteId → (image : ℕ) → List ImageMaps → List ImageMaps
+maps_owned None site image maps = maps
+maps_owned (Some o) site image maps = maps_looked o.header site image maps
+
+abbrev pub looked_behind : SiteId → (image : ℕ) → Knowledge → Knowledge
+looked_behind site image k = record k { maps = maps_owned (own_of k.owns site image) site image k.maps }
 
 -- The first look behind the lock tells the header. Later ones tell nothing new.
 abbrev pub first_told : HeaderView → Option HeaderView → Option HeaderView
@@ -93,7 +141,7 @@ abbrev pub without_drawn : SiteId → (image : ℕ) → Knowledge → Knowledge
 without_drawn site image k = record k { drawn = filter (λ d. not (is_at site image d.site d.image)) k.drawn }
 
 abbrev pub with_drawn : SiteId → (image : ℕ) → Knowledge → Knowledge
-with_drawn site image k = record k { drawn = record { site = site; image = image } ∷ k.drawn }
+with_drawn site image k = record k { drawn = record { site = site; image = image } ∷ k.drawn; maps = maps_told site image unmapped k.maps }
 
 abbrev pub with_fence : SiteId → Instance → Knowledge → Knowledge
 with_fence site i k = record k { fenced = record { site = site; instance = i } ∷ k.fenced }
@@ -108,6 +156,41 @@ unfenced site i (f ∷ fenced) = if is_fence_of site i f then fenced else f ∷ 
 abbrev pub without_fence : SiteId → Instance → Knowledge → Knowledge
 without_fence site i k = record k { fenced = unfenced site i k.fenced }
 
+abbrev pub with_maps : SiteId → (image : ℕ) → (MapsKnown → MapsKnown) → Knowledge → Knowledge
+with_maps site image change k = record k { maps = maps_told site image (change (maps_of k.maps site image)) k.maps }
+
+abbrev pub is_mark : Option ℕ → (object : ℕ) → Mark → Bool
+is_mark view object m = same_view m.view view && (m.object == object)
+  where
+    same_view : Option ℕ → Option ℕ → Bool
+    same_view None None = true
+    same_view (Some t) (Some s) = t == s
+    same_view _ _ = false
+
+abbrev pub is_raised : Option ℕ → (object : ℕ) → List Mark → Bool
+is_raised view object [] = false
+is_raised view object (m ∷ raised) = if is_mark view object m then true else is_raised view object raised
+
+-- A state other than 0 is kept in mind, and one that is set to 0 forgotten.
+abbrev pub marked : Option ℕ → (object state : ℕ) → List Mark → List Mark
+marked view object state raised =
+    if state == 0 then filter (λ m. not (is_mark view object m)) raised else record { view = view; object = object } ∷ raised
+
+abbrev pub states_set : Option ℕ → (object state : ℕ) → Option (List ℕ) → Option (List ℕ)
+states_set None object state known = option_map (λ states. slice_set states object state) known
+states_set (Some snap) object state known = known
+
+-- The states of the head are told in bits, four objects a byte. A map that was lengthened has other
+-- zeros behind its states, and one whose states changed isn't a snapshot's any more.
+abbrev pub learned_of_map : Knowledge → SiteId → (image : ℕ) → MapOp → Answer → Knowledge
+learned_of_map k site image (states.Resize count) answer.Done = with_maps site image (λ m. record { raised = m.raised; states = None; count = Some count; put = None }) k
+learned_of_map k site image (states.Get None) (answer.Bits bits) = with_maps site image (λ m. record m { states = Some (states_of bits (4 * length bits)) }) k
+learned_of_map k site image (states.Put (Some snap) bits) answer.Done = with_maps site image (λ m. record m { put = Some snap }) k
+learned_of_map k site image (states.Set view object state) answer.Done =
+    with_maps site image (λ m. record { raised = marked view object state m.raised; states = states_set view object state m.states; count = m.count; put = None }) k
+learned_of_map k site image (states.Remove view) answer.Done = with_maps site image (λ m. unmapped) k
+learned_of_map k site image _ _ = k
+
 abbrev pub learned_of_listing : Knowledge → SiteId → Instance → Answer → Knowledge
 learned_of_listing k site i answer.Done = with_fence site i k
 learned_of_listing k site i _ = k
@@ -117,7 +200,7 @@ learned_of_directory k site (directory.Add name) (answer.Id image) = with_drawn 
 learned_of_directory k site _ _ = k
 
 abbrev pub learned_of_header : Knowledge → SiteId → (image : ℕ) → HeaderOp → Answer → Knowledge
-learned_of_header k site image header.Get (answer.Header h) = header_told site image (first_told h) k
+learned_of_header k site image header.Get (answer.Header h) = header_told site image (first_told h) (looked_behind site image k)
 learned_of_header k site image (header.Create view) answer.Done = without_drawn site image k
 learned_of_header k site image (header.SnapAdd name) (answer.Snap snap) = header_told site image (option_map (with_snap name)) k
 learned_of_header k site image (header.SnapRemove snap) answer.Done = header_told site image (option_map (without_snap snap)) k
@@ -130,6 +213,7 @@ abbrev pub learned : Knowledge → SiteId → Op → Answer → Knowledge
 learned k site (op.Directory o) a = learned_of_directory k site o a
 learned k site (op.Header image o) a = learned_of_header k site image o a
 learned k site (op.BlockAdd instance) a = learned_of_listing k site instance a
+learned k site (op.Map image o) a = learned_of_map k site image o a
 learned k site _ a = k
 
 -- ---- what a wait teaches
@@ -141,10 +225,17 @@ left site image owns = filter (λ o. not (is_at site image o.site o.image)) owns
 abbrev pub held : Knowledge → SiteId → (image : ℕ) → List Own
 held k site image = record { site = site; image = image; alone = k.alone; header = None } ∷ left site image k.owns
 
--- What is known once it may go on. A turn lasts up to the next, or up to the end of its event.
+abbrev pub unmark : ImageMaps → ImageMaps
+unmark m = record m { known = record m.known { raised = [] } }
+
+abbrev pub unmarked : List ImageMaps → List ImageMaps
+unmarked = map unmark
+
+-- What is known once it may go on. A turn lasts up to the next, or up to the end of its event, and
+-- the marks that were made in it as long: another request may lower a state in its own turn.
 abbrev pub passed : Knowledge → Wait → Knowledge
 passed k (wait.Join site image alone) = record k { alone = alone }
 passed k (wait.Hold site image) = record k { owns = held k site image }
-passed k (wait.Turn object) = record k { turn = Some object }
-passed k (wait.Applied site image) = record k { turn = None }
+passed k (wait.Turn object) = record k { turn = Some object; maps = unmarked k.maps }
+passed k (wait.Applied site image) = record k { turn = None; maps = unmarked k.maps }
 passed k (wait.Leave site image) = record k { owns = left site image k.owns }

@@ -1,7 +1,7 @@
 -- What a request may do by what it knows. An operation that no request does yet isn't permitted:
--- its row comes with the first request that does it. No image has a parent, a journal or a map yet,
--- so nothing is said of these either.
-use Rattle.std.specs.Prelude.{◌≡◌, ℕ, ◌+◌, ◌≤◌, Bool, true, false, List, All, length, Option, Some, None}
+-- its row comes with the first request that does it. No image has a parent or a journal yet, so
+-- nothing is said of these either.
+use Rattle.std.specs.Prelude.{◌≡◌, ℕ, ◌+◌, ◌*◌, ◌^◌, ◌<◌, ◌≤◌, Bool, true, false, List, All, length, Option, Some, None}
 use Rattle.rbd_kinds.specs.declared.data_op.DataOp.{DataOp}
 use Rattle.rbd_kinds.specs.declared.data_op.DataOp.TheVariants as object
 use Rattle.rbd_kinds.specs.declared.directory_op.DirectoryOp.{DirectoryOp}
@@ -13,15 +13,21 @@ use Rattle.rbd_kinds.specs.declared.header.SnapView.{SnapView}
 use Rattle.rbd_kinds.specs.declared.header_op.HeaderOp.{HeaderOp}
 use Rattle.rbd_kinds.specs.declared.header_op.HeaderOp.TheVariants as header
 use Rattle.rbd_kinds.specs.declared.id.SiteId.{SiteId}
+use Rattle.rbd_kinds.specs.declared.layout.Layout.{Layout}
 use Rattle.rbd_kinds.specs.declared.layout.Part.{Part}
+use Rattle.rbd_kinds.specs.declared.map_op.MapOp.{MapOp}
+use Rattle.rbd_kinds.specs.declared.map_op.MapOp.TheVariants as states
 use Rattle.rbd_kinds.specs.declared.operation.Op.{Op}
 use Rattle.rbd_kinds.specs.declared.operation.Op.TheVariants as op
 use Rattle.rbd_kinds.specs.Form.{IsNewHeader}
 use Rattle.rbd_kinds.specs.Header.{snap_named}
 use Rattle.rbd_kinds.specs.Parts.{parts_len}
+use Rattle.rbd_kinds.specs.States.{HoldStates}
+use Rattle.rbd_kinds.specs.Striping.{object_of}
 use Rattle.rbd_header.specs.Header.{context_of, is_full, snap_in}
 use Rattle.rbd_layout.specs.Pieces.{IsPart}
-use Rattle.rbd_machine.specs.Knowledge.{Knowledge, own_of, is_drawn, is_fenced_by}
+use Rattle.rbd_map.specs.States.{states_of}
+use Rattle.rbd_machine.specs.Knowledge.{Knowledge, MapsKnown, own_of, is_drawn, is_fenced_by, is_raised, maps_of}
 
 -- It has the image's lock, and by its own look, with its own changes since, the header meets a
 -- condition.
@@ -35,19 +41,45 @@ pub record OwnsBy (k : Knowledge) (site : SiteId) (image : ℕ) (condition : (al
 abbrev pub OwnsAlone : Knowledge → SiteId → (image : ℕ) → (HeaderView → Type 0) → Type 0
 OwnsAlone k site image condition = OwnsBy k site image (λ alone h. (alone ≡ true) × condition h)
 
+-- ---- object maps
+
+-- the objects of a size are among the first of so many
+abbrev pub HasRoomFor : Layout → (size count : ℕ) → Type 0
+HasRoomFor layout size count = (x : ℕ) → x < size → object_of layout x < count
+
+-- The head's map is known to be there, and to have each object of a size.
+pub record IsMappedFor (m : MapsKnown) (layout : Layout) (size : ℕ) : Type 0 where
+  pub count : ℕ
+  pub known : m.count ≡ Some count
+  pub room : HasRoomFor layout size count
+
+-- The id was drawn by it, so that nobody else knows the image, and the map has at most 2^20 objects.
+pub record MayMakeMap (k : Knowledge) (site : SiteId) (image count : ℕ) : Type 0 where
+  pub drawn : is_drawn k.drawn site image ≡ true
+  pub few : count ≤ 2 ^ 20
+
+-- A map of the next snapshot is put, with the states of the head that it was told.
+pub record MayPut (m : MapsKnown) (snap : ℕ) (bits : List ℕ) (h : HeaderView) : Type 0 where
+  pub next : snap ≡ h.snap_seq + 1
+  pub told : m.states ≡ Some (states_of bits (4 * length bits))
+  pub hold : HoldStates bits
+
 -- ---- headers
 
--- The id was drawn by it, and the header is a new one, with neither parent nor journal.
+-- The id was drawn by it, and the header is a new one, with neither parent nor journal. The image's
+-- map is there, and has all of its objects.
 pub record MayMake (k : Knowledge) (site : SiteId) (image : ℕ) (view : HeaderView) : Type 0 where
   pub drawn : is_drawn k.drawn site image ≡ true
   pub new : IsNewHeader view
   pub no_parent : view.parent ≡ None
   pub no_journal : view.journal ≡ false
+  pub mapped : IsMappedFor (maps_of k.maps site image) view.layout view.size
 
--- The name isn't listed, and one more snapshot can be.
-pub record MayTake (name : List ℕ) (h : HeaderView) : Type 0 where
+-- The name isn't listed, and one more snapshot can be. The snapshot's map was put.
+pub record MayTake (m : MapsKnown) (name : List ℕ) (h : HeaderView) : Type 0 where
   pub unlisted : snap_named h.snaps name ≡ None
   pub has_room : is_full h ≡ false
+  pub put : m.put ≡ Some (h.snap_seq + 1)
 
 -- The snapshot is listed, and isn't protected.
 pub record MayRemove (snap : ℕ) (h : HeaderView) : Type 0 where
@@ -74,12 +106,21 @@ pub record LiesBelow (h : HeaderView) (number : ℕ) (p : Part) : Type 0 where
   pub part : IsPart h.layout number p
   pub below : p.at + p.len ≤ h.size
 
--- Bytes are written under the snapshot context of the own header, within its size, at the turn.
-pub record MayWrite (turn : Option ℕ) (number : ℕ) (context : SnapContext) (parts : List Part) (bytes : List ℕ) (alone : Bool) (h : HeaderView) : Type 0 where
+-- Bytes are written under the snapshot context of the own header, within its size, at the turn, and
+-- behind the object's state in the head's map.
+pub record MayWrite (m : MapsKnown) (turn : Option ℕ) (number : ℕ) (context : SnapContext) (parts : List Part) (bytes : List ℕ) (alone : Bool) (h : HeaderView) : Type 0 where
   pub under : context ≡ context_of h
   pub within : All (LiesBelow h number) parts
   pub long : length bytes ≡ parts_len parts
   pub at_turn : HasTurn alone turn number
+  pub raised : is_raised None number m.raised ≡ true
+
+-- The state of an object of the size is raised in the head's map, at the turn.
+pub record MayRaise (turn : Option ℕ) (number state : ℕ) (alone : Bool) (h : HeaderView) : Type 0 where
+  pub within : (x : ℕ) × (x < h.size) × (object_of h.layout x ≡ number)
+  pub at_turn : HasTurn alone turn number
+  pub raises : 0 < state
+  pub is_state : state < 3
 
 -- ---- all operations
 
@@ -94,7 +135,7 @@ PermitsOnDirectory _ = ⊥
 abbrev pub PermitsOnHeader : Knowledge → SiteId → (image : ℕ) → HeaderOp → Type 0
 PermitsOnHeader k site image header.Get = Unit {0}
 PermitsOnHeader k site image (header.Create view) = MayMake k site image view
-PermitsOnHeader k site image (header.SnapAdd name) = OwnsAlone k site image (MayTake name)
+PermitsOnHeader k site image (header.SnapAdd name) = OwnsAlone k site image (MayTake (maps_of k.maps site image) name)
 PermitsOnHeader k site image (header.SnapRemove snap) = OwnsAlone k site image (MayRemove snap)
 PermitsOnHeader k site image header.LockTake = Unit {0}
 PermitsOnHeader k site image header.LockDrop = HoldsUnlooked k site image
@@ -107,12 +148,22 @@ PermitsOnHeader k site image _ = ⊥
 
 abbrev pub PermitsOnObject : Knowledge → SiteId → (image number : ℕ) → DataOp → Type 0
 PermitsOnObject k site image number (object.Read snap parts) = Unit {0}
-PermitsOnObject k site image number (object.Write context must parts bytes) = OwnsBy k site image (MayWrite k.turn number context parts bytes)
+PermitsOnObject k site image number (object.Write context must parts bytes) = OwnsBy k site image (MayWrite (maps_of k.maps site image) k.turn number context parts bytes)
 PermitsOnObject k site image number _ = ⊥
+
+-- The map of a snapshot is removed once the header doesn't list the snapshot.
+abbrev pub PermitsOnMap : Knowledge → SiteId → (image : ℕ) → MapOp → Type 0
+PermitsOnMap k site image (states.Resize count) = MayMakeMap k site image count
+PermitsOnMap k site image (states.Get view) = Unit {0}
+PermitsOnMap k site image (states.Put (Some snap) bits) = OwnsAlone k site image (MayPut (maps_of k.maps site image) snap bits)
+PermitsOnMap k site image (states.Set None object state) = OwnsBy k site image (MayRaise k.turn object state)
+PermitsOnMap k site image (states.Remove (Some snap)) = OwnsAlone k site image (λ h. snap_in h.snaps snap ≡ None)
+PermitsOnMap k site image _ = ⊥
 
 abbrev pub Permits : Knowledge → SiteId → Op → Type 0
 Permits k site (op.Directory o) = PermitsOnDirectory o
 Permits k site (op.Header image o) = PermitsOnHeader k site image o
 Permits k site (op.Data image number o) = PermitsOnObject k site image number o
 Permits k site (op.BlockAdd instance) = Unit {0}
+Permits k site (op.Map image o) = PermitsOnMap k site image o
 Permits k site _ = ⊥

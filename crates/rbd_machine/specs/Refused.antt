@@ -19,7 +19,8 @@ use Rattle.rbd_machine.specs.Answers.{CanGive}
 use Rattle.rbd_machine.specs.Path.{Answered}
 
 -- What an answer to an operation refuses, where a request refuses some headers: the fence refuses
--- anything, what isn't there is no image, and a new name may be held, or be one too many.
+-- anything, what isn't there is no image (a snapshot's map may be missing), and a new name may be
+-- held, or be one too many.
 abbrev pub refusal_by : (HeaderView → Option Refusal) → Op → Answer → Option Refusal
 refusal_by refuses o answer.Fenced = Some refusal.Fenced
 refusal_by refuses (op.Directory (directory.Find name)) answer.Absent = Some refusal.NoImage
@@ -27,13 +28,16 @@ refusal_by refuses (op.Directory (directory.Add name)) answer.Exists = Some refu
 refusal_by refuses (op.Directory (directory.Add name)) answer.Full = Some refusal.BadShape
 refusal_by refuses (op.Header image o) answer.Absent = Some refusal.NoImage
 refusal_by refuses (op.Header image header.Get) (answer.Header h) = refuses h
+refusal_by refuses (op.Map image (states.Get None)) answer.Absent = Some refusal.NoImage
+refusal_by refuses (op.Map image (states.Set None object state)) answer.Absent = Some refusal.NoImage
 refusal_by refuses o a = None
 
 -- a request that refuses no header
 abbrev pub refuses_none : HeaderView → Option Refusal
 refuses_none h = None
 
--- the operation changes nothing
+-- The operation changes nothing that users see: object maps say where to look, and are no part of
+-- an image.
 abbrev pub only_looks : Op → Bool
 only_looks (op.Directory (directory.Find name)) = true
 only_looks (op.Directory directory.List) = true
@@ -41,7 +45,7 @@ only_looks (op.Children (child.List parent snap)) = true
 only_looks (op.Header image header.Get) = true
 only_looks (op.Header image header.WatchersGet) = true
 only_looks (op.Data image number (object.Read snap parts)) = true
-only_looks (op.Map image (states.Get snap)) = true
+only_looks (op.Map image o) = true
 only_looks (op.Journal image (journal.Read seq)) = true
 only_looks (op.Journal image journal.Spans) = true
 only_looks _ = false
@@ -50,10 +54,21 @@ abbrev pub AreLooks : List Answered → Type 0
 AreLooks [] = Unit {0}
 AreLooks (step ∷ steps) = (only_looks step.op ≡ true) × AreLooks steps
 
--- each answer is one that its operation can give
+-- The map of a head is there as long as its image is. So who owns the image is never answered that
+-- the map in which it sets a state is missing.
+abbrev pub finds_map : Op → Answer → Bool
+finds_map (op.Map image (states.Set None object state)) answer.Absent = false
+finds_map o a = true
+
+-- what a request is answered that owns what it changes
+pub record IsGiven (o : Op) (a : Answer) : Type 0 where
+  pub can : CanGive o a
+  pub finds : finds_map o a ≡ true
+
+-- so it is with each operation and its answer
 abbrev pub AreGiven : List Answered → Type 0
 AreGiven [] = Unit {0}
-AreGiven (step ∷ steps) = CanGive step.op step.answer × AreGiven steps
+AreGiven (step ∷ steps) = IsGiven step.op step.answer × AreGiven steps
 
 -- no answer refuses
 abbrev pub AreAllowed : (HeaderView → Option Refusal) → List Answered → Type 0

@@ -4,12 +4,12 @@ ghost use Rattle.rbd_kinds.specs.declared.data_op.DataOp.TheVariants.{Write};
 ghost use Rattle.rbd_kinds.specs.declared.header.SnapContext.{SnapContext};
 ghost use Rattle.rbd_kinds.specs.declared.header.SnapStatus.TheVariants.{Unprotected};
 ghost use Rattle.rbd_kinds.specs.declared.header.SnapView.{SnapView};
-ghost use Rattle.rbd_kinds.specs.declared.header_op.HeaderOp.TheVariants.{LockBreak, LockDrop, SnapAdd, SnapRemove};
+ghost use Rattle.rbd_kinds.specs.declared.header_op.HeaderOp.TheVariants.{Create, LockBreak, LockDrop, SnapAdd, SnapRemove};
 ghost use Rattle.rbd_kinds.specs.declared.layout.Part.{Part};
 ghost use Rattle.rbd_kinds.specs.declared.operation.Op.{Op};
 ghost use Rattle.rbd_kinds.specs.declared.operation.Op.TheVariants.{BlockAdd, Data, Header};
 ghost use Rattle.rbd_header.specs.Header.{context_of, snap_in};
-ghost use Rattle.rbd_machine.specs.Knowledge.{Knowledge, is_fenced_by, learned, own_of, same_site};
+ghost use Rattle.rbd_machine.specs.Knowledge.{Knowledge, is_fenced_by, is_raised, learned, maps_of, own_of, same_site};
 ghost use Rattle.rbd_machine.specs.Permits.{Permits};
 ghost use Rattle.rbd_kinds.specs.declared.header.HeaderView.{HeaderView};
 ghost use Rattle.rbd_kinds.specs.declared.id.Instance.{Instance};
@@ -91,6 +91,17 @@ pub fn the_own_look_decides()
         → own_of k.owns site image ≡ Some (record { site = site; image = image; alone = alone; header = Some h })
         → snap_in h.snaps snap ≡ Some listed → (listed.status ≡ Unprotected → ⊥)
         → Permits k site (Header image (SnapRemove snap)) → ⊥ }
+{}
+
+/// Maps come first: bytes are written behind the state of their object, a snapshot is taken behind
+/// its map, and an image is made behind its own.
+pub fn maps_come_first()
+    ensures bytes { (k : Knowledge) (site : SiteId) (image number : ℕ) (context : SnapContext) (must : Bool) (parts : List Part) (bytes : List ℕ)
+        → is_raised None number (maps_of k.maps site image).raised ≡ false → Permits k site (Data image number (Write context must parts bytes)) → ⊥ }
+    ensures taking { (k : Knowledge) (site : SiteId) (image : ℕ) (name : List ℕ)
+        → (maps_of k.maps site image).put ≡ None → Permits k site (Header image (SnapAdd name)) → ⊥ }
+    ensures making { (k : Knowledge) (site : SiteId) (image : ℕ) (view : HeaderView)
+        → (maps_of k.maps site image).count ≡ None → Permits k site (Header image (Create view)) → ⊥ }
 {}
 
 /// A lock is broken only by one that has put its owner into the site's blocklist. It is given up

@@ -1,5 +1,5 @@
 -- Refusals that don't hold.
-use Rattle.std.proofs.Common.{◌≡◌, List, ℕ, Bool, true, false, cond, Option, Some, None, refl, subst}
+use Rattle.std.proofs.Common.{◌≡◌, List, ℕ, ◌+◌, Bool, true, false, cond, Option, Some, None, refl, subst}
 use Rattle.std.specs.Prelude.{is_some}
 use Rattle.rbd_kinds.specs.declared.header.HeaderView.{HeaderView}
 use Rattle.rbd_kinds.specs.declared.header.SnapStatus.{SnapStatus}
@@ -8,6 +8,7 @@ use Rattle.rbd_kinds.specs.declared.header.SnapView.{SnapView}
 use Rattle.rbd_commands.specs.declared.refusal.Refusal.TheVariants as refusal
 use Rattle.rbd_kinds.specs.Header.{snap_named}
 use Rattle.rbd_header.specs.Header.{is_full}
+use Rattle.rbd_machine.specs.Knowledge.{MapsKnown}
 use Rattle.rbd_machine.specs.Permits.{MayTake}
 use Rattle.rbd_machine.specs.Steps.{non_primary}
 use Rattle.rbd_machine.proofs.Lawful.{or_else_none}
@@ -18,11 +19,15 @@ unlisted None false none = (refl, refl)
 unlisted None true none = cc
 unlisted (Some s) full none = cc
 
--- a snapshot may be taken of a header that doesn't refuse it
-pub may_take : (snap : List ℕ) (h : HeaderView) → create_refuses snap h ≡ None → MayTake snap h
-may_take snap h none =
-    let are = unlisted (snap_named h.snaps snap) (is_full h) (or_else_none (non_primary h.role) _ none) in
-    record { unlisted = are.0; has_room = are.1 }
+-- a header that doesn't refuse a snapshot doesn't list its name, and has room for one more
+pub takes_one_more : (snap : List ℕ) (h : HeaderView) → create_refuses snap h ≡ None → (snap_named h.snaps snap ≡ None) × (is_full h ≡ false)
+takes_one_more snap h none = unlisted (snap_named h.snaps snap) (is_full h) (or_else_none (non_primary h.role) _ none)
+
+-- so the snapshot may be taken behind its map
+pub may_take : (m : MapsKnown) (snap : List ℕ) (h : HeaderView) → create_refuses snap h ≡ None → m.put ≡ Some (h.snap_seq + 1) → MayTake m snap h
+may_take m snap h none put =
+    let are = takes_one_more snap h none in
+    record { unlisted = are.0; has_room = are.1; put = put }
 
 pub unprotected : (s : SnapStatus) → cond (is_unprotected s) None (Some refusal.SnapProtected) ≡ None → s ≡ status.Unprotected
 unprotected status.Unprotected none = refl

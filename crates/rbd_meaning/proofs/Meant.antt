@@ -166,7 +166,7 @@ snap_create_for_nothing site name snap _ meant = absurd meant
 
 snap_remove_for_nothing : (site : SiteId) (name snap : List ℕ) (r : Reply) → SnapRemoveMeans site name snap [] r → r ≡ reply.Refused refusal.BadShape
 snap_remove_for_nothing site name snap reply.Done meant = let are = meant.are in cc
-snap_remove_for_nothing site name snap (reply.Refused x) by = absurd (refused_by_one _ _ [] x refl by.by)
+snap_remove_for_nothing site name snap (reply.Refused x) refuses = absurd (refused_by_one _ _ [] x refl refuses.refused.by)
 snap_remove_for_nothing site name snap _ meant = absurd meant
 
 close_for_nothing : (site : SiteId) (name : List ℕ) (r : Reply) → CloseMeans site name [] r → r ≡ reply.Refused refusal.BadShape
@@ -249,7 +249,7 @@ unknown_image site (command.Read image snap at len) name step is refused =
 unknown_image site (command.Info image) name step is refused = subst (Unknown site step) (named image name is) (unknown_name site image _ _ step refused)
 unknown_image site (command.SnapList image) name step is refused = subst (Unknown site step) (named image name is) (unknown_name site image _ _ step refused)
 unknown_image site (command.SnapCreate image snap) name step is refused = subst (Unknown site step) (named image name is) (unknown_name site image _ _ step refused)
-unknown_image site (command.SnapRemove image snap) name step is refused = subst (Unknown site step) (named image name is) (unknown_name site image _ _ step refused)
+unknown_image site (command.SnapRemove image snap) name step is refuses = subst (Unknown site step) (named image name is) (unknown_name site image _ _ step refuses.refused)
 unknown_image site (command.Close image) name step is refused = subst (Unknown site step) (named image name is) (unknown_name site image _ _ step refused)
 unknown_image site (command.Quiesce image) name step is refused = subst (Unknown site step) (named image name is) (unknown_name site image _ _ step refused)
 unknown_image site (command.Resume image) name step is refused = subst (Unknown site step) (named image name is) (unknown_name site image _ _ step refused)
@@ -279,4 +279,4 @@ module _ (site there : SiteId) (image : List ℕ) where
 
   pub remove_secondary_first : (snap : List ℕ) (before : List Answered) (id : ℕ) (h : HeaderView) (x : Refusal)
       → SnapRemoveMeans site image snap (before ++ looked_at there id h ∷ []) (reply.Refused x) → h.role ≡ role.Secondary → x ≡ refusal.NonPrimary
-  remove_secondary_first snap before id h x meant is = secondary_first h.role _ x (refused_at_look (remove_refuses snap) never x before there id h meant.by) is
+  remove_secondary_first snap before id h x meant is = secondary_first h.role _ x (refused_at_look (remove_refuses snap) by_fence x before there id h meant.refused.by) is

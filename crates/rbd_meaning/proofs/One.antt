@@ -32,8 +32,8 @@ use Rattle.rbd_meaning.specs.Listings.{listed, shown_snaps, ListMeans, InfoMeans
 use Rattle.rbd_meaning.specs.Meant.{IsMeantBy}
 use Rattle.rbd_meaning.specs.Range.{extent_at}
 use Rattle.rbd_meaning.specs.Reads.{ReadMeans, ShowsAtLast, RefusedAtLast, IsPassTo, AreRead, bytes_read, view_refuses, read_refuses}
-use Rattle.rbd_meaning.specs.Snaps.{create_refuses, remove_refuses, TakesOne, RemovesOne, SnapCreateMeans, SnapRemoveMeans}
-use Rattle.rbd_meaning.specs.Writes.{write_refuses, piece_written, pieces_written, WritesWhole, RefusesWrite, WriteMeans}
+use Rattle.rbd_meaning.specs.Snaps.{create_refuses, remove_refuses, map_removed, IsGone, TakesOne, RemovesOne, RefusesRemoval, SnapCreateMeans, SnapRemoveMeans}
+use Rattle.rbd_meaning.specs.Writes.{write_refuses, state_raised, piece_written, pieces_written, WritesWhole, RefusesWrite, WriteMeans}
 use Rattle.rbd_meaning.proofs.Ends.{same_last, same_front}
 
 -- ---- replies that are granted or refused, each by what holds behind the same operations
@@ -93,7 +93,7 @@ module _ (site : SiteId) (name : List ℕ) (size : ℕ) (shape : Shape) (steps :
 
   create_apart : (r : Reply) (x : Refusal) → DoneBy (Makes site name size shape steps) r → CreateRefused x → ⊥
   create_apart reply.Done x makes (inl outside) = outside.outside makes.within
-  create_apart reply.Done x makes (inr unmade) = unrefused refuses_none by_fence steps (_ ∷ []) _ x makes.made.are refl unmade.by.by
+  create_apart reply.Done x makes (inr unmade) = unrefused refuses_none by_fence steps (_ ∷ _ ∷ []) _ x makes.made.are refl unmade.by.by
   create_apart _ x makes refused = absurd makes
 
   create_alike : (x y : Refusal) → CreateRefused x → CreateRefused y → x ≡ y
@@ -119,7 +119,7 @@ module _ (site : SiteId) (name : List ℕ) (at : ℕ) (bytes : List ℕ) where
   last_written [] image h s none = record { front = []; last = s; are = refl; none = none }
   last_written (p ∷ pieces) image h s none =
       let later = last_written pieces image h (piece_written site image h at bytes p) refl in
-      record { front = s ∷ later.front; last = later.last; are = ap (λ r. s ∷ r) later.are; none = later.none }
+      record { front = s ∷ state_raised site image p ∷ later.front; last = later.last; are = ap (λ r. s ∷ state_raised site image p ∷ r) later.are; none = later.none }
 
   module _ (steps : List Answered) where
     write_is : (r : Reply) → WriteMeans site name at bytes steps r → Is (DoneBy (WritesWhole site name at bytes steps)) (RefusesWrite site name at bytes steps) r
@@ -210,23 +210,29 @@ module _ (site : SiteId) (name snap : List ℕ) (steps : List Answered) where
   take_is _ meant = absurd meant
 
   take_apart : (r : Reply) (x : Refusal) → DoneBy (TakesOne site name snap steps) r → IsRefused site (look_up name) (create_refuses snap) never steps x → ⊥
-  take_apart reply.Done x takes refused = unrefused (create_refuses snap) never steps (_ ∷ _ ∷ _ ∷ []) _ x takes.are refl refused.by
+  take_apart reply.Done x takes refused = unrefused (create_refuses snap) never steps (_ ∷ _ ∷ _ ∷ _ ∷ _ ∷ []) _ x takes.are refl refused.by
   take_apart _ x takes refused = absurd takes
 
   one_take : (r s : Reply) → SnapCreateMeans site name snap steps r → SnapCreateMeans site name snap steps s → r ≡ s
   one_take r s one other = one_of _ _ (done_once _) take_apart (λ x y a b. refused_alike (create_refuses snap) never steps x y a.by b.by) r s (take_is r one) (take_is s other)
 
-  remove_is : (r : Reply) → SnapRemoveMeans site name snap steps r → Is (DoneBy (RemovesOne site name snap steps)) (IsRefused site (look_up name) (remove_refuses snap) never steps) r
+  remove_is : (r : Reply) → SnapRemoveMeans site name snap steps r → Is (DoneBy (RemovesOne site name snap steps)) (RefusesRemoval site name snap steps) r
   remove_is reply.Done meant = inl meant
   remove_is (reply.Refused x) refused = inr (x, refl, refused)
   remove_is _ meant = absurd meant
 
-  remove_apart : (r : Reply) (x : Refusal) → DoneBy (RemovesOne site name snap steps) r → IsRefused site (look_up name) (remove_refuses snap) never steps x → ⊥
-  remove_apart reply.Done x removes refused = unrefused (remove_refuses snap) never steps (_ ∷ _ ∷ _ ∷ []) _ x removes.are refl refused.by
+  gone_refuses_none : (image id : ℕ) (gone : Answer) → IsGone gone → refusal_by (remove_refuses snap) (map_removed site image id gone).op gone ≡ None
+  gone_refuses_none image id answer.Done is = refl
+  gone_refuses_none image id answer.Absent is = refl
+  gone_refuses_none image id _ is = absurd is
+
+  remove_apart : (r : Reply) (x : Refusal) → DoneBy (RemovesOne site name snap steps) r → RefusesRemoval site name snap steps x → ⊥
+  remove_apart reply.Done x removes refused =
+      unrefused (remove_refuses snap) by_fence steps (_ ∷ _ ∷ _ ∷ _ ∷ []) _ x removes.are (gone_refuses_none removes.image removes.listed.id removes.gone removes.is_gone) refused.refused.by
   remove_apart _ x removes refused = absurd removes
 
   one_remove : (r s : Reply) → SnapRemoveMeans site name snap steps r → SnapRemoveMeans site name snap steps s → r ≡ s
-  one_remove r s one other = one_of _ _ (done_once _) remove_apart (λ x y a b. refused_alike (remove_refuses snap) never steps x y a.by b.by) r s (remove_is r one) (remove_is s other)
+  one_remove r s one other = one_of _ _ (done_once _) remove_apart (λ x y a b. refused_alike (remove_refuses snap) by_fence steps x y a.refused.by b.refused.by) r s (remove_is r one) (remove_is s other)
 
 -- ---- close, quiesce, resume, tell
 

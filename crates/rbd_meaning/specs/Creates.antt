@@ -6,20 +6,26 @@ use Rattle.rbd_kinds.specs.declared.directory_op.DirectoryOp.TheVariants as dire
 use Rattle.rbd_kinds.specs.declared.header.HeaderView.{HeaderView}
 use Rattle.rbd_kinds.specs.declared.header_op.HeaderOp.TheVariants as header
 use Rattle.rbd_kinds.specs.declared.id.SiteId.{SiteId}
+use Rattle.rbd_kinds.specs.declared.map_op.MapOp.TheVariants as states
 use Rattle.rbd_kinds.specs.declared.operation.Op.TheVariants as op
 use Rattle.rbd_commands.specs.declared.refusal.Refusal.{Refusal}
 use Rattle.rbd_commands.specs.declared.refusal.Refusal.TheVariants as refusal
 use Rattle.rbd_kinds.specs.declared.reply.Reply.{Reply}
 use Rattle.rbd_kinds.specs.declared.reply.Reply.TheVariants as reply
+use Rattle.rbd_kinds.specs.Striping.{IsObjectCount}
 use Rattle.rbd_header.specs.Header.{new_header}
 use Rattle.rbd_layout.specs.Asked.{layout_of, KeepsLimits}
 use Rattle.rbd_machine.specs.Path.{Answered}
 use Rattle.rbd_machine.specs.Refused.{refuses_none, by_fence, IsRefused}
 
--- An id was drawn for the name, and the header of a new image was made under it.
+-- An id was drawn for the name, and a map of the image's objects and the header of a new image were
+-- made under it.
 pub record MakesOne (site : SiteId) (name : List ℕ) (h : HeaderView) (steps : List Answered) : Type 0 where
   pub image : ℕ
+  pub objects : ℕ
+  pub counted : IsObjectCount h.layout h.size objects
   pub are : steps ≡ record { site = site; op = op.Directory (directory.Add name); answer = answer.Id image }
+      ∷ record { site = site; op = op.Map image (states.Resize objects); answer = answer.Done }
       ∷ record { site = site; op = op.Header image (header.Create h); answer = answer.Done } ∷ []
 
 -- The shape is within the limits, and the image was made.
@@ -33,11 +39,12 @@ pub record IsOutside (size : ℕ) (shape : Shape) (steps : List Answered) (x : R
   pub none : steps ≡ []
   pub is : x ≡ refusal.BadShape
 
--- The shape is within them, and the last answer refused it. Before, its id was drawn at most.
+-- The shape is within them, and the last answer refused it. Before, its id was drawn and its map
+-- made at most.
 pub record IsNotMade (site : SiteId) (name : List ℕ) (size : ℕ) (shape : Shape) (steps : List Answered) (x : Refusal) : Type 0 where
   pub within : KeepsLimits (layout_of shape) size
   pub by : IsRefused site (op.Directory (directory.Add name)) refuses_none by_fence steps x
-  pub few : length steps ≤ 2
+  pub few : length steps ≤ 3
 
 abbrev pub CreateMeans : SiteId → (name : List ℕ) → (size : ℕ) → Shape → List Answered → Reply → Type 0
 CreateMeans site name size shape steps reply.Done = Makes site name size shape steps

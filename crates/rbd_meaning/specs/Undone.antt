@@ -1,4 +1,4 @@
--- Operations that changed nothing.
+-- Operations that changed nothing that users see.
 use Rattle.std.specs.Prelude.{◌≡◌, ◌⊎◌, Bool, true, false, List, [], ◌∷◌}
 use Rattle.rbd_kinds.specs.declared.answer.Answer.{Answer}
 use Rattle.rbd_kinds.specs.declared.answer.Answer.TheVariants as answer
@@ -29,6 +29,7 @@ abbrev pub ComesLate : Command → Refusal → Type 0
 ComesLate (command.Create image size shape) = by_fence
 ComesLate (command.Write image at bytes) = by_fence
 ComesLate (command.Fill image at len byte) = by_fence
+ComesLate (command.SnapRemove image snap) = by_fence
 ComesLate (command.Close image) = gone_or_fenced
 ComesLate _ = never
 

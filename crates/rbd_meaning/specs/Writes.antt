@@ -13,7 +13,7 @@ use Rattle.rbd_layout.specs.declared.types.Piece.{Piece}
 use Rattle.rbd_parts.specs.Parts.{bytes_for}
 use Rattle.rbd_header.specs.Header.{context_of}
 use Rattle.rbd_machine.specs.About.{look_up}
-use Rattle.rbd_machine.specs.Objects.{data_write}
+use Rattle.rbd_machine.specs.Objects.{data_write, map_exists}
 use Rattle.rbd_machine.specs.Path.{Answered, found, looked_at}
 use Rattle.rbd_machine.specs.Refused.{by_fence, AreLooks, IsRefused}
 use Rattle.rbd_machine.specs.Steps.{or_else, non_primary}
@@ -22,15 +22,25 @@ use Rattle.rbd_meaning.specs.Range.{extent_at, out_of_range}
 abbrev pub write_refuses : Extent → HeaderView → Option Refusal
 write_refuses e h = or_else (non_primary h.role) (out_of_range e h.size)
 
+-- the state of a piece's object was raised in the head's map
+abbrev pub state_raised : SiteId → (image : ℕ) → Piece → Answered
+state_raised site image p = record { site = site; op = map_exists image p.object; answer = answer.Done }
+
 -- a piece that was written, under the snapshot context of a header
 abbrev pub piece_written : SiteId → (image : ℕ) → HeaderView → (at : ℕ) → (bytes : List ℕ) → Piece → Answered
 piece_written site image h at bytes p =
     record { site = site; op = data_write image (context_of h) p (bytes_for p.parts at bytes); answer = answer.Done }
 
--- the pieces were written, one after another
+-- the pieces were written, one after another, each behind its object's state
 abbrev pub pieces_written : SiteId → (image : ℕ) → HeaderView → (at : ℕ) → (bytes : List ℕ) → List Piece → List Answered
 pieces_written site image h at bytes [] = []
-pieces_written site image h at bytes (p ∷ pieces) = piece_written site image h at bytes p ∷ pieces_written site image h at bytes pieces
+pieces_written site image h at bytes (p ∷ pieces) = state_raised site image p ∷ piece_written site image h at bytes p ∷ pieces_written site image h at bytes pieces
+
+-- Nothing was done for the pieces that are left, or the state of the first one's object was raised.
+abbrev pub IsBegun : SiteId → (image : ℕ) → (left : List Piece) → (begun : List Answered) → Type 0
+IsBegun site image left [] = Unit {0}
+IsBegun site image (p ∷ left) (step ∷ []) = step ≡ state_raised site image p
+IsBegun site image left begun = ⊥
 
 -- It found its image, looked at the header twice, and neither look refused it; then it wrote each
 -- piece of its extent by the second, its own, and nothing else.
@@ -43,7 +53,8 @@ pub record WritesWhole (site : SiteId) (name : List ℕ) (at : ℕ) (bytes : Lis
   pub are : steps ≡ found site name image ∷ looked_at site image first ∷ looked_at site image own
       ∷ pieces_written site image own at bytes (pieces_of own.layout (extent_at at bytes))
 
--- The same, up to some of its pieces: the first of them were written.
+-- The same, up to some of its pieces: the first of them were written, and the next one was begun at
+-- most.
 pub record WritesSome (site : SiteId) (name : List ℕ) (at : ℕ) (bytes : List ℕ) (steps : List Answered) : Type 0 where
   pub image : ℕ
   pub first : HeaderView
@@ -53,8 +64,10 @@ pub record WritesSome (site : SiteId) (name : List ℕ) (at : ℕ) (bytes : List
   pub written : List Piece
   pub left : List Piece
   pub pieces : pieces_of own.layout (extent_at at bytes) ≡ written ++ left
+  pub begun : List Answered
+  pub is_begun : IsBegun site image left begun
   pub are : steps ≡ found site name image ∷ looked_at site image first ∷ looked_at site image own
-      ∷ pieces_written site image own at bytes written
+      ∷ (pieces_written site image own at bytes written ++ begun)
 
 -- It was refused, and before had only looked, or written its first pieces.
 pub record RefusesWrite (site : SiteId) (name : List ℕ) (at : ℕ) (bytes : List ℕ) (steps : List Answered) (x : Refusal) : Type 0 where

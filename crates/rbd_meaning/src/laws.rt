@@ -37,8 +37,8 @@ pub fn nothing_is_granted_for_nothing()
     ensures { (site : SiteId) (command : Command) (reply : Reply) → IsMeantBy site command [] reply → reply ≡ Refused BadShape }
 {}
 
-/// A request that was refused has changed nothing, unless its refusal may come late: the fence's,
-/// which may come at any time, of a command that changes by more than its last operation; and of a
+/// A request that was refused has changed nothing that users see, unless its refusal may come late:
+/// the fence's, which may come at any time, of a command that does more behind a change; and of a
 /// close, that its image is gone, which its notice or the end of its watch may still find.
 pub fn refusals_change_nothing()
     ensures early { (site : SiteId) (command : Command) (steps : List Answered) (x : Refusal)

@@ -14,7 +14,9 @@
 //!                             dir-find disk       id 7
 //!                             header-get 7        header h
 //!                             header-get 7        header h
+//!                             map-set 7 0:1       done
 //!                             data-write 7.0      done
+//!                             map-set 7 1:1       done
 //!                             data-write 7.1      done              Done
 //!
 //!                             dir-find disk       id 7
@@ -26,13 +28,13 @@
 //!
 //! | command | the reply, where it isn't refused, and what it means |
 //! |---|---|
-//! | `create` | Done: the shape is within the limits, an id was drawn for the name, and a new header was made under it |
-//! | `write`, `fill` | Done: two looks, and each piece of the extent was written by the second, under its snapshot context |
+//! | `create` | Done: the shape is within the limits, an id was drawn for the name, and a map of the objects and a new header were made under it |
+//! | `write`, `fill` | Done: two looks, and each piece of the extent was written by the second, under its snapshot context, behind the state of its object |
 //! | `read` | Bytes: a pass between two looks at one generation, and what its pieces showed, in the order of the image |
 //! | `ls` | Names: those that the site told |
 //! | `info`, `snap ls` | Info, Snaps: what the header of the name's image tells |
-//! | `snap create` | Done: two looks, and the header took the snapshot |
-//! | `snap rm` | Done: two looks, and the snapshot went that the second lists under the name |
+//! | `snap create` | Done: two looks, the head's map became that of the next snapshot, and the header took the snapshot |
+//! | `snap rm` | Done: two looks, and the snapshot went that the second lists under the name, and then its map |
 //! | `close` | Done: the image's lock was dropped and its watchers were told so, or it wasn't the client's; then its watch was let go |
 //! | `quiesce` | Done: two looks, the second under the lock |
 //! | `resume` | Done: the image was found |
@@ -41,12 +43,13 @@
 //! A refusal is that of the last answer (`refusal_by` in `rbd_machine`): the first that holds
 //! there, in the order in which the command's definition names them. The operations were the
 //! command's own: it looked its name up, or drew an id for it, and the others are of the image that
-//! it was told. No answer before refused. Nothing was changed before, but where the fence refused a
-//! write, a fill, a create or a close, which may come at any time: the write had only looked, or
-//! had written its first pieces by its own look, and the create had drawn its id at most. Behind
-//! its drop a close may find that its image is gone, too. A `create` of a shape outside the limits
-//! is refused behind no operation. A read that began again is refused by its last pass, and each
-//! pass before saw another header at its end, or none.
+//! it was told. No answer before refused. Nothing that users see was changed before, but where the
+//! fence refused a write, a fill, a create, a `snap rm` or a close, which may come at any time: the
+//! write had only looked, or had written its first pieces by its own look and begun the next one at
+//! most, the create had drawn its id and made its map at most, and the `snap rm` had only looked,
+//! or had removed its snapshot. Behind its drop a close may find that its image is gone, too. A
+//! `create` of a shape outside the limits is refused behind no operation. A read that began again
+//! is refused by its last pass, and each pass before saw another header at its end, or none.
 //!
 //! No other reply is meant, and none for a command that isn't in the table, nor for a `create` with
 //! a journal.
@@ -65,10 +68,10 @@
 //!
 //! [`laws`] says that behind the same operations one reply is meant, that no reply of one kind is
 //! meant for a command of another, that nothing is done or shown for no operation, that a request
-//! which was refused has changed nothing, but where the fence refused a write, a fill or a create,
-//! or a close was fenced or found its image gone, that a name which isn't there is the command's
-//! own, that a secondary is refused as such whatever else holds there, and that what was taken
-//! wasn't listed and what was removed wasn't protected.
+//! which was refused has changed nothing that users see, but where the fence refused a write, a
+//! fill, a create or a `snap rm`, or a close was fenced or found its image gone, that a name which
+//! isn't there is the command's own, that a secondary is refused as such whatever else holds there,
+//! and that what was taken wasn't listed and what was removed wasn't protected.
 //!
 //! # A new command
 //!
