@@ -1,5 +1,5 @@
 -- The operations of requests are their own.
-use Rattle.std.proofs.Common.{ℕ, List, true, Option, Some, None, refl}
+use Rattle.std.proofs.Common.{ℕ, ◌+◌, List, true, Option, Some, None, refl}
 use Rattle.rbd_kinds.specs.declared.answer.Answer.{Answer}
 use Rattle.rbd_kinds.specs.declared.answer.Answer.TheVariants as answer
 use Rattle.rbd_commands.specs.declared.command.Command.TheVariants as command
@@ -18,22 +18,23 @@ use Rattle.rbd_machine.specs.Plan.{Plan, Return, Goto}
 use Rattle.rbd_machine.specs.Steps.{on_id, joining, applied}
 use Rattle.rbd_machine.proofs.About.{IsOfImage, GoesByImage, of_not_there, of_on_header, of_on_done, of_joining, by_on_id, are_own}
 use Rattle.rbd_meaning.specs.Snaps.{create_refuses, remove_refuses}
-use Rattle.rbd_admin.specs.Create.{on_drawn, making, drawing}
+use Rattle.rbd_admin.specs.Create.{on_drawn, making, mapping, drawing}
 use Rattle.rbd_admin.specs.Listing.{on_names, list_names, showing, show_header}
-use Rattle.rbd_admin.specs.Snap.{on_snap, take, remove_listed, remove, snap_plan}
+use Rattle.rbd_admin.specs.Snap.{on_snap, on_bits, on_gone, taking, putting, take, unmapping, remove_listed, remove, snap_plan}
 
 module _ (site : SiteId) where
   -- ---- create
 
-  by_drawn : (h : HeaderView) (a : Answer) → GoesByImage site a (on_drawn (making site h) a)
-  by_drawn h (answer.Id image) = (refl, refl, of_on_done site image (Return reply.Done) tt)
-  by_drawn h answer.Exists = tt
-  by_drawn h answer.Full = tt
-  by_drawn h answer.Fenced = tt
-  by_drawn h _ = tt
+  by_drawn : (objects : ℕ) (h : HeaderView) (a : Answer) → GoesByImage site a (on_drawn (mapping site objects h) a)
+  by_drawn objects h (answer.Id image) = (refl, refl, of_on_done site image (making site h image) (refl, refl, of_on_done site image (Return reply.Done) tt))
+  by_drawn objects h answer.Exists = tt
+  by_drawn objects h answer.Full = tt
+  by_drawn objects h answer.Fenced = tt
+  by_drawn objects h _ = tt
 
-  pub create_is_own : (name : List ℕ) (h : HeaderView) (feds : List Fed) (steps : List Answered) (last : Plan) → IsWalk Goto (drawing site name h) feds steps last → AreOwn site (op.Directory (directory.Add name)) steps
-  create_is_own name h feds steps last walk = are_own site (op.Directory (directory.Add name)) (on_drawn (making site h)) (by_drawn h) feds steps last walk
+  pub create_is_own : (name : List ℕ) (objects : ℕ) (h : HeaderView) (feds : List Fed) (steps : List Answered) (last : Plan)
+      → IsWalk Goto (drawing site name objects h) feds steps last → AreOwn site (op.Directory (directory.Add name)) steps
+  create_is_own name objects h feds steps last walk = are_own site (op.Directory (directory.Add name)) (on_drawn (mapping site objects h)) (by_drawn objects h) feds steps last walk
 
   -- ---- ls, info, snap ls
 
@@ -56,14 +57,27 @@ module _ (site : SiteId) where
   of_on_snap image (answer.Snap snap) = tt
   of_on_snap image a = of_not_there site image a
 
+  of_on_bits : (image : ℕ) (next : List ℕ → Plan) → ((bits : List ℕ) → IsOfImage site image (next bits)) → (a : Answer) → IsOfImage site image (on_bits next a)
+  of_on_bits image next of (answer.Bits bits) = of bits
+  of_on_bits image next of a = of_not_there site image a
+
+  of_on_gone : (image : ℕ) (next : Plan) → IsOfImage site image next → (a : Answer) → IsOfImage site image (on_gone next a)
+  of_on_gone image next of answer.Done = of
+  of_on_gone image next of answer.Absent = of
+  of_on_gone image next of a = of_not_there site image a
+
+  of_take : (snap : List ℕ) (image : ℕ) (h : HeaderView) → IsOfImage site image (take site snap image h)
+  of_take snap image h =
+      (refl, refl, of_on_bits image (putting site snap image (h.snap_seq + 1)) (λ bits. (refl, refl, of_on_done site image (taking site snap image) (refl, refl, of_on_snap image))))
+
   of_remove : (snap : List ℕ) (image : ℕ) (listed : Option SnapView) → IsOfImage site image (remove_listed site snap image listed)
   of_remove snap image None = tt
-  of_remove snap image (Some listed) = (refl, refl, of_on_done site image (applied site image) tt)
+  of_remove snap image (Some listed) = (refl, refl, of_on_done site image (unmapping site image listed.id) (refl, refl, of_on_gone image (applied site image) tt))
 
   pub taking_is_own : (name snap : List ℕ) (feds : List Fed) (steps : List Answered) (last : Plan) → IsWalk Goto (snap_plan site (command.SnapCreate name snap)) feds steps last → AreOwn site (look_up name) steps
   taking_is_own name snap feds steps last walk =
       let way = joining site true (create_refuses snap) (take site snap) in
-      are_own site (look_up name) (on_id way) (by_on_id site way (λ image. of_joining site image true (create_refuses snap) (take site snap) (λ h. (refl, refl, of_on_snap image)))) feds steps last walk
+      are_own site (look_up name) (on_id way) (by_on_id site way (λ image. of_joining site image true (create_refuses snap) (take site snap) (of_take snap image))) feds steps last walk
 
   pub removing_is_own : (name snap : List ℕ) (feds : List Fed) (steps : List Answered) (last : Plan) → IsWalk Goto (snap_plan site (command.SnapRemove name snap)) feds steps last → AreOwn site (look_up name) steps
   removing_is_own name snap feds steps last walk =

@@ -1,5 +1,5 @@
 -- Bounds of the plans.
-use Rattle.std.proofs.Common.{ℕ, zero, suc, List, Option, Some, None, sym, subst}
+use Rattle.std.proofs.Common.{ℕ, zero, suc, ◌+◌, List, true, Option, Some, None, sym, subst, arith}
 use Rattle.rbd_kinds.specs.declared.answer.Answer.{Answer}
 use Rattle.rbd_kinds.specs.declared.answer.Answer.TheVariants as answer
 use Rattle.rbd_commands.specs.declared.command.Command.{Command}
@@ -13,14 +13,14 @@ use Rattle.rbd_kinds.specs.Header.{snap_named}
 use Rattle.rbd_layout.specs.Asked.{layout_of, KeepsLimits}
 use Rattle.rbd_machine.specs.Plan.{Plan, Ask, Await, Note, Return, Goto}
 use Rattle.rbd_machine.specs.Path.{IsBounded}
-use Rattle.rbd_machine.proofs.Bounds.{bounded_on_id, bounded_on_header, bounded_on_done, bounded_change}
-use Rattle.rbd_admin.specs.Create.{IsCreate, IsCreatePlan, on_drawn, making, drawing}
+use Rattle.rbd_machine.proofs.Bounds.{bounded_not_there, bounded_on_id, bounded_on_header, bounded_on_done, bounded_change, bounded_more}
+use Rattle.rbd_admin.specs.Create.{IsCreate, IsCreatePlan, on_drawn, making, mapping, drawing}
 use Rattle.rbd_header.specs.Header.{new_header}
 use Rattle.rbd_admin.specs.Listing.{on_names, list_names, showing, show_header, listing_plan}
 use Rattle.rbd_machine.specs.Steps.{applied}
 use Rattle.rbd_meaning.specs.Listings.{shown_snaps}
 use Rattle.rbd_meaning.specs.Snaps.{create_refuses, remove_refuses}
-use Rattle.rbd_admin.specs.Snap.{on_snap, take, remove_listed, remove, snap_plan}
+use Rattle.rbd_admin.specs.Snap.{on_snap, on_bits, on_gone, taking, putting, take, unmapping, remove_listed, remove, snap_plan}
 
 -- ---- create
 
@@ -34,8 +34,11 @@ bounded_on_drawn next n b _ = tt
 bounded_making : (site : SiteId) (h : HeaderView) (image : ℕ) → IsBounded (making site h image) 1
 bounded_making site h image = bounded_on_done _ 0 tt
 
-bounded_drawing : (site : SiteId) (name : List ℕ) (h : HeaderView) → IsBounded (drawing site name h) 2
-bounded_drawing site name h = bounded_on_drawn (making site h) 1 (bounded_making site h)
+bounded_mapping : (site : SiteId) (objects : ℕ) (h : HeaderView) (image : ℕ) → IsBounded (mapping site objects h image) 2
+bounded_mapping site objects h image = bounded_on_done (making site h image) 1 (bounded_making site h image)
+
+bounded_drawing : (site : SiteId) (name : List ℕ) (objects : ℕ) (h : HeaderView) → IsBounded (drawing site name objects h) 3
+bounded_drawing site name objects h = bounded_on_drawn (mapping site objects h) 2 (bounded_mapping site objects h)
 
 -- a bound that doesn't fail holds
 bounded_stable : (plan : Plan) (n : ℕ) → ((IsBounded plan n → ⊥) → ⊥) → IsBounded plan n
@@ -46,14 +49,14 @@ bounded_stable (Note site image event next) n fails = bounded_stable next n fail
 bounded_stable (Return reply) n fails = tt
 bounded_stable (Goto label) n fails = tt
 
-bounded_is_create : (site : SiteId) (name : List ℕ) (size : ℕ) (shape : Shape) (plan : Plan) → IsCreate site name size shape plan → IsBounded plan 2
+bounded_is_create : (site : SiteId) (name : List ℕ) (size : ℕ) (shape : Shape) (plan : Plan) → IsCreate site name size shape plan → IsBounded plan 3
 bounded_is_create site name size shape plan is =
-    bounded_stable plan 2 (λ unbounded.
+    bounded_stable plan 3 (λ unbounded.
     let outside : KeepsLimits (layout_of shape) size → ⊥ =
-    λ keeps. unbounded (subst (λ p. IsBounded p 2) (sym (is.within keeps)) (bounded_drawing site name (new_header (layout_of shape) size))) in
-    unbounded (subst (λ p. IsBounded p 2) (sym (is.outside outside)) tt))
+    λ keeps. unbounded (subst (λ p. IsBounded p 3) (sym (is.within keeps)) (bounded_drawing site name is.objects (new_header (layout_of shape) size))) in
+    unbounded (subst (λ p. IsBounded p 3) (sym (is.outside outside)) tt))
 
-pub bounded_create : (site : SiteId) (c : Command) (plan : Plan) → IsCreatePlan site c plan → IsBounded plan 2
+pub bounded_create : (site : SiteId) (c : Command) (plan : Plan) → IsCreatePlan site c plan → IsBounded plan 3
 bounded_create site (command.Create image size shape) plan is = bounded_is_create site image size shape plan is
 bounded_create site _ plan is = absurd is
 
@@ -86,17 +89,32 @@ bounded_on_snap next n b (answer.Snap snap) = b
 bounded_on_snap next n b answer.Fenced = tt
 bounded_on_snap next n b _ = tt
 
-bounded_take : (site : SiteId) (snap : List ℕ) (image : ℕ) (h : HeaderView) → IsBounded (take site snap image h) 1
-bounded_take site snap image h = bounded_on_snap (applied site image) 0 tt
+bounded_on_bits : (next : List ℕ → Plan) (n : ℕ) → ((bits : List ℕ) → IsBounded (next bits) n) → (a : Answer) → IsBounded (on_bits next a) n
+bounded_on_bits next n b (answer.Bits bits) = b bits
+bounded_on_bits next n b a = bounded_not_there a n
 
-bounded_remove_listed : (site : SiteId) (snap : List ℕ) (image : ℕ) (listed : Option SnapView) → IsBounded (remove_listed site snap image listed) 1
+bounded_on_gone : (next : Plan) (n : ℕ) → IsBounded next n → (a : Answer) → IsBounded (on_gone next a) n
+bounded_on_gone next n b answer.Done = b
+bounded_on_gone next n b answer.Absent = b
+bounded_on_gone next n b a = bounded_not_there a n
+
+bounded_putting : (site : SiteId) (snap : List ℕ) (image next : ℕ) (bits : List ℕ) → IsBounded (putting site snap image next bits) 2
+bounded_putting site snap image next bits = bounded_on_done (taking site snap image) 1 (bounded_on_snap (applied site image) 0 tt)
+
+bounded_take : (site : SiteId) (snap : List ℕ) (image : ℕ) (h : HeaderView) → IsBounded (take site snap image h) 3
+bounded_take site snap image h = bounded_on_bits (putting site snap image (h.snap_seq + 1)) 2 (bounded_putting site snap image (h.snap_seq + 1))
+
+bounded_remove_listed : (site : SiteId) (snap : List ℕ) (image : ℕ) (listed : Option SnapView) → IsBounded (remove_listed site snap image listed) 2
 bounded_remove_listed site snap image None = tt
-bounded_remove_listed site snap image (Some listed) = bounded_on_done (applied site image) 0 tt
+bounded_remove_listed site snap image (Some listed) = bounded_on_done (unmapping site image listed.id) 1 (bounded_on_gone (applied site image) 0 tt)
 
-bounded_remove : (site : SiteId) (snap : List ℕ) (image : ℕ) (h : HeaderView) → IsBounded (remove site snap image h) 1
+bounded_remove : (site : SiteId) (snap : List ℕ) (image : ℕ) (h : HeaderView) → IsBounded (remove site snap image h) 2
 bounded_remove site snap image h = bounded_remove_listed site snap image (snap_named h.snaps snap)
 
-pub bounded_snap : (site : SiteId) (c : Command) → IsBounded (snap_plan site c) 4
-bounded_snap site (command.SnapCreate image snap) = bounded_change site (create_refuses snap) (take site snap) 1 (bounded_take site snap) image _
-bounded_snap site (command.SnapRemove image snap) = bounded_change site (remove_refuses snap) (remove site snap) 1 (bounded_remove site snap) image _
+pub bounded_removal : (site : SiteId) (image snap : List ℕ) → IsBounded (snap_plan site (command.SnapRemove image snap)) 5
+bounded_removal site image snap = bounded_change site (remove_refuses snap) (remove site snap) 2 (bounded_remove site snap) image true
+
+pub bounded_snap : (site : SiteId) (c : Command) → IsBounded (snap_plan site c) 6
+bounded_snap site (command.SnapCreate image snap) = bounded_change site (create_refuses snap) (take site snap) 3 (bounded_take site snap) image true
+bounded_snap site (command.SnapRemove image snap) = bounded_more (snap_plan site (command.SnapRemove image snap)) 5 6 (omega arith) (bounded_removal site image snap)
 bounded_snap site _ = tt

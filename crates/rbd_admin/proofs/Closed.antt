@@ -1,5 +1,5 @@
 -- The plans go to no label.
-use Rattle.std.proofs.Common.{ℕ, List, Option, Some, None, sym, subst}
+use Rattle.std.proofs.Common.{ℕ, ◌+◌, List, Option, Some, None, sym, subst}
 use Rattle.rbd_kinds.specs.declared.answer.Answer.{Answer}
 use Rattle.rbd_kinds.specs.declared.answer.Answer.TheVariants as answer
 use Rattle.rbd_commands.specs.declared.command.Command.{Command}
@@ -9,6 +9,7 @@ use Rattle.rbd_kinds.specs.declared.header.HeaderView.{HeaderView}
 use Rattle.rbd_kinds.specs.declared.header.SnapView.{SnapView}
 use Rattle.rbd_kinds.specs.declared.id.SiteId.{SiteId}
 use Rattle.rbd_kinds.specs.declared.reply.Reply.{Reply}
+use Rattle.rbd_kinds.specs.declared.reply.Reply.TheVariants as reply
 use Rattle.rbd_kinds.specs.Header.{snap_named}
 use Rattle.rbd_header.specs.Header.{new_header}
 use Rattle.rbd_layout.specs.Asked.{layout_of, KeepsLimits}
@@ -17,9 +18,9 @@ use Rattle.rbd_machine.specs.Steps.{applied}
 use Rattle.rbd_machine.proofs.Closed.{closed_not_there, closed_on_id, closed_on_header, closed_on_done, closed_change}
 use Rattle.rbd_meaning.specs.Listings.{shown_snaps}
 use Rattle.rbd_meaning.specs.Snaps.{create_refuses, remove_refuses}
-use Rattle.rbd_admin.specs.Create.{IsCreate, IsCreatePlan, on_drawn, making, drawing}
+use Rattle.rbd_admin.specs.Create.{IsCreate, IsCreatePlan, on_drawn, making, mapping, drawing}
 use Rattle.rbd_admin.specs.Listing.{on_names, showing, show_header, listing_plan}
-use Rattle.rbd_admin.specs.Snap.{on_snap, take, remove_listed, remove, snap_plan}
+use Rattle.rbd_admin.specs.Snap.{on_snap, on_bits, on_gone, taking, putting, take, unmapping, remove_listed, remove, snap_plan}
 
 -- ---- create
 
@@ -29,8 +30,8 @@ closed_on_drawn next closed answer.Exists = tt
 closed_on_drawn next closed answer.Full = tt
 closed_on_drawn next closed a = closed_not_there Goto a
 
-closed_drawing : (site : SiteId) (name : List ℕ) (h : HeaderView) → IsClosed Goto (drawing site name h)
-closed_drawing site name h = closed_on_drawn (making site h) (λ image. closed_on_done Goto _ tt)
+closed_drawing : (site : SiteId) (name : List ℕ) (objects : ℕ) (h : HeaderView) → IsClosed Goto (drawing site name objects h)
+closed_drawing site name objects h = closed_on_drawn (mapping site objects h) (λ image. closed_on_done Goto (making site h image) (closed_on_done Goto (Return reply.Done) tt))
 
 -- what doesn't fail holds
 closed_stable : (plan : Plan) → ((IsClosed Goto plan → ⊥) → ⊥) → IsClosed Goto plan
@@ -44,7 +45,7 @@ closed_is_create : (site : SiteId) (name : List ℕ) (size : ℕ) (shape : Shape
 closed_is_create site name size shape plan is =
     closed_stable plan (λ opened.
     let outside : KeepsLimits (layout_of shape) size → ⊥ =
-    λ keeps. opened (subst (IsClosed Goto) (sym (is.within keeps)) (closed_drawing site name (new_header (layout_of shape) size))) in
+    λ keeps. opened (subst (IsClosed Goto) (sym (is.within keeps)) (closed_drawing site name is.objects (new_header (layout_of shape) size))) in
     opened (subst (IsClosed Goto) (sym (is.outside outside)) tt))
 
 pub closed_create : (site : SiteId) (c : Command) (plan : Plan) → IsCreatePlan site c plan → IsClosed Goto plan
@@ -72,12 +73,24 @@ closed_on_snap : (next : Plan) → IsClosed Goto next → (a : Answer) → IsClo
 closed_on_snap next closed (answer.Snap snap) = closed
 closed_on_snap next closed a = closed_not_there Goto a
 
+closed_on_bits : (next : List ℕ → Plan) → ((bits : List ℕ) → IsClosed Goto (next bits)) → (a : Answer) → IsClosed Goto (on_bits next a)
+closed_on_bits next closed (answer.Bits bits) = closed bits
+closed_on_bits next closed a = closed_not_there Goto a
+
+closed_on_gone : (next : Plan) → IsClosed Goto next → (a : Answer) → IsClosed Goto (on_gone next a)
+closed_on_gone next closed answer.Done = closed
+closed_on_gone next closed answer.Absent = closed
+closed_on_gone next closed a = closed_not_there Goto a
+
+closed_take : (site : SiteId) (snap : List ℕ) (image : ℕ) (h : HeaderView) → IsClosed Goto (take site snap image h)
+closed_take site snap image h = closed_on_bits (putting site snap image (h.snap_seq + 1)) (λ bits. closed_on_done Goto (taking site snap image) (closed_on_snap (applied site image) tt))
+
 closed_remove_listed : (site : SiteId) (snap : List ℕ) (image : ℕ) (listed : Option SnapView) → IsClosed Goto (remove_listed site snap image listed)
 closed_remove_listed site snap image None = tt
-closed_remove_listed site snap image (Some listed) = closed_on_done Goto (applied site image) tt
+closed_remove_listed site snap image (Some listed) = closed_on_done Goto (unmapping site image listed.id) (closed_on_gone (applied site image) tt)
 
 pub closed_snap : (site : SiteId) (c : Command) → IsClosed Goto (snap_plan site c)
-closed_snap site (command.SnapCreate image snap) = closed_change Goto site image _ (create_refuses snap) (take site snap) (λ i h. closed_on_snap (applied site i) tt)
+closed_snap site (command.SnapCreate image snap) = closed_change Goto site image _ (create_refuses snap) (take site snap) (closed_take site snap)
 closed_snap site (command.SnapRemove image snap) =
     closed_change Goto site image _ (remove_refuses snap) (remove site snap) (λ i h. closed_remove_listed site snap i (snap_named h.snaps snap))
 closed_snap site _ = tt

@@ -1,6 +1,6 @@
 -- The plans do what they may.
-use Rattle.std.proofs.Common.{◌≡◌, ◌≢◌, ◌⊎◌, inl, inr, ℕ, ◌<◌, ◌≤◌, List, [], ◌∷◌, Bool, true, false, cond, eqb, Option, Some, None, refl, ap, sym, ◌∙◌, subst, arith}
-use Rattle.std.specs.Prelude.{nat_eq}
+use Rattle.std.proofs.Common.{◌≡◌, ◌≢◌, ◌⊎◌, inl, inr, ℕ, zero, suc, ◌+◌, ◌^◌, ◌<◌, ◌≤◌, List, [], ◌∷◌, Bool, true, false, cond, eqb, Option, Some, None, refl, ap, sym, ◌∙◌, subst, arith}
+use Rattle.std.specs.Prelude.{nat_eq, not, filter}
 use Rattle.std.specs.Cmp.Lexicographic.{pointwise}
 use Rattle.std.proofs.lemmas.Bool.Decides.{eqb_tells}
 use Rattle.rbd_kinds.specs.declared.answer.Answer.{Answer}
@@ -14,26 +14,30 @@ use Rattle.rbd_kinds.specs.declared.header.SnapView.{SnapView}
 use Rattle.rbd_kinds.specs.declared.header_op.HeaderOp.TheVariants as header
 use Rattle.rbd_kinds.specs.declared.id.SiteId.{SiteId}
 use Rattle.rbd_kinds.specs.declared.layout.Layout.{Layout}
+use Rattle.rbd_kinds.specs.declared.map_op.MapOp.TheVariants as states
 use Rattle.rbd_kinds.specs.declared.operation.Op.TheVariants as op
 use Rattle.rbd_kinds.specs.declared.reply.Reply.{Reply}
 use Rattle.rbd_kinds.specs.declared.reply.Reply.TheVariants as reply
 use Rattle.rbd_kinds.specs.Form.{RiseFrom, AreRising, IsHeaderInForm, IsNewHeader}
 use Rattle.rbd_kinds.specs.Header.{snap_named}
-use Rattle.rbd_header.specs.Header.{new_header, snap_in}
+use Rattle.rbd_kinds.specs.States.{HoldStates}
+use Rattle.rbd_kinds.specs.Striping.{IsObjectCount, object_of}
+use Rattle.rbd_header.specs.Header.{new_header, snap_in, without_snap}
 use Rattle.rbd_layout.specs.Asked.{layout_of, KeepsLimits}
-use Rattle.rbd_machine.specs.Knowledge.{Knowledge, nothing_known, learned, with_drawn}
+use Rattle.rbd_machine.specs.Answers.{CanGive}
+use Rattle.rbd_machine.specs.Knowledge.{Knowledge, ImageMaps, MapsKnown, nothing_known, own_of, is_drawn, learned, maps_of, maps_told, with_drawn}
 use Rattle.rbd_machine.specs.Label.{Label}
 use Rattle.rbd_machine.specs.Lawful.{IsLawful, IsLawfulRequest}
 use Rattle.rbd_machine.specs.Plan.{Plan, Return, without_labels}
 use Rattle.rbd_machine.specs.Steps.{applied, non_primary}
-use Rattle.rbd_machine.proofs.Lawful.{at_itself, or_else_none, owning_known, own_is_found, lawful_not_there, lawful_on_id, lawful_on_header, lawful_on_done, lawful_change}
+use Rattle.rbd_machine.proofs.Lawful.{at_itself, or_else_none, own_at, owning_known, own_is_found, lawful_not_there, lawful_on_id, lawful_on_header, lawful_on_done, lawful_change}
 use Rattle.rbd_meaning.specs.Listings.{shown_snaps}
 use Rattle.rbd_meaning.specs.Snaps.{removal_refusal, create_refuses, remove_refuses}
 use Rattle.rbd_meaning.proofs.Allowed.{may_take, unprotected}
 use Rattle.rbd_admin.proofs.Decided.{limits_or_not}
-use Rattle.rbd_admin.specs.Create.{IsCreate, IsCreatePlan, on_drawn, making, drawing}
+use Rattle.rbd_admin.specs.Create.{IsCreate, IsCreatePlan, on_drawn, making, mapping, drawing}
 use Rattle.rbd_admin.specs.Listing.{on_names, showing, show_header, listing_plan}
-use Rattle.rbd_admin.specs.Snap.{on_snap, take, remove_listed, remove, snap_plan}
+use Rattle.rbd_admin.specs.Snap.{on_snap, on_bits, on_gone, taking, putting, take, unmapping, remove_listed, remove, snap_plan}
 
 -- ---- snapshots by name and by id
 
@@ -65,6 +69,18 @@ named_by_id : (snaps : List SnapView) (most : ℕ) (name : List ℕ) (s : SnapVi
 named_by_id [] most name s rise is = cc
 named_by_id (u ∷ snaps) most name s rise is = (named_first u snaps name s (named_above snaps u.id most name s rise) is).1
 
+-- a snapshot that was removed isn't listed
+removed_is_unlisted : (snaps : List SnapView) (t : ℕ) → snap_in (filter (λ s. not (eqb s.id t)) snaps) t ≡ None
+removed_is_unlisted [] t = refl
+removed_is_unlisted (s ∷ snaps) t = go (removed_is_unlisted snaps t) (eqb s.id t) refl
+  where
+    later : List SnapView
+    later = filter (λ u. not (eqb u.id t)) snaps
+
+    go : snap_in later t ≡ None → (b : Bool) → eqb s.id t ≡ b → snap_in (cond (not (eqb s.id t)) (s ∷ later) later) t ≡ None
+    go none true is = ap (λ b. snap_in (cond (not b) (s ∷ later) later) t) is ∙ none
+    go none false is = ap (λ b. snap_in (cond (not b) (s ∷ later) later) t) is ∙ ap (λ b. cond b (Some s) (snap_in later t)) is ∙ none
+
 -- ---- create
 
 new_in_form : (layout : Layout) (size : ℕ) → KeepsLimits layout size → IsNewHeader (new_header layout size)
@@ -85,6 +101,46 @@ new_in_form layout size keeps = record {
   owner = refl;
 }
 
+-- what was told of an image's maps last is what is known of them
+told_first : (site : SiteId) (image : ℕ) (m : MapsKnown) (maps : List ImageMaps) → maps_of (maps_told site image m maps) site image ≡ m
+told_first site image m maps = ap (λ b. cond b m (maps_of maps site image)) (at_itself site image)
+
+-- an id was drawn
+abbrev drawn_known : SiteId → (image : ℕ) → Knowledge
+drawn_known site image = with_drawn site image nothing_known
+
+-- and its map was made
+abbrev mapped_known : SiteId → (objects image : ℕ) → Knowledge
+mapped_known site objects image = learned (drawn_known site image) site (op.Map image (states.Resize objects)) answer.Done
+
+drawn_by_it : (site : SiteId) (image : ℕ) → is_drawn (drawn_known site image).drawn site image ≡ true
+drawn_by_it site image = ap (λ b. cond b true false) (at_itself site image)
+
+few_objects : (layout : Layout) (size objects : ℕ) → KeepsLimits layout size → IsObjectCount layout size objects → objects ≤ 2 ^ 20
+few_objects layout zero objects keeps counted = subst (λ n. n ≤ 2 ^ 20) (sym (counted.none refl)) (omega arith)
+few_objects layout (suc size) objects keeps counted =
+    let last = counted.greatest (omega arith) in
+    let few : object_of layout last.0 < 2 ^ 20 = keeps.objects last.0 last.1 in
+    let count : object_of layout last.0 + 1 ≡ objects = last.2 in
+    omega (arith, few, count)
+
+-- the head's states were told
+abbrev told_known : SiteId → (image : ℕ) → HeaderView → (bits : List ℕ) → Knowledge
+told_known site image h bits = learned (owning_known true None site image h) site (op.Map image (states.Get None)) (answer.Bits bits)
+
+-- and put as the map of the next snapshot
+abbrev put_known : SiteId → (image : ℕ) → HeaderView → (bits : List ℕ) → Knowledge
+put_known site image h bits = learned (told_known site image h bits) site (op.Map image (states.Put (Some (h.snap_seq + 1)) bits)) answer.Done
+
+-- a snapshot was removed
+abbrev removed_known : SiteId → (image id : ℕ) → HeaderView → Knowledge
+removed_known site image id h = learned (owning_known true None site image h) site (op.Header image (header.SnapRemove id)) answer.Done
+
+own_is_changed : (site : SiteId) (image id : ℕ) (h : HeaderView) → own_of (removed_known site image id h).owns site image ≡ Some (own_at true site image (without_snap id h))
+own_is_changed site image id h =
+    ap (λ b. own_of (cond b (own_at true site image (without_snap id h)) (own_at true site image h) ∷ []) site image) (at_itself site image)
+    ∙ own_is_found true None site image (without_snap id h)
+
 module _ (at : Label → Knowledge) where
   lawful_on_drawn : (known : Answer → Knowledge) (next : ℕ → Plan) → ((image : ℕ) → IsLawful at (known (answer.Id image)) (next image)) → (a : Answer) → IsLawful at (known a) (on_drawn next a)
   lawful_on_drawn known next lawful (answer.Id image) = lawful image
@@ -92,23 +148,37 @@ module _ (at : Label → Knowledge) where
   lawful_on_drawn known next lawful answer.Full = tt
   lawful_on_drawn known next lawful a = lawful_not_there at (known a) a
 
-  lawful_making : (site : SiteId) (layout : Layout) (size : ℕ) → KeepsLimits layout size → (image : ℕ) → IsLawful at (with_drawn site image nothing_known) (making site (new_header layout size) image)
-  lawful_making site layout size keeps image = (
+  lawful_making : (site : SiteId) (layout : Layout) (size objects : ℕ) → KeepsLimits layout size → IsObjectCount layout size objects → (image : ℕ)
+      → IsLawful at (mapped_known site objects image) (making site (new_header layout size) image)
+  lawful_making site layout size objects keeps counted image = (
     record {
-      drawn = ap (λ b. cond b true false) (at_itself site image);
+      drawn = drawn_by_it site image;
       new = new_in_form layout size keeps;
       no_parent = refl;
       no_journal = refl;
+      mapped = record {
+        count = objects;
+        known = ap (λ (m : MapsKnown). m.count) (told_first site image _ (drawn_known site image).maps);
+        room = counted.each;
+      };
     },
-    λ a can. lawful_on_done at (learned (with_drawn site image nothing_known) site (op.Header image (header.Create (new_header layout size)))) (Return reply.Done) tt a,
+    λ a can. lawful_on_done at (learned (mapped_known site objects image) site (op.Header image (header.Create (new_header layout size)))) (Return reply.Done) tt a,
   )
 
-  lawful_drawing : (site : SiteId) (name : List ℕ) (layout : Layout) (size : ℕ) → KeepsLimits layout size → IsLawful at nothing_known (drawing site name (new_header layout size))
-  lawful_drawing site name layout size keeps =
-      (tt, λ a can. lawful_on_drawn (learned nothing_known site (op.Directory (directory.Add name))) (making site (new_header layout size)) (lawful_making site layout size keeps) a)
+  lawful_mapping : (site : SiteId) (layout : Layout) (size objects : ℕ) → KeepsLimits layout size → IsObjectCount layout size objects → (image : ℕ)
+      → IsLawful at (drawn_known site image) (mapping site objects (new_header layout size) image)
+  lawful_mapping site layout size objects keeps counted image = (
+    record { drawn = drawn_by_it site image; few = few_objects layout size objects keeps counted },
+    λ a can. lawful_on_done at (learned (drawn_known site image) site (op.Map image (states.Resize objects))) (making site (new_header layout size) image) (lawful_making site layout size objects keeps counted image) a,
+  )
+
+  lawful_drawing : (site : SiteId) (name : List ℕ) (layout : Layout) (size objects : ℕ) → KeepsLimits layout size → IsObjectCount layout size objects
+      → IsLawful at nothing_known (drawing site name objects (new_header layout size))
+  lawful_drawing site name layout size objects keeps counted =
+      (tt, λ a can. lawful_on_drawn (learned nothing_known site (op.Directory (directory.Add name))) (mapping site objects (new_header layout size)) (lawful_mapping site layout size objects keeps counted) a)
 
   lawful_within : (site : SiteId) (name : List ℕ) (size : ℕ) (shape : Shape) (plan : Plan) → IsCreate site name size shape plan → KeepsLimits (layout_of shape) size → IsLawful at nothing_known plan
-  lawful_within site name size shape plan is keeps = subst (IsLawful at nothing_known) (sym (is.within keeps)) (lawful_drawing site name (layout_of shape) size keeps)
+  lawful_within site name size shape plan is keeps = subst (IsLawful at nothing_known) (sym (is.within keeps)) (lawful_drawing site name (layout_of shape) size is.objects keeps (is.counted keeps))
 
   lawful_outside : (site : SiteId) (name : List ℕ) (size : ℕ) (shape : Shape) (plan : Plan) → IsCreate site name size shape plan → (KeepsLimits (layout_of shape) size → ⊥) → IsLawful at nothing_known plan
   lawful_outside site name size shape plan is passes = subst (IsLawful at nothing_known) (sym (is.outside passes)) tt
@@ -138,10 +208,50 @@ module _ (at : Label → Knowledge) where
   lawful_on_snap known site image (answer.Snap snap) = tt
   lawful_on_snap known site image a = lawful_not_there at (known a) a
 
+  lawful_on_bits : (known : Answer → Knowledge) (image : ℕ) (next : List ℕ → Plan) → ((bits : List ℕ) → HoldStates bits → IsLawful at (known (answer.Bits bits)) (next bits))
+      → (a : Answer) → CanGive (op.Map image (states.Get None)) a → IsLawful at (known a) (on_bits next a)
+  lawful_on_bits known image next lawful (answer.Bits bits) can = lawful bits can.form
+  lawful_on_bits known image next lawful a can = lawful_not_there at (known a) a
+
+  lawful_on_gone : (known : Answer → Knowledge) (site : SiteId) (image : ℕ) (a : Answer) → IsLawful at (known a) (on_gone (applied site image) a)
+  lawful_on_gone known site image answer.Done = tt
+  lawful_on_gone known site image answer.Absent = tt
+  lawful_on_gone known site image a = lawful_not_there at (known a) a
+
+  lawful_taking : (site : SiteId) (snap : List ℕ) (image : ℕ) (h : HeaderView) (bits : List ℕ) → create_refuses snap h ≡ None → IsLawful at (put_known site image h bits) (taking site snap image)
+  lawful_taking site snap image h bits may = (
+    record {
+      alone = true;
+      header = h;
+      is = own_is_found true None site image h;
+      meets = (refl, may_take (maps_of (put_known site image h bits).maps site image) snap h may (ap (λ (m : MapsKnown). m.put) (told_first site image _ (told_known site image h bits).maps)));
+    },
+    λ a can. lawful_on_snap (learned (put_known site image h bits) site (op.Header image (header.SnapAdd snap))) site image a,
+  )
+
+  lawful_putting : (site : SiteId) (snap : List ℕ) (image : ℕ) (h : HeaderView) (bits : List ℕ) → create_refuses snap h ≡ None → HoldStates bits
+      → IsLawful at (told_known site image h bits) (putting site snap image (h.snap_seq + 1) bits)
+  lawful_putting site snap image h bits may hold = (
+    record {
+      alone = true;
+      header = h;
+      is = own_is_found true None site image h;
+      meets = (refl, record { next = refl; told = ap (λ (m : MapsKnown). m.states) (told_first site image _ (owning_known true None site image h).maps); hold = hold });
+    },
+    λ a can. lawful_on_done at (learned (told_known site image h bits) site (op.Map image (states.Put (Some (h.snap_seq + 1)) bits))) (taking site snap image) (lawful_taking site snap image h bits may) a,
+  )
+
   lawful_take : (site : SiteId) (snap : List ℕ) (image : ℕ) (h : HeaderView) → create_refuses snap h ≡ None → IsLawful at (owning_known true None site image h) (take site snap image h)
   lawful_take site snap image h may = (
-    record { alone = true; header = h; is = own_is_found true None site image h; meets = (refl, may_take snap h may) },
-    λ a can. lawful_on_snap (learned (owning_known true None site image h) site (op.Header image (header.SnapAdd snap))) site image a,
+    tt,
+    lawful_on_bits (learned (owning_known true None site image h) site (op.Map image (states.Get None))) image (putting site snap image (h.snap_seq + 1))
+        (λ bits hold. lawful_putting site snap image h bits may hold),
+  )
+
+  lawful_unmapping : (site : SiteId) (image id : ℕ) (h : HeaderView) → IsLawful at (removed_known site image id h) (unmapping site image id)
+  lawful_unmapping site image id h = (
+    record { alone = true; header = without_snap id h; is = own_is_changed site image id h; meets = (refl, removed_is_unlisted h.snaps id) },
+    λ a can. lawful_on_gone (learned (removed_known site image id h) site (op.Map image (states.Remove (Some id)))) site image a,
   )
 
   lawful_remove_listed : (site : SiteId) (snap : List ℕ) (image : ℕ) (h : HeaderView) → IsHeaderInForm h → (listed : Option SnapView)
@@ -154,7 +264,7 @@ module _ (at : Label → Knowledge) where
       is = own_is_found true None site image h;
       meets = (refl, record { view = listed; listed = named_by_id h.snaps h.snap_seq snap listed form.rising is; unprotected = unprotected listed.status may });
     },
-    λ a can. lawful_on_done at (learned (owning_known true None site image h) site (op.Header image (header.SnapRemove listed.id))) (applied site image) tt a,
+    λ a can. lawful_on_done at (learned (owning_known true None site image h) site (op.Header image (header.SnapRemove listed.id))) (unmapping site image listed.id) (lawful_unmapping site image listed.id h) a,
   )
 
   pub lawful_snap : (site : SiteId) (c : Command) → IsLawful at nothing_known (snap_plan site c)

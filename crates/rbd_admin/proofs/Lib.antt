@@ -5,6 +5,7 @@ pub mod Decided
 pub mod Lawful
 pub mod Meant
 pub mod Looks
+pub mod Removed
 pub mod Shown
 pub mod Tells
 pub mod Changes

@@ -1,5 +1,5 @@
 -- What replies mean, command by command.
-use Rattle.std.proofs.Common.{◌≡◌, ◌⊎◌, inl, inr, ℕ, List, true, false, Option, Some, None, refl, subst}
+use Rattle.std.proofs.Common.{◌≡◌, ◌⊎◌, inl, inr, ℕ, ◌+◌, List, true, false, Option, Some, None, refl, subst}
 use Rattle.rbd_kinds.specs.declared.answer.Answer.{Answer}
 use Rattle.rbd_kinds.specs.declared.answer.Answer.TheVariants as answer
 use Rattle.rbd_commands.specs.declared.command.Command.{Command}
@@ -11,6 +11,7 @@ use Rattle.rbd_kinds.specs.declared.header.SnapView.{SnapView}
 use Rattle.rbd_kinds.specs.declared.header_op.HeaderOp.TheVariants as header
 use Rattle.rbd_kinds.specs.declared.id.SiteId.{SiteId}
 use Rattle.rbd_kinds.specs.declared.machine.Fed.{Fed}
+use Rattle.rbd_kinds.specs.declared.map_op.MapOp.TheVariants as states
 use Rattle.rbd_kinds.specs.declared.operation.Op.TheVariants as op
 use Rattle.rbd_commands.specs.declared.refusal.Refusal.TheVariants as refusal
 use Rattle.rbd_kinds.proofs.Results.{same_refusal}
@@ -19,10 +20,9 @@ use Rattle.rbd_kinds.specs.declared.reply.Reply.TheVariants as reply
 use Rattle.rbd_kinds.specs.Header.{snap_named}
 use Rattle.rbd_header.specs.Header.{new_header}
 use Rattle.rbd_layout.specs.Asked.{layout_of, KeepsLimits}
-use Rattle.rbd_machine.specs.Answers.{CanGive}
 use Rattle.rbd_machine.specs.Path.{Answered, IsWalk}
 use Rattle.rbd_machine.specs.Plan.{Plan, Return, Goto}
-use Rattle.rbd_machine.specs.Refused.{refuses_none, never, by_fence, AreGiven, IsRefusedBy}
+use Rattle.rbd_machine.specs.Refused.{refuses_none, never, by_fence, AreGiven, IsGiven, IsRefusedBy}
 use Rattle.rbd_machine.specs.Steps.{on_done, applied, non_primary}
 use Rattle.rbd_machine.proofs.Lawful.{or_else_none}
 use Rattle.rbd_machine.proofs.Refused.{IsRefusing, Answers, EndsBy, ends_by, refusing_find, refusing_look, refusing_change}
@@ -31,12 +31,13 @@ use Rattle.rbd_meaning.specs.Creates.{CreateMeans}
 use Rattle.rbd_meaning.specs.Listings.{shown_snaps, InfoMeans, SnapListMeans, ListMeans}
 use Rattle.rbd_meaning.specs.Meant.{IsMeantBy}
 use Rattle.rbd_meaning.specs.Snaps.{SnapCreateMeans, SnapRemoveMeans, removal_refusal, create_refuses, remove_refuses}
-use Rattle.rbd_admin.specs.Create.{IsCreate, IsCreatePlan, on_drawn, making, drawing}
+use Rattle.rbd_admin.specs.Create.{IsCreate, IsCreatePlan, on_drawn, making, mapping, drawing}
 use Rattle.rbd_admin.specs.Listing.{is_listing, on_names, list_names, showing, show_header, listing_plan}
-use Rattle.rbd_admin.specs.Snap.{is_snap, on_snap, take, remove_listed, remove, snap_plan}
+use Rattle.rbd_admin.specs.Snap.{is_snap, on_snap, on_bits, on_gone, taking, putting, take, unmapping, remove_listed, remove, snap_plan}
 use Rattle.rbd_admin.proofs.About.{create_is_own, list_is_own, listing_is_own, taking_is_own, removing_is_own}
 use Rattle.rbd_admin.proofs.Decided.{limits_or_not}
 use Rattle.rbd_admin.proofs.Changes.{takes_one, removes_one}
+use Rattle.rbd_admin.proofs.Removed.{removal_stops, refuses_removal}
 use Rattle.rbd_admin.proofs.Shown.{create_makes_one, create_has_few, names_are_listed, header_is_shown}
 
 -- ---- what is granted
@@ -59,26 +60,32 @@ TellsSnaps _ = ⊥
 
 -- ---- create
 
-module _ (h : HeaderView) where
-  refusing_made : (image : ℕ) (a : Answer) → CanGive (op.Header image (header.Create h)) a
+module _ (objects : ℕ) (h : HeaderView) (site : SiteId) where
+  refusing_made : (image : ℕ) (a : Answer) → IsGiven (op.Header image (header.Create h)) a
       → Answers refuses_none by_fence IsDone true (op.Header image (header.Create h)) a (on_done (Return reply.Done) a)
   refusing_made image answer.Done can = inr (λ live. refl, tt)
   refusing_made image answer.Fenced can = inl (record { why = refusal.Fenced; is = refl; ends = refl; comes = λ was. refl })
-  refusing_made image _ can = let no = can.word in cc
+  refusing_made image _ can = let no = can.can.word in cc
 
-  refusing_drawn : (site : SiteId) (name : List ℕ) (a : Answer) → CanGive (op.Directory (directory.Add name)) a
-      → Answers refuses_none by_fence IsDone false (op.Directory (directory.Add name)) a (on_drawn (making site h) a)
-  refusing_drawn site name (answer.Id image) can = inr (λ live. refl, refusing_made image)
-  refusing_drawn site name answer.Exists can = inl (record { why = refusal.ImageExists; is = refl; ends = refl; comes = λ was. cc })
-  refusing_drawn site name answer.Full can = inl (record { why = refusal.BadShape; is = refl; ends = refl; comes = λ was. cc })
-  refusing_drawn site name answer.Fenced can = inl (record { why = refusal.Fenced; is = refl; ends = refl; comes = λ was. refl })
-  refusing_drawn site name _ can = let no = can.word in cc
+  refusing_mapped : (image : ℕ) (a : Answer) → IsGiven (op.Map image (states.Resize objects)) a
+      → Answers refuses_none by_fence IsDone true (op.Map image (states.Resize objects)) a (on_done (making site h image) a)
+  refusing_mapped image answer.Done can = inr (λ live. refl, refusing_made image)
+  refusing_mapped image answer.Fenced can = inl (record { why = refusal.Fenced; is = refl; ends = refl; comes = λ was. refl })
+  refusing_mapped image _ can = let no = can.can.word in cc
+
+  refusing_drawn : (name : List ℕ) (a : Answer) → IsGiven (op.Directory (directory.Add name)) a
+      → Answers refuses_none by_fence IsDone false (op.Directory (directory.Add name)) a (on_drawn (mapping site objects h) a)
+  refusing_drawn name (answer.Id image) can = inr (λ live. refl, refusing_mapped image)
+  refusing_drawn name answer.Exists can = inl (record { why = refusal.ImageExists; is = refl; ends = refl; comes = λ was. cc })
+  refusing_drawn name answer.Full can = inl (record { why = refusal.BadShape; is = refl; ends = refl; comes = λ was. cc })
+  refusing_drawn name answer.Fenced can = inl (record { why = refusal.Fenced; is = refl; ends = refl; comes = λ was. refl })
+  refusing_drawn name _ can = let no = can.can.word in cc
 
 module _ (site : SiteId) (name : List ℕ) (size : ℕ) (shape : Shape) (plan : Plan) (is : IsCreate site name size shape plan) (feds : List Fed) (steps : List Answered) where
   create_within : (r : Reply) → AreGiven steps → KeepsLimits (layout_of shape) size → IsWalk Goto plan feds steps (Return r) → CreateMeans site name size shape steps r
   create_within r given keeps walk =
-      let made : IsWalk Goto (drawing site name (new_header (layout_of shape) size)) feds steps (Return r) = subst (λ p. IsWalk Goto p feds steps (Return r)) (is.within keeps) walk in
-      go r (ends_by refuses_none by_fence IsDone feds false (drawing site name (new_header (layout_of shape) size)) steps r (refusing_drawn (new_header (layout_of shape) size) site name) given made) walk
+      let made : IsWalk Goto (drawing site name is.objects (new_header (layout_of shape) size)) feds steps (Return r) = subst (λ p. IsWalk Goto p feds steps (Return r)) (is.within keeps) walk in
+      go r (ends_by refuses_none by_fence IsDone feds false (drawing site name is.objects (new_header (layout_of shape) size)) steps r (refusing_drawn is.objects (new_header (layout_of shape) size) site name) given made) walk
     where
       go : (r : Reply) → EndsBy refuses_none by_fence IsDone false steps r → IsWalk Goto plan feds steps (Return r) → CreateMeans site name size shape steps r
       go reply.Done ends walk = record { within = keeps; made = create_makes_one site name size shape plan feds steps is keeps walk }
@@ -86,10 +93,10 @@ module _ (site : SiteId) (name : List ℕ) (size : ℕ) (shape : Shape) (plan : 
       go (reply.Refused x) (inr (y, same, from)) walk = inr (record {
         within = keeps;
         by = record {
-          own = create_is_own site name (new_header (layout_of shape) size) feds steps (Return (reply.Refused x)) (subst (λ p. IsWalk Goto p feds steps (Return (reply.Refused x))) (is.within keeps) walk);
+          own = create_is_own site name is.objects (new_header (layout_of shape) size) feds steps (Return (reply.Refused x)) (subst (λ p. IsWalk Goto p feds steps (Return (reply.Refused x))) (is.within keeps) walk);
           by = subst (IsRefusedBy refuses_none by_fence steps) (same_refusal x y same) from.by;
         };
-        few = create_has_few site name (new_header (layout_of shape) size) x feds steps (subst (λ p. IsWalk Goto p feds steps (Return (reply.Refused x))) (is.within keeps) walk);
+        few = create_has_few site name is.objects (new_header (layout_of shape) size) x feds steps (subst (λ p. IsWalk Goto p feds steps (Return (reply.Refused x))) (is.within keeps) walk);
       })
       go _ (inl granted) walk = absurd granted
       go _ (inr (y, same, from)) walk = cc
@@ -111,11 +118,11 @@ create_means site _ plan feds steps r is given walk = absurd is
 
 -- ---- ls, info, snap ls
 
-refusing_names : (site : SiteId) (a : Answer) → CanGive (op.Directory directory.List) a
+refusing_names : (site : SiteId) (a : Answer) → IsGiven (op.Directory directory.List) a
     → Answers refuses_none never TellsNames false (op.Directory directory.List) a (on_names (λ names. Return (reply.Names names)) a)
 refusing_names site (answer.Names names) can = inr (λ live. refl, tt)
 refusing_names site answer.Fenced can = inl (record { why = refusal.Fenced; is = refl; ends = refl; comes = λ was. cc })
-refusing_names site _ can = let no = can.word in cc
+refusing_names site _ can = let no = can.can.word in cc
 
 refusing_shown : (grants : Reply → Type 0) (site : SiteId) (name : List ℕ) (shown : HeaderView → Reply) → ((h : HeaderView) → grants (shown h)) → IsRefusing refuses_none never grants false (show_header site name shown)
 refusing_shown grants site name shown granted =
@@ -165,23 +172,44 @@ listing_means site _ feds steps r is given walk = cc
 
 -- ---- snap create, snap rm
 
-refusing_taken : (snap : List ℕ) (site : SiteId) (image : ℕ) (a : Answer) → CanGive (op.Header image (header.SnapAdd snap)) a
-    → Answers (create_refuses snap) never IsDone false (op.Header image (header.SnapAdd snap)) a (on_snap (applied site image) a)
-refusing_taken snap site image (answer.Snap taken) can = inr (λ live. refl, tt)
-refusing_taken snap site image answer.Absent can = inl (record { why = refusal.NoImage; is = refl; ends = refl; comes = λ was. cc })
-refusing_taken snap site image answer.Fenced can = inl (record { why = refusal.Fenced; is = refl; ends = refl; comes = λ was. cc })
-refusing_taken snap site image _ can = let no = can.word in cc
+module _ (site : SiteId) (snap : List ℕ) (image : ℕ) where
+  refusing_taken : (a : Answer) → IsGiven (op.Header image (header.SnapAdd snap)) a
+      → Answers (create_refuses snap) never IsDone false (op.Header image (header.SnapAdd snap)) a (on_snap (applied site image) a)
+  refusing_taken (answer.Snap taken) can = inr (λ live. refl, tt)
+  refusing_taken answer.Absent can = inl (record { why = refusal.NoImage; is = refl; ends = refl; comes = λ was. cc })
+  refusing_taken answer.Fenced can = inl (record { why = refusal.Fenced; is = refl; ends = refl; comes = λ was. cc })
+  refusing_taken _ can = let no = can.can.word in cc
 
-refusing_removed : (snap : List ℕ) (site : SiteId) (image id : ℕ) (a : Answer) → CanGive (op.Header image (header.SnapRemove id)) a
-    → Answers (remove_refuses snap) never IsDone false (op.Header image (header.SnapRemove id)) a (on_done (applied site image) a)
-refusing_removed snap site image id answer.Done can = inr (λ live. refl, tt)
-refusing_removed snap site image id answer.Absent can = inl (record { why = refusal.NoImage; is = refl; ends = refl; comes = λ was. cc })
-refusing_removed snap site image id answer.Fenced can = inl (record { why = refusal.Fenced; is = refl; ends = refl; comes = λ was. cc })
-refusing_removed snap site image id _ can = let no = can.word in cc
+  refusing_put : (next : ℕ) (bits : List ℕ) (a : Answer) → IsGiven (op.Map image (states.Put (Some next) bits)) a
+      → Answers (create_refuses snap) never IsDone false (op.Map image (states.Put (Some next) bits)) a (on_done (taking site snap image) a)
+  refusing_put next bits answer.Done can = inr (λ live. refl, refusing_taken)
+  refusing_put next bits answer.Fenced can = inl (record { why = refusal.Fenced; is = refl; ends = refl; comes = λ was. cc })
+  refusing_put next bits _ can = let no = can.can.word in cc
 
-refusing_remove : (site : SiteId) (snap : List ℕ) (image : ℕ) (listed : Option SnapView) → removal_refusal listed ≡ None → IsRefusing (remove_refuses snap) never IsDone false (remove_listed site snap image listed)
-refusing_remove site snap image None may = cc
-refusing_remove site snap image (Some listed) may = refusing_removed snap site image listed.id
+  refusing_copied : (next : ℕ) (a : Answer) → IsGiven (op.Map image (states.Get None)) a
+      → Answers (create_refuses snap) never IsDone false (op.Map image (states.Get None)) a (on_bits (putting site snap image next) a)
+  refusing_copied next (answer.Bits bits) can = inr (λ live. refl, refusing_put next bits)
+  refusing_copied next answer.Absent can = inl (record { why = refusal.NoImage; is = refl; ends = refl; comes = λ was. cc })
+  refusing_copied next answer.Fenced can = inl (record { why = refusal.Fenced; is = refl; ends = refl; comes = λ was. cc })
+  refusing_copied next _ can = let no = can.can.word in cc
+
+  refusing_unmapped : (id : ℕ) (a : Answer) → IsGiven (op.Map image (states.Remove (Some id))) a
+      → Answers (remove_refuses snap) by_fence IsDone true (op.Map image (states.Remove (Some id))) a (on_gone (applied site image) a)
+  refusing_unmapped id answer.Done can = inr (λ live. refl, tt)
+  refusing_unmapped id answer.Absent can = inr (λ live. refl, tt)
+  refusing_unmapped id answer.Fenced can = inl (record { why = refusal.Fenced; is = refl; ends = refl; comes = λ was. refl })
+  refusing_unmapped id _ can = let no = can.can.word in cc
+
+  refusing_removed : (id : ℕ) (a : Answer) → IsGiven (op.Header image (header.SnapRemove id)) a
+      → Answers (remove_refuses snap) by_fence IsDone false (op.Header image (header.SnapRemove id)) a (on_done (unmapping site image id) a)
+  refusing_removed id answer.Done can = inr (λ live. refl, refusing_unmapped id)
+  refusing_removed id answer.Absent can = inl (record { why = refusal.NoImage; is = refl; ends = refl; comes = λ was. cc })
+  refusing_removed id answer.Fenced can = inl (record { why = refusal.Fenced; is = refl; ends = refl; comes = λ was. refl })
+  refusing_removed id _ can = let no = can.can.word in cc
+
+  refusing_remove : (listed : Option SnapView) → removal_refusal listed ≡ None → IsRefusing (remove_refuses snap) by_fence IsDone false (remove_listed site snap image listed)
+  refusing_remove None may = cc
+  refusing_remove (Some listed) may = refusing_removed listed.id
 
 taking_means : (site : SiteId) (image snap : List ℕ) (feds : List Fed) (steps : List Answered) (r : Reply) → EndsBy (create_refuses snap) never IsDone false steps r
     → IsWalk Goto (snap_plan site (command.SnapCreate image snap)) feds steps (Return r) → SnapCreateMeans site image snap steps r
@@ -194,14 +222,14 @@ taking_means site image snap feds steps (reply.Refused x) (inr (y, same, from)) 
 taking_means site image snap feds steps _ (inl granted) walk = absurd granted
 taking_means site image snap feds steps _ (inr (y, same, from)) walk = cc
 
-removing_means : (site : SiteId) (image snap : List ℕ) (feds : List Fed) (steps : List Answered) (r : Reply) → EndsBy (remove_refuses snap) never IsDone false steps r
+removing_means : (site : SiteId) (image snap : List ℕ) (feds : List Fed) (steps : List Answered) (r : Reply) → EndsBy (remove_refuses snap) by_fence IsDone false steps r
     → IsWalk Goto (snap_plan site (command.SnapRemove image snap)) feds steps (Return r) → SnapRemoveMeans site image snap steps r
 removing_means site image snap feds steps reply.Done ends walk = removes_one site image snap feds steps walk
 removing_means site image snap feds steps (reply.Refused x) (inl granted) walk = absurd granted
-removing_means site image snap feds steps (reply.Refused x) (inr (y, same, from)) walk = record {
-  own = removing_is_own site image snap feds steps (Return (reply.Refused x)) walk;
-  by = subst (IsRefusedBy (remove_refuses snap) never steps) (same_refusal x y same) from.by;
-}
+removing_means site image snap feds steps (reply.Refused x) (inr (y, same, from)) walk =
+    refuses_removal site image snap steps x (removing_is_own site image snap feds steps (Return (reply.Refused x)) walk)
+    (subst (IsRefusedBy (remove_refuses snap) by_fence steps) (same_refusal x y same) from.by)
+    (removal_stops x site image snap feds steps walk)
 removing_means site image snap feds steps _ (inl granted) walk = absurd granted
 removing_means site image snap feds steps _ (inr (y, same, from)) walk = cc
 
@@ -210,10 +238,10 @@ pub snap_means : (site : SiteId) (c : Command) (feds : List Fed) (steps : List A
 snap_means site (command.SnapCreate image snap) feds steps r is given walk =
     taking_means site image snap feds steps r
     (ends_by (create_refuses snap) never IsDone feds false (snap_plan site (command.SnapCreate image snap)) steps r
-    (refusing_change (create_refuses snap) never IsDone site image true (take site snap) (λ i h may. refusing_taken snap site i)) given walk) walk
+    (refusing_change (create_refuses snap) never IsDone site image true (take site snap) (λ i h may. refusing_copied site snap i (h.snap_seq + 1))) given walk) walk
 snap_means site (command.SnapRemove image snap) feds steps r is given walk =
     removing_means site image snap feds steps r
-    (ends_by (remove_refuses snap) never IsDone feds false (snap_plan site (command.SnapRemove image snap)) steps r
-    (refusing_change (remove_refuses snap) never IsDone site image true (remove site snap) (λ i h may.
+    (ends_by (remove_refuses snap) by_fence IsDone feds false (snap_plan site (command.SnapRemove image snap)) steps r
+    (refusing_change (remove_refuses snap) by_fence IsDone site image true (remove site snap) (λ i h may.
     refusing_remove site snap i (snap_named h.snaps snap) (or_else_none (non_primary h.role) _ may))) given walk) walk
 snap_means site _ feds steps r is given walk = cc

@@ -8,11 +8,14 @@ use Rattle.rbd_kinds.specs.declared.header.HeaderView.{HeaderView}
 use Rattle.rbd_kinds.specs.declared.header_op.HeaderOp.TheVariants as header
 use Rattle.rbd_kinds.specs.declared.id.SiteId.{SiteId}
 use Rattle.rbd_kinds.specs.declared.machine.Fed.{Fed}
+use Rattle.rbd_kinds.specs.declared.map_op.MapOp.TheVariants as states
+use Rattle.rbd_kinds.specs.declared.operation.Op.{Op}
 use Rattle.rbd_kinds.specs.declared.operation.Op.TheVariants as op
 use Rattle.rbd_commands.specs.declared.refusal.Refusal.{Refusal}
 use Rattle.rbd_commands.specs.declared.refusal.Refusal.TheVariants as refusal
 use Rattle.rbd_kinds.specs.declared.reply.Reply.{Reply}
 use Rattle.rbd_kinds.specs.declared.reply.Reply.TheVariants as reply
+use Rattle.rbd_kinds.specs.Striping.{IsObjectCount}
 use Rattle.rbd_header.specs.Header.{new_header}
 use Rattle.rbd_layout.specs.Asked.{layout_of, KeepsLimits}
 use Rattle.rbd_machine.specs.Path.{Answered, IsWalk, found, looked_at}
@@ -22,7 +25,7 @@ use Rattle.rbd_machine.specs.declared.reason.Reason.TheVariants as reason
 use Rattle.rbd_machine.proofs.Walked.{EndsUnrefused, ended, absent_ends, asked_to, went_on, told_image, told_header, told_done, refusal_ends_otherwise, nothing_ends_otherwise}
 use Rattle.rbd_meaning.specs.Creates.{MakesOne}
 use Rattle.rbd_meaning.specs.Listings.{ShowsHeader, listed}
-use Rattle.rbd_admin.specs.Create.{IsCreate, on_drawn, making, drawing}
+use Rattle.rbd_admin.specs.Create.{IsCreate, on_drawn, making, mapping, drawing}
 use Rattle.rbd_admin.specs.Listing.{on_names, list_names, showing, show_header}
 
 -- ---- create
@@ -38,55 +41,73 @@ drawn next answer.Exists feds steps walk = absurd (refusal_ends_otherwise (Retur
 drawn next answer.Full feds steps walk = absurd (refusal_ends_otherwise (Return reply.Done) tt refusal.BadShape feds steps walk)
 drawn next a feds steps walk = absurd (nothing_ends_otherwise (Return reply.Done) tt a feds steps walk)
 
-makes_one : (site : SiteId) (name : List ℕ) (h : HeaderView) (feds : List Fed) (steps : List Answered) → IsWalk Goto (drawing site name h) feds steps (Return reply.Done) → MakesOne site name h steps
-makes_one site name h feds steps walk =
-    let w = went_on (Return reply.Done) tt site reason.Own (op.Directory (directory.Add name)) (on_drawn (making site h)) feds steps walk in
-    let i = drawn (making site h) w.answer w.more w.rest w.walk in
-    let m = went_on (Return reply.Done) tt site reason.Own (op.Header i.image (header.Create h)) (on_done (Return reply.Done)) w.more w.rest i.walk in
+-- an answer that is known, and what came then
+pub answered_so : (site : SiteId) (o : Op) (a told : Answer) (rest more steps : List Answered)
+    → steps ≡ record { site = site; op = o; answer = a } ∷ rest → a ≡ told → rest ≡ more → steps ≡ record { site = site; op = o; answer = told } ∷ more
+answered_so site o a told rest more steps are is then =
+    are ∙ ap (λ b. record { site = site; op = o; answer = b } ∷ rest) is ∙ ap (λ s. record { site = site; op = o; answer = told } ∷ s) then
+
+makes_one : (site : SiteId) (name : List ℕ) (objects : ℕ) (h : HeaderView) (feds : List Fed) (steps : List Answered) → IsObjectCount h.layout h.size objects
+    → IsWalk Goto (drawing site name objects h) feds steps (Return reply.Done) → MakesOne site name h steps
+makes_one site name objects h feds steps counted walk =
+    let w = went_on (Return reply.Done) tt site reason.Own (op.Directory (directory.Add name)) (on_drawn (mapping site objects h)) feds steps walk in
+    let i = drawn (mapping site objects h) w.answer w.more w.rest w.walk in
+    let r = went_on (Return reply.Done) tt site reason.Own (op.Map i.image (states.Resize objects)) (on_done (making site h i.image)) w.more w.rest i.walk in
+    let t = told_done (Return reply.Done) tt (making site h i.image) r.answer r.more r.rest r.walk in
+    let m = went_on (Return reply.Done) tt site reason.Own (op.Header i.image (header.Create h)) (on_done (Return reply.Done)) r.more r.rest t.walk in
     let d = told_done (Return reply.Done) tt (Return reply.Done) m.answer m.more m.rest m.walk in
-    let none : m.rest ≡ [] = (ended reply.Done m.more m.rest (Return reply.Done) d.walk).0 in
     record {
       image = i.image;
+      objects = objects;
+      counted = counted;
       are =
-          w.are ∙ ap (λ a. record { site = site; op = op.Directory (directory.Add name); answer = a } ∷ w.rest) i.is
-          ∙ ap (λ s. record { site = site; op = op.Directory (directory.Add name); answer = answer.Id i.image } ∷ s)
-          (m.are ∙ ap (λ a. record { site = site; op = op.Header i.image (header.Create h); answer = a } ∷ m.rest) d.is
-          ∙ ap (λ s. record { site = site; op = op.Header i.image (header.Create h); answer = answer.Done } ∷ s) none);
+          answered_so site _ w.answer (answer.Id i.image) w.rest _ steps w.are i.is
+          (answered_so site _ r.answer answer.Done r.rest _ w.rest r.are t.is
+          (answered_so site _ m.answer answer.Done m.rest [] r.rest m.are d.is (ended reply.Done m.more m.rest (Return reply.Done) d.walk).0));
     }
 
 pub create_makes_one : (site : SiteId) (name : List ℕ) (size : ℕ) (shape : Shape) (plan : Plan) (feds : List Fed) (steps : List Answered)
     → IsCreate site name size shape plan → KeepsLimits (layout_of shape) size → IsWalk Goto plan feds steps (Return reply.Done) → MakesOne site name (new_header (layout_of shape) size) steps
 create_makes_one site name size shape plan feds steps is keeps walk =
-    makes_one site name (new_header (layout_of shape) size) feds steps (subst (λ p. IsWalk Goto p feds steps (Return reply.Done)) (is.within keeps) walk)
+    makes_one site name is.objects (new_header (layout_of shape) size) feds steps (is.counted keeps) (subst (λ p. IsWalk Goto p feds steps (Return reply.Done)) (is.within keeps) walk)
 
 pub create_keeps_limits : (site : SiteId) (name : List ℕ) (size : ℕ) (shape : Shape) (plan : Plan) (feds : List Fed) (steps : List Answered)
     → IsCreate site name size shape plan → (KeepsLimits (layout_of shape) size → ⊥) → IsWalk Goto plan feds steps (Return reply.Done) → ⊥
 create_keeps_limits site name size shape plan feds steps is outside walk =
     refusal_ends_otherwise (Return reply.Done) tt refusal.BadShape feds steps (subst (λ p. IsWalk Goto p feds steps (Return reply.Done)) (is.outside outside) walk)
 
-pub create_has_few : (site : SiteId) (name : List ℕ) (h : HeaderView) (x : Refusal) (feds : List Fed) (steps : List Answered) → IsWalk Goto (drawing site name h) feds steps (Return (reply.Refused x)) → length steps ≤ 2
-create_has_few site name h x feds steps walk =
-    let w = asked_to (reply.Refused x) site reason.Own (op.Directory (directory.Add name)) (on_drawn (making site h)) feds steps walk in
-    let one_more : length steps ≡ suc (length w.rest) = ap length w.are in
-    let short = at_drawn w.answer w.more w.rest w.walk in
-    omega arith
-  where
-    none_left : (rest : List Answered) → rest ≡ [] → length rest ≤ 1
-    none_left rest none = let no : length rest ≡ 0 = ap length none in omega arith
+module _ (site : SiteId) (name : List ℕ) (objects : ℕ) (h : HeaderView) (x : Refusal) where
+  abbrev Refused : Plan
+  Refused = Return (reply.Refused x)
 
-    at_made : (a : Answer) (more : List Fed) (rest : List Answered) → IsWalk Goto (on_done (Return reply.Done) a) more rest (Return (reply.Refused x)) → rest ≡ []
-    at_made answer.Done more rest w = (ended reply.Done more rest (Return (reply.Refused x)) w).0
-    at_made a more rest w = absent_ends a more rest (Return (reply.Refused x)) w
+  one_more : (n : ℕ) (steps rest : List Answered) (first : Answered) → steps ≡ first ∷ rest → length rest ≤ n → length steps ≤ suc n
+  one_more n steps rest first are short = let longer : length steps ≡ suc (length rest) = ap length are in omega arith
 
-    at_drawn : (a : Answer) (more : List Fed) (rest : List Answered) → IsWalk Goto (on_drawn (making site h) a) more rest (Return (reply.Refused x)) → length rest ≤ 1
-    at_drawn (answer.Id image) more rest w =
-        let m = asked_to (reply.Refused x) site reason.Own (op.Header image (header.Create h)) (on_done (Return reply.Done)) more rest w in
-        let one_more : length rest ≡ suc (length m.rest) = ap length m.are in
-        let none : length m.rest ≡ 0 = ap length (at_made m.answer m.more m.rest m.walk) in
-        omega arith
-    at_drawn answer.Exists more rest w = none_left rest (ended _ more rest (Return (reply.Refused x)) w).0
-    at_drawn answer.Full more rest w = none_left rest (ended _ more rest (Return (reply.Refused x)) w).0
-    at_drawn a more rest w = none_left rest (absent_ends a more rest (Return (reply.Refused x)) w)
+  none_left : (n : ℕ) (rest : List Answered) → rest ≡ [] → length rest ≤ n
+  none_left n rest none = let no : length rest ≡ 0 = ap length none in omega arith
+
+  at_made : (a : Answer) (more : List Fed) (rest : List Answered) → IsWalk Goto (on_done (Return reply.Done) a) more rest Refused → length rest ≤ 0
+  at_made answer.Done more rest w = none_left 0 rest (ended _ more rest Refused w).0
+  at_made a more rest w = none_left 0 rest (absent_ends a more rest Refused w)
+
+  at_mapped : (image : ℕ) (a : Answer) (more : List Fed) (rest : List Answered) → IsWalk Goto (on_done (making site h image) a) more rest Refused → length rest ≤ 1
+  at_mapped image answer.Done more rest w =
+      let m = asked_to (reply.Refused x) site reason.Own (op.Header image (header.Create h)) (on_done (Return reply.Done)) more rest w in
+      one_more 0 rest m.rest _ m.are (at_made m.answer m.more m.rest m.walk)
+  at_mapped image a more rest w = none_left 1 rest (absent_ends a more rest Refused w)
+
+  at_drawn : (a : Answer) (more : List Fed) (rest : List Answered) → IsWalk Goto (on_drawn (mapping site objects h) a) more rest Refused → length rest ≤ 2
+  at_drawn (answer.Id image) more rest w =
+      let m = asked_to (reply.Refused x) site reason.Own (op.Map image (states.Resize objects)) (on_done (making site h image)) more rest w in
+      one_more 1 rest m.rest _ m.are (at_mapped image m.answer m.more m.rest m.walk)
+  at_drawn answer.Exists more rest w = none_left 2 rest (ended _ more rest Refused w).0
+  at_drawn answer.Full more rest w = none_left 2 rest (ended _ more rest Refused w).0
+  at_drawn a more rest w = none_left 2 rest (absent_ends a more rest Refused w)
+
+  pub create_has_few : (feds : List Fed) (steps : List Answered) → IsWalk Goto (drawing site name objects h) feds steps Refused → length steps ≤ 3
+  create_has_few feds steps walk =
+      let w = asked_to (reply.Refused x) site reason.Own (op.Directory (directory.Add name)) (on_drawn (mapping site objects h)) feds steps walk in
+      one_more 2 steps w.rest _ w.are (at_drawn w.answer w.more w.rest w.walk)
 
 -- ---- ls, info, snap ls
 

@@ -1,5 +1,5 @@
 -- `snap create` and `snap rm`: plans of changes that are alone on their image.
-use Rattle.std.specs.Prelude.{ℕ, List, Bool, true, false, Option, Some, None}
+use Rattle.std.specs.Prelude.{◌≡◌, ℕ, ◌+◌, List, Bool, true, false, Option, Some, None}
 use Rattle.rbd_admin.specs.declared.snap.Act.{Act}
 use Rattle.rbd_admin.specs.declared.snap.Act.TheVariants as act
 use Rattle.rbd_admin.specs.declared.snap.ChangeKind.{ChangeKind}
@@ -14,9 +14,9 @@ use Rattle.rbd_commands.specs.declared.command.Command.{Command}
 use Rattle.rbd_commands.specs.declared.command.Command.TheVariants as command
 use Rattle.rbd_kinds.specs.declared.header.HeaderView.{HeaderView}
 use Rattle.rbd_kinds.specs.declared.header.SnapView.{SnapView}
-use Rattle.rbd_kinds.specs.declared.header_op.HeaderOp.{HeaderOp}
 use Rattle.rbd_kinds.specs.declared.header_op.HeaderOp.TheVariants as header
 use Rattle.rbd_kinds.specs.declared.id.SiteId.{SiteId}
+use Rattle.rbd_kinds.specs.declared.map_op.MapOp.TheVariants as states
 use Rattle.rbd_kinds.specs.declared.journal.Event.{Event}
 use Rattle.rbd_kinds.specs.declared.journal.Event.TheVariants as event
 use Rattle.rbd_kinds.specs.declared.operation.Op.TheVariants as op
@@ -47,11 +47,40 @@ TellsSnap a = EndsIt a
 abbrev pub taking : SiteId → (snap : List ℕ) → (image : ℕ) → Plan
 taking site snap image = own site (op.Header image (header.SnapAdd snap)) (on_snap (applied site image))
 
+abbrev pub on_bits : (List ℕ → Plan) → Answer → Plan
+on_bits next (answer.Bits bits) = next bits
+on_bits next a = not_there a
+
+abbrev pub TellsBits : Answer → Type 0
+TellsBits (answer.Bits bits) = Unit {0}
+TellsBits a = EndsIt a
+
+-- the head's states become the map of the snapshot that is taken next
+abbrev pub putting : SiteId → (snap : List ℕ) → (image next : ℕ) → (bits : List ℕ) → Plan
+putting site snap image next bits = own site (op.Map image (states.Put (Some next) bits)) (on_done (taking site snap image))
+
+abbrev pub copying : SiteId → (snap : List ℕ) → (image next : ℕ) → Plan
+copying site snap image next = own site (op.Map image (states.Get None)) (on_bits (putting site snap image next))
+
 abbrev pub take : SiteId → (snap : List ℕ) → (image : ℕ) → HeaderView → Plan
-take site snap image h = Note site image (event.SnapCreate snap) (taking site snap image)
+take site snap image h = Note site image (event.SnapCreate snap) (copying site snap image (h.snap_seq + 1))
+
+-- A map that isn't there needn't be removed.
+abbrev pub on_gone : Plan → Answer → Plan
+on_gone next answer.Done = next
+on_gone next answer.Absent = next
+on_gone next a = not_there a
+
+abbrev pub TellsGone : Answer → Type 0
+TellsGone answer.Done = Unit {0}
+TellsGone a = EndsIt a
+
+-- the map of a snapshot that isn't listed any more goes
+abbrev pub unmapping : SiteId → (image snap : ℕ) → Plan
+unmapping site image snap = own site (op.Map image (states.Remove (Some snap))) (on_gone (applied site image))
 
 abbrev pub removing : SiteId → (image snap : ℕ) → Plan
-removing site image snap = own site (op.Header image (header.SnapRemove snap)) (on_done (applied site image))
+removing site image snap = own site (op.Header image (header.SnapRemove snap)) (on_done (unmapping site image snap))
 
 -- by the id that the own look lists under the name
 abbrev pub remove_listed : SiteId → (snap : List ℕ) → (image : ℕ) → Option SnapView → Plan
@@ -83,25 +112,14 @@ does_by kind.Remove = remove
 abbrev pub does : SiteId → SnapChange → (image : ℕ) → HeaderView → Plan
 does site change = does_by change.kind site change.snap
 
--- the event of an act on the snapshot of a name, its operation, and what the answer means
+-- the event of an act on the snapshot of a name, and what is done then
 abbrev pub event_of : (snap : List ℕ) → Act → Event
-event_of snap act.Take = event.SnapCreate snap
+event_of snap (act.Take next) = event.SnapCreate snap
 event_of snap (act.Remove listed) = event.SnapRemove snap
 
-abbrev pub operation_of : (snap : List ℕ) → Act → HeaderOp
-operation_of snap act.Take = header.SnapAdd snap
-operation_of snap (act.Remove listed) = header.SnapRemove listed
-
-abbrev pub on_act : Act → Plan → Answer → Plan
-on_act act.Take = on_snap
-on_act (act.Remove listed) = on_done
-
-abbrev pub Tells : Act → Answer → Type 0
-Tells act.Take = TellsSnap
-Tells (act.Remove listed) = TellsDone
-
 abbrev pub doing : SiteId → (snap : List ℕ) → (image : ℕ) → Act → Plan
-doing site snap image a = own site (op.Header image (operation_of snap a)) (on_act a (applied site image))
+doing site snap image (act.Take next) = copying site snap image next
+doing site snap image (act.Remove listed) = removing site image listed
 
 abbrev pub noting : SiteId → (snap : List ℕ) → (image : ℕ) → Act → Plan
 noting site snap image a = Note site image (event_of snap a) (doing site snap image a)
@@ -109,7 +127,11 @@ noting site snap image a = Note site image (event_of snap a) (doing site snap im
 abbrev pub rest_at : Stage → SiteId → SnapChange → Plan
 rest_at (stage.Approaching way) site change = rest_of way (refuses_of change) (does site change)
 rest_at (stage.Noting image a) site change = noting site change.snap image a
-rest_at (stage.Doing image a) site change = doing site change.snap image a
+rest_at (stage.Copying image next) site change = copying site change.snap image next
+rest_at (stage.Putting image next bits) site change = putting site change.snap image next bits
+rest_at (stage.Taking image) site change = taking site change.snap image
+rest_at (stage.Removing image listed) site change = removing site image listed
+rest_at (stage.Unmapping image removed) site change = unmapping site image removed
 rest_at (stage.Applying image) site change = applied site image
 
 -- what is left of one
@@ -119,3 +141,21 @@ rest_of_snap r = rest_at r.stage r.site r.change
 abbrev pub IsApproaching : Stage → Type 0
 IsApproaching (stage.Approaching way) = Unit {0}
 IsApproaching _ = ⊥
+
+-- what the answer at a stage means
+abbrev pub TellsAt : Stage → Answer → Type 0
+TellsAt (stage.Copying image next) = TellsBits
+TellsAt (stage.Putting image next bits) = TellsDone
+TellsAt (stage.Taking image) = TellsSnap
+TellsAt (stage.Removing image listed) = TellsDone
+TellsAt (stage.Unmapping image removed) = TellsGone
+TellsAt _ = λ a. ⊥
+
+-- The bits that were told are there.
+abbrev pub IsReadied : Stage → (readied : Option (List ℕ)) → Answer → Type 0
+IsReadied (stage.Copying image next) readied (answer.Bits bits) = readied ≡ Some bits
+IsReadied (stage.Copying image next) readied a = readied ≡ None
+IsReadied _ readied a = Unit {0}
+
+abbrev pub HasBits : SnapRequest → Answer → Type 0
+HasBits r a = IsReadied r.stage r.readied a

@@ -6,10 +6,10 @@ ghost use Rattle.rbd_admin.specs.Create.{is_create, on_drawn, rest_of_create, Is
 
 use rbd_header::new_header;
 use rbd_kinds::{
-    Answer, Command, DirectoryOp, Event, Fed, HeaderOp, ImageId, Layout, Name, NoMemory, Number,
-    Op, OpKind, Refusal, Reply, Shape, SiteId, TryClone, Turn, Want,
+    Answer, Command, DirectoryOp, Event, Fed, HeaderOp, ImageId, Layout, MapOp, Name, NoMemory,
+    Number, Op, OpKind, Refusal, Reply, Shape, SiteId, TryClone, Turn, Want,
 };
-use rbd_layout::{keeps_limits, layout_of};
+use rbd_layout::{keeps_limits, layout_of, objects};
 use rbd_machine::{Machine, Reason, refusal_of, told_done};
 use std::alloc::Global;
 
@@ -20,6 +20,8 @@ use std::alloc::Global;
 ///
 /// Drawing   dir-add         ──exists──▶ ImageExists
 ///    │ id                   ──full────▶ BadShape
+/// Mapping   map-resize
+///    │ done
 /// Making    header-create
 ///    │ done
 ///    ▼
@@ -34,6 +36,8 @@ pub struct CreateRequest {
     layout: Layout,
     /// The size in bytes.
     size: Number,
+    /// How many objects the size has, 0 where the shape is outside the limits.
+    objects: u64,
     stage: Stage,
 }
 
@@ -42,6 +46,7 @@ pub struct CreateRequest {
 enum Stage {
     Outside,
     Drawing,
+    Mapping(ImageId),
     Making(ImageId),
 }
 
@@ -68,17 +73,23 @@ impl CreateRequest {
         ensures { IsCreate site name size shape.now (rest_of_create result) }
     {
         let layout = layout_of(shape);
-        let stage = if keeps_limits(&layout, size.get()) {
-            Stage::Drawing
-        } else {
-            Stage::Outside
-        };
+        if keeps_limits(&layout, size.get()) {
+            return CreateRequest {
+                site,
+                name,
+                layout,
+                size,
+                objects: objects(&layout, size.get()),
+                stage: Stage::Drawing,
+            };
+        }
         CreateRequest {
             site,
             name,
             layout,
             size,
-            stage,
+            objects: 0,
+            stage: Stage::Outside,
         }
     }
 
@@ -92,6 +103,7 @@ impl CreateRequest {
         match self.stage {
             Stage::Outside => Some(Refusal::BadShape),
             Stage::Drawing => None,
+            Stage::Mapping(_) => None,
             Stage::Making(_) => None,
         }
     }
@@ -121,6 +133,7 @@ impl Machine for CreateRequest {
         let kind = match self.stage {
             Stage::Outside => unreachable!(),
             Stage::Drawing => OpKind::DirAdd,
+            Stage::Mapping(_) => OpKind::MapResize,
             Stage::Making(_) => OpKind::HeaderCreate,
         };
         Want::Op { site, kind }
@@ -132,6 +145,12 @@ impl Machine for CreateRequest {
             Stage::Drawing => Ok(Op::Directory(DirectoryOp::Add {
                 name: self.name.try_clone()?,
             })),
+            Stage::Mapping(image) => {
+                let op = MapOp::Resize {
+                    count: self.objects,
+                };
+                Ok(Op::Map { image, op })
+            }
             Stage::Making(image) => {
                 let view = new_header(alloc, self.layout, self.size.get());
                 let op = HeaderOp::Create { view };
@@ -152,16 +171,23 @@ impl Machine for CreateRequest {
         Ok(())
     }
 
-    #[tactic(auto, using(crate::proofs::Tells::draw_tells, crate::proofs::Tells::make_tells))]
+    #[tactic(auto, using(crate::proofs::Tells::draw_tells, crate::proofs::Tells::map_tells, crate::proofs::Tells::make_tells))]
     fn feed(&mut self, fed: &Fed) -> Turn {
         let Fed::Answer(answer) = fed else {
             unreachable!()
         };
-        match self.stage {
+        match &self.stage {
             Stage::Outside => unreachable!(),
             Stage::Drawing => match drawn(answer) {
                 Ok(image) => {
-                    self.stage = Stage::Making(image);
+                    self.stage = Stage::Mapping(image);
+                    Turn::More
+                }
+                Err(refusal) => Turn::Done(Reply::Refused(refusal)),
+            },
+            Stage::Mapping(image) => match told_done(answer) {
+                Ok(()) => {
+                    self.stage = Stage::Making(*image);
                     Turn::More
                 }
                 Err(refusal) => Turn::Done(Reply::Refused(refusal)),

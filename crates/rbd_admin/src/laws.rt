@@ -26,9 +26,10 @@ ghost use Rattle.rbd_meaning.specs.Listings.{ShowsHeader, listed, shown_snaps};
 ghost use Rattle.rbd_meaning.specs.Meant.{IsMeantBy};
 ghost use Rattle.rbd_meaning.specs.Snaps.{TakesOne, RemovesOne};
 
-/// A `create` has two operations at most: one draws the id, and one makes the header.
+/// A `create` has three operations at most: one draws the id, one makes the map of the objects, and
+/// one makes the header.
 pub fn creates_draw_and_make()
-    ensures { (home : SiteId) (command : Command) (plan : Plan) → IsCreatePlan home command plan → IsBounded plan 2 }
+    ensures { (home : SiteId) (command : Command) (plan : Plan) → IsCreatePlan home command plan → IsBounded plan 3 }
 {}
 
 /// An `ls` has one operation at most, however many images there are.
@@ -42,10 +43,11 @@ pub fn listings_look_once()
     ensures { (home : SiteId) (command : Command) → IsBounded (listing_plan home command) 2 }
 {}
 
-/// A `snap create` and a `snap rm` have four operations at most: three up to their own look, and
-/// one that does it.
+/// A `snap create` has six operations at most, and a `snap rm` five: three up to their own look,
+/// one that changes the header, and two or one on the snapshot's map.
 pub fn snapshots_change_once()
-    ensures { (home : SiteId) (command : Command) → IsBounded (snap_plan home command) 4 }
+    ensures either { (home : SiteId) (command : Command) → IsBounded (snap_plan home command) 6 }
+    ensures removal { (home : SiteId) (image snap : List ℕ) → IsBounded (snap_plan home (SnapRemove image snap)) 5 }
 {}
 
 /// None of them begins a part again.
@@ -56,7 +58,7 @@ pub fn plans_go_to_no_label()
 {}
 
 /// A `create` is lawful from nothing known: the header that it makes is a new one, under an id that
-/// it drew itself.
+/// it drew itself, and behind a map of all of its objects.
 pub fn creates_are_lawful()
     ensures { (home : SiteId) (command : Command) (plan : Plan) → IsCreatePlan home command plan → IsLawfulRequest (without_labels plan) }
 {}
@@ -67,8 +69,8 @@ pub fn listings_are_lawful()
 {}
 
 /// A `snap create` and a `snap rm` are lawful from nothing known: alone on the image, and by what
-/// its own look told, a name is taken that isn't listed, and a snapshot is removed that is listed
-/// and isn't protected.
+/// its own look told, a name is taken that isn't listed, behind a map with the head's states, and a
+/// snapshot is removed that is listed and isn't protected, and then its map.
 pub fn snapshots_are_lawful()
     ensures { (home : SiteId) (command : Command) → IsLawfulRequest (without_labels (snap_plan home command)) }
 {}
@@ -78,8 +80,8 @@ pub fn new_headers_are_in_form()
     ensures { (layout : Layout) (size : ℕ) → KeepsLimits layout size → IsNewHeader (new_header layout size) }
 {}
 
-/// A `create` is done only where its shape is within the limits, and then by two operations: an id
-/// was drawn for the name, and the header of a new image was made under it.
+/// A `create` is done only where its shape is within the limits, and then by three operations: an
+/// id was drawn for the name, and the map and the header of a new image were made under it.
 pub fn creates_make_one()
     ensures made { (site : SiteId) (name : List ℕ) (size : ℕ) (shape : Shape) (plan : Plan) (feds : List Fed) (steps : List Answered)
         → IsCreate site name size shape plan → KeepsLimits (layout_of shape) size
@@ -100,9 +102,9 @@ pub fn listings_show_what_was_told()
         → IsWalk Goto (listing_plan site (SnapList image)) feds steps (Return (Snaps snaps)) → ShowsHeader site image shown_snaps (Snaps snaps) steps }
 {}
 
-/// A `snap create` is done only by one snapshot that was taken behind two looks, and a `snap rm` by
-/// the removal of the one snapshot that its own look listed under the name; neither look refused
-/// it.
+/// A `snap create` is done only by one snapshot that was taken behind two looks and behind its map,
+/// and a `snap rm` by the removal of the one snapshot that its own look listed under the name, and
+/// of its map; neither look refused it.
 pub fn snapshots_change_behind_two_looks()
     ensures taken { (site : SiteId) (image snap : List ℕ) (feds : List Fed) (steps : List Answered)
         → IsWalk Goto (snap_plan site (SnapCreate image snap)) feds steps (Return Done) → TakesOne site image snap steps }
@@ -111,9 +113,9 @@ pub fn snapshots_change_behind_two_looks()
 {}
 
 /// A reply is meant by its command, behind the operations that were done (`IsMeantBy` of
-/// `rbd_meaning`), where each answer is one that its operation can give: it was done or told when a
-/// request isn't refused, and when it is, the last answer refused it, and none before. No other
-/// reply comes.
+/// `rbd_meaning`), where each answer is one that its operation can give to who owns what it changes:
+/// it was done or told when a request isn't refused, and when it is, the last answer refused it, and
+/// none before. No other reply comes.
 pub fn replies_are_meant()
     ensures create { (site : SiteId) (command : Command) (plan : Plan) (feds : List Fed) (steps : List Answered) (reply : Reply) → IsCreatePlan site command plan → AreGiven steps
         → IsWalk Goto plan feds steps (Return reply) → IsMeantBy site command steps reply }

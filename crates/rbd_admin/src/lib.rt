@@ -10,7 +10,9 @@
 //! request.feed(&Fed::Passed)        // More; then header-get, the lock, header-get
 //! request.wants()                   // its event noted in the journal of image 1
 //! request.event(alloc)?             // SnapCreate first
-//! request.feed(&Fed::Passed)        // More; then header-snap-add, and that the event counts as applied
+//! request.feed(&Fed::Passed)        // More; then map-get, and its bits in a map-put
+//! request.feed(&done)               // More; then header-snap-add
+//! request.feed(&snap)               // More; then that the event counts as applied
 //! request.feed(&Fed::Passed)        // Done(Reply::Done)
 //! ```
 //!
@@ -18,17 +20,23 @@
 //!
 //! | command | steps | refused |
 //! |---|---|---|
-//! | `create` | `dir-add`, `header-create` | BadShape before any operation; then ImageExists, BadShape |
+//! | `create` | `dir-add`, `map-resize`, `header-create` | BadShape before any operation; then ImageExists, BadShape |
 //! | `ls` | `dir-list` | |
 //! | `info`, `snap ls` | `dir-find`, `header-get` | NoImage |
-//! | `snap create` | to its own look, its event, `header-snap-add`, applied | NoImage, NonPrimary, SnapExists, BadShape |
-//! | `snap rm` | to its own look, its event, `header-snap-remove`, applied | NoImage, NonPrimary, NoSnap, SnapProtected |
+//! | `snap create` | to its own look, its event, `map-get`, `map-put`, `header-snap-add`, applied | NoImage, NonPrimary, SnapExists, BadShape |
+//! | `snap rm` | to its own look, its event, `header-snap-remove`, `map-remove`, applied | NoImage, NonPrimary, NoSnap, SnapProtected |
 //!
 //! The way to its own look is `dir-find`, the image's line, alone in it, `header-get`, the lock,
 //! and `header-get` again ([`Approach`](rbd_machine::Approach)). What the own look shows can't
 //! change as long as the session has the lock; the look before spares a request that is refused the
 //! wait for it. The refusals of `snap create` and `snap rm` are tested at both looks, in the order
 //! of the table.
+//!
+//! Object maps are kept as Ceph keeps them. An image's map is made before its header, with a state
+//! for each object of its size. A snapshot's map is put before the header lists the snapshot, with
+//! the bits that the head's map was told to have: its id is one more than the last that the own
+//! look tells, and alone on the image nobody takes another. It is removed once the header doesn't
+//! list the snapshot, and one that isn't there is passed over.
 //!
 //! A shape is outside the limits by its layout, or by more than 2^20 objects (own). `dir-add` is
 //! answered `full` where no more names or ids are left, which is BadShape too (own). Any operation
@@ -49,13 +57,14 @@
 //! A request holds the names of its command, without a copy. Each operation or event that names
 //! something copies that name once; the header of a new image is made when its operation is asked
 //! for. A reply of names, a header or snapshots is copied once, by `ready`, and handed out by
-//! `feed`. Nothing else takes memory.
+//! `feed`. The bits of a map are owned once more by `ready`, and once more by their `map-put`:
+//! where they are shared no byte is copied. Nothing else takes memory.
 //!
 //! # How it works
 //!
 //! Each request has the step at which it stands, and each of its calls is a `match` on the step.
 //! `snap create` and `snap rm` are one machine, since they differ only in what they refuse, in
-//! their event and in their operation.
+//! their event and in their operations behind it.
 #![tactic(auto)]
 
 mod create;

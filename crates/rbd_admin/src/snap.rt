@@ -1,38 +1,49 @@
 //! `snap create` and `snap rm`
-ghost use Rattle.std.specs.Prelude.{◌≡◌, ℕ, List, true, Some, None, is_some, if◌then◌else◌, IfOk};
+ghost use Rattle.std.specs.Prelude.{◌≡◌, ℕ, ◌+◌, false, true, Some, None, is_some, if◌then◌else◌, IfOk};
+ghost use Rattle.rbd_kinds.specs.declared.header_op.HeaderOp.TheVariants as header;
 ghost use Rattle.rbd_kinds.specs.declared.id.SiteId.{SiteId};
+ghost use Rattle.rbd_kinds.specs.declared.machine.Fed.TheVariants as fed_with;
+ghost use Rattle.rbd_kinds.specs.declared.map_op.MapOp.TheVariants as states;
+ghost use Rattle.rbd_kinds.specs.declared.operation.Op.TheVariants as on;
 ghost use Rattle.rbd_kinds.specs.Header.{snap_named};
-ghost use Rattle.rbd_kinds.specs.OperationKind.{header_kind};
 ghost use Rattle.rbd_header.specs.Header.{is_full as lists_all};
 ghost use Rattle.rbd_machine.specs.Answers.{CanBeFed};
-ghost use Rattle.rbd_machine.specs.Plan.{Plan, GoesOn, Goto, plan_after, without_labels};
+ghost use Rattle.rbd_machine.specs.Plan.{GoesOn, Goto, plan_after, without_labels};
 ghost use Rattle.rbd_machine.specs.Steps.{going, change as change_of};
 ghost use Rattle.rbd_meaning.specs.Snaps.{removal_refusal, is_unprotected};
-ghost use Rattle.rbd_admin.specs.Snap.{is_snap, snap_plan, rest_of_snap, IsApproaching, refuses_by, does_by, refuses_of, does, noting, event_of, operation_of, on_act, Tells};
+ghost use Rattle.rbd_admin.specs.Snap.{is_snap, snap_plan, rest_at, rest_of_snap, IsApproaching, refuses_by, does_by, refuses_of, does, noting, doing, event_of, TellsAt, IsReadied, HasBits};
 
 use rbd_header::is_full;
 use rbd_kinds::{
-    Answer, Command, Event, Fed, HeaderOp, HeaderView, ImageId, Name, NoMemory, Op, OpKind,
-    Refusal, Reply, SiteId, SnapId, SnapStatus, TryClone, Turn, Want,
+    Answer, Bytes, Command, Event, Fed, HeaderOp, HeaderView, ImageId, MapOp, Name, NoMemory, Op,
+    OpKind, Refusal, Reply, SiteId, SnapId, SnapStatus, TryClone, Turn, Want,
 };
 use rbd_machine::{
     Approach, Machine, Progress, Reason, Refuses, non_primary, refusal_of, told_done,
 };
 use std::alloc::Global;
 
-/// Takes a snapshot of an image, or removes one.
+/// Takes a snapshot of an image, or removes one. A snapshot's object map is put before the header
+/// lists the snapshot, and removed once it doesn't (Ceph: a snapshot has an object map of its own,
+/// that of the head as it was).
 ///
 /// ```text
 /// Approaching   to its own look, alone in the image's line
 ///    │ header
 /// Noting        the event SnapCreate or SnapRemove, in the image's journal
 ///    │
-/// Doing         header-snap-add, or header-snap-remove   ──none──▶ NoImage
-///    │ snap or done
+///    ├── to take one ───────────────────────────┐── to remove one
+/// Copying       map-get           ──none─▶ (1)  │
+///    │ bits                                     │
+/// Putting       map-put, with these bits        Removing    header-snap-remove   ──none─▶ (1)
+///    │ done                                     │ done
+/// Taking        header-snap-add   ──none─▶ (1)  Unmapping   map-remove
+///    │ snap                                     │ done, or none
+///    ├──────────────────────────────────────────┘
 /// Applying      the event counts as applied
 ///    │
 ///    ▼
-/// Done
+/// Done                                                                      (1) NoImage
 /// ```
 ///
 /// Each operation may be answered `fenced`, which ends the request with Fenced.
@@ -41,6 +52,8 @@ pub struct SnapRequest {
     site: SiteId,
     change: SnapChange,
     stage: Stage,
+    /// The bits that it was told, once there is memory for them.
+    readied: Option<Bytes>,
 }
 
 /// A stage of the request.
@@ -48,7 +61,12 @@ pub struct SnapRequest {
 enum Stage {
     Approaching(Approach),
     Noting(ImageId, Act),
-    Doing(ImageId, Act),
+    /// The snapshot is the next one.
+    Copying(ImageId, SnapId),
+    Putting(ImageId, SnapId, Bytes),
+    Taking(ImageId),
+    Removing(ImageId, SnapId),
+    Unmapping(ImageId, SnapId),
     Applying(ImageId),
 }
 
@@ -68,7 +86,8 @@ enum ChangeKind {
 /// What is done once the own look told the header.
 #[derive(Clone, Copy, Debug, PartialEq, Eq)]
 enum Act {
-    Take,
+    /// The snapshot that is taken next.
+    Take(SnapId),
     /// The snapshot that the header lists under the name.
     Remove(SnapId),
 }
@@ -108,6 +127,7 @@ impl SnapRequest {
             site,
             change: SnapChange { kind, snap },
             stage: Stage::Approaching(Approach::new(site, image, true)),
+            readied: None,
         }
     }
 
@@ -135,8 +155,9 @@ impl SnapRequest {
         }
     }
 
-    /// Goes on from its own look.
+    /// Goes on from its own look, which refused nothing.
     fn own(&mut self, image: ImageId, header: &HeaderView) -> Turn
+        requires { refuses_of self.old.change header.now ≡ None }
         ensures { GoesOn Goto (does self.old.site self.old.change image header.now) result (without_labels (rest_of_snap self.new)) }
     {
         match self.change.act(header) {
@@ -150,19 +171,28 @@ impl SnapRequest {
 }
 
 impl SnapChange {
-    /// What is to be done by a header, or why nothing is: it doesn't list the snapshot that is to
-    /// be removed.
+    /// What is to be done by a header that refuses nothing, or why nothing is: it doesn't list the
+    /// snapshot that is to be removed.
     fn act(&self, header: &HeaderView) -> Result<Act, Refusal>
+        requires { refuses_of self.now header.now ≡ None }
         ensures { (site : SiteId) (image : ℕ) → does site self.now image header.now ≡ going (noting site self.now.snap image) result }
     {
         match self.kind {
-            ChangeKind::Create => Ok(Act::Take),
+            ChangeKind::Create => Ok(Act::Take(next_snap(header))),
             ChangeKind::Remove => match header.named(&self.snap) {
                 Some(listed) => Ok(Act::Remove(listed.id)),
                 None => Err(Refusal::NoSnap),
             },
         }
     }
+}
+
+/// The snapshot that is taken next of an image that isn't full.
+fn next_snap(header: &HeaderView) -> SnapId
+    requires { lists_all header.now ≡ false }
+    ensures { result ≡ header.now.snap_seq + 1 }
+{
+    SnapId(header.snap_seq + 1)
 }
 
 impl Refuses for SnapChange {
@@ -217,86 +247,117 @@ fn protection(status: SnapStatus) -> Option<Refusal>
 }
 
 impl Act {
-    /// The operation on the header, for the snapshot of a name.
-    fn operation(&self, snap: &Name) -> Result<HeaderOp, NoMemory>
-        ensures { IfOk result (λ op. op ≡ operation_of snap.now self.now) }
-    {
-        match self {
-            Act::Take => Ok(HeaderOp::SnapAdd {
-                name: snap.try_clone()?,
-            }),
-            Act::Remove(listed) => Ok(HeaderOp::SnapRemove { snap: *listed }),
-        }
-    }
-
-    /// The kind of the operation.
-    fn kind(&self) -> OpKind
-        ensures { (snap : List ℕ) → result ≡ header_kind (operation_of snap self.now) }
-    {
-        match self {
-            Act::Take => OpKind::HeaderSnapAdd,
-            Act::Remove(_) => OpKind::HeaderSnapRemove,
-        }
-    }
-
     /// The event, for the snapshot of a name.
     fn event(&self, snap: &Name) -> Result<Event, NoMemory>
         ensures { IfOk result (λ event. event ≡ event_of snap.now self.now) }
     {
         let name = snap.try_clone()?;
         Ok(match self {
-            Act::Take => Event::SnapCreate { name },
+            Act::Take(_) => Event::SnapCreate { name },
             Act::Remove(_) => Event::SnapRemove { name },
         })
     }
 
-    /// That it was done, or why the request ends: it is fenced, or the image isn't there.
-    fn told(&self, answer: &Answer) -> Result<(), Refusal>
-        requires { Tells self.now answer.now }
-        ensures { (next : Plan) → on_act self.now next answer.now ≡ going (λ done. next) result }
+    /// The stage behind the event.
+    fn begun(&self, image: ImageId) -> Stage
+        ensures { (site : SiteId) (change : SnapChange) → rest_at result site change ≡ doing site change.snap image self.now }
     {
         match self {
-            Act::Take => match answer {
-                Answer::Snap(_) => Ok(()),
+            Act::Take(next) => Stage::Copying(image, *next),
+            Act::Remove(listed) => Stage::Removing(image, *listed),
+        }
+    }
+}
+
+impl Stage {
+    /// The stage behind an operation, with the bits that were told, or why the request ends: it is
+    /// fenced, or the image isn't there.
+    fn behind(&self, bits: Option<Bytes>, answer: &Answer) -> Result<Stage, Refusal>
+        requires tells { TellsAt self.now answer.now }
+        requires ready { IsReadied self.now bits answer.now }
+        ensures { (site : SiteId) (change : SnapChange) → plan_after (rest_at self.now site change) (fed_with.Answer answer.now) ≡ going (λ behind. rest_at behind site change) result }
+    {
+        match self {
+            Stage::Approaching(_) => unreachable!(),
+            Stage::Noting(_, _) => unreachable!(),
+            Stage::Copying(image, next) => match bits {
+                Some(bits) => Ok(Stage::Putting(*image, *next, bits)),
+                None => Err(refusal_of(answer)),
+            },
+            Stage::Putting(image, _, _) => match told_done(answer) {
+                Ok(()) => Ok(Stage::Taking(*image)),
+                Err(refusal) => Err(refusal),
+            },
+            Stage::Taking(image) => match answer {
+                Answer::Snap(_) => Ok(Stage::Applying(*image)),
                 _ => Err(refusal_of(answer)),
             },
-            Act::Remove(_) => told_done(answer),
+            Stage::Removing(image, listed) => match told_done(answer) {
+                Ok(()) => Ok(Stage::Unmapping(*image, *listed)),
+                Err(refusal) => Err(refusal),
+            },
+            Stage::Unmapping(image, _) => match answer {
+                Answer::Done => Ok(Stage::Applying(*image)),
+                Answer::Absent => Ok(Stage::Applying(*image)),
+                _ => Err(refusal_of(answer)),
+            },
+            Stage::Applying(_) => unreachable!(),
         }
+    }
+}
+
+/// The bits that an answer brings at a stage, if it brings some.
+fn bits_for(stage: &Stage, answer: &Answer) -> Result<Option<Bytes>, NoMemory>
+    ensures { IfOk result (λ readied. IsReadied stage.now readied answer.now) }
+{
+    match stage {
+        Stage::Copying(_, _) => match answer {
+            Answer::Bits(bits) => Ok(Some(bits.try_clone()?)),
+            _ => Ok(None),
+        },
+        _ => Ok(None),
     }
 }
 
 impl Machine for SnapRequest {
     ghost stands = { λ r. without_labels (rest_of_snap r) };
 
-    ghost is_ready = { λ r answer. Unit {0} };
+    ghost is_ready = { HasBits };
 
     fn wants(&self) -> Want {
         let site = self.site;
-        match &self.stage {
-            Stage::Approaching(way) => way.wants(),
-            Stage::Noting(image, _) => Want::Note {
-                site,
-                image: *image,
-            },
-            Stage::Doing(_, act) => Want::Op {
-                site,
-                kind: act.kind(),
-            },
-            Stage::Applying(image) => Want::Applied {
-                site,
-                image: *image,
-            },
-        }
+        let kind = match &self.stage {
+            Stage::Approaching(way) => return way.wants(),
+            Stage::Noting(image, _) => {
+                return Want::Note {
+                    site,
+                    image: *image,
+                };
+            }
+            Stage::Copying(_, _) => OpKind::MapGet,
+            Stage::Putting(_, _, _) => OpKind::MapPut,
+            Stage::Taking(_) => OpKind::HeaderSnapAdd,
+            Stage::Removing(_, _) => OpKind::HeaderSnapRemove,
+            Stage::Unmapping(_, _) => OpKind::MapRemove,
+            Stage::Applying(image) => {
+                return Want::Applied {
+                    site,
+                    image: *image,
+                };
+            }
+        };
+        Want::Op { site, kind }
     }
 
     fn next(&self, _alloc: Global) -> Result<Op, NoMemory> {
         match &self.stage {
             Stage::Approaching(way) => way.next(),
-            Stage::Doing(image, act) => Ok(Op::Header {
-                image: *image,
-                op: act.operation(&self.change.snap)?,
-            }),
             Stage::Noting(_, _) => unreachable!(),
+            Stage::Copying(image, _) => Ok(map_get(*image)),
+            Stage::Putting(image, next, bits) => Ok(map_put(*image, *next, bits.try_clone()?)),
+            Stage::Taking(image) => Ok(snap_add(*image, self.change.snap.try_clone()?)),
+            Stage::Removing(image, listed) => Ok(snap_remove(*image, *listed)),
+            Stage::Unmapping(image, removed) => Ok(map_remove(*image, *removed)),
             Stage::Applying(_) => unreachable!(),
         }
     }
@@ -307,38 +368,85 @@ impl Machine for SnapRequest {
 
     fn event(&self, _alloc: Global) -> Result<Option<Event>, NoMemory> {
         match &self.stage {
-            Stage::Approaching(_) => Ok(None),
             Stage::Noting(_, act) => Ok(Some(act.event(&self.change.snap)?)),
-            Stage::Doing(_, _) => Ok(None),
-            Stage::Applying(_) => Ok(None),
+            _ => Ok(None),
         }
     }
 
-    fn ready(&mut self, _alloc: Global, _fed: &Fed) -> Result<(), NoMemory> {
-        Ok(())
+    fn ready(&mut self, _alloc: Global, fed: &Fed) -> Result<(), NoMemory> {
+        match fed {
+            Fed::Answer(answer) => {
+                self.readied = bits_for(&self.stage, answer)?;
+                Ok(())
+            }
+            Fed::Passed => Ok(()),
+        }
     }
 
-    #[tactic(auto, using(crate::proofs::Tells::act_tells))]
+    #[tactic(auto, using(crate::proofs::Tells::stage_tells, crate::proofs::Tells::stage_is_live))]
     fn feed(&mut self, fed: &Fed) -> Turn {
         match &self.stage {
             Stage::Approaching(_) => self.approach(fed),
             Stage::Noting(image, act) => {
-                self.stage = Stage::Doing(*image, *act);
+                self.stage = act.begun(*image);
                 Turn::More
             }
-            Stage::Doing(image, act) => {
+            Stage::Applying(_) => Turn::Done(Reply::Done),
+            stage => {
                 let Fed::Answer(answer) = fed else {
                     unreachable!()
                 };
-                match act.told(answer) {
-                    Ok(()) => {
-                        self.stage = Stage::Applying(*image);
+                match stage.behind(self.readied.take(), answer) {
+                    Ok(behind) => {
+                        self.stage = behind;
                         Turn::More
                     }
                     Err(refusal) => Turn::Done(Reply::Refused(refusal)),
                 }
             }
-            Stage::Applying(_) => Turn::Done(Reply::Done),
         }
     }
+}
+
+/// The head's object map.
+fn map_get(image: ImageId) -> Op
+    ensures { result ≡ on.Map image (states.Get None) }
+{
+    let op = MapOp::Get { snap: None };
+    Op::Map { image, op }
+}
+
+/// A map of a snapshot is put.
+fn map_put(image: ImageId, snap: SnapId, bits: Bytes) -> Op
+    ensures { result ≡ on.Map image (states.Put (Some snap) bits) }
+{
+    let op = MapOp::Put {
+        snap: Some(snap),
+        bits,
+    };
+    Op::Map { image, op }
+}
+
+/// A map of a snapshot is removed.
+fn map_remove(image: ImageId, snap: SnapId) -> Op
+    ensures { result ≡ on.Map image (states.Remove (Some snap)) }
+{
+    let op = MapOp::Remove { snap: Some(snap) };
+    Op::Map { image, op }
+}
+
+/// A snapshot of a name is taken.
+fn snap_add(image: ImageId, name: Name) -> Op
+    ensures { result ≡ on.Header image (header.SnapAdd name) }
+{
+    let op = HeaderOp::SnapAdd { name };
+    Op::Header { image, op }
+}
+
+/// A snapshot is removed.
+fn snap_remove(image: ImageId, snap: SnapId) -> Op
+    ensures { result ≡ on.Header image (header.SnapRemove snap) }
+{
+    let op = HeaderOp::SnapRemove { snap };
+    Op::Header { image, op }
 }

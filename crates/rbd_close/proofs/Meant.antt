@@ -14,10 +14,9 @@ use Rattle.rbd_kinds.proofs.Results.{same_refusal}
 use Rattle.rbd_kinds.specs.declared.reply.Reply.{Reply}
 use Rattle.rbd_kinds.specs.declared.reply.Reply.TheVariants as reply
 use Rattle.rbd_machine.specs.About.{look_up, AreOwn}
-use Rattle.rbd_machine.specs.Answers.{CanGive}
 use Rattle.rbd_machine.specs.Path.{Answered, IsWalk}
 use Rattle.rbd_machine.specs.Plan.{Plan, Return, Goto}
-use Rattle.rbd_machine.specs.Refused.{refuses_none, never, AreGiven, IsRefused, IsRefusedBy}
+use Rattle.rbd_machine.specs.Refused.{refuses_none, never, AreGiven, IsGiven, IsRefused, IsRefusedBy}
 use Rattle.rbd_machine.specs.Steps.{on_done}
 use Rattle.rbd_machine.proofs.Refused.{IsRefusing, Answers, EndsBy, ends_by, refusing_find, refusing_change}
 use Rattle.rbd_meaning.specs.Closes.{gone_or_fenced, CloseMeans, QuiesceMeans, ResumeMeans, TellMeans}
@@ -35,17 +34,17 @@ IsDone _ = ⊥
 
 module _ (late : Refusal → Type 0) (changed : Bool) (gone : changed ≡ true → late refusal.NoImage) (fenced : changed ≡ true → late refusal.Fenced)
     (next : Plan) (goes_on : IsRefusing refuses_none late IsDone true next) (image : ℕ) where
-  refusing_notify : (kind : NoticeKind) (a : Answer) → CanGive (notify image kind) a → Answers refuses_none late IsDone changed (notify image kind) a (on_done next a)
+  refusing_notify : (kind : NoticeKind) (a : Answer) → IsGiven (notify image kind) a → Answers refuses_none late IsDone changed (notify image kind) a (on_done next a)
   refusing_notify kind answer.Done can = inr (λ live. refl, goes_on)
   refusing_notify kind answer.Absent can = inl (record { why = refusal.NoImage; is = refl; ends = refl; comes = gone })
   refusing_notify kind answer.Fenced can = inl (record { why = refusal.Fenced; is = refl; ends = refl; comes = fenced })
-  refusing_notify kind _ can = let no = can.word in cc
+  refusing_notify kind _ can = let no = can.can.word in cc
 
-  refusing_unwatch : (a : Answer) → CanGive (unwatch image) a → Answers refuses_none late IsDone changed (unwatch image) a (on_done next a)
+  refusing_unwatch : (a : Answer) → IsGiven (unwatch image) a → Answers refuses_none late IsDone changed (unwatch image) a (on_done next a)
   refusing_unwatch answer.Done can = inr (λ live. refl, goes_on)
   refusing_unwatch answer.Absent can = inl (record { why = refusal.NoImage; is = refl; ends = refl; comes = gone })
   refusing_unwatch answer.Fenced can = inl (record { why = refusal.Fenced; is = refl; ends = refl; comes = fenced })
-  refusing_unwatch _ can = let no = can.word in cc
+  refusing_unwatch _ can = let no = can.can.word in cc
 
 module _ (site : SiteId) where
   -- ---- close
@@ -53,13 +52,13 @@ module _ (site : SiteId) where
   refusing_unwatching : (image : ℕ) → IsRefusing refuses_none gone_or_fenced IsDone true (unwatching site image)
   refusing_unwatching image = refusing_unwatch gone_or_fenced true (λ was. tt) (λ was. tt) done tt image
 
-  refusing_dropped : (image : ℕ) (a : Answer) → CanGive (lock_drop image) a → Answers refuses_none gone_or_fenced IsDone false (lock_drop image) a (on_dropped site image a)
+  refusing_dropped : (image : ℕ) (a : Answer) → IsGiven (lock_drop image) a → Answers refuses_none gone_or_fenced IsDone false (lock_drop image) a (on_dropped site image a)
   refusing_dropped image answer.Done can =
       inr (λ live. refl, refusing_notify gone_or_fenced true (λ was. tt) (λ was. tt) (unwatching site image) (refusing_unwatching image) image notice.ReleasedLock)
   refusing_dropped image answer.Changed can = inr (λ live. refl, refusing_unwatching image)
   refusing_dropped image answer.Absent can = inl (record { why = refusal.NoImage; is = refl; ends = refl; comes = λ was. tt })
   refusing_dropped image answer.Fenced can = inl (record { why = refusal.Fenced; is = refl; ends = refl; comes = λ was. tt })
-  refusing_dropped image _ can = let no = can.word in cc
+  refusing_dropped image _ can = let no = can.can.word in cc
 
   refusing_close : (name : List ℕ) → IsRefusing refuses_none gone_or_fenced IsDone false (close site name)
   refusing_close name = refusing_find refuses_none gone_or_fenced IsDone name (joining site) refusing_dropped

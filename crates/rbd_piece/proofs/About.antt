@@ -7,14 +7,16 @@ use Rattle.rbd_kinds.specs.declared.id.SiteId.{SiteId}
 use Rattle.rbd_kinds.specs.declared.layout.Part.{Part}
 use Rattle.rbd_kinds.specs.Parts.{parts_len}
 use Rattle.rbd_layout.specs.declared.types.Piece.{Piece}
+use Rattle.rbd_header.specs.Header.{context_of}
 use Rattle.rbd_machine.specs.Plan.{Plan}
 use Rattle.rbd_machine.proofs.About.{IsOfImage, of_not_there, of_on_done}
 use Rattle.rbd_piece.specs.Gather.{gather, on_bytes}
-use Rattle.rbd_piece.specs.Write.{write_piece}
+use Rattle.rbd_piece.specs.Write.{write_piece, writing}
 
 module _ (site : SiteId) (image : ℕ) where
   pub of_write : (h : HeaderView) (piece : Piece) (bytes : List ℕ) (next : Plan) → IsOfImage site image next → IsOfImage site image (write_piece site image h piece bytes next)
-  of_write h piece bytes next of = (refl, refl, of_on_done site image next of)
+  of_write h piece bytes next of =
+      (refl, refl, of_on_done site image (writing site image (context_of h) piece bytes next) (refl, refl, of_on_done site image next of))
 
   of_on_bytes : (parts : List Part) (next : List ℕ → Plan) → ((bytes : List ℕ) → IsOfImage site image (next bytes)) → (a : Answer) → IsOfImage site image (on_bytes parts next a)
   of_on_bytes parts next of (answer.Bytes bytes) = of bytes

@@ -6,15 +6,17 @@ use Rattle.rbd_kinds.specs.declared.header.HeaderView.{HeaderView}
 use Rattle.rbd_kinds.specs.declared.id.SiteId.{SiteId}
 use Rattle.rbd_kinds.specs.declared.layout.Part.{Part}
 use Rattle.rbd_layout.specs.declared.types.Piece.{Piece}
+use Rattle.rbd_header.specs.Header.{context_of}
 use Rattle.rbd_kinds.specs.Parts.{parts_len}
 use Rattle.rbd_machine.specs.Path.{IsBounded}
 use Rattle.rbd_machine.specs.Plan.{Plan}
 use Rattle.rbd_machine.proofs.Bounds.{bounded_on_done}
 use Rattle.rbd_piece.specs.Gather.{gather, on_bytes}
-use Rattle.rbd_piece.specs.Write.{write_piece}
+use Rattle.rbd_piece.specs.Write.{write_piece, writing}
 
-pub bounded_write : (site : SiteId) (image : ℕ) (h : HeaderView) (piece : Piece) (bytes : List ℕ) (next : Plan) (n : ℕ) → IsBounded next n → IsBounded (write_piece site image h piece bytes next) (suc n)
-bounded_write site image h piece bytes next n b = bounded_on_done next n b
+pub bounded_write : (site : SiteId) (image : ℕ) (h : HeaderView) (piece : Piece) (bytes : List ℕ) (next : Plan) (n : ℕ) → IsBounded next n
+    → IsBounded (write_piece site image h piece bytes next) (suc (suc n))
+bounded_write site image h piece bytes next n b = bounded_on_done (writing site image (context_of h) piece bytes next) (suc n) (bounded_on_done next n b)
 
 bounded_on_bytes : (parts : List Part) (next : List ℕ → Plan) (n : ℕ) → ((bytes : List ℕ) → IsBounded (next bytes) n) → (a : Answer) → IsBounded (on_bytes parts next a) n
 bounded_on_bytes parts next n b (answer.Bytes bytes) = b bytes

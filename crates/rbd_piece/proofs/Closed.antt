@@ -7,15 +7,17 @@ use Rattle.rbd_kinds.specs.declared.id.SiteId.{SiteId}
 use Rattle.rbd_kinds.specs.declared.layout.Part.{Part}
 use Rattle.rbd_kinds.specs.Parts.{parts_len}
 use Rattle.rbd_layout.specs.declared.types.Piece.{Piece}
+use Rattle.rbd_header.specs.Header.{context_of}
 use Rattle.rbd_machine.specs.Label.{Label}
 use Rattle.rbd_machine.specs.Plan.{Plan, IsClosed}
 use Rattle.rbd_machine.proofs.Closed.{closed_not_there, closed_on_done}
 use Rattle.rbd_piece.specs.Gather.{gather, on_bytes}
-use Rattle.rbd_piece.specs.Write.{write_piece}
+use Rattle.rbd_piece.specs.Write.{write_piece, writing}
 
 module _ (labels : Label → Plan) where
   pub closed_write : (site : SiteId) (image : ℕ) (h : HeaderView) (piece : Piece) (bytes : List ℕ) (next : Plan) → IsClosed labels next → IsClosed labels (write_piece site image h piece bytes next)
-  closed_write site image h piece bytes next closed = closed_on_done labels next closed
+  closed_write site image h piece bytes next closed =
+      closed_on_done labels (writing site image (context_of h) piece bytes next) (closed_on_done labels next closed)
 
   closed_on_bytes : (parts : List Part) (next : List ℕ → Plan) → ((bytes : List ℕ) → IsClosed labels (next bytes)) → (a : Answer) → IsClosed labels (on_bytes parts next a)
   closed_on_bytes parts next closed (answer.Bytes bytes) = closed bytes

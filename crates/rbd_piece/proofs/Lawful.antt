@@ -8,20 +8,26 @@ use Rattle.rbd_kinds.specs.declared.layout.Part.{Part}
 use Rattle.rbd_kinds.specs.Parts.{parts_len}
 use Rattle.rbd_header.specs.Header.{context_of}
 use Rattle.rbd_layout.specs.declared.types.Piece.{Piece}
-use Rattle.rbd_machine.specs.Knowledge.{Knowledge}
+use Rattle.rbd_machine.specs.Knowledge.{Knowledge, learned}
 use Rattle.rbd_machine.specs.Label.{Label}
 use Rattle.rbd_machine.specs.Lawful.{IsLawful}
-use Rattle.rbd_machine.specs.Objects.{data_write}
+use Rattle.rbd_machine.specs.Objects.{data_write, map_exists}
 use Rattle.rbd_machine.specs.Permits.{Permits}
 use Rattle.rbd_machine.specs.Plan.{Plan}
 use Rattle.rbd_machine.proofs.Lawful.{lawful_not_there, lawful_on_done}
 use Rattle.rbd_piece.specs.Gather.{gather, on_bytes}
-use Rattle.rbd_piece.specs.Write.{write_piece}
+use Rattle.rbd_piece.specs.Write.{write_piece, writing}
 
 module _ (at : Label → Knowledge) (k : Knowledge) where
   pub lawful_write : (site : SiteId) (image : ℕ) (h : HeaderView) (piece : Piece) (bytes : List ℕ) (next : Plan)
-      → Permits k site (data_write image (context_of h) piece bytes) → IsLawful at k next → IsLawful at k (write_piece site image h piece bytes next)
-  lawful_write site image h piece bytes next permits lawful = (permits, λ a can. lawful_on_done at (λ a. k) next lawful a)
+      → Permits k site (map_exists image piece.object) → Permits (learned k site (map_exists image piece.object) answer.Done) site (data_write image (context_of h) piece bytes)
+      → IsLawful at (learned k site (map_exists image piece.object) answer.Done) next → IsLawful at k (write_piece site image h piece bytes next)
+  lawful_write site image h piece bytes next may_raise may_write lawful = (
+    may_raise,
+    λ a can.
+        lawful_on_done at (learned k site (map_exists image piece.object)) (writing site image (context_of h) piece bytes next)
+        (may_write, λ b can. lawful_on_done at (λ b. learned k site (map_exists image piece.object) answer.Done) next lawful b) a,
+  )
 
   lawful_on_bytes : (parts : List Part) (next : List ℕ → Plan) → ((bytes : List ℕ) → IsLawful at k (next bytes)) → (a : Answer) → IsLawful at k (on_bytes parts next a)
   lawful_on_bytes parts next lawful (answer.Bytes bytes) = lawful bytes

@@ -3,6 +3,8 @@
 //! ```text
 //! let context = context_of(alloc, &header)?;
 //! let mut write = WritePiece::new(SiteId::A, image, context, piece, bytes);      // of object 3
+//! write.next()?              // map-set: object 3 exists, in the head's map
+//! write.feed(&done)          // More
 //! write.wants()              // an operation at site A, of the kind data-write
 //! write.next()?              // data-write of object 3, under the snapshot context
 //! write.feed(&done)          // Ended: the request goes on
@@ -21,15 +23,19 @@
 //!
 //! | part | operation | answer | what comes of it |
 //! |---|---|---|---|
-//! | [`WritePiece`] | `data-write` | `done` | it has ended |
-//! | | | `none` | NoImage |
+//! | [`WritePiece`] | `map-set` | `done` | its bytes are written |
+//! | | `data-write` | `done` | it has ended |
+//! | | either | `none` | NoImage |
 //! | [`Gather`] | `data-read`, for each piece | `bytes` | they are added, and the next piece is read |
 //! | | | `none` | as many zeros as the piece has bytes are added, and the next piece is read |
-//! | either | | `fenced` | Fenced |
+//! | either | any | `fenced` | Fenced |
 //!
 //! - A write goes to its object under the snapshot context of the header that it was made by, and
 //!   makes the object where it isn't there. Its bytes are laid to the parts of the piece one part
 //!   after another.
+//! - Before the bytes, the object's state in the head's map is set to 1 (Ceph: `OBJECT_EXISTS`). So
+//!   an object that is there is never one that the map says is absent, also where the write ends
+//!   between the two.
 //! - A gather reads the head, or one snapshot. Its bytes are those of the pieces in the order in
 //!   which they were given, and in a piece those of its parts.
 //!
@@ -41,17 +47,17 @@
 //! ([`Machine`](rbd_machine::Machine)).
 //!
 //! The definitions are read after those of `rbd_machine`. `specs/Write.antt`: `write_piece` is the
-//! plan of a piece of a write, and `rest_of_write` what is left of one. `specs/Gather.antt`:
-//! `gather` is the plan that reads pieces behind the bytes that were read before, and
-//! `rest_of_gather` what is left of one; `Gathers` says what comes of a step, and `HasRoom` for
-//! which answers it has the memory. [`laws`] says how many operations they have, and that neither
-//! begins a part again.
+//! plan of a piece of a write (`raising`, and then `writing`), and `rest_of_write` what is left of
+//! one. `specs/Gather.antt`: `gather` is the plan that reads pieces behind the bytes that were read
+//! before, and `rest_of_gather` what is left of one; `Gathers` says what comes of a step, and
+//! `HasRoom` for which answers it has the memory. [`laws`] says how many operations they have, that
+//! neither begins a part again, and that they do what they may.
 //!
 //! # Cost
 //!
 //! | call | memory |
 //! |---|---|
-//! | `WritePiece::next` | copies the parts, and the context's snapshots and the bytes where they aren't shared, since the write may have to be asked for again |
+//! | `WritePiece::next` | for the bytes, copies the parts, and the context's snapshots and the bytes where they aren't shared, since the write may have to be asked for again |
 //! | [`WritePiece::new`], [`Gather::new`], [`Gather::take_bytes`] | none |
 //! | `Gather::next` | copies the parts of one piece |
 //! | `Gather::ready` | room for the bytes of one answer; `feed` copies them there |
@@ -60,9 +66,9 @@
 //!
 //! # How it works
 //!
-//! A piece of a write has one step, so it has no stages. A gather holds the piece that it reads, a
-//! queue of those after it, and the bytes that were read: with each answer the next piece comes out
-//! of the queue, and the end is where none is left.
+//! A piece of a write has two steps, and its stage says which is next. A gather holds the piece
+//! that it reads, a queue of those after it, and the bytes that were read: with each answer the
+//! next piece comes out of the queue, and the end is where none is left.
 #![tactic(auto)]
 
 mod gather;

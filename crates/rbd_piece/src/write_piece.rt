@@ -2,6 +2,7 @@
 ghost use Rattle.std.specs.Prelude.{◌≡◌, IfOk};
 ghost use Rattle.rbd_kinds.specs.declared.machine.Fed.TheVariants as fed_with;
 ghost use Rattle.rbd_kinds.specs.declared.reply.Reply.TheVariants.{Done};
+ghost use Rattle.rbd_machine.specs.Objects.{data_write, map_exists};
 ghost use Rattle.rbd_machine.specs.Plan.{Plan, Return, Wants, Asks, plan_after, without_labels};
 ghost use Rattle.rbd_machine.specs.Steps.{Progresses, TellsDone};
 ghost use Rattle.rbd_kinds.specs.declared.header.HeaderView.{HeaderView};
@@ -9,20 +10,24 @@ ghost use Rattle.rbd_header.specs.Header.{context_of};
 ghost use Rattle.rbd_piece.specs.Write.{write_piece, rest_of_write};
 
 use rbd_kinds::{
-    Answer, Bytes, DataOp, Event, Fed, ImageId, NoMemory, Op, OpKind, Reply, SiteId, SnapContext,
-    TryClone, Turn, Want,
+    Answer, Bytes, DataOp, Event, Fed, ImageId, MapOp, NoMemory, Op, OpKind, Reply, SiteId,
+    SnapContext, TryClone, Turn, Want,
 };
 use rbd_layout::Piece;
 use rbd_machine::{Machine, Progress, Reason, told_done};
 use std::alloc::Global;
 
-/// One piece of a write: those of its bytes that go to one object.
+/// One piece of a write: those of its bytes that go to one object. Before they do, the object's
+/// state in the head's map says that it exists.
 ///
 /// ```text
-/// data-write ──none──▶ NoImage
-///    │ done
-///    ▼
-/// the end
+/// Raising   map-set ─────none──▶ NoImage
+///              │ done               ▲
+///              ▼                    │
+/// Writing   data-write ──none───────┘
+///              │ done
+///              ▼
+///           the end
 /// ```
 #[derive(Debug, Drop)]
 pub struct WritePiece {
@@ -31,6 +36,14 @@ pub struct WritePiece {
     context: SnapContext,
     piece: Piece,
     bytes: Bytes,
+    stage: Stage,
+}
+
+/// A stage of a piece: its object's state is raised, and then its bytes are written.
+#[derive(Clone, Copy, Debug)]
+pub enum Stage {
+    Raising,
+    Writing,
 }
 
 impl WritePiece {
@@ -53,6 +66,7 @@ impl WritePiece {
             context,
             piece,
             bytes,
+            stage: Stage::Raising,
         }
     }
 
@@ -67,15 +81,44 @@ impl WritePiece {
     pub fn wants(&self) -> Want
         ensures { (next : Plan) → Wants (rest_of_write self.now next) result }
     {
+        let kind = match self.stage {
+            Stage::Raising => OpKind::MapSet,
+            Stage::Writing => OpKind::DataWrite,
+        };
         Want::Op {
             site: self.site,
-            kind: OpKind::DataWrite,
+            kind,
         }
     }
 
     /// The operation that it wants.
     pub fn next(&self) -> Result<Op, NoMemory>
         ensures { (next : Plan) → IfOk result (Asks (rest_of_write self.now next)) }
+    {
+        match self.stage {
+            Stage::Raising => Ok(self.raise()),
+            Stage::Writing => self.write(),
+        }
+    }
+
+    /// State 1 of its object in the head's map: it exists.
+    fn raise(&self) -> Op
+        ensures { result ≡ map_exists self.now.image self.now.piece.object }
+    {
+        let op = MapOp::Set {
+            snap: None,
+            object: self.piece.object,
+            state: 1,
+        };
+        Op::Map {
+            image: self.image,
+            op,
+        }
+    }
+
+    /// Its bytes go to its object.
+    fn write(&self) -> Result<Op, NoMemory>
+        ensures { IfOk result (λ op. op ≡ data_write self.now.image self.now.context self.now.piece self.now.bytes) }
     {
         let op = DataOp::Write {
             context: self.context.try_clone()?,
@@ -96,7 +139,13 @@ impl WritePiece {
         ensures { (next : Plan) → Progresses next (plan_after (rest_of_write self.old next) (fed_with.Answer answer.now)) result (rest_of_write self.new next) }
     {
         match told_done(answer) {
-            Ok(()) => Progress::Ended(()),
+            Ok(()) => match self.stage {
+                Stage::Raising => {
+                    self.stage = Stage::Writing;
+                    Progress::More
+                }
+                Stage::Writing => Progress::Ended(()),
+            },
             Err(refusal) => Progress::Refused(refusal),
         }
     }

@@ -27,20 +27,25 @@ use Rattle.rbd_request.specs.Write.{put, write, write_pieces}
 
 -- ---- writes
 
-bounded_pieces : (pieces : List Piece) (site : SiteId) (image : ℕ) (h : HeaderView) (at : ℕ) (bytes : List ℕ) → IsBounded (write_pieces site image h at bytes pieces (applied site image)) (length pieces)
+bounded_pieces : (pieces : List Piece) (site : SiteId) (image : ℕ) (h : HeaderView) (at : ℕ) (bytes : List ℕ) → IsBounded (write_pieces site image h at bytes pieces (applied site image)) (2 * length pieces)
 bounded_pieces [] site image h at bytes = tt
 bounded_pieces (p ∷ pieces) site image h at bytes =
-    bounded_write site image h p (bytes_for p.parts at bytes) (write_pieces site image h at bytes pieces (applied site image)) (length pieces) (bounded_pieces pieces site image h at bytes)
+    let two_more : suc (suc (2 * length pieces)) ≡ 2 * length (p ∷ pieces) = omega arith in
+    subst (IsBounded (write_pieces site image h at bytes (p ∷ pieces) (applied site image))) two_more
+    (bounded_write site image h p (bytes_for p.parts at bytes) (write_pieces site image h at bytes pieces (applied site image)) (2 * length pieces) (bounded_pieces pieces site image h at bytes))
 
-pub bounded_put : (site : SiteId) (at : ℕ) (bytes : List ℕ) (image : ℕ) (h : HeaderView) → IsBounded (put site at bytes image h) (length (pieces_of h.layout (extent_at at bytes)))
+pub bounded_put : (site : SiteId) (at : ℕ) (bytes : List ℕ) (image : ℕ) (h : HeaderView) → IsBounded (put site at bytes image h) (2 * length (pieces_of h.layout (extent_at at bytes)))
 bounded_put site at bytes image h = bounded_pieces (pieces_of h.layout (extent_at at bytes)) site image h at bytes
 
-pub bounded_write_request : (site : SiteId) (name : List ℕ) (at : ℕ) (bytes : List ℕ) (most : ℕ) → ((h : HeaderView) → length (pieces_of h.layout (extent_at at bytes)) ≤ most) → IsBounded (write site name at bytes) (most + 3)
+pub bounded_write_request : (site : SiteId) (name : List ℕ) (at : ℕ) (bytes : List ℕ) (most : ℕ) → ((h : HeaderView) → length (pieces_of h.layout (extent_at at bytes)) ≤ most) → IsBounded (write site name at bytes) (2 * most + 3)
 bounded_write_request site name at bytes most few =
-    let three_more : suc (suc (suc most)) ≡ most + 3 = omega arith in
+    let three_more : suc (suc (suc (2 * most))) ≡ 2 * most + 3 = omega arith in
     subst (IsBounded (write site name at bytes)) three_more
-    (bounded_change site (write_refuses (extent_at at bytes)) (put site at bytes) most
-    (λ image h. bounded_more (put site at bytes image h) (length (pieces_of h.layout (extent_at at bytes))) most (few h) (bounded_put site at bytes image h)) name false)
+    (bounded_change site (write_refuses (extent_at at bytes)) (put site at bytes) (2 * most)
+    (λ image h.
+    let n = length (pieces_of h.layout (extent_at at bytes)) in
+    let less : n ≤ most = few h in
+    bounded_more (put site at bytes image h) (2 * n) (2 * most) (omega arith) (bounded_put site at bytes image h)) name false)
 
 -- ---- reads
 

@@ -16,12 +16,11 @@ use Rattle.rbd_layout.specs.Pieces.{pieces_of}
 use Rattle.rbd_layout.specs.declared.types.Piece.{Piece}
 use Rattle.rbd_header.specs.Header.{view_of}
 use Rattle.rbd_header.specs.declared.view.View.{View}
-use Rattle.rbd_machine.specs.Answers.{CanGive}
 use Rattle.rbd_machine.specs.Label as label
 use Rattle.rbd_machine.specs.Objects.{data_read}
 use Rattle.rbd_machine.specs.Path.{Answered, IsWalk}
 use Rattle.rbd_machine.specs.Plan.{Plan, Return, Goto}
-use Rattle.rbd_machine.specs.Refused.{AreGiven}
+use Rattle.rbd_machine.specs.Refused.{IsGiven, AreGiven}
 use Rattle.rbd_machine.specs.Steps.{on_id, on_header, not_there, unless}
 use Rattle.rbd_machine.specs.declared.reason.Reason.TheVariants as reason
 use Rattle.rbd_machine.proofs.Walked.{ended, asked_to, absent_ends, jump_ends_otherwise}
@@ -47,11 +46,11 @@ module _ (x : Refusal) where
       at_header true more rest w = let same = (ended (reply.Bytes (shown seen read)) more rest Refused w).1 in cc
       at_header false more rest w = absurd (jump_ends_otherwise (reply.Refused x) label.Begin more rest w)
 
-      go : (a : Answer) (more : List Fed) (rest : List Answered) → CanGive (op.Header image header.Get) a → IsWalk Goto (on_closing seen read a) more rest Refused → x ≡ refusal.Fenced
+      go : (a : Answer) (more : List Fed) (rest : List Answered) → IsGiven (op.Header image header.Get) a → IsWalk Goto (on_closing seen read a) more rest Refused → x ≡ refusal.Fenced
       go (answer.Header h) more rest can w = at_header (eqb h.generation seen.generation) more rest w
       go answer.Absent more rest can w = absurd (jump_ends_otherwise (reply.Refused x) label.Begin more rest w)
       go answer.Fenced more rest can w = fenced_by more rest w
-      go _ more rest can w = let no = can.word in cc
+      go _ more rest can w = let no = can.can.word in cc
 
   gather_fenced : (pieces : List Piece) (site : SiteId) (image : ℕ) (snap : Option ℕ) (got : List ℕ) (next : List ℕ → Plan)
       → ((bytes : List ℕ) (feds : List Fed) (steps : List Answered) → AreGiven steps → IsWalk Goto (next bytes) feds steps Refused → x ≡ refusal.Fenced)
@@ -62,13 +61,13 @@ module _ (x : Refusal) where
       let given_there = subst AreGiven w.are given in
       go w.answer w.more w.rest given_there.0 given_there.1 w.walk (λ bytes. gather_fenced pieces site image snap (got ++ bytes) next later w.more w.rest given_there.1)
     where
-      go : (a : Answer) (more : List Fed) (rest : List Answered) → CanGive (data_read image snap p) a → AreGiven rest
+      go : (a : Answer) (more : List Fed) (rest : List Answered) → IsGiven (data_read image snap p) a → AreGiven rest
           → IsWalk Goto (on_bytes p.parts (λ bytes. gather site image snap pieces (got ++ bytes) next) a) more rest Refused
           → ((bytes : List ℕ) → IsWalk Goto (gather site image snap pieces (got ++ bytes) next) more rest Refused → x ≡ refusal.Fenced) → x ≡ refusal.Fenced
       go (answer.Bytes bytes) more rest can given w on = on bytes w
       go answer.Absent more rest can given w on = on _ w
       go answer.Fenced more rest can given w on = fenced_by more rest w
-      go _ more rest can given w on = let no = can.word in cc
+      go _ more rest can given w on = let no = can.can.word in cc
 
   -- ---- up to the first look
 

@@ -21,20 +21,20 @@ use Rattle.rbd_layout.specs.declared.types.Piece.{Piece}
 use Rattle.rbd_parts.specs.Parts.{bytes_for}
 use Rattle.rbd_header.specs.Header.{context_of, view_of}
 use Rattle.rbd_header.specs.declared.view.View.{View}
-use Rattle.rbd_machine.specs.Answers.{CanGive}
 use Rattle.rbd_machine.specs.Label as label
 use Rattle.rbd_machine.specs.Path.{Answered, IsWalk}
 use Rattle.rbd_machine.specs.Plan.{Plan, Return, Goto, Standing, IsLive}
 use Rattle.rbd_machine.specs.Passes.{joined}
-use Rattle.rbd_machine.specs.Refused.{never, by_fence, AreGiven, IsRefusedBy}
+use Rattle.rbd_machine.specs.Refused.{never, by_fence, IsGiven, AreGiven, IsRefusedBy}
 use Rattle.rbd_machine.specs.Steps.{on_done, applied}
 use Rattle.rbd_machine.proofs.Refused.{IsRefusing, Answers, EndsBy, ends_by, refusing_find, refusing_look, refusing_header, refusing_change}
-use Rattle.rbd_machine.specs.Objects.{data_read, data_write}
+use Rattle.rbd_machine.specs.Objects.{data_read, data_write, map_exists}
 use Rattle.rbd_meaning.specs.Meant.{IsMeantBy}
 use Rattle.rbd_meaning.specs.Range.{extent_at, out_of_range}
 use Rattle.rbd_meaning.specs.Reads.{ReadMeans, RefusedAtLast, view_refuses, read_refuses}
 use Rattle.rbd_meaning.specs.Writes.{WriteMeans, write_refuses}
 use Rattle.rbd_piece.specs.Gather.{gather, on_bytes}
+use Rattle.rbd_piece.specs.Write.{writing}
 use Rattle.rbd_request.specs.Read.{IsReadOf, pass, read_labels, looking, reading, viewing, gathering, closing, on_closing}
 use Rattle.rbd_request.specs.Seen.{Seen, seen_at, shown}
 use Rattle.rbd_request.specs.Write.{is_write, put, write, write_pieces, write_plan}
@@ -51,18 +51,28 @@ IsDone reply.Done = Unit {0}
 IsDone _ = ⊥
 
 module _ (refuses : HeaderView → Option Refusal) where
+  refusing_raise : (changed : Bool) (image object : ℕ) (next : Plan) → IsRefusing refuses by_fence IsDone changed next
+      → (a : Answer) → IsGiven (map_exists image object) a → Answers refuses by_fence IsDone changed (map_exists image object) a (on_done next a)
+  refusing_raise changed image object next goes_on answer.Done given = inr (λ live. refl, goes_on)
+  refusing_raise changed image object next goes_on answer.Absent given = let no = given.finds in cc
+  refusing_raise changed image object next goes_on answer.Fenced given = inl (record { why = refusal.Fenced; is = refl; ends = refl; comes = λ was. refl })
+  refusing_raise changed image object next goes_on _ given = let no = given.can.word in cc
+
   refusing_piece : (changed : Bool) (image : ℕ) (context : SnapContext) (p : Piece) (bytes : List ℕ) (next : Plan) → IsRefusing refuses by_fence IsDone true next
-      → (a : Answer) → CanGive (data_write image context p bytes) a
+      → (a : Answer) → IsGiven (data_write image context p bytes) a
       → Answers refuses by_fence IsDone changed (data_write image context p bytes) a (on_done next a)
-  refusing_piece changed image context p bytes next goes_on answer.Done can = inr (λ live. refl, goes_on)
-  refusing_piece changed image context p bytes next goes_on answer.Fenced can = inl (record { why = refusal.Fenced; is = refl; ends = refl; comes = λ was. refl })
-  refusing_piece changed image context p bytes next goes_on _ can = let no = can.word in cc
+  refusing_piece changed image context p bytes next goes_on answer.Done given = inr (λ live. refl, goes_on)
+  refusing_piece changed image context p bytes next goes_on answer.Fenced given = inl (record { why = refusal.Fenced; is = refl; ends = refl; comes = λ was. refl })
+  refusing_piece changed image context p bytes next goes_on _ given = let no = given.can.word in cc
 
   refusing_pieces : (pieces : List Piece) (changed : Bool) (site : SiteId) (image : ℕ) (h : HeaderView) (at : ℕ) (bytes : List ℕ)
       → IsRefusing refuses by_fence IsDone changed (write_pieces site image h at bytes pieces (applied site image))
   refusing_pieces [] changed site image h at bytes = tt
   refusing_pieces (p ∷ pieces) changed site image h at bytes =
-      refusing_piece changed image (context_of h) p (bytes_for p.parts at bytes) (write_pieces site image h at bytes pieces (applied site image)) (refusing_pieces pieces true site image h at bytes)
+      let put = bytes_for p.parts at bytes in
+      let next = write_pieces site image h at bytes pieces (applied site image) in
+      refusing_raise changed image p.object (writing site image (context_of h) p put next)
+      (refusing_piece changed image (context_of h) p put next (refusing_pieces pieces true site image h at bytes))
 
 write_means : (site : SiteId) (name : List ℕ) (at : ℕ) (bytes : List ℕ) (feds : List Fed) (steps : List Answered) (r : Reply) → AreGiven steps
     → IsWalk Goto (write site name at bytes) feds steps (Return r) → WriteMeans site name at bytes steps r
@@ -97,12 +107,12 @@ IsShowing _ = ⊥
 
 module _ (refuses : HeaderView → Option Refusal) where
   refusing_read : (image : ℕ) (snap : Option ℕ) (p : Piece) (next : List ℕ → Plan) → ((bytes : List ℕ) → IsRefusing refuses never IsShowing false (next bytes))
-      → (a : Answer) → CanGive (data_read image snap p) a
+      → (a : Answer) → IsGiven (data_read image snap p) a
       → Answers refuses never IsShowing false (data_read image snap p) a (on_bytes p.parts next a)
   refusing_read image snap p next goes_on (answer.Bytes bytes) can = inr (λ live. refl, goes_on bytes)
   refusing_read image snap p next goes_on answer.Absent can = inr (λ live. refl, goes_on _)
   refusing_read image snap p next goes_on answer.Fenced can = inl (record { why = refusal.Fenced; is = refl; ends = refl; comes = λ was. cc })
-  refusing_read image snap p next goes_on _ can = let no = can.word in cc
+  refusing_read image snap p next goes_on _ can = let no = can.can.word in cc
 
   refusing_gather : (pieces : List Piece) (site : SiteId) (image : ℕ) (snap : Option ℕ) (read : List ℕ) (next : List ℕ → Plan)
       → ((bytes : List ℕ) → IsRefusing refuses never IsShowing false (next bytes)) → IsRefusing refuses never IsShowing false (gather site image snap pieces read next)
@@ -111,7 +121,7 @@ module _ (refuses : HeaderView → Option Refusal) where
       refusing_read image snap p (λ bytes. gather site image snap pieces (read ++ bytes) next) (λ bytes. refusing_gather pieces site image snap (read ++ bytes) next goes_on)
 
   -- it is asked for no refusal but the fence
-  refusing_closing : (image : ℕ) (seen : Seen) (read : List ℕ) (a : Answer) → CanGive (op.Header image header.Get) a
+  refusing_closing : (image : ℕ) (seen : Seen) (read : List ℕ) (a : Answer) → IsGiven (op.Header image header.Get) a
       → Answers refuses never IsShowing false (op.Header image header.Get) a (on_closing seen read a)
   refusing_closing image seen read (answer.Header h) can = inr (go (eqb h.generation seen.generation))
     where
@@ -120,7 +130,7 @@ module _ (refuses : HeaderView → Option Refusal) where
       go false = (λ live. absurd live, tt)
   refusing_closing image seen read answer.Absent can = inr (λ live. absurd live, tt)
   refusing_closing image seen read answer.Fenced can = inl (record { why = refusal.Fenced; is = refl; ends = refl; comes = λ was. cc })
-  refusing_closing image seen read _ can = let no = can.word in cc
+  refusing_closing image seen read _ can = let no = can.can.word in cc
 
 pub given_behind : (before steps : List Answered) → AreGiven (before ++ steps) → AreGiven steps
 given_behind [] steps given = given

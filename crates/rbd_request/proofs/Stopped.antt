@@ -16,7 +16,7 @@ use Rattle.rbd_layout.specs.declared.types.Piece.{Piece}
 use Rattle.rbd_parts.specs.Parts.{bytes_for}
 use Rattle.rbd_header.specs.Header.{context_of}
 use Rattle.rbd_machine.specs.About.{AreOwn, look_up}
-use Rattle.rbd_machine.specs.Objects.{data_write}
+use Rattle.rbd_machine.specs.Objects.{data_write, map_exists}
 use Rattle.rbd_machine.specs.Path.{Answered, IsWalk, found, looked_at}
 use Rattle.rbd_machine.specs.Plan.{Plan, Return, Goto}
 use Rattle.rbd_machine.specs.Refused.{by_fence, AreLooks, IsRefusedBy}
@@ -25,9 +25,9 @@ use Rattle.rbd_machine.specs.Wait as wait
 use Rattle.rbd_machine.specs.declared.reason.Reason.TheVariants as reason
 use Rattle.rbd_machine.proofs.Walked.{ended, absent_ends, asked_to, awaited_to, noted_to}
 use Rattle.rbd_meaning.specs.Range.{extent_at}
-use Rattle.rbd_meaning.specs.Writes.{write_refuses, piece_written, pieces_written, WritesSome, RefusesWrite}
+use Rattle.rbd_meaning.specs.Writes.{write_refuses, state_raised, piece_written, pieces_written, IsBegun, WritesSome, RefusesWrite}
 use Rattle.rbd_meaning.proofs.Ends.{same_front}
-use Rattle.rbd_piece.specs.Write.{write_piece}
+use Rattle.rbd_piece.specs.Write.{write_piece, writing}
 use Rattle.rbd_request.specs.Write.{put, write, write_pieces}
 
 -- up to a last operation it had only looked, or written its first pieces
@@ -40,9 +40,11 @@ pub record Stops (site : SiteId) (name : List ℕ) (at : ℕ) (bytes : List ℕ)
 record PiecesStop (site : SiteId) (image : ℕ) (h : HeaderView) (at : ℕ) (bytes : List ℕ) (all : List Piece) (steps : List Answered) : Type 0 where
   pub written : List Piece
   pub left : List Piece
+  pub begun : List Answered
   pub last : Answered
   pub pieces : all ≡ written ++ left
-  pub are : steps ≡ pieces_written site image h at bytes written ++ last ∷ []
+  pub is_begun : IsBegun site image left begun
+  pub are : steps ≡ (pieces_written site image h at bytes written ++ begun) ++ last ∷ []
 
 module _ (x : Refusal) (site : SiteId) (name : List ℕ) (at : ℕ) (bytes : List ℕ) where
   abbrev Refused : Plan
@@ -65,8 +67,45 @@ module _ (x : Refusal) (site : SiteId) (name : List ℕ) (at : ℕ) (bytes : Lis
   abbrev rest_of : (image : ℕ) → HeaderView → List Piece → Plan
   rest_of image h pieces = write_pieces site image h at bytes pieces (applied site image)
 
-  abbrev answered : (image : ℕ) → HeaderView → Piece → Answer → Answered
-  answered image h p a = record { site = site; op = data_write image (context_of h) p (bytes_of p); answer = a }
+  abbrev asked : Op → Answer → Answered
+  asked o a = record { site = site; op = o; answer = a }
+
+  abbrev raise_of : (image : ℕ) → Piece → Op
+  raise_of image p = map_exists image p.object
+
+  abbrev write_of : (image : ℕ) → HeaderView → Piece → Op
+  write_of image h p = data_write image (context_of h) p (bytes_of p)
+
+  -- the piece whose state was raised
+  piece_stops : (p : Piece) (pieces : List Piece) (image : ℕ) (h : HeaderView) (feds : List Fed) (rest steps : List Answered) → steps ≡ state_raised site image p ∷ rest
+      → ((feds : List Fed) (steps : List Answered) → IsWalk Goto (rest_of image h pieces) feds steps Refused → PiecesStop site image h at bytes pieces steps)
+      → IsWalk Goto (writing site image (context_of h) p (bytes_of p) (rest_of image h pieces)) feds rest Refused → PiecesStop site image h at bytes (p ∷ pieces) steps
+  piece_stops p pieces image h feds rest steps raised on walk =
+      let w = asked_to (reply.Refused x) site reason.Own (write_of image h p) (on_done (rest_of image h pieces)) feds rest walk in
+      go w.answer w.more w.rest (raised ∙ ap (λ s. state_raised site image p ∷ s) w.are) w.walk
+    where
+      go : (a : Answer) (more : List Fed) (last : List Answered) → steps ≡ state_raised site image p ∷ asked (write_of image h p) a ∷ last → IsWalk Goto (on_done (rest_of image h pieces) a) more last Refused
+          → PiecesStop site image h at bytes (p ∷ pieces) steps
+      go answer.Done more last are w =
+          let later = on more last w in
+          record {
+            written = p ∷ later.written;
+            left = later.left;
+            begun = later.begun;
+            last = later.last;
+            pieces = ap (λ q. p ∷ q) later.pieces;
+            is_begun = later.is_begun;
+            are = are ∙ ap (λ s. state_raised site image p ∷ piece_written site image h at bytes p ∷ s) later.are;
+          }
+      go a more last are w = record {
+        written = [];
+        left = p ∷ pieces;
+        begun = state_raised site image p ∷ [];
+        last = asked (write_of image h p) a;
+        pieces = refl;
+        is_begun = refl;
+        are = are ∙ ap (λ s. state_raised site image p ∷ asked (write_of image h p) a ∷ s) (absent_ends a more last Refused w);
+      }
 
   pieces_stop : (pieces : List Piece) (image : ℕ) (h : HeaderView) (feds : List Fed) (steps : List Answered)
       → IsWalk Goto (rest_of image h pieces) feds steps Refused → PiecesStop site image h at bytes pieces steps
@@ -76,32 +115,25 @@ module _ (x : Refusal) (site : SiteId) (name : List ℕ) (at : ℕ) (bytes : Lis
       cc
   pieces_stop (p ∷ pieces) image h feds steps walk =
       let t = awaited_to (reply.Refused x) (wait.Turn p.object) (write_piece site image h p (bytes_of p) (rest_of image h pieces)) feds steps walk in
-      let w = asked_to (reply.Refused x) site reason.Own (data_write image (context_of h) p (bytes_of p)) (on_done (rest_of image h pieces)) t.more steps t.walk in
-      go w.answer w.more w.rest w.are w.walk (pieces_stop pieces image h w.more w.rest)
+      let r = asked_to (reply.Refused x) site reason.Own (raise_of image p) (on_done (writing site image (context_of h) p (bytes_of p) (rest_of image h pieces))) t.more steps t.walk in
+      go r.answer r.more r.rest r.are r.walk (pieces_stop pieces image h)
     where
-      go : (a : Answer) (more : List Fed) (rest : List Answered) → steps ≡ answered image h p a ∷ rest → IsWalk Goto (on_done (rest_of image h pieces) a) more rest Refused
-          → (IsWalk Goto (rest_of image h pieces) more rest Refused → PiecesStop site image h at bytes pieces rest) → PiecesStop site image h at bytes (p ∷ pieces) steps
-      go answer.Done more rest are w on =
-          let later = on w in
-          record {
-            written = p ∷ later.written;
-            left = later.left;
-            last = later.last;
-            pieces = ap (λ q. p ∷ q) later.pieces;
-            are = are ∙ ap (λ s. piece_written site image h at bytes p ∷ s) later.are;
-          }
-      go a more rest are w on = record {
+      go : (a : Answer) (more : List Fed) (rest : List Answered) → steps ≡ asked (raise_of image p) a ∷ rest
+          → IsWalk Goto (on_done (writing site image (context_of h) p (bytes_of p) (rest_of image h pieces)) a) more rest Refused
+          → ((feds : List Fed) (steps : List Answered) → IsWalk Goto (rest_of image h pieces) feds steps Refused → PiecesStop site image h at bytes pieces steps)
+          → PiecesStop site image h at bytes (p ∷ pieces) steps
+      go answer.Done more rest are r on = piece_stops p pieces image h more rest steps are on r
+      go a more rest are r on = record {
         written = [];
         left = p ∷ pieces;
-        last = answered image h p a;
+        begun = [];
+        last = asked (raise_of image p) a;
         pieces = refl;
-        are = are ∙ ap (λ s. answered image h p a ∷ s) (absent_ends a more rest Refused w);
+        is_begun = tt;
+        are = are ∙ ap (λ s. asked (raise_of image p) a ∷ s) (absent_ends a more rest Refused r);
       }
 
   -- ---- the looks
-
-  abbrev asked : Op → Answer → Answered
-  asked o a = record { site = site; op = o; answer = a }
 
   own_stops : (image : ℕ) (first own : HeaderView) → refuses first ≡ None → (feds : List Fed) (rest steps : List Answered)
       → steps ≡ found site name image ∷ looked_at site image first ∷ looked_at site image own ∷ rest
@@ -117,7 +149,7 @@ module _ (x : Refusal) (site : SiteId) (name : List ℕ) (at : ℕ) (bytes : Lis
       let n = noted_to (reply.Refused x) site image (event.Write at bytes) (write_pieces site image own at bytes pieces (applied site image)) feds rest walk in
       let stop = pieces_stop pieces image own n.more rest n.walk in
       record {
-        before = found site name image ∷ looked_at site image first ∷ looked_at site image own ∷ pieces_written site image own at bytes stop.written;
+        before = found site name image ∷ looked_at site image first ∷ looked_at site image own ∷ (pieces_written site image own at bytes stop.written ++ stop.begun);
         last = stop.last;
         are = are ∙ ap (λ s. found site name image ∷ looked_at site image first ∷ looked_at site image own ∷ s) stop.are;
         so_far = inr (record {
@@ -129,6 +161,8 @@ module _ (x : Refusal) (site : SiteId) (name : List ℕ) (at : ℕ) (bytes : Lis
           written = stop.written;
           left = stop.left;
           pieces = stop.pieces;
+          begun = stop.begun;
+          is_begun = stop.is_begun;
           are = refl;
         });
       }

@@ -14,12 +14,12 @@ use Rattle.rbd_machine.specs.Plan.{Return, Goto}
 use Rattle.rbd_machine.specs.Wait as wait
 use Rattle.rbd_machine.specs.declared.reason.Reason.TheVariants as reason
 use Rattle.rbd_machine.specs.Steps.{on_done, applied}
-use Rattle.rbd_machine.specs.Objects.{data_write}
-use Rattle.rbd_piece.specs.Write.{write_piece}
+use Rattle.rbd_machine.specs.Objects.{data_write, map_exists}
+use Rattle.rbd_piece.specs.Write.{write_piece, writing}
 use Rattle.rbd_request.specs.Write.{put, write, write_pieces}
 use Rattle.rbd_machine.proofs.Walked.{ended, went_on, awaited, noted, told_done, changed}
 use Rattle.rbd_meaning.specs.Range.{extent_at}
-use Rattle.rbd_meaning.specs.Writes.{WritesWhole, piece_written, pieces_written}
+use Rattle.rbd_meaning.specs.Writes.{WritesWhole, state_raised, piece_written, pieces_written}
 use Rattle.rbd_meaning.specs.Writes.{write_refuses}
 
 -- ---- the pieces
@@ -32,11 +32,16 @@ written [] site image h at bytes feds steps walk =
 written (p ∷ pieces) site image h at bytes feds steps walk =
     let next = write_pieces site image h at bytes pieces (applied site image) in
     let put = bytes_for p.parts at bytes in
+    let later = writing site image (context_of h) p put next in
     let t = awaited (Return reply.Done) tt (wait.Turn p.object) (write_piece site image h p put next) feds steps walk in
-    let w = went_on (Return reply.Done) tt site reason.Own (data_write image (context_of h) p put) (on_done next) t.more steps t.walk in
+    let r = went_on (Return reply.Done) tt site reason.Own (map_exists image p.object) (on_done later) t.more steps t.walk in
+    let s = told_done (Return reply.Done) tt later r.answer r.more r.rest r.walk in
+    let w = went_on (Return reply.Done) tt site reason.Own (data_write image (context_of h) p put) (on_done next) r.more r.rest s.walk in
     let d = told_done (Return reply.Done) tt next w.answer w.more w.rest w.walk in
-    w.are ∙ ap (λ a. record { site = site; op = data_write image (context_of h) p put; answer = a } ∷ w.rest) d.is
-    ∙ ap (λ s. piece_written site image h at bytes p ∷ s) (written pieces site image h at bytes w.more w.rest d.walk)
+    r.are ∙ ap (λ a. record { site = site; op = map_exists image p.object; answer = a } ∷ r.rest) s.is
+    ∙ ap (λ steps. state_raised site image p ∷ steps)
+    (w.are ∙ ap (λ a. record { site = site; op = data_write image (context_of h) p put; answer = a } ∷ w.rest) d.is
+    ∙ ap (λ steps. piece_written site image h at bytes p ∷ steps) (written pieces site image h at bytes w.more w.rest d.walk))
 
 -- ---- the whole
 

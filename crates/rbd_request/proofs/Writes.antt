@@ -19,7 +19,9 @@ use Rattle.rbd_machine.specs.Plan.{Plan, Await, Note, plan_after, IsAsking, IsLi
 use Rattle.rbd_machine.specs.Wait as wait
 use Rattle.rbd_machine.specs.declared.reason.Reason.TheVariants as reason
 use Rattle.rbd_machine.specs.Steps.{applied}
-use Rattle.rbd_piece.specs.Write.{write_piece, rest_of_write}
+use Rattle.rbd_piece.specs.Write.{write_piece, rest_from, rest_of_write}
+use Rattle.rbd_piece.specs.declared.write_piece.Stage as of_piece
+use Rattle.rbd_piece.specs.declared.write_piece.Stage.TheVariants as step
 use Rattle.rbd_piece.specs.declared.write_piece.WritePiece.{WritePiece}
 use Rattle.rbd_machine.proofs.Approached.{approach_asks_by_itself}
 use Rattle.rbd_meaning.specs.Range.{out_of_range, extent_at}
@@ -64,6 +66,12 @@ pub rest_of_more : (made : List WritePiece) (w : WritePiece) (next : Plan)
 rest_of_more [] w next = refl
 rest_of_more (v ∷ made) w next = ap (λ rest. Await (wait.Turn v.piece.object) (rest_of_write v rest)) (rest_of_more made w next)
 
+-- ---- in a piece
+
+piece_asks_by_itself : (s : of_piece.Stage) (w : WritePiece) (next : Plan) → AsksBy (rest_from s w next) reason.Own
+piece_asks_by_itself step.Raising w next = refl
+piece_asks_by_itself step.Writing w next = refl
+
 -- ---- stages
 
 -- all that it asks for is its own
@@ -71,7 +79,7 @@ pub asks_by_itself : (s : Stage) (w : WriteRequest) → AsksBy (rest_at s w) rea
 asks_by_itself stage.Approaching w = approach_asks_by_itself w.approach (write_refuses (extent_at w.at w.bytes)) (put w.site w.at w.bytes) w.approach.stage
 asks_by_itself (stage.Noting image) w = tt
 asks_by_itself (stage.Waiting image) w = waiting_asks_by_itself w.pieces.items w.site image
-asks_by_itself (stage.Writing image piece) w = refl
+asks_by_itself (stage.Writing image piece) w = piece_asks_by_itself piece.stage piece (rest_of_pieces w.pieces.items (applied w.site image))
 
 -- ---- extents
 

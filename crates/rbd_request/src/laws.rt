@@ -24,13 +24,13 @@ ghost use Rattle.rbd_meaning.specs.Writes.{WritesWhole};
 ghost use Rattle.rbd_request.specs.Read.{IsReadOf, pass, read_labels};
 ghost use Rattle.rbd_request.specs.Write.{is_write, objects_of, put, write, write_plan};
 
-/// A write has one operation for each piece behind its own look, and three before.
+/// A write has two operations for each piece behind its own look, and three before.
 pub fn writes_are_bounded()
     ensures pieces { (site : SiteId) (at : ℕ) (bytes : List ℕ) (image : ℕ) (h : HeaderView)
-        → IsBounded (put site at bytes image h) (length (pieces_of h.layout (extent_at at bytes))) }
+        → IsBounded (put site at bytes image h) (2 * length (pieces_of h.layout (extent_at at bytes))) }
     ensures all { (site : SiteId) (name : List ℕ) (at : ℕ) (bytes : List ℕ) (most : ℕ)
         → ((h : HeaderView) → length (pieces_of h.layout (extent_at at bytes)) ≤ most)
-        → IsBounded (write site name at bytes) (most + 3) }
+        → IsBounded (write site name at bytes) (2 * most + 3) }
 {}
 
 /// A pass of a read has one operation for each piece, and three beside: it finds its image, and
@@ -70,15 +70,15 @@ pub fn bytes_are_shown_between_looks()
 {}
 
 /// A write is done only when each of its pieces was written by its own look, under the snapshot
-/// context of that look, and it has done nothing else but to look up its image and look at its
-/// header.
+/// context of that look and behind its object's state, and it has done nothing else but to look up
+/// its image and look at its header.
 pub fn writes_are_whole()
     ensures { (site : SiteId) (name : List ℕ) (at : ℕ) (bytes : List ℕ) (feds : List Fed) (steps : List Answered)
         → IsWalk Goto (write site name at bytes) feds steps (Return Done) → WritesWhole site name at bytes steps }
 {}
 
 /// A write and a fill are lawful from nothing known: each piece is written under the snapshot
-/// context and within the size that the own look told, at its turn.
+/// context and within the size that the own look told, at its turn and behind its object's state.
 pub fn writes_are_lawful()
     ensures { (home : SiteId) (command : Command) → IsLawfulRequest (without_labels (write_plan home command)) }
 {}
@@ -89,9 +89,9 @@ pub fn reads_are_lawful()
 {}
 
 /// A reply is meant by its command, behind the operations that were done (`IsMeantBy` of
-/// `rbd_meaning`), where each answer is one that its operation can give: it was written or is shown
-/// when a request isn't refused, and when it is, the last answer refused it, and none before. No
-/// other reply comes.
+/// `rbd_meaning`), where each answer is one that its operation can give to who owns what it
+/// changes: it was written or is shown when a request isn't refused, and when it is, the last
+/// answer refused it, and none before. No other reply comes.
 pub fn replies_are_meant()
     ensures write { (home : SiteId) (command : Command) (feds : List Fed) (steps : List Answered) (reply : Reply) → is_write command ≡ true → AreGiven steps
         → IsWalk Goto (write_plan home command) feds steps (Return reply) → IsMeantBy home command steps reply }

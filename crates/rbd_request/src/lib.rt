@@ -5,7 +5,8 @@
 //! let mut request = WriteRequest::new(alloc, SiteId::A, command)?;    // write disk 4094 hello
 //! loop {
 //!     request.wants()              // dir-find, to join the line, header-get, the lock, header-get, its event noted,
-//!                                  // its turn at object 0, data-write, its turn at object 1, data-write, applied
+//!                                  // its turn at object 0, map-set, data-write,
+//!                                  // its turn at object 1, map-set, data-write, applied
 //!     request.next(alloc)?         // the operation, where it wants one; `event` tells the event
 //!     request.ready(alloc, &fed)?  // takes the memory that the answer needs
 //!     match request.feed(&fed) {
@@ -19,7 +20,7 @@
 //!
 //! | command | steps | refused |
 //! |---|---|---|
-//! | `write`, `fill` | `dir-find`, the image's line (beside other writes), `header-get`, the lock, `header-get`, the event noted, for each object its turn and a `data-write`, the event counts as applied | NoImage, NonPrimary, BadRange |
+//! | `write`, `fill` | `dir-find`, the image's line (beside other writes), `header-get`, the lock, `header-get`, the event noted, for each object its turn, a `map-set` and a `data-write`, the event counts as applied | NoImage, NonPrimary, BadRange |
 //! | `read` | `dir-find`, `header-get`, a `data-read` for each object, `header-get` | NoImage, NoSnap, BadRange |
 //!
 //! Refusals are tested in the order of the table, those of a write at both looks. Any operation may
@@ -28,7 +29,7 @@
 //! A fill is a write of one byte many times. A write's pieces are those of its extent by the
 //! striping that the own look told (Ceph: RBD striping), object by object in the order of their
 //! numbers, under the snapshot context of that header. They are made at the own look, before the
-//! event is noted.
+//! event is noted. Before a piece's bytes, the head's map says that its object exists.
 //!
 //! A read takes no lock. It looks at the header before and after, and where the generation is
 //! another, or the header is gone, it begins again with `dir-find`. So its bytes are those of one
@@ -43,21 +44,21 @@
 //! header, and the bytes that it shows (`shown`). `specs/Read.antt`: a pass over the objects
 //! between two looks (`pass`), its closing look (`on_closing`), and where it stands (`rest_at`).
 //! What they refuse, and what their replies mean, stands in `rbd_meaning`. [`laws`] says what such
-//! plans come to: a write is done only when each of its pieces was written by its own look, its
-//! turns are those at the objects of its pieces, ascending, a read shows bytes only in a pass
-//! between two looks at a header that didn't change, however often it began again, each reply is
-//! meant, refusals among them, the plans are lawful from nothing known (`rbd_machine`), and how
-//! many operations they have.
+//! plans come to: a write is done only when each of its pieces was written by its own look and
+//! behind its object's state, its turns are those at the objects of its pieces, ascending, a read
+//! shows bytes only in a pass between two looks at a header that didn't change, however often it
+//! began again, each reply is meant, refusals among them, the plans are lawful from nothing known
+//! (`rbd_machine`), and how many operations they have.
 //!
 //! # Cost
 //!
-//! A request takes a step for each thing that it wants, and each object that is touched is asked
-//! for once; a read that begins again takes all its steps again. The bytes of a write lie in memory
-//! once: the request takes them over from the command, and its event, its pieces and their
-//! operations share them. Only those of a piece with several parts, which lie apart in the
-//! command's bytes, are gathered, once, at the own look. The snapshot context is one for all
-//! pieces. Those of a read are copied once from the answers to behind one another, and once into
-//! the reply, in the order of the image.
+//! A request takes a step for each thing that it wants. A write asks twice for each object that it
+//! touches, for its state and for its bytes, and a read once; a read that begins again takes all
+//! its steps again. The bytes of a write lie in memory once: the request takes them over from the
+//! command, and its event, its pieces and their operations share them. Only those of a piece with
+//! several parts, which lie apart in the command's bytes, are gathered, once, at the own look. The
+//! snapshot context is one for all pieces. Those of a read are copied once from the answers to
+//! behind one another, and once into the reply, in the order of the image.
 //!
 //! Memory is taken by [`WriteRequest::new`], `next`, `event` and `ready`, and these may be refused
 //! it without a change. [`ReadRequest::new`], `wants` and `feed` take none.

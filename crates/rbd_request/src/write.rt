@@ -30,7 +30,7 @@ use std::collections::VecDeque;
 ///    │
 /// Waiting ◀─────┐  its turn at the next object
 ///    │          │
-/// Writing ──────┘  data-write, done
+/// Writing ──────┘  map-set, data-write, done   (see `WritePiece`)
 ///    │ no piece is left
 /// Waiting       the event counts as applied
 ///    │

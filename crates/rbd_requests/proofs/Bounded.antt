@@ -22,7 +22,7 @@ use Rattle.rbd_request.proofs.Bounded.{bounded_closing, bounded_put}
 use Rattle.rbd_request.specs.Read.{IsReadOf, pass, looking, reading, viewing, gathering, closing}
 use Rattle.rbd_request.specs.Seen.{seen_at}
 use Rattle.rbd_request.specs.Write.{is_write, put, write, write_plan}
-use Rattle.rbd_admin.proofs.Bounds.{bounded_create, bounded_listing, bounded_names, bounded_snap}
+use Rattle.rbd_admin.proofs.Bounds.{bounded_create, bounded_listing, bounded_names, bounded_removal, bounded_snap}
 use Rattle.rbd_admin.specs.Create.{IsCreatePlan}
 use Rattle.rbd_admin.specs.Listing.{is_listing, listing_plan}
 use Rattle.rbd_admin.specs.Snap.{is_snap, snap_plan}
@@ -34,12 +34,14 @@ use Rattle.rbd_requests.specs.Touched.{bound_of, touched_by, AsksAtMost, HasAtMo
 
 -- ---- write, fill
 
-write_asks_few : (site : SiteId) (name : List ℕ) (from : ℕ) (bytes : List ℕ) (most : ℕ) → HasAtMost most (Some (extent_at from bytes)) → AsksAtMost (write site name from bytes) (most + 3)
+write_asks_few : (site : SiteId) (name : List ℕ) (from : ℕ) (bytes : List ℕ) (most : ℕ) → HasAtMost most (Some (extent_at from bytes)) → AsksAtMost (write site name from bytes) (2 * most + 3)
 write_asks_few site name from bytes most few =
-    let three_more : suc (suc (suc most)) ≡ most + 3 = omega arith in
+    let three_more : suc (suc (suc (2 * most))) ≡ 2 * most + 3 = omega arith in
     subst (AsksAtMost (write site name from bytes)) three_more
-    (asks_change site (write_refuses (extent_at from bytes)) (put site from bytes) most
-    (λ image h form. asks_within (put site from bytes image h) (length (pieces_of h.layout (extent_at from bytes))) most (few h form) (bounded_put site from bytes image h)) name false)
+    (asks_change site (write_refuses (extent_at from bytes)) (put site from bytes) (2 * most)
+    (λ image h form.
+    let pieces = few h form in
+    asks_within (put site from bytes image h) (2 * length (pieces_of h.layout (extent_at from bytes))) (2 * most) (omega arith) (bounded_put site from bytes image h)) name false)
 
 write_plan_asks_few : (site : SiteId) (c : Command) (most : ℕ) → is_write c ≡ true → HasAtMost most (touched_by c) → AsksAtMost (write_plan site c) (bound_of c most)
 write_plan_asks_few site (command.Write image from bytes) most is few = write_asks_few site image from bytes most few
@@ -91,7 +93,7 @@ listing_asks_few site _ most is = cc
 
 snap_asks_few : (site : SiteId) (c : Command) (most : ℕ) → is_snap c ≡ true → IsBounded (snap_plan site c) (bound_of c most)
 snap_asks_few site (command.SnapCreate image snap) most is = bounded_snap site (command.SnapCreate image snap)
-snap_asks_few site (command.SnapRemove image snap) most is = bounded_snap site (command.SnapRemove image snap)
+snap_asks_few site (command.SnapRemove image snap) most is = bounded_removal site image snap
 snap_asks_few site _ most is = cc
 
 close_asks_few : (site : SiteId) (c : Command) (most : ℕ) → is_close c ≡ true → IsBounded (close_plan site c) (bound_of c most)

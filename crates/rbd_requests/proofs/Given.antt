@@ -16,7 +16,7 @@ use Rattle.rbd_machine.specs.Label.{Label}
 use Rattle.rbd_machine.specs.Passes.{jumps, jumps_at}
 use Rattle.rbd_machine.specs.Path.{Answered, IsBounded, IsWalk}
 use Rattle.rbd_machine.specs.Plan.{Plan, Ask, Await, Note, Return, Goto, settled}
-use Rattle.rbd_machine.specs.Refused.{AreGiven}
+use Rattle.rbd_machine.specs.Refused.{AreGiven, IsGiven}
 use Rattle.rbd_machine.specs.Steps.{on_id, on_header, unless, change, joining, looking, looked, holding, owning, owned}
 use Rattle.rbd_requests.specs.Touched.{AsksAtMost}
 
@@ -82,8 +82,8 @@ module _ (labels : Label → Plan) (n : ℕ) (each : (label : Label) → AsksAtM
   walk_asks [] plan m steps last few given (none, same) = let no : length steps ≡ 0 = ap length none in omega arith
   walk_asks (fed.Answer a ∷ more) (Ask site why op next) zero steps last few given (first, walk) = absurd few
   walk_asks (fed.Answer a ∷ more) (Ask site why op next) (suc m) steps last few given (first, walk) =
-      let are : CanGive op a × AreGiven first.rest = subst AreGiven first.is given in
-      let s = settle (next a) m (few a are.0) in
+      let are : IsGiven op a × AreGiven first.rest = subst AreGiven first.is given in
+      let s = settle (next a) m (few a are.0.can) in
       let short = kept (next a) m (jumps labels (settled labels (next a)) more) (length first.rest) s (walk_asks more (settled labels (next a)) s.most first.rest last s.few are.1 walk) in
       let one_more : length steps ≡ suc (length first.rest) = ap length first.is in
       omega arith

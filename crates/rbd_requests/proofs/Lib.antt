@@ -1,4 +1,5 @@
 pub mod Closed
+pub mod Counts
 pub mod Bounded
 pub mod Turns
 pub mod Begun

@@ -1,12 +1,13 @@
 -- Where a plan looks at a header, what isn't there and the fence end it: step by step, and along a
 -- walk.
-use Rattle.std.proofs.Common.{◌≡◌, ◌⊎◌, inl, inr, ℕ, List, [], ◌∷◌, replicate, true, false, Option, Some, None, refl, sym, ◌∙◌, subst}
+use Rattle.std.proofs.Common.{◌≡◌, ◌⊎◌, inl, inr, ℕ, ◌+◌, List, [], ◌∷◌, replicate, true, false, Option, Some, None, refl, sym, ◌∙◌, subst}
 use Rattle.rbd_kinds.specs.declared.answer.Answer.{Answer}
 use Rattle.rbd_kinds.specs.declared.answer.Answer.TheVariants as answer
 use Rattle.rbd_commands.specs.declared.command.Command.{Command}
 use Rattle.rbd_commands.specs.declared.command.Command.TheVariants as command
 use Rattle.rbd_commands.specs.declared.command.Shape.{Shape}
 use Rattle.rbd_kinds.specs.declared.header.HeaderView.{HeaderView}
+use Rattle.rbd_kinds.specs.declared.header.SnapContext.{SnapContext}
 use Rattle.rbd_kinds.specs.declared.header.SnapView.{SnapView}
 use Rattle.rbd_kinds.specs.declared.header_op.HeaderOp.TheVariants as header
 use Rattle.rbd_kinds.specs.declared.id.SiteId.{SiteId}
@@ -21,7 +22,7 @@ use Rattle.rbd_kinds.specs.Header.{snap_named}
 use Rattle.rbd_layout.specs.Asked.{layout_of, KeepsLimits}
 use Rattle.rbd_layout.specs.Pieces.{pieces_of}
 use Rattle.rbd_layout.specs.declared.types.Piece.{Piece}
-use Rattle.rbd_header.specs.Header.{new_header}
+use Rattle.rbd_header.specs.Header.{context_of, new_header}
 use Rattle.rbd_machine.specs.Path.{Answered, IsWalk}
 use Rattle.rbd_machine.specs.Plan.{Plan, Ask, Await, Note, Return, Goto, Standing, settled, without_labels}
 use Rattle.rbd_machine.specs.Refused.{refuses_none}
@@ -32,11 +33,12 @@ use Rattle.rbd_meaning.specs.Listings.{shown_snaps}
 use Rattle.rbd_meaning.specs.Range.{extent_at}
 use Rattle.rbd_meaning.specs.Snaps.{create_refuses, remove_refuses}
 use Rattle.rbd_meaning.specs.Writes.{write_refuses}
+use Rattle.rbd_piece.specs.Write.{raising, writing}
 use Rattle.rbd_request.specs.Read.{is_read, IsReadOf}
 use Rattle.rbd_request.specs.Write.{put, write, write_pieces, write_plan}
-use Rattle.rbd_admin.specs.Create.{IsCreate, IsCreatePlan, on_drawn, making, drawing}
+use Rattle.rbd_admin.specs.Create.{IsCreate, IsCreatePlan, on_drawn, making, mapping, drawing}
 use Rattle.rbd_admin.specs.Listing.{on_names, showing, show_header, listing_plan}
-use Rattle.rbd_admin.specs.Snap.{on_snap, take, remove_listed, remove, snap_plan}
+use Rattle.rbd_admin.specs.Snap.{on_snap, on_bits, on_gone, taking, putting, take, unmapping, remove_listed, remove, snap_plan}
 use Rattle.rbd_admin.proofs.Decided.{limits_or_not}
 use Rattle.rbd_close.specs.Close.{done, unwatching, on_dropped, joining, quiesced, resumed, saying, close_plan}
 use Rattle.rbd_requests.specs.Served.{IsPlanFor, Writes, Reads, Creates, Lists, Snaps, Closes}
@@ -97,10 +99,13 @@ at_change site name alone refuses act acts = (
 
 -- ---- write, fill
 
+at_raising : (site : SiteId) (image : ℕ) (context : SnapContext) (piece : Piece) (bytes : List ℕ) (next : Plan) → LooksEnd next → LooksEnd (raising site image context piece bytes next)
+at_raising site image context piece bytes next ends = (tt, at_done (writing site image context piece bytes next) (tt, at_done next ends))
+
 at_pieces : (pieces : List Piece) (site : SiteId) (image : ℕ) (h : HeaderView) (from : ℕ) (bytes : List ℕ) → LooksEnd (write_pieces site image h from bytes pieces (applied site image))
 at_pieces [] site image h from bytes = tt
 at_pieces (p ∷ pieces) site image h from bytes =
-    (tt, at_done (write_pieces site image h from bytes pieces (applied site image)) (at_pieces pieces site image h from bytes))
+    at_raising site image (context_of h) p _ (write_pieces site image h from bytes pieces (applied site image)) (at_pieces pieces site image h from bytes)
 
 at_write : (site : SiteId) (name : List ℕ) (from : ℕ) (bytes : List ℕ) → LooksEnd (write site name from bytes)
 at_write site name from bytes =
@@ -120,14 +125,15 @@ at_drawn next ends answer.Exists = tt
 at_drawn next ends answer.Full = tt
 at_drawn next ends a = at_not_there a
 
-at_drawing : (site : SiteId) (name : List ℕ) (h : HeaderView) → LooksEnd (drawing site name h)
-at_drawing site name h = (tt, at_drawn (making site h) (λ image. (tt, at_done (Return reply.Done) tt)))
+at_drawing : (site : SiteId) (name : List ℕ) (objects : ℕ) (h : HeaderView) → LooksEnd (drawing site name objects h)
+at_drawing site name objects h =
+    (tt, at_drawn (mapping site objects h) (λ image. (tt, at_done (making site h image) (tt, at_done (Return reply.Done) tt))))
 
 at_is_create : (site : SiteId) (name : List ℕ) (size : ℕ) (shape : Shape) (plan : Plan) → IsCreate site name size shape plan → LooksEnd plan
 at_is_create site name size shape plan is = go (limits_or_not (layout_of shape) size)
   where
     go : KeepsLimits (layout_of shape) size ⊎ (KeepsLimits (layout_of shape) size → ⊥) → LooksEnd plan
-    go (inl keeps) = subst LooksEnd (sym (is.within keeps)) (at_drawing site name (new_header (layout_of shape) size))
+    go (inl keeps) = subst LooksEnd (sym (is.within keeps)) (at_drawing site name is.objects (new_header (layout_of shape) size))
     go (inr fails) = subst LooksEnd (sym (is.outside fails)) tt
 
 at_create : (site : SiteId) (c : Command) (plan : Plan) → IsCreatePlan site c plan → LooksEnd plan
@@ -155,12 +161,25 @@ at_snap : (next : Plan) → LooksEnd next → (a : Answer) → LooksEnd (on_snap
 at_snap next ends (answer.Snap snap) = ends
 at_snap next ends a = at_not_there a
 
+at_bits : (next : List ℕ → Plan) → ((bits : List ℕ) → LooksEnd (next bits)) → (a : Answer) → LooksEnd (on_bits next a)
+at_bits next ends (answer.Bits bits) = ends bits
+at_bits next ends a = at_not_there a
+
+at_gone : (next : Plan) → LooksEnd next → (a : Answer) → LooksEnd (on_gone next a)
+at_gone next ends answer.Done = ends
+at_gone next ends answer.Absent = ends
+at_gone next ends a = at_not_there a
+
+at_take : (site : SiteId) (snap : List ℕ) (image : ℕ) (h : HeaderView) → LooksEnd (take site snap image h)
+at_take site snap image h =
+    (tt, at_bits (putting site snap image (h.snap_seq + 1)) (λ bits. (tt, at_done (taking site snap image) (tt, at_snap (applied site image) tt))))
+
 at_removal : (site : SiteId) (snap : List ℕ) (image : ℕ) (listed : Option SnapView) → LooksEnd (remove_listed site snap image listed)
 at_removal site snap image None = tt
-at_removal site snap image (Some listed) = (tt, at_done (applied site image) tt)
+at_removal site snap image (Some listed) = (tt, at_done (unmapping site image listed.id) (tt, at_gone (applied site image) tt))
 
 at_snap_plan : (site : SiteId) (c : Command) → LooksEnd (snap_plan site c)
-at_snap_plan site (command.SnapCreate image snap) = at_change site image true (create_refuses snap) (take site snap) (λ i h. (tt, at_snap (applied site i) tt))
+at_snap_plan site (command.SnapCreate image snap) = at_change site image true (create_refuses snap) (take site snap) (at_take site snap)
 at_snap_plan site (command.SnapRemove image snap) = at_change site image true (remove_refuses snap) (remove site snap) (λ i h. at_removal site snap i (snap_named h.snaps snap))
 at_snap_plan site _ = tt
 

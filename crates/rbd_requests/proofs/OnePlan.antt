@@ -17,6 +17,7 @@ use Rattle.rbd_admin.specs.Listing.{is_listing, listing_plan}
 use Rattle.rbd_admin.specs.Snap.{is_snap, snap_plan}
 use Rattle.rbd_admin.proofs.Decided.{limits_or_not}
 use Rattle.rbd_close.specs.Close.{is_close, close_plan}
+use Rattle.rbd_requests.proofs.Counts.{has_count, one_count}
 use Rattle.rbd_requests.specs.Served.{is_built, HasOnePlan, IsPlanFor, Writes, Reads, Creates, Lists, Snaps, Closes}
 use Rattle.rbd_requests.specs.declared.kind.Kind.{Kind}
 use Rattle.rbd_requests.specs.declared.kind.Kind.TheVariants as kind
@@ -112,12 +113,15 @@ only_reads home c s k (Lists is at_plan) = let no : kind.Read ≡ kind.List = sy
 only_reads home c s k (Snaps is at_plan) = let no : kind.Read ≡ kind.Snap = sym k ∙ is_of_snaps c is in cc
 only_reads home c s k (Closes is at_plan) = let no : kind.Read ≡ kind.Close = sym k ∙ is_of_closes c is in cc
 
--- a create has one plan, since whether its shape keeps the limits is decided
+-- a create has one plan, since whether its shape keeps the limits is decided, and a size has one
+-- number of objects
 one_create : (home : SiteId) (name : List ℕ) (size : ℕ) (shape : Shape) (one other : Plan) → IsCreate home name size shape one → IsCreate home name size shape other → other ≡ one
 one_create home name size shape one other is also = go (limits_or_not (layout_of shape) size)
   where
     go : KeepsLimits (layout_of shape) size ⊎ (KeepsLimits (layout_of shape) size → ⊥) → other ≡ one
-    go (inl keeps) = also.within keeps ∙ sym (is.within keeps)
+    go (inl keeps) =
+        let same = one_count (layout_of shape) size is.objects also.objects (is.counted keeps) (also.counted keeps) in
+        also.within keeps ∙ ap (λ objects. drawing home name objects (new_header (layout_of shape) size)) same ∙ sym (is.within keeps)
     go (inr fails) = also.outside fails ∙ sym (is.outside fails)
 
 pub only_creates : (home : SiteId) (name : List ℕ) (size : ℕ) (shape : Shape) (plan : Plan) (s : Standing)
@@ -160,9 +164,17 @@ creates_once home name size shape plain = go (limits_or_not (layout_of shape) si
   where
     go : KeepsLimits (layout_of shape) size ⊎ (KeepsLimits (layout_of shape) size → ⊥) → HasOnePlan home (command.Create name size shape)
     go (inl keeps) =
-        let plan = drawing home name (new_header (layout_of shape) size) in
-        creates_by home name size shape plan (record { plain = plain; outside = λ fails. absurd (fails keeps); within = λ k. refl })
-    go (inr fails) = creates_by home name size shape (refused refusal.BadShape) (record { plain = plain; outside = λ f. refl; within = λ keeps. absurd (fails keeps) })
+        let has = has_count (layout_of shape) size in
+        let plan = drawing home name has.count (new_header (layout_of shape) size) in
+        creates_by home name size shape plan (record { plain = plain; outside = λ fails. absurd (fails keeps); objects = has.count; counted = λ k. has.is; within = λ k. refl })
+    go (inr fails) =
+        creates_by home name size shape (refused refusal.BadShape) (record {
+          plain = plain;
+          outside = λ f. refl;
+          objects = 0;
+          counted = λ keeps. absurd (fails keeps);
+          within = λ keeps. absurd (fails keeps);
+        })
 
 without_journal : (name : List ℕ) (size : ℕ) (shape : Shape) → is_built (command.Create name size shape) ≡ true → shape.journal ≡ false
 without_journal name size shape built = go shape.journal refl

@@ -1,6 +1,6 @@
 -- The requests of commands keep to their line: lemmas that the laws of an `impl` cite. They define
 -- nothing.
-use Rattle.std.proofs.Common.{◌≡◌, ◌⊎◌, inl, inr, ℕ, List, [], ◌∷◌, ◌++◌, replicate, Bool, true, false, cond, eqb, Option, Some, None, refl, ap, sym, subst}
+use Rattle.std.proofs.Common.{◌≡◌, ◌⊎◌, inl, inr, ℕ, ◌+◌, List, [], ◌∷◌, ◌++◌, replicate, Bool, true, false, cond, eqb, Option, Some, None, refl, ap, sym, subst}
 use Rattle.std.proofs.lemmas.List.{length-replicate}
 use Rattle.rbd_kinds.specs.declared.answer.Answer.{Answer}
 use Rattle.rbd_kinds.specs.declared.answer.Answer.TheVariants as answer
@@ -8,6 +8,7 @@ use Rattle.rbd_commands.specs.declared.command.Command.{Command}
 use Rattle.rbd_commands.specs.declared.command.Command.TheVariants as command
 use Rattle.rbd_commands.specs.declared.command.Shape.{Shape}
 use Rattle.rbd_kinds.specs.declared.header.HeaderView.{HeaderView}
+use Rattle.rbd_kinds.specs.declared.header.SnapContext.{SnapContext}
 use Rattle.rbd_kinds.specs.declared.header.SnapView.{SnapView}
 use Rattle.rbd_kinds.specs.declared.header_op.HeaderOp.TheVariants as header
 use Rattle.rbd_kinds.specs.declared.id.SiteId.{SiteId}
@@ -23,7 +24,7 @@ use Rattle.rbd_kinds.specs.Parts.{parts_len}
 use Rattle.rbd_layout.specs.Asked.{layout_of, KeepsLimits}
 use Rattle.rbd_layout.specs.Pieces.{pieces_of}
 use Rattle.rbd_layout.specs.declared.types.Piece.{Piece}
-use Rattle.rbd_header.specs.Header.{new_header, view_of}
+use Rattle.rbd_header.specs.Header.{context_of, new_header, view_of}
 use Rattle.rbd_header.specs.declared.view.View.{View}
 use Rattle.rbd_machine.specs.Label.{Label}
 use Rattle.rbd_machine.specs.Label as label
@@ -39,13 +40,14 @@ use Rattle.rbd_meaning.specs.Range.{extent_at, out_of_range}
 use Rattle.rbd_meaning.specs.Snaps.{create_refuses, remove_refuses}
 use Rattle.rbd_meaning.specs.Writes.{write_refuses}
 use Rattle.rbd_piece.specs.Gather.{gather, on_bytes}
+use Rattle.rbd_piece.specs.Write.{raising, writing}
 use Rattle.rbd_request.specs.Read.{IsReadOf, pass, read_labels, looking, reading, viewing, gathering, closing, on_closing}
 use Rattle.rbd_request.specs.Seen.{Seen, seen_at, shown}
 use Rattle.rbd_request.specs.Write.{is_write, put, write, write_pieces, write_plan}
 use Rattle.rbd_request.proofs.Closed.{closed_pass, closed_write_plan}
-use Rattle.rbd_admin.specs.Create.{IsCreate, IsCreatePlan, on_drawn, making, drawing}
+use Rattle.rbd_admin.specs.Create.{IsCreate, IsCreatePlan, on_drawn, making, mapping, drawing}
 use Rattle.rbd_admin.specs.Listing.{is_listing, on_names, showing, show_header, listing_plan}
-use Rattle.rbd_admin.specs.Snap.{is_snap, on_snap, take, remove_listed, remove, snap_plan}
+use Rattle.rbd_admin.specs.Snap.{is_snap, on_snap, on_bits, on_gone, taking, putting, take, unmapping, remove_listed, remove, snap_plan}
 use Rattle.rbd_admin.proofs.Closed.{closed_create, closed_listing, closed_snap}
 use Rattle.rbd_admin.proofs.Decided.{limits_or_not}
 use Rattle.rbd_close.specs.Close.{is_close}
@@ -78,6 +80,14 @@ objects_are e h may = go (fits e h.size) (or_else_none (non_primary h.role) (out
     go true none = refl
     go false none = absurd (never_none none)
 
+-- at its turn a piece keeps to the line
+orderly_raising : (e : Option Extent) (c : Course) → c.due ≡ [] → (site : SiteId) (image : ℕ) (context : SnapContext) (piece : Piece) (bytes : List ℕ) (next : Plan)
+    → IsOrderly e starts true c next → (fresh : Bool) → IsOrderly e starts fresh c (raising site image context piece bytes next)
+orderly_raising e c none site image context piece bytes next orderly fresh = (
+  none,
+  λ raised can. orderly_on_done e starts c (writing site image context piece bytes next) (none, λ written can. orderly_on_done e starts c next orderly written) raised,
+)
+
 -- it takes its turns in the order of its pieces, and has the tickets that are left
 orderly_pieces : (e : Option Extent) (pieces : List Piece) (site : SiteId) (image : ℕ) (h : HeaderView) (from : ℕ) (bytes : List ℕ) (fresh : Bool) (p : Place) (turn : Option ℕ) (objects : List ℕ)
     → IsInLine site image (Some p) → behind turn objects ≡ objects_of pieces
@@ -85,12 +95,10 @@ orderly_pieces : (e : Option Extent) (pieces : List Piece) (site : SiteId) (imag
 orderly_pieces e [] site image h from bytes fresh p turn objects in_line are = (in_line, tt)
 orderly_pieces e (piece ∷ pieces) site image h from bytes fresh p turn objects in_line are = (
   subst (BeginsWith piece.object) (sym are) refl,
-  (
-    refl,
-    λ a can.
-        orderly_on_done e starts (record { place = Some p; turn = Some piece.object; due = []; objects = behind turn objects }) (write_pieces site image h from bytes pieces (applied site image))
-        (orderly_pieces e pieces site image h from bytes true p (Some piece.object) (behind turn objects) in_line (ap (behind (Some piece.object)) are)) a,
-  ),
+  orderly_raising e (record { place = Some p; turn = Some piece.object; due = []; objects = behind turn objects }) refl site image (context_of h) piece _
+      (write_pieces site image h from bytes pieces (applied site image))
+      (orderly_pieces e pieces site image h from bytes true p (Some piece.object) (behind turn objects) in_line (ap (behind (Some piece.object)) are))
+      false,
 )
 
 orderly_put : (site : SiteId) (from : ℕ) (bytes : List ℕ) (image : ℕ) (h : HeaderView) → write_refuses (extent_at from bytes) h ≡ None
@@ -183,15 +191,22 @@ module _ (e : Option Extent) where
   orderly_on_drawn next orderly answer.Full = tt
   orderly_on_drawn next orderly a = orderly_not_there e starts beginning a
 
-  orderly_drawing : (site : SiteId) (name : List ℕ) (h : HeaderView) → IsOrderly e starts true beginning (drawing site name h)
-  orderly_drawing site name h =
-      (refl, λ drawn can. orderly_on_drawn (making site h) (λ image. (refl, λ a can. orderly_on_done e starts beginning (Return reply.Done) tt a)) drawn)
+  orderly_drawing : (site : SiteId) (name : List ℕ) (objects : ℕ) (h : HeaderView) → IsOrderly e starts true beginning (drawing site name objects h)
+  orderly_drawing site name objects h = (
+    refl,
+    λ drawn can.
+        orderly_on_drawn (mapping site objects h) (λ image. (
+          refl,
+          λ mapped can.
+              orderly_on_done e starts beginning (making site h image) (refl, λ a can. orderly_on_done e starts beginning (Return reply.Done) tt a) mapped,
+        )) drawn,
+  )
 
   orderly_is_create : (site : SiteId) (name : List ℕ) (size : ℕ) (shape : Shape) (plan : Plan) → IsCreate site name size shape plan → IsOrderly e starts true beginning plan
   orderly_is_create site name size shape plan is = go (limits_or_not (layout_of shape) size)
     where
       go : KeepsLimits (layout_of shape) size ⊎ (KeepsLimits (layout_of shape) size → ⊥) → IsOrderly e starts true beginning plan
-      go (inl keeps) = subst (IsOrderly e starts true beginning) (sym (is.within keeps)) (orderly_drawing site name (new_header (layout_of shape) size))
+      go (inl keeps) = subst (IsOrderly e starts true beginning) (sym (is.within keeps)) (orderly_drawing site name is.objects (new_header (layout_of shape) size))
       go (inr fails) = subst (IsOrderly e starts true beginning) (sym (is.outside fails)) tt
 
   orderly_on_names : (next : List (List ℕ) → Plan) → ((names : List (List ℕ)) → IsOrderly e starts true beginning (next names)) → (a : Answer) → IsOrderly e starts true beginning (on_names next a)
@@ -229,13 +244,32 @@ module _ (site : SiteId) (snap : List ℕ) (image : ℕ) (h : HeaderView) where
   orderly_on_snap (answer.Snap id) = (at_itself site image, tt)
   orderly_on_snap a = orderly_not_there None starts past_note a
 
+  orderly_on_bits : (next : List ℕ → Plan) → ((bits : List ℕ) → IsOrderly None starts true past_note (next bits)) → (a : Answer) → IsOrderly None starts true past_note (on_bits next a)
+  orderly_on_bits next orderly (answer.Bits bits) = orderly bits
+  orderly_on_bits next orderly a = orderly_not_there None starts past_note a
+
+  orderly_on_gone : (a : Answer) → IsOrderly None starts true past_note (on_gone (applied site image) a)
+  orderly_on_gone answer.Done = (at_itself site image, tt)
+  orderly_on_gone answer.Absent = (at_itself site image, tt)
+  orderly_on_gone a = orderly_not_there None starts past_note a
+
   orderly_take : IsOrderly None starts true (own_course None true site image h) (take site snap image h)
-  orderly_take = (at_itself site image, (refl, λ a can. orderly_on_snap a))
+  orderly_take = (
+    at_itself site image,
+    (
+      refl,
+      λ told can.
+          orderly_on_bits (putting site snap image (h.snap_seq + 1)) (λ bits. (
+            refl,
+            λ put can. orderly_on_done None starts past_note (taking site snap image) (refl, λ a can. orderly_on_snap a) put,
+          )) told,
+    ),
+  )
 
   orderly_remove_listed : (listed : Option SnapView) → IsOrderly None starts true (own_course None true site image h) (remove_listed site snap image listed)
   orderly_remove_listed None = tt
   orderly_remove_listed (Some listed) =
-      (at_itself site image, (refl, λ a can. orderly_on_done None starts past_note (applied site image) (at_itself site image, tt) a))
+      (at_itself site image, (refl, λ a can. orderly_on_done None starts past_note (unmapping site image listed.id) (refl, λ gone can. orderly_on_gone gone) a))
 
 orderly_snap : (site : SiteId) (c : Command) → IsOrderly None starts true beginning (snap_plan site c)
 orderly_snap site (command.SnapCreate image snap) =

@@ -14,7 +14,7 @@ use Rattle.rbd_request.specs.Read as of_read
 use Rattle.rbd_request.specs.Write as of_write
 use Rattle.rbd_admin.specs.Create.{rest_of_create}
 use Rattle.rbd_admin.specs.Listing.{rest_of_list, HasReply}
-use Rattle.rbd_admin.specs.Snap.{rest_of_snap}
+use Rattle.rbd_admin.specs.Snap.{rest_of_snap, HasBits}
 use Rattle.rbd_close.specs.Close.{rest_of_request}
 use Rattle.rbd_requests.specs.Served.{is_built, IsPlanFor}
 use Rattle.rbd_requests.specs.Touched.{extent_of}
@@ -38,7 +38,7 @@ abbrev pub is_ready_of : {E : Type 0} → (extra : E → Answer → Type 0) → 
 is_ready_of extra (request.Read r) a = of_read.IsReady r a
 is_ready_of extra (request.Write w) a = of_write.IsReady w a
 is_ready_of extra (request.Create r) a = Unit {0}
-is_ready_of extra (request.Snap r) a = Unit {0}
+is_ready_of extra (request.Snap r) a = HasBits r a
 is_ready_of extra (request.List r) a = HasReply r a
 is_ready_of extra (request.Close r) a = Unit {0}
 is_ready_of extra (request.Extra e) a = extra e a

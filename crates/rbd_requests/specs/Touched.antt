@@ -1,6 +1,6 @@
 -- Which bytes of an image a command is about, and what follows for its turns and for how many
 -- operations it has.
-use Rattle.std.specs.Prelude.{◌≡◌, ℕ, zero, suc, ◌+◌, ◌≤◌, List, length, false, Option, Some, None}
+use Rattle.std.specs.Prelude.{◌≡◌, ℕ, zero, suc, ◌+◌, ◌*◌, ◌≤◌, List, length, false, Option, Some, None}
 use Rattle.rbd_kinds.specs.declared.answer.Answer.{Answer}
 use Rattle.rbd_commands.specs.declared.command.Command.{Command}
 use Rattle.rbd_commands.specs.declared.command.Command.TheVariants as command
@@ -46,14 +46,14 @@ AsksAtMost (Goto label) n = Unit {0}
 -- How many operations a command has, where its extent has so many pieces at most. A read that
 -- begins again has them again. Those of a way to a lock are not among them.
 abbrev pub bound_of : Command → (most : ℕ) → ℕ
-bound_of (command.Create image size shape) most = 2
+bound_of (command.Create image size shape) most = 3
 bound_of command.List most = 1
 bound_of (command.Info image) most = 2
 bound_of (command.SnapList image) most = 2
-bound_of (command.SnapCreate image snap) most = 4
-bound_of (command.SnapRemove image snap) most = 4
-bound_of (command.Write image at bytes) most = most + 3
-bound_of (command.Fill image at len byte) most = most + 3
+bound_of (command.SnapCreate image snap) most = 6
+bound_of (command.SnapRemove image snap) most = 5
+bound_of (command.Write image at bytes) most = 2 * most + 3
+bound_of (command.Fill image at len byte) most = 2 * most + 3
 bound_of (command.Read image snap at len) most = most + 3
 bound_of (command.Close image) most = 4
 bound_of (command.Quiesce image) most = 3

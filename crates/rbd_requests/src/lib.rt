@@ -20,12 +20,13 @@
 //!
 //! | command | request | operations at most | its extent |
 //! |---|---|---|---|
-//! | `write`, `fill` | [`WriteRequest`](rbd_request::WriteRequest) | 3, and one for each piece | the bytes that it puts |
+//! | `write`, `fill` | [`WriteRequest`](rbd_request::WriteRequest) | 3, and two for each piece | the bytes that it puts |
 //! | `read` | [`ReadRequest`](rbd_request::ReadRequest) | 3, and one for each piece; as many again each time that it begins again | none |
-//! | `create` without a journal | [`CreateRequest`](rbd_admin::CreateRequest) | 2 | none |
+//! | `create` without a journal | [`CreateRequest`](rbd_admin::CreateRequest) | 3 | none |
 //! | `ls` | [`ListRequest`](rbd_admin::ListRequest) | 1 | none |
 //! | `info`, `snap ls` | [`ListRequest`](rbd_admin::ListRequest) | 2 | none |
-//! | `snap create`, `snap rm` | [`SnapRequest`](rbd_admin::SnapRequest) | 4 | none |
+//! | `snap create` | [`SnapRequest`](rbd_admin::SnapRequest) | 6 | none |
+//! | `snap rm` | [`SnapRequest`](rbd_admin::SnapRequest) | 5 | none |
 //! | `close` | [`CloseRequest`](rbd_close::CloseRequest) | 4 | none |
 //! | `quiesce` | [`CloseRequest`](rbd_close::CloseRequest) | 3, beside those of a way to the lock | none |
 //! | `resume` | [`CloseRequest`](rbd_close::CloseRequest) | 1 | none |
