@@ -1,0 +1,7 @@
+pub mod AllBytes
+pub mod Bounded
+pub mod Closed
+pub mod Ends
+pub mod Sizes
+pub mod Tells
+pub mod Walked

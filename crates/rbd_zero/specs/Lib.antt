@@ -1,0 +1,5 @@
+pub mod Full
+pub mod Operations
+pub mod Shrink
+pub mod Size
+pub mod Zero

@@ -1,0 +1,171 @@
+//! One piece that replaces its object.
+ghost use Rattle.std.specs.Prelude.{◌≡◌, true, IfOk};
+ghost use Rattle.rbd_kinds.specs.declared.machine.Fed.TheVariants as fed_with;
+ghost use Rattle.rbd_kinds.specs.declared.reply.Reply.TheVariants.{Done};
+ghost use Rattle.rbd_kinds.specs.Form.{IsHeaderInForm};
+ghost use Rattle.rbd_header.specs.Header as of_header;
+ghost use Rattle.rbd_machine.specs.Plan.{Plan, Return, Wants, Asks, plan_after, without_labels};
+ghost use Rattle.rbd_machine.specs.Steps.{Progresses, TellsDone};
+ghost use Rattle.rbd_zero.specs.Full as of_full;
+ghost use Rattle.rbd_zero.specs.Full.{rest_of_full};
+ghost use Rattle.rbd_zero.specs.Zero as of_zero;
+
+use crate::cut::cut;
+use crate::replace::Replace;
+use crate::whole::is_inside;
+use crate::zero_piece::ZeroPiece;
+use rbd_header::context_of;
+use rbd_kinds::{
+    Answer, Bytes, Event, Fed, HeaderView, ImageId, NoMemory, Op, Reply, SiteId, SnapContext, Turn,
+    Want,
+};
+use rbd_layout::Piece;
+use rbd_machine::{Machine, Progress, Reason};
+use std::alloc::Global;
+
+/// One piece of an image that has all bytes of its object, and bytes that take their place. Zeros at
+/// the end of the bytes aren't written: an object reads as zeros past its last byte.
+///
+/// ```text
+///     a byte isn't zero              all are zeros
+///
+/// Replacing                       Zeroing
+/// map-set 1                       as a `ZeroPiece` of all bytes
+///    │ done                          │
+/// data-write-full                    │
+///    │ done                          │
+///    ▼                               ▼
+///                 the end
+/// ```
+///
+/// What is answered `none` ends the request with NoImage, and `fenced` with Fenced.
+#[derive(Debug, Drop)]
+pub struct FullPiece {
+    way: Way,
+}
+
+/// The way that it goes, by its bytes.
+#[derive(Debug, Drop)]
+pub enum Way {
+    Replacing(Replace),
+    Zeroing(ZeroPiece),
+}
+
+impl FullPiece {
+    /// Bytes for a piece of an image's head, by a header: the piece has all bytes of its object, and
+    /// the bytes are the object's from its first on.
+    pub fn new(
+        alloc: Global,
+        site: SiteId,
+        image: ImageId,
+        header: &HeaderView,
+        piece: Piece,
+        bytes: &Bytes,
+    ) -> Result<Self, NoMemory>
+        requires form { IsHeaderInForm header.now }
+        requires head { of_zero.IsOfHead header.now piece.object }
+        requires whole { of_zero.is_whole header.now piece ≡ true }
+        ensures { IfOk result (λ f. (next : Plan) → rest_of_full f next ≡ of_full.full_piece site image header.now piece bytes.now next) }
+    {
+        let context = context_of(alloc, header)?;
+        FullPiece::under(site, image, header, context, piece, bytes)
+    }
+
+    /// The same, under the header's snapshot context.
+    pub fn under(
+        site: SiteId,
+        image: ImageId,
+        header: &HeaderView,
+        context: SnapContext,
+        piece: Piece,
+        bytes: &Bytes,
+    ) -> Result<Self, NoMemory>
+        requires form { IsHeaderInForm header.now }
+        requires head { of_zero.IsOfHead header.now piece.object }
+        requires whole { of_zero.is_whole header.now piece ≡ true }
+        requires context { context ≡ of_header.context_of header.now }
+        ensures { IfOk result (λ f. (next : Plan) → rest_of_full f next ≡ of_full.full_piece site image header.now piece bytes.now next) }
+    {
+        let left = cut(bytes)?;
+        if left.is_empty() {
+            let inside = is_inside(header, piece.object);
+            let zeros = ZeroPiece::all(site, image, context, inside, piece);
+            return Ok(FullPiece {
+                way: Way::Zeroing(zeros),
+            });
+        }
+        let replace = Replace::new(site, image, context, piece.object, left);
+        Ok(FullPiece {
+            way: Way::Replacing(replace),
+        })
+    }
+
+    /// What it wants.
+    pub fn wants(&self) -> Want
+        ensures { (next : Plan) → Wants (rest_of_full self.now next) result }
+    {
+        match &self.way {
+            Way::Replacing(replace) => replace.wants(),
+            Way::Zeroing(zeros) => zeros.wants(),
+        }
+    }
+
+    /// The operation that it wants.
+    pub fn next(&self) -> Result<Op, NoMemory>
+        ensures { (next : Plan) → IfOk result (Asks (rest_of_full self.now next)) }
+    {
+        match &self.way {
+            Way::Replacing(replace) => replace.next(),
+            Way::Zeroing(zeros) => zeros.next(),
+        }
+    }
+
+    /// Goes on with an answer. It takes no memory.
+    pub fn feed(&mut self, answer: &Answer) -> Progress<()>
+        requires { TellsDone answer.now }
+        ensures { (next : Plan) → Progresses next (plan_after (rest_of_full self.old next) (fed_with.Answer answer.now)) result (rest_of_full self.new next) }
+    {
+        match &mut self.way {
+            Way::Replacing(replace) => replace.feed(answer),
+            Way::Zeroing(zeros) => zeros.feed(answer),
+        }
+    }
+}
+
+impl Machine for FullPiece {
+    ghost stands = { λ f. without_labels (rest_of_full f (Return Done)) };
+
+    ghost is_ready = { λ f answer. Unit {0} };
+
+    fn wants(&self) -> Want {
+        FullPiece::wants(self)
+    }
+
+    fn next(&self, _alloc: Global) -> Result<Op, NoMemory> {
+        FullPiece::next(self)
+    }
+
+    fn reason(&self) -> Reason {
+        Reason::Own
+    }
+
+    fn event(&self, _alloc: Global) -> Result<Option<Event>, NoMemory> {
+        Ok(None)
+    }
+
+    fn ready(&mut self, _alloc: Global, _fed: &Fed) -> Result<(), NoMemory> {
+        Ok(())
+    }
+
+    #[tactic(auto, using(crate::proofs::Tells::full_tells))]
+    fn feed(&mut self, fed: &Fed) -> Turn {
+        let Fed::Answer(answer) = fed else {
+            unreachable!()
+        };
+        match FullPiece::feed(self, answer) {
+            Progress::More => Turn::More,
+            Progress::Ended(()) => Turn::Done(Reply::Done),
+            Progress::Refused(refusal) => Turn::Done(Reply::Refused(refusal)),
+        }
+    }
+}

@@ -1,0 +1,66 @@
+//! What parts do to their end, and by how many operations, and what their definitions mean: laws,
+//! each the contract of a function that does nothing.
+ghost use Rattle.std.specs.Prelude.{◌≡◌, ℕ, ◌+◌, ◌*◌, ◌<◌, ◌≤◌, ◌↔◌, true, All, List, length};
+ghost use Rattle.rbd_kinds.specs.declared.header.HeaderView.{HeaderView};
+ghost use Rattle.rbd_kinds.specs.declared.id.SiteId.{SiteId};
+ghost use Rattle.rbd_kinds.specs.declared.layout.Extent.{Extent};
+ghost use Rattle.rbd_kinds.specs.declared.machine.Fed.{Fed};
+ghost use Rattle.rbd_kinds.specs.declared.reply.Reply.TheVariants.{Done};
+ghost use Rattle.rbd_kinds.specs.Striping.{IsLayout};
+ghost use Rattle.rbd_layout.specs.declared.types.Piece.{Piece};
+ghost use Rattle.rbd_layout.specs.Pieces.{IsPartsOf, IsPieces, pieces_of};
+ghost use Rattle.rbd_machine.specs.Label.{Label};
+ghost use Rattle.rbd_machine.specs.Path.{Answered, IsBounded, IsWalk};
+ghost use Rattle.rbd_machine.specs.Plan.{Plan, Goto, Return, IsClosed};
+ghost use Rattle.rbd_zero.specs.Full.{IsCut, cut_bytes, full_piece, replaced};
+ghost use Rattle.rbd_zero.specs.Shrink.{head_from};
+ghost use Rattle.rbd_zero.specs.Size.{IsResized, resize};
+ghost use Rattle.rbd_zero.specs.Zero.{IsOfHead, head_of, is_whole, zeroed, zero_piece};
+
+/// A piece that becomes zeros or replaces its object has three operations at most. A size has two,
+/// and where it is less than before, three more for each piece of the bytes that go.
+pub fn parts_are_bounded()
+    ensures zero { (site : SiteId) (image : ℕ) (h : HeaderView) (piece : Piece) (next : Plan) (n : ℕ)
+        → IsBounded next n → IsBounded (zero_piece site image h piece next) (n + 3) }
+    ensures full { (site : SiteId) (image : ℕ) (h : HeaderView) (piece : Piece) (bytes : List ℕ) (next : Plan) (n : ℕ)
+        → IsBounded next n → IsBounded (full_piece site image h piece bytes next) (n + 3) }
+    ensures grow { (site : SiteId) (image : ℕ) (h : HeaderView) (to objects : ℕ) (next : Plan) (n : ℕ)
+        → h.size ≤ to → IsBounded next n → IsBounded (resize site image h to objects next) (n + 2) }
+    ensures shrink { (site : SiteId) (image : ℕ) (h : HeaderView) (to objects : ℕ) (next : Plan) (n : ℕ)
+        → to < h.size → IsBounded next n → IsBounded (resize site image h to objects next) (n + 2 + 3 * length (pieces_of h.layout (head_from h to))) }
+{}
+
+/// None begins a part again, unless what comes next does.
+pub fn parts_go_to_no_label()
+    ensures zero { (labels : Label → Plan) (site : SiteId) (image : ℕ) (h : HeaderView) (piece : Piece) (next : Plan)
+        → IsClosed labels next → IsClosed labels (zero_piece site image h piece next) }
+    ensures full { (labels : Label → Plan) (site : SiteId) (image : ℕ) (h : HeaderView) (piece : Piece) (bytes : List ℕ) (next : Plan)
+        → IsClosed labels next → IsClosed labels (full_piece site image h piece bytes next) }
+    ensures size { (labels : Label → Plan) (site : SiteId) (image : ℕ) (h : HeaderView) (to objects : ℕ) (next : Plan)
+        → IsClosed labels next → IsClosed labels (resize site image h to objects next) }
+{}
+
+/// What has been done where a part ends well: exactly these operations, in this order, each
+/// answered done, or told the states of the head's map.
+pub fn parts_are_done()
+    ensures zero { (site : SiteId) (image : ℕ) (h : HeaderView) (piece : Piece) (feds : List Fed) (steps : List Answered)
+        → IsWalk Goto (zero_piece site image h piece (Return Done)) feds steps (Return Done) → steps ≡ zeroed site image h piece }
+    ensures full { (site : SiteId) (image : ℕ) (h : HeaderView) (piece : Piece) (bytes : List ℕ) (feds : List Fed) (steps : List Answered)
+        → IsWalk Goto (full_piece site image h piece bytes (Return Done)) feds steps (Return Done) → steps ≡ replaced site image h piece bytes }
+    ensures size { (site : SiteId) (image : ℕ) (h : HeaderView) (to objects : ℕ) (feds : List Fed) (steps : List Answered)
+        → IsWalk Goto (resize site image h to objects (Return Done)) feds steps (Return Done) → IsResized site image h to objects steps }
+{}
+
+/// The pieces of an extent that ends within the size are pieces of the head.
+pub fn pieces_are_of_the_head()
+    ensures { (h : HeaderView) (e : Extent) (pieces : List Piece) → IsLayout h.layout → e.at + e.len ≤ h.size
+        → IsPieces h.layout e pieces → All (λ p. IsOfHead h p.object) pieces }
+{}
+
+/// A piece is whole exactly where its parts are the head's bytes in its object. What is left of
+/// bytes that are cut is followed by zeros alone, and ends in none.
+pub fn words_are_meant()
+    ensures whole { (h : HeaderView) (piece : Piece) → IsLayout h.layout
+        → (is_whole h piece ≡ true) ↔ IsPartsOf h.layout (head_of h) piece.object piece.parts }
+    ensures cut { (bytes : List ℕ) → IsCut bytes (cut_bytes bytes) }
+{}

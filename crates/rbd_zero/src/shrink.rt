@@ -1,0 +1,144 @@
+//! What a shrink zeros before it sets the size.
+ghost use Rattle.std.specs.Prelude.{◌≡◌, ◌<◌, ◌≤◌, List, ◌∷◌, filter, IfOk, OnOk};
+ghost use Rattle.rbd_kinds.specs.Form.{IsHeaderInForm};
+ghost use Rattle.rbd_header.specs.Header as of_header;
+ghost use Rattle.rbd_layout.specs.declared.types.Piece as of_piece;
+ghost use Rattle.rbd_machine.specs.Plan.{Plan};
+ghost use Rattle.rbd_zero.specs.Shrink as of_shrink;
+ghost use Rattle.rbd_zero.specs.Size.{rest_of_zeros, zero_pieces};
+ghost use Rattle.rbd_zero.specs.Zero.{IsOfHead};
+
+use crate::states::state_in;
+use crate::whole::is_inside;
+use crate::zero_piece::ZeroPiece;
+use rbd_header::context_of;
+use rbd_kinds::{Extent, HeaderView, ImageAt, NoMemory, SnapContext, TryClone};
+use rbd_layout::{Piece, pieces};
+use std::alloc::Global;
+use std::collections::VecDeque;
+use std::marker::Model;
+
+/// A head, by its header, and a smaller size. Contracts see it as `Shrunk`.
+#[derive(Debug, Drop)]
+pub struct Shrink {
+    header: HeaderView,
+    to: u64,
+}
+
+impl Model for Shrink {
+    ghost use Rattle.std.specs.Prelude.{◌<◌};
+    ghost use Rattle.rbd_kinds.specs.Form.{IsHeaderInForm};
+    ghost use Rattle.rbd_zero.specs.Shrink.{Shrunk};
+
+    ghost Value = { Shrunk };
+
+    ghost view = { λ s. record { header = s.header; to = s.to } };
+
+    ghost invariant = { λ s. IsHeaderInForm s.header × (s.to < s.header.size) };
+}
+
+impl Shrink {
+    /// With a copy of the header.
+    pub fn new(header: &HeaderView, to: u64) -> Result<Self, NoMemory>
+        requires form { IsHeaderInForm header.now }
+        requires less { to < header.now.size }
+        ensures { IfOk result (λ s. s ≡ record { header = header.now; to = to }) }
+    {
+        Ok(Shrink {
+            header: header.try_clone()?,
+            to,
+        })
+    }
+
+    /// The size.
+    pub fn to(&self) -> u64
+        ensures { result ≡ self.now.to }
+    {
+        self.to
+    }
+
+    /// The zeros, by the states of the head's map.
+    pub fn zeros(
+        &self,
+        alloc: Global,
+        target: &ImageAt,
+        bits: &[u8],
+    ) -> Result<VecDeque<ZeroPiece>, NoMemory>
+        ensures { IfOk result (λ made. (next : Plan) → rest_of_zeros made.items next
+            ≡ zero_pieces target.now.site target.now.image self.now.header (of_shrink.pieces_from self.now.header self.now.to bits.now) next) }
+    {
+        zeros(alloc, target, &self.header, self.to, bits)
+    }
+}
+
+/// Zeros for the head's bytes from a size on, of the objects that have bytes there.
+fn zeros(
+    alloc: Global,
+    target: &ImageAt,
+    header: &HeaderView,
+    to: u64,
+    bits: &[u8],
+) -> Result<VecDeque<ZeroPiece>, NoMemory>
+    requires form { IsHeaderInForm header.now }
+    requires less { to ≤ header.now.size }
+    ensures { IfOk result (λ made. (next : Plan) → rest_of_zeros made.items next
+        ≡ zero_pieces target.now.site target.now.image header.now (of_shrink.pieces_from header.now to bits.now) next) }
+{
+    let extent = head_from(header, to);
+    let context = context_of(alloc, header)?;
+    let listed = pieces(alloc, &header.layout, &extent)?;
+    let mut made = VecDeque::new(alloc);
+    for piece in listed {
+        add(alloc, &mut made, target, header, &context, bits, piece)?;
+    }
+    Ok(made)
+}
+
+/// The head's bytes from a size on.
+fn head_from(header: &HeaderView, to: u64) -> Extent
+    requires { to ≤ header.now.size }
+    ensures { result ≡ of_shrink.head_from header.now to }
+{
+    Extent {
+        at: to,
+        len: header.size - to,
+    }
+}
+
+/// Adds the zeros of a piece, or passes it over.
+fn add(
+    alloc: Global,
+    made: &mut VecDeque<ZeroPiece>,
+    target: &ImageAt,
+    header: &HeaderView,
+    context: &SnapContext,
+    bits: &[u8],
+    piece: Piece,
+) -> Result<(), NoMemory>
+    requires form { IsHeaderInForm header.now }
+    requires head { IsOfHead header.now piece.object }
+    requires context { context.now ≡ of_header.context_of header.now }
+    ensures { OnOk result ((pieces : List of_piece.Piece) (next : Plan)
+        → rest_of_zeros made.new.items (zero_pieces target.now.site target.now.image header.now (filter (of_shrink.has_bytes header.now bits.now) pieces) next)
+        ≡ rest_of_zeros made.old.items (zero_pieces target.now.site target.now.image header.now (filter (of_shrink.has_bytes header.now bits.now) (piece ∷ pieces)) next)) }
+{
+    if !has_bytes(header, bits, &piece) {
+        return Ok(());
+    }
+    let context = context.try_clone()?;
+    let zeros = ZeroPiece::under(alloc, target.site, target.image, header, context, piece)?;
+    made.push_back(zeros)?;
+    Ok(())
+}
+
+/// Whether the object of a piece has bytes: it is inside the overlap, or isn't in state 0.
+fn has_bytes(header: &HeaderView, bits: &[u8], piece: &Piece) -> bool
+    requires form { IsHeaderInForm header.now }
+    requires head { IsOfHead header.now piece.now.object }
+    ensures { result ≡ of_shrink.has_bytes header.now bits.now piece.now }
+{
+    if is_inside(header, piece.object) {
+        return true;
+    }
+    state_in(bits, piece.object) != 0
+}
