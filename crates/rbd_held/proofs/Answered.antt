@@ -36,7 +36,7 @@ use Rattle.rbd_owner.specs.Acquire.{op_of}
 use Rattle.rbd_owner.specs.declared.acquire.Acquire.{Acquire}
 use Rattle.rbd_rely.specs.Beside.{AreBeside, MayLook}
 use Rattle.rbd_rely.specs.Locks.{HasLockWhileFree}
-use Rattle.rbd_rely.specs.Truth.{IsTrueAt}
+use Rattle.rbd_rely.specs.Truth.{AreMapped, IsTrueAt}
 use Rattle.rbd_rely.proofs.Elsewhere.{beside_elsewhere, true_elsewhere}
 use Rattle.rbd_rely.proofs.Kept.{others_keep}
 use Rattle.rbd_rely.proofs.Learned.{own_learned}
@@ -44,6 +44,7 @@ use Rattle.rbd_rely.proofs.Nothing.{nothing_is_beside, nothing_is_true}
 use Rattle.rbd_rely.proofs.Together.{beside_mutual, beside_stays, learned_beside}
 use Rattle.rbd_session.specs.Session.{held_in, running_at, running_in}
 use Rattle.rbd_session.proofs.Sound.{some_same}
+use Rattle.rbd_site.specs.InForm.{AreInForm}
 use Rattle.rbd_site.specs.Records.{Records}
 use Rattle.rbd_site.specs.Step.{after, answer_to}
 use Rattle.rbd_stands.specs.Site.{StandsFor}
@@ -130,7 +131,7 @@ module _ {R : Type 0} (stands : R → Standing) (c d : ClientView R) (knows : �
 
   -- ---- at the site of the operation
 
-  module _ (f : Flat) (stood : StandsFor [] r f) (t : IsTrueOf site r me knows c) (truly : IsTrueAt site r me (known_to (knows slot) (actor_at stands slot c)))
+  module _ (f : Flat) (most : ℕ) (stood : StandsFor [] r f) (form : AreInForm r most) (mapped : AreMapped r) (t : IsTrueOf site r me knows c) (truly : IsTrueAt site r me (known_to (knows slot) (actor_at stands slot c)))
       (may : (other : ℕ) → slot ≢ other → MayLook site r me me (known_to (knows slot) (actor_at stands slot c)) (knows other) o) where
     abbrev now : Records
     now = after r me o
@@ -146,7 +147,7 @@ module _ {R : Type 0} (stands : R → Standing) (c d : ClientView R) (knows : �
       request_true : (x : ℕ) → IsTrueAt site now me (knows_after knows slot result plan (fed.Answer a) x)
       request_true =
           of_each knows slot (unless_ended result (known_behind (knows slot) plan (fed.Answer a))) (IsTrueAt site now me)
-          (learns wanted (IsTrueAt site now me) (nothing_is_true site now me) (λ w. still_true site now me (w.next a) (learned (knows slot) site o a) (own_learned site r f (knows slot) me o stood known allowed)))
+          (learns wanted (IsTrueAt site now me) (nothing_is_true site now me) (λ w. still_true site now me (w.next a) (learned (knows slot) site o a) (own_learned site r f (knows slot) me o most stood form mapped known allowed)))
           (λ x differ. others_keep site r (knows x) (knows slot) me me o (t.requests x) known (t.beside x slot differ) allowed)
 
       request_beside : OfTwo Beside (knows_after knows slot result plan (fed.Answer a))

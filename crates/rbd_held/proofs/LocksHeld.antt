@@ -104,4 +104,5 @@ module _ (s : SiteId) (r : Records) (me : Instance) (k : Knowledge) (truth : IsT
   held_behind (op.Directory o) permits owned = lasts (op.Directory o) permits refl owned
   held_behind (op.BlockAdd i) permits owned = lasts (op.BlockAdd i) permits refl owned
   held_behind (op.Data i number o) permits owned = lasts (op.Data i number o) permits refl owned
+  held_behind (op.Map i o) permits owned = lasts (op.Map i o) permits refl owned
   held_behind _ permits owned = elim permits [ ]

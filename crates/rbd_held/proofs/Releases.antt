@@ -45,6 +45,8 @@ true_at there r me releasing.Dropping site image = record {
   owned = λ free other. subst (λ known. IsStill known (r.headers other)) (sym (no_header releasing.Dropping site image there other)) tt;
   drawn = λ other drawn. absurd (true≢false (sym drawn));
   fenced = λ i known. absurd (true≢false (sym known));
+  mapped = λ free other known. absurd (true≢false (sym known ∙ ap is_some (no_header releasing.Dropping site image there other)));
+  counted = λ other drawn. absurd (true≢false (sym drawn));
 }
 
 pub release_is_true : (there : SiteId) (r : Records) (me : Instance) (x : Release) → IsTrueAt there r me (known_to_release x)

@@ -81,6 +81,8 @@ fences_are_true there r me s site fences = record {
   owned = λ free image. subst (λ o. IsStill (header_of_own o) (r.headers image)) (sym (owns_nothing s site there image)) tt;
   drawn = λ image drawn. absurd (true≢false (sym drawn ∙ drew_nothing s site there image));
   fenced = fences;
+  mapped = λ free image known. absurd (true≢false (sym known ∙ ap (λ o. is_some (header_of_own o)) (owns_nothing s site there image)));
+  counted = λ image drawn. absurd (true≢false (sym drawn ∙ drew_nothing s site there image));
 }
 
 pub way_stays_true : (there : SiteId) (r : Records) (me you : Instance) (a : Acquire) (o : Op) → IsTrueAt there r me (known_on_way a) → IsTrueAt there (after r you o) me (known_on_way a)

@@ -24,10 +24,11 @@ ghost use Rattle.rbd_owner.specs.Acquire.{op_of};
 ghost use Rattle.rbd_owner.specs.declared.acquire.Acquire.{Acquire};
 ghost use Rattle.rbd_rely.specs.Beside.{AreBeside, MayLook};
 ghost use Rattle.rbd_rely.specs.Locks.{KnowsByLock};
-ghost use Rattle.rbd_rely.specs.Truth.{IsTrueAt};
+ghost use Rattle.rbd_rely.specs.Truth.{AreMapped, IsTrueAt};
 ghost use Rattle.rbd_session.specs.Lines.{lines_of};
 ghost use Rattle.rbd_session.specs.OnTrack.{LeavesOthers};
 ghost use Rattle.rbd_session.specs.Session.{IsSoundSession, held_in, running_at};
+ghost use Rattle.rbd_site.specs.InForm.{AreInForm};
 ghost use Rattle.rbd_site.specs.Log.{expired, trimmed};
 ghost use Rattle.rbd_site.specs.Records.{Records};
 ghost use Rattle.rbd_site.specs.Step.{after, answer_to};
@@ -92,10 +93,10 @@ pub fn answers_are_known<R: Request>()
 /// know, what the ways know, and that each lock which counts as the client's is the client's, unless
 /// it is fenced.
 pub fn answers_leave_clients_true<R: Request>()
-    ensures here { (c d : ClientView R) (knows : ℕ → Knowledge) (slot : ℕ) (site : Site) (r : Records) (flat : Flat) (me : Instance) (op : Op) (result : Option Reply)
+    ensures here { (c d : ClientView R) (knows : ℕ → Knowledge) (slot : ℕ) (site : Site) (r : Records) (flat : Flat) (me : Instance) (op : Op) (result : Option Reply) (most : ℕ)
         → IsSoundClient R.stands c → AllKnow R.stands knows c.session → op_wanted R.stands slot c ≡ Some (site, op)
         → ((other : ℕ) → other ≢ slot → state_in other d.slots ≡ state_in other c.slots)
-        → StandsFor [] r flat → IsTrueOf site r me knows c
+        → StandsFor [] r flat → AreInForm r most → AreMapped r → IsTrueOf site r me knows c
         → IsFedBy R.stands slot site op (Answered (answer_to r me op)) result c d (actor_at R.stands slot c)
         → IsTrueOf site (after r me op) me (knows_fed knows slot result (plan_of R.stands (running_at slot c.session)) (Answered (answer_to r me op)) (actor_at R.stands slot c)) d }
     ensures elsewhere { (c d : ClientView R) (knows : ℕ → Knowledge) (slot : ℕ) (site there : Site) (r q : Records) (me : Instance) (op : Op) (result : Option Reply)

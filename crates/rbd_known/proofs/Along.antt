@@ -1,5 +1,5 @@
 -- What a request knows goes with its place, whatever it is answered and waits for.
-use Rattle.std.proofs.Common.{◌≡◌, ℕ, ◌&&◌, cond, Bool, true, false, Option, Some, None, option_map, refl, sym, ap, ◌∙◌, subst}
+use Rattle.std.proofs.Common.{◌≡◌, ℕ, ◌&&◌, cond, Bool, true, false, List, Option, Some, None, option_map, refl, sym, ap, ◌∙◌, subst}
 use Rattle.std.specs.Prelude.{IsSome, is_some}
 use Rattle.std.proofs.lemmas.Bool.{true≢false, and_parts}
 use Rattle.rbd_course.specs.Course.{Course, Place, answered, waited, noted, looked, past, is_newcomer_at, is_own_at, is_waiting, has_just_joined, held_stage}
@@ -17,11 +17,13 @@ use Rattle.rbd_kinds.specs.declared.header_op.HeaderOp.TheVariants as header
 use Rattle.rbd_kinds.specs.declared.id.Instance.{Instance}
 use Rattle.rbd_kinds.specs.declared.id.SiteId.{SiteId}
 use Rattle.rbd_kinds.specs.declared.layout.Extent.{Extent}
+use Rattle.rbd_kinds.specs.declared.map_op.MapOp.{MapOp}
+use Rattle.rbd_kinds.specs.declared.map_op.MapOp.TheVariants as states
 use Rattle.rbd_kinds.specs.declared.operation.Op.{Op}
 use Rattle.rbd_kinds.specs.declared.operation.Op.TheVariants as op
 use Rattle.rbd_header.specs.Header.{with_snap, without_snap}
 use Rattle.rbd_line.specs.Line.{is_past}
-use Rattle.rbd_machine.specs.Knowledge.{Knowledge, Own, own_of, is_at, told_of, with_header, header_told, first_told, learned, learned_of_directory, learned_of_header, learned_of_listing, passed, held, left}
+use Rattle.rbd_machine.specs.Knowledge.{ImageMaps, Knowledge, Own, learned_of_map, own_of, is_at, told_of, with_header, header_told, first_told, learned, learned_of_directory, learned_of_header, learned_of_listing, passed, held, left}
 use Rattle.rbd_machine.specs.Wait.{Wait}
 use Rattle.rbd_machine.specs.Wait as wait
 use Rattle.rbd_session.proofs.Sound.{no_some, some_same}
@@ -163,7 +165,9 @@ module _ (e : Option Extent) (k : Knowledge) (c : Course) (t : IsTied k c) where
   got_tied s i h false other = seen_tied s i h other
 
   header_tied : (s : SiteId) (i : ℕ) (o : HeaderOp) (a : Answer) → IsTied (learned_of_header k s i o a) (answered e c s (op.Header i o) a)
-  header_tied s i header.Get (answer.Header h) = got_tied s i h (is_own_at s i c.place) refl
+  header_tied s i header.Get (answer.Header h) =
+      let told = got_tied s i h (is_own_at s i c.place) refl in
+      record { owns = told.owns; alone = told.alone }
   header_tied s i (header.Create view) answer.Done = record { owns = t.owns; alone = t.alone }
   header_tied s i (header.SnapAdd name) (answer.Snap snap) = edited_tied s i (with_snap name)
   header_tied s i (header.SnapRemove snap) answer.Done = edited_tied s i (without_snap snap)
@@ -185,10 +189,23 @@ module _ (e : Option Extent) (k : Knowledge) (c : Course) (t : IsTied k c) where
   listing_tied s i answer.Done = record { owns = t.owns; alone = t.alone }
   listing_tied s i _ = t
 
+  -- whatever it knows of maps
+  maps_tied : (maps : List ImageMaps) → IsTied (record k { maps = maps }) c
+  maps_tied maps = record { owns = t.owns; alone = t.alone }
+
+  map_tied : (s : SiteId) (i : ℕ) (o : MapOp) (a : Answer) → IsTied (learned_of_map k s i o a) c
+  map_tied s i (states.Resize count) answer.Done = maps_tied _
+  map_tied s i (states.Get None) (answer.Bits bits) = maps_tied _
+  map_tied s i (states.Put (Some snap) bits) answer.Done = maps_tied _
+  map_tied s i (states.Set view object state) answer.Done = maps_tied _
+  map_tied s i (states.Remove view) answer.Done = maps_tied _
+  map_tied s i _ _ = t
+
   pub answered_tied : (s : SiteId) (o : Op) (a : Answer) → IsTied (learned k s o a) (answered e c s o a)
   answered_tied s (op.Directory o) a = directory_tied s o a
   answered_tied s (op.Header i o) a = header_tied s i o a
   answered_tied s (op.BlockAdd i) a = listing_tied s i a
+  answered_tied s (op.Map i o) a = map_tied s i o a
   answered_tied s _ a = t
 
 -- ---- waits

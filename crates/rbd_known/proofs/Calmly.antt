@@ -29,7 +29,7 @@ use Rattle.rbd_piece.specs.Gather.{gather, on_bytes}
 use Rattle.rbd_request.specs.Read.{IsReadOf, pass, looking, reading, viewing, gathering, closing, on_closing}
 use Rattle.rbd_request.specs.Seen.{Seen, seen_at, shown}
 use Rattle.rbd_request.specs.Write.{is_write}
-use Rattle.rbd_admin.specs.Create.{IsCreate, IsCreatePlan, on_drawn, making, drawing}
+use Rattle.rbd_admin.specs.Create.{IsCreate, IsCreatePlan, on_drawn, making, mapping, drawing}
 use Rattle.rbd_admin.specs.Listing.{on_names, showing, show_header, listing_plan}
 use Rattle.rbd_admin.specs.Snap.{is_snap}
 use Rattle.rbd_admin.proofs.Decided.{limits_or_not}
@@ -106,14 +106,17 @@ calm_on_drawn next calm answer.Exists = tt
 calm_on_drawn next calm answer.Full = tt
 calm_on_drawn next calm a = calm_not_there a
 
-calm_drawing : (site : SiteId) (name : List ℕ) (h : HeaderView) → IsCalm (drawing site name h)
-calm_drawing site name h = λ drawn. calm_on_drawn (making site h) (λ image a. calm_on_done (Return reply.Done) tt a) drawn
+calm_mapping : (site : SiteId) (objects : ℕ) (h : HeaderView) (image : ℕ) → IsCalm (mapping site objects h image)
+calm_mapping site objects h image = λ a. calm_on_done (making site h image) (λ b. calm_on_done (Return reply.Done) tt b) a
+
+calm_drawing : (site : SiteId) (name : List ℕ) (objects : ℕ) (h : HeaderView) → IsCalm (drawing site name objects h)
+calm_drawing site name objects h = λ drawn. calm_on_drawn (mapping site objects h) (calm_mapping site objects h) drawn
 
 calm_is_create : (site : SiteId) (name : List ℕ) (size : ℕ) (shape : Shape) (plan : Plan) → IsCreate site name size shape plan → IsCalm plan
 calm_is_create site name size shape plan is = go (limits_or_not (layout_of shape) size)
   where
     go : KeepsLimits (layout_of shape) size ⊎ (KeepsLimits (layout_of shape) size → ⊥) → IsCalm plan
-    go (inl keeps) = subst IsCalm (sym (is.within keeps)) (calm_drawing site name (new_header (layout_of shape) size))
+    go (inl keeps) = subst IsCalm (sym (is.within keeps)) (calm_drawing site name is.objects (new_header (layout_of shape) size))
     go (inr fails) = subst IsCalm (sym (is.outside fails)) tt
 
 calm_create : (site : SiteId) (c : Command) (plan : Plan) → IsCreatePlan site c plan → IsCalm plan

@@ -12,7 +12,7 @@ use Rattle.rbd_known.specs.Knowing.{known_at_operation}
 
 pub still_true : (site : SiteId) (r : Records) (me : Instance) (plan : Plan) (k : Knowledge) → IsTrueAt site r me k → IsTrueAt site r me (known_at_operation k plan)
 still_true site r me (Ask there why op next) k t = t
-still_true site r me (Await w next) k t = still_true site r me next (passed k w) (waits_learned site r me k w t)
+still_true site r me (Await w next) k t = still_true site r me next (passed k w) (waits_learned site r me k t w)
 still_true site r me (Note there image event next) k t = still_true site r me next k t
 still_true site r me (Return reply) k t = t
 still_true site r me (Goto label) k t = t

@@ -16,8 +16,8 @@ use Rattle.rbd_line.proofs.Fair.{passed_fair}
 use Rattle.rbd_line.proofs.Passing.{alone_past, found_at, own_changed, others_changed, passed_is_steady}
 use Rattle.rbd_machine.specs.Knowledge.{Knowledge, Own, own_of}
 use Rattle.rbd_machine.specs.Plan.{Standing}
-use Rattle.rbd_rely.specs.Beside.{MayLook, SharesLock, is_own_alone}
-use Rattle.rbd_rely.specs.Truth.{header_of_own}
+use Rattle.rbd_rely.specs.Beside.{MayLook, SharesLock}
+use Rattle.rbd_rely.specs.Truth.{header_of_own, is_own_alone}
 use Rattle.rbd_rely.proofs.Learned.{place_of}
 use Rattle.rbd_session.specs.declared.running.Running.{Running}
 use Rattle.rbd_session.specs.Advance.{track_of}

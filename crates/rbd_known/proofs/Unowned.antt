@@ -1,5 +1,5 @@
 -- Who waits for nothing owns nothing.
-use Rattle.std.proofs.Common.{◌≡◌, ℕ, true, false, Option, option_map, sym, ap, ◌∙◌}
+use Rattle.std.proofs.Common.{◌≡◌, ℕ, true, false, Option, Some, None, option_map, sym, ap, ◌∙◌}
 use Rattle.std.specs.Prelude.{is_some}
 use Rattle.std.proofs.lemmas.Bool.{true≢false}
 use Rattle.rbd_kinds.specs.declared.answer.Answer.{Answer}
@@ -13,11 +13,13 @@ use Rattle.rbd_kinds.specs.declared.id.Instance.{Instance}
 use Rattle.rbd_kinds.specs.declared.id.SiteId.{SiteId}
 use Rattle.rbd_kinds.specs.declared.machine.Fed.{Fed}
 use Rattle.rbd_kinds.specs.declared.machine.Fed.TheVariants as fed
+use Rattle.rbd_kinds.specs.declared.map_op.MapOp.{MapOp}
+use Rattle.rbd_kinds.specs.declared.map_op.MapOp.TheVariants as states
 use Rattle.rbd_kinds.specs.declared.operation.Op.{Op}
 use Rattle.rbd_kinds.specs.declared.operation.Op.TheVariants as op
 use Rattle.rbd_header.specs.Header.{with_snap, without_snap}
 use Rattle.rbd_machine.specs.Answers.{CanBeFed}
-use Rattle.rbd_machine.specs.Knowledge.{Knowledge, is_drawn, told_of, header_told, first_told, learned, learned_of_directory, learned_of_header, learned_of_listing}
+use Rattle.rbd_machine.specs.Knowledge.{Knowledge, is_drawn, told_of, header_told, first_told, learned, learned_of_directory, learned_of_header, learned_of_listing, learned_of_map}
 use Rattle.rbd_machine.specs.Label.{Label}
 use Rattle.rbd_machine.specs.Path.{at_operation}
 use Rattle.rbd_machine.specs.Plan.{Plan, Ask, Await, Note, Return, Goto, plan_after}
@@ -55,10 +57,19 @@ module _ (k : Knowledge) (none : OwnsNothing k) where
   listing_nothing s i answer.Done = none
   listing_nothing s i _ = none
 
+  map_nothing : (s : SiteId) (i : ℕ) (o : MapOp) (a : Answer) → OwnsNothing (learned_of_map k s i o a)
+  map_nothing s i (states.Resize count) answer.Done = none
+  map_nothing s i (states.Get None) (answer.Bits bits) = none
+  map_nothing s i (states.Put (Some snap) bits) answer.Done = none
+  map_nothing s i (states.Set view object state) answer.Done = none
+  map_nothing s i (states.Remove view) answer.Done = none
+  map_nothing s i _ _ = none
+
   learned_nothing : (s : SiteId) (o : Op) (a : Answer) → OwnsNothing (learned k s o a)
   learned_nothing s (op.Directory o) a = directory_nothing s o a
   learned_nothing s (op.Header i o) a = header_nothing s i o a
   learned_nothing s (op.BlockAdd i) a = listing_nothing s i a
+  learned_nothing s (op.Map i o) a = map_nothing s i o a
   learned_nothing s _ a = none
 
 -- no wait stands before its next operation

@@ -1,5 +1,5 @@
 -- What is permitted may be done, is answered as it can be, and has its effect.
-use Rattle.std.proofs.Common.{◌≡◌, ℕ, ◌+◌, ◌≤◌, ◌||◌, cond, not, Bool, true, false, List, [], ◌∷◌, length, length-append, Option, Some, None, is_some, refl, sym, ap, ◌∙◌, subst, arith}
+use Rattle.std.proofs.Common.{◌≡◌, ℕ, ◌+◌, ◌*◌, ◌^◌, ◌≤◌, ◌||◌, cond, not, Bool, true, false, List, [], ◌∷◌, length, length-append, Option, Some, None, is_some, refl, sym, ap, ◌∙◌, subst, arith, true≢false}
 use Rattle.std.proofs.lemmas.List.Elements.{All-weaker}
 use Rattle.std.proofs.lemmas.Option.{slice_get_within, get_or_from_slice_get}
 use Rattle.std.specs.Prelude.{All, IsFalse}
@@ -20,6 +20,8 @@ use Rattle.rbd_kinds.specs.declared.id.Instance.{Instance}
 use Rattle.rbd_kinds.specs.declared.id.SiteId.{SiteId}
 use Rattle.rbd_kinds.specs.declared.layout.Layout.{Layout}
 use Rattle.rbd_kinds.specs.declared.layout.Part.{Part}
+use Rattle.rbd_kinds.specs.declared.map_op.MapOp.{MapOp}
+use Rattle.rbd_kinds.specs.declared.map_op.MapOp.TheVariants as states
 use Rattle.rbd_kinds.specs.declared.operation.Op.{Op}
 use Rattle.rbd_kinds.specs.declared.operation.Op.TheVariants as op
 use Rattle.rbd_kinds.specs.Parts.{parts_len}
@@ -35,8 +37,11 @@ use Rattle.rbd_flat.specs.Flat.{Flat, FlatImage, image_at}
 use Rattle.rbd_flat.specs.declared.effect.Effect.{Effect}
 use Rattle.rbd_flat.specs.declared.effect.Effect.TheVariants as effect
 use Rattle.rbd_machine.specs.Answers.{CanGive, gives}
-use Rattle.rbd_machine.specs.Knowledge.{Knowledge}
-use Rattle.rbd_machine.specs.Permits.{Permits, PermitsOnHeader, PermitsOnDirectory, PermitsOnObject, OwnsBy, MayWrite, LiesBelow}
+use Rattle.rbd_machine.specs.Knowledge.{Knowledge, maps_of}
+use Rattle.rbd_machine.specs.Permits.{Permits, PermitsOnHeader, PermitsOnDirectory, PermitsOnMap, PermitsOnObject, OwnsAlone, OwnsBy, MayPut, MayRaise, MayWrite, LiesBelow}
+use Rattle.rbd_machine.specs.Refused.{IsGiven, finds_map}
+use Rattle.rbd_map.specs.States.{states_of}
+use Rattle.rbd_map.proofs.Packing.{hold_states, length-states_of}
 use Rattle.rbd_site.specs.DataStep.{finds, parts_read}
 use Rattle.rbd_site.specs.DataStep as step
 use Rattle.rbd_site.specs.DirectoryStep.{name_added, image_found}
@@ -44,6 +49,7 @@ use Rattle.rbd_site.specs.Found.{done_where}
 use Rattle.rbd_site.specs.HeaderStep.{header_answer, is_owner, lock_taken, same_instance}
 use Rattle.rbd_site.specs.InForm.{AreInForm}
 use Rattle.rbd_site.specs.Laws.{is_look, is_change}
+use Rattle.rbd_site.specs.MapStep.{AreBits, MaySetState, states_told}
 use Rattle.rbd_site.specs.Records.{Records, object_at}
 use Rattle.rbd_site.specs.Step.{MayDo, MayServe, is_fenced, after, answer_to, answer_served}
 use Rattle.rbd_site.specs.declared.done.DoneOp.TheVariants as done
@@ -59,13 +65,15 @@ use Rattle.rbd_stands.proofs.DirectorySteps.{name_stands}
 use Rattle.rbd_stands.proofs.EditSteps.{unnamed}
 use Rattle.rbd_stands.proofs.EffectLemmas.{write_effect}
 use Rattle.rbd_stands.proofs.ImageSteps.{create_stands, snap_stands, unsnap_stands}
-use Rattle.rbd_stands.proofs.NoEffect.{listed_none, look_none, refused_none, unseen_none}
+use Rattle.rbd_stands.proofs.NoEffect.{listed_none, look_none, mapped_none, refused_none, unseen_none}
+use Rattle.rbd_stands.proofs.MapSteps.{map_stands}
 use Rattle.rbd_stands.proofs.Served.{fenced_answer, free_answer}
 use Rattle.rbd_stands.proofs.StoreSteps.{listed_stands, unseen_change}
 use Rattle.rbd_stands.specs.Unseen.{is_unseen}
-use Rattle.rbd_rely.specs.Truth.{IsTrueAt, IsParentless, changed_by}
+use Rattle.rbd_rely.specs.Truth.{AreMapped, IsTrueAt, IsParentless, changed_by, is_own_alone}
 use Rattle.rbd_rely.proofs.Fenced.{where_free}
-use Rattle.rbd_rely.proofs.Kept.{owned_there}
+use Rattle.rbd_rely.proofs.Headers.{own_known, owned_there}
+use Rattle.rbd_rely.proofs.MapsLearned.{within_map}
 use Rattle.rbd_rely.proofs.Learned.{takes, removes}
 
 -- ---- the site's condition
@@ -91,6 +99,10 @@ len_of_parts (p ∷ parts) bytes =
     ∙ ap (λ n. p.len + n) (len_of_parts parts bytes)
 
 -- each of them can be answered fenced
+map_fence_given : (k : Knowledge) (site : SiteId) (image : ℕ) (o : MapOp) → PermitsOnMap k site image o → CanGive (op.Map image o) answer.Fenced
+map_fence_given k site image (states.Get view) permits = record { word = refl; form = tt }
+map_fence_given k site image o permits = record { word = refl; form = tt }
+
 fence_given : (k : Knowledge) (site : SiteId) (o : Op) → Permits k site o → CanGive o answer.Fenced
 fence_given k site (op.Directory o) permits = record { word = refl; form = tt }
 fence_given k site (op.BlockAdd i) permits = record { word = refl; form = tt }
@@ -98,15 +110,41 @@ fence_given k site (op.Header image header.Get) permits = record { word = refl; 
 fence_given k site (op.Header image o) permits = record { word = refl; form = tt }
 fence_given k site (op.Data image number (object.Read snap parts)) permits = record { word = refl; form = tt }
 fence_given k site (op.Data image number o) permits = record { word = refl; form = tt }
+fence_given k site (op.Map image o) permits = map_fence_given k site image o permits
 fence_given k site _ permits = elim permits [ ]
+
+-- and then nothing is missed
+fence_found : (o : Op) → finds_map o answer.Fenced ≡ true
+fence_found (op.Map image (states.Set None object state)) = refl
+fence_found o = refl
 
 -- of an instance that isn't fenced
 module _ (site : SiteId) (r : Records) (me : Instance) (k : Knowledge) (most : ℕ) (form : AreInForm r most) (t : IsTrueAt site r me k) (free : IsFalse (is_fenced r me)) where
-  may_write : (image number : ℕ) (context : SnapContext) (parts : List Part) (bytes : List ℕ) → OwnsBy k site image (MayWrite k.turn number context parts bytes) → step.MayWrite parts bytes
+  may_write : (image number : ℕ) (context : SnapContext) (parts : List Part) (bytes : List ℕ) → OwnsBy k site image (MayWrite (maps_of k.maps site image) k.turn number context parts bytes) → step.MayWrite parts bytes
   may_write image number context parts bytes owns =
       let there = owned_there site r me k image _ t free owns in
       let laid : IsLayout owns.header.layout = same_layout owns.header there.view there.same (form.form image there.view there.is).layout in
       record { within = within owns.header number parts laid owns.meets.within; long = owns.meets.long }
+
+module _ (site : SiteId) (r : Records) (me : Instance) (k : Knowledge) (most : ℕ) (form : AreInForm r most) (mapped : AreMapped r) (t : IsTrueAt site r me k) (free : IsFalse (is_fenced r me)) where
+  -- a map is as long as the states that it is put from
+  may_put : (image snap : ℕ) (bits : List ℕ) → OwnsAlone k site image (MayPut (maps_of k.maps site image) snap bits) → AreBits bits
+  may_put image snap bits owns =
+      let known = own_known k site image _ owns in
+      let are = (t.mapped free image (ap is_some known)).states (ap is_own_alone owns.is ∙ owns.meets.0) (states_of bits (4 * length bits)) owns.meets.1.told in
+      record { states = owns.meets.1.hold; long = subst (λ n. n ≤ 2 ^ 20) (length-states_of bits (4 * length bits)) are.few }
+
+  may_set : (image object state : ℕ) → OwnsBy k site image (MayRaise k.turn object state) → (map : Option (List ℕ)) → r.maps image None ≡ map → MaySetState map object state
+  may_set image object state owns None is = tt
+  may_set image object state owns (Some there) is = (within_map site r me k most form mapped t free image object state owns (Some there) is, owns.meets.is_state)
+
+  may_on_map : (image : ℕ) (o : MapOp) → PermitsOnMap k site image o → MayServe r (op.Map image o)
+  may_on_map image (states.Resize count) permits = permits.few
+  may_on_map image (states.Get view) permits = tt
+  may_on_map image (states.Put (Some snap) bits) permits = may_put image snap bits permits
+  may_on_map image (states.Set None object state) permits = may_set image object state permits (r.maps image None) refl
+  may_on_map image (states.Remove (Some snap)) permits = tt
+  may_on_map image _ permits = elim permits [ ]
 
   may_serve : (o : Op) → Permits k site o → MayServe r o
   may_serve (op.Directory o) permits = tt
@@ -124,8 +162,9 @@ module _ (site : SiteId) (r : Records) (me : Instance) (k : Knowledge) (most : �
   may_serve (op.Header image (header.Notify kind)) permits = tt
   may_serve (op.Header image _) permits = elim permits [ ]
   may_serve (op.Data image number (object.Read snap parts)) permits = tt
-  may_serve (op.Data image number (object.Write context must parts bytes)) permits = may_write image number context parts bytes permits
+  may_serve (op.Data image number (object.Write context must parts bytes)) permits = may_write site r me k most form t free image number context parts bytes permits
   may_serve (op.Data image number _) permits = elim permits [ ]
+  may_serve (op.Map image o) permits = may_on_map image o permits
   may_serve _ permits = elim permits [ ]
 
   -- ---- its answer
@@ -224,19 +263,55 @@ module _ (site : SiteId) (r : Records) (me : Instance) (k : Knowledge) (most : �
       by false there = record { word = refl; form = tt }
   object_gives_it image number _ permits = elim permits [ ]
 
+  map_gives_it : (image : ℕ) (o : MapOp) → PermitsOnMap k site image o → CanGive (op.Map image o) (answer_served r me (op.Map image o))
+  map_gives_it image (states.Resize count) permits = record { word = refl; form = tt }
+  map_gives_it image (states.Get view) permits = by (r.maps image view) refl
+    where
+      by : (map : Option (List ℕ)) → r.maps image view ≡ map → CanGive (op.Map image (states.Get view)) (states_told map)
+      by None is = record { word = refl; form = tt }
+      by (Some there) is = record { word = refl; form = hold_states there (form.maps image view there is).are }
+  map_gives_it image (states.Put (Some snap) bits) permits = record { word = refl; form = tt }
+  map_gives_it image (states.Set None object state) permits = by (is_some (r.maps image None))
+    where
+      by : (there : Bool) → CanGive (op.Map image (states.Set None object state)) (done_where there)
+      by true = record { word = refl; form = tt }
+      by false = record { word = refl; form = tt }
+  map_gives_it image (states.Remove (Some snap)) permits = by (is_some (r.maps image (Some snap)))
+    where
+      by : (there : Bool) → CanGive (op.Map image (states.Remove (Some snap))) (done_where there)
+      by true = record { word = refl; form = tt }
+      by false = record { word = refl; form = tt }
+  map_gives_it image _ permits = elim permits [ ]
+
   served_gives_it : (o : Op) → Permits k site o → CanGive o (answer_served r me o)
   served_gives_it (op.Directory o) permits = directory_gives_it o permits
   served_gives_it (op.BlockAdd i) permits = record { word = refl; form = tt }
   served_gives_it (op.Header image o) permits = header_gives_it image o permits
   served_gives_it (op.Data image number o) permits = object_gives_it image number o permits
+  served_gives_it (op.Map image o) permits = map_gives_it image o permits
   served_gives_it _ permits = elim permits [ ]
 
-module _ (site : SiteId) (r : Records) (me : Instance) (k : Knowledge) (most : ℕ) (form : AreInForm r most) (t : IsTrueAt site r me k) where
-  pub may_do : (o : Op) → Permits k site o → MayDo r me o
-  may_do o permits = λ free. may_serve site r me k most form t free o permits
+  -- ---- and misses no map
 
-  pub gives_it : (o : Op) → Permits k site o → CanGive o (answer_to r me o)
-  gives_it o permits = where_free (λ a s. CanGive o a) r me o (fence_given k site o permits) (λ free. served_gives_it site r me k most form t free o permits)
+  -- of an image that it owns the head's map is there
+  finds_it : (image object state : ℕ) → OwnsBy k site image (MayRaise k.turn object state) → (map : Option (List ℕ)) → r.maps image None ≡ map
+      → finds_map (op.Map image (states.Set None object state)) (done_where (is_some map)) ≡ true
+  finds_it image object state owns None is =
+      let there = owned_there site r me k image _ t free owns in
+      absurd (true≢false (sym (mapped image there.view there.is).there.head ∙ ap is_some is))
+  finds_it image object state owns (Some map) is = refl
+
+  served_finds_it : (o : Op) → Permits k site o → finds_map o (answer_served r me o) ≡ true
+  served_finds_it (op.Map image (states.Set None object state)) permits = finds_it image object state permits (r.maps image None) refl
+  served_finds_it o permits = refl
+
+module _ (site : SiteId) (r : Records) (me : Instance) (k : Knowledge) (most : ℕ) (form : AreInForm r most) (mapped : AreMapped r) (t : IsTrueAt site r me k) where
+  pub may_do : (o : Op) → Permits k site o → MayDo r me o
+  may_do o permits = λ free. may_serve site r me k most form mapped t free o permits
+
+  pub gives_it : (o : Op) → Permits k site o → IsGiven o (answer_to r me o)
+  gives_it o permits = where_free (λ a s. IsGiven o a) r me o (record { can = fence_given k site o permits; finds = fence_found o })
+      (λ free. record { can = served_gives_it site r me k most form mapped t free o permits; finds = served_finds_it site r me k most form mapped t free o permits })
 
 -- ---- its effect
 
@@ -324,7 +399,7 @@ module _ (site : SiteId) (r : Records) (f : Flat) (k : Knowledge) (me : Instance
   header_effect image (header.Notify kind) permits = unseen_effect image (header.Notify kind) refl
   header_effect image _ permits = elim permits [ ]
 
-  write_effects : (image number : ℕ) (context : SnapContext) (must : Bool) (parts : List Part) (bytes : List ℕ) → OwnsBy k site image (MayWrite k.turn number context parts bytes)
+  write_effects : (image number : ℕ) (context : SnapContext) (must : Bool) (parts : List Part) (bytes : List ℕ) → OwnsBy k site image (MayWrite (maps_of k.maps site image) k.turn number context parts bytes)
       → IsFalse (is_fenced r me) → answer_to r me (op.Data image number (object.Write context must parts bytes)) ≡ answer_served r me (op.Data image number (object.Write context must parts bytes))
       → (found : Bool) → finds must (object_at r image number) ≡ found → HasItsEffect (op.Data image number (object.Write context must parts bytes))
   write_effects image number context must parts bytes owns free served false lacks =
@@ -353,4 +428,5 @@ module _ (site : SiteId) (r : Records) (f : Flat) (k : Knowledge) (me : Instance
   has_its_effect (op.Data image number (object.Write context must parts bytes)) permits =
       where_served (op.Data image number (object.Write context must parts bytes)) (λ free served. write_effects image number context must parts bytes permits free served (finds must (object_at r image number)) refl)
   has_its_effect (op.Data image number _) permits = elim permits [ ]
+  has_its_effect (op.Map image o) permits = effects (op.Map image o) (answer_to r me (op.Map image o)) None refl (mapped_none r image o (answer_to r me (op.Map image o))) (map_stands [] r f me image o stands)
   has_its_effect _ permits = elim permits [ ]

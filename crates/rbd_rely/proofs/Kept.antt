@@ -1,7 +1,6 @@
 -- What is known stays true under what is permitted to others, and under the store's own steps.
 use Rattle.std.proofs.Common.{◌≡◌, ℕ, ◌==◌, cond, Bool, true, false, List, Option, Some, None, option_map, refl, sym, ap, ◌∙◌, subst}
 use Rattle.std.proofs.lemmas.Bool.{true≢false, eqb-true, ne_eqb}
-use Rattle.std.proofs.lemmas.Option.{none-some}
 use Rattle.std.specs.FinMap as finmap
 use Rattle.std.specs.Ordering.{nat_cmp}
 use Rattle.std.specs.Prelude.{IsFalse, IsSome, is_some}
@@ -15,7 +14,7 @@ use Rattle.rbd_kinds.specs.declared.id.SiteId.{SiteId}
 use Rattle.rbd_kinds.specs.declared.operation.Op.{Op}
 use Rattle.rbd_kinds.specs.declared.operation.Op.TheVariants as op
 use Rattle.rbd_object.specs.Mapped.{Mapped, mapped_blank, mapped_trim}
-use Rattle.rbd_machine.specs.Knowledge.{Knowledge, is_drawn}
+use Rattle.rbd_machine.specs.Knowledge.{Knowledge, is_drawn, maps_of}
 use Rattle.rbd_machine.specs.Permits.{Permits, PermitsOnHeader, PermitsOnObject, OwnsBy}
 use Rattle.rbd_site.specs.HeaderStep.{header_after, is_owner}
 use Rattle.rbd_site.specs.Laws.{is_look}
@@ -30,42 +29,11 @@ use Rattle.rbd_stands.specs.Unseen.{is_about}
 use Rattle.rbd_stands.proofs.EditSteps.{untouched_served, drawn_served}
 use Rattle.rbd_stands.proofs.StoreSteps.{blank_trimmed}
 use Rattle.rbd_flat.specs.Flat.{no_images}
-use Rattle.rbd_rely.specs.Beside.{AreBeside, AreShared, is_own_alone}
-use Rattle.rbd_rely.specs.Truth.{IsTrueAt, IsStill, IsWaiting, header_of_own, known_header}
+use Rattle.rbd_rely.specs.Beside.{AreBeside, AreShared}
+use Rattle.rbd_rely.specs.Truth.{AreMapsTrue, is_alone_on, is_own_alone, IsCountTrue, IsStill, IsTrueAt, IsWaiting, known_header}
 use Rattle.rbd_rely.proofs.Fenced.{after_free, was_free}
-
--- ---- a header that is known
-
--- the header that is there, where one is known
-pub record IsThere (known : HeaderView) (there : Option HeaderView) : Type 0 where
-  pub view : HeaderView
-  pub is : there ≡ Some view
-  pub same : view ≡ record known { owner = view.owner }
-
-pub find_there : (known there : Option HeaderView) (h : HeaderView) → known ≡ Some h → IsStill known there → IsThere h there
-find_there known None h is still = elim (subst (λ o. IsStill o None) is still) [ ]
-find_there known (Some t) h is still = record { view = t; is = refl; same = subst (λ o. IsStill o (Some t)) is still }
-
-pub own_known : (k : Knowledge) (site : SiteId) (image : ℕ) (condition : (alone : Bool) → HeaderView → Type 0) (owns : OwnsBy k site image condition)
-    → known_header k site image ≡ Some owns.header
-own_known k site image condition owns = ap header_of_own owns.is
-
--- the header of an image that it owns
-pub owned_there : (site : SiteId) (r : Records) (me : Instance) (k : Knowledge) (image : ℕ) (condition : (alone : Bool) → HeaderView → Type 0) → IsTrueAt site r me k → IsFalse (is_fenced r me)
-    → (owns : OwnsBy k site image condition) → IsThere owns.header (r.headers image)
-owned_there site r me k image condition t free owns =
-    find_there (known_header k site image) (r.headers image) owns.header (own_known k site image condition owns) (t.owned free image)
-
--- an image that somebody owns isn't one that waits for its header
-pub not_waiting : (site : SiteId) (r : Records) (me : Instance) (k : Knowledge) (image : ℕ) (condition : (alone : Bool) → HeaderView → Type 0) → IsTrueAt site r me k → IsFalse (is_fenced r me)
-    → OwnsBy k site image condition → r.headers image ≡ None → ⊥
-not_waiting site r me k image condition t free owns none =
-    let there = owned_there site r me k image condition t free owns in
-    none-some there.view (sym none ∙ there.is)
-
-pub unknown_of_none : (known there : Option HeaderView) → IsStill known None → IsStill known there
-unknown_of_none None there still = tt
-unknown_of_none (Some h) there still = elim still [ ]
+use Rattle.rbd_rely.proofs.Headers.{not_waiting, own_known, unknown_of_none}
+use Rattle.rbd_rely.proofs.MapsKept.{counted_kept, mapped_kept}
 
 -- where both know the header of an image, neither is alone on it
 abbrev AreBothShared : SiteId → (k j : Knowledge) → Type 0
@@ -142,6 +110,12 @@ kept_by site r me you k other o keeps t = record {
       where_fenced (λ s. IsStill (known_header k site image) (s.headers image)) r you (op.Header other o) (still image) (by image (image == other) refl still);
   drawn = λ image drawn. waits_by r you other o keeps image (t.drawn image drawn);
   fenced = λ i known. fence_stays r you i (op.Header other o) (t.fenced i known);
+  mapped = λ free image known.
+      let was = t.mapped (was_free r you me (op.Header other o) free) image known in
+      where_fenced (λ s. AreMapsTrue (is_alone_on k site image) (s.maps image) (maps_of k.maps site image)) r you (op.Header other o) was was;
+  counted = λ image drawn.
+      let was = t.counted image drawn in
+      where_fenced (λ s. IsCountTrue (maps_of k.maps site image).count (s.maps image None)) r you (op.Header other o) was was;
 }
   where
     by : (image : ℕ) (b : Bool) → (image == other) ≡ b → ((i : ℕ) → IsStill (known_header k site i) (r.headers i)) → IsStill (known_header k site image) (cond b (header_after you (r.headers other) o) (r.headers image))
@@ -179,6 +153,7 @@ module _ (site : SiteId) (r : Records) (k j : Knowledge) (you : Instance) (still
   owned_served (op.Directory o) permits image = still image
   owned_served (op.BlockAdd i) permits image = still image
   owned_served (op.Data other number o) permits image = still image
+  owned_served (op.Map other o) permits image = still image
   owned_served (op.Header other o) permits image = go (image == other) refl
     where
       go : (b : Bool) → (image == other) ≡ b → IsStill (known_header k site image) (cond b (header_after you (r.headers other) o) (r.headers image))
@@ -249,6 +224,7 @@ module _ (site : SiteId) (r : Records) (j : Knowledge) (you : Instance) (u : IsT
   waits_still (op.BlockAdd i) permits apart = waits_on r you (op.BlockAdd i) image refl w
   waits_still (op.Header other o) permits apart = waits_header other o permits apart
   waits_still (op.Data other number o) permits apart = waits_object other number o permits
+  waits_still (op.Map other o) permits apart = waits_on r you (op.Map other o) image refl w
   waits_still _ permits apart = elim permits [ ]
 
 pub others_keep : (site : SiteId) (r : Records) (k j : Knowledge) (me you : Instance) (o : Op) → IsTrueAt site r me k → IsTrueAt site r you j → AreBeside site r me you k j → Permits j site o
@@ -257,6 +233,8 @@ others_keep site r k j me you o t u beside permits = record {
   owned = λ free. let before = was_free r you me o free in owned_kept site r k j me you o (t.owned before) u before beside permits;
   drawn = λ image drawn. waits_still site r j you u image (t.drawn image drawn) o permits (beside.apart image drawn);
   fenced = λ i known. fence_stays r you i o (t.fenced i known);
+  mapped = λ free. mapped_kept site r k j me you t u beside (was_free r you me o free) o permits;
+  counted = counted_kept site r k j me you t u beside o permits;
 }
 
 -- ---- the store
@@ -287,11 +265,19 @@ trim_waits r other number image w = record {
     by n true same false elsewhere = ap (λ b. or_blank (cond b now (r.objects other n))) elsewhere ∙ was n same
 
 pub trims_keep : (site : SiteId) (r : Records) (me : Instance) (k : Knowledge) (image number : ℕ) → IsTrueAt site r me k → IsTrueAt site (trimmed image number r) me k
-trims_keep site r me k image number t = record { owned = t.owned; drawn = λ i drawn. trim_waits r image number i (t.drawn i drawn); fenced = t.fenced }
+trims_keep site r me k image number t = record {
+  owned = t.owned;
+  drawn = λ i drawn. trim_waits r image number i (t.drawn i drawn);
+  fenced = t.fenced;
+  mapped = t.mapped;
+  counted = t.counted;
+}
 
 pub expiries_keep : (site : SiteId) (r : Records) (me : Instance) (k : Knowledge) (image : ℕ) (i : Instance) → IsTrueAt site r me k → IsTrueAt site (expired image i r) me k
 expiries_keep site r me k image i t = record {
   owned = t.owned;
   drawn = λ n drawn. let w = t.drawn n drawn in record { drawn = w.drawn; header = w.header; blank = w.blank };
   fenced = t.fenced;
+  mapped = t.mapped;
+  counted = t.counted;
 }

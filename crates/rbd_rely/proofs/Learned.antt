@@ -1,7 +1,7 @@
 -- What a request learns by its own operations, and behind its waits, is true.
 use Rattle.std.proofs.Common.{◌≡◌, ◌≢◌, ℕ, ◌==◌, ◌+◌, ◌&&◌, cond, not, Bool, true, false, List, [], ◌∷◌, map, Option, Some, None, option_map, refl, sym, ap, ◌∙◌, subst, arith}
 use Rattle.std.specs.List.{filter}
-use Rattle.std.specs.Prelude.{IsFalse, is_some}
+use Rattle.std.specs.Prelude.{IsFalse, IsSome, is_some}
 use Rattle.std.proofs.lemmas.Bool.{true≢false, eqb-true, ne_eqb, and_parts, eq-eqb}
 use Rattle.rbd_kinds.specs.declared.answer.Answer.{Answer}
 use Rattle.rbd_kinds.specs.declared.answer.Answer.TheVariants as answer
@@ -13,9 +13,11 @@ use Rattle.rbd_kinds.specs.declared.header_op.HeaderOp.TheVariants as header
 use Rattle.rbd_kinds.specs.declared.id.Instance.{Instance}
 use Rattle.rbd_kinds.specs.declared.id.SiteId.{SiteId}
 use Rattle.rbd_kinds.specs.declared.id.SiteId.TheVariants as sites
+use Rattle.rbd_kinds.specs.declared.map_op.MapOp.{MapOp}
+use Rattle.rbd_kinds.specs.declared.map_op.MapOp.TheVariants as states
 use Rattle.rbd_kinds.specs.declared.operation.Op.{Op}
 use Rattle.rbd_kinds.specs.declared.operation.Op.TheVariants as op
-use Rattle.rbd_machine.specs.Knowledge.{Knowledge, Own, Place, Fence, own_of, is_drawn, is_at, is_fence_of, is_fenced_by, same_instance, same_site, told_of, header_told, first_told, learned, learned_of_header, learned_of_directory, learned_of_listing, unfenced, with_drawn, with_fence, without_drawn, without_fence, passed, held, left}
+use Rattle.rbd_machine.specs.Knowledge.{ImageMaps, Knowledge, Own, Place, Fence, learned_of_map, looked_behind, maps_looked, maps_of, maps_owned, unmapped, unmarked, own_of, is_drawn, is_at, is_fence_of, is_fenced_by, same_instance, same_site, told_of, header_told, first_told, learned, learned_of_header, learned_of_directory, learned_of_listing, unfenced, with_drawn, with_fence, without_drawn, without_fence, passed, held, left}
 use Rattle.rbd_machine.specs.Wait.{Wait}
 use Rattle.rbd_machine.specs.Wait as wait
 use Rattle.rbd_machine.specs.Permits.{Permits, PermitsOnHeader, PermitsOnDirectory, OwnsBy, OwnsAlone, MayMake, MayTake, MayRemove}
@@ -27,6 +29,7 @@ use Rattle.rbd_flat.specs.Flat.{Flat}
 use Rattle.rbd_site.specs.DirectoryStep.{name_added, where_added}
 use Rattle.rbd_site.specs.HeaderStep.{header_after, header_answer, snap_added, where_made}
 use Rattle.rbd_site.specs.Found.{done_where}
+use Rattle.rbd_site.specs.InForm.{AreInForm}
 use Rattle.rbd_site.specs.Records.{Records, with_directory}
 use Rattle.rbd_site.specs.Step.{is_fenced, after, after_served, answer_to, answer_served}
 use Rattle.rbd_site.proofs.FenceLemmas.{fence_stays}
@@ -36,9 +39,12 @@ use Rattle.rbd_stands.specs.Site.{StandsFor}
 use Rattle.rbd_stands.proofs.Locks.{same_is}
 use Rattle.rbd_stands.proofs.ObjectSteps.{put_there, put_elsewhere}
 use Rattle.rbd_stands.proofs.Served.{where_either}
-use Rattle.rbd_rely.specs.Truth.{IsTrueAt, IsStill, IsWaiting, header_of_own, known_header}
+use Rattle.rbd_rely.specs.Truth.{AreMapped, AreMapsTrue, IsCountTrue, IsTrueAt, IsStill, IsWaiting, header_of_own, is_alone_on, is_own_alone, known_header}
 use Rattle.rbd_rely.proofs.Fenced.{where_free, was_free, is_put_up, stays_put_up}
-use Rattle.rbd_rely.proofs.Kept.{owned_there, unknown_of_none, owned_is_other, waits_served, waits_object, kept_by, other_than}
+use Rattle.rbd_rely.proofs.Headers.{own_known, owned_there, unknown_of_none}
+use Rattle.rbd_rely.proofs.MapsBehind.{at_each, nothing_mapped}
+use Rattle.rbd_rely.proofs.MapsLearned.{forgotten_true, map_taught, told_of_it}
+use Rattle.rbd_rely.proofs.Kept.{owned_is_other, waits_served, waits_object, kept_by, other_than}
 
 -- ---- where
 
@@ -81,13 +87,56 @@ told_there site image other change differ (o ∷ owns) = by (is_at site image o.
     by true is rest = rw is (rw (at_one site image other o.site o.image differ is) rest)
     by false is rest = rw is (ap (λ found. cond (is_at site other o.site o.image) (Some o) found) rest)
 
+-- and it is alone where it was
+pub told_alone : (site there : SiteId) (image place : ℕ) (change : Option HeaderView → Option HeaderView) (owns : List Own)
+    → is_own_alone (own_of (map (told_of site image change) owns) there place) ≡ is_own_alone (own_of owns there place)
+told_alone site there image place change [] = refl
+told_alone site there image place change (o ∷ owns) = by (is_at site image o.site o.image) (told_alone site there image place change owns)
+  where
+    rest : List Own
+    rest = map (told_of site image change) owns
+
+    same : (t : Bool) → is_own_alone (own_of rest there place) ≡ is_own_alone (own_of owns there place)
+        → is_own_alone (cond t (Some (record o { header = change o.header })) (own_of rest there place)) ≡ is_own_alone (cond t (Some o) (own_of owns there place))
+    same true e = refl
+    same false e = e
+
+    kept : (t : Bool) → is_own_alone (own_of rest there place) ≡ is_own_alone (own_of owns there place)
+        → is_own_alone (cond t (Some o) (own_of rest there place)) ≡ is_own_alone (cond t (Some o) (own_of owns there place))
+    kept true e = refl
+    kept false e = e
+
+    by : (b : Bool) → is_own_alone (own_of rest there place) ≡ is_own_alone (own_of owns there place)
+        → is_own_alone (own_of (cond b (record o { header = change o.header }) o ∷ rest) there place) ≡ is_own_alone (own_of (o ∷ owns) there place)
+    by true e = same (is_at there place o.site o.image) e
+    by false e = kept (is_at there place o.site o.image) e
+
 module _ (site : SiteId) (r new : Records) (me : Instance) (k : Knowledge) (t : IsTrueAt site r me k) (free : IsFalse (is_fenced r me)) where
   -- what it was told of one image
   pub told_true : (image : ℕ) (change : Option HeaderView → Option HeaderView) → ((i : ℕ) → i ≢ image → new.headers i ≡ r.headers i)
       → IsStill (header_changed change (own_of k.owns site image)) (new.headers image) → ((i : ℕ) → is_drawn k.drawn site i ≡ true → IsWaiting new i)
-      → ((i : Instance) → is_fenced_by k.fenced site i ≡ true → is_fenced new i ≡ true) → IsTrueAt site new me (header_told site image change k)
-  told_true image change others here waits listed = record { owned = λ still_free i. by i (i == image) refl; drawn = waits; fenced = listed }
+      → ((i : Instance) → is_fenced_by k.fenced site i ≡ true → is_fenced new i ≡ true) → ((i : ℕ) → new.maps i ≡ r.maps i)
+      → (IsSome (header_changed change (own_of k.owns site image)) → AreMapsTrue (is_alone_on k site image) (r.maps image) (maps_of k.maps site image))
+      → IsTrueAt site new me (header_told site image change k)
+  told_true image change others here waits listed maps mapped = record {
+    owned = λ still_free i. by i (i == image) refl;
+    drawn = waits;
+    fenced = listed;
+    mapped = λ still_free i known.
+        subst (λ m. AreMapsTrue (is_alone_on (header_told site image change k) site i) m (maps_of k.maps site i)) (sym (maps i))
+        (subst (λ alone. AreMapsTrue alone (r.maps i) (maps_of k.maps site i)) (sym (told_alone site site image i change k.owns)) (at_each IsMapped image mapped_here mapped_there i known));
+    counted = λ i drawn. subst (λ m. IsCountTrue (maps_of k.maps site i).count (m None)) (sym (maps i)) (t.counted i drawn);
+  }
     where
+      IsMapped : ℕ → Type 0
+      IsMapped i = IsSome (known_header (header_told site image change k) site i) → AreMapsTrue (is_alone_on k site i) (r.maps i) (maps_of k.maps site i)
+
+      mapped_here : IsMapped image
+      mapped_here known = mapped (ap is_some (sym (told_here site image change k.owns)) ∙ known)
+
+      mapped_there : (i : ℕ) → i ≢ image → IsMapped i
+      mapped_there i differ known = t.mapped free i (ap (λ o. is_some (header_of_own o)) (sym (told_there site image i change (λ e. differ (sym e)) k.owns)) ∙ known)
+
       by : (i : ℕ) (b : Bool) → (i == image) ≡ b → IsStill (known_header (header_told site image change k) site i) (new.headers i)
       by i true same =
           subst (λ i. IsStill (known_header (header_told site image change k) site i) (new.headers i)) (sym (eqb-true i image same))
@@ -107,8 +156,22 @@ module _ (site : SiteId) (r : Records) (f : Flat) (me : Instance) (k : Knowledge
       record { drawn = omega (arith, new); header = untouched.header; blank = untouched.blank }
 
   drawn_true : (name : List ℕ) → IsTrueAt site (with_directory (added name r.directory) r) me (with_drawn site (r.directory.drawn + 1) k)
-  drawn_true name = record { owned = t.owned; drawn = λ i drawn. by i (is_at site i site (r.directory.drawn + 1)) refl drawn; fenced = t.fenced }
+  drawn_true name = record {
+    owned = t.owned;
+    drawn = λ i drawn. by i (is_at site i site (r.directory.drawn + 1)) refl drawn;
+    fenced = t.fenced;
+    mapped = λ free i known. mapped i (is_at site i site (r.directory.drawn + 1)) (t.mapped free i known);
+    counted = λ i drawn. counted i (is_at site i site (r.directory.drawn + 1)) drawn;
+  }
     where
+      mapped : (i : ℕ) (b : Bool) → AreMapsTrue (is_alone_on k site i) (r.maps i) (maps_of k.maps site i) → AreMapsTrue (is_alone_on k site i) (r.maps i) (cond b unmapped (maps_of k.maps site i))
+      mapped i true was = nothing_mapped (is_alone_on k site i) (r.maps i)
+      mapped i false was = was
+
+      counted : (i : ℕ) (b : Bool) → cond b true (is_drawn k.drawn site i) ≡ true → IsCountTrue (cond b unmapped (maps_of k.maps site i)).count (r.maps i None)
+      counted i true drawn = tt
+      counted i false drawn = t.counted i drawn
+
       by : (i : ℕ) (b : Bool) → is_at site i site (r.directory.drawn + 1) ≡ b → cond b true (is_drawn k.drawn site i) ≡ true → IsWaiting (with_directory (added name r.directory) r) i
       by i true here drawn = fresh_waits name i (sym (eqb-true (r.directory.drawn + 1) i (and_parts (same_site site site) ((r.directory.drawn + 1) == i) here).1))
       by i false there drawn = let w = t.drawn i drawn in let before = w.drawn in record { drawn = omega (arith, before); header = w.header; blank = w.blank }
@@ -154,10 +217,35 @@ module _ (site : SiteId) (r : Records) (me : Instance) (k : Knowledge) (t : IsTr
   elsewhere : (image : ℕ) (o : HeaderOp) (i : ℕ) → i ≢ image → (doing image o).headers i ≡ r.headers i
   elsewhere image o i differ = put_elsewhere r.headers image (header_after me (r.headers image) o) i differ
 
+  -- what it was told of maps before its first look is forgotten
+  looked_true : (image : ℕ) → IsTrueAt site r me (looked_behind site image k)
+  looked_true image = by (own_of k.owns site image)
+    where
+      of : (header : Option HeaderView) → IsTrueAt site r me (record k { maps = maps_looked header site image k.maps })
+      of None = forgotten_true site r me k image t
+      of (Some h) = t
+
+      by : (o : Option Own) → IsTrueAt site r me (record k { maps = maps_owned o site image k.maps })
+      by None = t
+      by (Some o) = of o.header
+
   got : (image : ℕ) (there : Option HeaderView) → r.headers image ≡ there → IsTrueAt site r me (learned_of_header k site image header.Get (header_answer me there (r.watchers image) header.Get))
   got image None is = t
-  got image (Some h) is = told_true site r r me k t free image (first_told h) (λ i differ. refl) (by (own_of k.owns site image) refl) t.drawn t.fenced
+  got image (Some h) is =
+      let before = looked_true image in
+      told_true site r r me (looked_behind site image k) before free image (first_told h) (λ i differ. refl) (by (own_of k.owns site image) refl) before.drawn before.fenced (λ i. refl)
+      (mapped (own_of k.owns site image) refl)
     where
+      mapped : (o : Option Own) → own_of k.owns site image ≡ o → IsSome (header_changed (first_told h) o) → AreMapsTrue (is_own_alone o) (r.maps image) (maps_of (maps_owned o site image k.maps) site image)
+      mapped None at some = absurd (true≢false (sym some))
+      mapped (Some o) at some = of o.header refl
+        where
+          of : (header : Option HeaderView) → o.header ≡ header → AreMapsTrue o.alone (r.maps image) (maps_of (maps_looked header site image k.maps) site image)
+          of None unknown = subst (AreMapsTrue o.alone (r.maps image)) (sym (told_of_it site image unmapped k.maps)) (nothing_mapped o.alone (r.maps image))
+          of (Some own) known =
+              subst (λ alone. AreMapsTrue alone (r.maps image) (maps_of k.maps site image)) (ap is_own_alone at)
+              (t.mapped free image (ap (λ q. is_some (header_of_own q)) at ∙ ap is_some known))
+
       still : (o : Own) (known : Option HeaderView) → o.header ≡ known → IsStill known (Some h) → IsStill (first_told h o.header) (Some h)
       still o None is was = subst (λ q. IsStill (first_told h q) (Some h)) (sym is) refl
       still o (Some own) is was = subst (λ q. IsStill (first_told h q) (Some h)) (sym is) was
@@ -169,7 +257,7 @@ module _ (site : SiteId) (r : Records) (me : Instance) (k : Knowledge) (t : IsTr
           (still o o.header refl (subst (IsStill o.header) is (subst (λ q. IsStill (header_of_own q) (r.headers image)) at (t.owned free image))))
 
   made : (image : ℕ) (view : HeaderView) → MayMake k site image view → IsTrueAt site (doing image (header.Create view)) me (without_drawn site image k)
-  made image view may = record { owned = λ still_free i. by i (i == image) refl; drawn = λ i drawn. waits i (drawn_left site image i k.drawn drawn); fenced = t.fenced }
+  made image view may = record { owned = λ still_free i. by i (i == image) refl; drawn = λ i drawn. waits i (drawn_left site image i k.drawn drawn); fenced = t.fenced; mapped = λ still_free. t.mapped free; counted = λ i drawn. t.counted i (drawn_left site image i k.drawn drawn).0 }
     where
       by : (i : ℕ) (b : Bool) → (i == image) ≡ b → IsStill (known_header k site i) ((doing image (header.Create view)).headers i)
       by i true same =
@@ -192,7 +280,7 @@ module _ (site : SiteId) (r : Records) (me : Instance) (k : Knowledge) (t : IsTr
       (subst (IsStill (Some (edit owns.header))) (sym (put_there r.headers image (header_after me (r.headers image) o) ∙ is))
       (ap edit same ∙ keeps owns.header v.owner ∙ ap (λ w. record (edit owns.header) { owner = w }) (sym owner))))
       (λ i drawn. waits_served r me (op.Header image o) i (owned_is_other site r me k image i condition t free owns (t.drawn i drawn)) (t.drawn i drawn))
-      t.fenced
+      t.fenced (λ i. refl) (λ some. t.mapped free image (ap is_some (own_known k site image condition owns)))
 
   -- ---- snapshots
 
@@ -201,7 +289,7 @@ module _ (site : SiteId) (r : Records) (me : Instance) (k : Knowledge) (t : IsTr
     pub answered : header_answer me (r.headers image) (r.watchers image) o ≡ a
     pub is : header_after me (r.headers image) o ≡ Some (edit v)
 
-  pub takes : (image : ℕ) (name : List ℕ) (owns : OwnsAlone k site image (MayTake name))
+  pub takes : (image : ℕ) (name : List ℕ) (owns : OwnsAlone k site image (MayTake (maps_of k.maps site image) name))
       → Edits image (header.SnapAdd name) (with_snap name) (owned_there site r me k image _ t free owns).view (answer.Snap ((owned_there site r me k image _ t free owns).view.snap_seq + 1))
   takes image name owns =
       let there = owned_there site r me k image _ t free owns in
@@ -228,7 +316,7 @@ module _ (site : SiteId) (r : Records) (me : Instance) (k : Knowledge) (t : IsTr
         is = ap (λ h. header_after me h (header.SnapRemove snap)) there.is ∙ ap (λ b. Some (cond b (without_snap snap there.view) there.view)) listed;
       }
 
-  taken : (image : ℕ) (name : List ℕ) → OwnsAlone k site image (MayTake name)
+  taken : (image : ℕ) (name : List ℕ) → OwnsAlone k site image (MayTake (maps_of k.maps site image) name)
       → IsTrueAt site (doing image (header.SnapAdd name)) me (learned_of_header k site image (header.SnapAdd name) (header_answer me (r.headers image) (r.watchers image) (header.SnapAdd name)))
   taken image name owns =
       let there = owned_there site r me k image _ t free owns in
@@ -259,7 +347,7 @@ was_known there owner site i (f ∷ fenced) known = by (is_fence_of there owner 
 
 -- to forget one does no harm
 unfenced_true : (site there : SiteId) (r : Records) (me : Instance) (k : Knowledge) (owner : Instance) → IsTrueAt site r me k → IsTrueAt site r me (without_fence there owner k)
-unfenced_true site there r me k owner t = record { owned = t.owned; drawn = t.drawn; fenced = λ i known. t.fenced i (was_known there owner site i k.fenced known) }
+unfenced_true site there r me k owner t = record { owned = t.owned; drawn = t.drawn; fenced = λ i known. t.fenced i (was_known there owner site i k.fenced known); mapped = t.mapped; counted = t.counted }
 
 broken_true : (site : SiteId) (r : Records) (me : Instance) (k : Knowledge) (image : ℕ) (owner : Instance) (a : Answer) → IsTrueAt site r me k
     → IsTrueAt site r me (learned_of_header k site image (header.LockBreak owner) a)
@@ -273,6 +361,8 @@ listed_true site r me k i t free = record {
   owned = λ still_free. t.owned free;
   drawn = λ image drawn. let w = t.drawn image drawn in record { drawn = w.drawn; header = w.header; blank = w.blank };
   fenced = λ other known. by other (is_fence_of site other (record { site = site; instance = i })) refl known;
+  mapped = λ still_free. t.mapped free;
+  counted = t.counted;
 }
   where
     by : (other : Instance) (b : Bool) → is_fence_of site other (record { site = site; instance = i }) ≡ b → cond b true (is_fenced_by k.fenced site other) ≡ true
@@ -314,6 +404,15 @@ module _ (site : SiteId) (r : Records) (me : Instance) (k : Knowledge) (t : IsTr
 -- ---- all operations
 
 -- a fenced answer teaches nothing
+map_of_fence : (k : Knowledge) (site : SiteId) (image : ℕ) (o : MapOp) → learned_of_map k site image o answer.Fenced ≡ k
+map_of_fence k site image (states.Resize count) = refl
+map_of_fence k site image (states.Get None) = refl
+map_of_fence k site image (states.Get (Some snap)) = refl
+map_of_fence k site image (states.Put None bits) = refl
+map_of_fence k site image (states.Put (Some snap) bits) = refl
+map_of_fence k site image (states.Set view object state) = refl
+map_of_fence k site image (states.Remove view) = refl
+
 pub learned_of_fence : (k : Knowledge) (site : SiteId) (o : Op) → learned k site o answer.Fenced ≡ k
 learned_of_fence k site (op.Directory (directory.Add name)) = refl
 learned_of_fence k site (op.Directory o) = refl
@@ -324,24 +423,34 @@ learned_of_fence k site (op.Header image (header.SnapRemove snap)) = refl
 learned_of_fence k site (op.Header image (header.LockBreak owner)) = refl
 learned_of_fence k site (op.Header image o) = refl
 learned_of_fence k site (op.BlockAdd i) = refl
+learned_of_fence k site (op.Map image o) = map_of_fence k site image o
 learned_of_fence k site o = refl
 
-pub own_learned : (site : SiteId) (r : Records) (f : Flat) (k : Knowledge) (me : Instance) (o : Op) → StandsFor [] r f → IsTrueAt site r me k → Permits k site o
+pub own_learned : (site : SiteId) (r : Records) (f : Flat) (k : Knowledge) (me : Instance) (o : Op) (most : ℕ) → StandsFor [] r f → AreInForm r most → AreMapped r → IsTrueAt site r me k → Permits k site o
     → IsTrueAt site (after r me o) me (learned k site o (answer_to r me o))
-own_learned site r f k me (op.Directory o) stands t permits =
+own_learned site r f k me (op.Directory o) most stands form mapped t permits =
     where_either (λ a s. IsTrueAt site s me (learned k site (op.Directory o) a)) r me (op.Directory o)
     (subst (IsTrueAt site r me) (sym (learned_of_fence k site (op.Directory o))) t) (directory_learned site r f me k stands t o permits)
-own_learned site r f k me (op.BlockAdd i) stands t permits =
+own_learned site r f k me (op.BlockAdd i) most stands form mapped t permits =
     where_free (λ a s. IsTrueAt site s me (learned_of_listing k site i a)) r me (op.BlockAdd i) t (λ free. listed_true site r me k i t free)
-own_learned site r f k me (op.Header image o) stands t permits = header_learned site r me k t image o permits
-own_learned site r f k me (op.Data image number o) stands t permits = record {
+own_learned site r f k me (op.Header image o) most stands form mapped t permits = header_learned site r me k t image o permits
+own_learned site r f k me (op.Data image number o) most stands form mapped t permits = record {
   owned = λ free i.
       let still = t.owned (was_free r me me (op.Data image number o) free) i in
       where_fenced (λ s. IsStill (known_header k site i) (s.headers i)) r me (op.Data image number o) still still;
   drawn = λ i drawn. waits_object site r k me t i (t.drawn i drawn) image number o permits;
   fenced = λ i known. fence_stays r me i (op.Data image number o) (t.fenced i known);
+  mapped = λ free i known.
+      let was = t.mapped (was_free r me me (op.Data image number o) free) i known in
+      where_fenced (λ s. AreMapsTrue (is_alone_on k site i) (s.maps i) (maps_of k.maps site i)) r me (op.Data image number o) was was;
+  counted = λ i drawn.
+      let was = t.counted i drawn in
+      where_fenced (λ s. IsCountTrue (maps_of k.maps site i).count (s.maps i None)) r me (op.Data image number o) was was;
 }
-own_learned site r f k me _ stands t permits = elim permits [ ]
+own_learned site r f k me (op.Map image o) most stands form mapped t permits =
+    where_free (λ a s. IsTrueAt site s me (learned_of_map k site image o a)) r me (op.Map image o) (subst (IsTrueAt site r me) (sym (map_of_fence k site image o)) t)
+    (λ free. map_taught site r me k most form mapped t free image o permits)
+own_learned site r f k me _ most stands form mapped t permits = elim permits [ ]
 
 -- ---- waits
 
@@ -371,28 +480,73 @@ left_there site there image place differ (o ∷ owns) = by (is_at site image o.s
         rest ∙ sym (ap (λ b. cond b (Some o) (own_of owns there place)) (sym (ap (λ s. is_at there place s image) same.0 ∙ ap (λ i. is_at there place o.site i) same.1) ∙ differ))
     by false is rest = ap (λ found. cond (is_at there place o.site o.image) (Some o) found) rest
 
-module _ (site : SiteId) (r : Records) (me : Instance) (k : Knowledge) (t : IsTrueAt site r me k) (free : IsFalse (is_fenced r me)) (there : SiteId) (place : ℕ) where
-  left_still : (image : ℕ) → IsStill (header_of_own (own_of (left there place k.owns) site image)) (r.headers image)
-  left_still image = by (is_at site image there place) refl
-    where
-      by : (b : Bool) → is_at site image there place ≡ b → IsStill (header_of_own (own_of (left there place k.owns) site image)) (r.headers image)
-      by true is =
-          let same = place_of site there image place is in
-          let none : own_of (left there place k.owns) site image ≡ None =
-          ap (λ s. own_of (left there place k.owns) s image) same.0 ∙ ap (λ i. own_of (left there place k.owns) there i) same.1 ∙ left_here there place k.owns in
-          subst (λ o. IsStill (header_of_own o) (r.headers image)) (sym none) tt
-      by false other = subst (λ o. IsStill (header_of_own o) (r.headers image)) (sym (left_there there site place image other k.owns)) (t.owned free image)
+-- What holds of the own that was there, and of none, holds of the one that is left.
+own_left : (P : Option Own → Type 0) (site there : SiteId) (image place : ℕ) (owns : List Own) → P None → P (own_of owns site image) → P (own_of (left there place owns) site image)
+own_left P site there image place owns none was = by (is_at site image there place) refl
+  where
+    by : (b : Bool) → is_at site image there place ≡ b → P (own_of (left there place owns) site image)
+    by true is =
+        let same = place_of site there image place is in
+        let gone : own_of (left there place owns) site image ≡ None =
+        ap (λ s. own_of (left there place owns) s image) same.0 ∙ ap (λ i. own_of (left there place owns) there i) same.1 ∙ left_here there place owns in
+        subst P (sym gone) none
+    by false other = subst P (sym (left_there there site place image other owns)) was
 
-  held_still : (image : ℕ) → IsStill (header_of_own (own_of (held k there place) site image)) (r.headers image)
-  held_still image = by (is_at site image there place)
-    where
-      by : (b : Bool) → IsStill (header_of_own (cond b (Some (record { site = there; image = place; alone = k.alone; header = None })) (own_of (left there place k.owns) site image))) (r.headers image)
-      by true = tt
-      by false = left_still image
+-- who waits at a place has looked at nothing there
+abbrev waiting : Knowledge → SiteId → (place : ℕ) → Own
+waiting k there place = record { site = there; image = place; alone = k.alone; header = None }
 
-pub waits_learned : (site : SiteId) (r : Records) (me : Instance) (k : Knowledge) (w : Wait) → IsTrueAt site r me k → IsTrueAt site r me (passed k w)
-waits_learned site r me k (wait.Join there image alone) t = record { owned = t.owned; drawn = t.drawn; fenced = t.fenced }
-waits_learned site r me k (wait.Hold there image) t = record { owned = λ free. held_still site r me k t free there image; drawn = t.drawn; fenced = t.fenced }
-waits_learned site r me k (wait.Turn object) t = record { owned = t.owned; drawn = t.drawn; fenced = t.fenced }
-waits_learned site r me k (wait.Applied there image) t = record { owned = t.owned; drawn = t.drawn; fenced = t.fenced }
-waits_learned site r me k (wait.Leave there image) t = record { owned = λ free. left_still site r me k t free there image; drawn = t.drawn; fenced = t.fenced }
+own_held : (P : Option Own → Type 0) (site there : SiteId) (image place : ℕ) (k : Knowledge) → P (Some (waiting k there place)) → P None → P (own_of k.owns site image)
+    → P (own_of (held k there place) site image)
+own_held P site there image place k waits none was = by (is_at site image there place)
+  where
+    by : (b : Bool) → P (cond b (Some (waiting k there place)) (own_of (left there place k.owns) site image))
+    by true = waits
+    by false = own_left P site there image place k.owns none was
+
+-- without the marks
+maps_unmarked : (maps : List ImageMaps) (site : SiteId) (image : ℕ) → maps_of (unmarked maps) site image ≡ record (maps_of maps site image) { raised = [] }
+maps_unmarked [] site image = refl
+maps_unmarked (m ∷ maps) site image = by (is_at site image m.site m.image) (maps_unmarked maps site image)
+  where
+    by : (b : Bool) → maps_of (unmarked maps) site image ≡ record (maps_of maps site image) { raised = [] }
+        → cond b (record m.known { raised = [] }) (maps_of (unmarked maps) site image) ≡ record (cond b m.known (maps_of maps site image)) { raised = [] }
+    by true rest = refl
+    by false rest = rest
+
+module _ (site : SiteId) (r : Records) (me : Instance) (k : Knowledge) (t : IsTrueAt site r me k) where
+  abbrev IsOwnStill : (image : ℕ) → Option Own → Type 0
+  IsOwnStill image o = IsStill (header_of_own o) (r.headers image)
+
+  abbrev IsOwnMapped : (image : ℕ) → Option Own → Type 0
+  IsOwnMapped image o = IsSome (header_of_own o) → AreMapsTrue (is_own_alone o) (r.maps image) (maps_of k.maps site image)
+
+  none_mapped : (image : ℕ) → IsOwnMapped image None
+  none_mapped image some = absurd (true≢false (sym some))
+
+  marks_forgotten : (free : IsFalse (is_fenced r me)) (image : ℕ) → IsSome (known_header k site image) → AreMapsTrue (is_alone_on k site image) (r.maps image) (maps_of (unmarked k.maps) site image)
+  marks_forgotten free image known =
+      let was = t.mapped free image known in
+      subst (AreMapsTrue (is_alone_on k site image) (r.maps image)) (sym (maps_unmarked k.maps site image)) (record { raised = λ object marked. cc; states = was.states; put = was.put })
+
+  still_counted : (image : ℕ) → is_drawn k.drawn site image ≡ true → IsCountTrue (maps_of (unmarked k.maps) site image).count (r.maps image None)
+  still_counted image drawn = subst (λ m. IsCountTrue m.count (r.maps image None)) (sym (maps_unmarked k.maps site image)) (t.counted image drawn)
+
+  pub waits_learned : (w : Wait) → IsTrueAt site r me (passed k w)
+  waits_learned (wait.Join there image alone) = record { owned = t.owned; drawn = t.drawn; fenced = t.fenced; mapped = t.mapped; counted = t.counted }
+  waits_learned (wait.Hold there place) = record {
+    owned = λ free image. own_held (IsOwnStill image) site there image place k tt tt (t.owned free image);
+    drawn = t.drawn;
+    fenced = t.fenced;
+    mapped = λ free image. own_held (IsOwnMapped image) site there image place k (λ some. absurd (true≢false (sym some))) (none_mapped image) (t.mapped free image);
+    counted = t.counted;
+  }
+  waits_learned (wait.Turn object) = record { owned = t.owned; drawn = t.drawn; fenced = t.fenced; mapped = marks_forgotten; counted = still_counted }
+  waits_learned (wait.Applied there image) = record { owned = t.owned; drawn = t.drawn; fenced = t.fenced; mapped = marks_forgotten; counted = still_counted }
+  waits_learned (wait.Leave there place) = record {
+    owned = λ free image. own_left (IsOwnStill image) site there image place k.owns tt (t.owned free image);
+    drawn = t.drawn;
+    fenced = t.fenced;
+    mapped = λ free image. own_left (IsOwnMapped image) site there image place k.owns (none_mapped image) (t.mapped free image);
+    counted = t.counted;
+  }

@@ -1,9 +1,15 @@
 pub mod Done
 pub mod Fenced
 pub mod Elsewhere
+pub mod Headers
 pub mod Kept
 pub mod Learned
 pub mod Locks
+pub mod Maps
+pub mod MapsBehind
+pub mod MapsKept
+pub mod MapsLearned
+pub mod States
 pub mod Together
 pub mod Parents
 pub mod Nothing

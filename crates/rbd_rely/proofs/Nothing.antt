@@ -13,6 +13,8 @@ nothing_is_true s r me = record {
   owned = λ free image. tt;
   drawn = λ image drawn. absurd (true≢false (sym drawn));
   fenced = λ i known. absurd (true≢false (sym known));
+  mapped = λ free image known. absurd (true≢false (sym known));
+  counted = λ image drawn. absurd (true≢false (sym drawn));
 }
 
 pub nothing_is_beside : (s : SiteId) (r : Records) (me you : Instance) (j : Knowledge) → AreBeside s r me you nothing_known j

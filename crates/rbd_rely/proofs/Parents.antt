@@ -67,6 +67,7 @@ module _ (site : SiteId) (r : Records) (k : Knowledge) (you : Instance) (parentl
   served_parent (op.Directory o) permits = parentless
   served_parent (op.BlockAdd i) permits = parentless
   served_parent (op.Data image number o) permits = parentless
+  served_parent (op.Map image o) permits = parentless
   served_parent (op.Header image o) permits = λ i h at. by i h (i == image) at
     where
       by : (i : ℕ) (h : HeaderView) (b : Bool) → cond b (header_after you (r.headers image) o) (r.headers i) ≡ Some h → h.parent ≡ None

@@ -1,5 +1,5 @@
 -- Two requests stay beside each other.
-use Rattle.std.proofs.Common.{◌≡◌, ℕ, ◌==◌, ◌+◌, cond, Bool, true, false, List, [], ◌∷◌, map, Option, Some, None, option_map, refl, sym, ap, ◌∙◌, subst, arith}
+use Rattle.std.proofs.Common.{◌≡◌, ℕ, ◌==◌, ◌+◌, cond, Bool, true, false, List, ◌∷◌, Option, Some, None, option_map, refl, sym, ap, ◌∙◌, subst, arith}
 use Rattle.std.specs.Prelude.{IsSome, is_some}
 use Rattle.std.proofs.lemmas.Bool.{true≢false, eqb-true, eq-eqb, and_parts}
 use Rattle.rbd_kinds.specs.declared.answer.Answer.{Answer}
@@ -11,10 +11,12 @@ use Rattle.rbd_kinds.specs.declared.header_op.HeaderOp.{HeaderOp}
 use Rattle.rbd_kinds.specs.declared.header_op.HeaderOp.TheVariants as header
 use Rattle.rbd_kinds.specs.declared.id.Instance.{Instance}
 use Rattle.rbd_kinds.specs.declared.id.SiteId.{SiteId}
+use Rattle.rbd_kinds.specs.declared.map_op.MapOp.{MapOp}
+use Rattle.rbd_kinds.specs.declared.map_op.MapOp.TheVariants as states
 use Rattle.rbd_kinds.specs.declared.operation.Op.{Op}
 use Rattle.rbd_kinds.specs.declared.operation.Op.TheVariants as op
 use Rattle.rbd_header.specs.Header.{with_snap, without_snap}
-use Rattle.rbd_machine.specs.Knowledge.{Knowledge, Fence, Own, own_of, is_drawn, is_at, same_site, told_of, header_told, first_told, learned, learned_of_directory, learned_of_header, learned_of_listing, unfenced, with_drawn, without_drawn, passed, held, left}
+use Rattle.rbd_machine.specs.Knowledge.{ImageMaps, Knowledge, Fence, Own, learned_of_map, own_of, is_drawn, is_at, same_site, header_told, first_told, learned, learned_of_directory, learned_of_header, learned_of_listing, unfenced, with_drawn, without_drawn, passed, held, left}
 use Rattle.rbd_machine.specs.Permits.{Permits, PermitsOnDirectory, PermitsOnHeader, HoldsUnlooked}
 use Rattle.rbd_machine.specs.Wait.{Wait}
 use Rattle.rbd_machine.specs.Wait as wait
@@ -24,35 +26,10 @@ use Rattle.rbd_site.specs.DirectoryStep.{name_added}
 use Rattle.rbd_site.specs.Records.{Records}
 use Rattle.rbd_site.specs.Step.{after, answer_to}
 use Rattle.rbd_stands.proofs.Served.{where_either}
-use Rattle.rbd_rely.specs.Beside.{AreBeside, AreFree, AreShared, MayLook, SharesLock, is_own_alone, is_alone_on}
-use Rattle.rbd_rely.specs.Truth.{IsTrueAt, header_of_own, known_header}
+use Rattle.rbd_rely.specs.Beside.{AreBeside, AreFree, AreShared, MayLook, SharesLock}
+use Rattle.rbd_rely.specs.Truth.{IsTrueAt, header_of_own, known_header, is_own_alone, is_alone_on}
 use Rattle.rbd_rely.proofs.Fenced.{was_free}
-use Rattle.rbd_rely.proofs.Learned.{header_changed, told_here, told_there, drawn_left, left_here, left_there, place_of}
-
--- ---- an own that is told of
-
-told_alone : (site there : SiteId) (image place : ℕ) (change : Option HeaderView → Option HeaderView) (owns : List Own)
-    → is_own_alone (own_of (map (told_of site image change) owns) there place) ≡ is_own_alone (own_of owns there place)
-told_alone site there image place change [] = refl
-told_alone site there image place change (o ∷ owns) = by (is_at site image o.site o.image) (told_alone site there image place change owns)
-  where
-    rest : List Own
-    rest = map (told_of site image change) owns
-
-    same : (t : Bool) → is_own_alone (own_of rest there place) ≡ is_own_alone (own_of owns there place)
-        → is_own_alone (cond t (Some (record o { header = change o.header })) (own_of rest there place)) ≡ is_own_alone (cond t (Some o) (own_of owns there place))
-    same true e = refl
-    same false e = e
-
-    kept : (t : Bool) → is_own_alone (own_of rest there place) ≡ is_own_alone (own_of owns there place)
-        → is_own_alone (cond t (Some o) (own_of rest there place)) ≡ is_own_alone (cond t (Some o) (own_of owns there place))
-    kept true e = refl
-    kept false e = e
-
-    by : (b : Bool) → is_own_alone (own_of rest there place) ≡ is_own_alone (own_of owns there place)
-        → is_own_alone (own_of (cond b (record o { header = change o.header }) o ∷ rest) there place) ≡ is_own_alone (own_of (o ∷ owns) there place)
-    by true e = same (is_at there place o.site o.image) e
-    by false e = kept (is_at there place o.site o.image) e
+use Rattle.rbd_rely.proofs.Learned.{header_changed, told_alone, told_here, told_there, drawn_left, left_here, left_there, place_of}
 
 module _ (site : SiteId) (r : Records) (me you : Instance) (k j : Knowledge) (beside : AreBeside site r me you k j) where
   told_beside : (image : ℕ) (change : Option HeaderView → Option HeaderView)
@@ -136,8 +113,28 @@ module _ (site : SiteId) (r : Records) (me you : Instance) (k j : Knowledge) (be
     apart = beside.apart;
   }
 
+  -- whatever it knows of maps
+  maps_beside : (maps : List ImageMaps) → AreBeside site r me you (record k { maps = maps }) j
+  maps_beside maps = record {
+    shared = λ free i mine others. let both = beside.shared free i mine others in record { one = both.one; other = both.other };
+    apart = beside.apart;
+  }
+
+  map_beside : (image : ℕ) (o : MapOp) (a : Answer) → AreBeside site r me you (learned_of_map k site image o a) j
+  map_beside image (states.Resize count) answer.Done = maps_beside _
+  map_beside image (states.Get None) (answer.Bits bits) = maps_beside _
+  map_beside image (states.Put (Some snap) bits) answer.Done = maps_beside _
+  map_beside image (states.Set view object state) answer.Done = maps_beside _
+  map_beside image (states.Remove view) answer.Done = maps_beside _
+  map_beside image _ _ = beside
+
   header_beside : (image : ℕ) (o : HeaderOp) (a : Answer) → PermitsOnHeader k site image o → MayLook site r me you k j (op.Header image o) → AreBeside site r me you (learned_of_header k site image o a) j
-  header_beside image header.Get (answer.Header h) permits may = looked_beside image h may
+  header_beside image header.Get (answer.Header h) permits may =
+      let looked = looked_beside image h may in
+      record {
+        shared = λ free i mine others. let both = looked.shared free i mine others in record { one = both.one; other = both.other };
+        apart = looked.apart;
+      }
   header_beside image (header.Create view) answer.Done permits may = made_beside image
   header_beside image (header.SnapAdd name) (answer.Snap snap) permits may = edited_beside image (with_snap name)
   header_beside image (header.SnapRemove snap) answer.Done permits may = edited_beside image (without_snap snap)
@@ -165,6 +162,7 @@ module _ (site : SiteId) (r : Records) (me you : Instance) (k j : Knowledge) (be
   answered_beside (op.BlockAdd i) u permits may = listing_beside i (answer_to r me (op.BlockAdd i))
   answered_beside (op.Header image o) u permits may = header_beside image o (answer_to r me (op.Header image o)) permits may
   answered_beside (op.Data image number o) u permits may = beside
+  answered_beside (op.Map image o) u permits may = map_beside image o (answer_to r me (op.Map image o))
   answered_beside _ u permits may = elim permits [ ]
 
   -- ---- waits

@@ -1,23 +1,15 @@
 -- What two requests of two instances may know at the same time.
-use Rattle.std.specs.Prelude.{◌≡◌, ℕ, Bool, true, false, Option, Some, None, IsSome, IsFalse}
+use Rattle.std.specs.Prelude.{◌≡◌, ℕ, true, false, IsSome, IsFalse}
 use Rattle.rbd_kinds.specs.declared.id.Instance.{Instance}
 use Rattle.rbd_kinds.specs.declared.id.SiteId.{SiteId}
 use Rattle.rbd_kinds.specs.declared.header_op.HeaderOp.TheVariants as header
 use Rattle.rbd_kinds.specs.declared.operation.Op.{Op}
 use Rattle.rbd_kinds.specs.declared.operation.Op.TheVariants as op
-use Rattle.rbd_machine.specs.Knowledge.{Knowledge, Own, own_of, is_drawn}
-use Rattle.rbd_rely.specs.Truth.{known_header}
+use Rattle.rbd_machine.specs.Knowledge.{Knowledge, own_of, is_drawn}
+use Rattle.rbd_rely.specs.Truth.{is_alone_on, known_header}
 use Rattle.rbd_site.specs.Records.{Records}
 use Rattle.rbd_site.specs.Step.{is_fenced}
 use Rattle.rbd_stands.specs.Owned.{HasLock}
-
--- whether it is alone on an image
-abbrev pub is_own_alone : Option Own → Bool
-is_own_alone None = false
-is_own_alone (Some o) = o.alone
-
-abbrev pub is_alone_on : Knowledge → SiteId → (image : ℕ) → Bool
-is_alone_on k site image = is_own_alone (own_of k.owns site image)
 
 pub record AreShared (site : SiteId) (image : ℕ) (k j : Knowledge) : Type 0 where
   pub one : is_alone_on k site image ≡ false

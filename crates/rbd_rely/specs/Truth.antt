@@ -1,15 +1,18 @@
 -- When what a request knows is true at a site, by the site's records.
-use Rattle.std.specs.Prelude.{◌≡◌, ℕ, true, Option, Some, None, IsFalse}
+use Rattle.std.specs.Prelude.{◌≡◌, ◌≢◌, ℕ, ◌≤◌, ◌^◌, Bool, true, false, List, length, slice_index, Option, Some, None, IsFalse, IsSome}
 use Rattle.rbd_kinds.specs.declared.header.HeaderView.{HeaderView}
 use Rattle.rbd_kinds.specs.declared.id.Instance.{Instance}
 use Rattle.rbd_kinds.specs.declared.id.SiteId.{SiteId}
-use Rattle.rbd_object.specs.Mapped.{mapped_blank}
+use Rattle.rbd_object.specs.Mapped.{Mapped, mapped_blank}
 use Rattle.rbd_flat.specs.Flat.{Flat, after}
 use Rattle.rbd_flat.specs.declared.effect.Effect.{Effect}
-use Rattle.rbd_machine.specs.Knowledge.{Knowledge, Own, own_of, is_drawn, is_fenced_by}
+use Rattle.rbd_machine.specs.Knowledge.{Knowledge, MapsKnown, Own, own_of, is_drawn, is_fenced_by, is_raised, maps_of}
+use Rattle.rbd_machine.specs.Permits.{HasRoomFor}
 use Rattle.rbd_site.specs.Records.{Records, object_at}
 use Rattle.rbd_site.specs.Step.{is_fenced}
 use Rattle.rbd_stands.specs.Condition.{IsDrawn}
+use Rattle.rbd_stands.specs.Covering.{AreCovered, Maps}
+use Rattle.rbd_stands.specs.View.{EachView}
 
 -- ---- headers
 
@@ -29,6 +32,52 @@ IsStill None there = Unit {0}
 IsStill (Some known) None = ⊥
 IsStill (Some known) (Some there) = there ≡ record known { owner = there.owner }
 
+-- whether it is alone on an image
+abbrev pub is_own_alone : Option Own → Bool
+is_own_alone None = false
+is_own_alone (Some o) = o.alone
+
+abbrev pub is_alone_on : Knowledge → SiteId → (image : ℕ) → Bool
+is_alone_on k site image = is_own_alone (own_of k.owns site image)
+
+-- ---- object maps
+
+-- the state of an object in a map, 0 where there is none
+abbrev pub state_in : (map : Option (List ℕ)) → (object : ℕ) → ℕ
+state_in None object = 0
+state_in (Some states) object = slice_index states object
+
+-- These are the states of a map that is there, with some zeros behind them.
+pub record AreStatesOf (states : List ℕ) (map : Option (List ℕ)) : Type 0 where
+  pub there : List ℕ
+  pub is : map ≡ Some there
+  pub same : (object : ℕ) → slice_index states object ≡ slice_index there object
+  pub long : length there ≤ length states
+  pub few : length states ≤ 2 ^ 20
+
+-- a snapshot's map is there, with the states of the head
+pub record IsPutAs (put head : Option (List ℕ)) : Type 0 where
+  pub there : List ℕ
+  pub is : put ≡ Some there
+  pub same : (object : ℕ) → slice_index there object ≡ state_in head object
+
+-- What is known of an image's maps: a state that was raised in the head's map isn't 0. Who is alone
+-- on the image knows the head's states as they are, and that a map which it put still has them.
+pub record AreMapsTrue (alone : Bool) (maps : Maps) (m : MapsKnown) : Type 0 where
+  pub raised : (object : ℕ) → is_raised None object m.raised ≡ true → state_in (maps None) object ≢ 0
+  pub states : alone ≡ true → (states : List ℕ) → m.states ≡ Some states → AreStatesOf states (maps None)
+  pub put : alone ≡ true → (snap : ℕ) → m.put ≡ Some snap → IsPutAs (maps (Some snap)) (maps None)
+
+-- a map is there, of so many objects at least
+pub record HasAtLeast (count : ℕ) (map : Option (List ℕ)) : Type 0 where
+  pub there : List ℕ
+  pub is : map ≡ Some there
+  pub long : count ≤ length there
+
+abbrev pub IsCountTrue : Option ℕ → (map : Option (List ℕ)) → Type 0
+IsCountTrue None map = Unit {0}
+IsCountTrue (Some count) map = HasAtLeast count map
+
 -- ---- ids
 
 -- an id that was drawn waits for its header: nothing was done to it yet
@@ -45,12 +94,30 @@ pub record IsTrueAt (site : SiteId) (r : Records) (me : Instance) (k : Knowledge
   pub owned : IsFalse (is_fenced r me) → (image : ℕ) → IsStill (known_header k site image) (r.headers image)
   pub drawn : (image : ℕ) → is_drawn k.drawn site image ≡ true → IsWaiting r image
   pub fenced : (i : Instance) → is_fenced_by k.fenced site i ≡ true → is_fenced r i ≡ true
+  pub mapped : IsFalse (is_fenced r me) → (image : ℕ) → IsSome (known_header k site image) → AreMapsTrue (is_alone_on k site image) (r.maps image) (maps_of k.maps site image)
+  pub counted : (image : ℕ) → is_drawn k.drawn site image ≡ true → IsCountTrue (maps_of k.maps site image).count (r.maps image None)
 
 -- ---- the site
 
 -- No image has a parent. So it is until there are clones.
 abbrev pub IsParentless : Records → Type 0
 IsParentless r = (image : ℕ) (h : HeaderView) → r.headers image ≡ Some h → h.parent ≡ None
+
+-- the objects of a map, none where there is no map
+abbrev pub map_len : (map : Option (List ℕ)) → ℕ
+map_len None = 0
+map_len (Some states) = length states
+
+-- An image has a map at each of its views, that of the head has all of its objects, and state 0
+-- means that an object is absent there.
+pub record HasMaps (h : HeaderView) (maps : Maps) (objects : ℕ → Mapped) : Type 0 where
+  pub covered : AreCovered h maps objects
+  pub there : EachView h (λ v shape. IsSome (maps v))
+  pub room : HasRoomFor h.layout h.size (map_len (maps None))
+
+-- each image has them
+abbrev pub AreMapped : Records → Type 0
+AreMapped r = (image : ℕ) (h : HeaderView) → r.headers image ≡ Some h → HasMaps h (r.maps image) (object_at r image)
 
 -- the flat site after an effect, or after none
 abbrev pub changed_by : Flat → Option Effect → Flat

@@ -9,9 +9,9 @@ ghost use Rattle.rbd_kinds.specs.declared.header_op.HeaderOp.TheVariants as head
 ghost use Rattle.rbd_kinds.specs.declared.operation.Op.{Op};
 ghost use Rattle.rbd_kinds.specs.declared.operation.Op.TheVariants as on;
 ghost use Rattle.rbd_flat.specs.Flat.{Flat};
-ghost use Rattle.rbd_machine.specs.Answers.{CanGive};
 ghost use Rattle.rbd_machine.specs.Knowledge.{Knowledge, nothing_known, is_drawn, learned, passed, same_site};
 ghost use Rattle.rbd_machine.specs.Permits.{Permits};
+ghost use Rattle.rbd_machine.specs.Refused.{IsGiven};
 ghost use Rattle.rbd_machine.specs.Wait.{Wait};
 ghost use Rattle.rbd_site.specs.InForm.{AreInForm};
 ghost use Rattle.rbd_site.specs.Log.{expired, trimmed};
@@ -23,7 +23,7 @@ ghost use Rattle.rbd_stands.specs.Site.{StandsFor};
 ghost use Rattle.rbd_rely.specs.Beside.{AreBeside, AreFree, MayLook};
 ghost use Rattle.rbd_rely.specs.Locks.{HasLockWhileFree, KnowsByLock, gives_up};
 ghost use Rattle.rbd_stands.specs.Owned.{HasLock};
-ghost use Rattle.rbd_rely.specs.Truth.{IsTrueAt, IsParentless, changed_by, known_header};
+ghost use Rattle.rbd_rely.specs.Truth.{AreMapped, IsTrueAt, IsParentless, changed_by, known_header};
 
 /// Who knows nothing knows nothing false.
 pub fn nothing_is_false_at_first()
@@ -50,8 +50,8 @@ pub fn expiries_keep_what_is_known()
 
 /// What a request learns by an operation that is permitted to it is true behind this operation.
 pub fn answers_teach_what_is_true()
-    ensures { (site : Site) (r : Records) (f : Flat) (k : Knowledge) (me : Instance) (op : Op)
-        → StandsFor [] r f → IsTrueAt site r me k → Permits k site op
+    ensures { (site : Site) (r : Records) (f : Flat) (k : Knowledge) (me : Instance) (op : Op) (most : ℕ)
+        → StandsFor [] r f → AreInForm r most → AreMapped r → IsTrueAt site r me k → Permits k site op
         → IsTrueAt site (after r me op) me (learned k site op (answer_to r me op)) }
 {}
 
@@ -125,12 +125,12 @@ pub fn locks_last()
 {}
 
 /// What is permitted by true knowledge meets the site's condition, and its answer is one that the
-/// operation can give: it may be that of a fence.
+/// operation can give to who owns what it changes: it may be that of a fence.
 pub fn what_is_permitted_may_be_done()
     ensures may { (site : Site) (r : Records) (k : Knowledge) (me : Instance) (op : Op) (most : ℕ)
-        → AreInForm r most → IsTrueAt site r me k → Permits k site op → MayDo r me op }
+        → AreInForm r most → AreMapped r → IsTrueAt site r me k → Permits k site op → MayDo r me op }
     ensures gives { (site : Site) (r : Records) (k : Knowledge) (me : Instance) (op : Op) (most : ℕ)
-        → AreInForm r most → IsTrueAt site r me k → Permits k site op → CanGive op (answer_to r me op) }
+        → AreInForm r most → AreMapped r → IsTrueAt site r me k → Permits k site op → IsGiven op (answer_to r me op) }
 {}
 
 /// Where the records stand for a flat site, what is permitted by true knowledge has its effect
@@ -139,6 +139,18 @@ pub fn what_is_permitted_has_its_effect()
     ensures { (site : Site) (r : Records) (f : Flat) (k : Knowledge) (me : Instance) (op : Op) (most : ℕ)
         → StandsFor [] r f → AreInForm r most → IsParentless r → IsTrueAt site r me k → Permits k site op
         → StandsFor [] (after r me op) (changed_by f (effect_of r (done.Op op) (answer_to r me op))) }
+{}
+
+/// Each image goes on to have its object maps, and state 0 goes on to mean that an object is
+/// absent: whatever is done that is permitted by true knowledge, whoever is fenced, and whatever
+/// the store does (Ceph: an object map may name an object that isn't there, and never misses one
+/// that is).
+pub fn images_keep_their_maps()
+    ensures first { AreMapped no_records }
+    ensures operation { (site : Site) (r : Records) (f : Flat) (k : Knowledge) (you : Instance) (op : Op) (most : ℕ)
+        → StandsFor [] r f → AreInForm r most → AreMapped r → IsTrueAt site r you k → Permits k site op → AreMapped (after r you op) }
+    ensures trim { (r : Records) (image number : ℕ) → AreMapped r → AreMapped (trimmed image number r) }
+    ensures expiry { (r : Records) (image : ℕ) (i : Instance) → AreMapped r → AreMapped (expired image i r) }
 {}
 
 /// No image gets a parent by what is permitted.

@@ -24,6 +24,10 @@
 //! | a header, behind an own look | the image has it still, with the request's own changes; its owner may change |
 //! | an id that was drawn | it waits for its header: no object of it was changed |
 //! | an instance that was fenced | it is in the site's blocklist |
+//! | a state that was raised in the head's object map | it isn't 0 |
+//! | the states of that map, of who is alone | the map has them, and no other |
+//! | a snapshot's map that was put, of who is alone | it has the head's states |
+//! | the count of the map of an id that was drawn | the map is there, and as long at least |
 //!
 //! - Knowledge is an instance's. What a fenced instance knew of headers says nothing any more: its
 //!   lock may be broken, and another instance changes the image. It does nothing by them, since
@@ -40,7 +44,7 @@
 //!
 //! | file | what it says |
 //! |---|---|
-//! | `specs/Truth.antt` | when knowledge is true at a site (`IsTrueAt`), and the flat site behind an effect |
+//! | `specs/Truth.antt` | when knowledge is true at a site (`IsTrueAt`), which maps images have, and the flat site behind an effect |
 //! | `specs/Locks.antt` | what an instance may count on of a lock that is its own |
 //! | `specs/Beside.antt` | which two requests are beside each other, and when one may look |
 //!
@@ -51,7 +55,9 @@
 //! - what an answer and a wait teach is true, and says nothing of the other site; an instance that
 //!   is fenced learns nothing, and changes nothing;
 //! - what is permitted by true knowledge meets the site's condition, and gets an answer that its
-//!   operation can give;
+//!   operation can give to who owns what it changes, so that no map of a head is missing;
+//! - each image goes on to have a map at each of its views, and state 0 goes on to mean that an
+//!   object is absent there (`AreMapped`);
 //! - where the records stand for a flat site, it has the effect there that `effect_of` tells, and
 //!   no other; so the records stand for a flat site behind it too;
 //! - two requests that are beside each other stay so;

@@ -2,4 +2,4 @@ use Rattle.rbd_rely.proofs.Learned.{waits_learned}
 use Rattle.rbd_rely.proofs.laws.waits_teach_what_is_true.Goals as goal
 
 pub returns : goal.returns
-returns c = waits_learned
+returns c = λ site r me k w t. waits_learned site r me k t w
