@@ -1,0 +1,4 @@
+pub mod Pays
+pub mod Walks
+pub mod Exactly
+pub mod ExactlyKept

@@ -1,0 +1,15 @@
+//! That object maps tell exactly which objects exist, as long as no client is stopped or fenced.
+//!
+//! State 0 of an object map means that the object is absent, whatever happens (`rbd_rely`). The
+//! other direction needs that everybody ends what he began: a request raises an object's state
+//! before it makes the object, and who is stopped between leaves a state without its object.
+//!
+//! # Contracts
+//!
+//! `specs/Owed.antt`: a request *owes* the object whose state it raised last, and writes it next
+//! (`PaysItsStates`). `specs/Exact.antt`: maps are exact but for what is owed (`IsExactBut`).
+//! [`laws`] says that the plans of all commands pay what they owe, and that what is permitted by
+//! true knowledge leaves maps exact but for what is owed then.
+#![tactic(auto)]
+
+pub mod laws;
