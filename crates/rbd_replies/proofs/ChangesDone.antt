@@ -1,5 +1,5 @@
 -- What `create`, `snap create` and `snap rm` did, and that they did nothing else.
-use Rattle.std.proofs.Common.{◌≡◌, ℕ, List, [], ◌∷◌, Option, Some, None, option_map, map, refl, sym, ap, ◌∙◌}
+use Rattle.std.proofs.Common.{◌≡◌, ℕ, ◌+◌, List, [], ◌∷◌, Option, Some, None, option_map, map, refl, sym, ap, ◌∙◌}
 use Rattle.rbd_flat.specs.Flat.{FlatImage, FlatSnap, image_at}
 use Rattle.rbd_flat.specs.declared.effect.Effect.{Effect}
 use Rattle.rbd_flat.specs.declared.effect.Effect.TheVariants as effect
@@ -13,14 +13,15 @@ use Rattle.rbd_kinds.specs.declared.header.SnapView.{SnapView}
 use Rattle.rbd_kinds.specs.declared.header_op.HeaderOp.{HeaderOp}
 use Rattle.rbd_kinds.specs.declared.header_op.HeaderOp.TheVariants as header
 use Rattle.rbd_kinds.specs.declared.id.SiteId.{SiteId}
+use Rattle.rbd_kinds.specs.declared.map_op.MapOp.TheVariants as states
 use Rattle.rbd_kinds.specs.declared.operation.Op.TheVariants as op
 use Rattle.rbd_kinds.specs.Header.{snap_named}
 use Rattle.rbd_header.specs.Header.{new_header}
 use Rattle.rbd_layout.specs.Asked.{layout_of}
 use Rattle.rbd_machine.specs.Path.{Answered, found, looked_at}
-use Rattle.rbd_meaning.proofs.Allowed.{may_take}
+use Rattle.rbd_meaning.proofs.Allowed.{takes_one_more}
 use Rattle.rbd_meaning.specs.Creates.{Makes}
-use Rattle.rbd_meaning.specs.Snaps.{RemovesOne, TakesOne}
+use Rattle.rbd_meaning.specs.Snaps.{RemovesOne, TakesOne, map_put, map_removed, map_told, snap_removed}
 use Rattle.rbd_stands.specs.Image.{SnapLine, line_of_flat, line_of_snap}
 use Rattle.rbd_stands.specs.Reading.{Tells, flat_snap_named}
 use Rattle.rbd_replies.proofs.PlacedRight.{ArePlacedRight}
@@ -33,6 +34,10 @@ use Rattle.rbd_replies.specs.Places.{Placed, effects_of, flat_at}
 -- an operation on a header, with its answer
 abbrev on_header : SiteId → (image : ℕ) → HeaderOp → Answer → Answered
 on_header site image o a = record { site = site; op = op.Header image o; answer = a }
+
+-- the map of a new image was made
+abbrev map_made : SiteId → (image objects : ℕ) → Answered
+map_made site image objects = record { site = site; op = op.Map image (states.Resize objects); answer = answer.Done }
 
 -- ---- the snapshot that a header lists is the flat image's
 
@@ -80,23 +85,27 @@ free_flat (Some i) h snap tells is =
 -- ---- the commands
 
 module _ (homes : ℕ → SiteId) where
-  creates_at : (places : List Placed) → ArePlacedRight homes places → (site : SiteId) (name : List ℕ) (size image : ℕ) (shape : Shape)
+  creates_at : (places : List Placed) → ArePlacedRight homes places → (site : SiteId) (name : List ℕ) (size image objects : ℕ) (shape : Shape)
       → map step_at places
       ≡ record { site = site; op = op.Directory (directory.Add name); answer = answer.Id image }
+      ∷ map_made site image objects
       ∷ on_header site image (header.Create (new_header (layout_of shape) size)) answer.Done ∷ []
       → Creates name size places
-  creates_at [] right site name size image shape are = absurd (cc)
-  creates_at (p ∷ []) right site name size image shape are = absurd (cc)
-  creates_at (p ∷ q ∷ places) (here, (there, right)) site name size image shape are = record {
+  creates_at [] right site name size image objects shape are = absurd (cc)
+  creates_at (p ∷ []) right site name size image objects shape are = absurd (cc)
+  creates_at (p ∷ m ∷ []) right site name size image objects shape are = absurd (cc)
+  creates_at (p ∷ m ∷ q ∷ places) (here, (mapped, (there, right))) site name size image objects shape are = record {
     first = p;
+    mapped = m;
     second = q;
-    are = ap (λ rest. p ∷ q ∷ rest) none;
+    are = ap (λ rest. p ∷ m ∷ q ∷ rest) none;
     image = image;
     free = free_there homes p here site name image cc;
     effects =
-        change_first p (q ∷ places) _ (effect_there homes p here (record { site = site; op = op.Directory (directory.Add name); answer = answer.Id image }) cc)
+        change_first p (m ∷ q ∷ places) _ (effect_there homes p here (record { site = site; op = op.Directory (directory.Add name); answer = answer.Id image }) cc)
         ∙ ap (λ rest. effect.Name name image ∷ rest)
-        (change_first q places (effect.Create image size Plain) (effect_there homes q there (on_header site image (header.Create (new_header (layout_of shape) size)) answer.Done) cc)
+        (silent_first m (q ∷ places) (effect_there homes m mapped (map_made site image objects) cc)
+        ∙ change_first q places (effect.Create image size Plain) (effect_there homes q there (on_header site image (header.Create (new_header (layout_of shape) size)) answer.Done) cc)
         ∙ ap (λ rest. effect.Create image size Plain ∷ effects_of rest) none);
   }
     where
@@ -105,29 +114,28 @@ module _ (homes : ℕ → SiteId) where
 
   pub create_creates : (places : List Placed) → ArePlacedRight homes places → (site : SiteId) (name : List ℕ) (size : ℕ) (shape : Shape)
       → Makes site name size shape (map step_at places) → Creates name size places
-  create_creates places right site name size shape makes = creates_at places right site name size makes.made.image shape makes.made.are
+  create_creates places right site name size shape makes = creates_at places right site name size makes.made.image makes.made.objects shape makes.made.are
 
-  -- a change of a header behind two looks
+  -- one change behind two looks
   record ChangesOne (site : SiteId) (name : List ℕ) (image : ℕ) (h : HeaderView) (e : Effect) (places : List Placed) : Type 0 where
     finds : FindsImage name places
     image_is : finds.image ≡ image
     header_is : finds.header ≡ h
     effects : effects_of places ≡ e ∷ []
 
-  changes_at : (places : List Placed) → ArePlacedRight homes places → (site : SiteId) (name : List ℕ) (image : ℕ) (first own : HeaderView) (o : HeaderOp) (a : Answer) (e : Effect)
-      → map step_at places ≡ found site name image ∷ looked_at site image first ∷ looked_at site image own ∷ on_header site image o a ∷ []
-      → ((p : Placed) → ArePlacedRight homes (p ∷ []) → step_at p ≡ on_header site image o a → p.done.effect ≡ Some e)
+  changes_at : (places : List Placed) → ArePlacedRight homes places → (site : SiteId) (name : List ℕ) (image : ℕ) (first own : HeaderView) (e : Effect) (behind : List Answered)
+      → map step_at places ≡ found site name image ∷ looked_at site image first ∷ looked_at site image own ∷ behind
+      → ((rest : List Placed) → ArePlacedRight homes rest → map step_at rest ≡ behind → effects_of rest ≡ e ∷ [])
       → ChangesOne site name image own e places
-  changes_at [] right site name image first own o a e are does = absurd (cc)
-  changes_at (p ∷ []) right site name image first own o a e are does = absurd (cc)
-  changes_at (p ∷ q ∷ []) right site name image first own o a e are does = absurd (cc)
-  changes_at (p ∷ q ∷ s ∷ []) right site name image first own o a e are does = absurd (cc)
-  changes_at (p ∷ q ∷ s ∷ t ∷ places) (here, (there, (look, (last, right)))) site name image first own o a e are does = record {
+  changes_at [] right site name image first own e behind are does = absurd (cc)
+  changes_at (p ∷ []) right site name image first own e behind are does = absurd (cc)
+  changes_at (p ∷ q ∷ []) right site name image first own e behind are does = absurd (cc)
+  changes_at (p ∷ q ∷ s ∷ places) (here, (there, (look, right))) site name image first own e behind are does = record {
     finds = record {
       found = p;
       first = q;
       own = s;
-      rest = t ∷ places;
+      rest = places;
       are = refl;
       image = image;
       named = found_there homes p here site name image cc;
@@ -137,20 +145,43 @@ module _ (homes : ℕ → SiteId) where
     image_is = refl;
     header_is = refl;
     effects =
-        silent_first p (q ∷ s ∷ t ∷ places) (finding_is_silent homes p here site name image cc)
-        ∙ silent_first q (s ∷ t ∷ places) (looking_is_silent homes q there site image first cc)
-        ∙ silent_first s (t ∷ places) (looking_is_silent homes s look site image own cc)
-        ∙ change_first t places e (does t (last, tt) cc)
-        ∙ ap (λ rest. e ∷ effects_of rest) (none_taken places cc);
+        silent_first p (q ∷ s ∷ places) (finding_is_silent homes p here site name image cc)
+        ∙ silent_first q (s ∷ places) (looking_is_silent homes q there site image first cc)
+        ∙ silent_first s places (looking_is_silent homes s look site image own cc)
+        ∙ does places right cc;
   }
+
+  -- a snapshot is taken behind its map
+  taken_behind : (places : List Placed) → ArePlacedRight homes places → (site : SiteId) (image next taken : ℕ) (bits snap : List ℕ)
+      → map step_at places ≡ map_told site image bits ∷ map_put site image next bits ∷ on_header site image (header.SnapAdd snap) (answer.Snap taken) ∷ []
+      → effects_of places ≡ effect.Snap image taken snap ∷ []
+  taken_behind [] right site image next taken bits snap are = absurd (cc)
+  taken_behind (p ∷ []) right site image next taken bits snap are = absurd (cc)
+  taken_behind (p ∷ q ∷ []) right site image next taken bits snap are = absurd (cc)
+  taken_behind (p ∷ q ∷ t ∷ places) (told, (put, (last, right))) site image next taken bits snap are =
+      silent_first p (q ∷ t ∷ places) (effect_there homes p told (map_told site image bits) cc)
+      ∙ silent_first q (t ∷ places) (effect_there homes q put (map_put site image next bits) cc)
+      ∙ change_first t places (effect.Snap image taken snap) (effect_there homes t last (on_header site image (header.SnapAdd snap) (answer.Snap taken)) cc)
+      ∙ ap (λ rest. effect.Snap image taken snap ∷ effects_of rest) (none_taken places cc)
+
+  -- one is removed, and then its map
+  removed_first : (places : List Placed) → ArePlacedRight homes places → (site : SiteId) (image snap : ℕ) (a : Answer)
+      → map step_at places ≡ snap_removed site image snap ∷ map_removed site image snap a ∷ []
+      → effects_of places ≡ effect.Unsnap image snap ∷ []
+  removed_first [] right site image snap a are = absurd (cc)
+  removed_first (p ∷ []) right site image snap a are = absurd (cc)
+  removed_first (p ∷ q ∷ places) (removed, (last, right)) site image snap a are =
+      change_first p (q ∷ places) (effect.Unsnap image snap) (effect_there homes p removed (snap_removed site image snap) cc)
+      ∙ ap (λ rest. effect.Unsnap image snap ∷ rest)
+      (silent_first q places (effect_there homes q last (map_removed site image snap a) cc) ∙ ap effects_of (none_taken places cc))
 
   pub snap_create_takes : (places : List Placed) → ArePlacedRight homes places → (site : SiteId) (name snap : List ℕ)
       → TakesOne site name snap (map step_at places) → TakesSnap name snap places
   snap_create_takes places right site name snap takes =
-      let change = changes_at places right site name takes.image takes.first takes.own (header.SnapAdd snap) (answer.Snap takes.taken) (effect.Snap takes.image takes.taken snap) takes.are
-      (λ p here is. effect_there homes p here.0 (on_header site takes.image (header.SnapAdd snap) (answer.Snap takes.taken)) is) in
+      let change = changes_at places right site name takes.image takes.first takes.own (effect.Snap takes.image takes.taken snap) _ takes.are
+      (λ rest there are. taken_behind rest there site takes.image (takes.own.snap_seq + 1) takes.taken takes.bits snap are) in
       let there = free_flat (image_at (flat_at change.finds.own) change.finds.image) change.finds.header snap change.finds.tells
-      (ap (λ (h : HeaderView). snap_named h.snaps snap) change.header_is ∙ (may_take snap takes.own takes.may).unlisted) in
+      (ap (λ (h : HeaderView). snap_named h.snaps snap) change.header_is ∙ (takes_one_more snap takes.own takes.may).0) in
       record {
         finds = change.finds;
         flat = there.i;
@@ -163,9 +194,8 @@ module _ (homes : ℕ → SiteId) where
   pub snap_remove_removes : (places : List Placed) → ArePlacedRight homes places → (site : SiteId) (name snap : List ℕ)
       → RemovesOne site name snap (map step_at places) → RemovesSnap name snap places
   snap_remove_removes places right site name snap removes =
-      let change = changes_at places right site name removes.image removes.first removes.own (header.SnapRemove removes.listed.id) answer.Done
-      (effect.Unsnap removes.image removes.listed.id) removes.are
-      (λ p here is. effect_there homes p here.0 (on_header site removes.image (header.SnapRemove removes.listed.id) answer.Done) is) in
+      let change = changes_at places right site name removes.image removes.first removes.own (effect.Unsnap removes.image removes.listed.id) _ removes.are
+      (λ rest there are. removed_first rest there site removes.image removes.listed.id removes.gone are) in
       let there = listed_flat (image_at (flat_at change.finds.own) change.finds.image) change.finds.header snap removes.listed change.finds.tells
       (ap (λ (h : HeaderView). snap_named h.snaps snap) change.header_is ∙ removes.is_listed) in
       record {

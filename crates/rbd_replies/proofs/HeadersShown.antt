@@ -37,7 +37,7 @@ info_in_form : (home : SiteId) (c : Command) (steps : List Answered) (h : Header
 info_in_form home (command.Info name) steps h given shows =
     let same : h ≡ shows.header = let e = shows.shows in cc in
     let looks = subst AreGiven shows.are given in
-    subst IsShownInForm (sym same) (shown_in_form shows.header looks.1.0.form)
+    subst IsShownInForm (sym same) (shown_in_form shows.header looks.1.0.can.form)
 info_in_form home (command.Create name size shape) steps h given (plain, meant) = absurd meant
 info_in_form home _ steps h given meant = absurd meant
 

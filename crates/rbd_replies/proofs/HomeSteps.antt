@@ -44,7 +44,7 @@ module _ (site : SiteId) where
   -- pieces
   written_at : (image : ℕ) (h : HeaderView) (at : ℕ) (bytes : List ℕ) (pieces : List Piece) → AreAt site (pieces_written site image h at bytes pieces)
   written_at image h at bytes [] = tt
-  written_at image h at bytes (p ∷ pieces) = (refl, written_at image h at bytes pieces)
+  written_at image h at bytes (p ∷ pieces) = (refl, (refl, written_at image h at bytes pieces))
 
   whole_at : (name : List ℕ) (at : ℕ) (bytes : List ℕ) (steps : List Answered) → WritesWhole site name at bytes steps → AreAt site steps
   whole_at name at bytes steps whole = subst (AreAt site) (sym whole.are) (refl, (refl, (refl, written_at whole.image whole.own at bytes _)))
@@ -73,7 +73,7 @@ module _ (site : SiteId) where
 
   -- all commands
   meant_at : (c : Command) (steps : List Answered) (r : Reply) → IsMeantBy site c steps r → AreAt site steps
-  meant_at (command.Create name size shape) steps reply.Done (plain, makes) = subst (AreAt site) (sym makes.made.are) (refl, (refl, tt))
+  meant_at (command.Create name size shape) steps reply.Done (plain, makes) = subst (AreAt site) (sym makes.made.are) (refl, (refl, (refl, tt)))
   meant_at (command.Create name size shape) steps (reply.Refused x) (plain, inl outside) = subst (AreAt site) (sym outside.none) tt
   meant_at (command.Create name size shape) steps (reply.Refused x) (plain, inr unmade) = own_at _ steps unmade.by.own
   meant_at (command.Create name size shape) steps _ (plain, meant) = absurd meant
@@ -91,10 +91,10 @@ module _ (site : SiteId) where
   meant_at (command.Info name) steps (reply.Refused x) refused = own_at _ steps refused.own
   meant_at (command.SnapList name) steps (reply.Snaps snaps) shows = subst (AreAt site) (sym shows.are) (refl, (refl, tt))
   meant_at (command.SnapList name) steps (reply.Refused x) refused = own_at _ steps refused.own
-  meant_at (command.SnapCreate name snap) steps reply.Done takes = subst (AreAt site) (sym takes.are) (refl, (refl, (refl, (refl, tt))))
+  meant_at (command.SnapCreate name snap) steps reply.Done takes = subst (AreAt site) (sym takes.are) (refl, (refl, (refl, (refl, (refl, (refl, tt))))))
   meant_at (command.SnapCreate name snap) steps (reply.Refused x) refused = own_at _ steps refused.own
-  meant_at (command.SnapRemove name snap) steps reply.Done removes = subst (AreAt site) (sym removes.are) (refl, (refl, (refl, (refl, tt))))
-  meant_at (command.SnapRemove name snap) steps (reply.Refused x) refused = own_at _ steps refused.own
+  meant_at (command.SnapRemove name snap) steps reply.Done removes = subst (AreAt site) (sym removes.are) (refl, (refl, (refl, (refl, (refl, tt)))))
+  meant_at (command.SnapRemove name snap) steps (reply.Refused x) refuses = own_at _ steps refuses.refused.own
   meant_at (command.Close name) steps reply.Done closes = subst (AreAt site) (sym closes.are) (refl, (refl, closing_at closes.image closes.dropped closes.behind closes.closes))
   meant_at (command.Close name) steps (reply.Refused x) refused = own_at _ steps refused.own
   meant_at (command.Quiesce name) steps reply.Done looks = subst (AreAt site) (sym looks.are) (refl, (refl, (refl, tt)))

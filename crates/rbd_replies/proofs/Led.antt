@@ -46,11 +46,11 @@ module _ (homes : ℕ → SiteId) (line : ℕ) where
   another : (other : ℕ) (run : List Happening) → has_ended line run ≡ true → IsOpen other run → (other == line) ≡ false
   another other run ended begun = lines_differ other line (λ same. true≢false (sym ended ∙ sym (ap (λ l. has_ended l run) same) ∙ begun.unended))
 
-  for_another : (doer : Doer) (run : List Happening) → has_ended line run ≡ true → GoesOnBehind doer run → is_for line doer ≡ false
-  for_another (Itself other) run ended begun = ap (λ b. b || false) (another other run ended begun)
-  for_another (OnWay other) run ended begun = another other run ended begun
-  for_another House run ended goes = refl
-  for_another (AfterStop slot) run ended goes = refl
+  for_another : (s : SiteId) (doer : Doer) (run : List Happening) → has_ended line run ≡ true → GoesOnBehind homes s doer run → is_for line doer ≡ false
+  for_another s (Itself other) run ended begun = ap (λ b. b || false) (another other run ended begun)
+  for_another s (OnWay other) run ended goes = another other run ended goes.begun
+  for_another s House run ended goes = refl
+  for_another s (AfterStop slot) run ended goes = refl
 
   abbrev LedIfEnded : List Happening → Asked → Type 0
   LedIfEnded run asked = has_ended line run ≡ true → asked_by line run ≡ Some asked → IsLed homes line run asked
@@ -77,7 +77,7 @@ module _ (homes : ℕ → SiteId) (line : ℕ) where
     where
       differ : has_ended line run ≡ true → (other.line == line) ≡ false
       differ ended = lines_differ other.line line (λ same. true≢false (sym ended ∙ (unheard homes line run right.2 (ap (λ l. asked_by l run) (sym same) ∙ right.1.new)).unended))
-  ended_by (Did o None) run asked right rest = λ ended asks. more (Did o None) run asked (quiet_did line o None (for_another o.by run ended right.1.1)) rest ended asks
+  ended_by (Did o None) run asked right rest = λ ended asks. more (Did o None) run asked (quiet_did line o None (for_another o.site o.by run ended right.1.1)) rest ended asks
   ended_by (Did o (Some reply)) run asked right rest = by (is_for line o.by) refl
     where
       here : (IsReplyMeant homes line reply run (Did o (Some reply) ∷ run)) ⊎ (EndsOnWay homes line reply o run o.by) → asked_by line run ≡ Some asked → IsLed homes line (Did o (Some reply) ∷ run) asked

@@ -1,17 +1,17 @@
 -- A request that wants a look at a header has only looked before: so has one that waits for its look
 -- under the lock, and is refused on its way there.
-use Rattle.std.proofs.Common.{◌≡◌, ◌⊎◌, inl, inr, ℕ, ◌==◌, Bool, true, false, List, [], ◌∷◌, ◌++◌, replicate, Option, Some, None, refl, sym, ◌∙◌, subst}
+use Rattle.std.proofs.Common.{◌≡◌, ◌⊎◌, inl, inr, ℕ, ◌+◌, ◌==◌, Bool, true, false, List, [], ◌∷◌, ◌++◌, replicate, Option, Some, None, refl, sym, ◌∙◌, subst}
 use Rattle.std.proofs.lemmas.Bool.{true≢false}
 use Rattle.rbd_admin.proofs.Decided.{limits_or_not}
-use Rattle.rbd_admin.specs.Create.{IsCreate, IsCreatePlan, drawing, making}
+use Rattle.rbd_admin.specs.Create.{IsCreate, IsCreatePlan, drawing, making, mapping}
 use Rattle.rbd_admin.specs.Listing.{listing_plan, showing, show_header}
-use Rattle.rbd_admin.specs.Snap.{remove, remove_listed, snap_plan, take}
+use Rattle.rbd_admin.specs.Snap.{copying, putting, remove, remove_listed, snap_plan, take, taking, unmapping}
 use Rattle.rbd_close.specs.Close.{close_plan, done, joining, on_dropped, quiesced, resumed, saying, unwatching}
 use Rattle.rbd_commands.specs.declared.command.Command.{Command}
 use Rattle.rbd_commands.specs.declared.command.Command.TheVariants as command
 use Rattle.rbd_commands.specs.declared.command.Shape.{Shape}
 use Rattle.rbd_commands.specs.declared.refusal.Refusal.{Refusal}
-use Rattle.rbd_header.specs.Header.{new_header, view_of}
+use Rattle.rbd_header.specs.Header.{context_of, new_header, view_of}
 use Rattle.rbd_header.specs.declared.view.View.{View}
 use Rattle.rbd_kinds.specs.OperationKind.{kind_of}
 use Rattle.rbd_kinds.specs.declared.answer.Answer.{Answer}
@@ -37,14 +37,16 @@ use Rattle.rbd_meaning.specs.Listings.{shown_snaps}
 use Rattle.rbd_meaning.specs.Range.{extent_at, out_of_range}
 use Rattle.rbd_meaning.specs.Snaps.{create_refuses, remove_refuses}
 use Rattle.rbd_meaning.specs.Writes.{write_refuses}
+use Rattle.rbd_parts.specs.Parts.{bytes_for}
 use Rattle.rbd_piece.specs.Gather.{gather}
+use Rattle.rbd_piece.specs.Write.{writing}
 use Rattle.rbd_request.specs.Read.{IsReadOf, closing, gathering, looking, on_closing, pass, reading, viewing}
 use Rattle.rbd_request.specs.Seen.{Seen, seen_at}
 use Rattle.rbd_request.specs.Write.{put, write, write_pieces, write_plan}
 use Rattle.rbd_requests.specs.Served.{IsPlanFor, Writes, Reads, Creates, Lists, Snaps, Closes}
 use Rattle.rbd_session.specs.Session.{is_look_at, kind_asked}
 use Rattle.rbd_world.specs.Sound.{IsLedTo}
-use Rattle.rbd_replies.proofs.PlanSteps.{at_bytes, at_done, at_drawn, at_either, at_header, at_id, at_names, at_not_there, at_snap, at_unless}
+use Rattle.rbd_replies.proofs.PlanSteps.{at_bits, at_bytes, at_done, at_drawn, at_either, at_gone, at_header, at_id, at_names, at_not_there, at_snap, at_unless}
 
 -- ---- looks come first
 
@@ -141,12 +143,16 @@ first_change site name alone refuses act acts =
 no_look_pieces : (pieces : List Piece) (site : SiteId) (image : ℕ) (h : HeaderView) (from : ℕ) (bytes : List ℕ) → NoLook (write_pieces site image h from bytes pieces (applied site image))
 no_look_pieces [] site image h from bytes = tt
 no_look_pieces (p ∷ pieces) site image h from bytes =
-    (λ s. refl, at_done NoLook no_more (write_pieces site image h from bytes pieces (applied site image)) (no_look_pieces pieces site image h from bytes))
+    let rest = write_pieces site image h from bytes pieces (applied site image) in (
+      λ s. refl,
+      at_done NoLook no_more (writing site image (context_of h) p (bytes_for p.parts from bytes) rest) (λ s. refl, at_done NoLook no_more rest (no_look_pieces pieces site image h from bytes)),
+    )
 
 first_pieces : (pieces : List Piece) (site : SiteId) (image : ℕ) (h : HeaderView) (from : ℕ) (bytes : List ℕ) → LooksFirst (write_pieces site image h from bytes pieces (applied site image))
 first_pieces [] site image h from bytes = tt
 first_pieces (p ∷ pieces) site image h from bytes =
-    at_done NoLook no_more (write_pieces site image h from bytes pieces (applied site image)) (no_look_pieces pieces site image h from bytes)
+    let rest = write_pieces site image h from bytes pieces (applied site image) in
+    at_done LooksFirst ends (writing site image (context_of h) p (bytes_for p.parts from bytes) rest) (at_done NoLook no_more rest (no_look_pieces pieces site image h from bytes))
 
 first_write : (site : SiteId) (name : List ℕ) (from : ℕ) (bytes : List ℕ) → LooksFirst (write site name from bytes)
 first_write site name from bytes =
@@ -160,24 +166,31 @@ first_write_plan site _ = tt
 
 first_removal : (site : SiteId) (snap : List ℕ) (image : ℕ) (listed : Option SnapView) → LooksFirst (remove_listed site snap image listed)
 first_removal site snap image None = tt
-first_removal site snap image (Some listed) = at_done NoLook no_more (applied site image) tt
+first_removal site snap image (Some listed) = at_done NoLook no_more (unmapping site image listed.id) (λ s. refl, at_gone NoLook no_more (applied site image) tt)
+
+-- its map is copied before
+first_taking : (site : SiteId) (snap : List ℕ) (image next : ℕ) → LooksFirst (copying site snap image next)
+first_taking site snap image next =
+    at_bits LooksFirst ends (putting site snap image next) (λ bits. at_done LooksFirst ends (taking site snap image) (at_snap NoLook no_more (applied site image) tt))
 
 first_snap : (site : SiteId) (c : Command) → LooksFirst (snap_plan site c)
-first_snap site (command.SnapCreate image snap) = first_change site image true (create_refuses snap) (take site snap) (λ i h. at_snap NoLook no_more (applied site i) tt)
+first_snap site (command.SnapCreate image snap) = first_change site image true (create_refuses snap) (take site snap) (λ i h. first_taking site snap i (h.snap_seq + 1))
 first_snap site (command.SnapRemove image snap) =
     first_change site image true (remove_refuses snap) (remove site snap) (λ i h. first_removal site snap i (snap_named h.snaps snap))
 first_snap site _ = tt
 
 -- ---- create
 
-first_drawing : (site : SiteId) (name : List ℕ) (h : HeaderView) → LooksFirst (drawing site name h)
-first_drawing site name h = at_drawn NoLook no_more (making site h) (λ image. (λ s. refl, at_done NoLook no_more (Return reply.Done) tt))
+first_drawing : (site : SiteId) (name : List ℕ) (objects : ℕ) (h : HeaderView) → LooksFirst (drawing site name objects h)
+first_drawing site name objects h =
+    at_drawn NoLook no_more (mapping site objects h)
+    (λ image. (λ s. refl, at_done NoLook no_more (making site h image) (λ s. refl, at_done NoLook no_more (Return reply.Done) tt)))
 
 first_is_create : (site : SiteId) (name : List ℕ) (size : ℕ) (shape : Shape) (plan : Plan) → IsCreate site name size shape plan → LooksFirst plan
 first_is_create site name size shape plan is = go (limits_or_not (layout_of shape) size)
   where
     go : KeepsLimits (layout_of shape) size ⊎ (KeepsLimits (layout_of shape) size → ⊥) → LooksFirst plan
-    go (inl keeps) = subst LooksFirst (sym (is.within keeps)) (first_drawing site name (new_header (layout_of shape) size))
+    go (inl keeps) = subst LooksFirst (sym (is.within keeps)) (first_drawing site name is.objects (new_header (layout_of shape) size))
     go (inr fails) = subst LooksFirst (sym (is.outside fails)) tt
 
 first_create : (site : SiteId) (c : Command) (plan : Plan) → IsCreatePlan site c plan → LooksFirst plan

@@ -1,8 +1,8 @@
 -- What was done to an image was its owner's: who knows its header may change it, and the header that
--- is known is there.
-use Rattle.std.proofs.Common.{◌≡◌, ℕ, ◌==◌, ◌&&◌, cond, Bool, true, false, List, ◌∷◌, Option, Some, refl, sym, ap, ◌∙◌, subst}
+-- is known is there. An image's map is made before its header, by who drew its id.
+use Rattle.std.proofs.Common.{◌≡◌, ◌⊎◌, inl, inr, ℕ, ◌==◌, ◌&&◌, cond, Bool, true, false, List, ◌∷◌, Option, Some, None, refl, sym, ap, ◌∙◌, subst}
 use Rattle.std.specs.Prelude.{IsFalse}
-use Rattle.std.proofs.lemmas.Bool.{and_parts, eqb-true}
+use Rattle.std.proofs.lemmas.Bool.{true≢false, and_parts, eqb-true}
 use Rattle.rbd_kinds.specs.declared.answer.Answer.TheVariants as answer
 use Rattle.rbd_kinds.specs.declared.data_op.DataOp.{DataOp}
 use Rattle.rbd_kinds.specs.declared.data_op.DataOp.TheVariants as object
@@ -11,19 +11,22 @@ use Rattle.rbd_kinds.specs.declared.header_op.HeaderOp.{HeaderOp}
 use Rattle.rbd_kinds.specs.declared.header_op.HeaderOp.TheVariants as header
 use Rattle.rbd_kinds.specs.declared.id.Instance.{Instance}
 use Rattle.rbd_kinds.specs.declared.id.SiteId.{SiteId}
+use Rattle.rbd_kinds.specs.declared.map_op.MapOp.{MapOp}
+use Rattle.rbd_kinds.specs.declared.map_op.MapOp.TheVariants as states
 use Rattle.rbd_kinds.specs.declared.operation.Op.{Op}
 use Rattle.rbd_kinds.specs.declared.operation.Op.TheVariants as op
 use Rattle.rbd_kinds.specs.declared.reply.Reply.{Reply}
 use Rattle.rbd_machine.specs.Knowledge.{Knowledge}
-use Rattle.rbd_machine.specs.Permits.{OwnsBy, Permits, PermitsOnHeader, PermitsOnObject}
-use Rattle.rbd_rely.proofs.Kept.{owned_there}
+use Rattle.rbd_machine.specs.Permits.{OwnsBy, Permits, PermitsOnHeader, PermitsOnMap, PermitsOnObject}
+use Rattle.rbd_rely.proofs.Headers.{owned_there}
 use Rattle.rbd_rely.specs.Truth.{IsTrueAt}
 use Rattle.rbd_site.specs.Records.{Records}
 use Rattle.rbd_site.specs.Step.{answer_served, answer_to, is_fenced}
-use Rattle.rbd_stands.specs.Owned.{HasLock, IsOwner, changes_data, changes_header, changes_image, was_done}
+use Rattle.rbd_stands.specs.Owned.{HasLock, IsOwner, changes_data, changes_header, changes_image, changes_map, was_done}
 use Rattle.rbd_world.specs.Run.{Happening, Did, Operation, records_after}
 use Rattle.rbd_world.specs.Sound.{IsDone, IsRight}
 use Rattle.rbd_replies.proofs.PlacedRight.{done_of}
+use Rattle.rbd_replies.specs.Fenced.{MakesMap}
 
 -- ---- the header is there
 
@@ -59,9 +62,25 @@ module _ (s : SiteId) (r : Records) (me : Instance) (k : Knowledge) (truth : IsT
       let parts = and_parts (i == image) changes both in
       subst (λ n. IsHere (r.headers n)) (sym (eqb-true i image parts.0)) (here parts.1)
 
-  image_here : (i : ℕ) (o : Op) → Permits k s o → changes_image i o ≡ true → IsHere (r.headers i)
-  image_here i (op.Header image o) permits changes = at_image i image (changes_header o) changes (header_here image o permits)
-  image_here i (op.Data image number o) permits changes = at_image i image (changes_data o) changes (object_here image number o permits)
+  -- there, or the image's map is made
+  abbrev IsHereOrNew : (image : ℕ) → Op → Type 0
+  IsHereOrNew image o = IsHere (r.headers image) ⊎ MakesMap image o r
+
+  map_here : (i image : ℕ) (o : MapOp) → PermitsOnMap k s image o → ((i == image) && changes_map o) ≡ true → IsHereOrNew i (op.Map image o)
+  map_here i image (states.Resize count) permits changes =
+      inr
+      (subst (λ n. MakesMap n (op.Map image (states.Resize count)) r) (sym (eqb-true i image (and_parts (i == image) true changes).0))
+      (record { count = count; is = refl; headless = (truth.drawn image permits.drawn).header }))
+  map_here i image (states.Get view) permits changes = absurd (true≢false (sym (and_parts (i == image) false changes).1))
+  map_here i image (states.Put (Some snap) bits) permits changes = inl (at_image i image true changes (λ changed. owned_here image _ permits))
+  map_here i image (states.Set None number state) permits changes = inl (at_image i image true changes (λ changed. owned_here image _ permits))
+  map_here i image (states.Remove (Some snap)) permits changes = inl (at_image i image true changes (λ changed. owned_here image _ permits))
+  map_here i image _ permits changes = elim permits [ ]
+
+  image_here : (i : ℕ) (o : Op) → Permits k s o → changes_image i o ≡ true → IsHereOrNew i o
+  image_here i (op.Header image o) permits changes = inl (at_image i image (changes_header o) changes (header_here image o permits))
+  image_here i (op.Data image number o) permits changes = inl (at_image i image (changes_data o) changes (object_here image number o permits))
+  image_here i (op.Map image o) permits changes = map_here i image o permits changes
   image_here i (op.Directory o) permits changes = cc
   image_here i (op.BlockAdd instance) permits changes = cc
   image_here i _ permits changes = elim permits [ ]
@@ -80,16 +99,17 @@ module _ (homes : ℕ → SiteId) (run : List Happening) (o : Operation) (reply 
   it : IsDone o run
   it = done_of homes o reply run right.1
 
-  pub owner_changes : changes_image image o.op ≡ true → was_done o.answer ≡ true → HasLock image o.instance (records_after o.site run)
+  pub owner_changes : changes_image image o.op ≡ true → was_done o.answer ≡ true
+      → HasLock image o.instance (records_after o.site run) ⊎ MakesMap image o.op (records_after o.site run)
   owner_changes changes was =
-      let r = records_after o.site run in
-      let free = free_by_change r o.instance o.op (sym (ap was_done it.answer) ∙ was) in
-      let here = image_here o.site r o.instance it.knows it.truth free image o.op it.permits changes in
-      record {
-        header = here.view;
-        there = here.is;
-        owner = subst (λ there. IsOwner there o.instance) here.is (it.owned.change image changes was);
-      }
+      let free = free_by_change (records_after o.site run) o.instance o.op (sym (ap was_done it.answer) ∙ was) in
+      by (image_here o.site (records_after o.site run) o.instance it.knows it.truth free image o.op it.permits changes)
+    where
+      by : IsHere ((records_after o.site run).headers image) ⊎ MakesMap image o.op (records_after o.site run)
+          → HasLock image o.instance (records_after o.site run) ⊎ MakesMap image o.op (records_after o.site run)
+      by (inl here) =
+          inl (record { header = here.view; there = here.is; owner = subst (λ there. IsOwner there o.instance) here.is (it.owned.change image changes was) })
+      by (inr makes) = inr makes
 
   pub owner_was_fenced : (owner : Instance) → o.op ≡ op.Header image (header.LockBreak owner) → o.answer ≡ answer.Done → is_fenced (records_after o.site run) owner ≡ true
   owner_was_fenced owner breaks was = it.owned.broken image owner breaks was

@@ -10,11 +10,10 @@ use Rattle.rbd_kinds.specs.declared.machine.Fed.TheVariants as fed
 use Rattle.rbd_layout.specs.Pieces.{pieces_of}
 use Rattle.rbd_layout.specs.declared.types.Piece.{Piece}
 use Rattle.rbd_machine.proofs.Settled.{settled_goto}
-use Rattle.rbd_machine.specs.Answers.{CanGive}
 use Rattle.rbd_machine.specs.Passes.{joined}
 use Rattle.rbd_machine.specs.Path.{Answered, IsWalk}
 use Rattle.rbd_machine.specs.Plan.{Plan, Ask, Await, Note, Return, Goto, Standing, settled, without_labels}
-use Rattle.rbd_machine.specs.Refused.{AreGiven}
+use Rattle.rbd_machine.specs.Refused.{AreGiven, IsGiven}
 use Rattle.rbd_meaning.specs.Reads.{AreRead, SeeOthers, SeesAnother}
 use Rattle.rbd_request.proofs.Passes.{last_pass}
 use Rattle.rbd_request.specs.Read.{IsReadOf, pass, read_labels}
@@ -30,8 +29,8 @@ pub walk_within : (feds : List Fed) (plan : Plan) (n : ℕ) (steps : List Answer
 walk_within [] plan n steps last few given (none, same) = let no : length steps ≡ 0 = ap length none in omega arith
 walk_within (fed.Answer a ∷ more) (Ask site why op next) zero steps last few given walk = absurd few
 walk_within (fed.Answer a ∷ more) (Ask site why op next) (suc n) steps last few given (first, walk) =
-    let are : CanGive op a × AreGiven first.rest = subst AreGiven first.is given in
-    let short : length first.rest ≤ n = walk_within more (settled Goto (next a)) n first.rest last (subst (λ p. AsksAtMost p n) (sym (settled_goto (next a))) (few a are.0)) are.1 walk in
+    let are : IsGiven op a × AreGiven first.rest = subst AreGiven first.is given in
+    let short : length first.rest ≤ n = walk_within more (settled Goto (next a)) n first.rest last (subst (λ p. AsksAtMost p n) (sym (settled_goto (next a))) (few a are.0.can)) are.1 walk in
     let one_more : length steps ≡ suc (length first.rest) = ap length first.is in
     omega arith
 walk_within (fed.Passed ∷ more) (Ask site why op next) n steps last few given walk = absurd walk
@@ -63,7 +62,7 @@ module _ (site : SiteId) (name : List ℕ) (snap : Option (List ℕ)) (e : Exten
   pass_within steps given sees =
       let p = sees.pass in
       let can = (subst AreGiven p.are given).1.0 in
-      let pieces : length (pieces_of p.first.layout e) ≤ most = few p.first can.form in
+      let pieces : length (pieces_of p.first.layout e) ≤ most = few p.first can.can.form in
       let read : length p.reads ≡ length (pieces_of p.first.layout e) = as_many site p.image p.view.snap (pieces_of p.first.layout e) p.reads p.read in
       let all : length steps ≡ suc (suc (length p.reads + 1)) = ap length p.are ∙ ap (λ n. suc (suc n)) (length-append p.reads (_ ∷ [])) in
       omega arith

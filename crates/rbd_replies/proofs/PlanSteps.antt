@@ -3,7 +3,7 @@
 use Rattle.std.proofs.Common.{ℕ, cond, Bool, true, false, List, replicate, Option, Some, None}
 use Rattle.rbd_admin.specs.Create.{on_drawn}
 use Rattle.rbd_admin.specs.Listing.{on_names}
-use Rattle.rbd_admin.specs.Snap.{on_snap}
+use Rattle.rbd_admin.specs.Snap.{on_bits, on_gone, on_snap}
 use Rattle.rbd_commands.specs.declared.refusal.Refusal.{Refusal}
 use Rattle.rbd_kinds.specs.declared.answer.Answer.{Answer}
 use Rattle.rbd_kinds.specs.declared.answer.Answer.TheVariants as answer
@@ -35,6 +35,15 @@ module _ (P : Plan → Type 0) (ends : (r : Reply) → P (Return r)) where
   pub at_snap : (next : Plan) → P next → (a : Answer) → P (on_snap next a)
   at_snap next holds (answer.Snap snap) = holds
   at_snap next holds a = at_not_there a
+
+  pub at_bits : (next : List ℕ → Plan) → ((bits : List ℕ) → P (next bits)) → (a : Answer) → P (on_bits next a)
+  at_bits next holds (answer.Bits bits) = holds bits
+  at_bits next holds a = at_not_there a
+
+  pub at_gone : (next : Plan) → P next → (a : Answer) → P (on_gone next a)
+  at_gone next holds answer.Done = holds
+  at_gone next holds answer.Absent = holds
+  at_gone next holds a = at_not_there a
 
   pub at_drawn : (next : ℕ → Plan) → ((image : ℕ) → P (next image)) → (a : Answer) → P (on_drawn next a)
   at_drawn next holds (answer.Id image) = holds image

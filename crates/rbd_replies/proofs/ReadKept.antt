@@ -11,7 +11,7 @@ use Rattle.rbd_kinds.specs.declared.operation.Op.{Op}
 use Rattle.rbd_kinds.specs.declared.operation.Op.TheVariants as op
 use Rattle.rbd_machine.specs.Knowledge.{Knowledge, same_site}
 use Rattle.rbd_machine.specs.Permits.{Permits, PermitsOnHeader}
-use Rattle.rbd_rely.proofs.Kept.{IsThere}
+use Rattle.rbd_rely.proofs.Headers.{IsThere}
 use Rattle.rbd_site.specs.HeaderStep.{header_after}
 use Rattle.rbd_site.specs.Laws.{is_on_lock}
 use Rattle.rbd_site.specs.Log.{expired, trimmed}
@@ -70,6 +70,7 @@ here_served : (s : SiteId) (r : Records) (k : Knowledge) (me : Instance) (o : Op
 here_served s r k me (op.Directory o) permits image old is = record { view = old; is = is }
 here_served s r k me (op.BlockAdd i) permits image old is = record { view = old; is = is }
 here_served s r k me (op.Data other number o) permits image old is = record { view = old; is = is }
+here_served s r k me (op.Map other o) permits image old is = record { view = old; is = is }
 here_served s r k me (op.Header other o) permits image old is = by (image == other) refl
   where
     by : (b : Bool) → (image == other) ≡ b → IsHere (cond b (header_after me (r.headers other) o) (r.headers image))

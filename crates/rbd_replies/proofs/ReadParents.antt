@@ -86,6 +86,7 @@ views_served : (s : SiteId) (r : Records) (k : Knowledge) (me : Instance) (o : O
 views_served s r k me (op.Directory o) was permits = was
 views_served s r k me (op.BlockAdd i) was permits = was
 views_served s r k me (op.Data image number o) was permits = was
+views_served s r k me (op.Map image o) was permits = was
 views_served s r k me (op.Header image o) was permits = λ i. by i (i == image)
   where
     by : (i : ℕ) (b : Bool) → AreViewsAlone (cond b (header_after me (r.headers image) o) (r.headers i))

@@ -1,4 +1,5 @@
--- Each piece that was written has its effect: the bytes go to the places of its parts.
+-- Each piece that was written has its effect: the bytes go to the places of its parts. Its state in
+-- the map has none.
 use Rattle.std.proofs.Common.{◌≡◌, ℕ, false, List, [], ◌∷◌, map, Some, refl, sym, ap, ◌∙◌, subst, length}
 use Rattle.std.proofs.lemmas.List.Elements.{All-weaker}
 use Rattle.rbd_header.specs.Header.{context_of}
@@ -7,13 +8,14 @@ use Rattle.rbd_kinds.specs.declared.header.HeaderView.{HeaderView}
 use Rattle.rbd_kinds.specs.declared.id.SiteId.{SiteId}
 use Rattle.rbd_kinds.specs.declared.operation.Op.{Op}
 use Rattle.rbd_layout.specs.declared.types.Piece.{Piece}
+use Rattle.rbd_machine.specs.Knowledge.{maps_of}
 use Rattle.rbd_machine.specs.Objects.{data_write}
 use Rattle.rbd_machine.specs.Path.{Answered}
 use Rattle.rbd_machine.specs.Permits.{LiesBelow, MayWrite, OwnsBy, Permits}
-use Rattle.rbd_meaning.specs.Writes.{piece_written, pieces_written}
+use Rattle.rbd_meaning.specs.Writes.{piece_written, pieces_written, state_raised}
 use Rattle.rbd_parts.specs.Parts.{bytes_for}
 use Rattle.rbd_rely.proofs.Done.{may_do}
-use Rattle.rbd_rely.proofs.Kept.{owned_there}
+use Rattle.rbd_rely.proofs.Headers.{owned_there}
 use Rattle.rbd_site.specs.DataStep as step
 use Rattle.rbd_site.specs.declared.done.DoneOp.TheVariants as done
 use Rattle.rbd_stands.specs.Condition.{ArePartsBelow, IsPartBelow}
@@ -24,7 +26,8 @@ use Rattle.rbd_world.specs.Run.{log_of}
 use Rattle.rbd_replies.specs.Places.{Placed, effects_of, with_effect}
 use Rattle.rbd_replies.proofs.PlacedRight.{ArePlacedRight, IsPlacedRight}
 use Rattle.rbd_replies.proofs.Places.{step_at}
-use Rattle.rbd_replies.proofs.PlacesTold.{records_at, unfenced_there}
+use Rattle.rbd_replies.proofs.PlacesTaken.{silent_first}
+use Rattle.rbd_replies.proofs.PlacesTold.{effect_there, records_at, unfenced_there}
 
 module _ (homes : ℕ → SiteId) (home : SiteId) (image : ℕ) (own : HeaderView) (from : ℕ) (bytes : List ℕ) where
   abbrev op_of : Piece → Op
@@ -34,13 +37,13 @@ module _ (homes : ℕ → SiteId) (home : SiteId) (image : ℕ) (own : HeaderVie
       → p.done.effect ≡ Some (piece_effect image from bytes piece)
   piece_there p piece right is =
       let most = length (log_of p.done.site p.before) in
-      let owns : OwnsBy right.is.knows p.done.site image (MayWrite right.is.knows.turn piece.object (context_of own) piece.parts (bytes_for piece.parts from bytes)) =
+      let owns : OwnsBy right.is.knows p.done.site image (MayWrite (maps_of right.is.knows.maps p.done.site image) right.is.knows.turn piece.object (context_of own) piece.parts (bytes_for piece.parts from bytes)) =
       subst (λ (s : Answered). Permits right.is.knows p.done.site s.op) is right.is.permits in
       let free = unfenced_there homes p right (piece_written home image own from bytes piece) is refl in
       let there = owned_there p.done.site (records_at p) p.done.instance right.is.knows image _ right.is.truth free owns in
       let v = there.view in
       let may : step.MayWrite piece.parts (bytes_for piece.parts from bytes) =
-      may_do p.done.site (records_at p) p.done.instance right.is.knows most right.standing.form right.is.truth (op_of piece) owns free in
+      may_do p.done.site (records_at p) p.done.instance right.is.knows most right.standing.form right.standing.mapped right.is.truth (op_of piece) owns free in
       let lie : ArePartsBelow v v.size piece.object piece.parts =
       subst (λ w. ArePartsBelow w w.size piece.object piece.parts) (sym there.same)
       (All-weaker (LiesBelow owns.header piece.object) (IsPartBelow (record owns.header { owner = v.owner }) owns.header.size piece.object) (λ q lies. record { part = lies.part; below = lies.below }) piece.parts owns.meets.within) in
@@ -54,6 +57,8 @@ module _ (homes : ℕ → SiteId) (home : SiteId) (image : ℕ) (own : HeaderVie
   pieces_there [] [] right are = refl
   pieces_there [] (p ∷ places) right are = cc
   pieces_there (piece ∷ pieces) [] right are = cc
-  pieces_there (piece ∷ pieces) (p ∷ places) right are =
-      ap (λ e. with_effect e (effects_of places)) (piece_there p piece right.0 cc)
-      ∙ ap (λ rest. piece_effect image from bytes piece ∷ rest) (pieces_there pieces places right.1 cc)
+  pieces_there (piece ∷ pieces) (q ∷ []) right are = cc
+  pieces_there (piece ∷ pieces) (q ∷ p ∷ places) (raised, (here, right)) are =
+      silent_first q (p ∷ places) (effect_there homes q raised (state_raised home image piece) cc)
+      ∙ ap (λ e. with_effect e (effects_of places)) (piece_there p piece here cc)
+      ∙ ap (λ rest. piece_effect image from bytes piece ∷ rest) (pieces_there pieces places right cc)

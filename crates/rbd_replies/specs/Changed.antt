@@ -14,8 +14,9 @@ use Rattle.rbd_replies.specs.Places.{Placed, effects_of, flat_at}
 -- The name was free, and has a new image of zeros.
 pub record Creates (name : List ℕ) (size : ℕ) (places : List Placed) : Type 0 where
   pub first : Placed
+  pub mapped : Placed
   pub second : Placed
-  pub are : places ≡ first ∷ second ∷ []
+  pub are : places ≡ first ∷ mapped ∷ second ∷ []
   pub image : ℕ
   pub free : id_of (flat_at first) name ≡ None
   pub effects : effects_of places ≡ effect.Name name image ∷ effect.Create image size Plain ∷ []

@@ -1,11 +1,14 @@
 -- What an operation of a fenced client does, which is nothing; and whose changes are.
-use Rattle.std.specs.Prelude.{◌≡◌, ℕ, true, List, [], ◌∷◌, Option, None}
+use Rattle.std.specs.Prelude.{◌≡◌, ◌⊎◌, ℕ, true, List, [], ◌∷◌, Option, None}
 use Rattle.rbd_kinds.specs.declared.answer.Answer.TheVariants as answer
 use Rattle.rbd_kinds.specs.declared.header_op.HeaderOp.TheVariants as header
 use Rattle.rbd_kinds.specs.declared.id.Instance.{Instance}
 use Rattle.rbd_kinds.specs.declared.id.SiteId.{SiteId}
+use Rattle.rbd_kinds.specs.declared.map_op.MapOp.TheVariants as states
+use Rattle.rbd_kinds.specs.declared.operation.Op.{Op}
 use Rattle.rbd_kinds.specs.declared.operation.Op.TheVariants as op
 use Rattle.rbd_kinds.specs.declared.reply.Reply.{Reply}
+use Rattle.rbd_site.specs.Records.{Records}
 use Rattle.rbd_site.specs.Step.{is_fenced}
 use Rattle.rbd_stands.specs.Owned.{HasLock, changes_image, was_done}
 use Rattle.rbd_world.specs.Run.{Happening, Did, Operation, flat_after, mail_of, records_after}
@@ -23,10 +26,17 @@ pub record ChangesNothing (o : Operation) (reply : Option Reply) (before : List 
 abbrev pub IsStoppedByTheFence : Operation → Option Reply → List Happening → Type 0
 IsStoppedByTheFence o reply before = is_fenced (records_after o.site before) o.instance ≡ true → ChangesNothing o reply before
 
--- Who changes an image has its lock, by its header; and a lock is broken only where its owner is
--- fenced.
+-- The map of an image is made, which has no header yet: so nobody can own it.
+pub record MakesMap (image : ℕ) (o : Op) (r : Records) : Type 0 where
+  pub count : ℕ
+  pub is : o ≡ op.Map image (states.Resize count)
+  pub headless : r.headers image ≡ None
+
+-- Who changes an image has its lock, by its header, or makes the map of one that has no header yet;
+-- and a lock is broken only where its owner is fenced.
 pub record IsTheOwners (o : Operation) (reply : Option Reply) (before : List Happening) : Type 0 where
-  pub change : (image : ℕ) → changes_image image o.op ≡ true → was_done o.answer ≡ true → HasLock image o.instance (records_after o.site before)
+  pub change : (image : ℕ) → changes_image image o.op ≡ true → was_done o.answer ≡ true
+      → HasLock image o.instance (records_after o.site before) ⊎ MakesMap image o.op (records_after o.site before)
   pub broken : (image : ℕ) (owner : Instance) → o.op ≡ op.Header image (header.LockBreak owner) → o.answer ≡ answer.Done
       → is_fenced (records_after o.site before) owner ≡ true
 

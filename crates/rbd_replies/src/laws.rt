@@ -1,6 +1,6 @@
 //! What replies say of the flat-copy machine, and what fenced clients can't do: each law is the
 //! contract of a function that does nothing.
-ghost use Rattle.std.specs.Prelude.{◌≡◌, ℕ, true, [], ◌∷◌, ◌++◌, List, All, Option, Some, map};
+ghost use Rattle.std.specs.Prelude.{◌≡◌, ◌⊎◌, ℕ, true, [], ◌∷◌, ◌++◌, List, All, Option, Some, map};
 ghost use Rattle.rbd_kinds.specs.declared.answer.Answer.TheVariants as answer;
 ghost use Rattle.rbd_kinds.specs.declared.header_op.HeaderOp.TheVariants as header;
 ghost use Rattle.rbd_kinds.specs.declared.id.Instance.{Instance as Who};
@@ -16,7 +16,7 @@ ghost use Rattle.rbd_world.specs.Sound.{IsRight, IsSoundWorld, has_ended, line_a
 ghost use Rattle.rbd_world.specs.World.{WorldView};
 ghost use Rattle.rbd_world.specs.declared.event.Call.{Call};
 ghost use Rattle.rbd_replies.specs.Bounds.{KeepsBound};
-ghost use Rattle.rbd_replies.specs.Fenced.{AtEachOperation, ChangesNothing, IsStoppedByTheFence, IsTheOwners};
+ghost use Rattle.rbd_replies.specs.Fenced.{AtEachOperation, ChangesNothing, IsStoppedByTheFence, IsTheOwners, MakesMap};
 ghost use Rattle.rbd_replies.specs.Home.{AreDoneAt};
 ghost use Rattle.rbd_replies.specs.Places.{Placed, effects_of, places_of};
 ghost use Rattle.rbd_replies.specs.Replies.{IsReplyOf, changes_no_image, only_shows};
@@ -150,20 +150,21 @@ pub fn fences_are_told()
 
 /// Who changed the data, the header, an object map or the journal of an image had the lock of the
 /// image there, by its header; and the lock of an instance was broken only once the instance was
-/// fenced at that site. A header is made before anybody can own it, and what is done to its lock, to
-/// those that watch and to what they are told changes no image.
+/// fenced at that site. A header is made before anybody can own it, and so is the first map of an
+/// image, before its header. What is done to a lock, to those that watch and to what they are told
+/// changes no image.
 pub fn changes_are_the_owners()
     ensures owned { (homes : ℕ → Site) (run : List Happening) (o : Operation) (reply : Option Reply) (image : ℕ)
         → IsRight homes (Did o reply ∷ run) → changes_image image o.op ≡ true → was_done o.answer ≡ true
-        → HasLock image o.instance (records_after o.site run) }
+        → HasLock image o.instance (records_after o.site run) ⊎ MakesMap image o.op (records_after o.site run) }
     ensures broken { (homes : ℕ → Site) (run : List Happening) (o : Operation) (reply : Option Reply) (image : ℕ) (owner : Who)
         → IsRight homes (Did o reply ∷ run) → o.op ≡ op.Header image (header.LockBreak owner) → o.answer ≡ answer.Done
         → is_fenced (records_after o.site run) owner ≡ true }
 {}
 
-/// So it is in each world, whatever events came: at the place of each operation, one of an instance that
-/// is fenced at its site changes nothing; and who changes an image has its lock, which nobody loses
-/// who isn't fenced.
+/// So it is in each world, whatever events came: at the place of each operation, one of an instance
+/// that is fenced at its site changes nothing; and who changes an image has its lock, or makes the
+/// map of one without a header, and nobody loses a lock who isn't fenced.
 pub fn fences_and_locks_hold_in_worlds<R: Request>()
     ensures fences { (w : WorldView R) (sound : IsSoundWorld R.stands w) → AtEachOperation IsStoppedByTheFence sound.run }
     ensures locks { (w : WorldView R) (sound : IsSoundWorld R.stands w) → AtEachOperation IsTheOwners sound.run }

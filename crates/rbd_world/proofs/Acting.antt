@@ -1,5 +1,5 @@
 -- Who acts at a slot of a client has an operation done: what is known then, by everybody.
-use Rattle.std.proofs.Common.{◌≡◌, ◌≢◌, ◌⊎◌, inl, inr, ℕ, ◌<◌, cond, false, ◌∷◌, Option, Some, None, refl, sym, ap, ◌∙◌, subst, arith}
+use Rattle.std.proofs.Common.{◌≡◌, ◌≢◌, ◌⊎◌, inl, inr, ℕ, ◌<◌, cond, false, ◌∷◌, length, Option, Some, None, refl, sym, ap, ◌∙◌, subst, arith}
 use Rattle.std.specs.Prelude.{IsSome}
 use Rattle.std.proofs.lemmas.Bool.{true≢false, eq-eqb}
 use Rattle.rbd_client.specs.declared.actor.Actor.{Actor}
@@ -26,14 +26,14 @@ use Rattle.rbd_kinds.specs.declared.reply.Reply.{Reply}
 use Rattle.rbd_known.specs.Knowing.{AllKnow, known_behind, unless_ended}
 use Rattle.rbd_known.proofs.Little.{still_beside}
 use Rattle.rbd_known.proofs.Wanting.{wants}
-use Rattle.rbd_machine.specs.Answers.{CanGive}
 use Rattle.rbd_machine.specs.Knowledge.{Knowledge, learned, nothing_known, same_site}
 use Rattle.rbd_machine.specs.Permits.{Permits}
 use Rattle.rbd_machine.specs.Plan.{Ask, Standing}
+use Rattle.rbd_machine.specs.Refused.{IsGiven}
 use Rattle.rbd_owner.specs.declared.release.Release.{Release}
 use Rattle.rbd_rely.specs.Beside.{AreBeside, MayLook}
 use Rattle.rbd_rely.specs.Locks.{KnowsByLock}
-use Rattle.rbd_rely.specs.Truth.{IsTrueAt, IsParentless, known_header}
+use Rattle.rbd_rely.specs.Truth.{IsTrueAt, known_header}
 use Rattle.rbd_rely.proofs.Elsewhere.{beside_elsewhere}
 use Rattle.rbd_rely.proofs.Nothing.{nothing_is_beside}
 use Rattle.rbd_rely.proofs.Together.{beside_mutual, learned_beside}
@@ -42,11 +42,11 @@ use Rattle.rbd_session.proofs.Sound.{no_some, some_same}
 use Rattle.rbd_site.specs.Records.{Records}
 use Rattle.rbd_site.specs.Step.{answer_to}
 use Rattle.rbd_world.specs.Run.{Doer, Happening, Did, Sent, flat_after, sent_of}
-use Rattle.rbd_world.specs.Sound.{AreStrangers, Holder, InSlot, Sending, IsDone, IsLiving, IsOf, IsSoundWorld, MayStillCome, known_in}
+use Rattle.rbd_world.specs.Sound.{AreStrangers, Holder, InSlot, Sending, IsDone, IsLiving, IsNextOf, IsOf, IsSoundWorld, MayStillCome, known_in}
 use Rattle.rbd_world.specs.Step.{DoesAtSites, Goes, operation_at}
 use Rattle.rbd_world.specs.World.{LateView, LivesView, WorldView, client_in, late_at, late_of, lives_in, records_in, sent_in, site_in}
-use Rattle.rbd_world.proofs.AtSites.{at_either, beside_then, can_give, elsewhere_now, here_now, is_done, others_true, parentless_then, sending_then, stands_in, stands_then, unless_over}
-use Rattle.rbd_world.proofs.Carried.{StandFlat}
+use Rattle.rbd_world.proofs.AtSites.{at_either, beside_then, can_give, elsewhere_now, here_now, is_done, others_true, sending_then, stands_in, stands_then, unless_over, whole_then}
+use Rattle.rbd_world.proofs.Carried.{HasWholeImages, StandFlat}
 use Rattle.rbd_world.proofs.Changed.{lives_there, same_or_other}
 use Rattle.rbd_world.proofs.Quiet.{lines_differ}
 
@@ -194,17 +194,17 @@ module _ {R : Type 0} (stands : R → Standing) (old new : WorldView R) (w : IsS
     pub standing : StandFlat (does_it ∷ w.run)
     standing = stands_then stands old new w me doer s o result goes_by known permits at_sites
 
-    pub parentless : (t : SiteId) → IsParentless (records_in t new.sites)
-    parentless = parentless_then stands old new w me doer s o result goes_by known permits at_sites
+    pub whole : (t : SiteId) → HasWholeImages (records_in t new.sites)
+    whole = whole_then stands old new w me doer s o result goes_by known permits at_sites
 
-    pub can : CanGive o a
+    pub can : IsGiven o a
     can = can_give stands old new w me doer s o result goes_by known permits at_sites
 
-    pub done_so : IsOf doer me s o w.run → IsDone (operation_at (site_in s old.sites) me doer s o) w.run
-    done_so whose = is_done stands old new w me doer s o result goes_by known permits at_sites (knows_locks s acts refl) whose
+    pub done_so : IsOf doer me s o w.run → IsNextOf doer s o w.run → IsDone (operation_at (site_in s old.sites) me doer s o) w.run
+    done_so whose next = is_done stands old new w me doer s o result goes_by known permits at_sites (knows_locks s acts refl) whose next
 
     pub all_know : AllKnow stands knows_now d.session
-    all_know = feeding_is_known stands c d knew slot s o (fed.Answer a) result living.sound sound.session living.know became.slots became.others wanted (can_get stands slot c s o a wanted can) became.fed
+    all_know = feeding_is_known stands c d knew slot s o (fed.Answer a) result living.sound sound.session living.know became.slots became.others wanted (can_get stands slot c s o a wanted can.can) became.fed
 
     pub truth_now : (t : SiteId) → IsTrueOf t (records_in t new.sites) d.session.instance knows_now d
     truth_now t = subst (λ i. IsTrueOf t (records_in t new.sites) i knows_now d) (sym became.client.instance) (at_either s (λ q. IsTrueOf q (records_in q new.sites) me knows_now d) here elsewhere t)
@@ -212,8 +212,8 @@ module _ {R : Type 0} (stands : R → Standing) (old new : WorldView R) (w : IsS
         here : IsTrueOf s (records_in s new.sites) me knows_now d
         here =
             subst (λ r. IsTrueOf s r me knows_now d) (sym (here_now stands old new w me doer s o result goes_by known permits at_sites))
-            (answers_are_true stands c d knew slot s (records_in s old.sites) me o result wanted became.states permits (flat_after s w.run)
-            (stands_in stands old new w me doer s o result goes_by known permits at_sites s) (was_true s) (known s)
+            (answers_are_true stands c d knew slot s (records_in s old.sites) me o result wanted became.states permits (flat_after s w.run) (length (site_in s old.sites).log)
+            (stands_in stands old new w me doer s o result goes_by known permits at_sites s) (w.form s) (w.mapped s) (was_true s) (known s)
             (λ other differ. looks_beside_own stands c knew living.sound living.know (records_in s old.sites) me me slot other s o differ wanted) became.fed)
 
         elsewhere : (q : SiteId) → same_site s q ≡ false → IsTrueOf q (records_in q new.sites) me knows_now d

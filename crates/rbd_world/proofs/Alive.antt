@@ -73,7 +73,7 @@ module _ (homes : ℕ → SiteId) (line : ℕ) where
 
 -- its line goes on or ends, where it is for one
 data GoesOrEnds (homes : ℕ → SiteId) (o : Operation) (run : List Happening) (by : Doer) : Type 0 where
-  On : GoesOnBehind by run → GoesOrEnds homes o run by
+  On : GoesOnBehind homes o.site by run → GoesOrEnds homes o run by
   To : (told : Reply) → EndsWith homes o told run by → GoesOrEnds homes o run by
 
 -- who has an operation done runs, unless it had sent it before it was stopped
@@ -94,7 +94,7 @@ only_lives_that_run_act homes o reply run (standing, due, right) itself = by o.b
     by : (doer : Doer) → is_late doer ≡ false → IsOf doer o.instance o.site o.op run → GoesOrEnds homes o run doer → IsRunning o.instance run
     by (Itself line) itself mine (On begun) = of_line line mine begun
     by (Itself line) itself mine (To told ends) = of_line line mine ends.begun
-    by (OnWay line) itself mine (On begun) = of_line line mine begun
+    by (OnWay line) itself mine (On goes) = of_line line mine goes.begun
     by (OnWay line) itself mine (To told ends) = of_line line mine ends.begun
     by House itself mine on = mine
     by (AfterStop slot) itself mine on = absurd (true≢false itself)

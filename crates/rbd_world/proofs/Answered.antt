@@ -15,11 +15,11 @@ use Rattle.rbd_kinds.specs.declared.operation.Op.TheVariants as op
 use Rattle.rbd_kinds.specs.declared.reply.Reply.{Reply}
 use Rattle.rbd_known.specs.Calm.{IsCalm, IsCalmRequest}
 use Rattle.rbd_known.proofs.Unowned.{calm_stays}
-use Rattle.rbd_machine.specs.Answers.{CanBeFed, CanGive}
+use Rattle.rbd_machine.specs.Answers.{CanBeFed}
 use Rattle.rbd_machine.specs.Label.{Label}
 use Rattle.rbd_machine.specs.Path.{Answered, IsWalk, at_operation}
 use Rattle.rbd_machine.specs.Plan.{Plan, Ask, Await, Note, Return, Goto, Standing, plan_after}
-use Rattle.rbd_machine.specs.Refused.{AreGiven}
+use Rattle.rbd_machine.specs.Refused.{AreGiven, IsGiven}
 use Rattle.rbd_machine.specs.declared.reason.Reason.{Reason}
 use Rattle.rbd_meaning.specs.Meant.{IsMeantBy}
 use Rattle.rbd_requests.specs.CommandsMeant.{command_is_meant}
@@ -58,12 +58,12 @@ calm_next s why o next a p is calm = subst IsCalm is calm a
 
 module _ {R : Type 0} (stands : R → Standing) where
   -- the same line, at the next operation
-  record WentOn (labels : Label → Plan) (plan : Plan) (t : Track) (r q : Running R) : Type 0 where
-    line : q.line ≡ r.line
-    stand : stands q.request ≡ record { labels = labels; plan = plan }
-    place : q.place ≡ t.place
+  pub record WentOn (labels : Label → Plan) (plan : Plan) (t : Track) (r q : Running R) : Type 0 where
+    pub line : q.line ≡ r.line
+    pub stand : stands q.request ≡ record { labels = labels; plan = plan }
+    pub place : q.place ≡ t.place
 
-  went_on : (slot : ℕ) (labels : Label → Plan) (plan : Plan) (t : Track) (result : Option Reply) (r q : Running R) (lines : LinesView) → result ≡ None
+  pub went_on : (slot : ℕ) (labels : Label → Plan) (plan : Plan) (t : Track) (result : Option Reply) (r q : Running R) (lines : LinesView) → result ≡ None
       → ComesTo stands slot labels plan t result r q lines → WentOn labels plan t r q
   went_on slot labels (Return reply) t result r q lines none comes = absurd (no_some reply (sym none ∙ comes.reply))
   went_on slot labels (Ask s why o next) t result r q lines none comes = record { line = comes.line; stand = comes.request; place = ap (λ (x : Track). x.place) comes.track }
@@ -72,7 +72,7 @@ module _ {R : Type 0} (stands : R → Standing) where
   went_on slot labels (Goto label) t result r q lines none comes = record { line = comes.line; stand = comes.request; place = ap (λ (x : Track). x.place) comes.track }
 
   module _ (homes : ℕ → SiteId) (session slot : ℕ) (run : List Happening) (me : Instance) (whose : me.session ≡ session) (r : Running R) (way : IsUnderWay stands (homes session) me run r)
-      (s : SiteId) (why : Reason) (o : Op) (next : Answer → Plan) (asks : (stands r.request).plan ≡ Ask s why o next) (a : Answer) (can : CanGive o a)
+      (s : SiteId) (why : Reason) (o : Op) (next : Answer → Plan) (asks : (stands r.request).plan ≡ Ask s why o next) (a : Answer) (can : IsGiven o a)
       (number : ℕ) (effect : Option Effect) where
     abbrev done : Operation
     done = record { by = Itself r.line; instance = me; site = s; number = number; op = o; answer = a; effect = effect }
@@ -126,7 +126,7 @@ module _ {R : Type 0} (stands : R → Standing) where
     -- ---- it goes on
 
     can_fed : CanBeFed (stands r.request).plan (fed.Answer a)
-    can_fed = subst (λ p. CanBeFed p (fed.Answer a)) (sym asks) can
+    can_fed = subst (λ p. CanBeFed p (fed.Answer a)) (sym asks) can.can
 
     abbrev to : Plan
     to = at_operation (stands r.request).labels (plan_after (stands r.request).plan (fed.Answer a))

@@ -12,17 +12,18 @@ use Rattle.rbd_kinds.specs.declared.id.SiteId.TheVariants as site
 use Rattle.rbd_kinds.specs.declared.operation.Op.{Op}
 use Rattle.rbd_kinds.specs.declared.reply.Reply.{Reply}
 use Rattle.rbd_known.specs.Knowing.{unless_ended}
-use Rattle.rbd_machine.specs.Answers.{CanGive}
 use Rattle.rbd_machine.specs.Knowledge.{Knowledge, nothing_known, same_site}
 use Rattle.rbd_machine.specs.Permits.{Permits}
 use Rattle.rbd_machine.specs.Plan.{Standing}
+use Rattle.rbd_machine.specs.Refused.{IsGiven}
 use Rattle.rbd_rely.specs.Beside.{AreBeside}
 use Rattle.rbd_rely.specs.Locks.{KnowsByLock, gives_up}
-use Rattle.rbd_rely.specs.Truth.{IsTrueAt, IsParentless, changed_by, known_header}
+use Rattle.rbd_rely.specs.Truth.{IsTrueAt, changed_by, known_header}
 use Rattle.rbd_rely.proofs.Fenced.{was_free}
 use Rattle.rbd_rely.proofs.Done.{gives_it, has_its_effect}
 use Rattle.rbd_rely.proofs.Kept.{others_keep}
 use Rattle.rbd_rely.proofs.Locks.{lock_lasts}
+use Rattle.rbd_rely.proofs.Maps.{mapped_stays}
 use Rattle.rbd_rely.proofs.Parents.{parentless_stays}
 use Rattle.rbd_rely.proofs.Together.{beside_stays}
 use Rattle.rbd_site.specs.Records.{Records}
@@ -32,11 +33,11 @@ use Rattle.rbd_stands.specs.Effect.{effect_of}
 use Rattle.rbd_stands.specs.Owned.{IsOwnedStep}
 use Rattle.rbd_stands.specs.Site.{StandsFor}
 use Rattle.rbd_world.specs.Run.{Doer, Happening, Did, Operation, Sent, flat_after, records_after}
-use Rattle.rbd_world.specs.Sound.{IsDone, IsOf, IsSoundWorld, MayStillCome}
+use Rattle.rbd_world.specs.Sound.{IsDone, IsNextOf, IsOf, IsSoundWorld, MayStillCome}
 use Rattle.rbd_world.specs.Step.{DoesAtSites, operation_at}
 use Rattle.rbd_world.specs.World.{WorldView, records_in, site_in}
 use Rattle.rbd_world.proofs.BothSites.{same_site_itself}
-use Rattle.rbd_world.proofs.Carried.{StandFlat}
+use Rattle.rbd_world.proofs.Carried.{HasWholeImages, StandFlat, whole_in}
 use Rattle.rbd_world.proofs.Owned.{is_owned}
 use Rattle.rbd_world.proofs.Rest.{where_standing}
 
@@ -94,18 +95,25 @@ module _ {R : Type 0} (stands : R → Standing) (old new : WorldView R) (w : IsS
       elsewhere t differ =
           subst (λ b. StandsFor [] (cond b (after (records_after t w.run) who o) (records_after t w.run)) (cond b (changed_by (flat_after t w.run) operation.effect) (flat_after t w.run))) (sym differ) (stood t)
 
-  pub parentless_then : (t : SiteId) → IsParentless (records_in t new.sites)
-  parentless_then =
-      at_either s (λ t. IsParentless (records_in t new.sites)) (subst IsParentless (sym here_now) (parentless_stays s (records_in s old.sites) k who o (w.parentless s) permits))
-      (λ t differ. subst IsParentless (sym (elsewhere_now t differ)) (w.parentless t))
+  pub whole_then : (t : SiteId) → HasWholeImages (records_in t new.sites)
+  whole_then =
+      at_either s (λ t. HasWholeImages (records_in t new.sites)) (subst HasWholeImages (sym here_now) here)
+      (λ t differ. subst HasWholeImages (sym (elsewhere_now t differ)) (whole_in stands old w t))
+    where
+      here : HasWholeImages (after (records_in s old.sites) who o)
+      here = record {
+        parentless = parentless_stays s (records_in s old.sites) k who o (w.parentless s) permits;
+        mapped = mapped_stays s (records_in s old.sites) (flat_after s w.run) k who o (length (site_in s old.sites).log) (stands_in s) (w.form s) (w.mapped s) (known s) permits;
+      }
 
-  pub can_give : CanGive o answered
-  can_give = gives_it s (records_in s old.sites) who k (length (site_in s old.sites).log) (w.form s) (known s) o permits
+  pub can_give : IsGiven o answered
+  can_give = gives_it s (records_in s old.sites) who k (length (site_in s old.sites).log) (w.form s) (w.mapped s) (known s) o permits
 
   -- it is the one that its site does there
-  pub is_done : KnowsByLock s (records_in s old.sites) who k → IsOf by who s o w.run → IsDone operation w.run
-  is_done locks whose = record {
+  pub is_done : KnowsByLock s (records_in s old.sites) who k → IsOf by who s o w.run → IsNextOf by s o w.run → IsDone operation w.run
+  is_done locks whose next = record {
     whose = whose;
+    next = next;
     number = ap (λ ds. length ds + 1) (w.logs s);
     answer = ap (λ (x : Records). answer_to x who o) (w.records s);
     effect = ap (λ (x : Records). effect_of x (done.Op o) answered) (w.records s);

@@ -1,6 +1,8 @@
 -- A world in which nothing happened is sound.
 use Rattle.std.proofs.Common.{◌≡◌, ℕ, true, List, [], length, is_some, Option, Some, None, refl, sym, ap, ◌∙◌, subst}
-use Rattle.rbd_client.specs.Client.{ClientView}
+use Rattle.rbd_client.specs.Client.{ClientView, state_in}
+use Rattle.rbd_exact.specs.Exact.{IsExactBut}
+use Rattle.rbd_exact.proofs.ExactlyKept.{none_exact}
 use Rattle.rbd_held.specs.Truth.{IsTrueOf}
 use Rattle.rbd_held.proofs.Calls.{new_client_is_true}
 use Rattle.rbd_kinds.specs.declared.id.Instance.{Instance}
@@ -9,7 +11,8 @@ use Rattle.rbd_kinds.specs.declared.id.SiteId.TheVariants as site
 use Rattle.rbd_known.specs.Knowing.{KnowsIn}
 use Rattle.rbd_machine.specs.Knowledge.{nothing_known}
 use Rattle.rbd_machine.specs.Plan.{Standing}
-use Rattle.rbd_rely.specs.Truth.{IsParentless}
+use Rattle.rbd_rely.specs.Truth.{AreMapped, IsParentless}
+use Rattle.rbd_rely.proofs.Maps.{none_mapped}
 use Rattle.rbd_rely.proofs.Nothing.{none_parentless, nothing_is_beside}
 use Rattle.rbd_session.specs.Session.{running_at, running_in, script_line}
 use Rattle.rbd_session.proofs.Sound.{no_some, some_same}
@@ -18,8 +21,9 @@ use Rattle.rbd_site.specs.Log.{after_all}
 use Rattle.rbd_site.specs.Records.{Records, no_records}
 use Rattle.rbd_site.proofs.FormLemmas.{form_at_first}
 use Rattle.rbd_stands.proofs.Nothing.{nothing_stands}
+use Rattle.rbd_world.specs.Owing.{is_owed}
 use Rattle.rbd_world.specs.Run.{Happening}
-use Rattle.rbd_world.specs.Sound.{AreLivesOf, Holder, InSlot, Sending, IsFirst, IsHeldRightly, IsLiving, IsNewWorld, IsRunning, IsSoundWorld, first_life, held_of, line_at}
+use Rattle.rbd_world.specs.Sound.{AreLivesOf, Holder, InSlot, Sending, IsFirst, IsHeldRightly, IsLiving, IsNewWorld, IsRunning, IsSoundWorld, KeepsToItsWay, first_life, held_of, line_at}
 use Rattle.rbd_world.specs.Step.{IsFresh}
 use Rattle.rbd_world.specs.World.{LivesView, WorldView, client_in, late_at, late_of, lives_in, sent_in, session_of}
 use Rattle.rbd_world.proofs.Changed.{lives_there}
@@ -37,6 +41,7 @@ module _ {R : Type 0} (stands : R → Standing) where
       sound = fresh.sound;
       know = λ slot. subst (λ o. KnowsIn stands slot (running_in o) c.session.lines nothing_known) (sym (fresh.slots slot)) refl;
       held = λ slot. subst (IsHeldRightly stands there c.session.instance run) (sym (fresh.slots slot)) tt;
+      ways = λ slot. subst (λ o. KeepsToItsWay stands run (state_in slot c.slots).way (running_in o)) (sym (fresh.slots slot)) tt;
     }
 
     pub fresh_true : (s : SiteId) (r : Records) (me : Instance) → IsTrueOf s r me (λ slot. nothing_known) c
@@ -117,9 +122,11 @@ module _ {R : Type 0} (stands : R → Standing) where
     logs = new.sites;
     records = λ s. ap (after_all no_records) (new.sites s);
     mail = new.mail;
-    right = λ s. record { stands = nothing_stands; parentless = none_parentless; form = form_at_first };
+    right = λ s. record { stands = nothing_stands; parentless = none_parentless; mapped = none_mapped; form = form_at_first };
     form = λ s. subst (λ log. AreInForm (after_all no_records log) (length log)) (sym (new.sites s)) form_at_first;
     parentless = λ s. subst (λ log. IsParentless (after_all no_records log)) (sym (new.sites s)) none_parentless;
+    mapped = λ s. subst (λ log. AreMapped (after_all no_records log)) (sym (new.sites s)) none_mapped;
+    exact = λ calm s. subst (λ log. IsExactBut (is_owed s []) (after_all no_records log)) (sym (new.sites s)) (none_exact (is_owed s []));
     lives = first_lives w new;
     clients = first_living w new;
     in_slots = λ session slot c is. sym (has_first w new session c is).fresh.instance;

@@ -14,7 +14,7 @@ use Rattle.rbd_machine.specs.Knowledge.{Knowledge, nothing_known, same_instance}
 use Rattle.rbd_machine.specs.Label.{Label}
 use Rattle.rbd_machine.specs.Plan.{Plan, Ask, Await, Note, Return, Goto, Standing}
 use Rattle.rbd_rely.specs.Beside.{AreBeside, MayLook}
-use Rattle.rbd_rely.specs.Truth.{IsParentless}
+use Rattle.rbd_rely.specs.Truth.{AreMapped, IsParentless}
 use Rattle.rbd_session.specs.declared.running.Occupant.{Occupant}
 use Rattle.rbd_session.specs.declared.running.Occupant.TheVariants as occupant
 use Rattle.rbd_session.specs.declared.running.Running.{Running}
@@ -37,10 +37,16 @@ use Rattle.rbd_world.specs.Run.{Happening, Nothing, Waited, Began, Did, Refused,
 use Rattle.rbd_world.specs.Sound.{AreApart, AreInSlots, AreLivesOf, AreStrangers, Holder, InSlot, Sending, IsDue, IsLiving, IsSoundWorld, IsStanding, MayStillCome, known_in}
 use Rattle.rbd_world.specs.Step.{Does, DoesAtSites, begins_of, call_of, come, delivered, done_by, ended_watch, goes_on_by, happening, heard_by, is_begun, mail_then, polled, polled_in, releases, restarted, restarted_of, stopped, submitted}
 use Rattle.rbd_world.specs.World.{LivesView, WorldView, client_in, late_at, lives_in, records_in, site_in}
+use Rattle.rbd_world.proofs.Exactly.{IsOwedFor, exact_then}
 
 -- each site stands for its flat site
 abbrev pub StandFlat : List Happening → Type 0
 StandFlat run = (s : SiteId) → StandsFor [] (records_after s run) (flat_after s run)
+
+-- No image has a parent, and each has its object maps.
+pub record HasWholeImages (r : Records) : Type 0 where
+  pub parentless : IsParentless r
+  pub mapped : AreMapped r
 
 -- ---- it is the event's
 
@@ -164,12 +170,15 @@ module _ {R : Type 0} (stands : R → Standing) where
       by true = (refl, refl, refl)
       by false = tt
 
+  pub whole_in : (w : WorldView R) → IsSoundWorld stands w → (s : SiteId) → HasWholeImages (records_in s w.sites)
+  whole_in w sound s = record { parentless = sound.parentless s; mapped = sound.mapped s }
+
   -- ---- what has to be shown
 
   pub record Carries (old new : WorldView R) (w : IsSoundWorld stands old) (h : Happening) (who : Holder → Instance) (knows : Holder → Knowledge) : Type 0 where
     pub standing : StandFlat (h ∷ w.run)
     pub due : IsDue w.homes h w.run
-    pub parentless : (s : SiteId) → IsParentless (records_in s new.sites)
+    pub whole : (s : SiteId) → HasWholeImages (records_in s new.sites)
     pub lives : (session : ℕ) (l : LivesView R) → lives_in session new.lives ≡ Some l → AreLivesOf (h ∷ w.run) (w.homes session) session l
     pub clients : (session : ℕ) (c : ClientView R) → client_in session new.lives ≡ Some c → IsLiving stands (w.homes session) session (h ∷ w.run) (known_in knows session) c
     pub in_slots : (session slot : ℕ) (c : ClientView R) → client_in session new.lives ≡ Some c → who (InSlot session slot) ≡ c.session.instance
@@ -184,6 +193,7 @@ module _ {R : Type 0} (stands : R → Standing) where
     pub drops : (session slot there : ℕ) (x : Sent) → slot ≢ there → late_at session slot new.lives ≡ Some x → (r : Records)
         → MayLook x.site r (who (Sending session slot)) (who (Sending session there)) (knows (Sending session slot)) (knows (Sending session there)) x.op
     pub beside : (h g : Holder) → AreStrangers h g → (s : SiteId) → AreBeside s (records_in s new.sites) (who h) (who g) (knows h) (knows g)
+    pub owes : IsOwedFor h w.run
     pub turn : IsInTurn h w.run
     pub in_order : (session : ℕ) (c : ClientView R) → client_in session new.lives ≡ Some c → IsInOrder stands (w.homes session) c.session.instance (h ∷ w.run) c.session
 
@@ -223,9 +233,11 @@ module _ {R : Type 0} (stands : R → Standing) where
         logs = logs_now;
         records = records_now;
         mail = does.mail ∙ mail_goes h old w;
-        right = (λ s. standing_now carries.standing carries.parentless s, carries.due, w.right);
+        right = (λ s. standing_now carries.standing carries.whole s, carries.due, w.right);
         form = λ s. at_sites.form s (w.form s);
-        parentless = carries.parentless;
+        parentless = λ s. (carries.whole s).parentless;
+        mapped = λ s. (carries.whole s).mapped;
+        exact = exact_then stands old new w h at_sites carries.due carries.owes;
         lives = carries.lives;
         clients = carries.clients;
         in_slots = carries.in_slots;
@@ -248,10 +260,11 @@ module _ {R : Type 0} (stands : R → Standing) where
       records_now : (s : SiteId) → records_in s new.sites ≡ records_after s (h ∷ w.run)
       records_now s = at_sites.records s ∙ ap (λ r. records_behind s r h) (w.records s)
 
-      standing_now : StandFlat (h ∷ w.run) → ((s : SiteId) → IsParentless (records_in s new.sites)) → (s : SiteId) → IsStanding s (h ∷ w.run)
-      standing_now standing parentless s = record {
+      standing_now : StandFlat (h ∷ w.run) → ((s : SiteId) → HasWholeImages (records_in s new.sites)) → (s : SiteId) → IsStanding s (h ∷ w.run)
+      standing_now standing whole s = record {
         stands = standing s;
-        parentless = subst IsParentless (records_now s) (parentless s);
+        parentless = subst IsParentless (records_now s) (whole s).parentless;
+        mapped = subst AreMapped (records_now s) (whole s).mapped;
         form =
             subst (λ ds. AreInForm (records_after s (h ∷ w.run)) (length ds)) (logs_now s)
             (subst (λ r. AreInForm r (length (site_in s new.sites).log)) (records_now s) (at_sites.form s (w.form s)));

@@ -1,7 +1,8 @@
 -- Where the client of one session goes on: the other sessions stay, and so do all lives.
 use Rattle.std.proofs.Common.{◌≡◌, ◌≢◌, ◌⊎◌, inl, inr, ℕ, ◌==◌, ◌<◌, ◌≤◌, Bool, true, false, List, ◌∷◌, is_some, Option, Some, None, refl, sym, ap, ◌∙◌, subst}
 use Rattle.std.proofs.lemmas.Bool.{true≢false, eq-eqb, eqb-true}
-use Rattle.rbd_client.specs.Client.{ClientView}
+use Rattle.rbd_client.specs.declared.slot_state.SlotState.{SlotState}
+use Rattle.rbd_client.specs.Client.{ClientView, state_in}
 use Rattle.rbd_client.specs.Sound.{IsSoundClient}
 use Rattle.rbd_kinds.specs.declared.id.Instance.{Instance}
 use Rattle.rbd_kinds.specs.declared.id.SiteId.{SiteId}
@@ -14,10 +15,11 @@ use Rattle.rbd_session.specs.Session.{SessionView, held_in, running_at, running_
 use Rattle.rbd_session.proofs.Sound.{no_some, some_same}
 use Rattle.rbd_world.specs.declared.event.Event.{Event}
 use Rattle.rbd_world.specs.Run.{Happening, Life, Sent, life_after, life_behind, sent_behind}
-use Rattle.rbd_world.specs.Sound.{AreApart, AreLivesOf, IsHeldRightly, IsLiving, IsOpen, IsRunning, IsSoundWorld, held_of, line_at}
-use Rattle.rbd_world.specs.Step.{AreSlotsBut, Becomes, BecomesOf, Does, IsSameClient, LivesOnIf, RunsOn, late_behind, latest_behind, names_session}
+use Rattle.rbd_world.specs.Sound.{AreApart, AreLivesOf, IsHeldRightly, IsLiving, IsOpen, IsRunning, IsSoundWorld, KeepsToItsWay, held_of, line_at}
+use Rattle.rbd_world.specs.Step.{AreSlotsBut, AreStatesBut, Becomes, BecomesOf, Does, IsSameClient, LivesOnIf, RunsOn, late_behind, latest_behind, names_session}
 use Rattle.rbd_world.specs.World.{LateView, LivesView, WorldView, client_in, late_at, late_of, lives_in, running_of, sent_in, session_of}
 use Rattle.rbd_world.proofs.Quiet.{IsQuiet, held_on, lines_differ}
+use Rattle.rbd_world.proofs.Ways.{ways_on}
 
 -- ---- this slot, or another one
 
@@ -260,23 +262,33 @@ module _ {R : Type 0} (stands : R → Standing) where
       sound = living.sound;
       know = living.know;
       held = λ x. held_on stands home c.session.instance h run (held_in x c.session.slots) (quiet x) (living.held x);
+      ways = λ x. ways_on stands h run (state_in x c.slots).way (held_in x c.session.slots) (quiet x) (living.ways x);
     }
 
     -- one of which a slot changed
     pub living_of : (knows knows' : (x : ℕ) → Knowledge) (slot : ℕ) (c d : ClientView R) → IsLiving stands home session run knows c
-        → AreSlotsBut slot c.session d.session → IsSameClient c.session d.session
+        → AreSlotsBut slot c.session d.session → AreStatesBut slot c d → IsSameClient c.session d.session
         → ((x line : ℕ) → x ≢ slot → script_line (held_in x c.session.slots) ≡ Some line → IsQuiet line h)
         → IsSoundClient stands d → AllKnow stands knows' d.session → IsHeldRightly stands home c.session.instance (h ∷ run) (held_in slot d.session.slots)
+        → KeepsToItsWay stands (h ∷ run) (state_in slot d.slots).way (running_at slot d.session)
         → IsLiving stands home session (h ∷ run) knows' d
-    living_of knows knows' slot c d living slots client quiet sound know own = record {
+    living_of knows knows' slot c d living slots states client quiet sound know own keeps = record {
       whose = ap (λ (i : Instance). i.session) client.instance ∙ living.whose;
       runs = subst (λ i. IsRunning i (h ∷ run)) (sym client.instance) (running_on c.session.instance h run lifeless living.runs);
       at_home = client.home ∙ living.at_home;
       sound = sound;
       know = know;
       held = λ x. subst (λ i. IsHeldRightly stands home i (h ∷ run) (held_in x d.session.slots)) (sym client.instance) (by x (same_or_other x slot));
+      ways = λ x. way_by x (same_or_other x slot);
     }
       where
+        way_by : (x : ℕ) → (x ≡ slot) ⊎ (x ≢ slot) → KeepsToItsWay stands (h ∷ run) (state_in x d.slots).way (running_at x d.session)
+        way_by x (inl here) = subst (λ i. KeepsToItsWay stands (h ∷ run) (state_in i d.slots).way (running_at i d.session)) (sym here) keeps
+        way_by x (inr differ) =
+            subst (λ o. KeepsToItsWay stands (h ∷ run) (state_in x d.slots).way (running_in o)) (sym (slots x differ))
+            (subst (λ (s : SlotState). KeepsToItsWay stands (h ∷ run) s.way (running_at x c.session)) (sym (states x differ))
+            (ways_on stands h run (state_in x c.slots).way (held_in x c.session.slots) (λ line is. quiet x line differ is) (living.ways x)))
+
         by : (x : ℕ) → (x ≡ slot) ⊎ (x ≢ slot) → IsHeldRightly stands home c.session.instance (h ∷ run) (held_in x d.session.slots)
         by x (inl here) = subst (λ i. IsHeldRightly stands home c.session.instance (h ∷ run) (held_in i d.session.slots)) (sym here) own
         by x (inr differ) =

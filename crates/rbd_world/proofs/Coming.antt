@@ -28,9 +28,10 @@ use Rattle.rbd_world.specs.Run.{AfterStop, Happening, Sent, sent_after, sent_of}
 use Rattle.rbd_world.specs.Sound.{AreLivesOf, AreStrangers, Holder, InSlot, Sending, IsDone, IsSoundWorld, MayStillCome, held_of, known_in, line_at}
 use Rattle.rbd_world.specs.Step.{BecomesOf, Does, DoesAtSites, LivesOnIf, come, operation_at, without_sent}
 use Rattle.rbd_world.specs.World.{LateView, LivesView, WorldView, client_in, late_at, late_of, lives_in, records_in, running_of, sent_in, session_of, site_in}
-use Rattle.rbd_world.proofs.AtSites.{beside_then, is_done, known_then, locks_then, others_true, parentless_then, sending_then, stands_then}
+use Rattle.rbd_world.proofs.AtSites.{beside_then, is_done, known_then, locks_then, others_true, sending_then, stands_then, whole_then}
 use Rattle.rbd_world.proofs.Carried.{IsCarried}
 use Rattle.rbd_world.proofs.Changed.{IsElsewhere, here_or_elsewhere, lives_there, living_on, same_or_other}
+use Rattle.rbd_world.proofs.Debts.{none_sent}
 use Rattle.rbd_world.proofs.Elsewhere.{IsAs, Same, Silent, beside_still, unknown_looks}
 use Rattle.rbd_world.proofs.OrderedWorld.{no_turn, order_on}
 use Rattle.rbd_world.proofs.Quiet.{IsQuiet, lines_differ, quiet_did}
@@ -154,7 +155,7 @@ module _ {R : Type 0} (stands : R → Standing) (old new : WorldView R) (w : IsS
   due : IsDone (operation_at (site_in x.site old.sites) x.instance (AfterStop slot) x.site x.op) w.run
   due =
       is_done stands old new w x.instance (AfterStop slot) x.site x.op None k may.truth may.permits at_sites (may.locks x.site)
-      (ap (λ i. sent_after i slot w.run) may.whose ∙ sym (w.late session slot) ∙ sent)
+      (ap (λ i. sent_after i slot w.run) may.whose ∙ sym (w.late session slot) ∙ sent) tt
 
   -- ---- who is where
 
@@ -366,7 +367,7 @@ module _ {R : Type 0} (stands : R → Standing) (old new : WorldView R) (w : IsS
     carries = record {
       standing = stands_then stands old new w x.instance (AfterStop slot) x.site x.op None k may.truth may.permits at_sites;
       due = (due, tt);
-      parentless = parentless_then stands old new w x.instance (AfterStop slot) x.site x.op None k may.truth may.permits at_sites;
+      whole = whole_then stands old new w x.instance (AfterStop slot) x.site x.op None k may.truth may.permits at_sites;
       lives = lives_now;
       clients = λ m q is. living_on stands (w.homes m) m h w.run (λ n life. refl) (known_in w.knows m) q (λ y line at. quiet line) (w.clients m q (was m q is));
       in_slots = λ m y q is. w.in_slots m y q (was m q is);
@@ -382,6 +383,7 @@ module _ {R : Type 0} (stands : R → Standing) (old new : WorldView R) (w : IsS
           (λ a g apart s.
           beside_then stands old new w x.instance (AfterStop slot) x.site x.op None k may.truth may.permits at_sites (w.who a) (w.who g) (w.knows a) (w.knows g) (w.beside a g apart) s)
           each_is;
+      owes = λ calm. absurd (no_some x (sym (none_sent session slot w.run calm.1) ∙ sym (w.late session slot) ∙ sent));
       turn = no_turn (operation_at (site_in x.site old.sites) x.instance (AfterStop slot) x.site x.op) None w.run (λ line. refl);
       in_order = λ m q is. order_on stands old new w h (due, tt) m q (was m q is) (λ y line at. quiet line) (λ other writer. refl);
     };

@@ -1,7 +1,7 @@
 -- What begins or ends a life of one session leaves the other sessions as they are.
 use Rattle.std.proofs.Common.{◌≡◌, ◌≢◌, ℕ, ◌==◌, cond, List, ◌∷◌, is_some, None, Some, refl, sym, ap, ◌∙◌, subst}
 use Rattle.std.proofs.lemmas.Bool.{true≢false, eq-eqb}
-use Rattle.rbd_client.specs.Client.{ClientView}
+use Rattle.rbd_client.specs.Client.{ClientView, state_in}
 use Rattle.rbd_kinds.specs.declared.header_op.HeaderOp.TheVariants as header
 use Rattle.rbd_kinds.specs.declared.id.Instance.{Instance}
 use Rattle.rbd_kinds.specs.declared.id.SiteId.{SiteId}
@@ -19,6 +19,7 @@ use Rattle.rbd_world.specs.Run.{Happening, Life, life_after, life_behind}
 use Rattle.rbd_world.specs.Sound.{AreLivesOf, AreStrangers, Holder, InSlot, IsLiving, known_in}
 use Rattle.rbd_world.specs.World.{LivesView}
 use Rattle.rbd_world.proofs.Quiet.{IsQuiet, held_on, lines_differ}
+use Rattle.rbd_world.proofs.Ways.{ways_on}
 
 -- ---- lives
 
@@ -34,6 +35,7 @@ module _ {R : Type 0} (stands : R → Standing) (home : SiteId) (session : ℕ) 
     sound = living.sound;
     know = living.know;
     held = λ x. held_on stands home c.session.instance h run (held_in x c.session.slots) (quiet x) (living.held x);
+    ways = λ x. ways_on stands h run (state_in x c.slots).way (held_in x c.session.slots) (quiet x) (living.ways x);
   }
 
   pub lives_still : (l : LivesView R) → AreLivesOf run home session l → AreLivesOf (h ∷ run) home session l

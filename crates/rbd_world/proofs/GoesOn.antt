@@ -7,7 +7,6 @@ use Rattle.rbd_kinds.specs.declared.id.SiteId.{SiteId}
 use Rattle.rbd_machine.specs.Knowledge.{Knowledge, nothing_known}
 use Rattle.rbd_machine.specs.Plan.{Standing}
 use Rattle.rbd_rely.specs.Beside.{AreBeside}
-use Rattle.rbd_rely.specs.Truth.{IsParentless}
 use Rattle.rbd_rely.proofs.Together.{beside_mutual}
 use Rattle.rbd_session.specs.Session.{held_in, script_line}
 use Rattle.rbd_session.proofs.Sound.{no_some, some_same}
@@ -15,8 +14,9 @@ use Rattle.rbd_world.specs.Order.{IsInOrder, IsInTurn, IsWriterOf}
 use Rattle.rbd_world.specs.Run.{Happening, Sent, sent_after, steps_in}
 use Rattle.rbd_world.specs.Sound.{AreApart, AreInSlots, AreStrangers, Holder, InSlot, Sending, IsDue, IsLiving, IsSoundWorld, MayStillCome, known_in}
 use Rattle.rbd_world.specs.World.{WorldView, client_in, late_at, records_in}
-use Rattle.rbd_world.proofs.Carried.{IsCarried, StandFlat}
+use Rattle.rbd_world.proofs.Carried.{HasWholeImages, IsCarried, StandFlat}
 use Rattle.rbd_world.proofs.Changed.{GoesOnAs, IsLifeless, SendsNothing, client_is, clients_stay, late_stays, lives_go_on, living_on, same_or_other}
+use Rattle.rbd_world.proofs.Exactly.{IsOwedFor}
 use Rattle.rbd_world.proofs.OrderedWorld.{orders_of}
 use Rattle.rbd_world.proofs.Quiet.{IsQuiet, lines_differ}
 
@@ -79,24 +79,24 @@ module _ {R : Type 0} (stands : R → Standing) (old new : WorldView R) (w : IsS
 
     -- ---- all of it
 
-    pub goes_carries : StandFlat (h ∷ w.run) → (due : IsDue w.homes h w.run) → ((s : SiteId) → IsParentless (records_in s new.sites))
+    pub goes_carries : StandFlat (h ∷ w.run) → (due : IsDue w.homes h w.run) → ((s : SiteId) → HasWholeImages (records_in s new.sites))
         → IsLiving stands (w.homes session) session (h ∷ w.run) knows_now d
         → ((m : ℕ) (q : ClientView R) → m ≢ session → client_in m old.lives ≡ Some q → (x line : ℕ) → script_line (held_in x q.session.slots) ≡ Some line → IsQuiet line h)
         → AreApart new.lives → AreInSlots (h ∷ w.run) new.lives
         → ((s : SiteId) → IsTrueOf s (records_in s new.sites) d.session.instance knows_now d)
         → ((m : ℕ) (q : ClientView R) → m ≢ session → client_in m old.lives ≡ Some q → (s : SiteId) → IsTrueOf s (records_in s new.sites) q.session.instance (known_in w.knows m) q)
         → ((m x : ℕ) (y : Sent) → late_at m x old.lives ≡ Some y → MayStillCome m (λ s. records_in s new.sites) y (w.knows (Sending m x)))
-        → IsInTurn h w.run
+        → IsOwedFor h w.run → IsInTurn h w.run
         → ((m : ℕ) (q : ClientView R) → m ≢ session → client_in m old.lives ≡ Some q → (other : ℕ) → IsWriterOf q.session.instance other (h ∷ w.run) → steps_in other h ≡ [])
         → IsInOrder stands (w.homes session) d.session.instance (h ∷ w.run) d.session
         → IsCarried stands old new w h
-    goes_carries standing due parentless living quiet apart slots truth others sending turn foreign order = record {
+    goes_carries standing due whole living quiet apart slots truth others sending owes turn foreign order = record {
       who = w.who;
       knows = knows_then;
       carries = record {
         standing = standing;
         due = due;
-        parentless = parentless;
+        whole = whole;
         lives = lives_go_on old new session c d goes stands w h lifeless instance;
         clients = λ m q is. client_by m q is (same_or_other m session);
         in_slots = λ m x q is. slot_by m x q is (same_or_other m session);
@@ -109,6 +109,7 @@ module _ {R : Type 0} (stands : R → Standing) (old new : WorldView R) (w : IsS
         unsent = λ m x none. w.unsent m x (sym (late_same m x) ∙ none);
         drops = λ m x z y differ is. w.drops m x z y differ (sym (late_same m x) ∙ is);
         beside = beside_then;
+        owes = owes;
         turn = turn;
         in_order = orders_of stands old new w h due session (clients_stay old new session c d goes) quiet foreign
             (λ q is. subst (λ (v : ClientView R). IsInOrder stands (w.homes session) v.session.instance (h ∷ w.run) v.session) (some_same d q (sym here ∙ is)) order);

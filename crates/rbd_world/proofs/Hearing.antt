@@ -1,6 +1,6 @@
 -- Where an instance hears a notice: its requests stay, and it counts no lock more.
 use Rattle.std.proofs.Common.{◌≡◌, ◌≢◌, ◌⊎◌, inl, inr, ℕ, true, ◌∷◌, Some, refl, sym, ap, ◌∙◌, subst}
-use Rattle.rbd_client.specs.Client.{ClientView}
+use Rattle.rbd_client.specs.Client.{ClientView, state_in}
 use Rattle.rbd_client.specs.Sound.{IsSoundClient}
 use Rattle.rbd_held.specs.Truth.{IsTrueOf}
 use Rattle.rbd_held.proofs.Calls.{heard_is_true}
@@ -11,15 +11,15 @@ use Rattle.rbd_known.specs.Knowing.{AllKnow}
 use Rattle.rbd_machine.specs.Knowledge.{Knowledge, same_instance}
 use Rattle.rbd_machine.specs.Plan.{Standing}
 use Rattle.rbd_rely.specs.Beside.{AreBeside}
-use Rattle.rbd_session.specs.Session.{SessionView, held_in, script_line}
+use Rattle.rbd_session.specs.Session.{SessionView, held_in, running_at, script_line}
 use Rattle.rbd_stands.proofs.Locks.{same_is}
 use Rattle.rbd_watch.specs.Posting.{numbered}
 use Rattle.rbd_world.specs.declared.event.Event.TheVariants as event
 use Rattle.rbd_world.specs.Run.{Heard, mail_of}
-use Rattle.rbd_world.specs.Sound.{AreStrangers, Holder, InSlot, IsDelivered, IsHeldRightly, IsLiving, IsRunning, IsSoundWorld, held_of, known_in, line_at}
+use Rattle.rbd_world.specs.Sound.{AreStrangers, Holder, InSlot, IsDelivered, IsHeldRightly, IsLiving, IsRunning, IsSoundWorld, KeepsToItsWay, held_of, known_in, line_at}
 use Rattle.rbd_world.specs.Step.{Does, DoesAtSites, Hears, IsSoundIf}
 use Rattle.rbd_world.specs.World.{WorldView, client_in, records_in, session_of}
-use Rattle.rbd_world.proofs.Carried.{IsCarried, numbered_is}
+use Rattle.rbd_world.proofs.Carried.{IsCarried, numbered_is, whole_in}
 use Rattle.rbd_world.proofs.Changed.{GoesOnAs, client_is, client_was, clients_stay, has_become, line_is, living_on, same_or_other}
 use Rattle.rbd_world.proofs.GoesOn.{goes_carries}
 use Rattle.rbd_world.proofs.OrderedWorld.{still_in_order}
@@ -69,6 +69,9 @@ module _ {R : Type 0} (stands : R → Standing) (old new : WorldView R) (w : IsS
     sound = sound;
     know = subst (AllKnow stands knew) (sym hears.session) still.know;
     held = subst (λ (v : SessionView R). (x : ℕ) → IsHeldRightly stands (w.homes session) v.instance (Heard notice ∷ w.run) (held_in x v.slots)) (sym hears.session) still.held;
+    ways = λ x.
+        subst (λ ss. KeepsToItsWay stands (Heard notice ∷ w.run) (state_in x ss).way (running_at x d.session)) (sym hears.slots)
+        (subst (λ (v : SessionView R). KeepsToItsWay stands (Heard notice ∷ w.run) (state_in x c.slots).way (running_at x v)) (sym hears.session) (still.ways x));
   }
     where
       still : IsLiving stands (w.homes session) session (Heard notice ∷ w.run) knew c
@@ -89,11 +92,11 @@ module _ {R : Type 0} (stands : R → Standing) (old new : WorldView R) (w : IsS
   hearing_keeps due sound =
       goes_carries stands old new w (Heard notice) session c d goes there same_who (λ m l. refl) (λ m x o. refl) knew beside_now
       (λ a g apart s. (stays s).beside (w.who a) (w.who g) (w.knows a) (w.knows g) (w.beside a g apart s))
-      (where_standing w.homes w.run w.right) due (λ s. (stays s).parentless (w.parentless s)) (living_now sound) (λ m q differ is x line at. quiet_heard line notice)
+      (where_standing w.homes w.run w.right) due (λ s. (stays s).whole (whole_in stands old w s)) (living_now sound) (λ m q differ is x line at. quiet_heard line notice)
       (λ line m x other y one two. w.apart line m x other y (sym (line_same m x) ∙ one) (sym (line_same other y) ∙ two))
       (λ line begun. same_slots old.lives new.lives line_same line (w.slots line (open_back line (Heard notice) w.run (quiet_heard line notice) begun)))
       truth_now (λ m q differ is s. (stays s).clients q.session.instance (known_in w.knows m) q (w.truth m q is s))
-      (λ m x y is. still_may_come stands old new w (λ s. records_in s new.sites) stays m y _ (w.sending m x y is).1) tt (λ m q differ is other writer. refl)
+      (λ m x y is. still_may_come stands old new w (λ s. records_in s new.sites) stays m y _ (w.sending m x y is).1) tt tt (λ m q differ is other writer. refl)
       (still_in_order stands old new w (Heard notice) due session c d there hears.session (λ line before. refl) (λ other writer. refl))
 
 module _ {R : Type 0} (stands : R → Standing) where

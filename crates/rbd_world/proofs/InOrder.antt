@@ -12,6 +12,7 @@ use Rattle.rbd_kinds.specs.declared.header_op.HeaderOp.TheVariants as header
 use Rattle.rbd_kinds.specs.declared.id.SiteId.{SiteId}
 use Rattle.rbd_kinds.specs.declared.machine.Fed.{Fed}
 use Rattle.rbd_kinds.specs.declared.machine.Fed.TheVariants as fed
+use Rattle.rbd_kinds.specs.declared.map_op.MapOp.TheVariants as states
 use Rattle.rbd_kinds.specs.declared.operation.Op.{Op}
 use Rattle.rbd_kinds.specs.declared.operation.Op.TheVariants as op
 use Rattle.rbd_kinds.specs.declared.reply.Reply.{Reply}
@@ -104,6 +105,7 @@ and_false false = refl
 
 pub turn_tells_none : (site : SiteId) (image : ℕ) (turn : Option ℕ) (s : SiteId) (o : Op) (a : Answer) → IsAtTurn site image turn s o → (i : ℕ) → tells_image i o a ≡ false
 turn_tells_none site image turn s (op.Header j header.Get) a at i = refl
+turn_tells_none site image turn s (op.Map j (states.Set None n state)) a at i = refl
 turn_tells_none site image turn s (op.Data j n (data_op.Write context must parts bytes)) a at i = refl
 turn_tells_none site image turn s o a at i = absurd at
 
@@ -116,6 +118,7 @@ pub record WritesAtTurn (site : SiteId) (image : ℕ) (turn : Option ℕ) (s : S
 pub writes_at_turn : (site : SiteId) (image : ℕ) (turn : Option ℕ) (s : SiteId) (o : Op) → IsAtTurn site image turn s o → (i number : ℕ) → writes_object i number o ≡ true
     → WritesAtTurn site image turn s i number
 writes_at_turn site image turn s (op.Header j header.Get) at i number is = absurd (true≢false (sym is))
+writes_at_turn site image turn s (op.Map j (states.Set None n state)) at i number is = absurd (true≢false (sym is))
 writes_at_turn site image turn s (op.Data j n (data_op.Write context must parts bytes)) (one, two, three) i number is =
     let parts = and_parts (j == i) (n == number) is in
     record { site_is = one; image_is = sym (eqb-true j i parts.0) ∙ two; turn_is = three ∙ ap Some (eqb-true n number parts.1) }

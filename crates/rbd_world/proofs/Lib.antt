@@ -8,7 +8,9 @@ pub mod BothSites
 pub mod Carried
 pub mod Changed
 pub mod Coming
+pub mod Debts
 pub mod Elsewhere
+pub mod Exactly
 pub mod FedAlike
 pub mod FirstClients
 pub mod FoundFirst
@@ -18,6 +20,7 @@ pub mod InLine
 pub mod InOrder
 pub mod KeptAhead
 pub mod Latest
+pub mod LooksOnce
 pub mod Lost
 pub mod LostLines
 pub mod Newcomer
@@ -29,6 +32,7 @@ pub mod Operated
 pub mod Ordered
 pub mod OrderedWorld
 pub mod Orderly
+pub mod Owes
 pub mod Owned
 pub mod Parts
 pub mod Polling
@@ -50,5 +54,7 @@ pub mod Turned
 pub mod Undone
 pub mod Walks
 pub mod Wanted
+pub mod Ways
+pub mod WaysOfLines
 pub mod WritesFirst
 pub mod Writing

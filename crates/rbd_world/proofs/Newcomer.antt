@@ -1,6 +1,8 @@
 -- A client begins a command whose line is new: its request stands where the command's plan begins.
 use Rattle.std.proofs.Common.{◌≡◌, ◌≢◌, ◌⊎◌, inl, inr, ℕ, ◌==◌, Bool, cond, true, false, is_some, [], ◌∷◌, ◌++◌, Option, Some, None, refl, sym, ap, ◌∙◌, subst}
 use Rattle.std.proofs.lemmas.Bool.{true≢false, eq-eqb, eqb-true}
+use Rattle.rbd_client.specs.declared.slot_state.SlotState.{SlotState}
+use Rattle.rbd_client.specs.declared.slot_state.Way.TheVariants as way
 use Rattle.rbd_client.specs.Client.{ClientView}
 use Rattle.rbd_commands.specs.declared.command.Command.{Command}
 use Rattle.rbd_held.specs.Truth.{IsTrueOf}
@@ -21,15 +23,15 @@ use Rattle.rbd_requests.proofs.OnePlan.{has_one_plan}
 use Rattle.rbd_session.specs.declared.running.Occupant.{Occupant}
 use Rattle.rbd_session.specs.declared.running.Occupant.TheVariants as occupant
 use Rattle.rbd_session.specs.Lines.{LinesView}
-use Rattle.rbd_session.specs.Session.{IsNewcomer, held_in, running_in, script_line}
+use Rattle.rbd_session.specs.Session.{IsNewcomer, held_in, running_at, running_in, script_line}
 use Rattle.rbd_session.proofs.Sound.{no_some, some_same}
 use Rattle.rbd_world.specs.declared.event.Event.TheVariants as event
 use Rattle.rbd_world.specs.Order.{IsInOrder}
-use Rattle.rbd_world.specs.Run.{Asked, Happening, Began, asked_by, steps_of}
-use Rattle.rbd_world.specs.Sound.{AreApart, InSlot, Sending, IsBegin, IsHeldRightly, IsInSlot, IsLiving, IsOpen, IsSoundWorld, has_ended, held_of, known_in, line_at}
+use Rattle.rbd_world.specs.Run.{Asked, Happening, Began, asked_by, steps_of, way_of}
+use Rattle.rbd_world.specs.Sound.{AreApart, InSlot, Sending, IsBegin, IsHeldRightly, IsInSlot, IsLiving, IsOpen, IsSoundWorld, KeepsToItsWay, has_ended, held_of, known_in, line_at}
 use Rattle.rbd_world.specs.Step.{Begins, BeginsIn, Does, DoesAtSites, IsSoundIf, begins_of, is_begun, quiescing_of}
 use Rattle.rbd_world.specs.World.{WorldView, client_in, records_in, session_of}
-use Rattle.rbd_world.proofs.Carried.{IsCarried}
+use Rattle.rbd_world.proofs.Carried.{IsCarried, whole_in}
 use Rattle.rbd_world.proofs.Changed.{GoesOnAs, IsElsewhere, all_but, client_is, has_become, here_or_elsewhere, line_elsewhere, line_is, living_of, open_there}
 use Rattle.rbd_world.proofs.GoesOn.{goes_carries}
 use Rattle.rbd_world.proofs.OneMoreWrite.{begun_order}
@@ -125,6 +127,12 @@ module _ {R : Type 0} (stands : R → Standing) (old new : WorldView R) (w : IsS
         calm = λ looks. (look_is_calm home command (stands r.request) looks begins.stands_there, begins.place);
       }
 
+  -- its way isn't begun
+  begins_no_way : (o : Option (Occupant R)) → IsNew o → KeepsToItsWay stands (does_begin ∷ w.run) way.Unbegun (running_in o)
+  begins_no_way None is = tt
+  begins_no_way (Some (occupant.Refused number refusal)) is = tt
+  begins_no_way (Some (occupant.Running r)) begins = inl (ap (λ l. way_of l (does_begin ∷ w.run)) begins.is_line ∙ ap (λ xs. xs ++ []) unknown.way)
+
   knows_in : (lines : LinesView) (o : Option (Occupant R)) → IsNew o → KnowsIn stands lowest (running_in o) lines (knew lowest)
   knows_in lines None is = absurd is
   knows_in lines (Some (occupant.Refused number refusal)) is = knows_nothing
@@ -202,16 +210,17 @@ module _ {R : Type 0} (stands : R → Standing) (old new : WorldView R) (w : IsS
         (λ g x apart s. (stays s).beside me (w.who g) (knew x) (w.knows g)
         (subst (λ i. AreBeside s (records_in s old.sites) i (w.who g) (knew x) (w.knows g)) (w.in_slots session x c there) (w.beside (InSlot session x) g apart s)))
         (λ a g apart s. (stays s).beside (w.who a) (w.who g) (w.knows a) (w.knows g) (w.beside a g apart s))
-        (where_standing w.homes w.run w.right) due (λ s. (stays s).parentless (w.parentless s))
-        (living_of stands home session does_begin w.run (λ m l. refl) knew knew lowest c d living begins.slots begins.client (λ x other apart is. quiet x other is)
-        (subst (IsSoundIf stands) (client_is old new session c d goes) (sound session)) all (holds_rightly (held_in lowest d.session.slots) is_new))
+        (where_standing w.homes w.run w.right) due (λ s. (stays s).whole (whole_in stands old w s))
+        (living_of stands home session does_begin w.run (λ m l. refl) knew knew lowest c d living begins.slots became.states begins.client (λ x other apart is. quiet x other is)
+        (subst (IsSoundIf stands) (client_is old new session c d goes) (sound session)) all (holds_rightly (held_in lowest d.session.slots) is_new)
+        (subst (λ (s : SlotState). KeepsToItsWay stands (does_begin ∷ w.run) s.way (running_at lowest d.session)) (sym became.state) (begins_no_way (held_in lowest d.session.slots) is_new)))
         quiet_others begun_apart (λ l now. slots_then l now (line == l) refl)
         (λ s. (stays s).clients d.session.instance knew d
         (subst (λ i. IsTrueOf s (records_in s old.sites) i knew d) (sym begins.client.instance)
         (submitted_is_true s (records_in s old.sites) me knew c d (w.truth session c there s) lowest (quiescing_of command) became.state became.states became.house.locks)))
         (λ m q apart is s. (stays s).clients q.session.instance (known_in w.knows m) q (w.truth m q is s))
         (λ m x y is. still_may_come stands old new w (λ s. records_in s new.sites) stays m y (w.knows (Sending m x)) ((w.sending m x y is).1))
-        tt (λ m q apart is other writer. refl)
+        tt tt (λ m q apart is other writer. refl)
         (subst (λ i. IsInOrder stands home i (does_begin ∷ w.run) d.session) (sym begins.client.instance)
         (order_then (held_in lowest d.session.slots) refl is_new
         (order_beside stands old new w does_begin due home me lowest c.session (λ x other apart is. quiet x other is) (ap running_in living.sound.session.lowest.free) (λ other writer. refl)

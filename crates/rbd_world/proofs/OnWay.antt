@@ -1,40 +1,45 @@
 -- A poll that has an operation done on a request's way to the lock of its image keeps a world sound.
-use Rattle.std.proofs.Common.{◌≡◌, ◌≢◌, inl, inr, ℕ, ◌==◌, ◌||◌, Bool, true, false, ◌∷◌, Option, Some, None, IsSome, refl, sym, ap, ◌∙◌, subst}
+use Rattle.std.proofs.Common.{◌≡◌, ◌≢◌, inl, inr, ℕ, ◌==◌, ◌||◌, Bool, true, false, cond, [], ◌∷◌, ◌++◌, Option, Some, None, IsSome, refl, sym, ap, ◌∙◌, subst}
 use Rattle.std.proofs.lemmas.Bool.{true≢false, eq-eqb, eqb-true}
 use Rattle.std.proofs.lemmas.List.{append-nil}
 use Rattle.rbd_client.specs.declared.actor.Actor.TheVariants as actor
 use Rattle.rbd_client.specs.Actor.{actor_at, op_by, op_wanted}
-use Rattle.rbd_client.specs.Client.{ClientView}
-use Rattle.rbd_client.specs.Feeding.{GoesItsWay, IsFedBy, WayIsFed}
+use Rattle.rbd_client.specs.Client.{ClientView, state_in}
+use Rattle.rbd_client.specs.Feeding.{GoesItsWay, IsFedBy, WayComesTo, WayIsFed}
+use Rattle.rbd_client.specs.Sound.{WaitsForLook}
 use Rattle.rbd_client.proofs.OnWay.{way_waits}
 use Rattle.rbd_kinds.specs.declared.answer.Answer.{Answer}
 use Rattle.rbd_kinds.specs.declared.id.Instance.{Instance}
 use Rattle.rbd_kinds.specs.declared.id.SiteId.{SiteId}
 use Rattle.rbd_kinds.specs.declared.machine.Fed.TheVariants as fed
 use Rattle.rbd_kinds.specs.declared.reply.Reply.{Reply}
-use Rattle.rbd_machine.specs.Answers.{CanGive}
-use Rattle.rbd_machine.specs.Plan.{Standing}
-use Rattle.rbd_owner.specs.Acquire.{op_of}
+use Rattle.rbd_kinds.specs.declared.reply.Reply.TheVariants as reply
+use Rattle.rbd_machine.specs.Plan.{Return, Standing}
+use Rattle.rbd_machine.specs.Refused.{IsGiven}
+use Rattle.rbd_owner.specs.Acquire.{op_of, rest_of_acquire}
 use Rattle.rbd_owner.specs.declared.acquire.Acquire.{Acquire}
 use Rattle.rbd_session.specs.declared.running.Occupant.TheVariants as occupant
 use Rattle.rbd_session.specs.declared.running.Running.{Running}
-use Rattle.rbd_session.specs.Session.{SessionView, held_in, running_at, running_in, script_line}
+use Rattle.rbd_session.specs.Session.{SessionView, held_in, is_look_at, kind_asked, running_at, running_in, script_line}
 use Rattle.rbd_session.proofs.Sound.{no_some, some_same}
 use Rattle.rbd_site.specs.Step.{answer_to}
 use Rattle.rbd_world.specs.declared.event.Event.TheVariants as event
 use Rattle.rbd_world.specs.Order.{IsInOrder}
-use Rattle.rbd_world.specs.Run.{Asked, OnWay, Happening, Did, Operation, asked_by, ends, steps_of}
-use Rattle.rbd_world.specs.Sound.{IsDone, IsDue, IsHeldRightly, IsInSlot, IsLiving, IsOpen, IsSoundWorld, IsUnderWay, has_ended, held_of, known_in}
+use Rattle.rbd_world.specs.Run.{Asked, OnWay, Happening, Did, Operation, asked_by, ends, step_of, steps_of, way_of}
+use Rattle.rbd_world.specs.Sound.{IsDone, IsDue, IsHeldRightly, IsInSlot, IsLedTo, IsLiving, IsOpen, IsSoundWorld, IsUnderWay, KeepsToItsWay, StandsAtLook, has_ended, held_of, known_in}
 use Rattle.rbd_world.specs.Step.{Does, DoesAtSites, Goes, IsSoundIf, operation_at, reply_on_way}
+use Rattle.rbd_world.specs.Ways.{GoesWith, IsWayThere}
 use Rattle.rbd_world.specs.World.{WorldView, client_in, records_in, session_of, site_in}
-use Rattle.rbd_world.proofs.Acting.{all_know, beside_now, beside_of_others, can, done_so, knows_now, parentless, sending_now, standing, truth_now, truth_of_others}
+use Rattle.rbd_world.proofs.Acting.{all_know, beside_now, beside_of_others, can, done_so, knows_now, sending_now, standing, truth_now, truth_of_others, whole}
 use Rattle.rbd_world.proofs.Carried.{IsCarried}
 use Rattle.rbd_world.proofs.Changed.{GoesOnAs, apart_of, client_is, has_become, line_apart, living_of}
 use Rattle.rbd_world.proofs.GoesOn.{goes_carries}
 use Rattle.rbd_world.proofs.OrderedWorld.{given_up_order, no_turn, still_in_order}
+use Rattle.rbd_world.proofs.Owes.{plain_owes, way_plain}
 use Rattle.rbd_world.proofs.Quiet.{IsQuiet, quiet_did, underway_still}
 use Rattle.rbd_world.proofs.RefusedOnWay.{refused_on_way}
 use Rattle.rbd_world.proofs.Slots.{in_this_slot, not_open, open_back, other_slots}
+use Rattle.rbd_world.proofs.Ways.{asks_next, way_acts, way_goes_on, way_refused}
 
 module _ {R : Type 0} (stands : R → Standing) (old new : WorldView R) (w : IsSoundWorld stands old) (session slot : ℕ) (c : ClientView R) (there : client_in session old.lives ≡ Some c)
     (r : Running R) (holds : held_in slot c.session.slots ≡ Some (occupant.Running r)) (a : Acquire) (acts : actor_at stands slot c ≡ actor.Way a) where
@@ -68,6 +73,12 @@ module _ {R : Type 0} (stands : R → Standing) (old new : WorldView R) (w : IsS
   way : IsUnderWay stands home me w.run r
   way = subst (IsHeldRightly stands home me w.run) holds (living.held slot)
 
+  -- its way stands where it acts
+  stands_there : IsWayThere a.site a.image (way_of r.line w.run) (rest_of_acquire a (Return reply.Done))
+  stands_there =
+      way_acts stands slot c living.sound r runs (way_of r.line w.run)
+      (subst (KeepsToItsWay stands w.run (state_in slot c.slots).way) runs (living.ways slot)) a acts
+
   -- its line is the instance's
   is_mine : (asked : Asked) → asked_by r.line w.run ≡ Some asked → asked.who ≡ me
   is_mine asked is = ap (λ (x : Asked). x.who) (some_same asked way.begun.asked (sym is ∙ way.begun.is)) ∙ way.mine
@@ -90,22 +101,38 @@ module _ {R : Type 0} (stands : R → Standing) (old new : WorldView R) (w : IsS
     sound_then : IsSoundIf stands (Some d)
     sound_then = subst (IsSoundIf stands) (client_is old new session c d goes_on) (sound session)
 
-    can_give : CanGive (op_of a) told
+    can_give : IsGiven (op_of a) told
     can_give = can stands old new w session slot c there a.site (op_of a) wanted (OnWay r.line) result d became at_sites sound_then
 
     -- ---- its line goes on, or is refused
 
+    -- it stands at its own look
+    at_look : StandsAtLook w.homes r.line a.site w.run
+    at_look = record {
+      begun = way.begun;
+      plan = (stands r.request).plan;
+      led =
+          subst (λ i. IsLedTo (w.homes i) way.begun.asked.command (steps_of r.line w.run) (stands r.request).plan) (sym (ap (λ (i : Instance). i.session) way.mine ∙ living.whose))
+          (record { start = way.start; plan = way.plan; feds = way.feds; walk = way.walk; given = way.given });
+      wants = subst (λ (q : Running R). is_look_at a.site (kind_asked (stands q.request).plan) ≡ true) (some_same waiting.request r (sym waiting.runs ∙ runs)) waiting.wants;
+    }
+      where
+        waiting : WaitsForLook stands slot a.site a.image c.session
+        waiting = way_waits stands slot c a living.sound acts
+
     done_there : IsDone operation w.run
     done_there = done_so stands old new w session slot c there a.site (op_of a) wanted (OnWay r.line) result d became at_sites sound_then (λ asked is. sym (is_mine asked is))
+        (asks_next a (way_of r.line w.run) stands_there)
 
     due : IsDue w.homes does_it w.run
     due = by result refl
       where
         by : (x : Option Reply) → result ≡ x → IsDue w.homes (Did operation x) w.run
-        by None is = (done_there, way.begun)
+        by None is = (done_there, at_look)
         by (Some reply) is = (
           done_there,
-          refused_on_way stands w.homes session slot w.run me living.whose c.session r runs way a (way_waits stands slot c a living.sound acts) operation refl can_give reply is,
+          refused_on_way stands w.homes session slot w.run me living.whose c.session r runs way a (way_waits stands slot c a living.sound acts) operation refl can_give.can reply is
+              (way_refused a (way_of r.line w.run) stands_there told reply (subst (λ x. WayComesTo a (fed.Answer told) x (state_in slot d.slots).way) is is_fed.comes).1),
         )
 
     -- ---- what its slot holds
@@ -118,6 +145,19 @@ module _ {R : Type 0} (stands : R → Standing) (old new : WorldView R) (w : IsS
         (record { asked = way.begun.asked; is = way.begun.is; unended = ap (λ x. ends r.line (Did operation x) || has_ended r.line w.run) is ∙ way.begun.unended })
         (append-nil (steps_of r.line w.run)) way refl)
 
+    -- and its way goes on with it
+    steps_now : way_of r.line (does_it ∷ w.run) ≡ way_of r.line w.run ++ step_of operation ∷ []
+    steps_now = ap (λ b. way_of r.line w.run ++ cond b (step_of operation ∷ []) []) (eq-eqb r.line r.line refl)
+
+    still_on_way : (x : Option Reply) → result ≡ x → GoesItsWay slot x c.session d.session → KeepsToItsWay stands (does_it ∷ w.run) (state_in slot d.slots).way (running_at slot d.session)
+    still_on_way (Some reply) is gives_up =
+        subst (λ o. KeepsToItsWay stands (does_it ∷ w.run) (state_in slot d.slots).way (running_in o)) (sym (gives_up.free (subst IsSome (sym runs) refl))) tt
+    still_on_way None is same =
+        subst (λ o. KeepsToItsWay stands (does_it ∷ w.run) (state_in slot d.slots).way o) (sym (ap (λ (s : SessionView R). running_at slot s) same ∙ runs))
+        (subst (GoesWith (stands r.request).plan (state_in slot d.slots).way) (sym steps_now)
+        (way_goes_on a (way_of r.line w.run) stands_there told (stands r.request).plan (state_in slot d.slots).way
+        (subst (λ x. WayComesTo a (fed.Answer told) x (state_in slot d.slots).way) is is_fed.comes)))
+
     line_stays : (x : Option Reply) → GoesItsWay slot x c.session d.session → x ≡ None → script_line (held_in slot d.session.slots) ≡ Some r.line
     line_stays None same none = ap (λ (s : SessionView R). script_line (held_in slot s.slots)) same ∙ ap script_line holds
     line_stays (Some reply) gives_up none = absurd (no_some reply (sym none))
@@ -129,8 +169,8 @@ module _ {R : Type 0} (stands : R → Standing) (old new : WorldView R) (w : IsS
     living_then : IsLiving stands home session (does_it ∷ w.run) (knows_now stands old new w session slot c there a.site (op_of a) wanted (OnWay r.line) result d became at_sites sound_then) d
     living_then =
         living_of stands home session does_it w.run (λ m l. refl) (known_in w.knows session)
-        (knows_now stands old new w session slot c there a.site (op_of a) wanted (OnWay r.line) result d became at_sites sound_then) slot c d living became.slots became.client quiet
-        sound_then (all_know stands old new w session slot c there a.site (op_of a) wanted (OnWay r.line) result d became at_sites sound_then) (still_held result refl is_fed.session)
+        (knows_now stands old new w session slot c there a.site (op_of a) wanted (OnWay r.line) result d became at_sites sound_then) slot c d living became.slots became.states became.client quiet
+        sound_then (all_know stands old new w session slot c there a.site (op_of a) wanted (OnWay r.line) result d became at_sites sound_then) (still_held result refl is_fed.session) (still_on_way result refl is_fed.session)
 
     -- its line stays in its slot, unless it has its reply
     slots_then : (l : ℕ) → IsOpen l (does_it ∷ w.run) → (b : Bool) → (r.line == l) ≡ b → IsInSlot l new.lives
@@ -159,13 +199,13 @@ module _ {R : Type 0} (stands : R → Standing) (old new : WorldView R) (w : IsS
         (beside_now stands old new w session slot c there a.site (op_of a) wanted (OnWay r.line) result d became at_sites sound_then)
         (beside_of_others stands old new w session slot c there a.site (op_of a) wanted (OnWay r.line) result d became at_sites sound_then)
         (standing stands old new w session slot c there a.site (op_of a) wanted (OnWay r.line) result d became at_sites sound_then) due
-        (parentless stands old new w session slot c there a.site (op_of a) wanted (OnWay r.line) result d became at_sites sound_then)
+        (whole stands old new w session slot c there a.site (op_of a) wanted (OnWay r.line) result d became at_sites sound_then)
         living_then quiet_others (apart_of old new session c d goes_on slot became.slots w.apart (line_was result is_fed.session))
         (λ l now. slots_then l now (r.line == l) refl)
         (truth_now stands old new w session slot c there a.site (op_of a) wanted (OnWay r.line) result d became at_sites sound_then)
         (truth_of_others stands old new w session slot c there a.site (op_of a) wanted (OnWay r.line) result d became at_sites sound_then)
         (sending_now stands old new w session slot c there a.site (op_of a) wanted (OnWay r.line) result d became at_sites sound_then)
-        (no_turn operation result w.run (λ line. refl)) (λ m q apart is other writer. refl) (order result is_fed.session)
+        (λ calm. plain_owes operation result w.run refl (way_plain a)) (no_turn operation result w.run (λ line. refl)) (λ m q apart is other writer. refl) (order result is_fed.session)
 
   pub way_keeps : Does stands (event.Poll session slot) does_it old new → DoesAtSites does_it old.sites new.sites → ((m : ℕ) → IsSoundIf stands (client_in m new.lives)) → IsCarried stands old new w does_it
   way_keeps does at_sites sound =

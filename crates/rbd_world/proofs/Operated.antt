@@ -1,24 +1,28 @@
 -- A poll that has an operation of a request itself done keeps a world sound.
-use Rattle.std.proofs.Common.{◌≡◌, ◌≢◌, inl, inr, ℕ, ◌==◌, ◌||◌, Bool, cond, true, false, [], ◌∷◌, Option, Some, None, refl, sym, ap, ◌∙◌, subst}
+use Rattle.std.proofs.Common.{◌≡◌, ◌≢◌, inl, inr, ℕ, ◌==◌, ◌||◌, Bool, cond, true, false, List, [], ◌∷◌, ◌++◌, is_some, Option, Some, None, refl, sym, ap, ◌∙◌, subst}
 use Rattle.std.proofs.lemmas.Bool.{true≢false, eq-eqb, eqb-true}
+use Rattle.std.proofs.lemmas.List.{append-nil}
 use Rattle.rbd_client.specs.declared.actor.Actor.TheVariants as actor
 use Rattle.rbd_client.specs.Actor.{actor_at, op_by, op_wanted}
-use Rattle.rbd_client.specs.Client.{ClientView}
-use Rattle.rbd_client.specs.Feeding.{IsFedBy, RequestIsFed}
+use Rattle.rbd_client.specs.declared.slot_state.SlotState.{SlotState}
+use Rattle.rbd_client.specs.Client.{ClientView, state_in}
+use Rattle.rbd_client.specs.Feeding.{IsFedBy, RequestIsFed, state_behind}
 use Rattle.rbd_kinds.specs.declared.answer.Answer.{Answer}
 use Rattle.rbd_kinds.specs.declared.id.Instance.{Instance}
 use Rattle.rbd_kinds.specs.declared.id.SiteId.{SiteId}
 use Rattle.rbd_kinds.specs.declared.machine.Fed.TheVariants as fed
 use Rattle.rbd_kinds.specs.declared.operation.Op.{Op}
 use Rattle.rbd_kinds.specs.declared.reply.Reply.{Reply}
-use Rattle.rbd_machine.specs.Answers.{CanGive}
-use Rattle.rbd_machine.specs.Path.{at_operation}
-use Rattle.rbd_machine.specs.Plan.{Plan, Ask, Standing}
+use Rattle.rbd_machine.specs.Answers.{CanBeFed}
+use Rattle.rbd_machine.specs.Path.{Answered, at_operation}
+use Rattle.rbd_machine.specs.Plan.{Plan, Ask, Standing, plan_after}
+use Rattle.rbd_machine.specs.Refused.{IsGiven}
 use Rattle.rbd_machine.specs.declared.reason.Reason.{Reason}
+use Rattle.rbd_session.specs.declared.running.Occupant.{Occupant}
 use Rattle.rbd_session.specs.declared.running.Occupant.TheVariants as occupant
 use Rattle.rbd_session.specs.declared.running.Running.{Running}
 use Rattle.rbd_session.specs.Advance.{track_of}
-use Rattle.rbd_session.specs.Session.{ComesToIn, OfRunning, going_in, held_in, of_going, op_asked, running_at, running_in, script_line}
+use Rattle.rbd_session.specs.Session.{ComesToIn, OfRunning, going_in, held_in, of_going, op_asked, own_look_at, running_at, running_in, script_line}
 use Rattle.rbd_session.specs.Waits.{waits}
 use Rattle.rbd_session.proofs.Sound.{some_same}
 use Rattle.rbd_site.specs.declared.done.DoneOp.TheVariants as done
@@ -26,20 +30,23 @@ use Rattle.rbd_site.specs.Step.{answer_to}
 use Rattle.rbd_stands.specs.Effect.{effect_of}
 use Rattle.rbd_world.specs.declared.event.Event.TheVariants as event
 use Rattle.rbd_world.specs.Order.{IsInOrder, IsWriterOf}
-use Rattle.rbd_world.specs.Run.{Asked, Itself, Happening, Did, Operation, asked_by, replies_to, step_of, steps_in}
-use Rattle.rbd_world.specs.Sound.{IsDue, IsHeldRightly, IsInSlot, IsLiving, IsOpen, IsSoundWorld, IsUnderWay, held_of, known_in}
+use Rattle.rbd_world.specs.Run.{Asked, Itself, Happening, Did, Operation, asked_by, replies_to, step_of, steps_in, way_of}
+use Rattle.rbd_world.specs.Sound.{IsDue, IsHeldRightly, IsInSlot, IsLiving, IsOpen, IsSoundWorld, IsUnderWay, KeepsToItsWay, held_of, known_in}
 use Rattle.rbd_world.specs.Step.{Does, DoesAtSites, Goes, IsSoundIf, next_number, operation_at, reply_at}
+use Rattle.rbd_world.specs.Ways.{GoesWith}
 use Rattle.rbd_world.specs.World.{WorldView, client_in, records_in, session_of, site_in}
-use Rattle.rbd_world.proofs.Acting.{all_know, beside_now, beside_of_others, can, done_so, knows_now, parentless, sending_now, standing, truth_now, truth_of_others}
-use Rattle.rbd_world.proofs.Answered.{answer_due, answer_held, answer_line}
+use Rattle.rbd_world.proofs.Acting.{all_know, beside_now, beside_of_others, can, done_so, knows_now, sending_now, standing, truth_now, truth_of_others, whole}
+use Rattle.rbd_world.proofs.Answered.{answer_due, answer_held, answer_line, went_on}
 use Rattle.rbd_world.proofs.Carried.{IsCarried}
 use Rattle.rbd_world.proofs.Changed.{GoesOnAs, apart_of, client_is, has_become, line_apart, living_of}
 use Rattle.rbd_world.proofs.GoesOn.{goes_carries}
 use Rattle.rbd_world.proofs.InOrder.{came, line_stays}
 use Rattle.rbd_world.proofs.Ordered.{did_order, in_turn}
 use Rattle.rbd_world.proofs.OrderedWorld.{running_line}
+use Rattle.rbd_world.proofs.Owes.{own_owes}
 use Rattle.rbd_world.proofs.Quiet.{IsQuiet, lines_differ, quiet_did}
 use Rattle.rbd_world.proofs.Slots.{in_this_slot, not_open, open_back, other_slots}
+use Rattle.rbd_world.proofs.Ways.{goes_on_itself, way_is_over}
 
 module _ {R : Type 0} (stands : R → Standing) (old new : WorldView R) (w : IsSoundWorld stands old) (session slot : ℕ) (c : ClientView R) (there : client_in session old.lives ≡ Some c)
     (r : Running R) (holds : held_in slot c.session.slots ≡ Some (occupant.Running r)) (acts : actor_at stands slot c ≡ actor.Request) (goes : waits slot (track_of r c.session.lines) ≡ false)
@@ -76,6 +83,10 @@ module _ {R : Type 0} (stands : R → Standing) (old new : WorldView R) (w : IsS
   way : IsUnderWay stands home me w.run r
   way = subst (IsHeldRightly stands home me w.run) holds (living.held slot)
 
+  -- its way goes with its slot's state
+  keeps : GoesWith (stands r.request).plan (state_in slot c.slots).way (way_of r.line w.run)
+  keeps = subst (KeepsToItsWay stands w.run (state_in slot c.slots).way) runs (living.ways slot)
+
   -- its line is the instance's
   is_mine : (asked : Asked) → asked_by r.line w.run ≡ Some asked → asked.who ≡ me
   is_mine asked is = ap (λ (x : Asked). x.who) (some_same asked way.begun.asked (sym is ∙ way.begun.is)) ∙ way.mine
@@ -101,21 +112,39 @@ module _ {R : Type 0} (stands : R → Standing) (old new : WorldView R) (w : IsS
     sound_then : IsSoundIf stands (Some d)
     sound_then = subst (IsSoundIf stands) (client_is old new session c d goes_on) (sound session)
 
-    can_give : CanGive o a
+    can_give : IsGiven o a
     can_give = can stands old new w session slot c there s o wanted (Itself r.line) result d became at_sites sound_then
 
     due : IsDue w.homes does_it w.run
     due =
         answer_due stands w.homes session slot w.run me living.whose r way s why o next asks a can_give (next_number (site_in s old.sites)) (effect_of (records_in s old.sites) (done.Op o) a)
-        (done_so stands old new w session slot c there s o wanted (Itself r.line) result d became at_sites sound_then (λ asked is. sym (is_mine asked is)))
+        (done_so stands old new w session slot c there s o wanted (Itself r.line) result d became at_sites sound_then (λ asked is. sym (is_mine asked is))
+        (way_is_over stands slot c living.sound r runs (way_of r.line w.run) keeps acts))
+
+    -- its way isn't begun, or over, and it is past its own look then
+    still_over : (n : Option (Occupant R)) → ComesToIn stands slot c.session.lines (fed.Answer a) result r n d.session.lines
+        → KeepsToItsWay stands (does_it ∷ w.run) (state_in slot d.slots).way (running_in n)
+    still_over None behind = tt
+    still_over (Some (occupant.Refused line refusal)) behind = absurd behind
+    still_over (Some (occupant.Running q)) behind =
+        let on = went_on stands slot (stands r.request).labels _ _ result r q d.session.lines behind.0 behind.1 in
+        subst (λ (p : Plan). GoesWith p (state_in slot d.slots).way (way_of q.line w.run ++ []))
+        (ap (λ p. at_operation (stands r.request).labels (plan_after p (fed.Answer a))) (sym asks) ∙ sym (ap (λ (st : Standing). st.plan) on.stand))
+        (subst (λ (xs : List Answered). GoesWith (at_operation (stands r.request).labels (next a)) (state_in slot d.slots).way xs)
+        (sym (append-nil (way_of r.line w.run)) ∙ ap (λ l. way_of l w.run ++ []) (sym on.line))
+        (subst (λ (s : SlotState). GoesWith (at_operation (stands r.request).labels (next a)) s.way (way_of r.line w.run))
+        (sym (is_fed.state ∙ ap (λ x. state_behind (is_some x) (is_some (own_look_at stands slot c.session)) (state_in slot c.slots)) behind.0))
+        (goes_on_itself stands slot c living.sound r runs home me w.run way a (subst (λ p. CanBeFed p (fed.Answer a)) (sym asks) can_give.can) (way_of r.line w.run) keeps acts
+        (subst (OfRunning (λ q. waits slot (track_of q c.session.lines) ≡ false)) (sym holds) goes) s why o next asks (stands r.request).labels)))
 
     living_then : IsLiving stands home session (does_it ∷ w.run) (knows_now stands old new w session slot c there s o wanted (Itself r.line) result d became at_sites sound_then) d
     living_then =
         living_of stands home session does_it w.run (λ m l. refl) (known_in w.knows session)
-        (knows_now stands old new w session slot c there s o wanted (Itself r.line) result d became at_sites sound_then) slot c d living became.slots became.client quiet
+        (knows_now stands old new w session slot c there s o wanted (Itself r.line) result d became at_sites sound_then) slot c d living became.slots became.states became.client quiet
         sound_then (all_know stands old new w session slot c there s o wanted (Itself r.line) result d became at_sites sound_then)
         (answer_held stands w.homes session slot w.run me living.whose r way s why o next asks a can_give (next_number (site_in s old.sites)) (effect_of (records_in s old.sites) (done.Op o) a)
         result c.session.lines d.session.lines (held_in slot d.session.slots) comes)
+        (still_over (held_in slot d.session.slots) comes)
 
     -- its line stays in its slot, unless it has its reply
     slots_then : (l : ℕ) → IsOpen l (does_it ∷ w.run) → (b : Bool) → (r.line == l) ≡ b → IsInSlot l new.lives
@@ -158,7 +187,7 @@ module _ {R : Type 0} (stands : R → Standing) (old new : WorldView R) (w : IsS
         (beside_now stands old new w session slot c there s o wanted (Itself r.line) result d became at_sites sound_then)
         (beside_of_others stands old new w session slot c there s o wanted (Itself r.line) result d became at_sites sound_then)
         (standing stands old new w session slot c there s o wanted (Itself r.line) result d became at_sites sound_then) due
-        (parentless stands old new w session slot c there s o wanted (Itself r.line) result d became at_sites sound_then)
+        (whole stands old new w session slot c there s o wanted (Itself r.line) result d became at_sites sound_then)
         living_then quiet_others
         (apart_of old new session c d goes_on slot became.slots w.apart
         (λ line is. ap script_line holds ∙ ap Some
@@ -168,6 +197,7 @@ module _ {R : Type 0} (stands : R → Standing) (old new : WorldView R) (w : IsS
         (truth_now stands old new w session slot c there s o wanted (Itself r.line) result d became at_sites sound_then)
         (truth_of_others stands old new w session slot c there s o wanted (Itself r.line) result d became at_sites sound_then)
         (sending_now stands old new w session slot c there s o wanted (Itself r.line) result d became at_sites sound_then)
+        (λ calm. own_owes stands old w calm.1 session slot c there r holds s why o next asks result can_give)
         (in_turn stands w.homes home me slot w.run c.session d.session r runs living.sound.session goes s why o next asks a result (next_number (site_in s old.sites))
         (effect_of (records_in s old.sites) (done.Op o) a) w.order (w.in_order session c there) is_mine)
         foreign order

@@ -1,5 +1,5 @@
 -- What is permitted by true knowledge is the owner's, and breaks no lock but that of a fenced owner.
-use Rattle.std.proofs.Common.{◌≡◌, ℕ, ◌==◌, ◌&&◌, cond, Bool, true, false, refl, sym, ap, subst}
+use Rattle.std.proofs.Common.{◌≡◌, ℕ, ◌==◌, ◌&&◌, cond, Bool, true, false, Some, None, refl, sym, ap, subst}
 use Rattle.std.specs.Prelude.{IsSome, IsTrue, IsFalse}
 use Rattle.std.proofs.lemmas.Bool.{true≢false, and_parts, eqb-true}
 use Rattle.rbd_kinds.specs.declared.answer.Answer.TheVariants as answer
@@ -10,15 +10,17 @@ use Rattle.rbd_kinds.specs.declared.header_op.HeaderOp.{HeaderOp}
 use Rattle.rbd_kinds.specs.declared.header_op.HeaderOp.TheVariants as header
 use Rattle.rbd_kinds.specs.declared.id.Instance.{Instance}
 use Rattle.rbd_kinds.specs.declared.id.SiteId.{SiteId}
+use Rattle.rbd_kinds.specs.declared.map_op.MapOp.{MapOp}
+use Rattle.rbd_kinds.specs.declared.map_op.MapOp.TheVariants as states
 use Rattle.rbd_kinds.specs.declared.operation.Op.{Op}
 use Rattle.rbd_kinds.specs.declared.operation.Op.TheVariants as op
 use Rattle.rbd_machine.specs.Knowledge.{Knowledge}
-use Rattle.rbd_machine.specs.Permits.{OwnsBy, Permits, PermitsOnHeader, PermitsOnObject}
+use Rattle.rbd_machine.specs.Permits.{OwnsBy, Permits, PermitsOnHeader, PermitsOnMap, PermitsOnObject}
 use Rattle.rbd_rely.specs.Locks.{KnowsByLock}
 use Rattle.rbd_rely.specs.Truth.{IsTrueAt, header_of_own}
 use Rattle.rbd_site.specs.Records.{Records}
 use Rattle.rbd_site.specs.Step.{answer_served, answer_to, is_fenced}
-use Rattle.rbd_stands.specs.Owned.{HasLock, IsOwnedStep, IsOwner, changes_data, changes_header, changes_image, was_done}
+use Rattle.rbd_stands.specs.Owned.{HasLock, IsOwnedStep, IsOwner, changes_data, changes_header, changes_image, changes_map, was_done}
 
 -- who has the lock is the owner
 is_owner : (r : Records) (me : Instance) (image : ℕ) → HasLock image me r → IsOwner (r.headers image) me
@@ -59,9 +61,20 @@ module _ (site : SiteId) (r : Records) (me : Instance) (k : Knowledge) (t : IsTr
   of_object i number image (object.Read snap parts) permits is free = absurd (true≢false (sym (and_parts (image == i) false is).1))
   of_object i number image _ permits is free = absurd permits
 
+  -- A map is made of an image that has no header yet, and so no owner.
+  of_map : (i image : ℕ) (o : MapOp) → PermitsOnMap k site i o → IsTrue ((image == i) && changes_map o) → IsFalse (is_fenced r me) → IsOwner (r.headers image) me
+  of_map i image (states.Resize count) permits is free =
+      subst (λ n. IsOwner (r.headers n) me) (same_image i image true is) (subst (λ h. IsOwner h me) (sym (t.drawn i permits.drawn).header) tt)
+  of_map i image (states.Get view) permits is free = absurd (true≢false (sym (and_parts (image == i) false is).1))
+  of_map i image (states.Put (Some snap) bits) permits is free = subst (λ n. IsOwner (r.headers n) me) (same_image i image true is) (owns i _ permits free)
+  of_map i image (states.Set None number state) permits is free = subst (λ n. IsOwner (r.headers n) me) (same_image i image true is) (owns i _ permits free)
+  of_map i image (states.Remove (Some snap)) permits is free = subst (λ n. IsOwner (r.headers n) me) (same_image i image true is) (owns i _ permits free)
+  of_map i image _ permits is free = absurd permits
+
   of_change : (image : ℕ) (o : Op) → Permits k site o → IsTrue (changes_image image o) → IsFalse (is_fenced r me) → IsOwner (r.headers image) me
   of_change image (op.Header i o) permits is free = of_header i image o permits is free
   of_change image (op.Data i number o) permits is free = of_object i number image o permits is free
+  of_change image (op.Map i o) permits is free = of_map i image o permits is free
   of_change image (op.Directory o) permits is free = absurd (true≢false (sym is))
   of_change image (op.BlockAdd instance) permits is free = absurd (true≢false (sym is))
   of_change image _ permits is free = absurd permits

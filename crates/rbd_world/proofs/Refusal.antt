@@ -1,7 +1,7 @@
 -- A poll of a request that is refused before any operation: its reply is meant, and its slot free.
 use Rattle.std.proofs.Common.{◌≡◌, ◌≢◌, inl, inr, ℕ, ◌==◌, ◌||◌, Bool, true, false, [], ◌∷◌, ◌++◌, Some, refl, sym, ap, ◌∙◌, subst}
 use Rattle.std.proofs.lemmas.Bool.{true≢false, eq-eqb}
-use Rattle.rbd_client.specs.Client.{ClientView}
+use Rattle.rbd_client.specs.Client.{ClientView, state_in}
 use Rattle.rbd_commands.specs.declared.refusal.Refusal.{Refusal}
 use Rattle.rbd_held.specs.Truth.{IsTrueOf}
 use Rattle.rbd_held.proofs.Calls.{freed_is_true}
@@ -20,10 +20,10 @@ use Rattle.rbd_session.proofs.Sound.{no_some, some_same}
 use Rattle.rbd_world.specs.declared.event.Event.TheVariants as event
 use Rattle.rbd_world.specs.Order.{IsInOrder}
 use Rattle.rbd_world.specs.Run.{Happening, Refused, steps_of}
-use Rattle.rbd_world.specs.Sound.{InSlot, Sending, IsHeldRightly, IsInSlot, IsLedTo, IsLiving, IsOpen, IsRefusedAtOnce, IsReplyMeant, IsSoundWorld, held_of, known_in}
+use Rattle.rbd_world.specs.Sound.{InSlot, Sending, IsHeldRightly, IsInSlot, IsLedTo, IsLiving, IsOpen, IsRefusedAtOnce, IsReplyMeant, IsSoundWorld, KeepsToItsWay, held_of, known_in}
 use Rattle.rbd_world.specs.Step.{Does, DoesAtSites, IsSoundIf, Serves}
 use Rattle.rbd_world.specs.World.{WorldView, client_in, records_in, session_of}
-use Rattle.rbd_world.proofs.Carried.{IsCarried}
+use Rattle.rbd_world.proofs.Carried.{IsCarried, whole_in}
 use Rattle.rbd_world.proofs.Changed.{GoesOnAs, all_but, apart_of, client_is, has_become, line_apart, living_of}
 use Rattle.rbd_world.proofs.GoesOn.{goes_carries}
 use Rattle.rbd_world.proofs.OrderedWorld.{freed_order, order_beside}
@@ -98,9 +98,10 @@ module _ {R : Type 0} (stands : R → Standing) (old new : WorldView R) (w : IsS
         (λ g x apart s. (stays s).beside me (w.who g) (knew x) (w.knows g)
         (subst (λ i. AreBeside s (records_in s old.sites) i (w.who g) (knew x) (w.knows g)) (w.in_slots session x c there) (w.beside (InSlot session x) g apart s)))
         (λ a g apart s. (stays s).beside (w.who a) (w.who g) (w.knows a) (w.knows g) (w.beside a g apart s))
-        (where_standing w.homes w.run w.right) refusal_meant (λ s. (stays s).parentless (w.parentless s))
-        (living_of stands home session does_refuse w.run (λ m l. refl) knew knew slot c d living serves.slots serves.client quiet
-        (subst (IsSoundIf stands) (client_is old new session c d goes) (sound session)) all (subst (IsHeldRightly stands home me (does_refuse ∷ w.run)) (sym serves.held) tt))
+        (where_standing w.homes w.run w.right) refusal_meant (λ s. (stays s).whole (whole_in stands old w s))
+        (living_of stands home session does_refuse w.run (λ m l. refl) knew knew slot c d living serves.slots serves.states serves.client quiet
+        (subst (IsSoundIf stands) (client_is old new session c d goes) (sound session)) all (subst (IsHeldRightly stands home me (does_refuse ∷ w.run)) (sym serves.held) tt)
+        (subst (λ o. KeepsToItsWay stands (does_refuse ∷ w.run) (state_in slot d.slots).way (running_in o)) (sym serves.held) tt))
         quiet_others (apart_of old new session c d goes slot serves.slots w.apart (λ l is. absurd (no_some l (sym (ap script_line serves.held) ∙ is))))
         (λ l now. slots_then l now (line == l) refl)
         (λ s. (stays s).clients d.session.instance knew d
@@ -108,7 +109,7 @@ module _ {R : Type 0} (stands : R → Standing) (old new : WorldView R) (w : IsS
         (freed_is_true s (records_in s old.sites) me knew c d (w.truth session c there s) stands (subst (IsSoundIf stands) (client_is old new session c d goes) (sound session)) slot serves.held serves.states serves.house.locks)))
         (λ m q apart is s. (stays s).clients q.session.instance (known_in w.knows m) q (w.truth m q is s))
         (λ m x y is. still_may_come stands old new w (λ s. records_in s new.sites) stays m y (w.knows (Sending m x)) ((w.sending m x y is).1))
-        tt (λ m q apart is other writer. refl)
+        tt tt (λ m q apart is other writer. refl)
         (subst (λ i. IsInOrder stands home i (does_refuse ∷ w.run) d.session) (sym serves.client.instance)
         (freed_order stands home me (does_refuse ∷ w.run) slot c.session d.session serves.slots serves.lines (ap running_in serves.held)
         (order_beside stands old new w does_refuse refusal_meant home me slot c.session quiet (ap running_in holds) (λ other writer. refl) (w.in_order session c there))))

@@ -23,6 +23,7 @@ use Rattle.rbd_machine.specs.Knowledge.{same_site}
 use Rattle.rbd_machine.specs.Label.{Label, Lock}
 use Rattle.rbd_machine.specs.Path.{IsWalk, at_operation}
 use Rattle.rbd_machine.specs.Plan.{Plan, Ask, Await, Note, Return, Goto, Standing, plan_after}
+use Rattle.rbd_machine.specs.Refused.{IsGiven}
 use Rattle.rbd_machine.specs.Steps.{EndsIt, not_there}
 use Rattle.rbd_machine.specs.declared.reason.Reason.{Reason}
 use Rattle.rbd_meaning.specs.Meant.{IsMeantBy}
@@ -37,9 +38,10 @@ use Rattle.rbd_requests.proofs.Looks.{looks_refuse}
 use Rattle.rbd_session.specs.declared.running.Running.{Running}
 use Rattle.rbd_session.specs.Session.{SessionView, is_look_at, kind_asked, running_at}
 use Rattle.rbd_session.proofs.Sound.{no_some, some_same}
-use Rattle.rbd_world.specs.Run.{Happening, Operation, steps_of}
+use Rattle.rbd_world.specs.Run.{Happening, Operation, step_of, steps_of, way_of}
 use Rattle.rbd_world.specs.Sound.{IsLedTo, IsRefusedOnWay, IsUnderWay, look_answered}
 use Rattle.rbd_world.specs.Step.{reply_at, reply_on_way}
+use Rattle.rbd_world.specs.Ways.{WasRefused}
 use Rattle.rbd_world.proofs.BothSites.{this_or_other}
 use Rattle.rbd_world.proofs.Walks.{IsLed, given_more, led_on}
 
@@ -87,9 +89,9 @@ way_ends (stage.Breaking owner) site image answer.Fenced reply word is = ends_so
 way_ends (stage.Breaking owner) site image _ reply word is = absurd (true≢false (sym word))
 
 -- a look can be told so too
-look_can : (image : ℕ) (told : Answer) → EndsIt told → CanGive (op.Header image header.Get) told
-look_can image answer.Absent tells = record { word = refl; form = tt }
-look_can image answer.Fenced tells = record { word = refl; form = tt }
+look_can : (image : ℕ) (told : Answer) → EndsIt told → IsGiven (op.Header image header.Get) told
+look_can image answer.Absent tells = record { can = record { word = refl; form = tt }; finds = refl }
+look_can image answer.Fenced tells = record { can = record { word = refl; form = tt }; finds = refl }
 look_can image _ tells = absurd tells
 
 ends_there : (labels : Label → Plan) (p : Plan) (reply : Reply) → p ≡ Return reply → at_operation labels p ≡ Return reply
@@ -97,13 +99,13 @@ ends_there labels p reply is = ap (at_operation labels) is
 
 -- ---- the look that stands behind the way
 
-record LooksAt (site : SiteId) (p : Plan) : Type 0 where
-  why : Reason
-  image : ℕ
-  next : Answer → Plan
-  is : p ≡ Ask site why (op.Header image header.Get) next
+pub record LooksAt (site : SiteId) (p : Plan) : Type 0 where
+  pub why : Reason
+  pub image : ℕ
+  pub next : Answer → Plan
+  pub is : p ≡ Ask site why (op.Header image header.Get) next
 
-looks_at : (site : SiteId) (p : Plan) → is_look_at site (kind_asked p) ≡ true → LooksAt site p
+pub looks_at : (site : SiteId) (p : Plan) → is_look_at site (kind_asked p) ≡ true → LooksAt site p
 looks_at site (Ask s why (op.Header image header.Get) next) is = by (this_or_other site s)
   where
     by : (s ≡ site) ⊎ (same_site site s ≡ false) → LooksAt site (Ask s why (op.Header image header.Get) next)
@@ -127,7 +129,7 @@ looks_at site (Return reply) is = absurd (true≢false (sym is))
 looks_at site (Goto label) is = absurd (true≢false (sym is))
 
 -- a command that waits in a line is no read
-no_read : (c : Command) → is_change c ≡ true → is_read c ≡ false
+pub no_read : (c : Command) → is_change c ≡ true → is_read c ≡ false
 no_read (command.Read image snap at len) is = absurd (true≢false (sym is))
 no_read _ is = refl
 
@@ -176,8 +178,8 @@ module _ {R : Type 0} (stands : R → Standing) (homes : ℕ → SiteId) (sessio
       (given_more (steps_of r.line run) a.site (op.Header look.image header.Get) o.answer way.given (look_can look.image o.answer ended.tells))
       (subst (IsWalk way.start.labels way.start.plan led.feds (steps_of r.line run ++ look_answered a.site look.image o.answer ∷ [])) ends_look led.walk)
 
-  pub refused_on_way : IsRefusedOnWay homes r.line reply o run
-  refused_on_way = record {
+  pub refused_on_way : WasRefused o.site reply (way_of r.line run ++ step_of o ∷ []) → IsRefusedOnWay homes r.line reply o run
+  refused_on_way over = record {
     begun = way.begun;
     tells = ended.tells;
     refuses = ended.refuses;
@@ -190,4 +192,5 @@ module _ {R : Type 0} (stands : R → Standing) (homes : ℕ → SiteId) (sessio
     meant =
         subst (λ i. IsMeantBy (homes i) command_is (steps_of r.line run ++ look_answered o.site look.image o.answer ∷ []) reply) (sym session_is)
         (subst (λ s. IsMeantBy (homes session) command_is (steps_of r.line run ++ look_answered s look.image o.answer ∷ []) reply) (sym site_is) meant_there);
+    over = over;
   }

@@ -2,7 +2,7 @@
 use Rattle.std.proofs.Common.{◌≡◌, ℕ, ◌∷◌, Some, None, refl, sym, ap, ◌∙◌, subst}
 use Rattle.rbd_client.specs.declared.actor.Actor.TheVariants as actor
 use Rattle.rbd_client.specs.Actor.{actor_at, op_by, op_wanted}
-use Rattle.rbd_client.specs.Client.{ClientView}
+use Rattle.rbd_client.specs.Client.{ClientView, state_in}
 use Rattle.rbd_client.specs.Feeding.{IsFedBy, ReleaseIsFed}
 use Rattle.rbd_kinds.specs.declared.answer.Answer.{Answer}
 use Rattle.rbd_kinds.specs.declared.id.Instance.{Instance}
@@ -11,21 +11,23 @@ use Rattle.rbd_kinds.specs.declared.machine.Fed.TheVariants as fed
 use Rattle.rbd_machine.specs.Plan.{Standing}
 use Rattle.rbd_owner.specs.Release.{release_op}
 use Rattle.rbd_owner.specs.declared.release.Release.{Release}
-use Rattle.rbd_session.specs.Session.{SessionView, held_in, script_line}
+use Rattle.rbd_session.specs.Session.{SessionView, held_in, running_in, script_line}
 use Rattle.rbd_session.proofs.Sound.{no_some}
 use Rattle.rbd_site.specs.Step.{answer_to}
 use Rattle.rbd_world.specs.declared.event.Event.TheVariants as event
 use Rattle.rbd_world.specs.Run.{House, Happening, Did, Operation}
-use Rattle.rbd_world.specs.Sound.{IsDue, IsHeldRightly, IsLiving, IsSoundWorld, known_in}
+use Rattle.rbd_world.specs.Sound.{IsDue, IsHeldRightly, IsLiving, IsSoundWorld, KeepsToItsWay, known_in}
 use Rattle.rbd_world.specs.Step.{Does, DoesAtSites, Goes, IsSoundIf, operation_at}
 use Rattle.rbd_world.specs.World.{WorldView, client_in, records_in, site_in}
-use Rattle.rbd_world.proofs.Acting.{all_know, beside_now, beside_of_others, done_so, knows_now, parentless, sending_now, standing, truth_now, truth_of_others}
+use Rattle.rbd_world.proofs.Acting.{all_know, beside_now, beside_of_others, done_so, knows_now, sending_now, standing, truth_now, truth_of_others, whole}
 use Rattle.rbd_world.proofs.Carried.{IsCarried}
 use Rattle.rbd_world.proofs.Changed.{GoesOnAs, apart_of, client_is, has_become, living_of}
 use Rattle.rbd_world.proofs.GoesOn.{goes_carries}
 use Rattle.rbd_world.proofs.OrderedWorld.{no_turn, still_in_order}
+use Rattle.rbd_world.proofs.Owes.{plain_owes, release_plain}
 use Rattle.rbd_world.proofs.Quiet.{IsQuiet, quiet_did}
 use Rattle.rbd_world.proofs.Slots.{open_back, other_slots}
+use Rattle.rbd_world.proofs.Ways.{of_release}
 
 module _ {R : Type 0} (stands : R → Standing) (old new : WorldView R) (w : IsSoundWorld stands old) (session slot : ℕ) (c : ClientView R) (there : client_in session old.lives ≡ Some c)
     (free : held_in slot c.session.slots ≡ None) (x : Release) (acts : actor_at stands slot c ≡ actor.Release x) where
@@ -63,7 +65,7 @@ module _ {R : Type 0} (stands : R → Standing) (old new : WorldView R) (w : IsS
     sound_then = subst (IsSoundIf stands) (client_is old new session c d goes_on) (sound session)
 
     due : IsDue w.homes does_it w.run
-    due = (done_so stands old new w session slot c there x.site (release_op x) wanted House None d became at_sites sound_then living.runs, tt)
+    due = (done_so stands old new w session slot c there x.site (release_op x) wanted House None d became at_sites sound_then living.runs (of_release x), tt)
 
     still_free : held_in slot d.session.slots ≡ None
     still_free = ap (λ (s : SessionView R). held_in slot s.slots) is_fed.session ∙ free
@@ -71,9 +73,10 @@ module _ {R : Type 0} (stands : R → Standing) (old new : WorldView R) (w : IsS
     living_then : IsLiving stands home session (does_it ∷ w.run) (knows_now stands old new w session slot c there x.site (release_op x) wanted House None d became at_sites sound_then) d
     living_then =
         living_of stands home session does_it w.run (λ m l. refl) (known_in w.knows session)
-        (knows_now stands old new w session slot c there x.site (release_op x) wanted House None d became at_sites sound_then) slot c d living became.slots became.client (λ y line apart is. quiet line)
+        (knows_now stands old new w session slot c there x.site (release_op x) wanted House None d became at_sites sound_then) slot c d living became.slots became.states became.client (λ y line apart is. quiet line)
         sound_then (all_know stands old new w session slot c there x.site (release_op x) wanted House None d became at_sites sound_then)
         (subst (IsHeldRightly stands home me (does_it ∷ w.run)) (sym still_free) tt)
+        (subst (λ o. KeepsToItsWay stands (does_it ∷ w.run) (state_in slot d.slots).way (running_in o)) (sym still_free) tt)
 
     release_carries : IsCarried stands old new w does_it
     release_carries =
@@ -82,14 +85,14 @@ module _ {R : Type 0} (stands : R → Standing) (old new : WorldView R) (w : IsS
         (beside_now stands old new w session slot c there x.site (release_op x) wanted House None d became at_sites sound_then)
         (beside_of_others stands old new w session slot c there x.site (release_op x) wanted House None d became at_sites sound_then)
         (standing stands old new w session slot c there x.site (release_op x) wanted House None d became at_sites sound_then) due
-        (parentless stands old new w session slot c there x.site (release_op x) wanted House None d became at_sites sound_then)
+        (whole stands old new w session slot c there x.site (release_op x) wanted House None d became at_sites sound_then)
         living_then (λ m q apart at y line is. quiet line)
         (apart_of old new session c d goes_on slot became.slots w.apart (λ line is. absurd (no_some line (sym (ap script_line still_free) ∙ is))))
         (λ l now. other_slots old new session c d goes_on slot became.slots l (λ is. no_some l (sym (ap script_line free) ∙ is)) (w.slots l (open_back l does_it w.run (quiet l) now)))
         (truth_now stands old new w session slot c there x.site (release_op x) wanted House None d became at_sites sound_then)
         (truth_of_others stands old new w session slot c there x.site (release_op x) wanted House None d became at_sites sound_then)
         (sending_now stands old new w session slot c there x.site (release_op x) wanted House None d became at_sites sound_then)
-        (no_turn operation None w.run (λ line. refl)) (λ m q apart is other writer. refl)
+        (λ calm. plain_owes operation None w.run refl (release_plain x)) (no_turn operation None w.run (λ line. refl)) (λ m q apart is other writer. refl)
         (still_in_order stands old new w does_it due session c d there is_fed.session (λ line before. refl) (λ other writer. refl))
 
   pub release_keeps : Does stands (event.Poll session slot) does_it old new → DoesAtSites does_it old.sites new.sites → ((m : ℕ) → IsSoundIf stands (client_in m new.lives)) → IsCarried stands old new w does_it

@@ -9,8 +9,9 @@ use Rattle.rbd_machine.specs.Knowledge.{Knowledge, same_site}
 use Rattle.rbd_machine.specs.Plan.{Standing}
 use Rattle.rbd_rely.specs.Beside.{AreBeside}
 use Rattle.rbd_rely.specs.Locks.{KnowsByLock}
-use Rattle.rbd_rely.specs.Truth.{IsTrueAt, IsParentless}
+use Rattle.rbd_rely.specs.Truth.{IsTrueAt}
 use Rattle.rbd_rely.proofs.Kept.{expiries_keep, trims_keep}
+use Rattle.rbd_rely.proofs.Maps.{mapped_expired, mapped_trimmed}
 use Rattle.rbd_session.specs.Session.{script_line}
 use Rattle.rbd_site.specs.Log.{expired, trimmed}
 use Rattle.rbd_site.specs.Records.{Records}
@@ -23,8 +24,9 @@ use Rattle.rbd_world.specs.Run.{Happening, Nothing, Waited, Trimmed, Expired, Se
 use Rattle.rbd_world.specs.Sound.{AreLivesOf, IsDue, IsExpired, IsRight, IsSoundWorld, IsTrimmed, MayStillCome, held_of, known_in, line_at}
 use Rattle.rbd_world.specs.Step.{Does, DoesAtSites, LivesOn, LivesOnIf, names_session, next_number}
 use Rattle.rbd_world.specs.World.{LivesView, WorldView, client_in, late_at, late_of, lives_in, records_in, running_of, sent_in, session_of, site_in}
-use Rattle.rbd_world.proofs.Carried.{IsCarried, StandFlat}
+use Rattle.rbd_world.proofs.Carried.{HasWholeImages, IsCarried, StandFlat, whole_in}
 use Rattle.rbd_world.proofs.Changed.{IsLifeless, SendsNothing, living_on}
+use Rattle.rbd_world.proofs.Exactly.{IsOwedFor}
 use Rattle.rbd_world.proofs.OrderedWorld.{order_on}
 use Rattle.rbd_world.proofs.Quiet.{IsQuiet, quiet_expired, quiet_nothing, quiet_trimmed, quiet_waited}
 use Rattle.rbd_world.proofs.Slots.{open_back, same_slots}
@@ -43,7 +45,7 @@ module _ {R : Type 0} (stands : R → Standing) (old new : WorldView R) (w : IsS
     pub known : (me : Instance) (k : Knowledge) → IsTrueAt s (records_in s old.sites) me k → IsTrueAt s r me k
     pub locks : (me : Instance) (k : Knowledge) → KnowsByLock s (records_in s old.sites) me k → KnowsByLock s r me k
     pub beside : (me you : Instance) (k j : Knowledge) → AreBeside s (records_in s old.sites) me you k j → AreBeside s r me you k j
-    pub parentless : IsParentless (records_in s old.sites) → IsParentless r
+    pub whole : HasWholeImages (records_in s old.sites) → HasWholeImages r
 
   pub same_true : (s : SiteId) (r : Records) → r ≡ records_in s old.sites → StaysTrue s r
   same_true s r same = record {
@@ -51,7 +53,7 @@ module _ {R : Type 0} (stands : R → Standing) (old new : WorldView R) (w : IsS
     known = λ me k t. subst (λ x. IsTrueAt s x me k) (sym same) t;
     locks = λ me k t. subst (λ x. KnowsByLock s x me k) (sym same) t;
     beside = λ me you k j t. subst (λ x. AreBeside s x me you k j) (sym same) t;
-    parentless = λ t. subst IsParentless (sym same) t;
+    whole = λ t. subst HasWholeImages (sym same) t;
   }
 
   trim_true : (s : SiteId) (image number : ℕ) → StaysTrue s (trimmed image number (records_in s old.sites))
@@ -60,7 +62,7 @@ module _ {R : Type 0} (stands : R → Standing) (old new : WorldView R) (w : IsS
     known = λ me k t. trims_keep s (records_in s old.sites) me k image number t;
     locks = λ me k t i known free. let lock = t i known free in record { header = lock.header; there = lock.there; owner = lock.owner };
     beside = λ me you k j t. record { shared = t.shared; apart = t.apart };
-    parentless = λ t. t;
+    whole = λ t. record { parentless = t.parentless; mapped = mapped_trimmed (records_in s old.sites) image number t.mapped };
   }
 
   expiry_true : (s : SiteId) (image : ℕ) (who : Instance) → StaysTrue s (expired image who (records_in s old.sites))
@@ -69,7 +71,7 @@ module _ {R : Type 0} (stands : R → Standing) (old new : WorldView R) (w : IsS
     known = λ me k t. expiries_keep s (records_in s old.sites) me k image who t;
     locks = λ me k t i known free. let lock = t i known free in record { header = lock.header; there = lock.there; owner = lock.owner };
     beside = λ me you k j t. record { shared = t.shared; apart = t.apart };
-    parentless = λ t. t;
+    whole = λ t. record { parentless = t.parentless; mapped = mapped_expired (records_in s old.sites) image who t.mapped };
   }
 
   pub still_may_come : (r : SiteId → Records) → ((s : SiteId) → StaysTrue s (r s)) → (m : ℕ) (x : Sent) (k : Knowledge) → MayStillCome m (λ s. records_in s old.sites) x k → MayStillCome m r x k
@@ -97,15 +99,15 @@ module _ {R : Type 0} (stands : R → Standing) (old new : WorldView R) (w : IsS
       by true is = same_of e h leaves (lives_in session old.lives) (lives_in session new.lives) (does.named session is)
       by false is = does.others session is
 
-  rested : (h : Happening) → ((line : ℕ) → IsQuiet line h) → IsLifeless h → SendsNothing h → AreSame → StandFlat (h ∷ w.run) → IsDue w.homes h w.run → IsInTurn h w.run
+  rested : (h : Happening) → ((line : ℕ) → IsQuiet line h) → IsLifeless h → SendsNothing h → AreSame → StandFlat (h ∷ w.run) → IsDue w.homes h w.run → IsOwedFor h w.run → IsInTurn h w.run
       → ((s : SiteId) → StaysTrue s (records_in s new.sites)) → IsCarried stands old new w h
-  rested h quiet lifeless sends same standing due turn stays = record {
+  rested h quiet lifeless sends same standing due owes turn stays = record {
     who = w.who;
     knows = w.knows;
     carries = record {
       standing = standing;
       due = due;
-      parentless = λ s. (stays s).parentless (w.parentless s);
+      whole = λ s. (stays s).whole (whole_in stands old w s);
       lives = λ session l is. lives_on session l (w.lives session l (sym (same session) ∙ is));
       clients = λ session c is.
           living_on stands (w.homes session) session h w.run lifeless (known_in w.knows session) c (λ slot line at. quiet line) (w.clients session c (client_was session c is));
@@ -121,6 +123,7 @@ module _ {R : Type 0} (stands : R → Standing) (old new : WorldView R) (w : IsS
       unsent = λ session slot none. w.unsent session slot (sym (late_same session slot) ∙ none);
       drops = λ session slot there x differ is. w.drops session slot there x differ (sym (late_same session slot) ∙ is);
       beside = λ one other apart s. (stays s).beside (w.who one) (w.who other) (w.knows one) (w.knows other) (w.beside one other apart s);
+      owes = owes;
       turn = turn;
       in_order = λ session c is. order_on stands old new w h due session c (client_was session c is) (λ slot line at. quiet line) (λ other writer. (quiet other).steps);
     };
@@ -150,11 +153,11 @@ module _ {R : Type 0} (stands : R → Standing) (old new : WorldView R) (w : IsS
 
   pub nothing_keeps : (e : Event) → ((a b : LivesView R) → LivesOn stands e Nothing a b → b ≡ a) → Does stands e Nothing old new → DoesAtSites Nothing old.sites new.sites → IsCarried stands old new w Nothing
   nothing_keeps e leaves does at_sites =
-      rested Nothing quiet_nothing (λ m l. refl) (λ m x o. refl) (lives_stay e Nothing leaves does) (where_standing w.homes w.run w.right) tt tt (λ s. same_true s (records_in s new.sites) (at_sites.records s))
+      rested Nothing quiet_nothing (λ m l. refl) (λ m x o. refl) (lives_stay e Nothing leaves does) (where_standing w.homes w.run w.right) tt tt tt (λ s. same_true s (records_in s new.sites) (at_sites.records s))
 
   pub waited_keeps : (e : Event) → ((a b : LivesView R) → LivesOn stands e Waited a b → b ≡ a) → Does stands e Waited old new → DoesAtSites Waited old.sites new.sites → IsCarried stands old new w Waited
   waited_keeps e leaves does at_sites =
-      rested Waited quiet_waited (λ m l. refl) (λ m x o. refl) (lives_stay e Waited leaves does) (where_standing w.homes w.run w.right) tt tt (λ s. same_true s (records_in s new.sites) (at_sites.records s))
+      rested Waited quiet_waited (λ m l. refl) (λ m x o. refl) (lives_stay e Waited leaves does) (where_standing w.homes w.run w.right) tt tt tt (λ s. same_true s (records_in s new.sites) (at_sites.records s))
 
   -- ---- the store trims an object that is there
 
@@ -171,7 +174,7 @@ module _ {R : Type 0} (stands : R → Standing) (old new : WorldView R) (w : IsS
       → DoesAtSites (Trimmed site (next_number (site_in site old.sites)) image object) old.sites new.sites → IsCarried stands old new w (Trimmed site (next_number (site_in site old.sites)) image object)
   trimmed_keeps e site image object is_there leaves does at_sites =
       rested (Trimmed site number image object) (λ line. quiet_trimmed line site number image object) (λ m l. refl) (λ m x o. refl) (lives_stay e (Trimmed site number image object) leaves does)
-      (λ s. stands_there s (same_site site s) (where_standing w.homes w.run w.right s)) (trim_due site image object is_there) tt
+      (λ s. stands_there s (same_site site s) (where_standing w.homes w.run w.right s)) (trim_due site image object is_there) tt tt
       (λ s. subst (StaysTrue s) (sym (at_sites.records s)) (true_there s (same_site site s)))
     where
       number : ℕ
@@ -194,7 +197,7 @@ module _ {R : Type 0} (stands : R → Standing) (old new : WorldView R) (w : IsS
       → DoesAtSites (Expired site (next_number (site_in site old.sites)) image who) old.sites new.sites → IsCarried stands old new w (Expired site (next_number (site_in site old.sites)) image who)
   expired_keeps e site image who oldest leaves does at_sites =
       rested (Expired site number image who) (λ line. quiet_expired line site number image who) (λ m l. refl) (λ m x o. refl) (lives_stay e (Expired site number image who) leaves does)
-      (λ s. stands_there s (same_site site s) (where_standing w.homes w.run w.right s)) due tt
+      (λ s. stands_there s (same_site site s) (where_standing w.homes w.run w.right s)) due tt tt
       (λ s. subst (StaysTrue s) (sym (at_sites.records s)) (true_there s (same_site site s)))
     where
       number : ℕ

@@ -117,11 +117,11 @@ unheard_more line h run u quiet = record {
 }
 
 -- an operation whose line goes on is for no line that nobody began
-goes_for_another : (line : ℕ) (run : List Happening) (by : Doer) → asked_by line run ≡ None → GoesOnBehind by run → is_for line by ≡ false
-goes_for_another line run (Itself other) none begun = ap (λ b. b || false) (other_line line other run none begun)
-goes_for_another line run (OnWay other) none begun = other_line line other run none begun
-goes_for_another line run House none begun = refl
-goes_for_another line run (AfterStop slot) none begun = refl
+goes_for_another : (homes : ℕ → SiteId) (s : SiteId) (line : ℕ) (run : List Happening) (by : Doer) → asked_by line run ≡ None → GoesOnBehind homes s by run → is_for line by ≡ false
+goes_for_another homes s line run (Itself other) none begun = ap (λ b. b || false) (other_line line other run none begun)
+goes_for_another homes s line run (OnWay other) none goes = other_line line other run none goes.begun
+goes_for_another homes s line run House none begun = refl
+goes_for_another homes s line run (AfterStop slot) none begun = refl
 
 ends_another : (homes : ℕ → SiteId) (line : ℕ) (run : List Happening) (o : Operation) (reply : Reply) (by : Doer) → asked_by line run ≡ None → EndsWith homes o reply run by → is_for line by ≡ false
 ends_another homes line run o reply (Itself other) none ends = ap (λ b. b || false) (other_line line other run none ends.begun)
@@ -151,7 +151,7 @@ unheard homes line (h ∷ run) (standing, due, right) none = unheard_more line h
         go : (b : Bool) → (asked.line == line) ≡ b → cond b (Some asked) (asked_by line run) ≡ None → (asked.line == line) ≡ false
         go true is none = absurd (none-some asked (sym none))
         go false is none = is
-    by (Did o None) due none = quiet_did line o None (goes_for_another line run o.by before due.1)
+    by (Did o None) due none = quiet_did line o None (goes_for_another homes o.site line run o.by before due.1)
     by (Did o (Some reply)) due none = quiet_did line o (Some reply) (ends_another homes line run o reply o.by before due.1)
     by (Refused s other reply) due none = quiet_refused line s other reply (other_line line other run before due.begun)
     by (Trimmed s number image object) due none = quiet_trimmed line s number image object

@@ -38,7 +38,7 @@ use Rattle.rbd_world.specs.Sound.{AreLivesOf, AreStrangers, Holder, InSlot, Send
 use Rattle.rbd_world.specs.Step.{Does, DoesAtSites, LivesOnIf, lost_by, stopped, wanted_by}
 use Rattle.rbd_world.specs.World.{LateView, LivesView, WorldView, client_in, late_at, late_of, lives_in, records_in, running_of, sent_in, session_of}
 use Rattle.rbd_world.proofs.Acting.{by_no_lock}
-use Rattle.rbd_world.proofs.Carried.{IsCarried}
+use Rattle.rbd_world.proofs.Carried.{IsCarried, whole_in}
 use Rattle.rbd_world.proofs.Changed.{lives_there, same_or_other}
 use Rattle.rbd_world.proofs.Elsewhere.{beside_as, known_but, known_there, lives_still, living_still, nothing_beside, unknown_looks}
 use Rattle.rbd_world.proofs.Lost.{among_ascending, are_distinct, ascending_increases, found_from, is_found, lines_in}
@@ -510,7 +510,7 @@ module _ {R : Type 0} (stands : R → Standing) (old new : WorldView R) (w : IsS
     carries = record {
       standing = where_standing w.homes w.run w.right;
       due = due;
-      parentless = λ s. (stays s).parentless (w.parentless s);
+      whole = λ s. (stays s).whole (whole_in stands old w s);
       lives = lives_now;
       clients = clients_now;
       in_slots = λ m x q is. w.in_slots m x q (was m q (elsewhere m q is) is);
@@ -523,6 +523,7 @@ module _ {R : Type 0} (stands : R → Standing) (old new : WorldView R) (w : IsS
       unsent = λ m x is. unsent_now m x is (same_or_other m session);
       drops = λ m x y z differ is r. drops_now m x y z differ is r (same_or_other m session);
       beside = beside_now;
+      owes = tt;
       turn = tt;
       in_order = order_now;
     };

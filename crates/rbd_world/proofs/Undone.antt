@@ -1,8 +1,10 @@
 -- A step that is refused memory leaves a sound world sound.
 use Rattle.std.proofs.Common.{◌≡◌, ◌≤◌, ◌<◌, ℕ, List, length, is_some, Option, Some, None, refl, sym, ap, ◌∙◌, subst}
-use Rattle.rbd_client.specs.Client.{ClientView}
+use Rattle.rbd_client.specs.declared.slot_state.Way.{Way}
+use Rattle.rbd_client.specs.Client.{ClientView, state_in}
 use Rattle.rbd_client.specs.Feeding.{IsClientAlike}
 use Rattle.rbd_client.specs.Sound.{IsSoundClient}
+use Rattle.rbd_exact.specs.Exact.{IsExactBut}
 use Rattle.rbd_held.specs.Truth.{IsTrueOf}
 use Rattle.rbd_held.proofs.Calls.{readied_is_true}
 use Rattle.rbd_kinds.specs.declared.id.Instance.{Instance}
@@ -14,18 +16,20 @@ use Rattle.rbd_machine.specs.Path.{IsWalk}
 use Rattle.rbd_machine.specs.Plan.{Standing}
 use Rattle.rbd_machine.specs.Refused.{AreGiven}
 use Rattle.rbd_rely.specs.Beside.{AreBeside}
-use Rattle.rbd_rely.specs.Truth.{IsParentless}
+use Rattle.rbd_rely.specs.Truth.{AreMapped, IsParentless}
 use Rattle.rbd_session.specs.declared.running.Occupant.{Occupant}
 use Rattle.rbd_session.specs.declared.running.Occupant.TheVariants as occupant
 use Rattle.rbd_session.specs.declared.running.Running.{Running}
 use Rattle.rbd_session.specs.Advance.{IsSameStand}
-use Rattle.rbd_session.specs.Session.{IsAlikeIn, held_in, script_line}
+use Rattle.rbd_session.specs.Session.{IsAlikeIn, held_in, running_at, running_in, script_line}
 use Rattle.rbd_session.proofs.Sound.{no_some, some_same}
 use Rattle.rbd_site.specs.InForm.{AreInForm}
 use Rattle.rbd_world.specs.declared.sites.Sites.{Sites}
-use Rattle.rbd_world.specs.Run.{Happening, AreCalls, asked_by, log_of, records_after, steps_of}
-use Rattle.rbd_world.specs.Sound.{AreLivesOf, AreStrangers, Holder, InSlot, Sending, IsHeldRightly, IsLiving, IsRunning, IsSoundWorld, IsUnderWay, MayStillCome, has_ended, held_of, known_in, line_at}
+use Rattle.rbd_world.specs.Owing.{IsUnhindered, is_owed}
+use Rattle.rbd_world.specs.Run.{Happening, AreCalls, asked_by, log_of, records_after, steps_of, way_of}
+use Rattle.rbd_world.specs.Sound.{AreLivesOf, AreStrangers, Holder, InSlot, Sending, IsHeldRightly, IsLiving, IsRunning, IsSoundWorld, IsUnderWay, KeepsToItsWay, MayStillCome, has_ended, held_of, known_in, line_at}
 use Rattle.rbd_world.specs.Step.{AreLivesAlike, IsAlikeOf, IsClientAlikeIf, IsSoundIf, IsUndone}
+use Rattle.rbd_world.specs.Ways.{GoesWith}
 use Rattle.rbd_world.specs.World.{LateView, LivesView, WorldView, client_in, late_at, late_of, lives_in, records_in, running_of, sent_in, session_of, site_in}
 use Rattle.rbd_world.proofs.OrderedWorld.{alike_order_if}
 use Rattle.rbd_world.proofs.Slots.{same_slots}
@@ -68,6 +72,15 @@ module _ {R : Type 0} (stands : R → Standing) where
     alike_held (Some (occupant.Refused line refusal)) p alike held = subst (IsHeldRightly stands home who run) (sym alike) held
     alike_held None p alike held = subst (IsHeldRightly stands home who run) (sym alike) held
 
+  -- and its way stands where it did
+  alike_ways : (run : List Happening) (w : Way) (o p : Option (Occupant R)) → IsAlikeIn stands o p → KeepsToItsWay stands run w (running_in o) → KeepsToItsWay stands run w (running_in p)
+  alike_ways run w (Some (occupant.Running r)) (Some (occupant.Running q)) alike keeps =
+      subst (λ (s : Standing). GoesWith s.plan w (way_of q.line run)) (sym alike.same) (subst (λ line. GoesWith (stands r.request).plan w (way_of line run)) (sym alike.line) keeps)
+  alike_ways run w (Some (occupant.Running r)) (Some (occupant.Refused line refusal)) alike keeps = tt
+  alike_ways run w (Some (occupant.Running r)) None alike keeps = tt
+  alike_ways run w (Some (occupant.Refused line refusal)) p alike keeps = subst (λ x. KeepsToItsWay stands run w (running_in x)) (sym alike) keeps
+  alike_ways run w None p alike keeps = subst (λ x. KeepsToItsWay stands run w (running_in x)) (sym alike) keeps
+
   -- ---- a client
 
   alike_client : (home : SiteId) (session : ℕ) (run : List Happening) (knows : ℕ → Knowledge) (c d : ClientView R) → IsClientAlike stands c d → IsSoundClient stands d
@@ -81,6 +94,9 @@ module _ {R : Type 0} (stands : R → Standing) where
     held = λ slot.
         subst (λ i. IsHeldRightly stands home i run (held_in slot d.session.slots)) (sym alike.session.instance)
         (alike_held home c.session.instance run (held_in slot c.session.slots) (held_in slot d.session.slots) (alike.session.slots slot) (living.held slot));
+    ways = λ slot.
+        subst (λ ss. KeepsToItsWay stands run (state_in slot ss).way (running_at slot d.session)) (sym alike.slots)
+        (alike_ways run (state_in slot c.slots).way (held_in slot c.session.slots) (held_in slot d.session.slots) (alike.session.slots slot) (living.ways slot));
   }
 
   -- of one that is there, or of none
@@ -163,6 +179,8 @@ module _ {R : Type 0} (stands : R → Standing) where
     right = w.right;
     form = subst (λ (sites : Sites). (s : SiteId) → AreInForm (records_in s sites) (length (site_in s sites).log)) (sym undone.sites) w.form;
     parentless = subst (λ (sites : Sites). (s : SiteId) → IsParentless (records_in s sites)) (sym undone.sites) w.parentless;
+    mapped = subst (λ (sites : Sites). (s : SiteId) → AreMapped (records_in s sites)) (sym undone.sites) w.mapped;
+    exact = subst (λ (sites : Sites). IsUnhindered w.run → (s : SiteId) → IsExactBut (is_owed s w.run) (records_in s sites)) (sym undone.sites) w.exact;
     lives = λ session. lives_if w.run (w.homes session) session (lives_in session old.lives) (lives_in session new.lives) (undone.lives session) (w.lives session);
     clients = λ session.
         alike_if (IsLiving stands (w.homes session) session w.run (known_in w.knows session)) (client_in session old.lives) (client_in session new.lives) (same session) (sound session)

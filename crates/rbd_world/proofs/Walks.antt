@@ -5,11 +5,10 @@ use Rattle.rbd_kinds.specs.declared.id.SiteId.{SiteId}
 use Rattle.rbd_kinds.specs.declared.machine.Fed.{Fed}
 use Rattle.rbd_kinds.specs.declared.machine.Fed.TheVariants as fed
 use Rattle.rbd_kinds.specs.declared.operation.Op.{Op}
-use Rattle.rbd_machine.specs.Answers.{CanGive}
 use Rattle.rbd_machine.specs.Label.{Label}
 use Rattle.rbd_machine.specs.Path.{Answered, IsWalk, at_operation}
 use Rattle.rbd_machine.specs.Plan.{Plan, Ask, Await, Note, Return, Goto, settled}
-use Rattle.rbd_machine.specs.Refused.{AreGiven}
+use Rattle.rbd_machine.specs.Refused.{AreGiven, IsGiven}
 use Rattle.rbd_machine.specs.declared.reason.Reason.{Reason}
 
 pub walk_append : (labels : Label → Plan) (feds : List Fed) (plan mid last : Plan) (more : List Fed) (steps rest : List Answered)
@@ -55,6 +54,6 @@ led_on labels plan steps s why o next a led =
           (record { rest = []; is = refl }, on.walk);
     }
 
-pub given_more : (steps : List Answered) (s : SiteId) (o : Op) (a : Answer) → AreGiven steps → CanGive o a → AreGiven (steps ++ record { site = s; op = o; answer = a } ∷ [])
+pub given_more : (steps : List Answered) (s : SiteId) (o : Op) (a : Answer) → AreGiven steps → IsGiven o a → AreGiven (steps ++ record { site = s; op = o; answer = a } ∷ [])
 given_more [] s o a given can = (can, tt)
 given_more (step ∷ steps) s o a given can = (given.0, given_more steps s o a given.1 can)

@@ -22,8 +22,8 @@ use Rattle.rbd_world.specs.World.{WorldView, client_in, late_at, records_in, sit
 module _ {R : Type 0} (stands : R → Standing) (w : WorldView R) (session slot : ℕ) where
   permitted : (sound : IsSoundWorld stands w) (who : Instance) (k : Knowledge) (s : SiteId) (o : Op) → IsTrueAt s (records_in s w.sites) who k → Permits k s o → IsPermitted w.sites who s o
   permitted sound who k s o known permits = record {
-    may = may_do s (records_in s w.sites) who k (length (site_in s w.sites).log) (sound.form s) known o permits;
-    gives = gives_it s (records_in s w.sites) who k (length (site_in s w.sites).log) (sound.form s) known o permits;
+    may = may_do s (records_in s w.sites) who k (length (site_in s w.sites).log) (sound.form s) (sound.mapped s) known o permits;
+    gives = (gives_it s (records_in s w.sites) who k (length (site_in s w.sites).log) (sound.form s) (sound.mapped s) known o permits).can;
   }
 
   pub wants_what_it_may : (c : ClientView R) → IsSoundWorld stands w → client_in session w.lives ≡ Some c → WantsWhatItMay stands w.sites slot c

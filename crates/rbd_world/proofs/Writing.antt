@@ -1,4 +1,5 @@
--- Behind its look-up a write stays in its line and writes each object at its turn.
+-- Behind its look-up a write stays in its line, and raises the state of each object, and writes it,
+-- at its turn.
 use Rattle.std.proofs.Common.{ℕ, List, [], ◌∷◌, Option, Some, None, refl}
 use Rattle.rbd_kinds.specs.declared.answer.Answer.{Answer}
 use Rattle.rbd_kinds.specs.declared.answer.Answer.TheVariants as answer
@@ -31,7 +32,8 @@ module _ (site : SiteId) (image : ℕ) where
   pieces_keep : (turn : Option ℕ) (h : HeaderView) (at : ℕ) (bytes : List ℕ) (pieces : List Piece) → KeepsTo site image turn (write_pieces site image h at bytes pieces (applied site image))
   pieces_keep turn h at bytes [] = tt
   pieces_keep turn h at bytes (p ∷ pieces) =
-      ((refl, refl, refl), done_keeps (Some p.object) (write_pieces site image h at bytes pieces (applied site image)) (pieces_keep (Some p.object) h at bytes pieces))
+      let rest = write_pieces site image h at bytes pieces (applied site image) in
+      ((refl, refl, refl), done_keeps (Some p.object) _ ((refl, refl, refl), done_keeps (Some p.object) rest (pieces_keep (Some p.object) h at bytes pieces)))
 
   put_keeps : (turn : Option ℕ) (at : ℕ) (bytes : List ℕ) (h : HeaderView) → KeepsTo site image turn (put site at bytes image h)
   put_keeps turn at bytes h = pieces_keep turn h at bytes (pieces_of h.layout (extent_at at bytes))

@@ -4,8 +4,10 @@ pub mod Late
 pub mod Noted
 pub mod Operate
 pub mod Order
+pub mod Owing
 pub mod Run
 pub mod Sending
 pub mod Sound
 pub mod Step
+pub mod Ways
 pub mod World

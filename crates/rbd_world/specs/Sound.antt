@@ -2,10 +2,12 @@
 -- know is true.
 use Rattle.std.specs.Prelude.{◌≡◌, ◌≢◌, ◌⊎◌, ℕ, ◌+◌, ◌<◌, ◌≤◌, ◌||◌, Bool, true, false, List, [], ◌∷◌, ◌++◌, length, is_some, slice_get, Option, Some, None}
 use Rattle.std.specs.List.Sorted.{IsStrictlyIncreasing}
-use Rattle.rbd_client.specs.Client.{ClientView}
+use Rattle.rbd_client.specs.declared.slot_state.Way.{Way}
+use Rattle.rbd_client.specs.Client.{ClientView, state_in}
 use Rattle.rbd_client.specs.Sound.{IsSoundClient}
 use Rattle.rbd_commands.specs.declared.command.Command.{Command}
 use Rattle.rbd_commands.specs.declared.refusal.Refusal.{Refusal}
+use Rattle.rbd_exact.specs.Exact.{IsExactBut}
 use Rattle.rbd_held.specs.Truth.{IsTrueOf}
 use Rattle.rbd_kinds.specs.declared.answer.Answer.{Answer}
 use Rattle.rbd_kinds.specs.declared.header_op.HeaderOp.TheVariants as header
@@ -27,12 +29,12 @@ use Rattle.rbd_machine.specs.Steps.{EndsIt, not_there, refused}
 use Rattle.rbd_meaning.specs.Meant.{IsMeantBy}
 use Rattle.rbd_rely.specs.Beside.{AreBeside, MayLook}
 use Rattle.rbd_rely.specs.Locks.{KnowsByLock}
-use Rattle.rbd_rely.specs.Truth.{IsTrueAt, IsParentless}
+use Rattle.rbd_rely.specs.Truth.{AreMapped, IsTrueAt, IsParentless}
 use Rattle.rbd_requests.specs.Served.{IsPlanFor}
 use Rattle.rbd_session.specs.declared.running.Occupant.{Occupant}
 use Rattle.rbd_session.specs.declared.running.Occupant.TheVariants as occupant
 use Rattle.rbd_session.specs.declared.running.Running.{Running}
-use Rattle.rbd_session.specs.Session.{SessionView, held_in, is_look_at, kind_asked, script_line}
+use Rattle.rbd_session.specs.Session.{SessionView, held_in, is_look_at, kind_asked, running_at, script_line}
 use Rattle.rbd_site.specs.InForm.{AreInForm}
 use Rattle.rbd_site.specs.Records.{Records}
 use Rattle.rbd_site.specs.Step.{answer_to}
@@ -44,8 +46,10 @@ use Rattle.rbd_watch.specs.Posting.{numbered}
 use Rattle.rbd_watch.specs.Watching.{oldest_of}
 use Rattle.rbd_world.specs.Begun.{LinesBegun, has_line}
 use Rattle.rbd_world.specs.Order.{IsInOrder, KeepsOrder}
-use Rattle.rbd_world.specs.Run.{Asked, Doer, Itself, OnWay, House, AfterStop, Happening, Began, Did, Refused, Trimmed, Expired, Heard, Stopped, Restarted, Operation, Sent, AreCalls, asked_by, ends, flat_after, history_of, is_among, life_after, log_of, mail_of, records_after, sent_after, steps_of}
+use Rattle.rbd_world.specs.Owing.{IsUnhindered, is_owed}
+use Rattle.rbd_world.specs.Run.{Asked, Doer, Itself, OnWay, House, AfterStop, Happening, Began, Did, Refused, Trimmed, Expired, Heard, Stopped, Restarted, Operation, Sent, AreCalls, asked_by, ends, flat_after, history_of, is_among, life_after, log_of, mail_of, records_after, sent_after, step_of, steps_of, way_of}
 use Rattle.rbd_world.specs.Step.{IsFresh, is_begun}
+use Rattle.rbd_world.specs.Ways.{AsksNext, GoesWith, IsOfRelease, IsOver, WasRefused}
 use Rattle.rbd_world.specs.World.{LateView, LivesView, WorldView, client_in, late_at, lives_in, records_in, session_in, site_in}
 
 -- ---- a run that is right at every place
@@ -92,6 +96,7 @@ pub record IsRefusedOnWay (homes : ℕ → SiteId) (line : ℕ) (reply : Reply) 
   pub wants : is_look_at o.site (kind_asked plan) ≡ true
   pub image : ℕ
   pub meant : IsMeantBy (homes begun.asked.who.session) begun.asked.command (steps_of line before ++ look_answered o.site image o.answer ∷ []) reply
+  pub over : WasRefused o.site reply (way_of line before ++ step_of o ∷ [])
 
 -- ---- whose an operation is
 
@@ -109,11 +114,20 @@ IsOf (OnWay line) who s o before = IsOfLine line who before
 IsOf House who s o before = IsRunning who before
 IsOf (AfterStop slot) who s o before = sent_after who.session slot before ≡ Some (record { instance = who; site = s; op = o })
 
--- The operation is of whom it is done by. It has the number, the answer and the effect that its site
--- has for it there; it was permitted by what was known, which was true; and what it changes of an
--- image is its owner's.
+-- It is the next of what it is done for. One of a line itself comes where its way wasn't begun or
+-- is over, one on the way is what the way asks for there, and a house only lets locks go.
+abbrev pub IsNextOf : Doer → SiteId → Op → (before : List Happening) → Type 0
+IsNextOf (Itself line) s o before = IsOver (way_of line before)
+IsNextOf (OnWay line) s o before = AsksNext s o (way_of line before)
+IsNextOf House s o before = IsOfRelease o
+IsNextOf (AfterStop slot) s o before = Unit {0}
+
+-- The operation is of whom it is done by, and the next of what it is done for. It has the number,
+-- the answer and the effect that its site has for it there; it was permitted by what was known,
+-- which was true; and what it changes of an image is its owner's.
 pub record IsDone (o : Operation) (before : List Happening) : Type 0 where
   pub whose : IsOf o.by o.instance o.site o.op before
+  pub next : IsNextOf o.by o.site o.op before
   pub number : o.number ≡ length (log_of o.site before) + 1
   pub answer : o.answer ≡ answer_to (records_after o.site before) o.instance o.op
   pub effect : o.effect ≡ effect_of (records_after o.site before) (done.Op o.op) o.answer
@@ -122,11 +136,18 @@ pub record IsDone (o : Operation) (before : List Happening) : Type 0 where
   pub permits : Permits knows o.site o.op
   pub owned : IsOwnedStep (records_after o.site before) o.instance o.op o.answer
 
+-- A walk of the line's command led it to where it wants its look under the lock, at the site.
+pub record StandsAtLook (homes : ℕ → SiteId) (line : ℕ) (s : SiteId) (before : List Happening) : Type 0 where
+  pub begun : IsOpen line before
+  pub plan : Plan
+  pub led : IsLedTo (homes begun.asked.who.session) begun.asked.command (steps_of line before) plan
+  pub wants : is_look_at s (kind_asked plan) ≡ true
+
 -- behind it its line goes on
-abbrev pub GoesOnBehind : Doer → (before : List Happening) → Type 0
-GoesOnBehind (Itself line) before = IsOpen line before
-GoesOnBehind (OnWay line) before = IsOpen line before
-GoesOnBehind by before = Unit {0}
+abbrev pub GoesOnBehind : (homes : ℕ → SiteId) → SiteId → Doer → (before : List Happening) → Type 0
+GoesOnBehind homes s (Itself line) before = IsOpen line before
+GoesOnBehind homes s (OnWay line) before = StandsAtLook homes line s before
+GoesOnBehind homes s by before = Unit {0}
 
 -- with it its line ends
 abbrev pub EndsWith : (homes : ℕ → SiteId) → Operation → Reply → (before : List Happening) → Doer → Type 0
@@ -181,7 +202,7 @@ pub record IsBegin (asked : Asked) (before : List Happening) : Type 0 where
 
 abbrev pub IsDue : (homes : ℕ → SiteId) → Happening → (before : List Happening) → Type 0
 IsDue homes (Began asked slot) before = IsBegin asked before
-IsDue homes (Did o None) before = IsDone o before × GoesOnBehind o.by before
+IsDue homes (Did o None) before = IsDone o before × GoesOnBehind homes o.site o.by before
 IsDue homes (Did o (Some reply)) before = IsDone o before × EndsWith homes o reply before o.by
 IsDue homes (Refused s line reply) before = IsReplyMeant homes line reply before (Refused s line reply ∷ before)
 IsDue homes (Trimmed s number image object) before = IsTrimmed s number image object before
@@ -191,10 +212,12 @@ IsDue homes (Stopped who wanted lost) before = IsStop homes who lost before
 IsDue homes (Restarted who) before = IsRestart who before
 IsDue homes h before = Unit {0}
 
--- The site stands for its flat site, no image has a parent, and headers are in form.
+-- The site stands for its flat site, no image has a parent, each has its object maps, which cover
+-- its objects, and headers are in form.
 pub record IsStanding (s : SiteId) (run : List Happening) : Type 0 where
   pub stands : StandsFor [] (records_after s run) (flat_after s run)
   pub parentless : IsParentless (records_after s run)
+  pub mapped : AreMapped (records_after s run)
   pub form : AreInForm (records_after s run) (length (log_of s run))
 
 -- both sites do
@@ -236,6 +259,11 @@ IsHeldRightly stands home who run None = Unit {0}
 IsHeldRightly stands home who run (Some (occupant.Refused line refusal)) = IsRefusedAtOnce home who run line refusal
 IsHeldRightly stands home who run (Some (occupant.Running r)) = IsUnderWay stands home who run r
 
+-- the state of its slot goes with the operations on its way
+abbrev pub KeepsToItsWay : {R : Type 0} → (stands : R → Standing) → List Happening → Way → Option (Running R) → Type 0
+KeepsToItsWay stands run w None = Unit {0}
+KeepsToItsWay stands run w (Some r) = GoesWith (stands r.request).plan w (way_of r.line run)
+
 -- the client of the life that runs
 pub record IsLiving {R : Type 0} (stands : R → Standing) (home : SiteId) (session : ℕ) (run : List Happening) (knows : (slot : ℕ) → Knowledge) (c : ClientView R) : Type 0 where
   pub whose : c.session.instance.session ≡ session
@@ -244,6 +272,7 @@ pub record IsLiving {R : Type 0} (stands : R → Standing) (home : SiteId) (sess
   pub sound : IsSoundClient stands c
   pub know : AllKnow stands knows c.session
   pub held : (slot : ℕ) → IsHeldRightly stands home c.session.instance run (held_in slot c.session.slots)
+  pub ways : (slot : ℕ) → KeepsToItsWay stands run (state_in slot c.slots).way (running_at slot c.session)
 
 -- ---- what a stopped life may still send
 
@@ -323,6 +352,9 @@ pub record IsSoundWorld {R : Type 0} (stands : R → Standing) (w : WorldView R)
   -- each site's headers are in form, and no image has a parent
   pub form : (s : SiteId) → AreInForm (records_in s w.sites) (length (site_in s w.sites).log)
   pub parentless : (s : SiteId) → IsParentless (records_in s w.sites)
+  pub mapped : (s : SiteId) → AreMapped (records_in s w.sites)
+  -- where nobody was stopped or fenced, maps tell exactly what exists, but for what lines owe
+  pub exact : IsUnhindered run → (s : SiteId) → IsExactBut (is_owed s run) (records_in s w.sites)
   -- each session's lives are those of the run, and the requests of the one that runs are under way by
   -- what they know
   pub lives : (session : ℕ) (l : LivesView R) → lives_in session w.lives ≡ Some l → AreLivesOf run (homes session) session l

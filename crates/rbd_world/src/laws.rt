@@ -1,15 +1,25 @@
 //! What holds of every world: each law is the contract of a function that does nothing.
-ghost use Rattle.std.specs.Prelude.{◌≡◌, ℕ, ◌++◌, ◌∷◌, List, Option, true, false, Some};
+ghost use Rattle.std.specs.Prelude.{◌≡◌, ℕ, ◌+◌, ◌*◌, ◌≤◌, ◌++◌, ◌∷◌, [], List, Option, true, false, Some, count_by};
 ghost use Rattle.rbd_client.specs.Client.{ClientView};
+ghost use Rattle.rbd_exact.specs.Exact.{AreExact};
+ghost use Rattle.rbd_kinds.specs.declared.answer.Answer.{Answer as Word};
+ghost use Rattle.rbd_kinds.specs.declared.header.HeaderView.{HeaderView};
 ghost use Rattle.rbd_kinds.specs.declared.id.Instance.{Instance as Who};
 ghost use Rattle.rbd_kinds.specs.declared.id.SiteId.{SiteId as Which};
 ghost use Rattle.rbd_kinds.specs.declared.reply.Reply.{Reply as Told};
+ghost use Rattle.rbd_machine.specs.Path.{Answered};
+ghost use Rattle.rbd_owner.specs.Counts.{is_counted, is_fence, is_round, is_take};
+ghost use Rattle.rbd_owner.specs.Order.{EndsWith};
+ghost use Rattle.rbd_owner.specs.Steps.{fenced, lock_break};
+ghost use Rattle.rbd_site.specs.Records.{object_at};
 ghost use Rattle.rbd_world.specs.Late.{comes_among, is_late, is_stopped_among};
 ghost use Rattle.rbd_world.specs.Order.{IsWriterOf, WritesFirst, found_before};
-ghost use Rattle.rbd_world.specs.Run.{Did, Happening, Operation, comes_of};
-ghost use Rattle.rbd_world.specs.Sound.{IsInSlot, IsNewWorld, IsOpen, IsRight, IsRunning, IsSoundWorld};
+ghost use Rattle.rbd_world.specs.Owing.{IsUnhindered, has_worked};
+ghost use Rattle.rbd_world.specs.Run.{Did, Happening, House, Itself, OnWay, Operation, comes_of, step_of, way_of};
+ghost use Rattle.rbd_world.specs.Sound.{IsInSlot, IsNewWorld, IsOpen, IsRight, IsRunning, IsSoundWorld, StandsAtLook};
 ghost use Rattle.rbd_world.specs.Step.{Does, DoesAtSites, DropsWhatItMay, IsBuiltEvent, IsSoundIf, IsUndone, MayCome, WantsWhatItMay, happening};
-ghost use Rattle.rbd_world.specs.World.{WorldView, client_in, late_at};
+ghost use Rattle.rbd_world.specs.Ways.{AreAWay, AsksNext, IsOfRelease, IsOver, WasRefused};
+ghost use Rattle.rbd_world.specs.World.{WorldView, client_in, late_at, records_in};
 ghost use Rattle.rbd_world.specs.declared.event.Event.{Event};
 
 use rbd_course::Request;
@@ -60,6 +70,16 @@ pub fn open_lines_are_in_slots<R: Request>()
     ensures { (w : WorldView R) (sound : IsSoundWorld R.stands w) (line : ℕ) → IsOpen line sound.run → IsInSlot line w.lives }
 {}
 
+/// As long as nobody is stopped or fenced, the object maps of an image at rest tell exactly which
+/// objects exist: at each view, the head or a snapshot, the state is 1 where the object exists, and
+/// 0 where it doesn't. At rest is an image on which no line has worked that has no reply yet.
+pub fn maps_are_exact_at_rest<R: Request>()
+    ensures { (w : WorldView R) (sound : IsSoundWorld R.stands w) (s : Which) (image : ℕ) (h : HeaderView)
+        → IsUnhindered sound.run → (records_in s w.sites).headers image ≡ Some h
+        → ((line : ℕ) → IsOpen line sound.run → has_worked line s image sound.run ≡ false)
+        → AreExact h ((records_in s w.sites).maps image) (object_at (records_in s w.sites) image) }
+{}
+
 /// Who has an operation done is the latest life of its session, and runs; all but what a stopped
 /// life had sent before it was stopped.
 pub fn only_lives_that_run_act()
@@ -72,4 +92,36 @@ pub fn late_operations_come_once()
     ensures { (homes : ℕ → Which) (session slot : ℕ) (o : Operation) (reply : Option Told) (run more : List Happening)
         → comes_of session slot o.instance o.by ≡ true → is_stopped_among session more ≡ false
         → IsRight homes (more ++ (Did o reply ∷ run)) → comes_among session slot more ≡ false }
+{}
+
+/// The operations of a line on its way to the lock of its image, with their answers, are a way, to
+/// its end or to where it stands: each is the one that the way asks for after the answers before.
+/// So a lock is broken only directly behind the fence of its owner; the lock is asked for once, and
+/// once more for each round; and beside the steps that ask again there are at most one watch, two
+/// operations for each owner that was fenced, and one that ends the way.
+pub fn ways_lead_to_locks<R: Request>()
+    ensures ways { (w : WorldView R) (sound : IsSoundWorld R.stands w) (line : ℕ) → AreAWay (way_of line sound.run) }
+    ensures broken { (w : WorldView R) (sound : IsSoundWorld R.stands w) (line image : ℕ) (owner : Who) (s : Which) (a : Word) (before after : List Answered)
+        → way_of line sound.run ≡ before ++ record { site = s; op = lock_break image owner; answer = a } ∷ after → EndsWith (fenced s owner) before }
+    ensures takes { (w : WorldView R) (sound : IsSoundWorld R.stands w) (line : ℕ)
+        → count_by is_take (way_of line sound.run) ≤ 1 + count_by is_round (way_of line sound.run) }
+    ensures all { (w : WorldView R) (sound : IsSoundWorld R.stands w) (line : ℕ)
+        → count_by is_counted (way_of line sound.run) ≤ 2 + 2 * count_by is_fence (way_of line sound.run) }
+{}
+
+/// At each place of a run an operation on the way of a line is the one that its way asks for there,
+/// and the line's own walk wants its look under the lock; where the line is refused by it, so is
+/// the way. An operation of the line itself comes where its way wasn't begun, or has led to the
+/// lock. A house lets locks go, and does nothing else.
+pub fn operations_come_in_their_turn()
+    ensures asked { (homes : ℕ → Which) (line : ℕ) (o : Operation) (reply : Option Told) (run : List Happening)
+        → IsRight homes (Did o reply ∷ run) → o.by ≡ OnWay line → AsksNext o.site o.op (way_of line run) }
+    ensures look { (homes : ℕ → Which) (line : ℕ) (o : Operation) (reply : Option Told) (run : List Happening)
+        → IsRight homes (Did o reply ∷ run) → o.by ≡ OnWay line → StandsAtLook homes line o.site run }
+    ensures refused { (homes : ℕ → Which) (line : ℕ) (o : Operation) (reply : Told) (run : List Happening)
+        → IsRight homes (Did o (Some reply) ∷ run) → o.by ≡ OnWay line → WasRefused o.site reply (way_of line run ++ step_of o ∷ []) }
+    ensures itself { (homes : ℕ → Which) (line : ℕ) (o : Operation) (reply : Option Told) (run : List Happening)
+        → IsRight homes (Did o reply ∷ run) → o.by ≡ Itself line → IsOver (way_of line run) }
+    ensures house { (homes : ℕ → Which) (o : Operation) (reply : Option Told) (run : List Happening)
+        → IsRight homes (Did o reply ∷ run) → o.by ≡ House → IsOfRelease o.op }
 {}

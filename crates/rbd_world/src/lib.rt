@@ -53,6 +53,8 @@
 //! | `specs/Run.antt` | a *run*: what the calls did, one after another; its history, its logs, its records, flat sites and mail at each place, the operations of a line, and the lives of a session |
 //! | `specs/Step.antt` | what an event does (`happening`, `IsStep`), what a step that is refused memory leaves (`IsUndone`), and what is asked of an event |
 //! | `specs/Sound.antt` | what holds of each world (`IsSoundWorld`) |
+//! | `specs/Ways.antt` | the operations of a line on its way to the lock of its image |
+//! | `specs/Owing.antt` | what lines owe to object maps, and runs in which nobody is stopped or fenced |
 //! | `specs/Order.antt` | the order in which the writes of one instance change an image (`KeepsOrder`), and where they stand meanwhile |
 //! | `specs/InLine.antt` | how a write goes through the line of its image |
 //! | `specs/Late.antt` | what comes behind a stop |
@@ -70,16 +72,22 @@
 //!   had been answered so; and a line is lost exactly where its instance is stopped before;
 //! - the request in a slot stands where a walk of its command's plan led it, by just the operations
 //!   that were done for its line; and each line that has neither reply nor loss is in a slot;
+//! - the operations on a line's way to the lock of its image are a way of `rbd_owner`, each the one
+//!   that it asks for, while the line's own walk wants its look under the lock; its own operations
+//!   come where no way was begun, or one has led to the lock; and a house only lets locks go;
 //! - whoever does an operation is permitted it by what it knows, and what it knows is true; what
 //!   changes an image is its owner's, and a lock is broken only where its owner is fenced
 //!   (`IsOwnedStep`). No two clients are in each other's way, nor what stopped lives may still send;
 //! - of two writes or fills of one instance, the one that found an image first writes each of its
-//!   objects first, however their operations are mixed.
+//!   objects first, however their operations are mixed;
+//! - as long as nobody is stopped or fenced, object maps tell exactly which objects exist, but for
+//!   the object whose state a line raised by its last operation (`rbd_exact`).
 //!
 //! [`laws`] has these as laws over any sessions: a world begins sound, and each event, and each
-//! refusal of memory, leaves it so; that order as a law on whole runs; and that who acts is a life
-//! that runs, but for what a stopped one had sent, which comes once. What a fence stops, and whose
-//! changes are, are laws of `rbd_replies`.
+//! refusal of memory, leaves it so; that order as a law on whole runs; that maps are exact on an
+//! image at rest; what holds of ways to a lock (`ways_lead_to_locks`), and at which place each
+//! operation comes; and that who acts is a life that runs, but for what a stopped one had sent,
+//! which comes once. What a fence stops, and whose changes are, are laws of `rbd_replies`.
 //!
 //! # Cost
 //!

@@ -1,0 +1,281 @@
+-- Where a command that isn't a read looks at a header, it either waits for the lock next, or looks
+-- at none any more: step by step, and along a walk.
+use Rattle.std.proofs.Common.{◌≡◌, ◌⊎◌, inl, inr, ℕ, List, [], ◌∷◌, replicate, true, false, Option, Some, None, refl, sym, ◌∙◌, subst}
+use Rattle.rbd_kinds.specs.declared.answer.Answer.{Answer}
+use Rattle.rbd_kinds.specs.declared.answer.Answer.TheVariants as answer
+use Rattle.rbd_commands.specs.declared.command.Command.{Command}
+use Rattle.rbd_commands.specs.declared.command.Command.TheVariants as command
+use Rattle.rbd_commands.specs.declared.command.Shape.{Shape}
+use Rattle.rbd_kinds.specs.declared.header.HeaderView.{HeaderView}
+use Rattle.rbd_kinds.specs.declared.header.SnapView.{SnapView}
+use Rattle.rbd_kinds.specs.declared.header_op.HeaderOp.TheVariants as header
+use Rattle.rbd_kinds.specs.declared.id.SiteId.{SiteId}
+use Rattle.rbd_kinds.specs.declared.machine.Fed.{Fed}
+use Rattle.rbd_kinds.specs.declared.machine.Fed.TheVariants as fed
+use Rattle.rbd_kinds.specs.declared.operation.Op.{Op}
+use Rattle.rbd_kinds.specs.declared.operation.Op.TheVariants as op
+use Rattle.rbd_commands.specs.declared.refusal.Refusal.{Refusal}
+use Rattle.rbd_kinds.specs.declared.reply.Reply.{Reply}
+use Rattle.rbd_kinds.specs.declared.reply.Reply.TheVariants as reply
+use Rattle.rbd_kinds.specs.Header.{snap_named}
+use Rattle.rbd_layout.specs.Asked.{layout_of, KeepsLimits}
+use Rattle.rbd_layout.specs.Pieces.{pieces_of}
+use Rattle.rbd_layout.specs.declared.types.Piece.{Piece}
+use Rattle.rbd_header.specs.Header.{new_header}
+use Rattle.rbd_machine.specs.Label.{Label}
+use Rattle.rbd_machine.specs.Path.{Answered, IsWalk, at_operation}
+use Rattle.rbd_machine.specs.Plan.{Plan, Ask, Await, Note, Return, Goto, Standing, settled, without_labels}
+use Rattle.rbd_machine.specs.Refused.{refuses_none}
+use Rattle.rbd_machine.specs.Steps.{not_there, unless, on_id, on_header, on_done, change, joining as change_joining, looked, holding, owned, applied}
+use Rattle.rbd_machine.specs.Wait as wait
+use Rattle.rbd_machine.proofs.Settled.{settled_goto}
+use Rattle.rbd_meaning.specs.Listings.{shown_snaps}
+use Rattle.rbd_meaning.specs.Range.{extent_at}
+use Rattle.rbd_meaning.specs.Snaps.{create_refuses, remove_refuses}
+use Rattle.rbd_meaning.specs.Writes.{write_refuses}
+use Rattle.rbd_request.specs.Read.{is_read, IsReadOf}
+use Rattle.rbd_request.specs.Write.{put, write, write_pieces, write_plan}
+use Rattle.rbd_admin.specs.Create.{IsCreate, IsCreatePlan, on_drawn, mapping, making, drawing}
+use Rattle.rbd_admin.specs.Listing.{list_names, on_names, showing, show_header, listing_plan}
+use Rattle.rbd_admin.specs.Snap.{on_snap, on_bits, on_gone, taking, unmapping, take, remove_listed, remove, snap_plan}
+use Rattle.rbd_admin.proofs.Decided.{limits_or_not}
+use Rattle.rbd_close.specs.Close.{done, unwatching, on_dropped, joining, close, quiesced, resumed, resume, saying, tell, close_plan}
+use Rattle.rbd_requests.specs.Served.{IsPlanFor, Writes, Reads, Creates, Lists, Snaps, Closes}
+use Rattle.rbd_world.specs.Ways.{IsNoLook, LooksNoMore}
+
+-- ---- looks
+
+-- it waits for the lock of its image next
+abbrev pub HoldsNext : Plan → Type 0
+HoldsNext (Await (wait.Hold site image) next) = Unit {0}
+HoldsNext _ = ⊥
+
+pub data Looked (p : Plan) : Type 0 where
+  Holds : HoldsNext p → Looked p
+  IsLast : LooksNoMore p → Looked p
+
+abbrev pub LookedIf : Op → Plan → Type 0
+LookedIf (op.Header image header.Get) p = Looked p
+LookedIf o p = Unit {0}
+
+abbrev pub LooksOnce : Plan → Type 0
+LooksOnce (Ask site why o next) = (a : Answer) → LookedIf o (next a) × LooksOnce (next a)
+LooksOnce (Await w next) = LooksOnce next
+LooksOnce (Note site image event next) = LooksOnce next
+LooksOnce (Return r) = Unit {0}
+LooksOnce (Goto label) = Unit {0}
+
+if_none : (o : Op) (p : Plan) → IsNoLook o → LookedIf o p
+if_none (op.Header image header.Get) p none = absurd none
+if_none (op.Header image o) p none = tt
+if_none o p none = tt
+
+-- who looks at none looks once
+at_none : (p : Plan) → LooksNoMore p → LooksOnce p
+at_none (Ask site why o next) none = λ a. (if_none o (next a) none.0, at_none (next a) (none.1 a))
+at_none (Await w next) none = at_none next none
+at_none (Note site image event next) none = at_none next none
+at_none (Return r) none = tt
+at_none (Goto label) none = absurd none
+
+pub none_at_operation : (labels : Label → Plan) (p : Plan) → LooksNoMore p → LooksNoMore (at_operation labels p)
+none_at_operation labels (Ask site why o next) none = none
+none_at_operation labels (Await w next) none = none_at_operation labels next none
+none_at_operation labels (Note site image event next) none = none_at_operation labels next none
+none_at_operation labels (Return r) none = tt
+none_at_operation labels (Goto label) none = absurd none
+
+-- ---- steps that look at none
+
+none_there : (a : Answer) → LooksNoMore (not_there a)
+none_there answer.Fenced = tt
+none_there _ = tt
+
+none_done : (next : Plan) → LooksNoMore next → (a : Answer) → LooksNoMore (on_done next a)
+none_done next none answer.Done = none
+none_done next none a = none_there a
+
+none_unless : (r : Option Refusal) (next : Plan) → LooksNoMore next → LooksNoMore (unless r next)
+none_unless None next none = none
+none_unless (Some r) next none = tt
+
+none_header : (next : HeaderView → Plan) → ((h : HeaderView) → LooksNoMore (next h)) → (a : Answer) → LooksNoMore (on_header next a)
+none_header next none (answer.Header h) = none h
+none_header next none a = none_there a
+
+none_id : (next : ℕ → Plan) → ((image : ℕ) → LooksNoMore (next image)) → (a : Answer) → LooksNoMore (on_id next a)
+none_id next none (answer.Id image) = none image
+none_id next none a = none_there a
+
+-- ---- steps
+
+at_id : (next : ℕ → Plan) → ((image : ℕ) → LooksOnce (next image)) → (a : Answer) → LooksOnce (on_id next a)
+at_id next once (answer.Id image) = once image
+at_id next once a = at_none (not_there a) (none_there a)
+
+at_header : (next : HeaderView → Plan) → ((h : HeaderView) → LooksOnce (next h)) → (a : Answer) → LooksOnce (on_header next a)
+at_header next once (answer.Header h) = once h
+at_header next once a = at_none (not_there a) (none_there a)
+
+-- ---- a change
+
+module _ (site : SiteId) (refuses : HeaderView → Option Refusal) (act : ℕ → HeaderView → Plan) (acts : (image : ℕ) (h : HeaderView) → LooksNoMore (act image h)) (image : ℕ) where
+  none_owned : (a : Answer) → LooksNoMore (on_header (owned refuses act image) a)
+  none_owned = none_header (owned refuses act image) (λ h. none_unless (refuses h) (act image h) (acts image h))
+
+  once_held : LooksOnce (holding site refuses act image)
+  once_held = λ a. (IsLast (none_owned a), at_none (on_header (owned refuses act image) a) (none_owned a))
+
+  looked_so : (r : Option Refusal) → Looked (unless r (holding site refuses act image))
+  looked_so None = Holds tt
+  looked_so (Some r) = IsLast tt
+
+  looked_then : (a : Answer) → Looked (on_header (looked site refuses act image) a)
+  looked_then (answer.Header h) = looked_so (refuses h)
+  looked_then a = IsLast (none_there a)
+
+  once_so : (r : Option Refusal) → LooksOnce (unless r (holding site refuses act image))
+  once_so None = once_held
+  once_so (Some r) = tt
+
+  once_joining : (a : Answer) → LookedIf (op.Header image header.Get) (on_header (looked site refuses act image) a) × LooksOnce (on_header (looked site refuses act image) a)
+  once_joining a = (looked_then a, at_header (looked site refuses act image) (λ h. once_so (refuses h)) a)
+
+at_change : (site : SiteId) (name : List ℕ) (alone : _) (refuses : HeaderView → Option Refusal) (act : ℕ → HeaderView → Plan)
+    → ((image : ℕ) (h : HeaderView) → LooksNoMore (act image h)) → LooksOnce (change site name alone refuses act)
+at_change site name alone refuses act acts = λ a. (tt, at_id (change_joining site alone refuses act) (once_joining site refuses act acts) a)
+
+-- ---- write, fill
+
+none_pieces : (pieces : List Piece) (site : SiteId) (image : ℕ) (h : HeaderView) (from : ℕ) (bytes : List ℕ) → LooksNoMore (write_pieces site image h from bytes pieces (applied site image))
+none_pieces [] site image h from bytes = tt
+none_pieces (p ∷ pieces) site image h from bytes =
+    (tt, none_done _ (tt, none_done (write_pieces site image h from bytes pieces (applied site image)) (none_pieces pieces site image h from bytes)))
+
+at_write : (site : SiteId) (name : List ℕ) (from : ℕ) (bytes : List ℕ) → LooksOnce (write site name from bytes)
+at_write site name from bytes =
+    at_change site name false (write_refuses (extent_at from bytes)) (put site from bytes)
+    (λ image h. none_pieces (pieces_of h.layout (extent_at from bytes)) site image h from bytes)
+
+at_write_plan : (site : SiteId) (c : Command) → LooksOnce (write_plan site c)
+at_write_plan site (command.Write image from bytes) = at_write site image from bytes
+at_write_plan site (command.Fill image from len byte) = at_write site image from (replicate len byte)
+at_write_plan site _ = tt
+
+-- ---- create
+
+none_drawn : (next : ℕ → Plan) → ((image : ℕ) → LooksNoMore (next image)) → (a : Answer) → LooksNoMore (on_drawn next a)
+none_drawn next none (answer.Id image) = none image
+none_drawn next none answer.Exists = tt
+none_drawn next none answer.Full = tt
+none_drawn next none a = none_there a
+
+none_drawing : (site : SiteId) (name : List ℕ) (objects : ℕ) (h : HeaderView) → LooksNoMore (drawing site name objects h)
+none_drawing site name objects h =
+    (tt, none_drawn (mapping site objects h) (λ image. (tt, none_done (making site h image) (tt, none_done (Return reply.Done) tt))))
+
+at_is_create : (site : SiteId) (name : List ℕ) (size : ℕ) (shape : Shape) (plan : Plan) → IsCreate site name size shape plan → LooksOnce plan
+at_is_create site name size shape plan is = go (limits_or_not (layout_of shape) size)
+  where
+    go : KeepsLimits (layout_of shape) size ⊎ (KeepsLimits (layout_of shape) size → ⊥) → LooksOnce plan
+    go (inl keeps) = subst LooksOnce (sym (is.within keeps)) (at_none (drawing site name is.objects (new_header (layout_of shape) size)) (none_drawing site name is.objects (new_header (layout_of shape) size)))
+    go (inr fails) = subst LooksOnce (sym (is.outside fails)) tt
+
+at_create : (site : SiteId) (c : Command) (plan : Plan) → IsCreatePlan site c plan → LooksOnce plan
+at_create site (command.Create image size shape) plan is = at_is_create site image size shape plan is
+at_create site _ plan is = absurd is
+
+-- ---- ls, info, snap ls
+
+none_names : (next : List (List ℕ) → Plan) → ((names : List (List ℕ)) → LooksNoMore (next names)) → (a : Answer) → LooksNoMore (on_names next a)
+none_names next none (answer.Names names) = none names
+none_names next none a = none_there a
+
+at_show_header : (site : SiteId) (name : List ℕ) (shows : HeaderView → Reply) → LooksOnce (show_header site name shows)
+at_show_header site name shows = λ a. (
+  tt,
+  at_id (showing site shows)
+      (λ image b. (
+        IsLast (none_header (λ h. Return (shows h)) (λ h. tt) b),
+        at_none (on_header (λ h. Return (shows h)) b) (none_header (λ h. Return (shows h)) (λ h. tt) b),
+      )) a,
+)
+
+at_listing : (site : SiteId) (c : Command) → LooksOnce (listing_plan site c)
+at_listing site command.List = at_none (list_names site) (tt, none_names (λ names. Return (reply.Names names)) (λ names. tt))
+at_listing site (command.Info image) = at_show_header site image reply.Info
+at_listing site (command.SnapList image) = at_show_header site image shown_snaps
+at_listing site _ = tt
+
+-- ---- snap create, snap rm
+
+none_snap : (next : Plan) → LooksNoMore next → (a : Answer) → LooksNoMore (on_snap next a)
+none_snap next none (answer.Snap snap) = none
+none_snap next none a = none_there a
+
+none_bits : (next : List ℕ → Plan) → ((bits : List ℕ) → LooksNoMore (next bits)) → (a : Answer) → LooksNoMore (on_bits next a)
+none_bits next none (answer.Bits bits) = none bits
+none_bits next none a = none_there a
+
+none_gone : (next : Plan) → LooksNoMore next → (a : Answer) → LooksNoMore (on_gone next a)
+none_gone next none answer.Done = none
+none_gone next none answer.Absent = none
+none_gone next none a = none_there a
+
+none_removal : (site : SiteId) (snap : List ℕ) (image : ℕ) (listed : Option SnapView) → LooksNoMore (remove_listed site snap image listed)
+none_removal site snap image None = tt
+none_removal site snap image (Some listed) = (tt, none_done (unmapping site image listed.id) (tt, none_gone (applied site image) tt))
+
+at_snap_plan : (site : SiteId) (c : Command) → LooksOnce (snap_plan site c)
+at_snap_plan site (command.SnapCreate image snap) =
+    at_change site image true (create_refuses snap) (take site snap)
+    (λ i h. (tt, none_bits _ (λ bits. (tt, none_done (taking site snap i) (tt, none_snap (applied site i) tt)))))
+at_snap_plan site (command.SnapRemove image snap) =
+    at_change site image true (remove_refuses snap) (remove site snap) (λ i h. none_removal site snap i (snap_named h.snaps snap))
+at_snap_plan site _ = tt
+
+-- ---- close, quiesce, resume, tell
+
+none_dropped : (site : SiteId) (image : ℕ) (a : Answer) → LooksNoMore (on_dropped site image a)
+none_dropped site image answer.Done = (tt, none_done (unwatching site image) (tt, none_done done tt))
+none_dropped site image answer.Changed = (tt, none_done done tt)
+none_dropped site image a = none_there a
+
+at_close_plan : (site : SiteId) (c : Command) → LooksOnce (close_plan site c)
+at_close_plan site (command.Close image) = at_none (close site image) (tt, none_id (joining site) (λ i. (tt, none_dropped site i)))
+at_close_plan site (command.Quiesce image) = at_change site image true refuses_none quiesced (λ i h. tt)
+at_close_plan site (command.Resume image) = at_none (resume site image) (tt, none_id resumed (λ i. tt))
+at_close_plan site (command.Tell image bytes) = at_none (tell site image bytes) (tt, none_id (saying site bytes) (λ i. (tt, none_done done tt)))
+at_close_plan site _ = tt
+
+-- ---- along a walk of a request without labels
+
+at_settled : (plan : Plan) → LooksOnce plan → LooksOnce (settled Goto plan)
+at_settled plan once = subst LooksOnce (sym (settled_goto plan)) once
+
+at_end : (feds : List Fed) (plan : Plan) (steps : List Answered) (last : Plan) → LooksOnce plan → IsWalk Goto plan feds steps last → LooksOnce last
+at_end [] plan steps last once walk = subst LooksOnce (sym walk.1) once
+at_end (fed.Answer a ∷ more) (Ask site why o next) steps last once (first, walk) = at_end more (settled Goto (next a)) first.rest last (at_settled (next a) (once a).1) walk
+at_end (fed.Passed ∷ more) (Ask site why o next) steps last once walk = absurd walk
+at_end (fed.Passed ∷ more) (Await w next) steps last once walk = at_end more (settled Goto next) steps last (at_settled next once) walk
+at_end (fed.Answer a ∷ more) (Await w next) steps last once walk = absurd walk
+at_end (fed.Passed ∷ more) (Note site image event next) steps last once walk = at_end more (settled Goto next) steps last (at_settled next once) walk
+at_end (fed.Answer a ∷ more) (Note site image event next) steps last once walk = absurd walk
+at_end (f ∷ more) (Return r) steps last once walk = absurd walk
+at_end (f ∷ more) (Goto label) steps last once walk = absurd walk
+
+from_plan : (plan : Plan) (s : Standing) (feds : List Fed) (steps : List Answered) (last : Plan) → s ≡ without_labels plan → LooksOnce plan → IsWalk s.labels s.plan feds steps last → LooksOnce last
+from_plan plan s feds steps last is once walk = at_end feds plan steps last once (subst (λ (at : Standing). IsWalk at.labels at.plan feds steps last) is walk)
+
+is_one_read : (home : SiteId) (c : Command) (s : Standing) → IsReadOf home c s → is_read c ≡ true
+is_one_read home (command.Read image snap at len) s is = refl
+is_one_read home _ s is = absurd is
+
+pub looks_once : (home : SiteId) (c : Command) (s : Standing) (feds : List Fed) (steps : List Answered) (last : Plan)
+    → IsPlanFor home c s → is_read c ≡ false → IsWalk s.labels s.plan feds steps last → LooksOnce last
+looks_once home c s feds steps last (Writes is at_plan) other walk = from_plan (write_plan home c) s feds steps last at_plan (at_write_plan home c) walk
+looks_once home c s feds steps last (Reads is) other walk = let no : false ≡ true = sym other ∙ is_one_read home c s is in cc
+looks_once home c s feds steps last (Creates is at_plan) other walk = from_plan s.plan s feds steps last at_plan (at_create home c s.plan is) walk
+looks_once home c s feds steps last (Lists is at_plan) other walk = from_plan (listing_plan home c) s feds steps last at_plan (at_listing home c) walk
+looks_once home c s feds steps last (Snaps is at_plan) other walk = from_plan (snap_plan home c) s feds steps last at_plan (at_snap_plan home c) walk
+looks_once home c s feds steps last (Closes is at_plan) other walk = from_plan (close_plan home c) s feds steps last at_plan (at_close_plan home c) walk

@@ -1,0 +1,337 @@
+-- The operations of a line on its way to the lock go with the state of its slot: where a happening
+-- is none of its own, where its way begins and goes on, and where it goes on itself.
+use Rattle.std.proofs.Common.{◌≡◌, ◌⊎◌, inl, inr, ℕ, ◌==◌, ◌||◌, cond, Bool, true, false, List, [], ◌∷◌, ◌++◌, Option, Some, None, is_some, refl, sym, ap, ◌∙◌, subst}
+use Rattle.std.proofs.lemmas.Bool.{true≢false}
+use Rattle.rbd_client.specs.declared.actor.Actor.TheVariants as actor
+use Rattle.rbd_client.specs.declared.slot_state.SlotState.{SlotState}
+use Rattle.rbd_client.specs.declared.slot_state.Way.{Way}
+use Rattle.rbd_client.specs.declared.slot_state.Way.TheVariants as way
+use Rattle.rbd_client.specs.Actor.{actor_at, actor_at_look, actor_by, actor_on, due_release, releasing}
+use Rattle.rbd_client.specs.Client.{ClientView, state_in}
+use Rattle.rbd_client.specs.Feeding.{GoesOnItsWay, RefusesIt, TakesTheLock, WayComesTo, state_behind}
+use Rattle.rbd_client.specs.Sound.{IsSoundClient, IsWellOnWay, WaitsForLook}
+use Rattle.rbd_client.proofs.OnWay.{is_way, way_or, way_waits}
+use Rattle.rbd_client.proofs.Requests.{acts_by_way, is_request, stands_at_look}
+use Rattle.rbd_course.specs.Course.{Course, answered, is_newcomer_at, has_just_joined, is_own_at, looked, past}
+use Rattle.rbd_course.specs.Orderly.{IsOrderly}
+use Rattle.rbd_kinds.specs.declared.answer.Answer.{Answer}
+use Rattle.rbd_kinds.specs.declared.answer.Answer.TheVariants as answer
+use Rattle.rbd_kinds.specs.declared.header_op.HeaderOp.TheVariants as header
+use Rattle.rbd_kinds.specs.declared.id.Instance.{Instance}
+use Rattle.rbd_kinds.specs.declared.id.SiteId.{SiteId}
+use Rattle.rbd_kinds.specs.declared.image_at.ImageAt.{ImageAt}
+use Rattle.rbd_kinds.specs.declared.layout.Extent.{Extent}
+use Rattle.rbd_kinds.specs.declared.machine.Fed.{Fed}
+use Rattle.rbd_kinds.specs.declared.machine.Fed.TheVariants as fed
+use Rattle.rbd_kinds.specs.declared.operation.Op.{Op}
+use Rattle.rbd_kinds.specs.declared.operation.Op.TheVariants as op
+use Rattle.rbd_kinds.specs.declared.reply.Reply.{Reply}
+use Rattle.rbd_kinds.specs.declared.reply.Reply.TheVariants as reply
+use Rattle.rbd_known.specs.Calm.{is_change}
+use Rattle.rbd_line.specs.Line.{member_of}
+use Rattle.rbd_locks.specs.declared.lock_state.LockState.{LockState}
+use Rattle.rbd_locks.specs.Locks.{state_at}
+use Rattle.rbd_machine.specs.Answers.{CanBeFed}
+use Rattle.rbd_machine.specs.Label.{Label}
+use Rattle.rbd_machine.specs.Path.{Answered, IsWalk, at_operation}
+use Rattle.rbd_machine.specs.Plan.{Plan, Ask, Await, Return, Standing, plan_after, settled}
+use Rattle.rbd_machine.specs.Wait as wait
+use Rattle.rbd_machine.specs.declared.reason.Reason.{Reason}
+use Rattle.rbd_machine.specs.declared.reason.Reason.TheVariants as reason
+use Rattle.rbd_owner.specs.Acquire.{acquire, begun, lock_labels, op_at, op_of, rest_at, rest_of_acquire}
+use Rattle.rbd_request.specs.Read.{is_read}
+use Rattle.rbd_owner.specs.Release.{release_op, release_op_at}
+use Rattle.rbd_owner.specs.declared.acquire.Acquire.{Acquire}
+use Rattle.rbd_owner.specs.declared.acquire.Stage.{Stage}
+use Rattle.rbd_owner.specs.declared.acquire.Stage.TheVariants as stage
+use Rattle.rbd_owner.specs.declared.release.Release.{Release}
+use Rattle.rbd_owner.specs.declared.release.Stage.{Stage as ReleaseStage}
+use Rattle.rbd_owner.specs.declared.release.Stage.TheVariants as letting
+use Rattle.rbd_session.specs.declared.running.Occupant.{Occupant}
+use Rattle.rbd_session.specs.declared.running.Occupant.TheVariants as occupant
+use Rattle.rbd_session.specs.declared.running.Running.{Running}
+use Rattle.rbd_session.specs.Advance.{track_of}
+use Rattle.rbd_session.specs.Lines.{lines_of}
+use Rattle.rbd_session.specs.OnTrack.{IsOnTrack}
+use Rattle.rbd_session.specs.Session.{OfRunning, held_in, is_look_at, kind_asked, own_look_at, running_at, running_in, script_line}
+use Rattle.rbd_session.specs.Track.{course_of, line_in, place_in}
+use Rattle.rbd_session.specs.Waits.{waits}
+use Rattle.rbd_session.proofs.Sound.{no_some, some_same}
+use Rattle.rbd_world.specs.Run.{Happening, steps_of}
+use Rattle.rbd_world.specs.Sound.{IsUnderWay, KeepsToItsWay}
+use Rattle.rbd_world.specs.Ways.{AsksNext, GoesWith, IsOfRelease, IsOver, IsWayThere, LooksNoMore, TookTheLock, WasRefused}
+use Rattle.rbd_world.proofs.LooksOnce.{Holds, HoldsNext, IsLast, Looked, looks_once, none_at_operation}
+use Rattle.rbd_world.proofs.Quiet.{IsQuiet, way_on}
+use Rattle.rbd_world.proofs.RefusedOnWay.{LooksAt, looks_at, no_read}
+use Rattle.rbd_world.proofs.Walks.{walk_append}
+
+abbrev end : Plan
+end = Return reply.Done
+
+-- ---- where a happening is none of the line's
+
+module _ {R : Type 0} (stands : R → Standing) (h : Happening) (run : List Happening) where
+  pub ways_on : (w : Way) (o : Option (Occupant R)) → ((line : ℕ) → script_line o ≡ Some line → IsQuiet line h) → KeepsToItsWay stands run w (running_in o)
+      → KeepsToItsWay stands (h ∷ run) w (running_in o)
+  ways_on w None quiet keeps = tt
+  ways_on w (Some (occupant.Refused line refusal)) quiet keeps = tt
+  ways_on w (Some (occupant.Running r)) quiet keeps = subst (GoesWith (stands r.request).plan w) (sym (way_on r.line h run (quiet r.line refl))) keeps
+
+-- ---- one step more on a way
+
+one_more : (labels : Label → Plan) (plan last : Plan) (feds : List Fed) (steps : List Answered) (s : SiteId) (why : Reason) (o : Op) (next : Answer → Plan) (told : Answer)
+    → IsWalk labels plan feds steps (Ask s why o next) → settled labels (next told) ≡ last
+    → IsWalk labels plan (feds ++ fed.Answer told ∷ []) (steps ++ record { site = s; op = o; answer = told } ∷ []) last
+one_more labels plan last feds steps s why o next told walk is =
+    walk_append labels feds plan (Ask s why o next) last (fed.Answer told ∷ []) steps (record { site = s; op = o; answer = told } ∷ []) walk (record { rest = []; is = refl }, (refl, sym is))
+
+pub one_step_more : (site : SiteId) (image : ℕ) (steps : List Answered) (s : SiteId) (why : Reason) (o : Op) (next : Answer → Plan) (told : Answer) (last : Plan)
+    → IsWayThere site image steps (Ask s why o next) → settled (lock_labels site image) (next told) ≡ last
+    → IsWayThere site image (steps ++ record { site = s; op = o; answer = told } ∷ []) last
+one_step_more site image steps s why o next told last there is = record {
+  watched = there.watched;
+  feds = there.feds ++ fed.Answer told ∷ [];
+  walk = one_more (lock_labels site image) (acquire site image there.watched end) last there.feds steps s why o next told there.walk is;
+}
+
+-- ---- what a way asks for
+
+record Asked (s : Stage) (site : SiteId) (image : ℕ) : Type 0 where
+  next : Answer → Plan
+  is : rest_at s site image end ≡ Ask site reason.Acquiring (op_at s image) next
+
+asked_at : (s : Stage) (site : SiteId) (image : ℕ) → Asked s site image
+asked_at stage.Watching site image = record { next = _; is = refl }
+asked_at stage.Taking site image = record { next = _; is = refl }
+asked_at (stage.Looking owner) site image = record { next = _; is = refl }
+asked_at stage.Asking site image = record { next = _; is = refl }
+asked_at (stage.Fencing owner) site image = record { next = _; is = refl }
+asked_at (stage.Breaking owner) site image = record { next = _; is = refl }
+
+module _ (a : Acquire) (steps : List Answered) (there : IsWayThere a.site a.image steps (rest_of_acquire a end)) where
+  abbrev asks : Asked a.stage a.site a.image
+  asks = asked_at a.stage a.site a.image
+
+  stands_there : IsWayThere a.site a.image steps (Ask a.site reason.Acquiring (op_of a) asks.next)
+  stands_there = subst (IsWayThere a.site a.image steps) asks.is there
+
+  pub asks_next : AsksNext a.site (op_of a) steps
+  asks_next = record { image = a.image; why = reason.Acquiring; next = asks.next; way = stands_there }
+
+  module _ (told : Answer) where
+    abbrev more : List Answered
+    more = steps ++ record { site = a.site; op = op_of a; answer = told } ∷ []
+
+    goes_to : (last : Plan) → settled (lock_labels a.site a.image) (plan_after (rest_of_acquire a end) (fed.Answer told)) ≡ last → IsWayThere a.site a.image more last
+    goes_to last is =
+        one_step_more a.site a.image steps a.site reason.Acquiring (op_of a) asks.next told last stands_there
+        (sym (ap (λ p. settled (lock_labels a.site a.image) (plan_after p (fed.Answer told))) asks.is) ∙ is)
+
+    way_further : (b : Acquire) → GoesOnItsWay a (fed.Answer told) b → IsWayThere b.site b.image more (rest_of_acquire b end)
+    way_further b goes =
+        subst (λ s. IsWayThere s b.image more (rest_of_acquire b end)) (sym goes.site)
+        (subst (λ i. IsWayThere a.site i more (rest_of_acquire b end)) (sym goes.image)
+        (goes_to (rest_of_acquire b end) (sym (goes.goes (lock_labels a.site a.image) end refl).is)))
+
+    way_to_lock : (p : ImageAt) → TakesTheLock a (fed.Answer told) p → IsWayThere p.site p.image more end
+    way_to_lock p takes =
+        subst (λ s. IsWayThere s p.image more end) (sym takes.site)
+        (subst (λ i. IsWayThere a.site i more end) (sym takes.image)
+        (goes_to end
+        (ap (λ f. settled (lock_labels a.site a.image) (plan_after (rest_of_acquire a end) f)) takes.done
+        ∙ ap (λ s. settled (lock_labels a.site a.image) (plan_after (rest_at s a.site a.image end) (fed.Answer answer.Done))) takes.asked)))
+
+    pub way_goes_on : (left : Plan) (w : Way) → WayComesTo a (fed.Answer told) None w → GoesWith left w more
+    way_goes_on left (way.On b) goes = way_further b goes
+    way_goes_on left (way.Taken p) takes = way_to_lock p takes
+    way_goes_on left way.Unbegun comes = absurd comes
+
+    pub way_refused : (r : Reply) → RefusesIt a (fed.Answer told) r → WasRefused a.site r more
+    way_refused (reply.Refused x) refuses =
+        record { image = a.image; way = goes_to (Return (reply.Refused x)) (ap (settled (lock_labels a.site a.image)) (refuses end)) }
+    way_refused _ refuses = absurd refuses
+
+-- ---- where a way begins
+
+begins_there : (site : SiteId) (image : ℕ) (watched : Bool) → IsWayThere site image [] (rest_of_acquire (begun site image watched) end)
+begins_there site image watched = record { watched = watched; feds = []; walk = (refl, by watched) }
+  where
+    by : (b : Bool) → rest_of_acquire (begun site image b) end ≡ acquire site image b end
+    by true = refl
+    by false = refl
+
+begins_by : (s : LockState) (p : ImageAt) (a : Acquire) → actor_by s p.site p.image ≡ actor.Way a → IsWayThere a.site a.image [] (rest_of_acquire a end)
+begins_by s p a = go (s.quiesced || s.asked) s.owned
+  where
+    go : (held o : Bool) → cond held actor.Nobody (cond o actor.Request (actor.Way (begun p.site p.image s.watched))) ≡ actor.Way a → IsWayThere a.site a.image [] (rest_of_acquire a end)
+    go true o is = absurd (true≢false (sym (ap is_way is)))
+    go false true is = absurd (true≢false (sym (ap is_way is)))
+    go false false is = subst (λ (x : Acquire). IsWayThere x.site x.image [] (rest_of_acquire x end)) (ap (way_or a) is) (begins_there p.site p.image s.watched)
+
+releases_go_no_way : (r : Option Release) (due : Option ImageAt) → is_way (releasing r due) ≡ false
+releases_go_no_way (Some r) due = refl
+releases_go_no_way None (Some p) = refl
+releases_go_no_way None None = refl
+
+-- who wants a look isn't past its own
+looks_still : (site : SiteId) (p : Plan) → is_look_at site (kind_asked p) ≡ true → LooksNoMore p → ⊥
+looks_still site p wants none = let look = looks_at site p wants in (subst LooksNoMore look.is none).0
+
+module _ {R : Type 0} (stands : R → Standing) (slot : ℕ) (c : ClientView R) (sound : IsSoundClient stands c) (r : Running R) (runs : running_at slot c.session ≡ Some r) (steps : List Answered)
+    (keeps : GoesWith (stands r.request).plan (state_in slot c.slots).way steps) where
+  -- ---- its way acts
+
+  pub way_acts : (a : Acquire) → actor_at stands slot c ≡ actor.Way a → IsWayThere a.site a.image steps (rest_of_acquire a end)
+  way_acts a acts = by (slot == 0) acts
+    where
+      waiting : WaitsForLook stands slot a.site a.image c.session
+      waiting = way_waits stands slot c a sound acts
+
+      nothing_yet : (steps ≡ []) ⊎ (TookTheLock steps × LooksNoMore (stands r.request).plan) → steps ≡ []
+      nothing_yet (inl none) = none
+      nothing_yet (inr (took, none)) =
+          absurd (looks_still a.site (stands r.request).plan (subst (λ (q : Running R). is_look_at a.site (kind_asked (stands q.request).plan) ≡ true) (some_same waiting.request r (sym waiting.runs ∙ runs)) waiting.wants) none)
+
+      looking : (look : Option ImageAt) → steps ≡ [] → actor_at_look look c.locks ≡ actor.Way a → IsWayThere a.site a.image steps (rest_of_acquire a end)
+      looking None none is = absurd (true≢false (sym (ap is_way is)))
+      looking (Some p) none is = subst (λ xs. IsWayThere a.site a.image xs (rest_of_acquire a end)) (sym none) (begins_by (state_at p.site p.image c.locks) p a is)
+
+      on : (w : Way) → GoesWith (stands r.request).plan w steps → actor_on w (own_look_at stands slot c.session) c.locks ≡ actor.Way a → IsWayThere a.site a.image steps (rest_of_acquire a end)
+      on way.Unbegun off is = looking (own_look_at stands slot c.session) (nothing_yet off) is
+      on (way.On b) there is = subst (λ (x : Acquire). IsWayThere x.site x.image steps (rest_of_acquire x end)) (ap (way_or a) is) there
+      on (way.Taken p) there is = absurd (true≢false (sym (ap is_way is)))
+
+      by : (b : Bool) → cond b (releasing c.release (due_release c)) (actor_on (state_in slot c.slots).way (own_look_at stands slot c.session) c.locks) ≡ actor.Way a
+          → IsWayThere a.site a.image steps (rest_of_acquire a end)
+      by true is = absurd (true≢false (sym (ap is_way is) ∙ releases_go_no_way c.release (due_release c)))
+      by false is = on (state_in slot c.slots).way keeps is
+
+  -- ---- it acts itself
+
+  module _ (acts : actor_at stands slot c ≡ actor.Request) where
+    not_on : (b : Acquire) → (state_in slot c.slots).way ≡ way.On b → ⊥
+    not_on b is = true≢false (sym (acts_by_way stands slot c acts) ∙ ap (λ w. is_request (actor_on w (own_look_at stands slot c.session) c.locks)) is)
+
+    pub way_is_over : IsOver steps
+    way_is_over = by (state_in slot c.slots).way refl keeps
+      where
+        by : (w : Way) → (state_in slot c.slots).way ≡ w → GoesWith (stands r.request).plan w steps → IsOver steps
+        by way.Unbegun is (inl none) = inl none
+        by way.Unbegun is (inr (took, none)) = inr took
+        by (way.On b) is there = absurd (not_on b is)
+        by (way.Taken p) is there = inr (record { site = p.site; image = p.image; way = there })
+
+-- ---- behind its own look
+
+newcomer_behind : (e : Option Extent) (k : Course) (site : SiteId) (o : Op) (a : Answer) → is_newcomer_at k.place ≡ false → is_newcomer_at (answered e k site o a).place ≡ false
+newcomer_behind e k site (op.Header image header.Get) (answer.Header h) none = by (is_own_at site image k.place)
+  where
+    past_is : (p : _) → is_newcomer_at (past p) ≡ false
+    past_is None = refl
+    past_is (Some q) = refl
+
+    by : (b : Bool) → is_newcomer_at (cond b (looked e h k) k).place ≡ false
+    by true = past_is k.place
+    by false = none
+newcomer_behind e k site o a none = none
+
+holds_no_more : (e : Option Extent) (at : Label → Course) (k : Course) (p : Plan) → is_newcomer_at k.place ≡ false → IsOrderly e at true k p → HoldsNext p → ⊥
+holds_no_more e at k (Await (wait.Hold site image) next) none orderly holds = true≢false (sym orderly.0.1 ∙ none)
+holds_no_more e at k p none orderly holds = holds
+
+module _ {R : Type 0} (stands : R → Standing) (slot : ℕ) (c : ClientView R) (sound : IsSoundClient stands c) (r : Running R) (runs : running_at slot c.session ≡ Some r)
+    (home : SiteId) (who : Instance) (run : List Happening) (under : IsUnderWay stands home who run r) (a : Answer) (can : CanBeFed (stands r.request).plan (fed.Answer a)) where
+  -- at its own look it is answered, and looks at no header any more
+  module _ (site : SiteId) (image : ℕ) (waiting : WaitsForLook stands slot site image c.session) where
+    same : waiting.request ≡ r
+    same = some_same waiting.request r (sym waiting.runs ∙ runs)
+
+    place_is : r.place ≡ Some (record { site = site; image = image })
+    place_is = sym (ap (λ (q : Running R). q.place) same) ∙ waiting.place
+
+    look : LooksAt site (stands r.request).plan
+    look = looks_at site (stands r.request).plan (subst (λ (q : Running R). is_look_at site (kind_asked (stands q.request).plan) ≡ true) same waiting.wants)
+
+    walks_there : IsWalk under.start.labels under.start.plan under.feds (steps_of r.line run) (Ask site look.why (op.Header look.image header.Get) look.next)
+    walks_there = subst (IsWalk under.start.labels under.start.plan under.feds (steps_of r.line run)) look.is under.walk
+
+    reads_not : is_read under.begun.asked.command ≡ false
+    reads_not = by (is_change under.begun.asked.command) refl
+      where
+        by : (b : Bool) → is_change under.begun.asked.command ≡ b → is_read under.begun.asked.command ≡ false
+        by true is = no_read under.begun.asked.command is
+        by false is = absurd (no_some _ (sym (under.calm is).1 ∙ place_is))
+
+    waits_there : is_newcomer_at (course_of slot (track_of r c.session.lines)).place ≡ false
+    waits_there =
+        ap (λ p. is_newcomer_at (place_in p (member_of slot (line_in p (lines_of c.session.lines))))) place_is
+        ∙ ap (λ o. is_newcomer_at (place_in (Some (record { site = site; image = image })) o)) waiting.found
+        ∙ ap has_just_joined waiting.waits
+
+    looks_no_more : LooksNoMore (look.next a)
+    looks_no_more = by ((looks_once home under.begun.asked.command under.start under.feds (steps_of r.line run) (Ask site look.why (op.Header look.image header.Get) look.next) under.plan
+        reads_not walks_there a).0)
+      where
+        on : IsOnTrack slot r.extent true (stands r.request) (track_of r c.session.lines)
+        on = sound.session.runs slot r runs
+
+        orderly : IsOrderly r.extent on.orderly.at true (course_of slot (track_of r c.session.lines)) (Ask site look.why (op.Header look.image header.Get) look.next)
+        orderly = subst (IsOrderly r.extent on.orderly.at true (course_of slot (track_of r c.session.lines))) look.is on.orderly.orderly
+
+        by : Looked (look.next a) → LooksNoMore (look.next a)
+        by (IsLast none) = none
+        by (Holds holds) =
+            absurd
+            (holds_no_more r.extent on.orderly.at (answered r.extent (course_of slot (track_of r c.session.lines)) site (op.Header look.image header.Get) a) (look.next a)
+            (newcomer_behind r.extent (course_of slot (track_of r c.session.lines)) site (op.Header look.image header.Get) a waits_there)
+            (orderly.1 a (subst (λ p. CanBeFed p (fed.Answer a)) look.is can)) holds)
+
+    pub behind_look : LooksNoMore (plan_after (stands r.request).plan (fed.Answer a))
+    behind_look = subst (λ p. LooksNoMore (plan_after p (fed.Answer a))) (sym look.is) looks_no_more
+
+  -- it goes on itself, and its slot's state with it
+  module _ (steps : List Answered) (keeps : GoesWith (stands r.request).plan (state_in slot c.slots).way steps) (acts : actor_at stands slot c ≡ actor.Request)
+      (goes : OfRunning (λ q. waits slot (track_of q c.session.lines) ≡ false) (held_in slot c.session.slots))
+      (s : SiteId) (why : Reason) (o : Op) (next : Answer → Plan) (asks : (stands r.request).plan ≡ Ask s why o next) (labels : Label → Plan) where
+    abbrev left : Plan
+    left = at_operation labels (next a)
+
+    no_more_left : LooksNoMore (plan_after (stands r.request).plan (fed.Answer a)) → LooksNoMore left
+    no_more_left none = none_at_operation labels (next a) (subst (λ p. LooksNoMore (plan_after p (fed.Answer a))) asks none)
+
+    unbegun_stays : (b : Bool) (x : SlotState) → x.way ≡ way.Unbegun → (state_behind false b x).way ≡ way.Unbegun
+    unbegun_stays true x is = refl
+    unbegun_stays false x is = is
+
+    looked_is_over : (at : Option ImageAt) (p : ImageAt) (x : SlotState) → at ≡ Some p → (state_behind false (is_some at) x).way ≡ way.Unbegun
+    looked_is_over at p x is = ap (λ l. (state_behind false (is_some l) x).way) is
+
+    pub goes_on_itself : GoesWith left (state_behind false (is_some (own_look_at stands slot c.session)) (state_in slot c.slots)).way steps
+    goes_on_itself = by (state_in slot c.slots).way refl keeps
+      where
+        look : Option ImageAt
+        look = own_look_at stands slot c.session
+
+        over : (state_behind false (is_some look) (state_in slot c.slots)).way ≡ way.Unbegun → GoesWith left way.Unbegun steps
+            → GoesWith left (state_behind false (is_some look) (state_in slot c.slots)).way steps
+        over is off = subst (λ w. GoesWith left w steps) (sym is) off
+
+        by : (w : Way) → (state_in slot c.slots).way ≡ w → GoesWith (stands r.request).plan w steps → GoesWith left (state_behind false (is_some look) (state_in slot c.slots)).way steps
+        by way.Unbegun is (inl none) = over (unbegun_stays (is_some look) (state_in slot c.slots) is) (inl none)
+        by way.Unbegun is (inr (took, none)) =
+            over (unbegun_stays (is_some look) (state_in slot c.slots) is)
+            (inr (took, none_at_operation labels (next a) ((subst LooksNoMore asks none).1 a)))
+        by (way.On b) is there = absurd (not_on stands slot c sound r runs steps keeps acts b is)
+        by (way.Taken p) is there =
+            let waiting : WaitsForLook stands slot p.site p.image c.session = (subst (λ w. IsWellOnWay stands slot w c.session c.locks) is (sound.ways slot)).0 in
+            over (looked_is_over look (record { site = p.site; image = p.image }) (state_in slot c.slots) (stands_at_look stands slot p.site p.image c.session waiting goes))
+            (inr (record { site = p.site; image = p.image; way = there }, no_more_left (behind_look p.site p.image waiting)))
+
+-- ---- a release
+
+pub of_release : (x : Release) → IsOfRelease (release_op x)
+of_release x = by x.stage
+  where
+    by : (s : ReleaseStage) → IsOfRelease (release_op_at s x.image)
+    by letting.Dropping = record { image = x.image; is = inl refl }
+    by letting.Telling = record { image = x.image; is = inr refl }
