@@ -1,9 +1,12 @@
 -- A text of a play's history and logs tells the play.
-use Rattle.std.proofs.Common.{◌≡◌, ℕ, List, ap, ◌∙◌}
+use Rattle.std.proofs.Common.{◌≡◌, ◌⊎◌, inl, inr, ℕ, List, ap, ◌∙◌}
+use Rattle.rbd_ends.specs.OneChanger.{AreAllReplied, HasOneChanger}
+use Rattle.rbd_ends.proofs.Over.{changes_are_over}
 use Rattle.rbd_flat.specs.declared.entry.Entry.{Entry}
 use Rattle.rbd_kinds.specs.declared.id.SiteId.TheVariants.{A, B}
 use Rattle.rbd_replies.proofs.AtPlaces.{fences_hold, locks_hold}
 use Rattle.rbd_replies.proofs.Worlds.{told_in_world}
+use Rattle.rbd_schedule.specs.Ends.{AreOver, IsSpent}
 use Rattle.rbd_schedule.specs.InOrder.{AreInOrder}
 use Rattle.rbd_schedule.specs.Playing.{IsPlay, IsPlayable}
 use Rattle.rbd_schedule.proofs.Calmed.{plays_rest}
@@ -13,6 +16,14 @@ use Rattle.rbd_site.specs.declared.done.Done.{Done}
 use Rattle.rbd_world.specs.World.{WorldView, site_in}
 use Rattle.rbd_lab.specs.Output.{IsTold, Requests, stands, told_text}
 use Rattle.rbd_lab.specs.declared.mode.Mode.{Mode}
+
+-- where one session alone changes images each command has its reply
+replied : (script : Script) (w : WorldView Requests) → IsPlayable script → (play : IsPlay stands script w) → HasOneChanger script → AreAllReplied script w ⊎ IsSpent stands script w play
+replied script w playable play one = by (changes_are_over stands script w playable one play)
+  where
+    by : (AreOver script w × AreAllReplied script w) ⊎ IsSpent stands script w play → AreAllReplied script w ⊎ IsSpent stands script w play
+    by (inl over) = inl over.1
+    by (inr spent) = inr spent
 
 pub told : (mode : Mode) (script : Script) (w : WorldView Requests) → IsPlayable script → AreInOrder script.lines → IsPlay stands script w
     → (history : List Entry) (a b : List Done) → history ≡ w.history → a ≡ (site_in A w.sites).log → b ≡ (site_in B w.sites).log
@@ -25,6 +36,7 @@ told mode script w playable in_order play history a b of_history of_a of_b text 
   locks = locks_hold play.sound.homes play.sound.run play.sound.right;
   turns = play_takes_turns stands script w play in_order;
   ends = plays_rest stands script w play;
+  over = replied script w playable play;
   tells =
       is
       ∙ ap (λ h. told_text mode script h a b) of_history

@@ -2,6 +2,7 @@
 use Rattle.std.specs.Prelude.{◌≡◌, ◌⊎◌, ℕ, List, All}
 use Rattle.rbd_admin.specs.Create.{rest_of_create}
 use Rattle.rbd_admin.specs.declared.create.CreateRequest.{CreateRequest}
+use Rattle.rbd_ends.specs.OneChanger.{AreAllReplied, HasOneChanger}
 use Rattle.rbd_flat.specs.declared.entry.Entry.{Entry}
 use Rattle.rbd_kinds.specs.declared.id.SiteId.TheVariants.{A, B}
 use Rattle.rbd_machine.specs.Plan.{Standing, without_labels}
@@ -37,11 +38,12 @@ text_of mode script w = told_text mode script w.history (site_in A w.sites).log 
 
 -- The text tells a world that the script's schedule led to, from a new one on: its history, its
 -- logs and its replies. Each reply in this history is the flat-copy machine's, at its place. No
--- operation of a fenced instance changes anything; who changes an image has its lock, and nobody
--- loses a lock who isn't fenced. The commands of a session that wait for each other come one
--- after another. At the end nothing goes on any more: each command that was begun has its reply,
--- or is lost, or is held up at a lock, or stands behind such a one; unless all the rounds that
--- close a script were played, more than any machine plays.
+-- operation of a fenced instance changes anything; who changes an image has its lock, or makes the
+-- map of one without a header, and nobody loses a lock who isn't fenced. The commands of a session
+-- that wait for each other come one after another. At the end nothing goes on any more: each
+-- command that was begun has its reply, or is lost, or is held up at a lock, or stands behind such
+-- a one; and where one session alone changes images, each command has its reply. Unless all the
+-- rounds that close a script were played, more than any machine plays.
 pub record IsTold (mode : Mode) (script : Script) (text : List ℕ) : Type 0 where
   pub world : WorldView Requests
   pub play : IsPlay stands script world
@@ -50,4 +52,5 @@ pub record IsTold (mode : Mode) (script : Script) (text : List ℕ) : Type 0 whe
   pub locks : AtEachOperation IsTheOwners play.sound.run
   pub turns : (session : ℕ) → AreInTurn (given_in script.lines session) world.history
   pub ends : HasCalmed stands script world ⊎ IsSpent stands script world play
+  pub over : HasOneChanger script → AreAllReplied script world ⊎ IsSpent stands script world play
   pub tells : text ≡ text_of mode script world

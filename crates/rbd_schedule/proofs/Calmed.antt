@@ -101,9 +101,9 @@ earliest_done b a done (c ∷ given) is = by (b c.line) c.beside (done c.line) (
 -- ---- the sessions of a play
 
 -- so many sessions are there
-record AreSessions {R : Type 0} (n : ℕ) (w : WorldView R) : Type 0 where
-  there : (session : ℕ) → session < n → is_some (lives_in session w.lives) ≡ true
-  past : (session : ℕ) → n ≤ session → lives_in session w.lives ≡ None
+pub record AreSessions {R : Type 0} (n : ℕ) (w : WorldView R) : Type 0 where
+  pub there : (session : ℕ) → session < n → is_some (lives_in session w.lives) ≡ true
+  pub past : (session : ℕ) → n ≤ session → lives_in session w.lives ≡ None
 
 none_there : {T : Type 0} (o : Option T) → is_some o ≡ false → o ≡ None
 none_there None is = refl
@@ -159,7 +159,7 @@ any_of P Q each (suc n) = by (any_of P Q each n) (each n)
         go k below (inr more) = let same : n ≡ k = omega (arith, below, more) in subst Q same last
 
 module _ {R : Type 0} (stands : R → Standing) (script : Script) (w : WorldView R) (play : IsPlay stands script w) where
-  sessions_there : AreSessions (length script.sessions) w
+  pub sessions_there : AreSessions (length script.sessions) w
   sessions_there =
       kept_by_play stands (AreSessions (length script.sessions)) (sessions_stay stands (length script.sessions)) script play.first w play.plays (record {
         there = λ s below. home_there (slice_get (homes_of script.sessions) s) (lives_in s play.first.lives) (play.homes s) ∙ homes_within script.sessions s below;
@@ -170,7 +170,7 @@ module _ {R : Type 0} (stands : R → Standing) (script : Script) (w : WorldView
   sound_there s c is = (play.sound.clients s c is).sound
 
   -- who runs is one of them
-  runs_below : (s : ℕ) (c : ClientView R) → client_in s w.lives ≡ Some c → s < length script.sessions
+  pub runs_below : (s : ℕ) (c : ClientView R) → client_in s w.lives ≡ Some c → s < length script.sessions
   runs_below s c is = by (cases_lt s (length script.sessions))
     where
       by : (s < length script.sessions) ⊎ (length script.sessions ≤ s) → s < length script.sessions
@@ -301,13 +301,16 @@ module _ {R : Type 0} (stands : R → Standing) (script : Script) (w : WorldView
 
 module _ {R : Type 0} (stands : R → Standing) (given : (session : ℕ) → List Given) (lost : (number : ℕ) → Bool) (n : ℕ) where
   -- None may start, or no session runs.
-  abbrev IsAtRest : WorldView R → Type 0
+  abbrev pub IsAtRest : WorldView R → Type 0
   IsAtRest w = IsQuiet given w ⊎ NoneRuns stands given lost n w
 
-  record IsLastRound (w : WorldView R) : Type 0 where
-    before : WorldView R
-    round : Round stands given lost n false before w
-    rest : IsAtRest before
+  -- the last of some rounds, which was idle, and those before it
+  pub record IsLastRound (old : Calm R) (w : WorldView R) : Type 0 where
+    pub before : Calm R
+    pub count : ℕ
+    pub first : Deeds (λ i. RoundsOn stands given lost n) count old before
+    pub round : Round stands given lost n false before.world w
+    pub rest : IsAtRest before.world
 
   round_rests : (went_on : Bool) (old new : WorldView R) → Round stands given lost n went_on old new → IsAtRest new
   round_rests went_on old new round = by (quiet_turns stands given lost n (record { world = old; went_on = false }) (record { world = new; went_on = went_on }) round)
@@ -322,16 +325,16 @@ module _ {R : Type 0} (stands : R → Standing) (given : (session : ℕ) → Lis
   rounds_rest zero old new k done none some = let no : 0 ≡ suc k = sym none ∙ ap (λ (c : Calm R). c.idle) (sym done) ∙ some in absurd (omega (arith, no))
   rounds_rest (suc count) old new k (between, before, it) none some = round_rests it.went_on between.world new.world it.round
 
-  last_round : (count : ℕ) (old new : Calm R) → Deeds (λ i. RoundsOn stands given lost n) count old new → old.idle ≡ 0 → new.idle ≡ most_idle → IsLastRound new.world
+  pub last_round : (count : ℕ) (old new : Calm R) → Deeds (λ i. RoundsOn stands given lost n) count old new → old.idle ≡ 0 → new.idle ≡ most_idle → IsLastRound old new.world
   unfolding Deeds
   last_round zero old new done none eight = let no : 0 ≡ 8 = sym none ∙ ap (λ (c : Calm R). c.idle) (sym done) ∙ eight in absurd (omega (arith, no))
   last_round (suc count) old new (between, before, it) none eight = by it.went_on it.idle it.round
     where
-      by : (b : Bool) → new.idle ≡ cond b 0 (between.idle + 1) → Round stands given lost n b between.world new.world → IsLastRound new.world
+      by : (b : Bool) → new.idle ≡ cond b 0 (between.idle + 1) → Round stands given lost n b between.world new.world → IsLastRound old new.world
       by true idle round = let no : 8 ≡ 0 = sym eight ∙ idle in absurd (omega (arith, no))
       by false idle round =
           let seven : between.idle ≡ suc 6 = let e : 8 ≡ between.idle + 1 = sym eight ∙ idle in omega (arith, e) in
-          record { before = between.world; round = round; rest = rounds_rest count old between 6 before none seven }
+          record { before = between; count = count; first = before; round = round; rest = rounds_rest count old between 6 before none seven }
 
 -- where no session runs, none may start
 none_quiet : {R : Type 0} (given : (session : ℕ) → List Given) (w : WorldView R) → ((s : ℕ) → runs s w ≡ false) → IsQuiet given w
@@ -382,12 +385,12 @@ module _ {R : Type 0} (stands : R → Standing) (script : Script) (w : WorldView
   ends_with : play.plays.closing.idle ≡ most_idle → HasCalmed stands script w
   ends_with eight = by (last_round stands given lost count play.plays.closing.count (record { world = play.plays.between; idle = 0 }) (record { world = w; idle = play.plays.closing.idle }) play.plays.closing.on refl eight)
     where
-      by : IsLastRound stands given lost count w → HasCalmed stands script w
+      by : IsLastRound stands given lost count (record { world = play.plays.between; idle = 0 }) w → HasCalmed stands script w
       by last = go last.rest
         where
-          go : IsAtRest stands given lost count last.before → HasCalmed stands script w
-          go (inl quiet) = round_calms last.before last.round quiet
-          go (inr none) = nobody_calms (none_still stands given lost count (record { world = last.before; went_on = false }) (record { world = w; went_on = false }) last.round none)
+          go : IsAtRest stands given lost count last.before.world → HasCalmed stands script w
+          go (inl quiet) = round_calms last.before.world last.round quiet
+          go (inr none) = nobody_calms (none_still stands given lost count (record { world = last.before.world; went_on = false }) (record { world = w; went_on = false }) last.round none)
 
   pub plays_rest : HasCalmed stands script w ⊎ IsSpent stands script w play
   plays_rest = by play.plays.closing.ends

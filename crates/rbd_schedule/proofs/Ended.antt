@@ -19,7 +19,7 @@ use Rattle.rbd_schedule.specs.Deeds.{Deeds}
 use Rattle.rbd_schedule.specs.Notices.{is_due, runs}
 use Rattle.rbd_schedule.specs.Schedule.{Comes, DeliversWhere, Happens, Pace, PollsAll, PollsIn, PollsWhere, Starts, TurnOf, TurnWhere, goes_on, is_held}
 use Rattle.rbd_schedule.specs.Starts.{IsIdle, IsQuiet}
-use Rattle.rbd_schedule.proofs.Idle.{Asked, IsIdleStep, IsStillIn, StaysIn, Told, same_sessions, stays_quiet, stays_still, still_before}
+use Rattle.rbd_schedule.proofs.Idle.{Asked, IsIdleStep, IsStill, IsStillIn, StaysIn, Told, same_sessions, stays_quiet, stays_still, still_before}
 
 -- a slot whose line isn't there is free
 pub free_there : {R : Type 0} (o : Option (Occupant R)) → script_line o ≡ None → o ≡ None
@@ -179,65 +179,88 @@ module _ {R : Type 0} (stands : R → Standing) (given : (session : ℕ) → Lis
   not_zero : (k : ℕ) → ((k + 1) == 0) ≡ false
   not_zero k = ne_eqb (k + 1) 0 (λ is. absurd (omega (arith, is)))
 
-  -- a slot that was polled, or wasn't held
-  still_where : (held : Bool) (session k : ℕ) (point old new : Pace R) → is_held session (k + 1) point.world ≡ held → PollsWhere stands given held session (k + 1) old new → new.went_on ≡ false
-      → IsQuiet given old.world → AreSoundSessions old.world → HasRequestsOf point.world old.world → IsStillIn stands session (k + 1) new.world
-  still_where true session k point old new at polls still quiet sound same =
-      let none = step_of session (k + 1) old new polls still in
-      let alone = polled_alone session (k + 1) polls.result old.world new.world polls.comes none quiet in
-      stays_still stands session (k + 1) (not_zero k) old.world new.world alone
-      (still_by_poll session (k + 1) old.world polls.comes.between polls.result polls.comes.step none sound)
-  still_where false session k point old new at same_pace still quiet sound same = λ c is.
-      let there : session_in session point.world.lives ≡ Some c.session = sym (same session) ∙ session_at session old.world c (ap (λ (p : Pace R). client_in session p.world.lives) (sym same_pace) ∙ is) in
-      let free : held_in (k + 1) c.session.slots ≡ None = unheld_there (held_in (k + 1) c.session.slots) (sym (ap (λ x. is_some (script_line (held_of (k + 1) x))) there) ∙ at) in
-      subst (StaysIn (k + 1) c.session.lines (actor_at stands (k + 1) c)) (sym free) tt
+  -- ---- what holds of each slot that was polled, and stays
 
-  -- so each of them is, behind the polls of a turn
-  still_polls : (session : ℕ) (point : Pace R) (n : ℕ) (new : Pace R) → Deeds (HeldPolls session point) n point new → new.went_on ≡ false → IsQuiet given point.world → AreSoundSessions point.world
-      → (k : ℕ) → k < n → IsStillIn stands session (k + 1) new.world
-  unfolding Deeds
-  still_polls session point zero new done still quiet sound k below = absurd (omega (arith, below))
-  still_polls session point (suc n) new (between, first, it) still quiet sound k below =
-      let before = before_where (is_held session (n + 1) point.world) session (n + 1) between new it still in
-      let sounds = keeps_polls AreSoundSessions sounds_step session point n point between first before (sound, quiet) in
-      let requests = keeps_polls (HasRequestsOf point.world) (requests_step point.world) session point n point between first before ((λ s. refl), quiet) in
-      either_way k n
-      (λ less. (keeps_where (IsStillIn stands session (k + 1)) (stays_still stands session (k + 1) (not_zero k)) (is_held session (n + 1) point.world) session (n + 1) between new it still
-      (still_polls session point n between first before quiet sound k less, sounds.1)).0)
-      (λ more.
-      let same : k ≡ n = omega (arith, below, more) in
-      subst (λ j. IsStillIn stands session (j + 1) new.world) (sym same)
-      (still_where (is_held session (n + 1) point.world) session n point between new refl it still sounds.1 sounds.0 requests.0))
+  -- `I` holds of the worlds of an idle round. `Q` holds of a slot of a client where it is polled,
+  -- and where it is free; and what an idle round plays leaves it.
+  module _ (I : WorldView R → Type 0) (I_step : (a b : WorldView R) → IsIdleStep stands a b → I a → I b) (Q : (slot : ℕ) → ClientView R → Type 0) where
+    abbrev HoldsIn : (session slot : ℕ) → WorldView R → Type 0
+    HoldsIn session slot w = (c : ClientView R) → client_in session w.lives ≡ Some c → Q slot c
+
+    module _ (Q_step : (session slot : ℕ) → (slot == 0) ≡ false → (a b : WorldView R) → IsIdleStep stands a b → I a → HoldsIn session slot a → HoldsIn session slot b)
+        (Q_poll : (session slot : ℕ) (a b : WorldView R) (result : Outcome) → IsStep stands (event.Poll session slot) a result b → goes_on result ≡ false → I a → HoldsIn session slot a)
+        (Q_free : (slot : ℕ) (c : ClientView R) → held_in slot c.session.slots ≡ None → Q slot c) where
+      -- a slot that was polled, or wasn't held
+      holds_where : (held : Bool) (session k : ℕ) (point old new : Pace R) → is_held session (k + 1) point.world ≡ held → PollsWhere stands given held session (k + 1) old new → new.went_on ≡ false
+          → IsQuiet given old.world → I old.world → HasRequestsOf point.world old.world → HoldsIn session (k + 1) new.world
+      holds_where true session k point old new at polls still quiet is same =
+          let none = step_of session (k + 1) old new polls still in
+          let alone = polled_alone session (k + 1) polls.result old.world new.world polls.comes none quiet in
+          Q_step session (k + 1) (not_zero k) old.world new.world alone is (Q_poll session (k + 1) old.world polls.comes.between polls.result polls.comes.step none is)
+      holds_where false session k point old new at same_pace still quiet is same = λ c there.
+          let was : session_in session point.world.lives ≡ Some c.session = sym (same session) ∙ session_at session old.world c (ap (λ (p : Pace R). client_in session p.world.lives) (sym same_pace) ∙ there) in
+          Q_free (k + 1) c (unheld_there (held_in (k + 1) c.session.slots) (sym (ap (λ x. is_some (script_line (held_of (k + 1) x))) was) ∙ at))
+
+      -- what holds of it stays beside the rest
+      abbrev Both : (session slot : ℕ) → WorldView R → Type 0
+      Both session slot w = HoldsIn session slot w × I w
+
+      both_step : (session slot : ℕ) → (slot == 0) ≡ false → (a b : WorldView R) → IsIdleStep stands a b → Both session slot a → Both session slot b
+      both_step session slot some a b step (holds, is) = (Q_step session slot some a b step is holds, I_step a b step is)
+
+      -- so it holds of each of them, behind the polls of a turn
+      holds_polls : (session : ℕ) (point : Pace R) (n : ℕ) (new : Pace R) → Deeds (HeldPolls session point) n point new → new.went_on ≡ false → IsQuiet given point.world → I point.world
+          → (k : ℕ) → k < n → HoldsIn session (k + 1) new.world
+      unfolding Deeds
+      holds_polls session point zero new done still quiet is k below = absurd (omega (arith, below))
+      holds_polls session point (suc n) new (between, first, it) still quiet is k below =
+          let before = before_where (is_held session (n + 1) point.world) session (n + 1) between new it still in
+          let then = keeps_polls I I_step session point n point between first before (is, quiet) in
+          let requests = keeps_polls (HasRequestsOf point.world) (requests_step point.world) session point n point between first before ((λ s. refl), quiet) in
+          either_way k n
+          (λ less. (keeps_where (Both session (k + 1)) (both_step session (k + 1) (not_zero k)) (is_held session (n + 1) point.world) session (n + 1) between new it still
+          ((holds_polls session point n between first before quiet is k less, then.0), then.1)).0.0)
+          (λ more.
+          let same : k ≡ n = omega (arith, below, more) in
+          subst (λ j. HoldsIn session (j + 1) new.world) (sym same)
+          (holds_where (is_held session (n + 1) point.world) session n point between new refl it still then.1 then.0 requests.0))
+
+      module _ (lost : (number : ℕ) → Bool) where
+        holds_turn : (running : Bool) (session : ℕ) (old new : Pace R) → runs session old.world ≡ running → TurnWhere stands given lost running session old new → new.went_on ≡ false → IsQuiet given old.world
+            → I old.world → (k : ℕ) → k < 64 → HoldsIn session (k + 1) new.world
+        holds_turn true session old new at turn still quiet is k below =
+            let polls = turn.polls in
+            let before = before_polls session polls.point 64 polls.point new polls.held still in
+            let told = keeps_dues I I_step (λ k. is_due lost session (k + 1) old.world) (length old.world.sites.mail) old.world turn.told turn.notices (is, quiet) in
+            let point = keeps_poll I I_step session 0 (record { world = turn.told; went_on = old.went_on }) polls.point polls.slot_0 before told in
+            holds_polls session polls.point 64 new polls.held still point.1 point.0 k below
+        holds_turn false session old new at same still quiet is k below = λ c there.
+            absurd (true≢false (sym (ap is_some there) ∙ subst (λ (p : Pace R). runs session p.world ≡ false) (sym same) at))
+
+        -- and behind a round, of those of all sessions
+        pub holds_turns : (n : ℕ) (old new : Pace R) → Deeds (TurnOf stands given lost) n old new → new.went_on ≡ false → IsQuiet given old.world → I old.world
+            → (session : ℕ) → session < n → (k : ℕ) → k < 64 → HoldsIn session (k + 1) new.world
+        unfolding Deeds
+        holds_turns zero old new done still quiet is session below k within = absurd (omega (arith, below))
+        holds_turns (suc n) old new (between, first, it) still quiet is session below k within =
+            let before = before_turn lost (runs n between.world) n between new it still in
+            let then = keeps_turns I I_step lost n old between first before (is, quiet) in
+            either_way session n
+            (λ less. (keeps_turn (Both session (k + 1)) (both_step session (k + 1) (not_zero k)) lost (runs n between.world) n between new it still
+            ((holds_turns n old between first before quiet is session less k within, then.0), then.1)).0.0)
+            (λ more.
+            let same : session ≡ n = omega (arith, below, more) in
+            subst (λ s. HoldsIn s (k + 1) new.world) (sym same) (holds_turn (runs n between.world) n between new refl it still then.1 then.0 k within))
 
   module _ (lost : (number : ℕ) → Bool) where
-    stopped_still : (session slot : ℕ) (w : WorldView R) → runs session w ≡ false → IsStillIn stands session slot w
-    stopped_still session slot w none c is = absurd (true≢false (sym (ap is_some is) ∙ none))
-
-    still_turn : (running : Bool) (session : ℕ) (old new : Pace R) → runs session old.world ≡ running → TurnWhere stands given lost running session old new → new.went_on ≡ false → IsQuiet given old.world
-        → AreSoundSessions old.world → (k : ℕ) → k < 64 → IsStillIn stands session (k + 1) new.world
-    still_turn true session old new at turn still quiet sound k below =
-        let polls = turn.polls in
-        let before = before_polls session polls.point 64 polls.point new polls.held still in
-        let told = keeps_dues AreSoundSessions sounds_step (λ k. is_due lost session (k + 1) old.world) (length old.world.sites.mail) old.world turn.told turn.notices (sound, quiet) in
-        let point = keeps_poll AreSoundSessions sounds_step session 0 (record { world = turn.told; went_on = old.went_on }) polls.point polls.slot_0 before told in
-        still_polls session polls.point 64 new polls.held still point.1 point.0 k below
-    still_turn false session old new at same still quiet sound k below =
-        subst (λ (p : Pace R). IsStillIn stands session (k + 1) p.world) (sym same) (stopped_still session (k + 1) old.world at)
-
-    -- and behind a round, those of all sessions
+    -- so each slot is still behind an idle round
     pub still_turns : (n : ℕ) (old new : Pace R) → Deeds (TurnOf stands given lost) n old new → new.went_on ≡ false → IsQuiet given old.world → AreSoundSessions old.world
         → (session : ℕ) → session < n → (k : ℕ) → k < 64 → IsStillIn stands session (k + 1) new.world
-    unfolding Deeds
-    still_turns zero old new done still quiet sound session below k within = absurd (omega (arith, below))
-    still_turns (suc n) old new (between, first, it) still quiet sound session below k within =
-        let before = before_turn lost (runs n between.world) n between new it still in
-        let sounds = keeps_turns AreSoundSessions sounds_step lost n old between first before (sound, quiet) in
-        either_way session n
-        (λ less. (keeps_turn (IsStillIn stands session (k + 1)) (stays_still stands session (k + 1) (not_zero k)) lost (runs n between.world) n between new it still
-        (still_turns n old between first before quiet sound session less k within, sounds.1)).0)
-        (λ more.
-        let same : session ≡ n = omega (arith, below, more) in
-        subst (λ s. IsStillIn stands s (k + 1) new.world) (sym same) (still_turn (runs n between.world) n between new refl it still sounds.1 sounds.0 k within))
+    still_turns n old new turns still quiet sound =
+        holds_turns AreSoundSessions sounds_step (IsStill stands)
+        (λ session slot some a b step is. stays_still stands session slot some a b step)
+        (λ session slot a b result step none is. still_by_poll session slot a b result step none is)
+        (λ slot c free. subst (StaysIn slot c.session.lines (actor_at stands slot c)) (sym free) tt) lost n old new turns still quiet sound
 
     -- ---- whether none may start behind a round
 

@@ -1,5 +1,5 @@
 -- What each event and each start keeps, a play keeps.
-use Rattle.std.proofs.Common.{◌≡◌, ℕ, zero, suc, ◌+◌, Bool, true, false, List, [], ◌++◌, length, take, drop, take-append-drop, append-nil, sym, subst}
+use Rattle.std.proofs.Common.{◌≡◌, ℕ, zero, suc, ◌+◌, Bool, true, false, List, [], ◌++◌, length, take, drop, take-append-drop, append-nil, slice_get, Some, sym, subst}
 use Rattle.rbd_machine.specs.Plan.{Standing}
 use Rattle.rbd_script.specs.declared.script.Line.{Line}
 use Rattle.rbd_script.specs.declared.script.Said.{Said}
@@ -23,9 +23,20 @@ unfolding Deeds
 kept_by_deeds P deed each zero old new done is = subst P (sym done) is
 kept_by_deeds P deed each (suc n) old new (between, before, it) is = each n between new it (kept_by_deeds P deed each n old between before is)
 
--- What each event keeps that begins no command, and each start.
-module _ {R : Type 0} (stands : R → Standing) (P : WorldView R → Type 0)
-    (event_keeps : (e : Event) (result : Outcome) (old new : WorldView R) → IsNoStart e → IsStep stands e old result new → P old → P new) where
+-- the event of a line may come, where the line is one
+abbrev pub MayComeBy : (May : Event → Type 0) → Said → Type 0
+MayComeBy May (said.Expire session site image) = May (event.Expire session site image)
+MayComeBy May (said.Stop session) = May (event.Stop session)
+MayComeBy May (said.Restart session) = May (event.Restart session)
+MayComeBy May (said.Late session slot) = May (event.Late session slot)
+MayComeBy May (said.Trim site image object) = May (event.Trim site image object)
+MayComeBy May s = Unit {0}
+
+-- What each event keeps that may come, and each start. Polls and deliveries may come in each
+-- script, and beside them the lines' own events.
+module _ {R : Type 0} (stands : R → Standing) (P : WorldView R → Type 0) (May : Event → Type 0) (polls_may : (session slot : ℕ) → May (event.Poll session slot))
+    (deliveries_may : (number : ℕ) → May (event.Deliver number))
+    (event_keeps : (e : Event) (result : Outcome) (old new : WorldView R) → May e → IsStep stands e old result new → P old → P new) where
   module _ (given : (session : ℕ) → List Given) (start : (session : ℕ) (old new : WorldView R) → Submits stands given session old new → P old → P new) where
     kept_by_start : (k : ℕ) (old new : WorldView R) → Starts stands given old new → P old → P new
     kept_by_start k old new starts is = start starts.session old new starts.submits is
@@ -33,21 +44,21 @@ module _ {R : Type 0} (stands : R → Standing) (P : WorldView R → Type 0)
     kept_by_starts : (old new : WorldView R) → StartsAll stands given old new → P old → P new
     kept_by_starts old new starts is = kept_by_deeds P (λ k. Starts stands given) kept_by_start starts.count old new starts.starts is
 
-    kept_by_coming : (e : Event) (result : Outcome) (old new : WorldView R) → IsNoStart e → Comes stands given e result old new → P old → P new
-    kept_by_coming e result old new plain comes is = kept_by_starts comes.between new comes.starts (event_keeps e result old comes.between plain comes.step is)
+    kept_by_coming : (e : Event) (result : Outcome) (old new : WorldView R) → May e → Comes stands given e result old new → P old → P new
+    kept_by_coming e result old new may comes is = kept_by_starts comes.between new comes.starts (event_keeps e result old comes.between may comes.step is)
 
-    kept_by_event : (e : Event) (old new : WorldView R) → IsNoStart e → Happens stands given e old new → P old → P new
-    kept_by_event e old new plain happens is = kept_by_coming e happens.result old new plain happens.comes is
+    kept_by_event : (e : Event) (old new : WorldView R) → May e → Happens stands given e old new → P old → P new
+    kept_by_event e old new may happens is = kept_by_coming e happens.result old new may happens.comes is
 
     kept_in_round : (session slot : ℕ) (old new : Pace R) → PollsIn stands given session slot old new → P old.world → P new.world
-    kept_in_round session slot old new polls is = kept_by_coming (event.Poll session slot) polls.result old.world new.world tt polls.comes is
+    kept_in_round session slot old new polls is = kept_by_coming (event.Poll session slot) polls.result old.world new.world (polls_may session slot) polls.comes is
 
     kept_where : (held : Bool) (session slot : ℕ) (old new : Pace R) → PollsWhere stands given held session slot old new → P old.world → P new.world
     kept_where true session slot old new polls is = kept_in_round session slot old new polls is
     kept_where false session slot old new same is = subst (λ (p : Pace R). P p.world) (sym same) is
 
     kept_where_due : (due : Bool) (number : ℕ) (old new : WorldView R) → DeliversWhere stands given due number old new → P old → P new
-    kept_where_due true number old new delivers is = kept_by_event (event.Deliver number) old new tt delivers is
+    kept_where_due true number old new delivers is = kept_by_event (event.Deliver number) old new (deliveries_may number) delivers is
     kept_where_due false number old new same is = subst P (sym same) is
 
     kept_by_polls : (session : ℕ) (old new : Pace R) → PollsAll stands given session old new → P old.world → P new.world
@@ -71,39 +82,67 @@ module _ {R : Type 0} (stands : R → Standing) (P : WorldView R → Type 0)
       kept_by_round sessions went_on old new round is =
           kept_by_deeds (λ (p : Pace R). P p.world) (TurnOf stands given lost) (λ session a b. kept_where_runs (runs session a.world) session a b) sessions (record { world = old; went_on = false }) (record { world = new; went_on = went_on }) round is
 
-      kept_by_rounds : (sessions k : ℕ) (old new : Calm R) → RoundsOn stands given lost sessions old new → P old.world → P new.world
+      pub kept_by_rounds : (sessions k : ℕ) (old new : Calm R) → RoundsOn stands given lost sessions old new → P old.world → P new.world
       kept_by_rounds sessions k old new on is = kept_by_round sessions on.went_on old.world new.world on.round is
 
       kept_by_settle : (sessions rounds : ℕ) (old new : WorldView R) → Settles stands given lost sessions rounds old new → P old → P new
       kept_by_settle sessions rounds old new settles is =
           kept_by_deeds (λ (c : Calm R). P c.world) (λ k. RoundsOn stands given lost sessions) (kept_by_rounds sessions) settles.count (record { world = old; idle = 0 }) (record { world = new; idle = settles.idle }) settles.on is
 
-      kept_by_line : (sessions : ℕ) (s : Said) (old new : WorldView R) → Plays stands given lost sessions s old new → P old → P new
-      kept_by_line sessions (said.Command session beside command) old new plays is = kept_by_starts old new plays is
-      kept_by_line sessions (said.Poll session slot times) old new plays is =
-          kept_by_deeds P (λ k. Polls stands given session slot) (λ k a b. kept_by_event (event.Poll session slot) a b tt) times old new plays is
-      kept_by_line sessions (said.Until session slot kind) old new plays is =
-          kept_by_deeds P (λ k. PollsBefore stands given session slot kind) (λ k a b before. kept_by_event (event.Poll session slot) a b tt before.polls) plays.count old new plays.polls is
-      kept_by_line sessions (said.Settle rounds) old new plays is = kept_by_settle sessions rounds old new plays is
-      kept_by_line sessions (said.Deliver number) old new plays is = kept_by_event (event.Deliver number) old new tt plays is
-      kept_by_line sessions (said.Lose number) old new plays is = subst P (sym plays) is
-      kept_by_line sessions (said.Expire session site image) old new plays is = kept_by_event (event.Expire session site image) old new tt plays is
-      kept_by_line sessions (said.Stop session) old new plays is = kept_by_event (event.Stop session) old new tt plays is
-      kept_by_line sessions (said.Restart session) old new plays is = kept_by_event (event.Restart session) old new tt plays is
-      kept_by_line sessions (said.Late session slot) old new plays is = kept_by_event (event.Late session slot) old new tt plays is
-      kept_by_line sessions (said.Trim site image object) old new plays is = kept_by_event (event.Trim site image object) old new tt plays is
+      kept_by_line : (sessions : ℕ) (s : Said) (old new : WorldView R) → MayComeBy May s → Plays stands given lost sessions s old new → P old → P new
+      kept_by_line sessions (said.Command session beside command) old new may plays is = kept_by_starts old new plays is
+      kept_by_line sessions (said.Poll session slot times) old new may plays is =
+          kept_by_deeds P (λ k. Polls stands given session slot) (λ k a b. kept_by_event (event.Poll session slot) a b (polls_may session slot)) times old new plays is
+      kept_by_line sessions (said.Until session slot kind) old new may plays is =
+          kept_by_deeds P (λ k. PollsBefore stands given session slot kind) (λ k a b before. kept_by_event (event.Poll session slot) a b (polls_may session slot) before.polls) plays.count old new plays.polls is
+      kept_by_line sessions (said.Settle rounds) old new may plays is = kept_by_settle sessions rounds old new plays is
+      kept_by_line sessions (said.Deliver number) old new may plays is = kept_by_event (event.Deliver number) old new (deliveries_may number) plays is
+      kept_by_line sessions (said.Lose number) old new may plays is = subst P (sym plays) is
+      kept_by_line sessions (said.Expire session site image) old new may plays is = kept_by_event (event.Expire session site image) old new may plays is
+      kept_by_line sessions (said.Stop session) old new may plays is = kept_by_event (event.Stop session) old new may plays is
+      kept_by_line sessions (said.Restart session) old new may plays is = kept_by_event (event.Restart session) old new may plays is
+      kept_by_line sessions (said.Late session slot) old new may plays is = kept_by_event (event.Late session slot) old new may plays is
+      kept_by_line sessions (said.Trim site image object) old new may plays is = kept_by_event (event.Trim site image object) old new may plays is
 
-  -- so a play keeps it, where each start of one of the first lines' commands does
-  pub kept_by_parts : (script : Script)
-      → ((lines more : List Line) → script.lines ≡ lines ++ more → (session : ℕ) (old new : WorldView R) → Submits stands (given_in lines) session old new → P old → P new)
-      → (old new : WorldView R) → PlaysScript stands script old new → P old → P new
-  kept_by_parts script start old new plays is =
-      kept_by_settle (given_in script.lines) (start script.lines [] (sym (append-nil script.lines))) (is_lost_by script.lines) (length script.sessions) (closing_rounds (length (commands_of script.lines))) plays.between new plays.closing
-      (kept_by_deeds P (PlaysLine stands script)
-      (λ k a b line.
-      kept_by_line (given_in (take (k + 1) script.lines)) (start (take (k + 1) script.lines) (drop (k + 1) script.lines) (sym (take-append-drop (k + 1) script.lines))) (is_lost_by (take (k + 1) script.lines))
-      (length script.sessions) line.line.said a b line.plays)
-      (length script.lines) old plays.between plays.lines is)
+  -- so it is kept, where each line's event may come, and each start of one of the first lines'
+  -- commands keeps it
+  module _ (script : Script) (may : (k : ℕ) (line : Line) → slice_get script.lines k ≡ Some line → MayComeBy May line.said)
+      (start : (lines more : List Line) → script.lines ≡ lines ++ more → (session : ℕ) (old new : WorldView R) → Submits stands (given_in lines) session old new → P old → P new) where
+    -- up to the closing rounds
+    pub kept_to_closing : (old new : WorldView R) (plays : PlaysScript stands script old new) → P old → P plays.between
+    kept_to_closing old new plays is =
+        kept_by_deeds P (PlaysLine stands script)
+        (λ k a b line.
+        kept_by_line (given_in (take (k + 1) script.lines)) (start (take (k + 1) script.lines) (drop (k + 1) script.lines) (sym (take-append-drop (k + 1) script.lines))) (is_lost_by (take (k + 1) script.lines))
+        (length script.sessions) line.line.said a b (may k line.line line.is) line.plays)
+        (length script.lines) old plays.between plays.lines is
+
+    -- and to the end of a play
+    pub kept_by_lines : (old new : WorldView R) → PlaysScript stands script old new → P old → P new
+    kept_by_lines old new plays is =
+        kept_by_settle (given_in script.lines) (start script.lines [] (sym (append-nil script.lines))) (is_lost_by script.lines) (length script.sessions) (closing_rounds (length (commands_of script.lines))) plays.between new plays.closing
+        (kept_to_closing old new plays is)
+
+-- what each event keeps that begins no command, and each start
+plain : (s : Said) → MayComeBy IsNoStart s
+plain (said.Command session beside command) = tt
+plain (said.Poll session slot times) = tt
+plain (said.Until session slot kind) = tt
+plain (said.Settle rounds) = tt
+plain (said.Deliver number) = tt
+plain (said.Lose number) = tt
+plain (said.Expire session site image) = tt
+plain (said.Stop session) = tt
+plain (said.Restart session) = tt
+plain (said.Late session slot) = tt
+plain (said.Trim site image object) = tt
+
+pub kept_by_parts : {R : Type 0} (stands : R → Standing) (P : WorldView R → Type 0) → ((e : Event) (result : Outcome) (old new : WorldView R) → IsNoStart e → IsStep stands e old result new → P old → P new)
+    → (script : Script)
+    → ((lines more : List Line) → script.lines ≡ lines ++ more → (session : ℕ) (old new : WorldView R) → Submits stands (given_in lines) session old new → P old → P new)
+    → (old new : WorldView R) → PlaysScript stands script old new → P old → P new
+kept_by_parts stands P event_keeps script start old new plays is =
+    kept_by_lines stands P IsNoStart (λ session slot. tt) (λ number. tt) event_keeps script (λ k line at. plain line.said) start old new plays is
 
 -- and what each step keeps, whatever the event
 pub kept_by_play : {R : Type 0} (stands : R → Standing) (P : WorldView R → Type 0) → ((e : Event) (result : Outcome) (old new : WorldView R) → IsStep stands e old result new → P old → P new)

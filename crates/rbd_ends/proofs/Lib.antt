@@ -1,0 +1,11 @@
+pub mod Asking
+pub mod Owners
+pub mod Counts
+pub mod Ways
+pub mod Tame
+pub mod Acting
+pub mod Replied
+pub mod Unhindered
+pub mod Stepping
+pub mod Idling
+pub mod Over

@@ -1,0 +1,18 @@
+//! How a play ends in which nobody has to wait for a lock: each law is the contract of a function
+//! that does nothing.
+ghost use Rattle.std.specs.Prelude.{◌⊎◌};
+ghost use Rattle.rbd_ends.specs.OneChanger.{AreAllReplied, HasOneChanger};
+ghost use Rattle.rbd_schedule.specs.Ends.{AreOver, IsSpent};
+ghost use Rattle.rbd_schedule.specs.Playing.{IsPlay, IsPlayable};
+ghost use Rattle.rbd_script.specs.declared.script.Script.{Script};
+ghost use Rattle.rbd_world.specs.World.{WorldView};
+
+use rbd_course::Request;
+
+/// Where one session alone has commands that take locks, no image is quiesced and no session is
+/// stopped, nobody is held up at a lock: at the end of a play each command of the script has its
+/// reply, or all the rounds that close a script were played.
+pub fn plays_of_one_changer_are_over<R: Request>()
+    ensures { (script : Script) (w : WorldView R) → IsPlayable script → HasOneChanger script → (play : IsPlay R.stands script w)
+        → (AreOver script w × AreAllReplied script w) ⊎ IsSpent R.stands script w play }
+{}

@@ -1,0 +1,41 @@
+//! In which scripts each command has its reply: a definition of these scripts, a law on their
+//! plays, and no code that a program calls.
+//!
+//! At the end of a play a request may be held up at a lock (`rbd_schedule`): the lock's owner is
+//! gone while its watch isn't, say, or the image is quiesced. This crate names scripts in which
+//! that can't be, since one session alone takes locks, and shows that each of their commands has
+//! its reply.
+//!
+//! ```text
+//! client c1 a
+//! client c2 a
+//! c1 create d 8192 object 4096
+//! @settle 8
+//! & c1 write d 0 1111          c1 alone has commands that take locks:
+//! & c1 snap create d@s         `write`, `fill`, `snap create`, `snap rm`
+//! & c2 read d 0 2              others may read, and list,
+//! & c2 close d                 and close
+//! @expire c1 a 1               a watch may end, and a notice may be lost
+//! ```
+//!
+//! Behind the closing rounds each of the five commands has its reply. With a `quiesce` in the
+//! script, a `@stop`, or a `write` of c2, that isn't said.
+//!
+//! # Contracts
+//!
+//! | file | what it says |
+//! |---|---|
+//! | `specs/OneChanger.antt` | in which scripts one session alone changes images (`HasOneChanger`), and that each command has its reply (`AreAllReplied`) |
+//!
+//! [`laws`] says of each play of such a script that all is over at its end, and each command has
+//! its reply; or all the closing rounds were played.
+//!
+//! # How it is shown
+//!
+//! Each event leaves a world *unhindered* (`proofs/Unhindered.antt`): a lock is that session's or
+//! nobody's, and counts as its own at its client; no site refuses anybody, no notice asks for a
+//! lock, and a way to a lock was never told that another one has it. So none of its steps asks
+//! again, and a round with a way in it isn't idle (`proofs/Idling.antt`).
+#![tactic(auto)]
+
+pub mod laws;
