@@ -6,9 +6,9 @@
 //! (`schedule`). A row has a schedule, what came of each event, and the replies (`rows`):
 //!
 //! ```text
-//! 3 1.1>end 1.1=none trim:1.0|slot1 a1 a2! nothing|3 ok
-//! │ │       │        │        │     │  │   └ the object 0 of image 1 isn't there
-//! │ │       │        │        │     └──┴ the operations 1 and 2 of site A; with the second it ends
+//! 3 1.1>end 1.1=none trim:1.0|slot1 a1 a2 a3! nothing|3 ok
+//! │ │       │        │        │     │  │  │   └ the object 0 of image 1 isn't there
+//! │ │       │        │        │     └──┴──┴ the operations 1 to 3 of site A; the third ends it
 //! │ │       │        │        └ the line 3 has slot 1
 //! │ │       │        └ the store trims the object 0 of image 1
 //! │ │       └ it wants nothing, since nobody is in the slot
@@ -24,6 +24,7 @@
 //! | file | subject |
 //! |---|---|
 //! | `writes`, `snapshots`, `waits` | commands side by side, and which bytes they show |
+//! | `maps` | object maps over a life, and the objects of an extent |
 //! | `handover`, `asked` | a lock goes to who asks for it, and who waits meanwhile |
 //! | `fencing` | an owner that doesn't watch is fenced |
 //! | `stopping`, `late`, `places` | stops, next lives, and what comes late |

@@ -7,6 +7,7 @@ mod handover;
 mod late;
 mod left;
 mod mail;
+mod maps;
 mod nothing;
 mod others;
 mod places;

@@ -17,6 +17,7 @@ hears RequestLock
 1 notify-RequestLock done
 1 lock-take done
 1 header-get header
+1 map-set done
 1 data-write done done
 0 waits
 free 1";
@@ -38,6 +39,7 @@ rests 7
 0 waits
 1 lock-take done
 1 header-get header
+1 map-set done
 1 data-write done done
 0 waits
 free 1";
@@ -59,12 +61,14 @@ hears RequestLock
 0 waits
 2 header-get header
 2 waits
+1 map-set done
 1 data-write done done
 2 waits
 0 lock-drop done
 0 notify-ReleasedLock done
 2 lock-take done
 2 header-get header
+2 map-set done
 2 data-write done done
 0 waits
 free 1";
@@ -88,6 +92,7 @@ moves 7
 1 header-get header
 0 notify-ReleasedLock done
 0 waits
+1 map-set done
 1 data-write done done
 0 waits
 free 1";
@@ -115,12 +120,14 @@ moves 7
 1 header-get header
 0 waits
 2 waits
+1 map-set done
 1 data-write done done
 2 waits
 0 lock-drop done
 0 notify-ReleasedLock done
 2 lock-take done
 2 header-get header
+2 map-set done
 2 data-write done done
 0 waits
 free 1";
@@ -138,8 +145,13 @@ const IN_FLIGHT: &str = "1 takes write-0-1
 hears RequestLock
 0 waits
 moves 7
+1 map-set done
+0 waits
 1 data-write done
 0 waits
+1 map-set done
+0 waits
+moves 7
 1 data-write done done
 rests 7
 0 lock-drop done
@@ -163,6 +175,8 @@ const TWO_IN_FLIGHT: &str = "1 takes write-0
 2 header-get header
 hears RequestLock
 0 waits
+2 map-set done
+1 map-set done
 1 data-write done done
 0 waits
 2 data-write done done
@@ -185,6 +199,7 @@ const IN_ORDER: &str = "1 takes write-0
 1 watch@8 done
 1 lock-take@8 done
 1 header-get@8 header
+1 map-set@8 done
 1 data-write@8 done done
 hears RequestLock@8
 hears RequestLock
@@ -207,6 +222,7 @@ const PASSED_BY: &str = "1 takes write-0
 1 watch@8 done
 1 lock-take@8 done
 1 header-get@8 header
+1 map-set@8 done
 1 data-write@8 done done
 2 dir-find id-7
 2 header-get header
@@ -215,6 +231,7 @@ hears RequestLock
 0 waits
 hears RequestLock@8
 0 lock-drop@8 done
+2 map-set done
 2 data-write done done
 0 notify-ReleasedLock@8 done
 0 lock-drop done
@@ -242,6 +259,7 @@ hears RequestLock@8
 0 waits
 1 header-get@8 header
 0 waits
+1 map-set@8 done
 1 data-write@8 done done
 0 lock-drop@8 done
 0 notify-ReleasedLock@8 done
@@ -275,6 +293,7 @@ const ANEW: &str = "hears RequestLock
 1 header-get header
 1 lock-take done
 1 header-get header
+1 map-set done
 1 data-write done done
 0 waits
 hears RequestLock
@@ -299,6 +318,7 @@ const CHANGED: &str = "hears RequestLock
 1 notify-RequestLock done
 1 lock-take done
 1 header-get header
+1 map-set done
 1 data-write done done
 hears RequestLock
 0 lock-drop none
@@ -308,6 +328,7 @@ hears RequestLock
 1 header-get header
 1 lock-take done
 1 header-get header
+1 map-set done
 1 data-write done done
 hears RequestLock
 0 lock-drop fenced
@@ -335,6 +356,7 @@ const TOLD_TO_NOBODY: &str = "hears RequestLock
 1 header-get header
 1 lock-take done
 1 header-get header
+1 map-set done
 1 data-write done done
 hears RequestLock
 0 lock-drop done
@@ -365,12 +387,14 @@ hears RequestLock
 1 lock-take done
 0 waits
 1 header-get header
+1 map-set done
 1 data-write done done
 0 waits
 1 takes write-0
 1 dir-find id-7
 1 header-get header
 1 header-get header
+1 map-set done
 1 data-write done done
 0 waits
 free 1";
@@ -387,6 +411,7 @@ const ANOTHER_IMAGE: &str = "hears RequestLock@8
 1 dir-find id-7
 1 header-get header
 1 header-get header
+1 map-set done
 1 data-write done done
 0 waits
 free 1";
@@ -404,6 +429,7 @@ hears hello
 1 dir-find id-7
 1 header-get header
 1 header-get header
+1 map-set done
 1 data-write done done
 0 waits
 free 1";

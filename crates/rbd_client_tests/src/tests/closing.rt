@@ -15,6 +15,7 @@ const LETS_GO: &str = "1 takes close
 1 watch done
 1 lock-take done
 1 header-get header
+1 map-set done
 1 data-write done done
 free 1";
 
@@ -39,6 +40,7 @@ const BEHIND: &str = "1 takes write-0
 1 header-get header
 2 waits
 3 waits
+1 map-set done
 1 data-write done done
 3 waits
 2 lock-drop done
@@ -49,6 +51,7 @@ const BEHIND: &str = "1 takes write-0
 3 watch done
 3 lock-take done
 3 header-get header
+3 map-set done
 3 data-write done done
 free 1";
 
@@ -72,6 +75,7 @@ const BEHIND_A_WAY: &str = "1 takes write-0
 2 waits
 1 header-get header
 2 waits
+1 map-set done
 1 data-write done done
 2 lock-drop done
 2 notify-ReleasedLock done
@@ -119,6 +123,7 @@ hears RequestLock
 1 watch done
 1 lock-take done
 1 header-get header
+1 map-set done
 1 data-write done done
 0 waits
 free 1";
@@ -145,6 +150,7 @@ const BEHIND_ONE_HELD: &str = "1 takes quiesce
 2 waits
 1 header-get header
 2 waits
+1 map-set done
 1 data-write done done
 2 lock-drop done
 2 notify-ReleasedLock done
@@ -179,6 +185,7 @@ const STOPPED: &str = "1 takes close
 1 header-get header
 1 lock-take done
 1 header-get header
+1 map-set done
 1 data-write done done
 1 takes close
 1 dir-find id-7
@@ -188,6 +195,7 @@ const STOPPED: &str = "1 takes close
 1 header-get header
 1 lock-take done
 1 header-get header
+1 map-set done
 1 data-write done done
 free 1";
 
@@ -207,6 +215,7 @@ const ANOTHER_IMAGE: &str = "1 takes close
 1 dir-find id-7
 1 header-get header
 1 header-get header
+1 map-set done
 1 data-write done done
 free 1";
 

@@ -7,17 +7,18 @@ ghost use Rattle.rbd_client.specs.Actor.{actor_at, op_wanted};
 ghost use Rattle.rbd_client.specs.Feeding.{CanGet, IsAtRest};
 ghost use Rattle.rbd_kinds.specs.declared.machine.Fed.TheVariants as of_fed;
 ghost use Rattle.rbd_kinds.specs.declared.operation.Op.TheVariants as of_op;
-ghost use Rattle.rbd_machine.specs.Answers.{IsHeaderToldInForm};
+ghost use Rattle.rbd_machine.specs.Answers.{CanGive, IsHeaderToldInForm};
 
 use super::operations::is_operation;
+use super::told::BITS;
 use rbd_client::{Client, Quiescing};
 use rbd_close::CloseRequest;
 use rbd_course::Request;
 use rbd_kinds::{
-    Answer, Command, Fed, HeaderOp, ImageAt, ImageId, Instance, NoMemory, Op, Reply, SessionNo,
-    SiteId, Slot,
+    Answer, Command, Fed, HeaderOp, ImageAt, ImageId, Instance, MapOp, NoMemory, Op, Reply,
+    SessionNo, SiteId, Slot,
 };
-use rbd_machine::can_give;
+use rbd_machine::gives;
 use rbd_requests::{SessionRequest, Work, is_built};
 use std::alloc::Global;
 use std::process::Abort;
@@ -182,6 +183,25 @@ fn can_answer<R: Request>(
         (actor_at R.stands slot client.now) }
 {
     can_give(op, answer)
+}
+
+/// Whether an operation can give an answer: of a look at a map, the bits of these tests.
+fn can_give(op: &Op, answer: &Answer) -> bool
+    requires { IsHeaderToldInForm answer.now }
+    ensures { result ≡ true → CanGive op.now answer.now }
+{
+    match (op, answer) {
+        (
+            Op::Map {
+                image: _,
+                op: MapOp::Get { snap: _ },
+            },
+            Answer::Bits(bits),
+        ) => bits.as_slice() == BITS.as_slice(),
+        (Op::Map { image: _, op: _ }, Answer::Bits(_)) => false,
+        (Op::Map { image: _, op: _ }, _) => gives(op, answer),
+        _ => rbd_machine::can_give(op, answer),
+    }
 }
 
 /// The operation that is wanted at a slot gives an answer. The reply of the slot's request, where

@@ -1,7 +1,7 @@
 //! Operations by their words.
 use super::drive::OWNER;
 use super::rows::number;
-use rbd_kinds::{DataOp, HeaderOp, ImageId, NoticeKind, Op};
+use rbd_kinds::{DataOp, HeaderOp, ImageId, MapOp, NoticeKind, Op};
 
 /// The image of a number.
 pub fn image(word: &str) -> ImageId {
@@ -30,6 +30,10 @@ fn is_on_data(op: &DataOp, word: &str) -> bool {
     op.kind().word() == word
 }
 
+fn is_on_map(op: &MapOp, word: &str) -> bool {
+    op.kind().word() == word
+}
+
 /// Whether an operation has this word: that of its kind, and of a notice also what it says. An
 /// owner is the one of these tests. Behind an `@` the number of its image, where that isn't 7.
 pub fn is_operation(op: &Op, words: &str) -> bool {
@@ -41,6 +45,7 @@ pub fn is_operation(op: &Op, words: &str) -> bool {
             object: _,
             op,
         } => *at == image(place) && is_on_data(op, word),
+        Op::Map { image: at, op } => *at == image(place) && is_on_map(op, word),
         Op::BlockAdd { instance } => *instance == OWNER && word == "block-add",
         Op::Directory(op) => op.kind().word() == word,
         _ => false,

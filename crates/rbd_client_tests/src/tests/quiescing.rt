@@ -15,6 +15,7 @@ rests 7
 2 takes resume
 2 dir-find id-7 done
 1 header-get header
+1 map-set done
 1 data-write done done
 free 1";
 
@@ -39,6 +40,7 @@ rests 7
 2 takes resume
 2 dir-find id-7 done
 1 header-get header
+1 map-set done
 1 data-write done done
 free 1";
 
@@ -60,6 +62,7 @@ const BEHIND: &str = "1 takes write-0
 1 header-get header
 2 waits
 3 waits
+1 map-set done
 1 data-write done done
 3 waits
 2 header-get header done
@@ -67,6 +70,7 @@ const BEHIND: &str = "1 takes write-0
 1 takes resume
 1 dir-find id-7 done
 3 header-get header
+3 map-set done
 3 data-write done done
 free 1";
 
@@ -95,6 +99,7 @@ hears RequestLock
 0 notify-ReleasedLock done
 1 lock-take done
 1 header-get header
+1 map-set done
 1 data-write done done
 0 waits
 free 1";
@@ -134,6 +139,7 @@ const ANOTHER_IMAGE: &str = "1 takes quiesce
 1 watch@8 done
 1 lock-take@8 done
 1 header-get@8 header
+1 map-set@8 done
 1 data-write@8 done done
 hears RequestLock
 hears RequestLock@8
@@ -177,6 +183,7 @@ const QUIESCED: &str = "1 takes quiesce
 2 takes resume
 2 dir-find id-7 done
 1 header-get header
+1 map-set done
 1 data-write done done
 free 1";
 
@@ -194,6 +201,7 @@ const NOT_FOUND: &str = "1 takes quiesce
 1 dir-find id-7
 1 header-get header
 1 header-get header
+1 map-set done
 1 data-write done done
 1 takes quiesce
 1 dir-find id-7
@@ -210,6 +218,7 @@ const NOT_FOUND: &str = "1 takes quiesce
 2 takes resume
 2 dir-find id-7 done
 1 header-get header
+1 map-set done
 1 data-write done done
 free 1";
 
@@ -225,6 +234,7 @@ const NONE: &str = "1 takes write-0
 2 takes resume
 2 dir-find id-7 done
 1 header-get header
+1 map-set done
 1 data-write done done
 0 waits
 free 1";

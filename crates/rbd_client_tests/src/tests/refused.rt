@@ -42,6 +42,7 @@ free 1
 1 header-get header
 1 lock-take done
 1 header-get header
+1 map-set done
 1 data-write done done
 free 1
 0 waits";
@@ -100,6 +101,7 @@ free 1
 1 header-get header
 1 lock-take done
 1 header-get header
+1 map-set done
 1 data-write done done
 free 1
 0 waits";
@@ -123,6 +125,7 @@ const BEHIND: &str = "1 takes write-0
 1 notify-RequestLock none NoImage
 2 lock-take done
 2 header-get header
+2 map-set done
 2 data-write done done
 rests 7
 free 1";
@@ -146,6 +149,7 @@ free 1
 1 dir-find id-7
 1 header-get header
 1 header-get header
+1 map-set done
 1 data-write done done
 hears RequestLock
 0 lock-drop done
@@ -182,13 +186,52 @@ fn a_lock_is_let_go_once_who_took_it_is_refused_at_its_own_look(
     Ok(())
 }
 
+const STATE: &str = "1 takes write-0-1
+1 dir-find id-7
+1 header-get header
+1 header-get header
+hears RequestLock
+0 waits
+1 map-set fenced Fenced
+0 lock-drop done
+0 notify-ReleasedLock done
+0 waits
+free 1";
+
+#[test]
+fn a_lock_is_let_go_once_a_write_is_refused_at_a_state(rt: HostRuntime) -> Result<(), Fail> {
+    owner_goes_as(&rt, rt.alloc(), STATE)?;
+    Ok(())
+}
+
+const PUT: &str = "1 takes snap-create
+1 dir-find id-7
+1 header-get header
+1 header-get header
+hears RequestLock
+1 map-get bits
+0 waits
+1 map-put fenced Fenced
+0 lock-drop done
+0 notify-ReleasedLock done
+0 waits
+free 1";
+
+#[test]
+fn a_lock_is_let_go_once_a_snapshot_is_refused_at_its_map(rt: HostRuntime) -> Result<(), Fail> {
+    owner_goes_as(&rt, rt.alloc(), PUT)?;
+    Ok(())
+}
+
 const PIECE: &str = "1 takes write-0-1
 1 dir-find id-7
 1 header-get header
 1 header-get header
 hears RequestLock
+1 map-set done
 1 data-write done
 0 waits
+1 map-set done
 1 data-write fenced Fenced
 0 lock-drop done
 0 notify-ReleasedLock done

@@ -186,6 +186,7 @@ const OWNS: &str = "1 takes write-0
 1 watch done
 1 lock-take done
 1 header-get header
+1 map-set done
 1 data-write done done";
 
 /// A client that has the lock of the image 7, and watches it, does what the rows say.

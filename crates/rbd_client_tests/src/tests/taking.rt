@@ -12,6 +12,7 @@ rests 7
 moves 7
 1 header-get header
 moves 7
+1 map-set done
 1 data-write done done
 rests 7
 free 1
@@ -33,12 +34,16 @@ const SECOND: &str = "1 takes write-0
 2 dir-find id-7
 2 header-get header
 2 header-get header
+2 map-set done
 2 data-write done done
+1 map-set done
 1 data-write done done
 1 takes snap-create
 1 dir-find id-7
 1 header-get header
 1 header-get header
+1 map-get bits
+1 map-put done
 1 header-snap-add snap done
 free 1
 0 waits";
@@ -63,6 +68,7 @@ rests 7
 1 lock-take done
 moves 7
 1 header-get header
+1 map-set done
 1 data-write done done
 free 1";
 
@@ -85,6 +91,7 @@ const FENCED: &str = "1 takes write-0
 rests 7
 1 lock-take done
 1 header-get header
+1 map-set done
 1 data-write done done
 free 1";
 
@@ -109,6 +116,7 @@ const FASTER: &str = "1 takes write-0
 1 notify-RequestLock done
 1 lock-take done
 1 header-get header
+1 map-set done
 1 data-write done done
 free 1";
 
@@ -137,7 +145,9 @@ const BEHIND: &str = "1 takes write-0
 2 waits
 1 header-get header
 2 header-get header
+2 map-set done
 2 data-write done done
+1 map-set done
 1 data-write done done
 rests 7
 free 1";
@@ -163,7 +173,9 @@ const AHEAD: &str = "1 takes write-0
 1 header-get header
 2 header-get header
 2 waits
+1 map-set done
 1 data-write done done
+2 map-set done
 2 data-write done done
 free 1";
 
@@ -193,9 +205,11 @@ rests 8
 2 lock-take@8 done
 moves 8
 2 header-get@8 header
+1 map-set done
 1 data-write done done
 rests 7
 moves 8
+2 map-set@8 done
 2 data-write@8 done done
 rests 8
 free 1";
@@ -217,8 +231,13 @@ const ALONE: &str = "1 takes snap-create
 2 waits
 1 header-get header
 2 waits
+1 map-get bits
+moves 7
+1 map-put done
+2 waits
 1 header-snap-add snap done
 2 header-get header
+2 map-set done
 2 data-write done done
 free 1";
 

@@ -5,7 +5,9 @@ ghost use Rattle.rbd_machine.specs.Answers.{IsHeaderToldInForm};
 
 use super::drive::{LATER, ME, OWNER};
 use rbd_header::new_header;
-use rbd_kinds::{Answer, HeaderView, ImageId, Instance, Instances, Layout, NoMemory, SnapId};
+use rbd_kinds::{
+    Answer, Bytes, HeaderView, ImageId, Instance, Instances, Layout, NoMemory, SnapId,
+};
 use std::alloc::Global;
 use std::process::Abort;
 
@@ -30,6 +32,9 @@ fn watchers(alloc: Global, other: Instance) -> Result<Answer, NoMemory>
     Ok(Answer::Instances(both))
 }
 
+/// The bits of a map of two objects, which both exist.
+pub const BITS: [u8; 1] = [0x50];
+
 /// The answer of a word. The image of `header` has 8,192 bytes, and so the objects 0 and 1, that of
 /// `small` 4,096. The owner of a lock that is `held` watches where the watchers are `listed`; where
 /// they are `unlisted`, only a later life of it does.
@@ -42,6 +47,7 @@ pub fn told(rt: &impl Abort, alloc: Global, word: &str) -> Result<Answer, NoMemo
         "header" => Answer::Header(header(alloc, 8192)),
         "small" => Answer::Header(header(alloc, 4096)),
         "snap" => Answer::Snap(SnapId(1)),
+        "bits" => Answer::Bits(Bytes::from_slice(alloc, &BITS)?),
         "held" => Answer::Held(OWNER),
         "listed" => return watchers(alloc, OWNER),
         "unlisted" => return watchers(alloc, LATER),

@@ -5,11 +5,11 @@ ghost use Rattle.rbd_kinds.specs.declared.id.SiteId.TheVariants as site;
 ghost use Rattle.rbd_header.specs.Header.{new_header};
 ghost use Rattle.rbd_kinds.specs.declared.journal.Event.TheVariants.{SnapCreate};
 ghost use Rattle.rbd_kinds.specs.declared.reply.Reply.TheVariants as reply;
-ghost use Rattle.rbd_machine.specs.Plan.{Note};
+ghost use Rattle.rbd_machine.specs.Plan.{Note, IsAsking};
 ghost use Rattle.rbd_machine.specs.Steps.{change};
 ghost use Rattle.rbd_admin.specs.Create.{drawing, rest_of_create};
 ghost use Rattle.rbd_admin.specs.Listing.{list_names, show_header, rest_of_list};
-ghost use Rattle.rbd_admin.specs.Snap.{take, taking, remove, rest_of_snap};
+ghost use Rattle.rbd_admin.specs.Snap.{copying, take, remove, rest_of_snap};
 ghost use Rattle.rbd_meaning.specs.Snaps.{create_refuses, remove_refuses};
 
 use super::drive::{
@@ -18,8 +18,8 @@ use super::drive::{
 use super::header::disk;
 use rbd_admin::{CreateRequest, ListRequest, SnapRequest};
 use rbd_kinds::{
-    Answer, AskedName, Bytes, Command, Event, Fed, Names, NoMemory, Number, OpKind, Refusal, Reply,
-    Role, Shape, SiteId, SnapId,
+    Answer, AskedName, Bytes, Command, Event, Fed, MapOp, Names, NoMemory, Number, Op, OpKind,
+    Refusal, Reply, Role, Shape, SiteId, SnapId,
 };
 use rbd_machine::Machine;
 use std::alloc::Global;
@@ -37,7 +37,7 @@ const USUAL: Shape = Shape {
 /// A create of an image of 4,096 bytes.
 fn create_request(name: AskedName, size: Number) -> CreateRequest
     requires { size ≡ 4096 }
-    ensures { rest_of_create result ≡ drawing site.A name (new_header (record { object = 4194304; unit = 4194304; count = 1 }) 4096) }
+    ensures { rest_of_create result ≡ drawing site.A name 1 (new_header (record { object = 4194304; unit = 4194304; count = 1 }) 4096) }
 {
     let command = Command::Create {
         image: name,
@@ -49,24 +49,49 @@ fn create_request(name: AskedName, size: Number) -> CreateRequest
 
 /// The create of an image of a name.
 fn create_of(rt: &impl Abort, alloc: Global, image: &[u8]) -> Result<CreateRequest, NoMemory>
-    ensures { IfOk result (λ r. rest_of_create r ≡ drawing site.A image.now (new_header (record { object = 4194304; unit = 4194304; count = 1 }) 4096)) }
+    ensures { IfOk result (λ r. rest_of_create r ≡ drawing site.A image.now 1 (new_header (record { object = 4194304; unit = 4194304; count = 1 }) 4096)) }
 {
     let image = AskedName::parse(Bytes::from_slice(alloc, image)?).expect(rt, "a name");
     Ok(create_request(image, Number::new(4096).expect(rt, "a size")))
 }
 
-/// Whether it draws an id and makes a header, and is done.
+/// Whether it wants a map of so many objects for the image of these tests.
+fn makes_map<M: Machine>(alloc: Global, request: &M, objects: u64) -> Result<bool, NoMemory>
+    requires { IsAsking (M.stands request.now).plan }
+{
+    let op = request.next(alloc)?;
+    let makes = is_map_of(&op, objects);
+    drop(op);
+    Ok(makes)
+}
+
+fn is_map_of(op: &Op, objects: u64) -> bool {
+    match op {
+        Op::Map {
+            image,
+            op: MapOp::Resize { count },
+        } => *image == IMAGE && *count == objects,
+        _ => false,
+    }
+}
+
+/// Whether it draws an id, makes a map of one object and a header, and is done.
 fn creates(
     rt: &impl Abort,
     alloc: Global,
     request: &mut CreateRequest,
     image: &[u8],
 ) -> Result<bool, NoMemory>
-    requires { rest_of_create request.old ≡ drawing site.A image.now (new_header (record { object = 4194304; unit = 4194304; count = 1 }) 4096) }
+    requires { rest_of_create request.old ≡ drawing site.A image.now 1 (new_header (record { object = 4194304; unit = 4194304; count = 1 }) 4096) }
 {
     let _image = image;
     let drawn = Fed::Answer(Answer::Id(IMAGE));
     go_on(rt, alloc, request, op(OpKind::DirAdd), drawn)?;
+    if !makes_map(alloc, request, 1)? {
+        return Ok(false);
+    }
+    let mapped = Fed::Answer(Answer::Done);
+    go_on(rt, alloc, request, op(OpKind::MapResize), mapped)?;
     if !asks(alloc, request, OpKind::HeaderCreate)? {
         return Ok(false);
     }
@@ -76,7 +101,7 @@ fn creates(
 }
 
 #[test]
-fn create_draws_an_id_and_makes_a_header(rt: HostRuntime) -> Result<(), Fail> {
+fn create_draws_an_id_and_makes_a_map_and_a_header(rt: HostRuntime) -> Result<(), Fail> {
     let alloc = rt.alloc();
     let mut request = create_of(&rt, alloc, b"disk")?;
     assert!(rt; holds(creates(&rt, alloc, &mut request, b"disk")));
@@ -89,7 +114,7 @@ fn is_of_a_held_name(
     request: &mut CreateRequest,
     image: &[u8],
 ) -> Result<bool, NoMemory>
-    requires { rest_of_create request.old ≡ drawing site.A image.now (new_header (record { object = 4194304; unit = 4194304; count = 1 }) 4096) }
+    requires { rest_of_create request.old ≡ drawing site.A image.now 1 (new_header (record { object = 4194304; unit = 4194304; count = 1 }) 4096) }
 {
     let _image = image;
     let held = Fed::Answer(Answer::Exists);
@@ -246,7 +271,7 @@ fn own(
     snap: &[u8],
 ) -> Result<(), NoMemory>
     requires { rest_of_snap request.old ≡ change site.A image.now true (create_refuses snap.now) (take site.A snap.now) }
-    ensures { OnOk result (rest_of_snap request.new ≡ Note site.A 7 (SnapCreate snap.now) (taking site.A snap.now 7)) }
+    ensures { OnOk result (rest_of_snap request.new ≡ Note site.A 7 (SnapCreate snap.now) (copying site.A snap.now 7 1)) }
 {
     let (_image, _snap) = (image, snap);
     let found = Fed::Answer(Answer::Id(IMAGE));
@@ -259,19 +284,46 @@ fn own(
     go_on(rt, alloc, request, op(OpKind::HeaderGet), owned)
 }
 
-/// Whether it notes its event, takes the snapshot, and is done.
+/// Whether it wants these bits as the map of a snapshot of the image of these tests.
+fn puts<M: Machine>(alloc: Global, request: &M, snap: SnapId, bits: &[u8]) -> Result<bool, NoMemory>
+    requires { IsAsking (M.stands request.now).plan }
+{
+    let op = request.next(alloc)?;
+    let puts = is_put_of(&op, snap, bits);
+    drop(op);
+    Ok(puts)
+}
+
+fn is_put_of(op: &Op, of: SnapId, told: &[u8]) -> bool {
+    match op {
+        Op::Map {
+            image,
+            op: MapOp::Put { snap, bits },
+        } => *image == IMAGE && *snap == Some(of) && bits.as_slice() == told,
+        _ => false,
+    }
+}
+
+/// Whether it notes its event, copies the head's map for the next snapshot, takes it, and is done.
 fn takes(
     rt: &impl Abort,
     alloc: Global,
     request: &mut SnapRequest,
     snap: &[u8],
 ) -> Result<bool, NoMemory>
-    requires { rest_of_snap request.old ≡ Note site.A 7 (SnapCreate snap.now) (taking site.A snap.now 7) }
+    requires { rest_of_snap request.old ≡ Note site.A 7 (SnapCreate snap.now) (copying site.A snap.now 7 1) }
 {
     if !is_taking(request.event(alloc)?, snap) {
         return Ok(false);
     }
     go_on(rt, alloc, request, NOTE, Fed::Passed)?;
+    let bits = Fed::Answer(Answer::Bits(Bytes::from_slice(alloc, &[0x40])?));
+    go_on(rt, alloc, request, op(OpKind::MapGet), bits)?;
+    if !puts(alloc, request, SnapId(1), &[0x40])? {
+        return Ok(false);
+    }
+    let put = Fed::Answer(Answer::Done);
+    go_on(rt, alloc, request, op(OpKind::MapPut), put)?;
     if !asks(alloc, request, OpKind::HeaderSnapAdd)? {
         return Ok(false);
     }

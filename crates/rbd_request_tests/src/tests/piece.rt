@@ -4,12 +4,12 @@ ghost use Rattle.rbd_machine.specs.Answers.{CanBeFed};
 ghost use Rattle.rbd_machine.specs.Steps.{TellsDone};
 ghost use Rattle.rbd_piece.specs.Gather.{TellsBytes};
 
-use super::drive::{IMAGE, holds};
+use super::drive::{IMAGE, go_on, holds};
 use super::header::disk;
 use rbd_header::context_of;
 use rbd_kinds::{
-    Answer, Bytes, Fed, NoMemory, Op, OpKind, Part, Parts, Refusal, Reply, Role, SiteId, SnapId,
-    Turn, Want,
+    Answer, Bytes, Fed, MapOp, NoMemory, Op, OpKind, Part, Parts, Refusal, Reply, Role, SiteId,
+    SnapId, Turn, Want,
 };
 use rbd_layout::Piece;
 use rbd_machine::{Machine, Progress};
@@ -21,6 +21,11 @@ use std::test::Fail;
 const READ: Want = Want::Op {
     site: SiteId::B,
     kind: OpKind::DataRead,
+};
+
+const RAISE: Want = Want::Op {
+    site: SiteId::A,
+    kind: OpKind::MapSet,
 };
 
 const WRITE: Want = Want::Op {
@@ -52,6 +57,28 @@ fn is_on(op: Op, kind: OpKind, object: u64) -> bool {
     op.kind() == kind && object_of(&op) == Some(object)
 }
 
+/// Whether an operation sets a state in the map of the head of the image of these tests.
+fn is_set(op: &Op, number: u64, to: u8) -> bool {
+    match op {
+        Op::Map {
+            image,
+            op: MapOp::Set {
+                snap,
+                object,
+                state,
+            },
+        } => *image == IMAGE && snap.is_none() && *object == number && *state == to,
+        _ => false,
+    }
+}
+
+/// Whether an operation sets this state. It goes with the call.
+fn sets(op: Op, number: u64, to: u8) -> bool {
+    let sets = is_set(&op, number, to);
+    drop(op);
+    sets
+}
+
 /// The bytes `new` for object 3.
 fn write_piece(alloc: Global) -> Result<WritePiece, NoMemory> {
     let header = disk(alloc, 4096, 0, Role::Plain);
@@ -60,16 +87,33 @@ fn write_piece(alloc: Global) -> Result<WritePiece, NoMemory> {
     Ok(WritePiece::new(SiteId::A, IMAGE, context, piece(alloc, 3, 3)?, bytes))
 }
 
-/// What ends a piece of a write that is answered so, `None` where the request goes on.
-fn write_ends(rt: &impl Abort, write: &mut WritePiece, answer: Answer) -> Option<Refusal>
+/// The state of its object is raised.
+fn raise(rt: &impl Abort, write: &mut WritePiece) {
+    assert!(rt; write.wants() == RAISE);
+    assert!(rt; wants_more(write.feed(&Answer::Done)));
+}
+
+/// What ends a piece of a write that wants this and is answered so, `None` where the request goes
+/// on.
+fn write_ends(
+    rt: &impl Abort,
+    write: &mut WritePiece,
+    want: Want,
+    answer: Answer,
+) -> Option<Refusal>
     requires { TellsDone answer }
 {
-    assert!(rt; write.wants() == WRITE);
+    assert!(rt; write.wants() == want);
     match write.feed(&answer) {
         Progress::Ended(()) => None,
         Progress::Refused(refusal) => Some(refusal),
         Progress::More => panic!(rt; "it wants more"),
     }
+}
+
+/// Whether it wants that object 3 exists.
+fn raises(write: &WritePiece) -> Result<bool, NoMemory> {
+    Ok(write.object() == 3 && sets(write.next()?, 3, 1))
 }
 
 /// Whether it wants to write to object 3.
@@ -78,24 +122,42 @@ fn writes(write: &WritePiece) -> Result<bool, NoMemory> {
 }
 
 #[test]
-fn a_piece_is_written_by_one_operation(rt: HostRuntime) -> Result<(), Fail> {
+fn a_piece_is_written_behind_the_state_of_its_object(rt: HostRuntime) -> Result<(), Fail> {
     let mut write = write_piece(rt.alloc())?;
+    assert!(rt; holds(raises(&write)));
+    raise(&rt, &mut write);
     assert!(rt; holds(writes(&write)));
-    assert!(rt; write_ends(&rt, &mut write, Answer::Done).is_none());
+    assert!(rt; write_ends(&rt, &mut write, WRITE, Answer::Done).is_none());
+    Ok(())
+}
+
+#[test]
+fn a_state_that_nothing_has_is_no_image(rt: HostRuntime) -> Result<(), Fail> {
+    let mut write = write_piece(rt.alloc())?;
+    assert!(rt; write_ends(&rt, &mut write, RAISE, Answer::Absent) == Some(Refusal::NoImage));
     Ok(())
 }
 
 #[test]
 fn a_write_where_nothing_is_there_is_no_image(rt: HostRuntime) -> Result<(), Fail> {
     let mut write = write_piece(rt.alloc())?;
-    assert!(rt; write_ends(&rt, &mut write, Answer::Absent) == Some(Refusal::NoImage));
+    raise(&rt, &mut write);
+    assert!(rt; write_ends(&rt, &mut write, WRITE, Answer::Absent) == Some(Refusal::NoImage));
+    Ok(())
+}
+
+#[test]
+fn the_fence_ends_a_piece_at_the_state_of_its_object(rt: HostRuntime) -> Result<(), Fail> {
+    let mut write = write_piece(rt.alloc())?;
+    assert!(rt; write_ends(&rt, &mut write, RAISE, Answer::Fenced) == Some(Refusal::Fenced));
     Ok(())
 }
 
 #[test]
 fn the_fence_ends_a_write(rt: HostRuntime) -> Result<(), Fail> {
     let mut write = write_piece(rt.alloc())?;
-    assert!(rt; write_ends(&rt, &mut write, Answer::Fenced) == Some(Refusal::Fenced));
+    raise(&rt, &mut write);
+    assert!(rt; write_ends(&rt, &mut write, WRITE, Answer::Fenced) == Some(Refusal::Fenced));
     Ok(())
 }
 
@@ -199,11 +261,23 @@ fn one_answer_does<M: Machine>(
     }
 }
 
+/// Whether a piece goes on, as a machine, once the state of its object is raised.
+#[tactic(auto, using(crate::proofs::Pieces::done_can_be_fed))]
+fn goes_on_behind_its_state(
+    rt: &impl Abort,
+    alloc: Global,
+    write: &mut WritePiece,
+) -> Result<bool, NoMemory> {
+    let raised = Fed::Answer(Answer::Done);
+    go_on(rt, alloc, write, RAISE, raised)?;
+    let done = Fed::Answer(Answer::Done);
+    one_answer_does(alloc, write, WRITE, &done)
+}
+
 #[test]
 fn a_piece_of_a_write_is_a_machine(rt: HostRuntime) -> Result<(), Fail> {
     let mut write = write_piece(rt.alloc())?;
-    let done = Fed::Answer(Answer::Done);
-    assert!(rt; holds(one_answer_does(rt.alloc(), &mut write, WRITE, &done)));
+    assert!(rt; holds(goes_on_behind_its_state(&rt, rt.alloc(), &mut write)));
     Ok(())
 }
 

@@ -1,10 +1,11 @@
 //! A write and a fill are fed by hand, to their end and to their refusals. The image has 8,192
 //! bytes in objects of 4,096, so the bytes 4,094 to 4,098 lie in the objects 0 (two of them) and 1
 //! (three).
-ghost use Rattle.std.specs.Prelude.{◌≡◌, false, [], ◌∷◌, replicate, IfOk, OnOk};
+ghost use Rattle.std.specs.Prelude.{◌≡◌, false, [], ◌∷◌, None, replicate, IfOk, OnOk};
 ghost use Rattle.rbd_kinds.specs.declared.id.SiteId.TheVariants as site;
 ghost use Rattle.rbd_kinds.specs.declared.data_op.DataOp.TheVariants as object;
 ghost use Rattle.rbd_kinds.specs.declared.journal.Event.TheVariants as event;
+ghost use Rattle.rbd_kinds.specs.declared.map_op.MapOp.TheVariants as states;
 ghost use Rattle.rbd_kinds.specs.declared.operation.Op.TheVariants as op;
 ghost use Rattle.rbd_machine.specs.Plan.{Await, Note};
 ghost use Rattle.rbd_machine.specs.Steps.{own, looking, owning, on_done, applied};
@@ -108,14 +109,14 @@ fn a_secondary_is_not_written(rt: HostRuntime) -> Result<(), Fail> {
 }
 
 /// Its own look tells the header: what is left is to note it and to write two bytes to the object 0
-/// and three to the object 1.
+/// and three to the object 1, each behind the object's state.
 fn look(rt: &impl Abort, alloc: Global, request: &mut WriteRequest) -> Result<(), NoMemory>
     requires { of_write.rest_of_request request.old ≡ owning site.A (of_write.write_refuses (record { at = 4094; len = 5 })) (of_write.put site.A 4094 (104 ∷ 101 ∷ 108 ∷ 108 ∷ 111 ∷ [])) 7 }
     ensures { OnOk result (of_write.rest_of_request request.new
         ≡ Note site.A 7 (event.Write 4094 (104 ∷ 101 ∷ 108 ∷ 108 ∷ 111 ∷ []))
-        (Await (wait.Turn 0) (own site.A (op.Data 7 0 (object.Write (record { seq = 0; snaps = [] }) false (record { offset = 4094; at = 4094; len = 2 } ∷ []) (104 ∷ 101 ∷ [])))
-        (on_done (Await (wait.Turn 1) (own site.A (op.Data 7 1 (object.Write (record { seq = 0; snaps = [] }) false (record { offset = 0; at = 4096; len = 3 } ∷ []) (108 ∷ 108 ∷ 111 ∷ [])))
-        (on_done (applied site.A 7)))))))) }
+        (Await (wait.Turn 0) (own site.A (op.Map 7 (states.Set None 0 1)) (on_done (own site.A (op.Data 7 0 (object.Write (record { seq = 0; snaps = [] }) false (record { offset = 4094; at = 4094; len = 2 } ∷ []) (104 ∷ 101 ∷ [])))
+        (on_done (Await (wait.Turn 1) (own site.A (op.Map 7 (states.Set None 1 1)) (on_done (own site.A (op.Data 7 1 (object.Write (record { seq = 0; snaps = [] }) false (record { offset = 0; at = 4096; len = 3 } ∷ []) (108 ∷ 108 ∷ 111 ∷ [])))
+        (on_done (applied site.A 7)))))))))))) }
 {
     let owned = Fed::Answer(Answer::Header(disk(alloc, 8192, 1, Role::Plain)));
     go_on(rt, alloc, request, op(OpKind::HeaderGet), owned)?;
@@ -126,15 +127,19 @@ fn look(rt: &impl Abort, alloc: Global, request: &mut WriteRequest) -> Result<()
 fn is_written(rt: &impl Abort, alloc: Global, request: &mut WriteRequest) -> Result<bool, NoMemory>
     requires { of_write.rest_of_request request.old
         ≡ Note site.A 7 (event.Write 4094 (104 ∷ 101 ∷ 108 ∷ 108 ∷ 111 ∷ []))
-        (Await (wait.Turn 0) (own site.A (op.Data 7 0 (object.Write (record { seq = 0; snaps = [] }) false (record { offset = 4094; at = 4094; len = 2 } ∷ []) (104 ∷ 101 ∷ [])))
-        (on_done (Await (wait.Turn 1) (own site.A (op.Data 7 1 (object.Write (record { seq = 0; snaps = [] }) false (record { offset = 0; at = 4096; len = 3 } ∷ []) (108 ∷ 108 ∷ 111 ∷ [])))
-        (on_done (applied site.A 7))))))) }
+        (Await (wait.Turn 0) (own site.A (op.Map 7 (states.Set None 0 1)) (on_done (own site.A (op.Data 7 0 (object.Write (record { seq = 0; snaps = [] }) false (record { offset = 4094; at = 4094; len = 2 } ∷ []) (104 ∷ 101 ∷ [])))
+        (on_done (Await (wait.Turn 1) (own site.A (op.Map 7 (states.Set None 1 1)) (on_done (own site.A (op.Data 7 1 (object.Write (record { seq = 0; snaps = [] }) false (record { offset = 0; at = 4096; len = 3 } ∷ []) (108 ∷ 108 ∷ 111 ∷ [])))
+        (on_done (applied site.A 7))))))))))) }
 {
     go_on(rt, alloc, request, NOTE, Fed::Passed)?;
     go_on(rt, alloc, request, turn(0), Fed::Passed)?;
+    let raised = Fed::Answer(Answer::Done);
+    go_on(rt, alloc, request, op(OpKind::MapSet), raised)?;
     let first = Fed::Answer(Answer::Done);
     go_on(rt, alloc, request, op(OpKind::DataWrite), first)?;
     go_on(rt, alloc, request, turn(1), Fed::Passed)?;
+    let raised = Fed::Answer(Answer::Done);
+    go_on(rt, alloc, request, op(OpKind::MapSet), raised)?;
     let second = Fed::Answer(Answer::Done);
     go_on(rt, alloc, request, op(OpKind::DataWrite), second)?;
     let reply = end(rt, alloc, request, APPLIED, Fed::Passed)?;

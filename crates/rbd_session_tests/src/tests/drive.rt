@@ -4,13 +4,16 @@
 //! the test runs, so that no proof has to know where a request stands.
 ghost use Rattle.std.specs.Prelude.{◌≡◌, ◌≤◌, true, IfOk};
 ghost use Rattle.rbd_kinds.specs.declared.machine.Fed.TheVariants as of_fed;
-ghost use Rattle.rbd_machine.specs.Answers.{IsHeaderToldInForm};
+ghost use Rattle.rbd_machine.specs.Answers.{CanGive, IsHeaderToldInForm};
 ghost use Rattle.rbd_session.specs.Session.{held_in, IsAnswered, OfRunning};
 
+use super::told::BITS;
 use rbd_admin::CreateRequest;
 use rbd_course::Request;
-use rbd_kinds::{Answer, Command, Fed, Instance, NoMemory, Op, Reply, SessionNo, SiteId, Slot};
-use rbd_machine::can_give;
+use rbd_kinds::{
+    Answer, Command, Fed, Instance, MapOp, NoMemory, Op, Reply, SessionNo, SiteId, Slot,
+};
+use rbd_machine::gives;
 use rbd_requests::{SessionRequest, Work, is_built};
 use rbd_session::Session;
 use std::alloc::Global;
@@ -68,6 +71,25 @@ pub fn wants_none(alloc: Global, session: &Client, slot: Slot) -> Result<bool, N
 
 fn is_none(op: Option<(SiteId, Op)>) -> bool {
     op.is_none()
+}
+
+/// Whether an operation can give an answer: of a look at a map, the bits of these tests.
+fn can_give(op: &Op, answer: &Answer) -> bool
+    requires { IsHeaderToldInForm answer.now }
+    ensures { result ≡ true → CanGive op.now answer.now }
+{
+    match (op, answer) {
+        (
+            Op::Map {
+                image: _,
+                op: MapOp::Get { snap: _ },
+            },
+            Answer::Bits(bits),
+        ) => bits.as_slice() == BITS.as_slice(),
+        (Op::Map { image: _, op: _ }, Answer::Bits(_)) => false,
+        (Op::Map { image: _, op: _ }, _) => gives(op, answer),
+        _ => rbd_machine::can_give(op, answer),
+    }
 }
 
 /// Whether the request in a slot may go on, and wants an operation that can give this answer.

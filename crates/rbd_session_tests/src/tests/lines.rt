@@ -7,7 +7,9 @@ free 2
 1 dir-find id-7
 1 header-get header
 1 header-get header
+1 map-set done
 1 data-write done
+1 map-set done
 1 data-write done done
 free 1";
 
@@ -26,7 +28,10 @@ const ONE_OBJECT: &str = "1 takes write-0
 1 header-get header
 2 header-get header
 2 waits
+1 map-set done
+2 waits
 1 data-write done done
+2 map-set done
 2 data-write done done
 free 1";
 
@@ -45,10 +50,15 @@ const PIECE_BY_PIECE: &str = "1 takes write-0-1
 1 header-get header
 2 header-get header
 2 waits
+1 map-set done
+2 waits
 1 data-write done
+2 map-set done
+1 map-set done
 2 data-write done
 2 waits
 1 data-write done done
+2 map-set done
 2 data-write done done
 free 1";
 
@@ -67,9 +77,13 @@ const TICKETS_OF_ALL: &str = "1 takes write-0-1
 1 header-get header
 2 header-get header
 2 waits
+1 map-set done
 1 data-write done
 2 waits
+1 map-set done
+2 waits
 1 data-write done done
+2 map-set done
 2 data-write done done
 free 1";
 
@@ -89,9 +103,12 @@ const ONE_OF_TWO: &str = "1 takes fill-1
 2 header-get header
 1 header-get header
 2 header-get header
+2 map-set done
 2 data-write done
 2 waits
+1 map-set done
 1 data-write done done
+2 map-set done
 2 data-write done done
 free 1";
 
@@ -109,6 +126,8 @@ const TWO_OBJECTS: &str = "1 takes write-0
 2 header-get header
 1 header-get header
 2 header-get header
+1 map-set done
+2 map-set done
 2 data-write done done
 free 2
 1 data-write done done
@@ -130,10 +149,15 @@ const SNAP_BEHIND: &str = "1 takes write-0-1
 2 waits
 1 header-get header
 2 waits
+1 map-set done
 1 data-write done
+2 waits
+1 map-set done
 2 waits
 1 data-write done done
 2 header-get header
+2 map-get bits
+2 map-put done
 2 header-snap-add snap done
 free 1";
 
@@ -153,8 +177,13 @@ const SNAP_AHEAD: &str = "1 takes snap-create
 2 waits
 1 header-get header
 2 waits
+1 map-get bits
+2 waits
+1 map-put done
+2 waits
 1 header-snap-add snap done
 2 header-get header
+2 map-set done
 2 data-write done done
 free 1";
 
@@ -174,7 +203,9 @@ const LOOKS_IN_ORDER: &str = "1 takes write-0
 1 waits
 2 header-get header
 1 header-get header
+1 map-set done
 1 data-write done done
+2 map-set done
 2 data-write done done
 free 1";
 
@@ -192,6 +223,10 @@ const TWO_IMAGES: &str = "1 takes snap-create
 2 header-get header
 2 header-get header
 1 header-get header
+1 map-get bits
+2 map-get bits
+2 map-put done
+1 map-put done
 1 header-snap-add snap done
 2 header-snap-add snap done
 free 1";
@@ -211,8 +246,12 @@ const ONE_IMAGE: &str = "1 takes snap-create
 1 header-get header
 1 header-get header
 2 waits
+1 map-get bits
+1 map-put done
 1 header-snap-add snap done
 2 header-get header
+2 map-get bits
+2 map-put done
 2 header-snap-add snap done
 free 1";
 
@@ -238,7 +277,10 @@ const LOOKS: &str = "1 takes snap-create
 2 dir-list names names
 2 takes create
 2 dir-add id-7
+2 map-resize done
 2 header-create done done
+1 map-get bits
+1 map-put done
 1 header-snap-add snap done
 free 1";
 
@@ -258,7 +300,10 @@ const LOOKS_AHEAD: &str = "1 takes read
 4 takes snap-create
 4 dir-find id-7
 4 header-get header
+3 map-resize done
 4 header-get header
+4 map-get bits
+4 map-put done
 4 header-snap-add snap done
 3 header-create done done
 2 header-get header info
@@ -280,6 +325,8 @@ const REFUSED_AT_THE_LOOK: &str = "1 takes write-0-1
 2 waits
 1 header-get small BadRange
 2 header-get header
+2 map-get bits
+2 map-put done
 2 header-snap-add snap done
 free 1";
 
@@ -302,8 +349,11 @@ const REFUSED_AT_THE_OWN_LOOK: &str = "1 takes write-0-1
 1 header-get small BadRange
 2 waits
 3 header-get header
+3 map-set done
 3 data-write done done
 2 header-get header
+2 map-get bits
+2 map-put done
 2 header-snap-add snap done
 free 1";
 
@@ -322,10 +372,62 @@ const FENCED: &str = "1 takes write-0-1
 1 header-get header
 2 header-get header
 2 waits
+1 map-set done
 1 data-write fenced Fenced
+2 map-set done
 2 data-write done
+2 map-set done
 2 data-write done done
 free 1";
+
+const FENCED_AT_A_STATE: &str = "1 takes write-0-1
+2 takes write-0-1
+1 dir-find id-7
+2 dir-find id-7
+1 header-get header
+2 header-get header
+1 header-get header
+2 header-get header
+1 map-set done
+1 data-write done
+2 map-set done
+2 data-write done
+2 waits
+1 map-set fenced Fenced
+2 map-set done
+2 data-write done done
+free 1";
+
+#[test]
+fn a_ticket_goes_with_the_end_of_a_write_at_a_state(rt: HostRuntime) -> Result<(), Fail> {
+    goes_as(&rt, rt.alloc(), FENCED_AT_A_STATE)?;
+    Ok(())
+}
+
+const MAP_THAT_IS_GONE: &str = "1 takes snap-create
+2 takes snap-create
+3 takes write-0
+1 dir-find id-7
+2 dir-find id-7
+3 dir-find id-7
+1 header-get header
+2 header-get header
+3 header-get header
+1 header-get header
+1 map-get none NoImage
+2 header-get header
+2 map-get bits
+2 map-put fenced Fenced
+3 header-get header
+3 map-set done
+3 data-write done done
+free 1";
+
+#[test]
+fn a_snapshot_that_is_refused_at_a_map_leaves_its_line(rt: HostRuntime) -> Result<(), Fail> {
+    goes_as(&rt, rt.alloc(), MAP_THAT_IS_GONE)?;
+    Ok(())
+}
 
 #[test]
 fn all_tickets_go_with_the_end_of_a_write(rt: HostRuntime) -> Result<(), Fail> {
@@ -341,6 +443,7 @@ const REMOVAL_AHEAD: &str = "1 takes snap-rm
 2 waits
 1 header-get header NoSnap
 2 header-get header
+2 map-set done
 2 data-write done done
 free 1";
 
@@ -362,12 +465,16 @@ const SNAP_BETWEEN: &str = "1 takes write-0
 1 header-get header
 2 waits
 3 waits
+1 map-set done
 1 data-write done done
 3 waits
 2 header-get header
 3 waits
+2 map-get bits
+2 map-put done
 2 header-snap-add snap done
 3 header-get header
+3 map-set done
 3 data-write done done
 free 1";
 

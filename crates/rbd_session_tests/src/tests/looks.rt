@@ -16,6 +16,7 @@ rests 7
 1 looks none
 moves 7
 rests 8
+1 map-set done
 1 data-write done done
 1 looks none
 rests 7
@@ -40,11 +41,14 @@ const BEHIND: &str = "1 takes write-0
 1 header-get header
 moves 7
 2 looks none
+1 map-set done
 1 data-write done done
 rests 7
 2 looks 7
 2 header-get header
 moves 7
+2 map-get bits
+2 map-put done
 2 header-snap-add snap done
 rests 7";
 
@@ -98,6 +102,7 @@ const AHEAD: &str = "1 takes snap-create
 free 1
 2 looks 7
 2 header-get header
+2 map-set done
 2 data-write done done
 rests 7";
 
@@ -119,6 +124,7 @@ const TICKETS: &str = "1 takes write-0-1
 moves 7
 1 gives up
 moves 7
+2 map-set done
 2 data-write done done
 rests 7
 free 1";

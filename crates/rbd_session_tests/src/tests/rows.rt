@@ -100,7 +100,7 @@ fn goes_on(
     slot: Slot,
     answer: &str,
 ) -> Result<bool, NoMemory> {
-    let reply = tell(rt, alloc, session, slot, told(rt, alloc, answer))?;
+    let reply = tell(rt, alloc, session, slot, told(rt, alloc, answer)?)?;
     Ok(reply.is_none())
 }
 
@@ -113,7 +113,7 @@ fn ends(
     answer: &str,
     word: &str,
 ) -> Result<bool, NoMemory> {
-    match tell(rt, alloc, session, slot, told(rt, alloc, answer))? {
+    match tell(rt, alloc, session, slot, told(rt, alloc, answer)?)? {
         Some(reply) => Ok(is_of(reply, word)),
         None => Ok(false),
     }

@@ -36,6 +36,7 @@ free 1
 1 takes create
 1 refused not
 1 dir-add id-7
+1 map-resize done
 1 header-create done done
 free 1";
 
@@ -95,6 +96,8 @@ free 1
 1 dir-find id-7
 1 header-get header
 1 header-get header
+1 map-get bits
+1 map-put done
 1 header-snap-add snap done
 free 1";
 

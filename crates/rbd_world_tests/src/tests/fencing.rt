@@ -3,96 +3,110 @@ use super::rows::{goes_as, keeps_as, posts_as};
 use std::test::Fail;
 
 /// c1 stops when line 7 has written one of its two objects. As long as its watch is there c2 asks
-/// it, in vain. Behind the end of the watch c2 fences it (a23), breaks the lock and takes it. What
+/// it, in vain. Behind the end of the watch c2 fences it (a28), breaks the lock and takes it. What
 /// line 7 wanted comes late, and changes nothing: the byte 4096 is c2's.
-const STOPPED: &str = "3 1.1>end 5 1.1>end 7 1.1*4 1.1=data-write stop:1
+const STOPPED: &str = "3 1.1>end 5 1.1>end 7 1.1*6 1.1=data-write stop:1
 26 2.1>notify 2.1 deliver:1 expire:1.1 2.1*2 2.1=block-add 2.1 2.1=lock-break 2.1 2.1=lock-take
 2.1>end late:1.1 6 2.1>end
-|slot1 a1 a2! slot1 a3 a4 a5 a6 a7 a8 a9! slot1 a10 a11 a12 a13 stopped
-slot1 a14 a15 a16 a17~ a18~ a19~ nothing stored a21~ a22~ a23 a24
-a25 a26 a27 a28! a29 slot1 a30 a31 a32 a33 a34!
+|slot1 a1 a2 a3! slot1 a4 a5 a6 a7 a8 a9 a10 a11 a12! slot1 a13 a14 a15 a16 a17 a18 stopped slot1
+a19 a20 a21 a22~ a23~ a24~ nothing stored a26~ a27~ a28 a29 a30 a31 a32 a33 a34 a35! a36 slot1 a37
+a38 a39 a40 a41!
 |3 ok;5 ok;26 ok;6 ok 11cccc44";
 
 const STOPPED_HISTORY: &str = "h 1 start 3 c1.0
 h 2 effect 3 a1 name
-h 3 effect 3 a2 create
-h 4 reply 3
-h 5 start 5 c1.0
-h 6 look 5 a3
+h 3 look 3 a2
+h 4 effect 3 a3 create
+h 5 reply 3
+h 6 start 5 c1.0
 h 7 look 5 a4
 h 8 look 5 a5
 h 9 look 5 a6
 h 10 look 5 a7
-h 11 effect 5 a8 piece
-h 12 effect 5 a9 piece
-h 13 reply 5
-h 14 start 7 c1.0
-h 15 look 7 a10
-h 16 look 7 a11
-h 17 look 7 a12
-h 18 effect 7 a13 piece
-h 19 stop c1
-h 20 lost 7
-h 21 start 26 c2.0
-h 22 look 26 a14
-h 23 look 26 a15
-h 24 look 26 a16
-h 25 look 26 a17
-h 26 look 26 a18
+h 11 look 5 a8
+h 12 look 5 a9
+h 13 effect 5 a10 piece
+h 14 look 5 a11
+h 15 effect 5 a12 piece
+h 16 reply 5
+h 17 start 7 c1.0
+h 18 look 7 a13
+h 19 look 7 a14
+h 20 look 7 a15
+h 21 look 7 a16
+h 22 effect 7 a17 piece
+h 23 look 7 a18
+h 24 stop c1
+h 25 lost 7
+h 26 start 26 c2.0
 h 27 look 26 a19
-h 28 look 26 a21
-h 29 look 26 a22
-h 30 fence 26 a23 c1.0
-h 31 look 26 a24
-h 32 look 26 a25
+h 28 look 26 a20
+h 29 look 26 a21
+h 30 look 26 a22
+h 31 look 26 a23
+h 32 look 26 a24
 h 33 look 26 a26
-h 34 effect 26 a27 piece
-h 35 effect 26 a28 piece
-h 36 reply 26
-h 37 look late:c1.0 a29
-h 38 start 6 c2.0
-h 39 look 6 a30
-h 40 look 6 a31
-h 41 look 6 a32
-h 42 look 6 a33
-h 43 look 6 a34
-h 44 reply 6
+h 34 look 26 a27
+h 35 fence 26 a28 c1.0
+h 36 look 26 a29
+h 37 look 26 a30
+h 38 look 26 a31
+h 39 look 26 a32
+h 40 effect 26 a33 piece
+h 41 look 26 a34
+h 42 effect 26 a35 piece
+h 43 reply 26
+h 44 look late:c1.0 a36
+h 45 start 6 c2.0
+h 46 look 6 a37
+h 47 look 6 a38
+h 48 look 6 a39
+h 49 look 6 a40
+h 50 look 6 a41
+h 51 reply 6
 ";
 
 const STOPPED_LOGS: &str = "o a1 c1.0 dir-add rbd_directory id
-o a2 c1.0 header-create rbd_header.1 done
-o a3 c1.0 dir-find rbd_directory id
-o a4 c1.0 header-get rbd_header.1 header
-o a5 c1.0 watch rbd_header.1 done
-o a6 c1.0 lock-take rbd_header.1 done
-o a7 c1.0 header-get rbd_header.1 header
-o a8 c1.0 data-write rbd_data.1.0000000000000000 done
-o a9 c1.0 data-write rbd_data.1.0000000000000001 done
-o a10 c1.0 dir-find rbd_directory id
-o a11 c1.0 header-get rbd_header.1 header
-o a12 c1.0 header-get rbd_header.1 header
-o a13 c1.0 data-write rbd_data.1.0000000000000000 done
-o a14 c2.0 dir-find rbd_directory id
-o a15 c2.0 header-get rbd_header.1 header
-o a16 c2.0 watch rbd_header.1 done
-o a17 c2.0 lock-take rbd_header.1 held
-o a18 c2.0 watchers-get rbd_header.1 instances
-o a19 c2.0 notify rbd_header.1 done
-o a20 store expire rbd_header.1 done
-o a21 c2.0 lock-take rbd_header.1 held
-o a22 c2.0 watchers-get rbd_header.1 instances
-o a23 c2.0 block-add blocklist done
-o a24 c2.0 lock-break rbd_header.1 done
-o a25 c2.0 lock-take rbd_header.1 done
-o a26 c2.0 header-get rbd_header.1 header
-o a27 c2.0 data-write rbd_data.1.0000000000000000 done
-o a28 c2.0 data-write rbd_data.1.0000000000000001 done
-o a29 c1.0 data-write rbd_data.1.0000000000000001 fenced
-o a30 c2.0 dir-find rbd_directory id
+o a2 c1.0 map-resize rbd_object_map.1 done
+o a3 c1.0 header-create rbd_header.1 done
+o a4 c1.0 dir-find rbd_directory id
+o a5 c1.0 header-get rbd_header.1 header
+o a6 c1.0 watch rbd_header.1 done
+o a7 c1.0 lock-take rbd_header.1 done
+o a8 c1.0 header-get rbd_header.1 header
+o a9 c1.0 map-set rbd_object_map.1 done
+o a10 c1.0 data-write rbd_data.1.0000000000000000 done
+o a11 c1.0 map-set rbd_object_map.1 done
+o a12 c1.0 data-write rbd_data.1.0000000000000001 done
+o a13 c1.0 dir-find rbd_directory id
+o a14 c1.0 header-get rbd_header.1 header
+o a15 c1.0 header-get rbd_header.1 header
+o a16 c1.0 map-set rbd_object_map.1 done
+o a17 c1.0 data-write rbd_data.1.0000000000000000 done
+o a18 c1.0 map-set rbd_object_map.1 done
+o a19 c2.0 dir-find rbd_directory id
+o a20 c2.0 header-get rbd_header.1 header
+o a21 c2.0 watch rbd_header.1 done
+o a22 c2.0 lock-take rbd_header.1 held
+o a23 c2.0 watchers-get rbd_header.1 instances
+o a24 c2.0 notify rbd_header.1 done
+o a25 store expire rbd_header.1 done
+o a26 c2.0 lock-take rbd_header.1 held
+o a27 c2.0 watchers-get rbd_header.1 instances
+o a28 c2.0 block-add blocklist done
+o a29 c2.0 lock-break rbd_header.1 done
+o a30 c2.0 lock-take rbd_header.1 done
 o a31 c2.0 header-get rbd_header.1 header
-o a32 c2.0 data-read rbd_data.1.0000000000000000 bytes
-o a33 c2.0 data-read rbd_data.1.0000000000000001 bytes
-o a34 c2.0 header-get rbd_header.1 header
+o a32 c2.0 map-set rbd_object_map.1 done
+o a33 c2.0 data-write rbd_data.1.0000000000000000 done
+o a34 c2.0 map-set rbd_object_map.1 done
+o a35 c2.0 data-write rbd_data.1.0000000000000001 done
+o a36 c1.0 data-write rbd_data.1.0000000000000001 fenced
+o a37 c2.0 dir-find rbd_directory id
+o a38 c2.0 header-get rbd_header.1 header
+o a39 c2.0 data-read rbd_data.1.0000000000000000 bytes
+o a40 c2.0 data-read rbd_data.1.0000000000000001 bytes
+o a41 c2.0 header-get rbd_header.1 header
 |";
 
 #[test]
@@ -114,8 +128,8 @@ fn a_stopped_owner_is_asked_as_long_as_it_watches(rt: HostRuntime) -> Result<(),
 /// operation.
 const ALIVE: &str =
     "3 1.1>end 5 1.1>end expire:1.1 26 2.1>end 12 1.1=dir-find 1.1 1.1=none 6 2.1>end
-|slot1 a1 a2! slot1 a3 a4 a5 a6 a7 a8 a9! stored
-slot1 a11 a12 a13 a14~ a15~ a16 a17 a18 a19 a20 a21! slot1 a22! slot1 a23 a24 a25 a26 a27!
+|slot1 a1 a2 a3! slot1 a4 a5 a6 a7 a8 a9 a10 a11 a12! stored slot1 a14 a15 a16 a17~ a18~ a19 a20
+a21 a22 a23 a24 a25 a26! slot1 a27! slot1 a28 a29 a30 a31 a32!
 |3 ok;5 ok;26 ok;12 error 108 Fenced;6 ok 11cccc44";
 
 #[test]
@@ -126,13 +140,13 @@ fn an_owner_that_runs_and_is_fenced_learns_it_by_its_next_operation(
     Ok(())
 }
 
-/// c2 and c4 both find that c1 doesn't watch. c2 is faster: c4 finds the lock changed (a24), then
+/// c2 and c4 both find that c1 doesn't watch. c2 is faster: c4 finds the lock changed (a27), then
 /// held by c2, and asks that.
 const BOTH_BREAK: &str = "3 1.1>end 5 1.1>end stop:1 expire:1.1 26 2.1>block-add 27 4.1>block-add
 2.1*2 4.1*2 2.1 4.1*2 4.1=notify 2.1>end 4.1 deliver:1 2.0*2 4.1>end 28 4.1>end
-|slot1 a1 a2! slot1 a3 a4 a5 a6 a7 a8 a9! stopped stored
-slot1 a11 a12 a13 a14~ a15~ slot1 a16 a17 a18 a19~ a20~ a21 a22 a23 a24 a25 a26~ a27~
-a28 a29 a30! a31~ heard a32 a33 a34 a35 a36! slot1 a37 a38 a39 a40 a41!
+|slot1 a1 a2 a3! slot1 a4 a5 a6 a7 a8 a9 a10 a11 a12! stopped stored slot1 a14 a15 a16 a17~ a18~
+slot1 a19 a20 a21 a22~ a23~ a24 a25 a26 a27 a28 a29~ a30~ a31 a32 a33 a34 a35! a36~ heard a37 a38
+a39 a40 a41 a42! slot1 a43 a44 a45 a46 a47!
 |3 ok;5 ok;26 ok;27 ok;28 ok 11ccccee";
 
 #[test]

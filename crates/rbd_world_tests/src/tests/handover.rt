@@ -4,88 +4,103 @@ use super::rows::{goes_as, keeps_as, posts_as};
 use std::test::Fail;
 
 /// c1 has the lock, and line 7 is past its own look when c2 asks. So c1 lets the lock go behind the
-/// last piece of line 7 (a20): it drops it, and tells that. Line 26 was on its way, and takes it.
+/// last piece of line 7 (a25): it drops it, and tells that. Line 26 was on its way, and takes it.
 const HANDED_OVER: &str = "3 1.1>end 5 1.1>end 7 1.1*3 26 2.1>notify 2.1 1.0=none
-deliver:1 1.0=none 1.0 1.1*2 1.0=lock-drop 1.0 1.0=notify 1.0 1.0=none 1.0
+deliver:1 1.0=none 1.0 1.1*4 1.0=lock-drop 1.0 1.0=notify 1.0 1.0=none 1.0
 2.1=lock-take 2.1>end 6 2.1>end
-|slot1 a1 a2! slot1 a3 a4 a5 a6 a7 a8 a9! slot1 a10 a11 a12 slot1 a13 a14 a15 a16~ a17~ a18~
-heard waits a19 a20! a21 a22 waits a23 a24 a25 a26! slot1 a27 a28 a29 a30 a31!
+|slot1 a1 a2 a3! slot1 a4 a5 a6 a7 a8 a9 a10 a11 a12! slot1 a13 a14 a15 slot1 a16 a17 a18 a19~
+a20~ a21~ heard waits a22 a23 a24 a25! a26 a27 waits a28 a29 a30 a31 a32 a33! slot1 a34 a35 a36
+a37 a38!
 |3 ok;5 ok;7 ok;26 ok;6 ok 11cccc44";
 
 const HANDED_OVER_HISTORY: &str = "h 1 start 3 c1.0
 h 2 effect 3 a1 name
-h 3 effect 3 a2 create
-h 4 reply 3
-h 5 start 5 c1.0
-h 6 look 5 a3
+h 3 look 3 a2
+h 4 effect 3 a3 create
+h 5 reply 3
+h 6 start 5 c1.0
 h 7 look 5 a4
 h 8 look 5 a5
 h 9 look 5 a6
 h 10 look 5 a7
-h 11 effect 5 a8 piece
-h 12 effect 5 a9 piece
-h 13 reply 5
-h 14 start 7 c1.0
-h 15 look 7 a10
-h 16 look 7 a11
-h 17 look 7 a12
-h 18 start 26 c2.0
-h 19 look 26 a13
-h 20 look 26 a14
-h 21 look 26 a15
+h 11 look 5 a8
+h 12 look 5 a9
+h 13 effect 5 a10 piece
+h 14 look 5 a11
+h 15 effect 5 a12 piece
+h 16 reply 5
+h 17 start 7 c1.0
+h 18 look 7 a13
+h 19 look 7 a14
+h 20 look 7 a15
+h 21 start 26 c2.0
 h 22 look 26 a16
 h 23 look 26 a17
 h 24 look 26 a18
-h 25 effect 7 a19 piece
-h 26 effect 7 a20 piece
-h 27 reply 7
-h 28 look house:c1.0 a21
-h 29 look house:c1.0 a22
-h 30 look 26 a23
-h 31 look 26 a24
-h 32 effect 26 a25 piece
-h 33 effect 26 a26 piece
-h 34 reply 26
-h 35 start 6 c2.0
-h 36 look 6 a27
-h 37 look 6 a28
-h 38 look 6 a29
-h 39 look 6 a30
-h 40 look 6 a31
-h 41 reply 6
+h 25 look 26 a19
+h 26 look 26 a20
+h 27 look 26 a21
+h 28 look 7 a22
+h 29 effect 7 a23 piece
+h 30 look 7 a24
+h 31 effect 7 a25 piece
+h 32 reply 7
+h 33 look house:c1.0 a26
+h 34 look house:c1.0 a27
+h 35 look 26 a28
+h 36 look 26 a29
+h 37 look 26 a30
+h 38 effect 26 a31 piece
+h 39 look 26 a32
+h 40 effect 26 a33 piece
+h 41 reply 26
+h 42 start 6 c2.0
+h 43 look 6 a34
+h 44 look 6 a35
+h 45 look 6 a36
+h 46 look 6 a37
+h 47 look 6 a38
+h 48 reply 6
 ";
 
 const HANDED_OVER_LOGS: &str = "o a1 c1.0 dir-add rbd_directory id
-o a2 c1.0 header-create rbd_header.1 done
-o a3 c1.0 dir-find rbd_directory id
-o a4 c1.0 header-get rbd_header.1 header
-o a5 c1.0 watch rbd_header.1 done
-o a6 c1.0 lock-take rbd_header.1 done
-o a7 c1.0 header-get rbd_header.1 header
-o a8 c1.0 data-write rbd_data.1.0000000000000000 done
-o a9 c1.0 data-write rbd_data.1.0000000000000001 done
-o a10 c1.0 dir-find rbd_directory id
-o a11 c1.0 header-get rbd_header.1 header
-o a12 c1.0 header-get rbd_header.1 header
-o a13 c2.0 dir-find rbd_directory id
-o a14 c2.0 header-get rbd_header.1 header
-o a15 c2.0 watch rbd_header.1 done
-o a16 c2.0 lock-take rbd_header.1 held
-o a17 c2.0 watchers-get rbd_header.1 instances
-o a18 c2.0 notify rbd_header.1 done
-o a19 c1.0 data-write rbd_data.1.0000000000000000 done
-o a20 c1.0 data-write rbd_data.1.0000000000000001 done
-o a21 c1.0 lock-drop rbd_header.1 done
-o a22 c1.0 notify rbd_header.1 done
-o a23 c2.0 lock-take rbd_header.1 done
-o a24 c2.0 header-get rbd_header.1 header
-o a25 c2.0 data-write rbd_data.1.0000000000000000 done
-o a26 c2.0 data-write rbd_data.1.0000000000000001 done
-o a27 c2.0 dir-find rbd_directory id
-o a28 c2.0 header-get rbd_header.1 header
-o a29 c2.0 data-read rbd_data.1.0000000000000000 bytes
-o a30 c2.0 data-read rbd_data.1.0000000000000001 bytes
-o a31 c2.0 header-get rbd_header.1 header
+o a2 c1.0 map-resize rbd_object_map.1 done
+o a3 c1.0 header-create rbd_header.1 done
+o a4 c1.0 dir-find rbd_directory id
+o a5 c1.0 header-get rbd_header.1 header
+o a6 c1.0 watch rbd_header.1 done
+o a7 c1.0 lock-take rbd_header.1 done
+o a8 c1.0 header-get rbd_header.1 header
+o a9 c1.0 map-set rbd_object_map.1 done
+o a10 c1.0 data-write rbd_data.1.0000000000000000 done
+o a11 c1.0 map-set rbd_object_map.1 done
+o a12 c1.0 data-write rbd_data.1.0000000000000001 done
+o a13 c1.0 dir-find rbd_directory id
+o a14 c1.0 header-get rbd_header.1 header
+o a15 c1.0 header-get rbd_header.1 header
+o a16 c2.0 dir-find rbd_directory id
+o a17 c2.0 header-get rbd_header.1 header
+o a18 c2.0 watch rbd_header.1 done
+o a19 c2.0 lock-take rbd_header.1 held
+o a20 c2.0 watchers-get rbd_header.1 instances
+o a21 c2.0 notify rbd_header.1 done
+o a22 c1.0 map-set rbd_object_map.1 done
+o a23 c1.0 data-write rbd_data.1.0000000000000000 done
+o a24 c1.0 map-set rbd_object_map.1 done
+o a25 c1.0 data-write rbd_data.1.0000000000000001 done
+o a26 c1.0 lock-drop rbd_header.1 done
+o a27 c1.0 notify rbd_header.1 done
+o a28 c2.0 lock-take rbd_header.1 done
+o a29 c2.0 header-get rbd_header.1 header
+o a30 c2.0 map-set rbd_object_map.1 done
+o a31 c2.0 data-write rbd_data.1.0000000000000000 done
+o a32 c2.0 map-set rbd_object_map.1 done
+o a33 c2.0 data-write rbd_data.1.0000000000000001 done
+o a34 c2.0 dir-find rbd_directory id
+o a35 c2.0 header-get rbd_header.1 header
+o a36 c2.0 data-read rbd_data.1.0000000000000000 bytes
+o a37 c2.0 data-read rbd_data.1.0000000000000001 bytes
+o a38 c2.0 header-get rbd_header.1 header
 |";
 
 #[test]
@@ -114,9 +129,9 @@ fn a_handover_posts_the_wish_and_the_release(rt: HostRuntime) -> Result<(), Fail
 /// lock is let go once.
 const ASKED_AGAIN: &str = "3 1.1>end 5 1.1>end 26 2.1>notify 2.1*7 1.0=none 1.0 7 1.1>end
 2.1*3 deliver:3 deliver:1 deliver:1 1.0*3 2.1>end 6 2.1>end
-|slot1 a1 a2! slot1 a3 a4 a5 a6 a7 a8 a9! slot1 a10 a11 a12 a13~ a14~
-a15~ a16~ a17~ a18~ a19~ a20~ a21~ waits slot1 a22 a23 a24 a25 a26!
-a27~ a28~ a29~ heard heard heard a30 a31 waits a32 a33 a34 a35! slot1 a36 a37 a38 a39 a40!
+|slot1 a1 a2 a3! slot1 a4 a5 a6 a7 a8 a9 a10 a11 a12! slot1 a13 a14 a15 a16~ a17~ a18~ a19~ a20~
+a21~ a22~ a23~ a24~ waits slot1 a25 a26 a27 a28 a29 a30 a31! a32~ a33~ a34~ heard heard heard a35
+a36 waits a37 a38 a39 a40 a41 a42! slot1 a43 a44 a45 a46 a47!
 |3 ok;5 ok;7 ok;26 ok;6 ok 11cccc44";
 
 #[test]
@@ -133,9 +148,9 @@ fn who_wants_a_lock_asks_again_where_its_notice_is_lost(rt: HostRuntime) -> Resu
 const TOLD_AGAIN: &str = "3 1.1>end 5 1.1>end 26 2.1>notify 2.1 deliver:1 1.0*2 2.1>end
 deliver:1 1.0=none 1.0 12 1.1=dir-find 1.1>notify 1.1 deliver:3 2.0*2 1.1>end 1.0
 deliver:1 1.0*3 10 2.1>end
-|slot1 a1 a2! slot1 a3 a4 a5 a6 a7 a8 a9! slot1 a10 a11 a12 a13~ a14~ a15~ heard a16 a17
-a18 a19 a20 a21! heard waits slot1 a22 a23 a24~ a25~ a26~ heard a27 a28 a29 a30 a31 a32! waits
-heard a33 a34 waits slot1 a35 a36 a37 a38 a39!
+|slot1 a1 a2 a3! slot1 a4 a5 a6 a7 a8 a9 a10 a11 a12! slot1 a13 a14 a15 a16~ a17~ a18~ heard a19
+a20 a21 a22 a23 a24 a25 a26! heard waits slot1 a27 a28 a29~ a30~ a31~ heard a32 a33 a34 a35 a36
+a37 a38 a39! waits heard a40 a41 waits slot1 a42 a43 a44 a45 a46!
 |3 ok;5 ok;26 ok;12 ok;10 ok 55667788";
 
 #[test]

@@ -2,13 +2,15 @@
 //! what its slot wants, and what is there behind it.
 //!
 //! c2 has the lock of the image, has written the bytes 4095 and 4096 as cc, and was stopped. Line 5
-//! of c1 then does 14 operations: it finds the image and looks at it, watches it, finds the lock
+//! of c1 then does 16 operations: it finds the image and looks at it, watches it, finds the lock
 //! held and c2 watching, asks, and finds the lock held again. There the watch of c2 ends. So it
-//! finds c2 not watching, fences it, breaks its lock and takes it, looks, and writes both objects.
+//! finds c2 not watching, fences it, breaks its lock and takes it, looks, and writes both objects,
+//! each behind its state in the object map.
 //!
 //! ```text
 //! 1 dir-find   2 header-get   3 watch   4 lock-take   5 watchers-get   6 notify   7 lock-take
-//! 8 watchers-get   9 block-add   10 lock-break   11 lock-take   12 header-get   13, 14 data-write
+//! 8 watchers-get   9 block-add   10 lock-break   11 lock-take   12 header-get
+//! 13 map-set   14 data-write   15 map-set   16 data-write
 //! ```
 //!
 //! Behind the stop both watches end. c4 writes the byte 4097 as ee by line 27, on a way of its own,
@@ -102,9 +104,11 @@ const NEVER: &str = "0 dir-find 5 c2.0 00ccccee
 9 lock-break 5 c2.0,c2.0 00ccccee
 10 lock-take 5 c2.0 00ccccee
 11 header-get 5 c2.0,c1.0 00ccccee
-12 data-write 5 c2.0,c1.0 00ccccee
-13 data-write 5 c2.0,c1.0 1122ccee
-14 none - c2.0,c1.0 112233ee";
+12 map-set 5 c2.0,c1.0 00ccccee
+13 data-write 5 c2.0,c1.0 00ccccee
+14 map-set 5 c2.0,c1.0 1122ccee
+15 data-write 5 c2.0,c1.0 1122ccee
+16 none - c2.0,c1.0 112233ee";
 
 fn stops(
     rt: &impl Abort,
@@ -144,9 +148,11 @@ const AT_ONCE: &str = "0 id c2.0 00ccccee
 9 done c2.0 00ccccee
 10 done c2.0,c1.0 00ccccee
 11 header c2.0,c1.0 00ccccee
-12 done c2.0,c1.0 1122ccee
-13 done c2.0,c1.0 112233ee
-14 - c2.0,c1.0 112233ee";
+12 done c2.0,c1.0 00ccccee
+13 done c2.0,c1.0 1122ccee
+14 done c2.0,c1.0 1122ccee
+15 done c2.0,c1.0 112233ee
+16 - c2.0,c1.0 112233ee";
 
 fn comes_at_once(
     rt: &impl Abort,
@@ -188,8 +194,10 @@ const BEHIND: &str = "0 id c2.0 00ccccee
 10 held c2.0 00ccccee
 11 fenced c2.0,c1.0 00ccccee
 12 fenced c2.0,c1.0 00ccccee
-13 fenced c2.0,c1.0 1122ccee
-14 - c2.0,c1.0 112233ee";
+13 fenced c2.0,c1.0 00ccccee
+14 fenced c2.0,c1.0 1122ccee
+15 fenced c2.0,c1.0 1122ccee
+16 - c2.0,c1.0 112233ee";
 
 fn comes_behind(
     rt: &impl Abort,

@@ -1,71 +1,80 @@
 //! Reads across a change of the snapshots, and of a snapshot.
 //!
-//! A snapshot is taken, and removed, by four operations: it finds the image, looks at the header,
-//! looks again, and changes the header, which then has another generation.
+//! A snapshot is taken by six operations: it finds the image, looks at the header, looks again,
+//! gets the head's object map and puts it as the snapshot's, and changes the header, which then has
+//! another generation. It is removed by five: the first three, the header's change, and the end of
+//! its map.
 use super::rows::{goes_as, tells_as};
 use std::test::Fail;
 
-/// c2 has read the object 0 when line 9 takes the snapshot, and begins again at its look (a18).
+/// c2 has read the object 0 when line 9 takes the snapshot, and begins again at its look (a23).
 /// Line 12 was begun before, and does its operations behind that. The snapshot then shows the old
 /// bytes.
 const ACROSS: &str = "3 1.1>end 5 1.1>end 6 2.1*3 12 9 1.2>end 2.1>end 1.1>end 11 2.1>end 10 2.1>end
-|slot1 a1 a2! slot1 a3 a4 a5 a6 a7 a8 a9! slot1 a10 a11 a12 slot1
-slot2 a13 a14 a15 a16! a17 a18 a19 a20 a21 a22 a23! a24 a25 a26 a27 a28!
-slot1 a29 a30 a31 a32 a33! slot1 a34 a35 a36 a37 a38!
+|slot1 a1 a2 a3! slot1 a4 a5 a6 a7 a8 a9 a10 a11 a12! slot1 a13 a14 a15 slot1 slot2 a16 a17 a18
+a19 a20 a21! a22 a23 a24 a25 a26 a27 a28! a29 a30 a31 a32 a33 a34 a35! slot1 a36 a37 a38 a39 a40!
+slot1 a41 a42 a43 a44 a45!
 |3 ok;5 ok;9 ok;6 ok 11223344;12 ok;11 ok 11223344;10 ok 55667788";
 
 const ACROSS_HISTORY: &str = "h 1 start 3 c1.0
 h 2 effect 3 a1 name
-h 3 effect 3 a2 create
-h 4 reply 3
-h 5 start 5 c1.0
-h 6 look 5 a3
+h 3 look 3 a2
+h 4 effect 3 a3 create
+h 5 reply 3
+h 6 start 5 c1.0
 h 7 look 5 a4
 h 8 look 5 a5
 h 9 look 5 a6
 h 10 look 5 a7
-h 11 effect 5 a8 piece
-h 12 effect 5 a9 piece
-h 13 reply 5
-h 14 start 6 c2.0
-h 15 look 6 a10
-h 16 look 6 a11
-h 17 look 6 a12
-h 18 start 12 c1.0
-h 19 start 9 c1.0
-h 20 look 9 a13
-h 21 look 9 a14
-h 22 look 9 a15
-h 23 effect 9 a16 snap
-h 24 reply 9
-h 25 look 6 a17
-h 26 look 6 a18
-h 27 look 6 a19
-h 28 look 6 a20
-h 29 look 6 a21
+h 11 look 5 a8
+h 12 look 5 a9
+h 13 effect 5 a10 piece
+h 14 look 5 a11
+h 15 effect 5 a12 piece
+h 16 reply 5
+h 17 start 6 c2.0
+h 18 look 6 a13
+h 19 look 6 a14
+h 20 look 6 a15
+h 21 start 12 c1.0
+h 22 start 9 c1.0
+h 23 look 9 a16
+h 24 look 9 a17
+h 25 look 9 a18
+h 26 look 9 a19
+h 27 look 9 a20
+h 28 effect 9 a21 snap
+h 29 reply 9
 h 30 look 6 a22
 h 31 look 6 a23
-h 32 reply 6
-h 33 look 12 a24
-h 34 look 12 a25
-h 35 look 12 a26
-h 36 effect 12 a27 piece
-h 37 effect 12 a28 piece
-h 38 reply 12
-h 39 start 11 c2.0
-h 40 look 11 a29
-h 41 look 11 a30
-h 42 look 11 a31
-h 43 look 11 a32
-h 44 look 11 a33
-h 45 reply 11
-h 46 start 10 c2.0
-h 47 look 10 a34
-h 48 look 10 a35
-h 49 look 10 a36
-h 50 look 10 a37
-h 51 look 10 a38
-h 52 reply 10
+h 32 look 6 a24
+h 33 look 6 a25
+h 34 look 6 a26
+h 35 look 6 a27
+h 36 look 6 a28
+h 37 reply 6
+h 38 look 12 a29
+h 39 look 12 a30
+h 40 look 12 a31
+h 41 look 12 a32
+h 42 effect 12 a33 piece
+h 43 look 12 a34
+h 44 effect 12 a35 piece
+h 45 reply 12
+h 46 start 11 c2.0
+h 47 look 11 a36
+h 48 look 11 a37
+h 49 look 11 a38
+h 50 look 11 a39
+h 51 look 11 a40
+h 52 reply 11
+h 53 start 10 c2.0
+h 54 look 10 a41
+h 55 look 10 a42
+h 56 look 10 a43
+h 57 look 10 a44
+h 58 look 10 a45
+h 59 reply 10
 ";
 
 #[test]
@@ -75,10 +84,10 @@ fn a_read_across_a_snapshot_begins_again(rt: HostRuntime) -> Result<(), Fail> {
 }
 
 /// Line 11 has read the object 0 of the snapshot when line 14 removes it. It begins again at its
-/// look (a22), and doesn't find the snapshot then.
+/// look (a28), and doesn't find the snapshot then.
 const REMOVED: &str = "3 1.1>end 5 1.1>end 9 1.1>end 11 2.1*3 14 1.1>end 2.1>end
-|slot1 a1 a2! slot1 a3 a4 a5 a6 a7 a8 a9! slot1 a10 a11 a12 a13! slot1 a14 a15 a16
-slot1 a17 a18 a19 a20! a21 a22 a23 a24!
+|slot1 a1 a2 a3! slot1 a4 a5 a6 a7 a8 a9 a10 a11 a12! slot1 a13 a14 a15 a16 a17 a18! slot1 a19 a20
+a21 slot1 a22 a23 a24 a25 a26! a27 a28 a29 a30!
 |3 ok;5 ok;9 ok;14 ok;11 error 2 NoSnap";
 
 #[test]
@@ -89,9 +98,9 @@ fn a_read_of_a_snapshot_that_goes_is_refused(rt: HostRuntime) -> Result<(), Fail
 
 /// The snapshot is taken between the lines 5 and 12. Line 12 has written the object 0 when c2 reads
 /// the snapshot and then the image.
-const BETWEEN_PIECES: &str = "3 1.1>end 5 1.1>end 9 1.1>end 12 1.1*4 11 2.1>end 10 2.1>end 1.1
-|slot1 a1 a2! slot1 a3 a4 a5 a6 a7 a8 a9! slot1 a10 a11 a12 a13! slot1 a14 a15 a16 a17
-slot1 a18 a19 a20 a21 a22! slot1 a23 a24 a25 a26 a27! a28!
+const BETWEEN_PIECES: &str = "3 1.1>end 5 1.1>end 9 1.1>end 12 1.1*5 11 2.1>end 10 2.1>end 1.1*2
+|slot1 a1 a2 a3! slot1 a4 a5 a6 a7 a8 a9 a10 a11 a12! slot1 a13 a14 a15 a16 a17 a18! slot1 a19 a20
+a21 a22 a23 slot1 a24 a25 a26 a27 a28! slot1 a29 a30 a31 a32 a33! a34 a35!
 |3 ok;5 ok;9 ok;11 ok 11223344;10 ok 55663344;12 ok";
 
 #[test]

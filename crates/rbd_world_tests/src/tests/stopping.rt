@@ -7,37 +7,40 @@ use std::test::Fail;
 /// c1 is there again: with its next life, and all slots free. What was lost isn't begun again.
 const LOSES: &str = "3 1.1>end 12 5 9 7 1.2>end stop:1 1.1 1.3 1.0 1.1=none 33 stop:1
 restart:1 1.1 12 restart:1 33 1.1>end
-|slot1 a1 a2! slot1 slot2 slot3 slot4 a3 a4 a5 a6 a7 a8 a9! stopped
-nothing nothing nothing nothing nothing restarted nothing nothing nothing slot1 a10 a11 a12 a13 a14!
+|slot1 a1 a2 a3! slot1 slot2 slot3 slot4 a4 a5 a6 a7 a8 a9 a10 a11 a12! stopped nothing nothing
+nothing nothing nothing restarted nothing nothing nothing slot1 a13 a14 a15 a16 a17!
 |3 ok;5 ok;33 ok 11223344";
 
 const LOSES_HISTORY: &str = "h 1 start 3 c1.0
 h 2 effect 3 a1 name
-h 3 effect 3 a2 create
-h 4 reply 3
-h 5 start 12 c1.0
-h 6 start 5 c1.0
-h 7 start 9 c1.0
-h 8 start 7 c1.0
-h 9 look 5 a3
+h 3 look 3 a2
+h 4 effect 3 a3 create
+h 5 reply 3
+h 6 start 12 c1.0
+h 7 start 5 c1.0
+h 8 start 9 c1.0
+h 9 start 7 c1.0
 h 10 look 5 a4
 h 11 look 5 a5
 h 12 look 5 a6
 h 13 look 5 a7
-h 14 effect 5 a8 piece
-h 15 effect 5 a9 piece
-h 16 reply 5
-h 17 stop c1
-h 18 lost 7
-h 19 lost 9
-h 20 lost 12
-h 21 start 33 c1.1
-h 22 look 33 a10
-h 23 look 33 a11
-h 24 look 33 a12
+h 14 look 5 a8
+h 15 look 5 a9
+h 16 effect 5 a10 piece
+h 17 look 5 a11
+h 18 effect 5 a12 piece
+h 19 reply 5
+h 20 stop c1
+h 21 lost 7
+h 22 lost 9
+h 23 lost 12
+h 24 start 33 c1.1
 h 25 look 33 a13
 h 26 look 33 a14
-h 27 reply 33
+h 27 look 33 a15
+h 28 look 33 a16
+h 29 look 33 a17
+h 30 reply 33
 ";
 
 #[test]
@@ -49,15 +52,17 @@ fn a_stop_loses_the_lines_without_a_reply_in_their_order(rt: HostRuntime) -> Res
 /// A client that was never stopped isn't restarted, and one that was stopped isn't stopped again.
 const NO_LINES: &str = "restart:1 stop:1 stop:1 late:1.1 late:1.0 restart:1 restart:1 stop:1
 3 restart:1 3 1.1>end
-|nothing stopped nothing nothing nothing restarted nothing stopped nothing restarted slot1 a1 a2!
+|nothing stopped nothing nothing nothing restarted nothing stopped nothing restarted slot1 a1 a2
+a3!
 |3 ok";
 
 const NO_LINES_HISTORY: &str = "h 1 stop c1
 h 2 stop c1
 h 3 start 3 c1.2
 h 4 effect 3 a1 name
-h 5 effect 3 a2 create
-h 6 reply 3
+h 5 look 3 a2
+h 6 effect 3 a3 create
+h 7 reply 3
 ";
 
 #[test]
@@ -68,7 +73,7 @@ fn a_client_without_lines_loses_none(rt: HostRuntime) -> Result<(), Fail> {
 
 /// c2 is in the middle of line 6.
 const OTHERS: &str = "3 1.1>end 5 1.1>end 6 2.1*2 7 1.1 stop:1 2.1>end
-|slot1 a1 a2! slot1 a3 a4 a5 a6 a7 a8 a9! slot1 a10 a11 slot1 a12 stopped a13 a14 a15!
+|slot1 a1 a2 a3! slot1 a4 a5 a6 a7 a8 a9 a10 a11 a12! slot1 a13 a14 slot1 a15 stopped a16 a17 a18!
 |3 ok;5 ok;6 ok 11223344";
 
 #[test]
@@ -82,8 +87,9 @@ fn a_stop_leaves_the_other_clients(rt: HostRuntime) -> Result<(), Fail> {
 /// life, which hears no notice any more (nor does the second hear it), and then fences it.
 const KNOWS_NOTHING: &str = "3 1.1>end 5 1.1>end 29 1.1>end stop:1 restart:1 34 1.1*2 1.1=watch
 1.1>notify 1.1 deliver:1 1.0=none 1.0 expire:1.1 1.1*2 1.1=block-add 1.1>end 33 1.1>end
-|slot1 a1 a2! slot1 a3 a4 a5 a6 a7 a8 a9! slot1 a10 a11 a12! stopped restarted slot1 a13 a14
-a15 a16~ a17~ a18~ nothing waits stored a20~ a21~ a22 a23 a24 a25 a26! slot1 a27 a28 a29 a30 a31!
+|slot1 a1 a2 a3! slot1 a4 a5 a6 a7 a8 a9 a10 a11 a12! slot1 a13 a14 a15! stopped restarted slot1
+a16 a17 a18 a19~ a20~ a21~ nothing waits stored a23~ a24~ a25 a26 a27 a28 a29 a30! slot1 a31 a32
+a33 a34 a35!
 |3 ok;5 ok;29 ok;34 ok;33 ok 1122dd44";
 
 #[test]

@@ -7,8 +7,8 @@ use std::test::Fail;
 const EACH: &str = "3 1.1>end 5 1.1>end 26 2.1>lock-take 27 4.1>lock-take 31 1.1>end
 heard:2= deliver:1 heard:2=hi heard:4= deliver:2 deliver:1 heard:2=hi+hi heard:4=hi
 32 2.2>end deliver:4 heard:4=hi+yo heard:1= deliver:3 heard:1=yo heard:2=hi+hi heard:3=
-|slot1 a1 a2! slot1 a3 a4 a5 a6 a7 a8 a9! slot1 a10 a11 a12 slot1 a13 a14 a15 slot1 a16 a17!
-heard heard heard slot2 a18 a19! heard heard
+|slot1 a1 a2 a3! slot1 a4 a5 a6 a7 a8 a9 a10 a11 a12! slot1 a13 a14 a15 slot1 a16 a17 a18 slot1
+a19 a20! heard heard heard slot2 a21 a22! heard heard
 |3 ok;5 ok;31 ok;32 ok";
 
 #[test]
@@ -23,7 +23,8 @@ fn each_other_client_that_watches_hears_what_is_told_as_often_as_it_comes(
 /// Nobody watches when c4 tells something first, and c1 when it does so again. c3 tells its own at
 /// the other site, whose image 1 nobody watches.
 const NOBODY: &str = "3 1.1>end 35 4.1>end 5 1.1>end 19 3.1>end 36 3.1>end deliver:1 heard:1=
-|slot1 a1 a2! slot1 a3 a4! slot1 a5 a6 a7 a8 a9 a10 a11! slot1 b1 b2! slot1 b3 b4! nothing
+|slot1 a1 a2 a3! slot1 a4 a5! slot1 a6 a7 a8 a9 a10 a11 a12 a13 a14! slot1 b1 b2 b3! slot1 b4 b5!
+nothing
 |3 ok;35 ok;5 ok;19 ok;36 ok";
 
 #[test]
@@ -35,8 +36,8 @@ fn what_is_told_where_nobody_watches_comes_to_nobody(rt: HostRuntime) -> Result<
 /// c4 tells me, and doesn't watch. c1 hears it once, and stops. Its next life hears it no more.
 const STOPPED: &str = "3 1.1>end 5 1.1>end 35 4.1>end deliver:1 heard:1=me heard:4= deliver:2
 stop:1 heard:1= deliver:1 restart:1 deliver:1 heard:1=
-|slot1 a1 a2! slot1 a3 a4 a5 a6 a7 a8 a9! slot1 a10 a11! heard nothing
-stopped nothing restarted nothing
+|slot1 a1 a2 a3! slot1 a4 a5 a6 a7 a8 a9 a10 a11 a12! slot1 a13 a14! heard nothing stopped nothing
+restarted nothing
 |3 ok;5 ok;35 ok";
 
 #[test]
@@ -48,8 +49,8 @@ fn a_stopped_life_hears_nothing_and_its_next_one_nothing_of_its(
 }
 
 /// Line 31 is told, and line 5 is in the middle of its pieces: neither waits for the other.
-const BESIDE: &str = "3 1.1>end 5 1.1*6 31 1.2>end 1.1>end
-|slot1 a1 a2! slot1 a3 a4 a5 a6 a7 a8 slot2 a9 a10! a11!
+const BESIDE: &str = "3 1.1>end 5 1.1*7 31 1.2>end 1.1>end
+|slot1 a1 a2 a3! slot1 a4 a5 a6 a7 a8 a9 a10 slot2 a11 a12! a13 a14!
 |3 ok;31 ok;5 ok";
 
 #[test]

@@ -8,7 +8,7 @@ use rbd_world::{Call, Event, Outcome};
 use std::alloc::Global;
 
 /// Appends a word and a number.
-fn push_numbered(
+pub fn push_numbered(
     alloc: Global,
     text: &mut Vec<u8>,
     word: &str,
