@@ -15,12 +15,12 @@ use Rattle.rbd_kinds.specs.Header.{snap_named}
 use Rattle.rbd_machine.specs.About.{AreOwn, look_up}
 use Rattle.rbd_machine.specs.Path.{Answered, IsWalk}
 use Rattle.rbd_machine.specs.Plan.{Plan, Return, Goto}
-use Rattle.rbd_machine.specs.Steps.{on_id, joining, applied}
+use Rattle.rbd_machine.specs.Steps.{on_id, joining, applied, on_bits}
 use Rattle.rbd_machine.proofs.About.{IsOfImage, GoesByImage, of_not_there, of_on_header, of_on_done, of_joining, by_on_id, are_own}
 use Rattle.rbd_meaning.specs.Snaps.{create_refuses, remove_refuses}
 use Rattle.rbd_admin.specs.Create.{on_drawn, making, mapping, drawing}
 use Rattle.rbd_admin.specs.Listing.{on_names, list_names, showing, show_header}
-use Rattle.rbd_admin.specs.Snap.{on_snap, on_bits, on_gone, taking, putting, take, unmapping, remove_listed, remove, snap_plan}
+use Rattle.rbd_admin.specs.Snap.{on_snap, on_gone, taking, putting, take, unmapping, remove_listed, remove, snap_plan}
 
 module _ (site : SiteId) where
   -- ---- create

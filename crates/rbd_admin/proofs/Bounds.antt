@@ -17,10 +17,10 @@ use Rattle.rbd_machine.proofs.Bounds.{bounded_not_there, bounded_on_id, bounded_
 use Rattle.rbd_admin.specs.Create.{IsCreate, IsCreatePlan, on_drawn, making, mapping, drawing}
 use Rattle.rbd_header.specs.Header.{new_header}
 use Rattle.rbd_admin.specs.Listing.{on_names, list_names, showing, show_header, listing_plan}
-use Rattle.rbd_machine.specs.Steps.{applied}
+use Rattle.rbd_machine.specs.Steps.{applied, on_bits}
 use Rattle.rbd_meaning.specs.Listings.{shown_snaps}
 use Rattle.rbd_meaning.specs.Snaps.{create_refuses, remove_refuses}
-use Rattle.rbd_admin.specs.Snap.{on_snap, on_bits, on_gone, taking, putting, take, unmapping, remove_listed, remove, snap_plan}
+use Rattle.rbd_admin.specs.Snap.{on_snap, on_gone, taking, putting, take, unmapping, remove_listed, remove, snap_plan}
 
 -- ---- create
 

@@ -17,10 +17,10 @@ use Rattle.rbd_machine.specs.Path.{Answered, IsWalk, found, looked_at}
 use Rattle.rbd_machine.specs.Plan.{Plan, Return, Goto}
 use Rattle.rbd_machine.specs.Wait as wait
 use Rattle.rbd_machine.specs.declared.reason.Reason.TheVariants as reason
-use Rattle.rbd_machine.specs.Steps.{applied, on_done}
+use Rattle.rbd_machine.specs.Steps.{applied, on_done, on_bits}
 use Rattle.rbd_machine.proofs.Walked.{ended, went_on, awaited, noted, told_done, changed, refusal_ends_otherwise, nothing_ends_otherwise}
 use Rattle.rbd_meaning.specs.Snaps.{create_refuses, remove_refuses, snap_removed, map_removed, IsGone, TakesOne, RemovesOne}
-use Rattle.rbd_admin.specs.Snap.{on_snap, on_bits, on_gone, taking, putting, copying, take, unmapping, removing, remove, remove_listed, snap_plan}
+use Rattle.rbd_admin.specs.Snap.{on_snap, on_gone, taking, putting, copying, take, unmapping, removing, remove, remove_listed, snap_plan}
 use Rattle.rbd_admin.proofs.Shown.{answered_so}
 
 -- that it counts as applied is no operation

@@ -14,13 +14,13 @@ use Rattle.rbd_kinds.specs.Header.{snap_named}
 use Rattle.rbd_header.specs.Header.{new_header}
 use Rattle.rbd_layout.specs.Asked.{layout_of, KeepsLimits}
 use Rattle.rbd_machine.specs.Plan.{Plan, Ask, Await, Note, Return, Goto, IsClosed}
-use Rattle.rbd_machine.specs.Steps.{applied}
+use Rattle.rbd_machine.specs.Steps.{applied, on_bits}
 use Rattle.rbd_machine.proofs.Closed.{closed_not_there, closed_on_id, closed_on_header, closed_on_done, closed_change}
 use Rattle.rbd_meaning.specs.Listings.{shown_snaps}
 use Rattle.rbd_meaning.specs.Snaps.{create_refuses, remove_refuses}
 use Rattle.rbd_admin.specs.Create.{IsCreate, IsCreatePlan, on_drawn, making, mapping, drawing}
 use Rattle.rbd_admin.specs.Listing.{on_names, showing, show_header, listing_plan}
-use Rattle.rbd_admin.specs.Snap.{on_snap, on_bits, on_gone, taking, putting, take, unmapping, remove_listed, remove, snap_plan}
+use Rattle.rbd_admin.specs.Snap.{on_snap, on_gone, taking, putting, take, unmapping, remove_listed, remove, snap_plan}
 
 -- ---- create
 

@@ -29,7 +29,7 @@ use Rattle.rbd_machine.specs.Knowledge.{Knowledge, ImageMaps, MapsKnown, nothing
 use Rattle.rbd_machine.specs.Label.{Label}
 use Rattle.rbd_machine.specs.Lawful.{IsLawful, IsLawfulRequest}
 use Rattle.rbd_machine.specs.Plan.{Plan, Return, without_labels}
-use Rattle.rbd_machine.specs.Steps.{applied, non_primary}
+use Rattle.rbd_machine.specs.Steps.{applied, non_primary, on_bits}
 use Rattle.rbd_machine.proofs.Lawful.{at_itself, or_else_none, own_at, owning_known, own_is_found, lawful_not_there, lawful_on_id, lawful_on_header, lawful_on_done, lawful_change}
 use Rattle.rbd_meaning.specs.Listings.{shown_snaps}
 use Rattle.rbd_meaning.specs.Snaps.{removal_refusal, create_refuses, remove_refuses}
@@ -37,7 +37,7 @@ use Rattle.rbd_meaning.proofs.Allowed.{may_take, unprotected}
 use Rattle.rbd_admin.proofs.Decided.{limits_or_not}
 use Rattle.rbd_admin.specs.Create.{IsCreate, IsCreatePlan, on_drawn, making, mapping, drawing}
 use Rattle.rbd_admin.specs.Listing.{on_names, showing, show_header, listing_plan}
-use Rattle.rbd_admin.specs.Snap.{on_snap, on_bits, on_gone, taking, putting, take, unmapping, remove_listed, remove, snap_plan}
+use Rattle.rbd_admin.specs.Snap.{on_snap, on_gone, taking, putting, take, unmapping, remove_listed, remove, snap_plan}
 
 -- ---- snapshots by name and by id
 

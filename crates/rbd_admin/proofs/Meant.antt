@@ -23,7 +23,7 @@ use Rattle.rbd_layout.specs.Asked.{layout_of, KeepsLimits}
 use Rattle.rbd_machine.specs.Path.{Answered, IsWalk}
 use Rattle.rbd_machine.specs.Plan.{Plan, Return, Goto}
 use Rattle.rbd_machine.specs.Refused.{refuses_none, never, by_fence, AreGiven, IsGiven, IsRefusedBy}
-use Rattle.rbd_machine.specs.Steps.{on_done, applied, non_primary}
+use Rattle.rbd_machine.specs.Steps.{on_done, applied, non_primary, on_bits}
 use Rattle.rbd_machine.proofs.Lawful.{or_else_none}
 use Rattle.rbd_machine.proofs.Refused.{IsRefusing, Answers, EndsBy, ends_by, refusing_find, refusing_look, refusing_change}
 use Rattle.rbd_machine.proofs.Walked.{ended}
@@ -33,7 +33,7 @@ use Rattle.rbd_meaning.specs.Meant.{IsMeantBy}
 use Rattle.rbd_meaning.specs.Snaps.{SnapCreateMeans, SnapRemoveMeans, removal_refusal, create_refuses, remove_refuses}
 use Rattle.rbd_admin.specs.Create.{IsCreate, IsCreatePlan, on_drawn, making, mapping, drawing}
 use Rattle.rbd_admin.specs.Listing.{is_listing, on_names, list_names, showing, show_header, listing_plan}
-use Rattle.rbd_admin.specs.Snap.{is_snap, on_snap, on_bits, on_gone, taking, putting, take, unmapping, remove_listed, remove, snap_plan}
+use Rattle.rbd_admin.specs.Snap.{is_snap, on_snap, on_gone, taking, putting, take, unmapping, remove_listed, remove, snap_plan}
 use Rattle.rbd_admin.proofs.About.{create_is_own, list_is_own, listing_is_own, taking_is_own, removing_is_own}
 use Rattle.rbd_admin.proofs.Decided.{limits_or_not}
 use Rattle.rbd_admin.proofs.Changes.{takes_one, removes_one}

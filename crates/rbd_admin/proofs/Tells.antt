@@ -14,10 +14,10 @@ use Rattle.rbd_machine.specs.Approach.{rest_from}
 use Rattle.rbd_machine.specs.declared.approach.Stage as way_stage
 use Rattle.rbd_machine.specs.declared.approach.Stage.TheVariants as at
 use Rattle.rbd_machine.specs.Plan.{IsLive}
-use Rattle.rbd_machine.specs.Steps.{TellsDone}
+use Rattle.rbd_machine.specs.Steps.{TellsDone, TellsBits}
 use Rattle.rbd_admin.specs.Create.{TellsDrawn}
 use Rattle.rbd_admin.specs.Listing.{TellsNames}
-use Rattle.rbd_admin.specs.Snap.{does, refuses_of, rest_at, TellsAt, TellsBits, TellsGone, TellsSnap}
+use Rattle.rbd_admin.specs.Snap.{does, refuses_of, rest_at, TellsAt, TellsGone, TellsSnap}
 use Rattle.rbd_admin.specs.declared.snap.SnapChange.{SnapChange}
 use Rattle.rbd_admin.specs.declared.snap.Stage.{Stage}
 use Rattle.rbd_admin.specs.declared.snap.Stage.TheVariants as stage

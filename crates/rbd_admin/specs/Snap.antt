@@ -25,7 +25,7 @@ use Rattle.rbd_commands.specs.declared.refusal.Refusal.TheVariants as refusal
 use Rattle.rbd_kinds.specs.Header.{snap_named}
 use Rattle.rbd_machine.specs.Approach.{rest_of}
 use Rattle.rbd_machine.specs.Plan.{Plan, Note}
-use Rattle.rbd_machine.specs.Steps.{own, refused, not_there, on_done, EndsIt, TellsDone, change, applied}
+use Rattle.rbd_machine.specs.Steps.{own, refused, not_there, on_bits, on_done, EndsIt, TellsBits, TellsDone, change, applied}
 use Rattle.rbd_meaning.specs.Snaps.{create_refuses, remove_refuses}
 
 -- the commands that it serves
@@ -46,14 +46,6 @@ TellsSnap a = EndsIt a
 
 abbrev pub taking : SiteId → (snap : List ℕ) → (image : ℕ) → Plan
 taking site snap image = own site (op.Header image (header.SnapAdd snap)) (on_snap (applied site image))
-
-abbrev pub on_bits : (List ℕ → Plan) → Answer → Plan
-on_bits next (answer.Bits bits) = next bits
-on_bits next a = not_there a
-
-abbrev pub TellsBits : Answer → Type 0
-TellsBits (answer.Bits bits) = Unit {0}
-TellsBits a = EndsIt a
 
 -- the head's states become the map of the snapshot that is taken next
 abbrev pub putting : SiteId → (snap : List ℕ) → (image next : ℕ) → (bits : List ℕ) → Plan

@@ -113,9 +113,9 @@ pub fn snapshots_change_behind_two_looks()
 {}
 
 /// A reply is meant by its command, behind the operations that were done (`IsMeantBy` of
-/// `rbd_meaning`), where each answer is one that its operation can give to who owns what it changes:
-/// it was done or told when a request isn't refused, and when it is, the last answer refused it, and
-/// none before. No other reply comes.
+/// `rbd_meaning`), where each answer is one that its operation can give to who owns what it
+/// changes: it was done or told when a request isn't refused, and when it is, the last answer
+/// refused it, and none before. No other reply comes.
 pub fn replies_are_meant()
     ensures create { (site : SiteId) (command : Command) (plan : Plan) (feds : List Fed) (steps : List Answered) (reply : Reply) → IsCreatePlan site command plan → AreGiven steps
         → IsWalk Goto plan feds steps (Return reply) → IsMeantBy site command steps reply }

@@ -97,8 +97,8 @@ module _ {R : Type 0} where
   op_by stands slot s (actor.Way a) = Some (a.site, op_of a)
   op_by stands slot s (actor.Release r) = Some (r.site, release_op r)
 
-  -- None where the slot is free, waits, or holds a request that is refused before any operation, and
-  -- nowhere else. Slot 0 waits where nothing is to be let go.
+  -- None where the slot is free, waits, or holds a request that is refused before any operation,
+  -- and nowhere else. Slot 0 waits where nothing is to be let go.
   abbrev pub kind_wanted : (stands : R → Standing) → (slot : ℕ) → ClientView R → Option (SiteId × OpKind)
   kind_wanted stands slot c = kind_by stands slot c.session (actor_at stands slot c)
 

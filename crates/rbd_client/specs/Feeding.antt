@@ -77,8 +77,8 @@ pub record IsClientAlike {R : Type 0} (stands : R → Standing) (old new : Clien
   pub release : new.release ≡ old.release
   pub heard : new.heard ≡ old.heard
 
--- A request of the client drops a lock only where no request of the image relies on it: a `close` is
--- alone, and waits for all before it. A release sees to that by itself.
+-- A request of the client drops a lock only where no request of the image relies on it: a `close`
+-- is alone, and waits for all before it. A release sees to that by itself.
 abbrev pub IsAtRest : {R : Type 0} → SiteId → Op → ClientView R → Type 0
 IsAtRest site (op.Header image header.LockDrop) c = is_at_rest site image c ≡ true
 IsAtRest site o c = Unit {0}

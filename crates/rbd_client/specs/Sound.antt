@@ -29,8 +29,8 @@ pub record WaitsForLook {R : Type 0} (stands : R → Standing) (slot : ℕ) (sit
 abbrev pub IsOwned : SiteId → (image : ℕ) → LocksView → Type 0
 IsOwned site image locks = IsTrue (state_at site image locks).owned
 
--- A way is that of a request which waits for its own look, to the lock of its image; and one that has
--- taken the lock has it.
+-- A way is that of a request which waits for its own look, to the lock of its image; and one that
+-- has taken the lock has it.
 abbrev pub IsWellOnWay : {R : Type 0} → (stands : R → Standing) → (slot : ℕ) → Way → SessionView R → LocksView → Type 0
 IsWellOnWay stands slot way.Unbegun s locks = Unit {0}
 IsWellOnWay stands slot (way.On a) s locks = WaitsForLook stands slot a.site a.image s

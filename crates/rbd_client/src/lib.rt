@@ -77,9 +77,9 @@
 //! # How it works
 //!
 //! A session knows no lock, and a lock no request. A client asks its session at whose own look a
-//! slot stands, its locks what is counted there, and lets one of three act: the request, its way, or
-//! the release. What acts is found anew at each look, so nothing has to be kept up to date but by
-//! the answers.
+//! slot stands, its locks what is counted there, and lets one of three act: the request, its way,
+//! or the release. What acts is found anew at each look, so nothing has to be kept up to date but
+//! by the answers.
 #![tactic(auto)]
 
 mod actor;

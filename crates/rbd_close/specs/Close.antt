@@ -64,8 +64,8 @@ unwatching site image = own site (unwatch image) (on_done done)
 abbrev pub releasing : SiteId → (image : ℕ) → Plan
 releasing site image = own site (released_lock image) (on_done (unwatching site image))
 
--- Only a lock that was dropped is told of. Where it was another's, or nobody's, the watch is all that
--- is left to end.
+-- Only a lock that was dropped is told of. Where it was another's, or nobody's, the watch is all
+-- that is left to end.
 abbrev pub on_dropped : SiteId → (image : ℕ) → Answer → Plan
 on_dropped site image answer.Done = releasing site image
 on_dropped site image answer.Changed = unwatching site image

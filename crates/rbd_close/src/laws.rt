@@ -92,9 +92,9 @@ pub fn others_leave_the_lock()
 {}
 
 /// A reply is meant by its command (`IsMeantBy` of `rbd_meaning`), behind the operations that were
-/// done, where each answer is one that its operation can give: it was done when a request isn't refused, and when it is, the last
-/// answer refused it, and none before. A `close` may be refused behind its drop, the others only
-/// where they changed nothing. No other reply comes.
+/// done, where each answer is one that its operation can give: it was done when a request isn't
+/// refused, and when it is, the last answer refused it, and none before. A `close` may be refused
+/// behind its drop, the others only where they changed nothing. No other reply comes.
 pub fn replies_are_meant()
     ensures { (site : SiteId) (command : Command) (feds : List Fed) (steps : List Answered) (reply : Reply) → is_close command ≡ true → AreGiven steps
         → IsWalk Goto (close_plan site command) feds steps (Return reply) → IsMeantBy site command steps reply }

@@ -22,8 +22,8 @@ BeginsWith object [] = ⊥
 BeginsWith object (first ∷ objects) = object ≡ first
 
 -- It joins one line at a time, as the first thing behind an answer; it waits for a lock where it is
--- in the line, once, before anything else there, and leaves where it is in the line; and it takes its
--- turns at the objects that it has tickets for, in their order.
+-- in the line, once, before anything else there, and leaves where it is in the line; and it takes
+-- its turns at the objects that it has tickets for, in their order.
 abbrev pub MayWait : (answered : Bool) → Course → Wait → Type 0
 MayWait fresh c (wait.Join site image alone) = (fresh ≡ true) × (c.place ≡ None)
 MayWait fresh c (wait.Hold site image) = IsInLine site image c.place × (is_newcomer_at c.place ≡ true)

@@ -32,7 +32,7 @@ use Rattle.rbd_machine.specs.Label as label
 use Rattle.rbd_machine.specs.Path.{at_operation}
 use Rattle.rbd_machine.specs.Plan.{Plan, Ask, Await, Note, Return, Goto, Standing, plan_after, without_labels}
 use Rattle.rbd_machine.specs.Refused.{refuses_none}
-use Rattle.rbd_machine.specs.Steps.{applied, change, holding, joining, looked, looking, not_there, on_done, on_header, on_id, owned, owning, unless}
+use Rattle.rbd_machine.specs.Steps.{applied, change, holding, joining, looked, looking, not_there, on_done, on_header, on_id, owned, owning, unless, on_bits}
 use Rattle.rbd_meaning.specs.Listings.{shown_snaps}
 use Rattle.rbd_meaning.specs.Range.{extent_at, out_of_range}
 use Rattle.rbd_meaning.specs.Snaps.{create_refuses, remove_refuses}
@@ -45,7 +45,7 @@ use Rattle.rbd_request.specs.Seen.{Seen, seen_at, shown}
 use Rattle.rbd_request.specs.Write.{put, write_pieces, write_plan}
 use Rattle.rbd_admin.specs.Create.{IsCreate, IsCreatePlan, drawing, making, mapping, on_drawn}
 use Rattle.rbd_admin.specs.Listing.{listing_plan, on_names, show_header, showing}
-use Rattle.rbd_admin.specs.Snap.{on_bits, on_gone, on_snap, putting, remove, remove_listed, snap_plan, take, taking, unmapping}
+use Rattle.rbd_admin.specs.Snap.{on_gone, on_snap, putting, remove, remove_listed, snap_plan, take, taking, unmapping}
 use Rattle.rbd_admin.proofs.Decided.{limits_or_not}
 use Rattle.rbd_close.specs.Close.{close_plan, done, joining as closing_alone, on_dropped, quiesced, resumed, saying, unwatching}
 use Rattle.rbd_requests.specs.Served.{IsPlanFor, Closes, Creates, Lists, Reads, Snaps, Writes}

@@ -167,8 +167,8 @@ exact_shown owed later h maps objects number object head snaps more all =
     (λ t s is. all.snaps t s is number ∙ ap (λ shown. cond (is_some shown) 1 0) (sym (snaps t s is)))
     (λ n other. more n) all
 
--- Bytes are written under the header's context, behind the object's state: so its head is there, and
--- each listed snapshot keeps its view.
+-- Bytes are written under the header's context, behind the object's state: so its head is there,
+-- and each listed snapshot keeps its view.
 pub exact_written : (owed later : ℕ → Bool) (h : HeaderView) (maps : Maps) (objects : ℕ → Option Mapped) (number : ℕ) (c : SnapContext) (bytes : List ℕ)
     → IsTidy (looked (or_blank (objects number))) → ((t : ℕ) (s : SnapView) → snap_in h.snaps t ≡ Some s → t ≤ h.snap_seq) → IsContextOf h c → state_in (maps None) number ≢ 0
     → ((n : ℕ) → n ≢ number → owed n ≡ true → later n ≡ true)

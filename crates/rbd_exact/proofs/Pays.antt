@@ -25,7 +25,7 @@ use Rattle.rbd_machine.specs.Label as label
 use Rattle.rbd_machine.specs.Objects.{map_exists}
 use Rattle.rbd_machine.specs.Plan.{Plan, Return, Goto, Standing, without_labels}
 use Rattle.rbd_machine.specs.Refused.{refuses_none}
-use Rattle.rbd_machine.specs.Steps.{unless, not_there, on_id, on_header, on_done, find, look, change, looked, holding, owned, joining, applied}
+use Rattle.rbd_machine.specs.Steps.{unless, not_there, on_id, on_header, on_done, find, look, change, looked, holding, owned, joining, applied, on_bits}
 use Rattle.rbd_meaning.specs.Listings.{shown_snaps}
 use Rattle.rbd_meaning.specs.Range.{out_of_range, extent_at}
 use Rattle.rbd_meaning.specs.Snaps.{create_refuses, remove_refuses}
@@ -37,7 +37,7 @@ use Rattle.rbd_request.specs.Seen.{Seen, seen_at, shown}
 use Rattle.rbd_request.specs.Write.{write_pieces, put, write, write_plan}
 use Rattle.rbd_admin.specs.Create.{IsCreate, IsCreatePlan, on_drawn, making, mapping, drawing}
 use Rattle.rbd_admin.specs.Listing.{on_names, showing, show_header, listing_plan}
-use Rattle.rbd_admin.specs.Snap.{on_snap, on_bits, on_gone, putting, take, unmapping, remove, remove_listed, snap_plan, taking}
+use Rattle.rbd_admin.specs.Snap.{on_snap, on_gone, putting, take, unmapping, remove, remove_listed, snap_plan, taking}
 use Rattle.rbd_admin.proofs.Decided.{limits_or_not}
 use Rattle.rbd_close.specs.Close.{done, unwatching, on_dropped, joining as joining_to_close, quiesced, resumed, saying, close_plan}
 use Rattle.rbd_requests.specs.Served.{IsPlanFor, Writes, Reads, Creates, Lists, Snaps, Closes}

@@ -40,8 +40,8 @@ abbrev pub sets_one : Op → Bool
 sets_one (op.Map image (states.Set None object state)) = state == 1
 sets_one o = true
 
--- Whatever it is answered of what it can be: a state is set to 1 alone, and who owes an object writes
--- it next.
+-- Whatever it is answered of what it can be: a state is set to 1 alone, and who owes an object
+-- writes it next.
 abbrev pub PaysItsStates : Option Spot → Plan → Type 0
 PaysItsStates None (Ask site why o next) = (sets_one o ≡ true) × ((a : Answer) → IsGiven o a → PaysItsStates (owed_by site o a) (next a))
 PaysItsStates (Some p) (Ask site why o next) = IsWriteOf p site o × ((a : Answer) → IsGiven o a → PaysItsStates None (next a))

@@ -54,9 +54,9 @@ pub fn headers_are_known_by_locks<R: Request>()
         → KnowsByLock site r me (knows slot) }
 {}
 
-/// Whoever acts may look at what it looks at, and may drop the lock that it drops: beside each other
-/// request of the client, by the lines of its session, and beside each of another client that knows
-/// headers by its locks, by the lock. A way looks at no header.
+/// Whoever acts may look at what it looks at, and may drop the lock that it drops: beside each
+/// other request of the client, by the lines of its session, and beside each of another client that
+/// knows headers by its locks, by the lock. A way looks at no header.
 pub fn whoever_acts_may_look<R: Request>()
     ensures own { (c : ClientView R) (knows : ℕ → Knowledge) (slot other : ℕ) (site : Site) (op : Op) (r : Records) (me you : Instance)
         → IsSoundClient R.stands c → AllKnow R.stands knows c.session → slot ≢ other → op_wanted R.stands slot c ≡ Some (site, op)
@@ -90,8 +90,8 @@ pub fn answers_are_known<R: Request>()
 {}
 
 /// And all of it is true behind the operation, at its site and at the other one: what the requests
-/// know, what the ways know, and that each lock which counts as the client's is the client's, unless
-/// it is fenced.
+/// know, what the ways know, and that each lock which counts as the client's is the client's,
+/// unless it is fenced.
 pub fn answers_leave_clients_true<R: Request>()
     ensures here { (c d : ClientView R) (knows : ℕ → Knowledge) (slot : ℕ) (site : Site) (r : Records) (flat : Flat) (me : Instance) (op : Op) (result : Option Reply) (most : ℕ)
         → IsSoundClient R.stands c → AllKnow R.stands knows c.session → op_wanted R.stands slot c ≡ Some (site, op)

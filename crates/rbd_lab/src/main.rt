@@ -20,11 +20,12 @@
 //! ```
 //!
 //! [`run::run_alone`] has the contract: what is printed tells a world to which the script's
-//! schedule led, and each reply in its history is the flat-copy machine's; no operation of a session
-//! that was fenced changes anything, and who changes an image has its lock. Reading and printing
-//! take time in proportion to the text; a command's work grows with the objects that it touches and
-//! the logarithm of their number, not with the image's size or with what was done before. The
-//! script, the objects, history, logs, events and the output lie in memory at the same time.
+//! schedule led, and each reply in its history is the flat-copy machine's; no operation of a
+//! session that was fenced changes anything, and who changes an image has its lock. Reading and
+//! printing take time in proportion to the text; a command's work grows with the objects that it
+//! touches and the logarithm of their number, not with the image's size or with what was done
+//! before. The script, the objects, history, logs, events and the output lie in memory at the same
+//! time.
 #![tactic(auto)]
 
 ghost use Rattle.std.specs.Prelude.{◌≡◌, ◌≢◌, [], drop, Ok, IfOk, IfErr};
@@ -73,8 +74,8 @@ fn exit(status: Status) -> ExitCode
     ExitCode::from(status.code())
 }
 
-/// The words that are judged. Where they couldn't be told, as where one isn't UTF-8, there are none:
-/// so they aren't understood. `NoMemory` exactly where it was memory that they wanted.
+/// The words that are judged. Where they couldn't be told, as where one isn't UTF-8, there are
+/// none: so they aren't understood. `NoMemory` exactly where it was memory that they wanted.
 fn understood(alloc: Global, words: io::Result<Vec<String>>) -> Result<Vec<String>, NoMemory>
     ensures told { IfOk words (λ told. result ≡ Ok told) }
     ensures no_memory { IfErr words (λ error. error_kind error ≡ OutOfMemory → IsErr result) }

@@ -8,6 +8,7 @@ use Rattle.rbd_kinds.specs.declared.id.SiteId.{SiteId}
 use Rattle.rbd_kinds.specs.declared.machine.Fed.{Fed}
 use Rattle.rbd_kinds.specs.declared.machine.Fed.TheVariants as fed
 use Rattle.rbd_kinds.specs.declared.machine.Want.TheVariants as want
+use Rattle.rbd_kinds.specs.declared.map_op.MapOp.TheVariants as states
 use Rattle.rbd_kinds.specs.declared.operation.Op.{Op}
 use Rattle.rbd_kinds.specs.declared.operation.Op.TheVariants as op
 use Rattle.rbd_kinds.specs.AnswerForm.{IsInForm}
@@ -54,5 +55,6 @@ plain_in_form (op.Header image header.Get) (answer.Header h) plain told = told
 plain_in_form (op.Header image _) _ plain told = tt
 plain_in_form (op.Data image number (object.Read snap parts)) (answer.Bytes bytes) plain told = cc
 plain_in_form (op.Data image number _) _ plain told = tt
-plain_in_form (op.Map image o) a plain told = cc
+plain_in_form (op.Map image (states.Get snap)) (answer.Bits bits) plain told = cc
+plain_in_form (op.Map image _) _ plain told = tt
 plain_in_form (op.Journal image o) a plain told = cc

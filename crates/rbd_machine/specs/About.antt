@@ -2,6 +2,7 @@
 -- image.
 use Rattle.std.specs.Prelude.{◌≡◌, ℕ, List, [], ◌∷◌, Option, Some, None}
 use Rattle.rbd_kinds.specs.declared.answer.Answer.TheVariants as answer
+use Rattle.rbd_kinds.specs.declared.children_op.ChildrenOp.TheVariants as child
 use Rattle.rbd_kinds.specs.declared.directory_op.DirectoryOp.TheVariants as directory
 use Rattle.rbd_kinds.specs.declared.id.SiteId.{SiteId}
 use Rattle.rbd_kinds.specs.declared.operation.Op.{Op}
@@ -14,6 +15,9 @@ look_up name = op.Directory (directory.Find name)
 
 -- the image that an operation is of
 abbrev pub image_of : Op → Option ℕ
+image_of (op.Directory (directory.Remove image)) = Some image
+image_of (op.Children (child.Add parent snap image)) = Some image
+image_of (op.Children (child.Remove parent snap image)) = Some image
 image_of (op.Header image o) = Some image
 image_of (op.Data image number o) = Some image
 image_of (op.Map image o) = Some image

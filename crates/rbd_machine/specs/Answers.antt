@@ -131,7 +131,7 @@ CanBeFed _ _ = ⊥
 -- the answer carries neither bytes nor bits, a frame or spans
 abbrev pub is_plain : Op → Answer → Bool
 is_plain (op.Data image number o) (answer.Bytes bytes) = false
-is_plain (op.Map image o) a = false
+is_plain (op.Map image o) (answer.Bits bits) = false
 is_plain (op.Journal image o) a = false
 is_plain _ _ = true
 

@@ -34,7 +34,8 @@ pub record Own : Type 0 where
   pub alone : Bool
   pub header : Option HeaderView
 
--- The state of an object at a view, the head (None) or a snapshot, that isn't 0: this request set it.
+-- The state of an object at a view, the head (None) or a snapshot, that isn't 0: this request set
+-- it.
 pub record Mark : Type 0 where
   pub view : Option ℕ
   pub object : ℕ

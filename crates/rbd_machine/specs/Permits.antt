@@ -53,7 +53,8 @@ pub record IsMappedFor (m : MapsKnown) (layout : Layout) (size : ℕ) : Type 0 w
   pub known : m.count ≡ Some count
   pub room : HasRoomFor layout size count
 
--- The id was drawn by it, so that nobody else knows the image, and the map has at most 2^20 objects.
+-- The id was drawn by it, so that nobody else knows the image, and the map has at most 2^20
+-- objects.
 pub record MayMakeMap (k : Knowledge) (site : SiteId) (image count : ℕ) : Type 0 where
   pub drawn : is_drawn k.drawn site image ≡ true
   pub few : count ≤ 2 ^ 20

@@ -54,16 +54,20 @@ abbrev pub AreLooks : List Answered → Type 0
 AreLooks [] = Unit {0}
 AreLooks (step ∷ steps) = (only_looks step.op ≡ true) × AreLooks steps
 
--- The map of a head is there as long as its image is. So who owns the image is never answered that
--- the map in which it sets a state is missing.
-abbrev pub finds_map : Op → Answer → Bool
-finds_map (op.Map image (states.Set None object state)) answer.Absent = false
-finds_map o a = true
+-- The header of an image and the map of its head are there as long as the image is. So who owns the
+-- image is never answered that the header is missing whose size it sets or which it removes, nor
+-- the map in which it sets a state or which it removes.
+abbrev pub finds_image : Op → Answer → Bool
+finds_image (op.Header image (header.SetSize to)) answer.Absent = false
+finds_image (op.Header image header.Remove) answer.Absent = false
+finds_image (op.Map image (states.Set None object state)) answer.Absent = false
+finds_image (op.Map image (states.Remove None)) answer.Absent = false
+finds_image o a = true
 
 -- what a request is answered that owns what it changes
 pub record IsGiven (o : Op) (a : Answer) : Type 0 where
   pub can : CanGive o a
-  pub finds : finds_map o a ≡ true
+  pub finds : finds_image o a ≡ true
 
 -- so it is with each operation and its answer
 abbrev pub AreGiven : List Answered → Type 0

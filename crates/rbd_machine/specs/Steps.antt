@@ -69,6 +69,15 @@ abbrev pub TellsDone : Answer → Type 0
 TellsDone answer.Done = Unit {0}
 TellsDone a = EndsIt a
 
+-- states of an object map
+abbrev pub on_bits : (List ℕ → Plan) → Answer → Plan
+on_bits next (answer.Bits bits) = next bits
+on_bits next a = not_there a
+
+abbrev pub TellsBits : Answer → Type 0
+TellsBits (answer.Bits bits) = Unit {0}
+TellsBits a = EndsIt a
+
 -- the event of the request counts as applied, and the request is done
 abbrev pub applied : SiteId → (image : ℕ) → Plan
 applied site image = Await (wait.Applied site image) (Return reply.Done)

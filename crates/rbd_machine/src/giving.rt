@@ -6,8 +6,8 @@ ghost use Rattle.rbd_machine.specs.Answers as of_answers;
 use rbd_kinds::{Answer, ChildrenOp, DataOp, DirectoryOp, HeaderOp, JournalOp, MapOp, Op};
 
 /// Whether an operation can give this answer, whose header, if it shows one, is in form. For a
-/// caller who isn't the site itself: bytes, bits, frames and spans aren't judged, and an answer with
-/// one of them is declined.
+/// caller who isn't the site itself: bytes, bits, frames and spans aren't judged, and an answer
+/// with one of them is declined.
 #[tactic(auto, using(crate::proofs::Fed::plain_in_form))]
 pub fn can_give(op: &Op, answer: &Answer) -> bool
     requires { IsHeaderToldInForm answer.now }
@@ -20,8 +20,7 @@ pub fn can_give(op: &Op, answer: &Answer) -> bool
     gives(op, answer)
 }
 
-/// Whether the answer carries a header at most, and no operation that answers with bits, frames or
-/// spans gave it.
+/// Whether the answer carries neither bytes nor bits, and no operation on a journal gave it.
 fn is_plain(op: &Op, answer: &Answer) -> bool
     ensures { result ≡ of_answers.is_plain op.now answer.now }
 {
@@ -34,7 +33,8 @@ fn is_plain(op: &Op, answer: &Answer) -> bool
             },
             Answer::Bytes(_),
         ) => false,
-        (Op::Map { image: _, op: _ } | Op::Journal { image: _, op: _ }, _) => false,
+        (Op::Map { image: _, op: _ }, Answer::Bits(_)) => false,
+        (Op::Journal { image: _, op: _ }, _) => false,
         _ => true,
     }
 }

@@ -68,22 +68,25 @@
 //!
 //! # A new request
 //!
-//! 1. Its plan goes into `specs/`, in small definitions with a name for each step. Each takes what comes next: in
-//!    `look site image next` a header is looked at, and `next` is the plan by that header. So what is left at any step
-//!    has a name.
+//! 1. Its plan goes into `specs/`, in small definitions with a name for each step. Each takes what
+//!    comes next: in `look site image next` a header is looked at, and `next` is the plan by that
+//!    header. So what is left at any step has a name.
 //! 2. A private enum `Stage` has a variant for each step, with what the steps from there on need.
-//! 3. `rest_at`, in `specs/`, gives the plan that is left at each variant, one line for each. `stands` is that plan,
-//!    `without_labels`; a request that may begin a part again gives the plans at its labels too.
+//! 3. `rest_at`, in `specs/`, gives the plan that is left at each variant, one line for each.
+//!    `stands` is that plan, `without_labels`; a request that may begin a part again gives the
+//!    plans at its labels too.
 //! 4. `new` ensures that the plan of the command is left.
-//! 5. Each call of [`Machine`] is a `match` with one arm for each step. The trait has the contracts. An arm that does more
-//!    than name the next step goes to a function with a contract of its own. What can't be asked or fed at a stage is
-//!    `unreachable!()`; what the answers that an operation gives tell is a lemma for each kind (`proofs/Tells.antt`).
-//! 6. A part that several requests have, as [`Approach`] or a piece of a write, is a struct of its own. Its clauses hold for
-//!    every plan that comes next, so the request puts in its own, and proves nothing of the part again. A step of a
-//!    part tells its [`Progress`].
-//! 7. Laws: its labels stand at operations (`IsClosed`), how many operations it has, that it is lawful (`IsLawfulRequest`; an
-//!    operation that no request did before gets its row in `Permits`, by what its effect on a site needs), and that each
-//!    reply is meant (`IsMeantBy` of `rbd_meaning`, which has the definitions by command).
+//! 5. Each call of [`Machine`] is a `match` with one arm for each step. The trait has the
+//!    contracts. An arm that does more than name the next step goes to a function with a contract
+//!    of its own. What can't be asked or fed at a stage is `unreachable!()`; what the answers that
+//!    an operation gives tell is a lemma for each kind (`proofs/Tells.antt`).
+//! 6. A part that several requests have, as [`Approach`] or a piece of a write, is a struct of its
+//!    own. Its clauses hold for every plan that comes next, so the request puts in its own, and
+//!    proves nothing of the part again. A step of a part tells its [`Progress`].
+//! 7. Laws: its labels stand at operations (`IsClosed`), how many operations it has, that it is
+//!    lawful (`IsLawfulRequest`; an operation that no request did before gets its row in `Permits`,
+//!    by what its effect on a site needs), and that each reply is meant (`IsMeantBy` of
+//!    `rbd_meaning`, which has the definitions by command).
 //!
 //! # Cost
 //!

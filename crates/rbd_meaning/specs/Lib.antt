@@ -10,3 +10,9 @@ pub mod Meant
 pub mod Replies
 pub mod Named
 pub mod Undone
+pub mod Parentless
+pub mod Partly
+pub mod Discards
+pub mod Resizes
+pub mod Rollbacks
+pub mod Removals

@@ -54,6 +54,20 @@
 //! No other reply is meant, and none for a command that isn't in the table, nor for a `create` with
 //! a journal.
 //!
+//! Of four commands more the same is said apart, in `DiscardMeans`, `ResizeMeans`, `RollbackMeans`
+//! and `RemoveMeans`, since no session serves them yet (their requests are in `rbd_discard`,
+//! `rbd_resize` and `rbd_remove`).
+//!
+//! | command | the reply, where it isn't refused, and what it means |
+//! |---|---|
+//! | `discard` | Done: two looks, and each piece of the extent became zeros by the second |
+//! | `resize` | Done: two looks, and the size was set by the second |
+//! | `snap rollback` | Done: two looks, the size was set to that of the snapshot which the second lists under the name, and each object of the head became what it was at the snapshot |
+//! | `rm` | Done: two looks, each with one at the watchers, and by the second all went that the image was |
+//!
+//! Where one of them is refused, the operations before the refusal are looks, or the first ones of
+//! a whole change (`IsFrontOf`), and the fence alone refuses behind a change.
+//!
 //! # Contracts
 //!
 //! The definitions are read after those of `rbd_machine`, in this order.
@@ -63,7 +77,9 @@
 //! | `specs/Range.antt` | the bytes that a command is about, and the refusal of those that aren't there |
 //! | `specs/Arrange.antt` | bytes that were read object by object, in the order of the image |
 //! | `specs/Writes.antt`, `specs/Reads.antt`, `specs/Creates.antt`, `specs/Listings.antt`, `specs/Snaps.antt`, `specs/Closes.antt` | of each command, what a header refuses, what has been done or is shown, and what each reply means |
-//! | `specs/Meant.antt` | `IsMeantBy`: all commands |
+//! | `specs/Discards.antt`, `specs/Resizes.antt`, `specs/Rollbacks.antt`, `specs/Removals.antt` | the same of the four that no session serves yet |
+//! | `specs/Partly.antt`, `specs/Parentless.antt` | the front of a whole change; answers that tell no parent |
+//! | `specs/Meant.antt` | `IsMeantBy`: all commands that are served |
 //! | `specs/Replies.antt`, `specs/Named.antt`, `specs/Undone.antt` | which kinds of reply a command has, which name it looks up, and which steps changed nothing: the words of the laws |
 //!
 //! [`laws`] says that behind the same operations one reply is meant, that no reply of one kind is

@@ -39,7 +39,7 @@ use Rattle.rbd_flat.specs.declared.effect.Effect.TheVariants as effect
 use Rattle.rbd_machine.specs.Answers.{CanGive, gives}
 use Rattle.rbd_machine.specs.Knowledge.{Knowledge, maps_of}
 use Rattle.rbd_machine.specs.Permits.{Permits, PermitsOnHeader, PermitsOnDirectory, PermitsOnMap, PermitsOnObject, OwnsAlone, OwnsBy, MayPut, MayRaise, MayWrite, LiesBelow}
-use Rattle.rbd_machine.specs.Refused.{IsGiven, finds_map}
+use Rattle.rbd_machine.specs.Refused.{IsGiven, finds_image}
 use Rattle.rbd_map.specs.States.{states_of}
 use Rattle.rbd_map.proofs.Packing.{hold_states, length-states_of}
 use Rattle.rbd_site.specs.DataStep.{finds, parts_read}
@@ -114,8 +114,13 @@ fence_given k site (op.Map image o) permits = map_fence_given k site image o per
 fence_given k site _ permits = elim permits [ ]
 
 -- and then nothing is missed
-fence_found : (o : Op) → finds_map o answer.Fenced ≡ true
+fence_found : (o : Op) → finds_image o answer.Fenced ≡ true
+fence_found (op.Header image (header.SetSize to)) = refl
+fence_found (op.Header image header.Remove) = refl
+fence_found (op.Header image _) = refl
 fence_found (op.Map image (states.Set None object state)) = refl
+fence_found (op.Map image (states.Remove None)) = refl
+fence_found (op.Map image _) = refl
 fence_found o = refl
 
 -- of an instance that isn't fenced
@@ -295,14 +300,19 @@ module _ (site : SiteId) (r : Records) (me : Instance) (k : Knowledge) (most : �
 
   -- of an image that it owns the head's map is there
   finds_it : (image object state : ℕ) → OwnsBy k site image (MayRaise k.turn object state) → (map : Option (List ℕ)) → r.maps image None ≡ map
-      → finds_map (op.Map image (states.Set None object state)) (done_where (is_some map)) ≡ true
+      → finds_image (op.Map image (states.Set None object state)) (done_where (is_some map)) ≡ true
   finds_it image object state owns None is =
       let there = owned_there site r me k image _ t free owns in
       absurd (true≢false (sym (mapped image there.view there.is).there.head ∙ ap is_some is))
   finds_it image object state owns (Some map) is = refl
 
-  served_finds_it : (o : Op) → Permits k site o → finds_map o (answer_served r me o) ≡ true
+  served_finds_it : (o : Op) → Permits k site o → finds_image o (answer_served r me o) ≡ true
+  served_finds_it (op.Header image (header.SetSize to)) permits = elim permits [ ]
+  served_finds_it (op.Header image header.Remove) permits = elim permits [ ]
+  served_finds_it (op.Header image _) permits = refl
   served_finds_it (op.Map image (states.Set None object state)) permits = finds_it image object state permits (r.maps image None) refl
+  served_finds_it (op.Map image (states.Remove None)) permits = elim permits [ ]
+  served_finds_it (op.Map image _) permits = refl
   served_finds_it o permits = refl
 
 module _ (site : SiteId) (r : Records) (me : Instance) (k : Knowledge) (most : ℕ) (form : AreInForm r most) (mapped : AreMapped r) (t : IsTrueAt site r me k) where

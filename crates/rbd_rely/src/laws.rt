@@ -65,8 +65,8 @@ pub fn waits_teach_what_is_true()
     ensures { (site : Site) (r : Records) (me : Instance) (k : Knowledge) (wait : Wait) → IsTrueAt site r me k → IsTrueAt site r me (passed k wait) }
 {}
 
-/// What a request learns at one site leaves true what it knows of the other, and leaves two requests
-/// beside each other there.
+/// What a request learns at one site leaves true what it knows of the other, and leaves two
+/// requests beside each other there.
 pub fn sites_are_known_apart()
     ensures truth { (site other : Site) (r : Records) (me : Instance) (k : Knowledge) (op : Op) (answer : Answer)
         → IsFalse (same_site site other) → IsTrueAt other r me k → IsTrueAt other r me (learned k site op answer) }

@@ -1,5 +1,5 @@
--- A request that wants a look at a header has only looked before: so has one that waits for its look
--- under the lock, and is refused on its way there.
+-- A request that wants a look at a header has only looked before: so has one that waits for its
+-- look under the lock, and is refused on its way there.
 use Rattle.std.proofs.Common.{◌≡◌, ◌⊎◌, inl, inr, ℕ, ◌+◌, ◌==◌, Bool, true, false, List, [], ◌∷◌, ◌++◌, replicate, Option, Some, None, refl, sym, ◌∙◌, subst}
 use Rattle.std.proofs.lemmas.Bool.{true≢false}
 use Rattle.rbd_admin.proofs.Decided.{limits_or_not}

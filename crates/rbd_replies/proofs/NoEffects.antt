@@ -1,5 +1,5 @@
--- What changes no image has no effect, wherever a walk of its plan led it; nor has a command that is
--- refused on its way to the lock.
+-- What changes no image has no effect, wherever a walk of its plan led it; nor has a command that
+-- is refused on its way to the lock.
 use Rattle.std.proofs.Common.{◌≡◌, ℕ, true, List, [], ◌∷◌, Some, refl, sym, ap, ◌∙◌, subst}
 use Rattle.std.proofs.lemmas.Bool.{eqb-true}
 use Rattle.rbd_kinds.specs.declared.id.SiteId.{SiteId}

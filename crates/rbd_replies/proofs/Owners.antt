@@ -1,5 +1,5 @@
--- What was done to an image was its owner's: who knows its header may change it, and the header that
--- is known is there. An image's map is made before its header, by who drew its id.
+-- What was done to an image was its owner's: who knows its header may change it, and the header
+-- that is known is there. An image's map is made before its header, by who drew its id.
 use Rattle.std.proofs.Common.{◌≡◌, ◌⊎◌, inl, inr, ℕ, ◌==◌, ◌&&◌, cond, Bool, true, false, List, ◌∷◌, Option, Some, None, refl, sym, ap, ◌∙◌, subst}
 use Rattle.std.specs.Prelude.{IsFalse}
 use Rattle.std.proofs.lemmas.Bool.{true≢false, and_parts, eqb-true}

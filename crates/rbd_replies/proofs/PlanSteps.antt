@@ -3,7 +3,7 @@
 use Rattle.std.proofs.Common.{ℕ, cond, Bool, true, false, List, replicate, Option, Some, None}
 use Rattle.rbd_admin.specs.Create.{on_drawn}
 use Rattle.rbd_admin.specs.Listing.{on_names}
-use Rattle.rbd_admin.specs.Snap.{on_bits, on_gone, on_snap}
+use Rattle.rbd_admin.specs.Snap.{on_gone, on_snap}
 use Rattle.rbd_commands.specs.declared.refusal.Refusal.{Refusal}
 use Rattle.rbd_kinds.specs.declared.answer.Answer.{Answer}
 use Rattle.rbd_kinds.specs.declared.answer.Answer.TheVariants as answer
@@ -12,7 +12,7 @@ use Rattle.rbd_kinds.specs.declared.layout.Part.{Part}
 use Rattle.rbd_kinds.specs.declared.reply.Reply.{Reply}
 use Rattle.rbd_kinds.specs.Parts.{parts_len}
 use Rattle.rbd_machine.specs.Plan.{Plan, Return}
-use Rattle.rbd_machine.specs.Steps.{not_there, on_done, on_header, on_id, unless}
+use Rattle.rbd_machine.specs.Steps.{not_there, on_done, on_header, on_id, unless, on_bits}
 use Rattle.rbd_piece.specs.Gather.{on_bytes}
 
 module _ (P : Plan → Type 0) (ends : (r : Reply) → P (Return r)) where

@@ -1,6 +1,6 @@
 //! What replies say: each is the flat-copy machine's, at its place in the one history. And what
-//! fenced clients can't do: they change nothing. Definitions and laws on the runs of `rbd_world`, and
-//! no code that a program calls.
+//! fenced clients can't do: they change nothing. Definitions and laws on the runs of `rbd_world`,
+//! and no code that a program calls.
 //!
 //! ```text
 //! the run                       the flat site, byte 4,094 on    what the replies of lines 5 and 6 say

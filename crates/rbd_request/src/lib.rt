@@ -79,5 +79,6 @@ mod pieces;
 mod read;
 mod write;
 
+pub use extent::Range;
 pub use read::ReadRequest;
 pub use write::WriteRequest;

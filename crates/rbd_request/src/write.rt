@@ -4,19 +4,18 @@ ghost use Rattle.rbd_machine.specs.Answers.{CanBeFed};
 ghost use Rattle.rbd_machine.specs.Plan.{Goto, without_labels, Wants, GoesOn, plan_after};
 ghost use Rattle.rbd_machine.specs.Ready.{IsReadyFor};
 ghost use Rattle.rbd_meaning.specs.Range.{extent_at};
-ghost use Rattle.rbd_meaning.specs.Writes.{write_refuses};
 ghost use Rattle.rbd_kinds.specs.declared.machine.Fed.TheVariants as fed_with;
 ghost use Rattle.rbd_request.specs.declared.write.Stage.TheVariants as stage;
 ghost use Rattle.rbd_kinds.specs.declared.journal.Event.TheVariants as of_event;
 ghost use Rattle.rbd_request.specs.Write as of_write;
 
-use crate::extent::out_of_range;
+use crate::extent::Range;
 use crate::pieces::write_pieces;
 use rbd_kinds::{
-    Answer, Bytes, Command, Event, Extent, Fed, FillLength, HeaderView, ImageAt, ImageId, Name,
-    NoMemory, Op, Refusal, Reply, SiteId, TryClone, Turn, Want,
+    Answer, Bytes, Command, Event, Extent, Fed, FillLength, ImageAt, ImageId, Name, NoMemory, Op,
+    Reply, SiteId, TryClone, Turn, Want,
 };
-use rbd_machine::{Approach, Machine, Progress, Reason, Refuses, non_primary};
+use rbd_machine::{Approach, Machine, Progress, Reason, Refuses};
 use rbd_piece::WritePiece;
 use std::alloc::Global;
 use std::collections::VecDeque;
@@ -56,20 +55,6 @@ pub enum Stage {
     /// For its turn at the next piece, or, where none is left, for its event to count as applied.
     Waiting(ImageId),
     Writing(ImageId, WritePiece),
-}
-
-/// What a write refuses by a header.
-#[derive(Debug, Drop)]
-struct Range {
-    extent: Extent,
-}
-
-impl Refuses for Range {
-    ghost refuses = { λ r. write_refuses r.extent };
-
-    fn refusal(&self, header: &HeaderView) -> Option<Refusal> {
-        non_primary(header.role).or(out_of_range(&self.extent, header.size))
-    }
 }
 
 impl WriteRequest {

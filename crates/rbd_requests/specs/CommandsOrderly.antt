@@ -29,7 +29,7 @@ use Rattle.rbd_header.specs.declared.view.View.{View}
 use Rattle.rbd_machine.specs.Label.{Label}
 use Rattle.rbd_machine.specs.Label as label
 use Rattle.rbd_machine.specs.Plan.{Plan, Return, Goto, Standing, IsClosed, without_labels}
-use Rattle.rbd_machine.specs.Steps.{applied, non_primary}
+use Rattle.rbd_machine.specs.Steps.{applied, non_primary, on_bits}
 use Rattle.rbd_machine.proofs.Lawful.{at_itself, or_else_none}
 use Rattle.rbd_course.specs.Course.{Course, Place, answered, behind, beginning, objects_of, objects_within}
 use Rattle.rbd_course.specs.Orderly.{BeginsWith, IsInLine, IsOrderly, IsOrderlyFrom}
@@ -47,7 +47,7 @@ use Rattle.rbd_request.specs.Write.{is_write, put, write, write_pieces, write_pl
 use Rattle.rbd_request.proofs.Closed.{closed_pass, closed_write_plan}
 use Rattle.rbd_admin.specs.Create.{IsCreate, IsCreatePlan, on_drawn, making, mapping, drawing}
 use Rattle.rbd_admin.specs.Listing.{is_listing, on_names, showing, show_header, listing_plan}
-use Rattle.rbd_admin.specs.Snap.{is_snap, on_snap, on_bits, on_gone, taking, putting, take, unmapping, remove_listed, remove, snap_plan}
+use Rattle.rbd_admin.specs.Snap.{is_snap, on_snap, on_gone, taking, putting, take, unmapping, remove_listed, remove, snap_plan}
 use Rattle.rbd_admin.proofs.Closed.{closed_create, closed_listing, closed_snap}
 use Rattle.rbd_admin.proofs.Decided.{limits_or_not}
 use Rattle.rbd_close.specs.Close.{is_close}

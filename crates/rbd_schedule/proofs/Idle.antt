@@ -203,8 +203,8 @@ module _ {R : Type 0} (stands : R → Standing) where
 
   -- ---- what becomes of a client by it
 
-  -- Its requests, what it counts of its locks, and its other slots are as before; and who acts there
-  -- is who did, or a way.
+  -- Its requests, what it counts of its locks, and its other slots are as before; and who acts
+  -- there is who did, or a way.
   pub record IsIdlePoll (slot : ℕ) (old new : ClientView R) : Type 0 where
     pub session : new.session ≡ old.session
     pub locks : AreStatesAlike old.locks new.locks

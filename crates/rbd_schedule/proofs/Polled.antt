@@ -27,7 +27,8 @@ pub not_held : {R : Type 0} (stands : R → Standing) (given : (session : ℕ) �
 not_held stands given true session slot p is = absurd (true≢false is)
 not_held stands given false session slot p is = refl
 
--- what a line does, and how a script settles, told of the same commands, notices, sessions and world
+-- what a line does, and how a script settles, told of the same commands, notices, sessions and
+-- world
 pub plays_so : {R : Type 0} (stands : R → Standing) (given given' : (session : ℕ) → List Given) (lost lost' : (number : ℕ) → Bool) (sessions sessions' : ℕ) (s : Said) (old old' new : WorldView R)
     → given' ≡ given → lost' ≡ lost → sessions' ≡ sessions → old' ≡ old → Plays stands given' lost' sessions' s old' new → Plays stands given lost sessions s old new
 plays_so stands given given' lost lost' sessions sessions' s old old' new same losing count world plays =

@@ -1,4 +1,5 @@
--- Where all slots of a client are still, each of its requests is held up at a lock, or behind such a one.
+-- Where all slots of a client are still, each of its requests is held up at a lock, or behind such
+-- a one.
 use Rattle.std.proofs.Common.{◌≡◌, ℕ, ◌≤◌, ◌==◌, ◌||◌, inl, inr, cond, Bool, true, false, List, [], ◌∷◌, Option, Some, None, refl, sym, ap, ◌∙◌, subst, arith}
 use Rattle.std.proofs.lemmas.Bool.{eq-eqb, false≢true, ne_eqb}
 use Rattle.rbd_client.specs.declared.actor.Actor.{Actor}

@@ -33,8 +33,8 @@ pub record AreOver {R : Type 0} (script : Script) (w : WorldView R) : Type 0 whe
 -- ---- somebody is held up
 
 -- Why a request that stands at its look under the lock of an image doesn't act there: a quiesce, or
--- another one that wants the lock, holds it back; or the lock isn't the session's, and its way to it
--- goes on.
+-- another one that wants the lock, holds it back; or the lock isn't the session's, and its way to
+-- it goes on.
 abbrev pub IsLockedOut : {R : Type 0} → ImageAt → ClientView R → Actor → Type 0
 IsLockedOut p c actor.Nobody = IsHeldBack p.site p.image c.locks
 IsLockedOut p c who = is_acquiring who ≡ true

@@ -6,8 +6,8 @@ use Rattle.rbd_kinds.specs.declared.id.Instance.{Instance}
 use Rattle.rbd_schedule.specs.declared.given.Given.{Given}
 use Rattle.rbd_schedule.specs.Starts.{is_ended}
 
--- Line b began behind the end of line a: wherever the start of b stands in the history, the reply to
--- a stands before it, or that a is lost.
+-- Line b began behind the end of line a: wherever the start of b stands in the history, the reply
+-- to a stands before it, or that a is lost.
 abbrev pub IsEndedBefore : (a b : ℕ) → List Entry → Type 0
 IsEndedBefore a b history =
     (before after : List Entry) (who : Instance) → history ≡ before ++ entry.Start b who ∷ after → is_ended a before ≡ true

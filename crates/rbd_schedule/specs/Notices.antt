@@ -41,7 +41,7 @@ is_to None n = false
 is_to (Some c) None = false
 is_to (Some c) (Some n) = same_instance c.session.instance n.to
 
--- A notice that is to the session's instance that runs, and was neither delivered nor lost. Those to
--- an earlier life are due to nobody.
+-- A notice that is to the session's instance that runs, and was neither delivered nor lost. Those
+-- to an earlier life are due to nobody.
 abbrev pub is_due : {R : Type 0} → (lost : (number : ℕ) → Bool) → (session number : ℕ) → WorldView R → Bool
 is_due lost session number w = is_to (client_in session w.lives) (numbered number w.sites.mail) && (not (was_heard number w.calls) && not (lost number))

@@ -134,7 +134,8 @@ module _ {R : Type 0} (stands : R → Standing) (given : (session : ℕ) → Lis
   PollsWhere true session slot old new = PollsIn session slot old new
   PollsWhere false session slot old new = new ≡ old
 
-  -- slot 0 of a session is polled, and then each slot that is held at this point, in ascending order
+  -- slot 0 of a session is polled, and then each slot that is held at this point, in ascending
+  -- order
   pub record PollsAll (session : ℕ) (old new : Pace R) : Type 0 where
     pub point : Pace R
     pub slot_0 : PollsIn session 0 old point
@@ -182,8 +183,9 @@ module _ {R : Type 0} (stands : R → Standing) (given : (session : ℕ) → Lis
 
     -- ---- lines
 
-    -- What a line does when it is reached. Behind its last event nothing may start any more; so only
-    -- where a line gives a command is there more to be started. A notice that is lost is no event.
+    -- What a line does when it is reached. Behind its last event nothing may start any more; so
+    -- only where a line gives a command is there more to be started. A notice that is lost is no
+    -- event.
     abbrev pub Plays : (sessions : ℕ) → Said → (old new : WorldView R) → Type 0
     Plays sessions (said.Command session beside command) old new = StartsAll old new
     Plays sessions (said.Poll session slot times) old new = Deeds (λ k. Polls session slot) times old new

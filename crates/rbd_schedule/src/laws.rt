@@ -38,8 +38,9 @@ pub fn plays_come_to_rest<R: Request>()
 {}
 
 /// In each play the commands of a session that wait for each other come one after another: one
-/// without `&` begins when all before it have their replies or are lost. The script's lines have to be in
-/// order, as those of each script that was read are: a history tells commands by their lines. Own.
+/// without `&` begins when all before it have their replies or are lost. The script's lines have to
+/// be in order, as those of each script that was read are: a history tells commands by their lines.
+/// Own.
 pub fn commands_take_turns<R: Request>()
     ensures { (script : Script) (w : WorldView R) → AreInOrder script.lines → IsPlay R.stands script w → (session : ℕ) → AreInTurn (given_in script.lines session) w.history }
 {}

@@ -22,8 +22,8 @@
 //! - When a line with a command is reached, its session is given the command. Behind each line and
 //!   each event all commands that may start are submitted, one after another: that of the first
 //!   session, in the order of declaration, which has one, and of its commands the earliest. One may
-//!   start where its session runs and has a free slot, and either it has `&`, or each earlier command
-//!   of its session has its reply or is lost.
+//!   start where its session runs and has a free slot, and either it has `&`, or each earlier
+//!   command of its session has its reply or is lost.
 //! - `@poll` polls a slot so many times. `@until` looks before each poll, and polls until the slot
 //!   wants the operation of that word, 4,096 times at most.
 //! - `@deliver`, `@expire`, `@stop`, `@restart`, `@late` and `@trim` are one event each. `@lose` is
@@ -31,10 +31,10 @@
 //! - `@settle` plays rounds. In a round each session that runs has its turn, in the order of
 //!   declaration: first each notice is delivered that is to its instance and was neither delivered
 //!   nor lost, in ascending order; then slot 0 is polled, and then each slot that is held at this
-//!   point, in ascending order. A round in which no step was done, but such as ask again for a lock,
-//!   is idle, and eight of these in a row end it. A delivery is no step.
-//! - Behind the last line come `2^60 * (commands + 1)` rounds more, or as many as it takes until eight
-//!   in a row are idle.
+//!   point, in ascending order. A round in which no step was done, but such as ask again for a
+//!   lock, is idle, and eight of these in a row end it. A delivery is no step.
+//! - Behind the last line come `2^60 * (commands + 1)` rounds more, or as many as it takes until
+//!   eight in a row are idle.
 //!
 //! # Contracts
 //!
@@ -56,8 +56,8 @@
 //! that was read that its lines ascend and name declared sessions; of each session with a request
 //! that one of its requests may go on, as long as no lock holds it; and so of each play that at its
 //! end each command that was begun has its reply, or is lost, or is held up at a lock, or stands
-//! behind such a one in the line of its image; or all the closing rounds were played. And of each play
-//! that a command without `&` begins when all before it of its session have ended.
+//! behind such a one in the line of its image; or all the closing rounds were played. And of each
+//! play that a command without `&` begins when all before it of its session have ended.
 //!
 //! # Cost
 //!
@@ -70,16 +70,16 @@
 //! # How it works
 //!
 //! Beside the world the runner has a queue of commands for each session, the lines that have their
-//! reply or are lost, whether a command may have come to start, and the highest slot that was given.
-//! A queue has two places that only go on: all commands before the one are over, and none before the
-//! other stands beside the others and wasn't begun. An event by which no line ends and no session
-//! runs again lets none start (`proofs/Quiet.antt`). What ended is read from the entries that an event
-//! adds to the history.
+//! reply or are lost, whether a command may have come to start, and the highest slot that was
+//! given. A queue has two places that only go on: all commands before the one are over, and none
+//! before the other stands beside the others and wasn't begun. An event by which no line ends and
+//! no session runs again lets none start (`proofs/Quiet.antt`). What ended is read from the entries
+//! that an event adds to the history.
 //!
-//! Of the notices it has those that were delivered and those that are lost, and for each session how
-//! many of the first it is past: these are to others or to earlier lives, or were delivered or lost,
-//! and never are due to it again (`proofs/Passing.antt`). So a turn looks at what is new to its
-//! session alone.
+//! Of the notices it has those that were delivered and those that are lost, and for each session
+//! how many of the first it is past: these are to others or to earlier lives, or were delivered or
+//! lost, and never are due to it again (`proofs/Passing.antt`). So a turn looks at what is new to
+//! its session alone.
 #![tactic(auto)]
 
 mod given;

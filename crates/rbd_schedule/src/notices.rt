@@ -76,8 +76,8 @@ impl<E: Machine + Drop> Runner<E> {
         !self.lost.contains(&number)
     }
 
-    /// Passes by the notices with which a session has no more to do: how many of the first it is past
-    /// now, of which none is due to it.
+    /// Passes by the notices with which a session has no more to do: how many of the first it is
+    /// past now, of which none is due to it.
     fn pass(&mut self, session: SessionNo) -> u64
         requires { KeepsUp (stands_of E.stands) self.old }
         ensures most { result ≤ length self.old.world.sites.mail }

@@ -110,8 +110,8 @@ fn is_over<E: Machine + Drop>(given: &Given, world: &World<E>, ended: &HashSet<u
     ended.contains(&given.line) && world.has_begun(given.line)
 }
 
-/// The first place from this one on whose command stands beside the others and wasn't begun, and the
-/// end where there is none.
+/// The first place from this one on whose command stands beside the others and wasn't begun, and
+/// the end where there is none.
 fn first_beside<E: Machine + Drop>(commands: &[Given], from: usize, world: &World<E>) -> usize
     requires from { from ≤ length commands.now }
     requires begun { All (λ c. is_beside (λ line. is_begun line world.now.history) c ≡ false) (take from commands.now) }

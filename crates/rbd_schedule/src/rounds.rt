@@ -66,8 +66,8 @@ impl<E: Machine + Drop> Runner<E> {
         self.turn(alloc, session, went_on)
     }
 
-    /// The turn of a session: the notices that are due to it, slot 0, and then each slot that is held
-    /// at this point.
+    /// The turn of a session: the notices that are due to it, slot 0, and then each slot that is
+    /// held at this point.
     fn turn(&mut self, alloc: Global, session: SessionNo, went_on: bool) -> Result<bool, NoMemory>
         requires { KeepsUp (stands_of E.stands) self.old }
         ensures turn { IfOk result (λ went_on'. Turn (stands_of E.stands) (given_to self.old) (lost_in self.old) session (record { world = self.old.world; went_on = went_on }) (record { world = self.new.world; went_on = went_on' })) }

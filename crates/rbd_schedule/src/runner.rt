@@ -246,7 +246,8 @@ impl<E: Machine + Drop> Runner<E> {
     }
 
     /// What came of an event is noted: the lines that have ended by it, from this place of the
-    /// history on; the notice that it told, where one heard it; and whether another command may start.
+    /// history on; the notice that it told, where one heard it; and whether another command may
+    /// start.
     fn note(&mut self, from: usize, told: Option<u64>, outcome: &Outcome) -> Result<(), NoMemory>
         requires { from ≤ length self.old.world.history }
         ensures over { OnOk result ((line : ℕ) → has_line line self.new.over ≡ (has_line line self.old.over || is_ended line (drop from self.old.world.history))) }
@@ -288,7 +289,8 @@ impl<E: Machine + Drop> Runner<E> {
         Ok(false)
     }
 
-    /// Starts the earliest command of a session that may start: `false` exactly where there is none.
+    /// Starts the earliest command of a session that may start: `false` exactly where there is
+    /// none.
     fn start_of(&mut self, alloc: Global, session: SessionNo) -> Result<bool, NoMemory>
         requires { KeepsUp (stands_of E.stands) self.old }
         ensures starts { IfOk result (λ started. StartsIf (stands_of E.stands) (given_to self.old) session started self.old.world self.new.world) }
@@ -419,8 +421,8 @@ fn notice_of(event: &Event) -> Option<u64>
     }
 }
 
-/// Whether a command may have come to start by an event: a request has its reply, lines are lost, or
-/// a session runs again.
+/// Whether a command may have come to start by an event: a request has its reply, lines are lost,
+/// or a session runs again.
 fn lets_start(outcome: &Outcome) -> bool
     ensures { result ≡ may_start_by outcome.now }
 {

@@ -33,8 +33,8 @@
 //!   as applied; with the end of the request all its tickets go. So writes change each object in
 //!   the order in which they joined.
 //! - A look, a listing and a `create` join no line and never wait.
-//! - A request that is given up leaves its line wherever it stands, and all its tickets go. An image
-//!   is at rest while no request of it is past own.
+//! - A request that is given up leaves its line wherever it stands, and all its tickets go. An
+//!   image is at rest while no request of it is past own.
 //! - What a request wants beside operations it has at once: no image has a journal yet, so an
 //!   event's note and its being applied take no step, and a session counts as having every lock.
 //!
@@ -56,17 +56,17 @@
 //! | `specs/Session.antt` | the record, what holds of each session (`IsSoundSession`), at whose own look a slot stands (`own_look_at`), and the clauses of its calls |
 //!
 //! [`laws`] says who is past own beside whom and whose piece waits, and that the first of a line
-//! never does. It says who stands at its own look too: nobody else goes past own when it is fed, and
-//! what others do leaves it there.
+//! never does. It says who stands at its own look too: nobody else goes past own when it is fed,
+//! and what others do leaves it there.
 //!
 //! # Cost
 //!
 //! `kind`, `next`, `own_look` and `ready` look up a slot and a line, and go through those ahead in
-//! this one line, at most 63; a turn is one look-up. `is_at_rest` goes through one line. `feed` goes
-//! to the next operation, and costs what it passes; `give_up` costs what the tickets do. `free`
-//! looks at one number, and `submit` goes from there to the next free slot. Memory is taken by
-//! `new`, `submit`, `next` and `ready` alone: `ready` takes a line for the next image, and room for
-//! the tickets.
+//! this one line, at most 63; a turn is one look-up. `is_at_rest` goes through one line. `feed`
+//! goes to the next operation, and costs what it passes; `give_up` costs what the tickets do.
+//! `free` looks at one number, and `submit` goes from there to the next free slot. Memory is taken
+//! by `new`, `submit`, `next` and `ready` alone: `ready` takes a line for the next image, and room
+//! for the tickets.
 //!
 //! # How it works
 //!

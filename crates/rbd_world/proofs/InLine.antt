@@ -1,5 +1,5 @@
--- What a write does in its line behind its look-up: it stays there, and once it is past its own look
--- it takes no ticket any more.
+-- What a write does in its line behind its look-up: it stays there, and once it is past its own
+-- look it takes no ticket any more.
 use Rattle.std.proofs.Common.{◌≡◌, ℕ, ◌&&◌, cond, Bool, true, false, List, [], Option, Some, None, refl, sym, ap, ◌∙◌, subst}
 use Rattle.std.proofs.lemmas.List.{append-nil}
 use Rattle.rbd_course.specs.Course.{is_own_at, is_waiting}

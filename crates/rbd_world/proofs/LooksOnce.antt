@@ -26,7 +26,7 @@ use Rattle.rbd_machine.specs.Label.{Label}
 use Rattle.rbd_machine.specs.Path.{Answered, IsWalk, at_operation}
 use Rattle.rbd_machine.specs.Plan.{Plan, Ask, Await, Note, Return, Goto, Standing, settled, without_labels}
 use Rattle.rbd_machine.specs.Refused.{refuses_none}
-use Rattle.rbd_machine.specs.Steps.{not_there, unless, on_id, on_header, on_done, change, joining as change_joining, looked, holding, owned, applied}
+use Rattle.rbd_machine.specs.Steps.{not_there, unless, on_id, on_header, on_done, change, joining as change_joining, looked, holding, owned, applied, on_bits}
 use Rattle.rbd_machine.specs.Wait as wait
 use Rattle.rbd_machine.proofs.Settled.{settled_goto}
 use Rattle.rbd_meaning.specs.Listings.{shown_snaps}
@@ -37,7 +37,7 @@ use Rattle.rbd_request.specs.Read.{is_read, IsReadOf}
 use Rattle.rbd_request.specs.Write.{put, write, write_pieces, write_plan}
 use Rattle.rbd_admin.specs.Create.{IsCreate, IsCreatePlan, on_drawn, mapping, making, drawing}
 use Rattle.rbd_admin.specs.Listing.{list_names, on_names, showing, show_header, listing_plan}
-use Rattle.rbd_admin.specs.Snap.{on_snap, on_bits, on_gone, taking, unmapping, take, remove_listed, remove, snap_plan}
+use Rattle.rbd_admin.specs.Snap.{on_snap, on_gone, taking, unmapping, take, remove_listed, remove, snap_plan}
 use Rattle.rbd_admin.proofs.Decided.{limits_or_not}
 use Rattle.rbd_close.specs.Close.{done, unwatching, on_dropped, joining, close, quiesced, resumed, resume, saying, tell, close_plan}
 use Rattle.rbd_requests.specs.Served.{IsPlanFor, Writes, Reads, Creates, Lists, Snaps, Closes}

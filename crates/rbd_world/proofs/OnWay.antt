@@ -1,4 +1,5 @@
--- A poll that has an operation done on a request's way to the lock of its image keeps a world sound.
+-- A poll that has an operation done on a request's way to the lock of its image keeps a world
+-- sound.
 use Rattle.std.proofs.Common.{◌≡◌, ◌≢◌, inl, inr, ℕ, ◌==◌, ◌||◌, Bool, true, false, cond, [], ◌∷◌, ◌++◌, Option, Some, None, IsSome, refl, sym, ap, ◌∙◌, subst}
 use Rattle.std.proofs.lemmas.Bool.{true≢false, eq-eqb, eqb-true}
 use Rattle.std.proofs.lemmas.List.{append-nil}

@@ -1,5 +1,5 @@
--- A life goes on where its client does: it neither stops nor begins, and nothing comes of an earlier
--- one.
+-- A life goes on where its client does: it neither stops nor begins, and nothing comes of an
+-- earlier one.
 use Rattle.std.proofs.Common.{◌≡◌, ℕ, ◌==◌, ◌||◌, Bool, true, false, cond, List, slice_set, is_some, OnOk, Option, Some, None, true≢false, Result, Ok, Err, refl, sym, ap, ◌∙◌, subst}
 use Rattle.std.specs.Prelude.{nat_lt}
 use Rattle.rbd_client.specs.declared.actor.Actor.{Actor}

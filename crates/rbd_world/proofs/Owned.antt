@@ -1,4 +1,5 @@
--- What is permitted by true knowledge is the owner's, and breaks no lock but that of a fenced owner.
+-- What is permitted by true knowledge is the owner's, and breaks no lock but that of a fenced
+-- owner.
 use Rattle.std.proofs.Common.{◌≡◌, ℕ, ◌==◌, ◌&&◌, cond, Bool, true, false, Some, None, refl, sym, ap, subst}
 use Rattle.std.specs.Prelude.{IsSome, IsTrue, IsFalse}
 use Rattle.std.proofs.lemmas.Bool.{true≢false, and_parts, eqb-true}

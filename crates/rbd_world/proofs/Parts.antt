@@ -1,5 +1,5 @@
--- What an event does to the sites, the sessions and the table of lines, and so it is noted, for each
--- kind of event.
+-- What an event does to the sites, the sessions and the table of lines, and so it is noted, for
+-- each kind of event.
 use Rattle.std.proofs.Common.{◌≡◌, ℕ, ◌==◌, ◌||◌, Bool, true, false, cond, List, is_some, IfOk, OnOk, Option, Some, None, OnErr, Result, Ok, Err, refl, sym, ap, ◌∙◌, subst}
 use Rattle.std.specs.Prelude.{nat_lt}
 use Rattle.rbd_client.specs.declared.actor.Actor.{Actor}

@@ -1,4 +1,5 @@
--- Who has its turn at an object: who stands ahead of it is past its own look and has no ticket for it.
+-- Who has its turn at an object: who stands ahead of it is past its own look and has no ticket for
+-- it.
 use Rattle.std.proofs.Common.{◌≡◌, ℕ, ◌||◌, not, Bool, true, false, List, [], ◌∷◌, Option, Some, None, refl, sym, ap, ◌∙◌}
 use Rattle.std.proofs.lemmas.Bool.{true≢false, and_parts}
 use Rattle.rbd_guard.specs.Order.{is_in}

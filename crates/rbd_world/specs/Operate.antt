@@ -42,8 +42,8 @@ abbrev pub IsSameElsewhere : SiteId → (before behind : Sites) → Type 0
 IsSameElsewhere s before behind = (other : SiteId) → same_site s other ≡ false → site_in other behind ≡ site_in other before
 
 module _ {R : Type 0} (stands : R → Standing) where
-  -- the operation that was wanted at a slot of a client was done at its site, and who acted there was
-  -- fed the answer
+  -- the operation that was wanted at a slot of a client was done at its site, and who acted there
+  -- was fed the answer
   pub record IsOperated (slot : ℕ) (by : Doer) (s : SiteId) (o : Op) (before behind : SiteLog) (mail_before mail_now : List Notice) (old new : ClientView R) (earlier later : List Entry) (result : Outcome) : Type 0 where
     pub reply : Option Reply
     pub logged : IsLogged old.session.instance o before behind mail_before mail_now

@@ -84,8 +84,8 @@ abbrev pub KeepsOrder : List Happening → Type 0
 KeepsOrder [] = Unit {0}
 KeepsOrder (h ∷ run) = IsInTurn h run × KeepsOrder run
 
--- Where the one line writes the object, the other hasn't written it yet: so each write of the object
--- by the one comes before each by the other.
+-- Where the one line writes the object, the other hasn't written it yet: so each write of the
+-- object by the one comes before each by the other.
 abbrev pub WritesFirst : (one other : ℕ) → SiteId → (image number : ℕ) → List Happening → Type 0
 WritesFirst one other s image number [] = Unit {0}
 WritesFirst one other s image number (h ∷ run) =
@@ -111,8 +111,8 @@ pub record IsBehindFinding {R : Type 0} (stands : R → Standing) (run : List Ha
   pub labels : (stands r.request).labels ≡ Goto
   pub keeps : KeepsTo site image r.turn (stands r.request).plan
 
--- Of the writes in a line, who found the image earlier stands ahead; and where another that found it
--- later has written an object, whether it has ended or not, this one has no ticket for it.
+-- Of the writes in a line, who found the image earlier stands ahead; and where another that found
+-- it later has written an object, whether it has ended or not, this one has no ticket for it.
 pub record IsInOrder {R : Type 0} (stands : R → Standing) (home : SiteId) (who : Instance) (run : List Happening) (c : SessionView R) : Type 0 where
   pub extents : (x : ℕ) (r : Running R) → running_at x c ≡ Some r → (asked : Asked) → asked_by r.line run ≡ Some asked → r.extent ≡ extent_of asked.command
   pub comes : (x : ℕ) (r : Running R) → running_at x c ≡ Some r → IsSome r.extent → (IsBeforeFinding stands home run r) ⊎ (IsBehindFinding stands run r)

@@ -37,8 +37,8 @@ use Rattle.rbd_world.specs.declared.event.Outcome.TheVariants as outcome
 -- ---- what a call did
 
 -- Who had an operation done: the command of a line, by itself or on its way to the lock of its
--- image; the house of an instance, which lets a lock go; or an instance that was stopped, whose slot
--- wanted it then.
+-- image; the house of an instance, which lets a lock go; or an instance that was stopped, whose
+-- slot wanted it then.
 pub data Doer : Type 0 where
   Itself : (line : ℕ) → Doer
   OnWay : (line : ℕ) → Doer

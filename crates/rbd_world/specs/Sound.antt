@@ -84,9 +84,9 @@ pub record IsReplyMeant (homes : ℕ → SiteId) (line : ℕ) (reply : Reply) (b
 abbrev pub look_answered : SiteId → (image : ℕ) → Answer → Answered
 look_answered site image told = record { site = site; op = op.Header image header.Get; answer = told }
 
--- A request that is refused on its way to the lock wants its look under the lock next. It is refused
--- as if that look had been answered as the last step of its way was: that something isn't there, or
--- that the instance is fenced.
+-- A request that is refused on its way to the lock wants its look under the lock next. It is
+-- refused as if that look had been answered as the last step of its way was: that something isn't
+-- there, or that the instance is fenced.
 pub record IsRefusedOnWay (homes : ℕ → SiteId) (line : ℕ) (reply : Reply) (o : Operation) (before : List Happening) : Type 0 where
   pub begun : IsOpen line before
   pub tells : EndsIt o.answer
@@ -231,9 +231,9 @@ IsRight homes (h ∷ run) = AreStanding (h ∷ run) × IsDue homes h run × IsRi
 
 -- ---- what a slot holds
 
--- The request of a command is where a walk of the command's plan led it, by the operations that were
--- done for its line; and where the command changes no image that is there, it waits for nothing and
--- is in no line.
+-- The request of a command is where a walk of the command's plan led it, by the operations that
+-- were done for its line; and where the command changes no image that is there, it waits for
+-- nothing and is in no line.
 pub record IsUnderWay {R : Type 0} (stands : R → Standing) (home : SiteId) (who : Instance) (run : List Happening) (r : Running R) : Type 0 where
   pub begun : IsOpen r.line run
   pub mine : begun.asked.who ≡ who
@@ -309,8 +309,8 @@ pub record IsInSlot {R : Type 0} (line : ℕ) (lives : List (LivesView R)) : Typ
 abbrev pub AreInSlots : {R : Type 0} → List Happening → List (LivesView R) → Type 0
 AreInSlots run lives = (line : ℕ) → IsOpen line run → IsInSlot line lives
 
--- Who may do something by what he knows: the request in a slot of a session that runs, or what a slot
--- of its stopped life may still send.
+-- Who may do something by what he knows: the request in a slot of a session that runs, or what a
+-- slot of its stopped life may still send.
 pub data Holder : Type 0 where
   InSlot : (session slot : ℕ) → Holder
   Sending : (session slot : ℕ) → Holder
@@ -325,8 +325,8 @@ AreStrangers h g = Unit {0}
 abbrev pub known_in : (knows : Holder → Knowledge) → (session : ℕ) → (slot : ℕ) → Knowledge
 known_in knows session slot = knows (InSlot session slot)
 
--- A session's lives are those of the run: which is the latest, and whether it runs. The one that was
--- stopped is an earlier one.
+-- A session's lives are those of the run: which is the latest, and whether it runs. The one that
+-- was stopped is an earlier one.
 pub record AreLivesOf {R : Type 0} (run : List Happening) (home : SiteId) (session : ℕ) (l : LivesView R) : Type 0 where
   pub home_is : l.home ≡ home
   pub whose : l.latest.session ≡ session
@@ -355,8 +355,8 @@ pub record IsSoundWorld {R : Type 0} (stands : R → Standing) (w : WorldView R)
   pub mapped : (s : SiteId) → AreMapped (records_in s w.sites)
   -- where nobody was stopped or fenced, maps tell exactly what exists, but for what lines owe
   pub exact : IsUnhindered run → (s : SiteId) → IsExactBut (is_owed s run) (records_in s w.sites)
-  -- each session's lives are those of the run, and the requests of the one that runs are under way by
-  -- what they know
+  -- each session's lives are those of the run, and the requests of the one that runs are under way
+  -- by what they know
   pub lives : (session : ℕ) (l : LivesView R) → lives_in session w.lives ≡ Some l → AreLivesOf run (homes session) session l
   pub clients : (session : ℕ) (c : ClientView R) → client_in session w.lives ≡ Some c → IsLiving stands (homes session) session run (known_in knows session) c
   pub in_slots : (session slot : ℕ) (c : ClientView R) → client_in session w.lives ≡ Some c → who (InSlot session slot) ≡ c.session.instance

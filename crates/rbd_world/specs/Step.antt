@@ -399,8 +399,8 @@ mail_then (Did o reply) sites = mail_after (site_in o.site sites).id (records_in
 mail_then h sites = sites.mail
 
 module _ {R : Type 0} (stands : R → Standing) where
-  -- The event did this: its call is one more, history, logs and mail have what belongs to it, and no
-  -- session changed but the one that it names.
+  -- The event did this: its call is one more, history, logs and mail have what belongs to it, and
+  -- no session changed but the one that it names.
   pub record Does (e : Event) (h : Happening) (old new : WorldView R) : Type 0 where
     pub calls : new.calls ≡ old.calls ++ call_of e h ∷ []
     pub history : new.history ≡ old.history ++ entries_of h

@@ -7,8 +7,8 @@ use std::alloc::Global;
 use std::collections::HashMap;
 use std::marker::Model;
 
-/// The lines of the script that a session began, each with its session. Contracts see whether a line is
-/// one of them, and for how many more there is room.
+/// The lines of the script that a session began, each with its session. Contracts see whether a
+/// line is one of them, and for how many more there is room.
 #[derive(Debug, Drop)]
 pub struct BegunLines {
     sessions: HashMap<u32, SessionNo>,

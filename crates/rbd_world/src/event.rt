@@ -107,8 +107,8 @@ pub enum Outcome {
     Step {
         site: SiteId,
         number: u64,
-        /// The operation was one of those on the way to a lock that ask again: the lock is held, its
-        /// watchers were looked up, its owner was asked.
+        /// The operation was one of those on the way to a lock that ask again: the lock is held,
+        /// its watchers were looked up, its owner was asked.
         waiting: bool,
         /// A request has its reply now.
         replied: bool,

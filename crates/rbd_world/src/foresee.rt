@@ -79,8 +79,8 @@ fn fence_of(op: &Op, answer: &Answer) -> Option<Instance>
     }
 }
 
-/// The effect of an operation that will be answered so. Only what is done has one that the header of
-/// its image tells.
+/// The effect of an operation that will be answered so. Only what is done has one that the header
+/// of its image tells.
 fn effect_now(
     alloc: Global,
     at: &Site,

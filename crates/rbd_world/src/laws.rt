@@ -45,9 +45,9 @@ pub fn refused_steps_leave_worlds_sound<R: Request>()
         → IsSoundWorld R.stands new }
 {}
 
-/// In a sound world the operation that a slot wants, where it may go on, may be done at its site, and
-/// its answer is one that it can give; and so it is with what a stopped life may still send. A lock is
-/// dropped only where no request of its client relies on it.
+/// In a sound world the operation that a slot wants, where it may go on, may be done at its site,
+/// and its answer is one that it can give; and so it is with what a stopped life may still send. A
+/// lock is dropped only where no request of its client relies on it.
 pub fn what_is_wanted_may_be_done<R: Request>()
     ensures wanted { (w : WorldView R) (session slot : ℕ) (c : ClientView R)
         → IsSoundWorld R.stands w → client_in session w.lives ≡ Some c → WantsWhatItMay R.stands w.sites slot c }
@@ -64,8 +64,8 @@ pub fn writes_keep_their_order<R: Request>()
         → WritesFirst one other s image number sound.run }
 {}
 
-/// A line that was begun, has no reply yet and isn't lost is in a slot of a session, and goes on by the
-/// polls of that slot.
+/// A line that was begun, has no reply yet and isn't lost is in a slot of a session, and goes on by
+/// the polls of that slot.
 pub fn open_lines_are_in_slots<R: Request>()
     ensures { (w : WorldView R) (sound : IsSoundWorld R.stands w) (line : ℕ) → IsOpen line sound.run → IsInSlot line w.lives }
 {}

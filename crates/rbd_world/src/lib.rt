@@ -43,9 +43,9 @@
 //! Contracts see a world as its sites' logs and mail, its sessions with their lives, its history
 //! and its calls (`WorldView`). What an event does is a function of these (`happening`): so the
 //! outcome, what is added to the history, to a log, to the mail and to the calls are each an
-//! equation, and `Nothing` and `Waits` come exactly where they are to come. Only what becomes of the
-//! client of the session that the event names is told by the client's own clauses, since a request
-//! holds more than contracts see.
+//! equation, and `Nothing` and `Waits` come exactly where they are to come. Only what becomes of
+//! the client of the session that the event names is told by the client's own clauses, since a
+//! request holds more than contracts see.
 //!
 //! | file | what it says |
 //! |---|---|
@@ -77,7 +77,8 @@
 //!   come where no way was begun, or one has led to the lock; and a house only lets locks go;
 //! - whoever does an operation is permitted it by what it knows, and what it knows is true; what
 //!   changes an image is its owner's, and a lock is broken only where its owner is fenced
-//!   (`IsOwnedStep`). No two clients are in each other's way, nor what stopped lives may still send;
+//!   (`IsOwnedStep`). No two clients are in each other's way, nor what stopped lives may still
+//!   send;
 //! - of two writes or fills of one instance, the one that found an image first writes each of its
 //!   objects first, however their operations are mixed;
 //! - as long as nobody is stopped or fenced, object maps tell exactly which objects exist, but for

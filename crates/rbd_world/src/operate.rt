@@ -33,8 +33,8 @@ use rbd_flat::Entry;
 use rbd_kinds::{NoMemory, Slot};
 use std::alloc::Global;
 
-/// Does the operation that is wanted at a slot, at its site, feeds who acts there, and notes it in the
-/// history. Refused memory, nothing was done, and the client is where it was.
+/// Does the operation that is wanted at a slot, at its site, feeds who acts there, and notes it in
+/// the history. Refused memory, nothing was done, and the client is where it was.
 pub fn operate<R: Request>(
     alloc: Global,
     sites: &mut Sites,

@@ -16,8 +16,8 @@ use rbd_flat::Entry;
 use rbd_kinds::{Instance, NoMemory, Op, SessionNo, SiteId, Slot};
 use std::alloc::Global;
 
-/// The client of a session is gone, with its lines that have no reply: nothing where none runs. What
-/// each of its slots wants may still come. Refused memory, nothing changes.
+/// The client of a session is gone, with its lines that have no reply: nothing where none runs.
+/// What each of its slots wants may still come. Refused memory, nothing changes.
 pub fn stop<R: Request>(
     alloc: Global,
     lives: &mut Vec<Lives<R>>,

@@ -64,8 +64,8 @@ impl<E: Machine + Drop> Model for World<E> {
 }
 
 impl<E: Machine + Drop> World<E> {
-    /// A world of sessions at these sites, at most 32, each in its first life. The sites are empty, and
-    /// nothing happened.
+    /// A world of sessions at these sites, at most 32, each in its first life. The sites are empty,
+    /// and nothing happened.
     pub fn new(alloc: Global, homes: &[SiteId]) -> Result<Self, NoMemory>
         requires { length homes.now ≤ 32 }
         ensures new { IfOk result (IsNewWorld (stands_of E.stands)) }
@@ -150,8 +150,8 @@ impl<E: Machine + Drop> World<E> {
         }
     }
 
-    /// How many notices were posted at both sites, which is also the number of the last. It takes no
-    /// memory.
+    /// How many notices were posted at both sites, which is also the number of the last. It takes
+    /// no memory.
     pub fn notices(&self) -> u64
         ensures count { result ≡ length self.now.sites.mail }
     {
@@ -179,8 +179,8 @@ impl<E: Machine + Drop> World<E> {
         client_of(self.lives.as_slice(), session).is_some()
     }
 
-    /// The life of a session that runs: `None` exactly where the session isn't there or doesn't run.
-    /// It takes no memory.
+    /// The life of a session that runs: `None` exactly where the session isn't there or doesn't
+    /// run. It takes no memory.
     pub fn running(&self, session: SessionNo) -> Option<Instance>
         ensures running { result ≡ option_map (λ (c : ClientView (Of E)). c.session.instance) (client_in session self.now.lives) }
     {
@@ -206,7 +206,8 @@ impl<E: Machine + Drop> World<E> {
 
     /// The site and the kind of the operation that is wanted at a slot of a session: `None` exactly
     /// where the session isn't there or doesn't run, its slot is free or waits, or its request is
-    /// refused before any operation; and at slot 0 where no lock is to be let go. It takes no memory.
+    /// refused before any operation; and at slot 0 where no lock is to be let go. It takes no
+    /// memory.
     pub fn kind(&self, session: SessionNo, slot: Slot) -> Option<(SiteId, OpKind)>
         ensures { result ≡ kind_in (stands_of E.stands) slot (client_in session self.now.lives) }
     {

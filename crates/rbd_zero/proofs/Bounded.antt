@@ -1,6 +1,7 @@
 -- How many operations parts have.
 use Rattle.std.proofs.Common.{◌≡◌, ℕ, suc, ◌+◌, ◌*◌, ◌≤◌, ◌<◌, Bool, true, false, if◌then◌else◌, List, [], ◌∷◌, length, subst, arith}
 use Rattle.std.specs.Prelude.{filter}
+use Rattle.rbd_machine.specs.Steps.{on_bits}
 use Rattle.rbd_kinds.specs.declared.answer.Answer.{Answer}
 use Rattle.rbd_kinds.specs.declared.answer.Answer.TheVariants as answer
 use Rattle.rbd_kinds.specs.declared.header.HeaderView.{HeaderView}
@@ -14,7 +15,7 @@ use Rattle.rbd_machine.specs.Plan.{Plan}
 use Rattle.rbd_machine.proofs.Bounds.{bounded_more, bounded_not_there, bounded_on_done}
 use Rattle.rbd_zero.specs.Full.{cut_bytes, full_by, full_piece, writing_full}
 use Rattle.rbd_zero.specs.Shrink.{has_bytes, head_from, pieces_from}
-use Rattle.rbd_zero.specs.Size.{cutting, growing, on_bits, resize, shrinking, sizing, zero_pieces}
+use Rattle.rbd_zero.specs.Size.{cutting, growing, resize, shrinking, sizing, zero_pieces}
 use Rattle.rbd_zero.specs.Zero.{emptying, is_inside, is_whole, removing, setting, zero_all, zero_by, zero_piece, zeroing}
 use Rattle.rbd_zero.proofs.Sizes.{grows, shrinks}
 

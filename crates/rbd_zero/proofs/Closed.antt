@@ -1,6 +1,7 @@
 -- Parts go to no label of their own.
 use Rattle.std.proofs.Common.{ℕ, Bool, true, false, List, [], ◌∷◌}
 use Rattle.std.specs.Prelude.{nat_le}
+use Rattle.rbd_machine.specs.Steps.{on_bits}
 use Rattle.rbd_kinds.specs.declared.answer.Answer.{Answer}
 use Rattle.rbd_kinds.specs.declared.answer.Answer.TheVariants as answer
 use Rattle.rbd_kinds.specs.declared.header.HeaderView.{HeaderView}
@@ -13,7 +14,7 @@ use Rattle.rbd_machine.specs.Plan.{Plan, IsClosed}
 use Rattle.rbd_machine.proofs.Closed.{closed_not_there, closed_on_done}
 use Rattle.rbd_zero.specs.Full.{cut_bytes, full_by, full_piece, writing_full}
 use Rattle.rbd_zero.specs.Shrink.{pieces_from}
-use Rattle.rbd_zero.specs.Size.{cutting, on_bits, resize, resize_by, sizing, zero_pieces}
+use Rattle.rbd_zero.specs.Size.{cutting, resize, resize_by, sizing, zero_pieces}
 use Rattle.rbd_zero.specs.Zero.{emptying, is_inside, is_whole, removing, setting, zero_all, zero_by, zero_piece, zeroing}
 
 module _ (labels : Label → Plan) where

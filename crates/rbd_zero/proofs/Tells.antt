@@ -7,7 +7,7 @@ use Rattle.rbd_kinds.specs.declared.machine.Fed.TheVariants as fed
 use Rattle.rbd_layout.specs.declared.types.Piece.{Piece}
 use Rattle.rbd_machine.specs.Answers.{CanGive, CanBeFed}
 use Rattle.rbd_machine.specs.Plan.{Plan}
-use Rattle.rbd_machine.specs.Steps.{TellsDone}
+use Rattle.rbd_machine.specs.Steps.{TellsBits, TellsDone}
 use Rattle.rbd_zero.specs.Operations.{data_zero, data_empty, data_remove, data_write_full, header_set_size, map_get, map_resize, map_set}
 use Rattle.rbd_zero.specs.Full as full
 use Rattle.rbd_zero.specs.Size as size
@@ -70,7 +70,7 @@ pub full_tells : (w : Way) (next : Plan) (a : Answer) → CanBeFed (full.rest_fr
 full_tells (way.Replacing r) next a can = replace_tells r.stage r next a can
 full_tells (way.Zeroing z) next a can = zero_tells z.stage z next a can
 
-get_tells : (image : ℕ) (a : Answer) → CanGive (map_get image) a → size.TellsBits a
+get_tells : (image : ℕ) (a : Answer) → CanGive (map_get image) a → TellsBits a
 get_tells image (answer.Bits bits) can = tt
 get_tells image answer.Absent can = tt
 get_tells image answer.Fenced can = tt

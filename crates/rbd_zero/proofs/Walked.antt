@@ -14,13 +14,13 @@ use Rattle.rbd_layout.specs.declared.types.Piece.{Piece}
 use Rattle.rbd_header.specs.Header.{context_of}
 use Rattle.rbd_machine.specs.Path.{Answered, IsWalk}
 use Rattle.rbd_machine.specs.Plan.{Plan, Return, Goto}
-use Rattle.rbd_machine.specs.Steps.{own, on_done}
+use Rattle.rbd_machine.specs.Steps.{own, on_done, on_bits}
 use Rattle.rbd_machine.specs.declared.reason.Reason.TheVariants as reason
 use Rattle.rbd_machine.proofs.Walked.{EndsUnrefused, ended, nothing_ends_otherwise, told_done, went_on}
 use Rattle.rbd_zero.specs.Full.{cut_bytes, full_by, full_piece, replaced, replaced_by, writing_full}
 use Rattle.rbd_zero.specs.Operations.{data_empty, data_remove, data_write_full, data_zero, done, header_set_size, map_get, map_resize, map_set}
 use Rattle.rbd_zero.specs.Shrink.{pieces_from}
-use Rattle.rbd_zero.specs.Size.{IsResized, IsResizedBy, IsShrunk, cutting, growing, grown, on_bits, pieces_zeroed, resize, resize_by, shrinking, sizing, states_told, zero_pieces}
+use Rattle.rbd_zero.specs.Size.{IsResized, IsResizedBy, IsShrunk, cutting, growing, grown, pieces_zeroed, resize, resize_by, shrinking, sizing, states_told, zero_pieces}
 use Rattle.rbd_zero.specs.Zero.{all_zeroed, emptying, is_inside, is_whole, removing, setting, zero_all, zero_by, zero_piece, zeroed, zeroed_by, zeroing}
 
 -- These operations were done, each in turn, and what comes next has begun.

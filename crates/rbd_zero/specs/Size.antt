@@ -7,7 +7,7 @@ use Rattle.rbd_kinds.specs.declared.id.SiteId.{SiteId}
 use Rattle.rbd_layout.specs.declared.types.Piece.{Piece}
 use Rattle.rbd_machine.specs.Path.{Answered}
 use Rattle.rbd_machine.specs.Plan.{Plan}
-use Rattle.rbd_machine.specs.Steps.{own, not_there, on_done, EndsIt, TellsDone}
+use Rattle.rbd_machine.specs.Steps.{own, on_bits, on_done, TellsBits, TellsDone}
 use Rattle.rbd_zero.specs.Operations.{header_set_size, map_get, map_resize, done}
 use Rattle.rbd_zero.specs.Shrink.{pieces_from}
 use Rattle.rbd_zero.specs.Zero.{rest_of_zero, zeroed, zero_piece}
@@ -15,16 +15,6 @@ use Rattle.rbd_zero.specs.declared.size.Size.{Size}
 use Rattle.rbd_zero.specs.declared.size.Stage.{Stage}
 use Rattle.rbd_zero.specs.declared.size.Stage.TheVariants as stage
 use Rattle.rbd_zero.specs.declared.zero_piece.ZeroPiece.{ZeroPiece}
-
--- ---- what an answer means
-
-abbrev pub on_bits : (List ℕ → Plan) → Answer → Plan
-on_bits next (answer.Bits bits) = next bits
-on_bits next a = not_there a
-
-abbrev pub TellsBits : Answer → Type 0
-TellsBits (answer.Bits bits) = Unit {0}
-TellsBits a = EndsIt a
 
 -- ---- the steps
 

@@ -23,8 +23,8 @@ use rbd_layout::Piece;
 use rbd_machine::{Machine, Progress, Reason};
 use std::alloc::Global;
 
-/// One piece of an image that has all bytes of its object, and bytes that take their place. Zeros at
-/// the end of the bytes aren't written: an object reads as zeros past its last byte.
+/// One piece of an image that has all bytes of its object, and bytes that take their place. Zeros
+/// at the end of the bytes aren't written: an object reads as zeros past its last byte.
 ///
 /// ```text
 ///     a byte isn't zero              all are zeros
@@ -52,8 +52,8 @@ pub enum Way {
 }
 
 impl FullPiece {
-    /// Bytes for a piece of an image's head, by a header: the piece has all bytes of its object, and
-    /// the bytes are the object's from its first on.
+    /// Bytes for a piece of an image's head, by a header: the piece has all bytes of its object,
+    /// and the bytes are the object's from its first on.
     pub fn new(
         alloc: Global,
         site: SiteId,

@@ -1,5 +1,5 @@
-//! Parts of requests that zero or replace an object, or set the size of an image: discard, resize,
-//! rollback and replay will be made of them. No command uses them yet.
+//! Parts of requests that zero or replace an object, or set the size of an image. The requests of
+//! `rbd_discard` and `rbd_resize` are made of them, and replay will be. No session serves one yet.
 //!
 //! ```text
 //! let mut zeros = ZeroPiece::new(alloc, SiteId::A, image, &header, piece)?;  // all of object 3
@@ -41,8 +41,8 @@
 //! | | less | `map-get`; for each object with a byte from the new size on, by number, a `ZeroPiece` of these bytes; `header-set-size` |
 //!
 //! - A state is raised before its object may come to exist, and lowered to 0 after the object went
-//!   (Ceph: the object-map feature). So state 0 means that the object doesn't exist, wherever a part
-//!   is cut off.
+//!   (Ceph: the object-map feature). So state 0 means that the object doesn't exist, wherever a
+//!   part is cut off.
 //! - An object inside that is zeroed stays, so that its parent's bytes don't show again. One that
 //!   isn't there was never copied up: its `data-zero` is answered `none`, and copy-up will join
 //!   there. Until there are clones that answer never comes.

@@ -131,6 +131,13 @@ impl ZeroPiece {
         }
     }
 
+    /// The number of its object.
+    pub fn object(&self) -> u64
+        ensures { result ≡ self.now.piece.object }
+    {
+        self.piece.object
+    }
+
     /// What it wants.
     pub fn wants(&self) -> Want
         ensures { (next : Plan) → Wants (rest_of_zero self.now next) result }

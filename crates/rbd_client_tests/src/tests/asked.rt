@@ -1,5 +1,5 @@
-//! A client that is asked for its lock, and when it lets it go. The image 7 has the objects 0 and 1,
-//! and so has the image 8. Most clients have the lock of the image 7 at first, and watch it.
+//! A client that is asked for its lock, and when it lets it go. The image 7 has the objects 0 and
+//! 1, and so has the image 8. Most clients have the lock of the image 7 at first, and watch it.
 use super::rows::{goes_as, owner_goes_as};
 use std::test::Fail;
 

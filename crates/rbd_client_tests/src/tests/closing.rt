@@ -1,5 +1,5 @@
-//! `close`, and who waits behind it. The image 7 has the objects 0 and 1. Most clients have its lock
-//! at first, and watch it.
+//! `close`, and who waits behind it. The image 7 has the objects 0 and 1. Most clients have its
+//! lock at first, and watch it.
 use super::rows::{goes_as, owner_goes_as};
 use std::test::Fail;
 

@@ -18,7 +18,6 @@ use rbd_kinds::{
     Answer, Command, Fed, HeaderOp, ImageAt, ImageId, Instance, MapOp, NoMemory, Op, Reply,
     SessionNo, SiteId, Slot,
 };
-use rbd_machine::gives;
 use rbd_requests::{SessionRequest, Work, is_built};
 use std::alloc::Global;
 use std::process::Abort;
@@ -169,7 +168,8 @@ fn feed<R: Request>(
     Ok(client.feed(slot, site, op, fed))
 }
 
-/// Whether the operation that is wanted at a slot can give an answer: who acts there is fed it then.
+/// Whether the operation that is wanted at a slot can give an answer: who acts there is fed it
+/// then.
 fn can_answer<R: Request>(
     client: &Client<R>,
     slot: Slot,
@@ -198,8 +198,6 @@ fn can_give(op: &Op, answer: &Answer) -> bool
             },
             Answer::Bits(bits),
         ) => bits.as_slice() == BITS.as_slice(),
-        (Op::Map { image: _, op: _ }, Answer::Bits(_)) => false,
-        (Op::Map { image: _, op: _ }, _) => gives(op, answer),
         _ => rbd_machine::can_give(op, answer),
     }
 }

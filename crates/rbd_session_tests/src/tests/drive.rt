@@ -13,7 +13,6 @@ use rbd_course::Request;
 use rbd_kinds::{
     Answer, Command, Fed, Instance, MapOp, NoMemory, Op, Reply, SessionNo, SiteId, Slot,
 };
-use rbd_machine::gives;
 use rbd_requests::{SessionRequest, Work, is_built};
 use rbd_session::Session;
 use std::alloc::Global;
@@ -86,8 +85,6 @@ fn can_give(op: &Op, answer: &Answer) -> bool
             },
             Answer::Bits(bits),
         ) => bits.as_slice() == BITS.as_slice(),
-        (Op::Map { image: _, op: _ }, Answer::Bits(_)) => false,
-        (Op::Map { image: _, op: _ }, _) => gives(op, answer),
         _ => rbd_machine::can_give(op, answer),
     }
 }

@@ -1,9 +1,9 @@
 //! Object maps, by what a site was asked of them and answered.
 //!
-//! Each is a word, what it is about, and the answer, with `;` between any two:
-//! `resize 3 done;set 0:1 done;get bits 1010;put 1 1010 done;remove 1 done`. The states of a map are
-//! digits, one for each object, and zeros up to the next multiple of four. They are the head's where
-//! no snapshot is named.
+//! Each is a word, what it is about, and the answer, with `;` between any two: `resize 3 done;set
+//! 0:1 done;get bits 1010;put 1 1010 done;remove 1 done`. The states of a map are digits, one for
+//! each object, and zeros up to the next multiple of four. They are the head's where no snapshot is
+//! named.
 use super::drive::{Clients, holds, new_world};
 use super::schedule::{number, play};
 use super::script::script;
@@ -133,8 +133,8 @@ c1 snap create disk@new
 c1 snap rm disk@old
 c1 snap create disk@old";
 
-/// So the map of `old`, which is the snapshot 1, says 1, 0 and 1, and from then on the head's, which
-/// is told for `new`, says 1, 1 and 1. The map of `old` goes with it, and no id comes again.
+/// So the map of `old`, which is the snapshot 1, says 1, 0 and 1, and from then on the head's,
+/// which is told for `new`, says 1, 1 and 1. The map of `old` goes with it, and no id comes again.
 const LIFE_MAPS: &str = "resize 3 done;set 0:1 done;set 2:1 done;get bits 1010;put 1 1010 done;\
 set 1:1 done;get bits 1110;put 2 1110 done;remove 1 done;get bits 1110;put 3 1110 done";
 

@@ -6,7 +6,8 @@ use Rattle.rbd_schedule.specs.Playing.{GoesOn, given_to, lost_in}
 use Rattle.rbd_schedule.specs.Schedule.{DeliversWhere}
 use Rattle.rbd_schedule.proofs.runner.Runner.deliver_due.Given as goal
 
--- the notices so far were delivered where they were due at first, and of the others the same are due
+-- the notices so far were delivered where they were due at first, and of the others the same are
+-- due
 abbrev pub invariant-loop-k : goal.invariant-loop-k
 invariant-loop-k g l = record {
   goes : GoesOn (stands_of g.E.Machine.stands) l.fn.self l.self;
