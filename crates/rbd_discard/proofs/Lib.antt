@@ -1,0 +1,9 @@
+pub mod About
+pub mod Bounded
+pub mod Closed
+pub mod Discards
+pub mod Early
+pub mod Ended
+pub mod Meant
+pub mod Refusing
+pub mod Turns

@@ -1,0 +1,2 @@
+pub mod Discard
+pub mod Owning

@@ -1,0 +1,55 @@
+//! The pieces of a discard, made before the first becomes zeros.
+ghost use Rattle.std.specs.Prelude.{◌≡◌, None, IfOk};
+ghost use Rattle.rbd_kinds.specs.Form.{IsHeaderInForm};
+ghost use Rattle.rbd_layout.specs.Pieces.{pieces_of};
+ghost use Rattle.rbd_header.specs.Header as of_header;
+ghost use Rattle.rbd_machine.specs.Plan.{Plan};
+ghost use Rattle.rbd_meaning.specs.Range.{out_of_range};
+ghost use Rattle.rbd_zero.specs.Zero as of_zero;
+ghost use Rattle.rbd_discard.specs.Discard as of_discard;
+
+use rbd_header::context_of;
+use rbd_kinds::{Extent, HeaderView, ImageAt, NoMemory, SnapContext, TryClone};
+use rbd_layout::{Piece, pieces};
+use rbd_zero::ZeroPiece;
+use std::alloc::Global;
+use std::collections::VecDeque;
+
+/// The pieces of a range of an image's bytes, by ascending object. They share one snapshot context.
+pub fn zero_pieces(
+    alloc: Global,
+    target: ImageAt,
+    header: &HeaderView,
+    extent: &Extent,
+) -> Result<VecDeque<ZeroPiece>, NoMemory>
+    requires form { IsHeaderInForm header.now }
+    requires fits { out_of_range extent.now header.now.size ≡ None }
+    ensures { IfOk result (λ made. (next : Plan) → of_discard.rest_of_pieces made.items next
+        ≡ of_discard.zero_pieces target.site target.image header.now (pieces_of header.now.layout extent.now) next) }
+{
+    let context = context_of(alloc, header)?;
+    let listed = pieces(alloc, &header.layout, extent)?;
+    let mut made = VecDeque::new(alloc);
+    for piece in listed {
+        made.push_back(zero_piece(alloc, target, header, &context, piece)?)?;
+    }
+    Ok(made)
+}
+
+/// One piece of the range.
+fn zero_piece(
+    alloc: Global,
+    target: ImageAt,
+    header: &HeaderView,
+    context: &SnapContext,
+    piece: Piece,
+) -> Result<ZeroPiece, NoMemory>
+    requires form { IsHeaderInForm header.now }
+    requires head { of_zero.IsOfHead header.now piece.object }
+    requires context { context.now ≡ of_header.context_of header.now }
+    ensures plan { IfOk result (λ z. (next : Plan) → of_zero.rest_of_zero z next ≡ of_zero.zero_piece target.site target.image header.now piece next) }
+    ensures object { IfOk result (λ z. z.piece.object ≡ piece.object) }
+{
+    let context = context.try_clone()?;
+    ZeroPiece::under(alloc, target.site, target.image, header, context, piece)
+}
