@@ -1,0 +1,5 @@
+pub mod Part
+pub mod Remnants
+pub mod Remove
+pub mod Request
+pub mod Told
