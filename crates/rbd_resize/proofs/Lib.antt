@@ -1,0 +1,14 @@
+pub mod Bounded
+pub mod Built
+pub mod Closed
+pub mod Counts
+pub mod Ended
+pub mod Hopes
+pub mod Means
+pub mod Owned
+pub mod Refusing
+pub mod Restored
+pub mod Rolled
+pub mod Sized
+pub mod Splits
+pub mod Whole

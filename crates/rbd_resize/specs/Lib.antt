@@ -1,0 +1,6 @@
+pub mod Count
+pub mod Resize
+pub mod Rollback
+pub mod Restore
+pub mod Rolling
+pub mod Told

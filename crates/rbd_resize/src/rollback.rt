@@ -1,0 +1,153 @@
+//! A head that becomes what it was at a snapshot.
+ghost use Rattle.std.specs.Prelude.{◌≡◌, IfOk, OnOk};
+ghost use Rattle.rbd_kinds.specs.declared.machine.Fed.TheVariants as fed_with;
+ghost use Rattle.rbd_kinds.specs.Form.{IsHeaderInForm, IsSnapInForm};
+ghost use Rattle.rbd_machine.specs.Plan.{Plan, Wants, Asks, plan_after};
+ghost use Rattle.rbd_machine.specs.Steps.{Progresses};
+ghost use Rattle.rbd_header.specs.Header.{cut as cut_link};
+ghost use Rattle.rbd_meaning.specs.Rollbacks.{at_size as head_at_size};
+ghost use Rattle.rbd_resize.specs.Restore.{rest_of_some};
+ghost use Rattle.rbd_resize.specs.Rolling as rolling;
+ghost use Rattle.rbd_resize.specs.Rolling.{rest_of_rollback};
+ghost use Rattle.rbd_resize.specs.Rollback.{roll_back};
+
+use crate::restore::Restore;
+use rbd_kinds::{
+    Answer, HeaderView, ImageId, NoMemory, Op, ParentLink, SiteId, SnapView, TryClone, Want,
+};
+use rbd_machine::Progress;
+use rbd_zero::Size;
+use std::alloc::Global;
+
+/// An image's head that becomes what it was at a snapshot: it gets the snapshot's size, and then
+/// each of its objects the bytes that it had there.
+///
+/// ```text
+/// Sizing      the snapshot's size                       (see `Size`)
+///    │
+/// Restoring   each object, by its number                (see `Restore`)
+///    │
+///    ▼
+/// the end
+/// ```
+///
+/// Any operation may be answered `fenced`, which ends the request with Fenced.
+#[derive(Debug, Drop)]
+pub struct Rollback {
+    stage: Stage,
+}
+
+/// A stage of it, with the objects that are left to restore.
+#[derive(Debug, Drop)]
+pub enum Stage {
+    Sizing(Size, Option<Restore>),
+    Restoring(Restore),
+}
+
+impl Rollback {
+    /// A rollback of an image's head, by its header, to a snapshot that the header lists.
+    pub fn new(
+        alloc: Global,
+        site: SiteId,
+        image: ImageId,
+        header: &HeaderView,
+        listed: &SnapView,
+    ) -> Result<Self, NoMemory>
+        requires form { IsHeaderInForm header.now }
+        requires listed { IsSnapInForm header.now.layout listed.now }
+        ensures { IfOk result (λ r. (next : Plan) → rest_of_rollback r next ≡ roll_back site image header.now listed.now next) }
+    {
+        let size = Size::new(alloc, site, image, header, listed.size)?;
+        let head = at_size(header, listed.size)?;
+        let objects = Restore::new(alloc, site, image, head, listed.id)?;
+        Ok(Rollback {
+            stage: Stage::Sizing(size, objects),
+        })
+    }
+
+    /// What it wants.
+    pub fn wants(&self) -> Want
+        ensures { (next : Plan) → Wants (rest_of_rollback self.now next) result }
+    {
+        match &self.stage {
+            Stage::Sizing(size, _) => size.wants(),
+            Stage::Restoring(objects) => objects.wants(),
+        }
+    }
+
+    /// The operation that it wants.
+    pub fn next(&self) -> Result<Op, NoMemory>
+        ensures { (next : Plan) → IfOk result (Asks (rest_of_rollback self.now next)) }
+    {
+        match &self.stage {
+            Stage::Sizing(size, _) => size.next(),
+            Stage::Restoring(objects) => objects.next(),
+        }
+    }
+
+    /// Takes the memory for an answer.
+    pub fn ready(&mut self, alloc: Global, answer: &Answer) -> Result<(), NoMemory>
+        ensures rest { (next : Plan) → rest_of_rollback self.new next ≡ rest_of_rollback self.old next }
+        ensures ready { OnOk result (rolling.IsPartReady self.new answer.now) }
+    {
+        match &mut self.stage {
+            Stage::Sizing(size, _) => size.ready(alloc, answer),
+            Stage::Restoring(objects) => objects.ready(alloc, answer),
+        }
+    }
+
+    /// Goes on with an answer that it has the memory for.
+    pub fn feed(&mut self, answer: &Answer) -> Progress<()>
+        requires tells { rolling.Tells self.old answer.now }
+        requires ready { rolling.IsPartReady self.old answer.now }
+        ensures { (next : Plan) → Progresses next (plan_after (rest_of_rollback self.old next) (fed_with.Answer answer.now)) result (rest_of_rollback self.new next) }
+    {
+        match &mut self.stage {
+            Stage::Sizing(size, objects) => match size.feed(answer) {
+                Progress::More => Progress::More,
+                Progress::Ended(()) => {
+                    let objects = objects.take();
+                    self.begin_objects(objects)
+                }
+                Progress::Refused(refusal) => Progress::Refused(refusal),
+            },
+            Stage::Restoring(objects) => objects.feed(answer),
+        }
+    }
+
+    /// Goes on to the objects, if there are some.
+    fn begin_objects(&mut self, objects: Option<Restore>) -> Progress<()>
+        ensures { (next : Plan) → Progresses next (rest_of_some objects next) result (rest_of_rollback self.new next) }
+    {
+        match objects {
+            Some(objects) => {
+                self.stage = Stage::Restoring(objects);
+                Progress::More
+            }
+            None => Progress::Ended(()),
+        }
+    }
+}
+
+/// A header with another size of its head. The overlap ends there at the latest.
+fn at_size(header: &HeaderView, size: u64) -> Result<HeaderView, NoMemory>
+    ensures { IfOk result (λ h. h ≡ head_at_size size header.now) }
+{
+    let mut head = header.try_clone()?;
+    head.size = size;
+    head.parent = cut(head.parent, size);
+    Ok(head)
+}
+
+/// A parent whose overlap ends at a size.
+fn cut(parent: Option<ParentLink>, size: u64) -> Option<ParentLink>
+    ensures { result ≡ cut_link size parent }
+{
+    match parent {
+        None => None,
+        Some(link) => Some(ParentLink {
+            overlap: link.overlap.min(size),
+            ..link
+        }),
+    }
+}
