@@ -1,0 +1,11 @@
+//! Tests of the requests that zero, resize, roll back or remove, through their public calls: tables
+//! of images against all that a request wants, in order, and its reply.
+//!
+//! They stand apart from the crates that they test, since a crate that has tests is proved twice.
+//! The tables were worked out by hand, from the rules in words. A row has a command, what the two
+//! looks at the image tell, what the request wants, and its reply; `looks` says how a look is read,
+//! and `words` how a want is spelled.
+#![tactic(auto)]
+
+#[cfg(test)]
+mod tests;
