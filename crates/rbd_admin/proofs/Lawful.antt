@@ -1,5 +1,5 @@
 -- The plans do what they may.
-use Rattle.std.proofs.Common.{◌≡◌, ◌≢◌, ◌⊎◌, inl, inr, ℕ, zero, suc, ◌+◌, ◌^◌, ◌<◌, ◌≤◌, List, [], ◌∷◌, Bool, true, false, cond, eqb, Option, Some, None, refl, ap, sym, ◌∙◌, subst, arith}
+use Rattle.std.proofs.Common.{◌≡◌, ◌≢◌, ◌⊎◌, inl, inr, ℕ, ◌+◌, ◌<◌, ◌≤◌, List, [], ◌∷◌, Bool, true, false, cond, eqb, Option, Some, None, refl, ap, sym, ◌∙◌, subst, arith}
 use Rattle.std.specs.Prelude.{nat_eq, not, filter}
 use Rattle.std.specs.Cmp.Lexicographic.{pointwise}
 use Rattle.std.proofs.lemmas.Bool.Decides.{eqb_tells}
@@ -21,19 +21,19 @@ use Rattle.rbd_kinds.specs.declared.reply.Reply.TheVariants as reply
 use Rattle.rbd_kinds.specs.Form.{RiseFrom, AreRising, IsHeaderInForm, IsNewHeader}
 use Rattle.rbd_kinds.specs.Header.{snap_named}
 use Rattle.rbd_kinds.specs.States.{HoldStates}
-use Rattle.rbd_kinds.specs.Striping.{IsObjectCount, object_of}
+use Rattle.rbd_kinds.specs.Striping.{IsObjectCount}
 use Rattle.rbd_header.specs.Header.{new_header, snap_in, without_snap}
 use Rattle.rbd_layout.specs.Asked.{layout_of, KeepsLimits}
-use Rattle.rbd_machine.specs.Answers.{CanGive}
 use Rattle.rbd_machine.specs.Knowledge.{Knowledge, ImageMaps, MapsKnown, nothing_known, own_of, is_drawn, learned, maps_of, maps_told, with_drawn}
 use Rattle.rbd_machine.specs.Label.{Label}
-use Rattle.rbd_machine.specs.Lawful.{IsLawful, IsLawfulRequest}
+use Rattle.rbd_machine.specs.Lawful.{CanTell, IsLawful, IsLawfulRequest}
 use Rattle.rbd_machine.specs.Plan.{Plan, Return, without_labels}
 use Rattle.rbd_machine.specs.Steps.{applied, non_primary, on_bits}
 use Rattle.rbd_machine.proofs.Lawful.{at_itself, or_else_none, own_at, owning_known, own_is_found, lawful_not_there, lawful_on_id, lawful_on_header, lawful_on_done, lawful_change}
 use Rattle.rbd_meaning.specs.Listings.{shown_snaps}
 use Rattle.rbd_meaning.specs.Snaps.{removal_refusal, create_refuses, remove_refuses}
 use Rattle.rbd_meaning.proofs.Allowed.{may_take, unprotected}
+use Rattle.rbd_zero.proofs.Resized.{few_objects}
 use Rattle.rbd_admin.proofs.Decided.{limits_or_not}
 use Rattle.rbd_admin.specs.Create.{IsCreate, IsCreatePlan, on_drawn, making, mapping, drawing}
 use Rattle.rbd_admin.specs.Listing.{on_names, showing, show_header, listing_plan}
@@ -116,14 +116,6 @@ mapped_known site objects image = learned (drawn_known site image) site (op.Map 
 drawn_by_it : (site : SiteId) (image : ℕ) → is_drawn (drawn_known site image).drawn site image ≡ true
 drawn_by_it site image = ap (λ b. cond b true false) (at_itself site image)
 
-few_objects : (layout : Layout) (size objects : ℕ) → KeepsLimits layout size → IsObjectCount layout size objects → objects ≤ 2 ^ 20
-few_objects layout zero objects keeps counted = subst (λ n. n ≤ 2 ^ 20) (sym (counted.none refl)) (omega arith)
-few_objects layout (suc size) objects keeps counted =
-    let last = counted.greatest (omega arith) in
-    let few : object_of layout last.0 < 2 ^ 20 = keeps.objects last.0 last.1 in
-    let count : object_of layout last.0 + 1 ≡ objects = last.2 in
-    omega (arith, few, count)
-
 -- the head's states were told
 abbrev told_known : SiteId → (image : ℕ) → HeaderView → (bits : List ℕ) → Knowledge
 told_known site image h bits = learned (owning_known true None site image h) site (op.Map image (states.Get None)) (answer.Bits bits)
@@ -168,7 +160,7 @@ module _ (at : Label → Knowledge) where
   lawful_mapping : (site : SiteId) (layout : Layout) (size objects : ℕ) → KeepsLimits layout size → IsObjectCount layout size objects → (image : ℕ)
       → IsLawful at (drawn_known site image) (mapping site objects (new_header layout size) image)
   lawful_mapping site layout size objects keeps counted image = (
-    record { drawn = drawn_by_it site image; few = few_objects layout size objects keeps counted },
+    inl (record { drawn = drawn_by_it site image; few = few_objects layout size objects keeps.objects counted }),
     λ a can. lawful_on_done at (learned (drawn_known site image) site (op.Map image (states.Resize objects))) (making site (new_header layout size) image) (lawful_making site layout size objects keeps counted image) a,
   )
 
@@ -193,7 +185,7 @@ module _ (at : Label → Knowledge) where
   lawful_show_header site name shown = (
     tt,
     λ found can. lawful_on_id at (learned nothing_known site (op.Directory (directory.Find name))) (showing site shown) (λ image.
-        (tt, lawful_on_header at site image (learned nothing_known site (op.Header image header.Get)) (λ h. Return (shown h)) (λ h form. tt))) found,
+        (tt, lawful_on_header at site image (learned nothing_known site (op.Header image header.Get)) (λ h. Return (shown h)) (λ h form standalone. tt))) found,
   )
 
   pub lawful_listing : (site : SiteId) (c : Command) → IsLawful at nothing_known (listing_plan site c)
@@ -209,7 +201,7 @@ module _ (at : Label → Knowledge) where
   lawful_on_snap known site image a = lawful_not_there at (known a) a
 
   lawful_on_bits : (known : Answer → Knowledge) (image : ℕ) (next : List ℕ → Plan) → ((bits : List ℕ) → HoldStates bits → IsLawful at (known (answer.Bits bits)) (next bits))
-      → (a : Answer) → CanGive (op.Map image (states.Get None)) a → IsLawful at (known a) (on_bits next a)
+      → (a : Answer) → CanTell (op.Map image (states.Get None)) a → IsLawful at (known a) (on_bits next a)
   lawful_on_bits known image next lawful (answer.Bits bits) can = lawful bits can.form
   lawful_on_bits known image next lawful a can = lawful_not_there at (known a) a
 
@@ -250,7 +242,7 @@ module _ (at : Label → Knowledge) where
 
   lawful_unmapping : (site : SiteId) (image id : ℕ) (h : HeaderView) → IsLawful at (removed_known site image id h) (unmapping site image id)
   lawful_unmapping site image id h = (
-    record { alone = true; header = without_snap id h; is = own_is_changed site image id h; meets = (refl, removed_is_unlisted h.snaps id) },
+    inr (record { alone = true; header = without_snap id h; is = own_is_changed site image id h; meets = (refl, removed_is_unlisted h.snaps id) }),
     λ a can. lawful_on_gone (learned (removed_known site image id h) site (op.Map image (states.Remove (Some id)))) site image a,
   )
 

@@ -18,6 +18,7 @@ use Rattle.rbd_locks.specs.Locks.{LocksView, heard, state_at}
 use Rattle.rbd_kinds.specs.Images.{is_at}
 use Rattle.rbd_locks.specs.States.{told}
 use Rattle.rbd_machine.specs.Plan.{Standing}
+use Rattle.rbd_machine.specs.declared.seat.Seat.{Seat}
 use Rattle.rbd_session.specs.Lines.{LinesView, lines_of}
 use Rattle.rbd_session.specs.declared.running.Occupant.{Occupant}
 use Rattle.rbd_session.specs.Session.{SessionView, IsNewcomer, IsSoundSession, going_in, held_in, own_look_in}
@@ -104,7 +105,7 @@ module _ {R : Type 0} (stands : R → Standing) where
       by false = owned
 
   -- a slot that a newcomer took is held
-  pub newcomer_held : {W : Type 0} (stands_for : SiteId → W → Standing → Type 0) (extent_for : W → Option Extent) (home : SiteId) (line : ℕ) (work : W) (o : Option (Occupant R))
-      → IsNewcomer stands stands_for extent_for home line work o → o ≡ None → ⊥
-  newcomer_held stands_for extent_for home line work None new is = elim new [ ]
-  newcomer_held stands_for extent_for home line work (Some x) new is = no_some x (sym is)
+  pub newcomer_held : {W : Type 0} (stands_for : Seat → W → Standing → Type 0) (extent_for : W → Option Extent) (seat : Seat) (line : ℕ) (work : W) (o : Option (Occupant R))
+      → IsNewcomer stands stands_for extent_for seat line work o → o ≡ None → ⊥
+  newcomer_held stands_for extent_for seat line work None new is = elim new [ ]
+  newcomer_held stands_for extent_for seat line work (Some x) new is = no_some x (sym is)

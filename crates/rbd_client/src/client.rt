@@ -10,7 +10,7 @@ ghost use Rattle.rbd_locks.specs.Locks.{heard as counted_heard, state_at};
 ghost use Rattle.rbd_locks.specs.States.{blank as unknown};
 ghost use Rattle.rbd_session.specs.Lines.{lines_of};
 ghost use Rattle.rbd_session.specs.OnTrack.{LeavesOthers};
-ghost use Rattle.rbd_session.specs.Session.{free_slot, held_in, op_at, refusal_in, reply_of, script_line, IsNewcomer};
+ghost use Rattle.rbd_session.specs.Session.{free_slot, held_in, op_at, refusal_in, reply_of, script_line, seat_of, IsNewcomer};
 
 use crate::actor::{Actor, for_release, for_request, release_kind, way_kind};
 use crate::counting::count;
@@ -104,7 +104,7 @@ impl<R: Request> Client<R> {
         requires free { self.old.session.lowest ≤ 64 }
         requires serves { R.serves work }
         ensures slot { IfOk result (λ slot. slot ≡ self.old.session.lowest) }
-        ensures held { OnOk result (IsNewcomer R.stands R.stands_for R.extent_for self.old.session.home line work (held_in self.old.session.lowest self.new.session.slots)) }
+        ensures held { OnOk result (IsNewcomer R.stands R.stands_for R.extent_for (seat_of self.old.session) line work (held_in self.old.session.lowest self.new.session.slots)) }
         ensures state { OnOk result (state_in self.old.session.lowest self.new.slots ≡ newcomer quiescing) }
         ensures others { (slot : ℕ) → slot ≢ self.old.session.lowest → (held_in slot self.new.session.slots ≡ held_in slot self.old.session.slots) × (state_in slot self.new.slots ≡ state_in slot self.old.slots) }
         ensures lines { self.new.session.lines ≡ self.old.session.lines }

@@ -3,7 +3,6 @@ ghost use Rattle.std.specs.Prelude.{◌≡◌, true, List, Option, IfOk};
 ghost use Rattle.rbd_course.specs.Begun.{IsBegun};
 ghost use Rattle.rbd_course.specs.Course.{beginning};
 ghost use Rattle.rbd_course.specs.Orderly.{IsOrderlyFrom};
-ghost use Rattle.rbd_kinds.specs.declared.id.SiteId.{SiteId};
 ghost use Rattle.rbd_kinds.specs.declared.layout.Extent.{Extent};
 ghost use Rattle.rbd_kinds.specs.declared.machine.Fed.{Fed};
 ghost use Rattle.rbd_kinds.specs.declared.reply.Reply.{Reply};
@@ -11,9 +10,11 @@ ghost use Rattle.rbd_machine.specs.Lawful.{IsLawfulRequest};
 ghost use Rattle.rbd_machine.specs.Path.{Answered, IsWalk};
 ghost use Rattle.rbd_machine.specs.Plan.{Standing, IsAsking, Return};
 ghost use Rattle.rbd_machine.specs.Refused.{AreGiven};
+ghost use Rattle.rbd_machine.specs.Standalone.{TellAllStandalone};
+ghost use Rattle.rbd_machine.specs.declared.seat.Seat.{Seat};
 
-use rbd_kinds::{Extent, NoMemory, Refusal, SiteId};
-use rbd_machine::Machine;
+use rbd_kinds::{Extent, NoMemory, Refusal};
+use rbd_machine::{Machine, Seat};
 use std::alloc::Global;
 
 /// A request that was made of its work.
@@ -34,33 +35,34 @@ pub trait Request: Machine + Drop {
     /// The works that it serves.
     ghost serves: { Self.Work → Type 0 };
 
-    /// Where a request of a session at a site stands at first, made of a work.
-    ghost stands_for: { SiteId → Self.Work → Standing → Type 0 };
+    /// Where a request of a session stands at first, made of a work.
+    ghost stands_for: { Seat → Self.Work → Standing → Type 0 };
 
     /// The extent that a work changes piece by piece, beside others: it takes its turn at each of
     /// its objects.
     ghost extent_for: { Self.Work → Option Extent };
 
     /// What its reply means, behind the operations that were done for it.
-    ghost means: { SiteId → Self.Work → List Answered → Reply → Type 0 };
+    ghost means: { Seat → Self.Work → List Answered → Reply → Type 0 };
 
-    /// The request of a session at a site.
-    fn begin(alloc: Global, home: SiteId, work: Self::Work) -> Result<Begun<Self>, NoMemory>
+    /// The request of a session.
+    fn begin(alloc: Global, seat: &Seat, work: Self::Work) -> Result<Begun<Self>, NoMemory>
         requires { serves work }
-        ensures { IfOk result (IsBegun (stands_for home work) Self.stands) };
+        ensures { IfOk result (IsBegun (stands_for seat.now work) Self.stands) };
 
     /// The extent that a work changes piece by piece. It takes no memory.
     fn extent(work: &Self::Work) -> Option<Extent>
         ensures { result ≡ extent_for work.now };
 
     /// It keeps to its line, and takes its turns at the objects of its extent.
-    ghost orderly: { (home : SiteId) (work : Self.Work) (s : Standing) → serves work → stands_for home work s → IsAsking s.plan
+    ghost orderly: { (seat : Seat) (work : Self.Work) (s : Standing) → serves work → stands_for seat work s → IsAsking s.plan
         → IsOrderlyFrom (extent_for work) true beginning s };
 
     /// It does only what it may by what it knows.
-    ghost lawful: { (home : SiteId) (work : Self.Work) (s : Standing) → serves work → stands_for home work s → IsLawfulRequest s };
+    ghost lawful: { (seat : Seat) (work : Self.Work) (s : Standing) → serves work → stands_for seat work s → IsLawfulRequest s };
 
-    /// Each reply to which a walk of it leads is meant.
-    ghost meant: { (home : SiteId) (work : Self.Work) (s : Standing) (feds : List Fed) (steps : List Answered) (reply : Reply)
-        → serves work → stands_for home work s → AreGiven steps → IsWalk s.labels s.plan feds steps (Return reply) → means home work steps reply };
+    /// Each reply to which a walk of it leads is meant, as long as no header that it is told has a
+    /// parent or a journal.
+    ghost meant: { (seat : Seat) (work : Self.Work) (s : Standing) (feds : List Fed) (steps : List Answered) (reply : Reply)
+        → serves work → stands_for seat work s → AreGiven steps → TellAllStandalone steps → IsWalk s.labels s.plan feds steps (Return reply) → means seat work steps reply };
 }

@@ -4,6 +4,7 @@ pub mod Closed
 pub mod Discards
 pub mod Early
 pub mod Ended
+pub mod Lawful
 pub mod Meant
 pub mod Refusing
 pub mod Turns

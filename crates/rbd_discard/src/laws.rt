@@ -9,8 +9,9 @@ ghost use Rattle.rbd_kinds.specs.declared.machine.Fed.{Fed};
 ghost use Rattle.rbd_kinds.specs.declared.reply.Reply.{Reply};
 ghost use Rattle.rbd_kinds.specs.declared.reply.Reply.TheVariants.{Done};
 ghost use Rattle.rbd_layout.specs.Pieces.{pieces_of};
+ghost use Rattle.rbd_machine.specs.Lawful.{IsLawfulRequest};
 ghost use Rattle.rbd_machine.specs.Path.{Answered, IsBounded, IsWalk};
-ghost use Rattle.rbd_machine.specs.Plan.{Goto, Return, IsClosed};
+ghost use Rattle.rbd_machine.specs.Plan.{Goto, Return, IsClosed, without_labels};
 ghost use Rattle.rbd_machine.specs.Refused.{AreGiven};
 ghost use Rattle.rbd_machine.specs.Turns.{AreTurns};
 ghost use Rattle.rbd_meaning.specs.Discards.{DiscardMeans, DiscardsWhole};
@@ -36,6 +37,13 @@ pub fn turns_are_those_of_the_pieces()
 /// A discard begins no part again.
 pub fn labels_stand_at_operations()
     ensures { (home : SiteId) (command : Command) → IsClosed Goto (discard_plan home command) }
+{}
+
+/// A discard is lawful from nothing known: each piece becomes zeros under the snapshot context and
+/// within the size that the own look told, at its turn. An object's state is raised before it may
+/// come to be there, and set to 0 only once it is gone.
+pub fn discards_are_lawful()
+    ensures { (home : SiteId) (command : Command) → IsLawfulRequest (without_labels (discard_plan home command)) }
 {}
 
 /// A discard is done only when each of its pieces became zeros by its own look, one after another,

@@ -34,7 +34,7 @@ use Rattle.rbd_machine.specs.Permits.{Permits}
 use Rattle.rbd_machine.specs.Plan.{Plan, Standing}
 use Rattle.rbd_owner.specs.Acquire.{op_of}
 use Rattle.rbd_owner.specs.declared.acquire.Acquire.{Acquire}
-use Rattle.rbd_rely.specs.Beside.{AreBeside, MayLook}
+use Rattle.rbd_rely.specs.Beside.{AreBeside, MayAct}
 use Rattle.rbd_rely.specs.Locks.{HasLockWhileFree}
 use Rattle.rbd_rely.specs.Truth.{AreMapped, IsTrueAt}
 use Rattle.rbd_rely.proofs.Elsewhere.{beside_elsewhere, true_elsewhere}
@@ -132,7 +132,7 @@ module _ {R : Type 0} (stands : R → Standing) (c d : ClientView R) (knows : �
   -- ---- at the site of the operation
 
   module _ (f : Flat) (most : ℕ) (stood : StandsFor [] r f) (form : AreInForm r most) (mapped : AreMapped r) (t : IsTrueOf site r me knows c) (truly : IsTrueAt site r me (known_to (knows slot) (actor_at stands slot c)))
-      (may : (other : ℕ) → slot ≢ other → MayLook site r me me (known_to (knows slot) (actor_at stands slot c)) (knows other) o) where
+      (may : (other : ℕ) → slot ≢ other → MayAct site r me me (known_to (knows slot) (actor_at stands slot c)) (knows other) o) where
     abbrev now : Records
     now = after r me o
 
@@ -143,7 +143,7 @@ module _ {R : Type 0} (stands : R → Standing) (c d : ClientView R) (knows : �
     stay_beside x y differ = beside_stays site r me me me (knows x) (knows y) o (t.beside x y differ)
 
     module _ (wanted : op_by stands slot c.session actor.Request ≡ Some (site, o)) (known : IsTrueAt site r me (knows slot)) (allowed : Permits (knows slot) site o)
-        (looks : (other : ℕ) → slot ≢ other → MayLook site r me me (knows slot) (knows other) o) where
+        (looks : (other : ℕ) → slot ≢ other → MayAct site r me me (knows slot) (knows other) o) where
       request_true : (x : ℕ) → IsTrueAt site now me (knows_after knows slot result plan (fed.Answer a) x)
       request_true =
           of_each knows slot (unless_ended result (known_behind (knows slot) plan (fed.Answer a))) (IsTrueAt site now me)
@@ -224,7 +224,7 @@ module _ {R : Type 0} (stands : R → Standing) (c d : ClientView R) (knows : �
     answers_are_true fed = by (actor_at stands slot c) is fed truly permits may
       where
         by : (who : Actor) → op_by stands slot c.session who ≡ Some (site, o) → FedBy who → IsTrueAt site r me (known_to (knows slot) who) → Permits (known_to (knows slot) who) site o
-            → ((other : ℕ) → slot ≢ other → MayLook site r me me (known_to (knows slot) who) (knows other) o) → IsTrueOf site now me (knows_then who) d
+            → ((other : ℕ) → slot ≢ other → MayAct site r me me (known_to (knows slot) who) (knows other) o) → IsTrueOf site now me (knows_then who) d
         by actor.Nobody wanted fed known allowed looks = absurd fed
         by actor.Request wanted fed known allowed looks = record {
           requests = request_true wanted known allowed looks;

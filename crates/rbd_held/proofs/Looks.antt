@@ -42,7 +42,7 @@ use Rattle.rbd_owner.specs.Release.{release_op, release_op_at}
 use Rattle.rbd_owner.specs.declared.release.Release.{Release}
 use Rattle.rbd_owner.specs.declared.release.Stage.{Stage as ReleaseStage}
 use Rattle.rbd_owner.specs.declared.release.Stage.TheVariants as dropping
-use Rattle.rbd_rely.specs.Beside.{MayLook}
+use Rattle.rbd_rely.specs.Beside.{MayAct}
 use Rattle.rbd_rely.specs.Locks.{KnowsByLock}
 use Rattle.rbd_rely.specs.Truth.{known_header}
 use Rattle.rbd_rely.proofs.Locks.{shares_by_lock}
@@ -90,29 +90,29 @@ module _ {R : Type 0} (stands : R → Standing) (c : ClientView R) (knows : ℕ 
       go false past rest = true≢false (sym past)
 
   module _ (r : Records) (me you : Instance) where
-    release_looks : (slot : ℕ) (k : Knowledge) (x : Release) → actor_at stands 0 c ≡ actor.Release x → MayLook x.site r me you k (knows slot) (release_op x)
+    release_looks : (slot : ℕ) (k : Knowledge) (x : Release) → actor_at stands 0 c ≡ actor.Release x → MayAct x.site r me you k (knows slot) (release_op x)
     release_looks slot k x acts = by x.stage refl
       where
-        by : (s : ReleaseStage) → x.stage ≡ s → MayLook x.site r me you k (knows slot) (release_op_at s x.image)
+        by : (s : ReleaseStage) → x.stage ≡ s → MayAct x.site r me you k (knows slot) (release_op_at s x.image)
         by dropping.Telling is = tt
         by dropping.Dropping is = λ lock free some told.
             absurd (at_rest_unknown slot x.site x.image (subst (λ s. IsAtRest x.site (release_op_at s x.image) c) is (release_rests stands c x sound acts)) told)
 
     -- ---- beside the other requests of the client
 
-    request_looks : (slot other : ℕ) (site : SiteId) (o : Op) → slot ≢ other → op_by stands slot c.session actor.Request ≡ Some (site, o) → MayLook site r me you (knows slot) (knows other) o
+    request_looks : (slot other : ℕ) (site : SiteId) (o : Op) → slot ≢ other → op_by stands slot c.session actor.Request ≡ Some (site, o) → MayAct site r me you (knows slot) (knows other) o
     request_looks slot other site o differ is =
         let w = wants stands slot c.session.lines site o (held_in slot c.session.slots) is in
         may_look stands c.session knows sound.session all slot other w.request site o differ (ap running_in w.is) w.goes r me you
 
-    told_looks : (k j : Knowledge) (site there : SiteId) (o wanted : Op) → asked_at there wanted ≡ asked_at site o → MayLook there r me you k j wanted → MayLook site r me you k j o
-    told_looks k j site there o wanted is may = subst (λ (p : SiteId × Op). MayLook p.0 r me you k j p.1) (some_same (there, wanted) (site, o) is) may
+    told_looks : (k j : Knowledge) (site there : SiteId) (o wanted : Op) → asked_at there wanted ≡ asked_at site o → MayAct there r me you k j wanted → MayAct site r me you k j o
+    told_looks k j site there o wanted is may = subst (λ (p : SiteId × Op). MayAct p.0 r me you k j p.1) (some_same (there, wanted) (site, o) is) may
 
     pub looks_beside_own : (slot other : ℕ) (site : SiteId) (o : Op) → slot ≢ other → op_wanted stands slot c ≡ Some (site, o)
-        → MayLook site r me you (known_to (knows slot) (actor_at stands slot c)) (knows other) o
+        → MayAct site r me you (known_to (knows slot) (actor_at stands slot c)) (knows other) o
     looks_beside_own slot other site o differ is = by (actor_at stands slot c) refl is
       where
-        by : (who : Actor) → actor_at stands slot c ≡ who → op_by stands slot c.session who ≡ Some (site, o) → MayLook site r me you (known_to (knows slot) who) (knows other) o
+        by : (who : Actor) → actor_at stands slot c ≡ who → op_by stands slot c.session who ≡ Some (site, o) → MayAct site r me you (known_to (knows slot) who) (knows other) o
         by actor.Nobody acts is = absurd (no_some (site, o) is)
         by actor.Request acts is = request_looks slot other site o differ is
         by (actor.Way a) acts is = told_looks (known_to (knows slot) (actor.Way a)) (knows other) site a.site o (op_of a) is (way_looks a.site r me you _ (knows other) a)
@@ -162,28 +162,28 @@ module _ {R : Type 0} (stands : R → Standing) (c : ClientView R) (knows : ℕ 
 
   module _ (r : Records) (me you : Instance) (j : Knowledge) (site : SiteId) (t : IsTrueOf site r me knows c) (differ : me ≢ you) (theirs : KnowsByLock site r you j) where
     request_apart : (slot : ℕ) (o : Op) → actor_at stands slot c ≡ actor.Request → op_by stands slot c.session actor.Request ≡ Some (site, o)
-        → MayLook site r me you (knows slot) j o
+        → MayAct site r me you (knows slot) j o
     request_apart slot (op.Header image header.Get) acts is = λ free some told.
         shares_by_lock site r me you (knows slot) j image differ (t.locks image (looks_owned slot site image acts is some)) theirs free some told
     request_apart slot (op.Header image header.LockDrop) acts is = λ lock. shares_by_lock site r me you (knows slot) j image differ (λ free. lock) theirs
     request_apart slot _ acts is = tt
 
-    release_apart : (s : ReleaseStage) (k : Knowledge) (image : ℕ) → MayLook site r me you k j (release_op_at s image)
+    release_apart : (s : ReleaseStage) (k : Knowledge) (image : ℕ) → MayAct site r me you k j (release_op_at s image)
     release_apart dropping.Telling k image = tt
     release_apart dropping.Dropping k image = λ lock. shares_by_lock site r me you k j image differ (λ free. lock) theirs
 
     pub looks_beside_others : (slot : ℕ) (o : Op) → op_wanted stands slot c ≡ Some (site, o)
-        → MayLook site r me you (known_to (knows slot) (actor_at stands slot c)) j o
+        → MayAct site r me you (known_to (knows slot) (actor_at stands slot c)) j o
     looks_beside_others slot o is = by (actor_at stands slot c) refl is
       where
         ops : (there : SiteId) (wanted : Op) → asked_at there wanted ≡ asked_at site o → wanted ≡ o
         ops there wanted same = ap (λ (p : SiteId × Op). p.1) (some_same (there, wanted) (site, o) same)
 
-        by : (who : Actor) → actor_at stands slot c ≡ who → op_by stands slot c.session who ≡ Some (site, o) → MayLook site r me you (known_to (knows slot) who) j o
+        by : (who : Actor) → actor_at stands slot c ≡ who → op_by stands slot c.session who ≡ Some (site, o) → MayAct site r me you (known_to (knows slot) who) j o
         by actor.Nobody acts is = absurd (no_some (site, o) is)
         by actor.Request acts is = request_apart slot o acts is
         by (actor.Way a) acts is =
-            subst (MayLook site r me you (known_to (knows slot) (actor.Way a)) j) (ops a.site (op_of a) is)
+            subst (MayAct site r me you (known_to (knows slot) (actor.Way a)) j) (ops a.site (op_of a) is)
             (way_looks site r me you (known_to (knows slot) (actor.Way a)) j a)
         by (actor.Release x) acts is =
-            subst (MayLook site r me you (known_to_release x) j) (ops x.site (release_op x) is) (release_apart x.stage (known_to_release x) x.image)
+            subst (MayAct site r me you (known_to_release x) j) (ops x.site (release_op x) is) (release_apart x.stage (known_to_release x) x.image)

@@ -23,7 +23,7 @@ use Rattle.rbd_owner.specs.Steps.{is_among}
 use Rattle.rbd_owner.specs.declared.acquire.Acquire.{Acquire}
 use Rattle.rbd_owner.specs.declared.acquire.Stage.{Stage}
 use Rattle.rbd_owner.specs.declared.acquire.Stage.TheVariants as stage
-use Rattle.rbd_rely.specs.Beside.{AreBeside, MayLook}
+use Rattle.rbd_rely.specs.Beside.{AreBeside, MayAct}
 use Rattle.rbd_rely.specs.Truth.{IsStill, IsTrueAt, header_of_own, known_header}
 use Rattle.rbd_site.specs.Records.{Records}
 use Rattle.rbd_site.specs.Step.{after, answer_to, is_fenced}
@@ -43,7 +43,7 @@ permits_at (stage.Breaking owner) site image = fence_is_known nothing_known site
 pub way_permits : (a : Acquire) → Permits (known_on_way a) a.site (op_of a)
 way_permits a = permits_at a.stage a.site a.image
 
-looks_at : (site : SiteId) (r : Records) (me you : Instance) (k j : Knowledge) (s : Stage) (image : ℕ) → MayLook site r me you k j (op_at s image)
+looks_at : (site : SiteId) (r : Records) (me you : Instance) (k j : Knowledge) (s : Stage) (image : ℕ) → MayAct site r me you k j (op_at s image)
 looks_at site r me you k j stage.Watching image = tt
 looks_at site r me you k j stage.Taking image = tt
 looks_at site r me you k j (stage.Looking owner) image = tt
@@ -51,7 +51,7 @@ looks_at site r me you k j stage.Asking image = tt
 looks_at site r me you k j (stage.Fencing owner) image = tt
 looks_at site r me you k j (stage.Breaking owner) image = tt
 
-pub way_looks : (site : SiteId) (r : Records) (me you : Instance) (k j : Knowledge) (a : Acquire) → MayLook site r me you k j (op_of a)
+pub way_looks : (site : SiteId) (r : Records) (me you : Instance) (k j : Knowledge) (a : Acquire) → MayAct site r me you k j (op_of a)
 way_looks site r me you k j a = looks_at site r me you k j a.stage a.image
 
 -- ---- it owns nothing, and drew nothing

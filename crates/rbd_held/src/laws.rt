@@ -22,7 +22,7 @@ ghost use Rattle.rbd_machine.specs.Knowledge.{Knowledge, nothing_known, same_sit
 ghost use Rattle.rbd_machine.specs.Permits.{Permits};
 ghost use Rattle.rbd_owner.specs.Acquire.{op_of};
 ghost use Rattle.rbd_owner.specs.declared.acquire.Acquire.{Acquire};
-ghost use Rattle.rbd_rely.specs.Beside.{AreBeside, MayLook};
+ghost use Rattle.rbd_rely.specs.Beside.{AreBeside, MayAct};
 ghost use Rattle.rbd_rely.specs.Locks.{KnowsByLock};
 ghost use Rattle.rbd_rely.specs.Truth.{AreMapped, IsTrueAt};
 ghost use Rattle.rbd_session.specs.Lines.{lines_of};
@@ -60,12 +60,12 @@ pub fn headers_are_known_by_locks<R: Request>()
 pub fn whoever_acts_may_look<R: Request>()
     ensures own { (c : ClientView R) (knows : ℕ → Knowledge) (slot other : ℕ) (site : Site) (op : Op) (r : Records) (me you : Instance)
         → IsSoundClient R.stands c → AllKnow R.stands knows c.session → slot ≢ other → op_wanted R.stands slot c ≡ Some (site, op)
-        → MayLook site r me you (known_to (knows slot) (actor_at R.stands slot c)) (knows other) op }
+        → MayAct site r me you (known_to (knows slot) (actor_at R.stands slot c)) (knows other) op }
     ensures others { (c : ClientView R) (knows : ℕ → Knowledge) (slot : ℕ) (site : Site) (op : Op) (r : Records) (me you : Instance) (j : Knowledge)
         → IsSoundClient R.stands c → AllKnow R.stands knows c.session → op_wanted R.stands slot c ≡ Some (site, op)
         → IsTrueOf site r me knows c → me ≢ you → KnowsByLock site r you j
-        → MayLook site r me you (known_to (knows slot) (actor_at R.stands slot c)) j op }
-    ensures way { (site : Site) (r : Records) (me you : Instance) (k j : Knowledge) (a : Acquire) → MayLook site r me you k j (op_of a) }
+        → MayAct site r me you (known_to (knows slot) (actor_at R.stands slot c)) j op }
+    ensures way { (site : Site) (r : Records) (me you : Instance) (k j : Knowledge) (a : Acquire) → MayAct site r me you k j (op_of a) }
 {}
 
 /// A request of a client drops the lock of an image only where no other one relies on it: none is

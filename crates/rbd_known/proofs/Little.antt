@@ -5,7 +5,7 @@ use Rattle.rbd_machine.specs.Knowledge.{Knowledge, passed}
 use Rattle.rbd_machine.specs.Plan.{Plan, Ask, Await, Note, Return, Goto}
 use Rattle.rbd_rely.specs.Beside.{AreBeside}
 use Rattle.rbd_rely.specs.Truth.{IsTrueAt}
-use Rattle.rbd_rely.proofs.Learned.{waits_learned}
+use Rattle.rbd_rely.proofs.Less.{waits_learned}
 use Rattle.rbd_rely.proofs.Together.{waited_beside}
 use Rattle.rbd_site.specs.Records.{Records}
 use Rattle.rbd_known.specs.Knowing.{known_at_operation}

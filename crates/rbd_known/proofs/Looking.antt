@@ -16,9 +16,9 @@ use Rattle.rbd_line.proofs.Fair.{passed_fair}
 use Rattle.rbd_line.proofs.Passing.{alone_past, found_at, own_changed, others_changed, passed_is_steady}
 use Rattle.rbd_machine.specs.Knowledge.{Knowledge, Own, own_of}
 use Rattle.rbd_machine.specs.Plan.{Standing}
-use Rattle.rbd_rely.specs.Beside.{MayLook, SharesLock}
+use Rattle.rbd_rely.specs.Beside.{MayAct, SharesLock}
 use Rattle.rbd_rely.specs.Truth.{header_of_own, is_own_alone}
-use Rattle.rbd_rely.proofs.Learned.{place_of}
+use Rattle.rbd_rely.proofs.Less.{place_of}
 use Rattle.rbd_session.specs.declared.running.Running.{Running}
 use Rattle.rbd_session.specs.Advance.{track_of}
 use Rattle.rbd_session.specs.OnTrack.{IsSomewhere}
@@ -157,7 +157,7 @@ module _ {R : Type 0} (stands : R → Standing) (s : SessionView R) (knows : ℕ
         record { one = shared.0; other = shared.1 }
 
   pub may_look : (slot other : ℕ) (r : Running R) (site : SiteId) (o : Op) → slot ≢ other → running_at slot s ≡ Some r → waits slot (track_of r s.lines) ≡ false
-      → (records : Records) (me you : Instance) → MayLook site records me you (knows slot) (knows other) o
+      → (records : Records) (me you : Instance) → MayAct site records me you (knows slot) (knows other) o
   may_look slot other r site (op.Header image header.Get) differ runs goes records me you = lock_shared slot other differ r runs goes site image records me you
   may_look slot other r site (op.Header image header.LockDrop) differ runs goes records me you = λ lock. lock_shared slot other differ r runs goes site image records me you
   may_look slot other r site _ differ runs goes records me you = tt

@@ -1,10 +1,10 @@
 -- A request that begins knows nothing, and so goes with its place.
 use Rattle.std.proofs.Common.{◌≡◌, ℕ, Option, None, sym, ◌∙◌}
-use Rattle.rbd_kinds.specs.declared.id.SiteId.{SiteId}
 use Rattle.rbd_kinds.specs.declared.layout.Extent.{Extent}
 use Rattle.rbd_machine.specs.Knowledge.{nothing_known}
 use Rattle.rbd_machine.specs.Lawful.{IsLawfulRequest}
 use Rattle.rbd_machine.specs.Plan.{Standing}
+use Rattle.rbd_machine.specs.declared.seat.Seat.{Seat}
 use Rattle.rbd_session.specs.declared.running.Running.{Running}
 use Rattle.rbd_session.specs.Advance.{track_of}
 use Rattle.rbd_session.specs.Lines.{LinesView}
@@ -21,12 +21,12 @@ nowhere_tied slot t nowhere = record {
   alone = λ p is. absurd (no_some p (sym (nowhere_course slot t nowhere) ∙ is));
 }
 
-module _ {R W : Type 0} (stands : R → Standing) (stands_for : SiteId → W → Standing → Type 0) (extent_for : W → Option Extent) (serves : W → Type 0)
-    (lawful : (home : SiteId) (work : W) (s : Standing) → serves work → stands_for home work s → IsLawfulRequest s) where
-  pub newcomer_knows : (home : SiteId) (line slot : ℕ) (work : W) (r : Running R) (lines : LinesView) → serves work → BeginsAt stands stands_for extent_for home line work r
+module _ {R W : Type 0} (stands : R → Standing) (stands_for : Seat → W → Standing → Type 0) (extent_for : W → Option Extent) (serves : W → Type 0)
+    (lawful : (seat : Seat) (work : W) (s : Standing) → serves work → stands_for seat work s → IsLawfulRequest s) where
+  pub newcomer_knows : (seat : Seat) (line slot : ℕ) (work : W) (r : Running R) (lines : LinesView) → serves work → BeginsAt stands stands_for extent_for seat line work r
       → KnowsBy stands slot r lines nothing_known
-  newcomer_knows home line slot work r lines served begins =
-      let is_lawful = lawful home work (stands r.request) served begins.stands_there in
+  newcomer_knows seat line slot work r lines served begins =
+      let is_lawful = lawful seat work (stands r.request) served begins.stands_there in
       record {
         known_at = is_lawful.known_at;
         lawful = is_lawful.plan;

@@ -4,7 +4,8 @@ use Rattle.rbd_kinds.specs.declared.header.HeaderView.{HeaderView}
 use Rattle.rbd_kinds.specs.declared.id.SiteId.{SiteId}
 use Rattle.rbd_machine.specs.Knowledge.{Own, own_of, is_at, told_of, with_header, left}
 use Rattle.rbd_machine.proofs.Lawful.{at_itself}
-use Rattle.rbd_rely.proofs.Learned.{place_of, left_here, left_there}
+use Rattle.rbd_machine.proofs.Lawful.{left_here}
+use Rattle.rbd_rely.proofs.Less.{place_of, left_there}
 use Rattle.rbd_session.proofs.Sound.{no_some, some_same}
 
 -- ---- places

@@ -23,7 +23,7 @@ use Rattle.rbd_machine.specs.Knowledge.{Knowledge, is_drawn, told_of, header_tol
 use Rattle.rbd_machine.specs.Label.{Label}
 use Rattle.rbd_machine.specs.Path.{at_operation}
 use Rattle.rbd_machine.specs.Plan.{Plan, Ask, Await, Note, Return, Goto, plan_after}
-use Rattle.rbd_rely.specs.Beside.{AreBeside, MayLook, SharesLock}
+use Rattle.rbd_rely.specs.Beside.{AreBeside, MayAct, SharesLock}
 use Rattle.rbd_rely.specs.Truth.{header_of_own}
 use Rattle.rbd_site.specs.Records.{Records}
 use Rattle.rbd_known.specs.Calm.{IsCalm, OwnsNothing}
@@ -116,7 +116,7 @@ module _ (site : SiteId) (r : Records) (me you : Instance) (k j : Knowledge) whe
   calm_shares : (image : ℕ) → OwnsNothing k → SharesLock site image r me you k j
   calm_shares image none = λ free some told. absurd (true≢false (sym some ∙ ap is_some (none site image)))
 
-  pub calm_looks : (o : Op) → OwnsNothing k → MayLook site r me you k j o
+  pub calm_looks : (o : Op) → OwnsNothing k → MayAct site r me you k j o
   calm_looks (op.Header image header.Get) none = calm_shares image none
   calm_looks (op.Header image header.LockDrop) none = λ lock. calm_shares image none
   calm_looks _ none = tt
@@ -124,7 +124,7 @@ module _ (site : SiteId) (r : Records) (me you : Instance) (k j : Knowledge) whe
   shares_with_calm : (image : ℕ) → OwnsNothing j → SharesLock site image r me you k j
   shares_with_calm image none = λ free some told. absurd (true≢false (sym told ∙ ap (λ q. is_some (header_of_own q)) (none site image)))
 
-  pub looked_beside_calm : (o : Op) → OwnsNothing j → MayLook site r me you k j o
+  pub looked_beside_calm : (o : Op) → OwnsNothing j → MayAct site r me you k j o
   looked_beside_calm (op.Header image header.Get) none = shares_with_calm image none
   looked_beside_calm (op.Header image header.LockDrop) none = λ lock. shares_with_calm image none
   looked_beside_calm _ none = tt

@@ -15,7 +15,7 @@ ghost use Rattle.rbd_machine.specs.Lawful.{IsLawful};
 ghost use Rattle.rbd_machine.specs.Path.{at_operation};
 ghost use Rattle.rbd_machine.specs.Plan.{Plan, Ask, Standing, plan_after};
 ghost use Rattle.rbd_machine.specs.declared.reason.Reason.{Reason};
-ghost use Rattle.rbd_rely.specs.Beside.{AreBeside, MayLook};
+ghost use Rattle.rbd_rely.specs.Beside.{AreBeside, MayAct};
 ghost use Rattle.rbd_rely.specs.Truth.{IsTrueAt};
 ghost use Rattle.rbd_requests.specs.Served.{IsPlanFor};
 ghost use Rattle.rbd_session.specs.Advance.{track_of};
@@ -59,7 +59,7 @@ pub fn who_may_go_on_may_look<R: Request>()
     ensures { (s : SessionView R) (slot other : ℕ) (r : Running R) (knows : ℕ → Knowledge) (site : Site) (why : Reason) (op : Op) (next : Answer → Plan)
         → IsSoundSession R.stands s → AllKnow R.stands knows s → slot ≢ other
         → running_at slot s ≡ Some r → waits slot (track_of r s.lines) ≡ false → (R.stands r.request).plan ≡ Ask site why op next
-        → (r : Records) (me you : Instance) → MayLook site r me you (knows slot) (knows other) op }
+        → (r : Records) (me you : Instance) → MayAct site r me you (knows slot) (knows other) op }
 {}
 
 /// What a request knows at its next operation is lawful for it to go by, and is true and beside
@@ -83,8 +83,8 @@ pub fn calm_requests_own_nothing()
         → IsCalmRequest (record { labels = labels; plan = at_operation labels (plan_after plan f) }) }
     ensures beside { (site : Site) (r : Records) (me you : Instance) (k j : Knowledge) → OwnsNothing k
         → ((image : ℕ) → is_drawn k.drawn site image ≡ true → is_drawn j.drawn site image ≡ false) → AreBeside site r me you k j }
-    ensures looks { (site : Site) (r : Records) (me you : Instance) (k j : Knowledge) (op : Op) → OwnsNothing k → MayLook site r me you k j op }
-    ensures looked_beside { (site : Site) (r : Records) (me you : Instance) (k j : Knowledge) (op : Op) → OwnsNothing j → MayLook site r me you k j op }
+    ensures looks { (site : Site) (r : Records) (me you : Instance) (k j : Knowledge) (op : Op) → OwnsNothing k → MayAct site r me you k j op }
+    ensures looked_beside { (site : Site) (r : Records) (me you : Instance) (k j : Knowledge) (op : Op) → OwnsNothing j → MayAct site r me you k j op }
 {}
 
 /// Only a `write`, a `fill`, a `snap create`, a `snap rm`, a `close` and a `quiesce` wait for

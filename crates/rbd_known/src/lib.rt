@@ -31,7 +31,7 @@
 //! | `specs/Knowing.antt` | what the slots know (`AllKnow`), and once one was fed (`knows_after`) |
 //! | `specs/Calm.antt` | requests that wait for nothing |
 //!
-//! [`laws`] says that a session's calls keep this, that who may go on may look (`MayLook` of
+//! [`laws`] says that a session's calls keep this, that who may go on may look (`MayAct` of
 //! `rbd_rely`), and which commands wait for nothing. [`is_change`] tells whether a
 //! command waits in the line of an image.
 #![tactic(auto)]

@@ -1,6 +1,7 @@
 -- Plans that are lawful, step by step.
-use Rattle.std.proofs.Common.{◌≡◌, ◌≢◌, ◌⊎◌, inl, inr, ℕ, List, [], ◌∷◌, Bool, true, false, cond, eqb, Option, Some, None, refl, ap, ◌∙◌, subst, sym}
+use Rattle.std.proofs.Common.{◌≡◌, ◌≢◌, ◌⊎◌, inl, inr, ℕ, List, [], ◌∷◌, Bool, true, false, cond, eqb, not, Option, Some, None, refl, ap, ◌∙◌, subst, sym}
 use Rattle.std.specs.Prelude.{unwrap_or}
+use Rattle.std.proofs.lemmas.Bool.{true≢false}
 use Rattle.std.proofs.lemmas.Bool.Decides.{eqb_tells}
 use Rattle.rbd_kinds.specs.declared.answer.Answer.{Answer}
 use Rattle.rbd_kinds.specs.declared.answer.Answer.TheVariants as answer
@@ -11,15 +12,17 @@ use Rattle.rbd_kinds.specs.declared.id.SiteId.{SiteId}
 use Rattle.rbd_kinds.specs.declared.id.SiteId.TheVariants as site
 use Rattle.rbd_kinds.specs.declared.machine.Fed.{Fed}
 use Rattle.rbd_kinds.specs.declared.machine.Fed.TheVariants as fed
+use Rattle.rbd_kinds.specs.declared.operation.Op.{Op}
 use Rattle.rbd_kinds.specs.declared.operation.Op.TheVariants as op
 use Rattle.rbd_commands.specs.declared.refusal.Refusal.{Refusal}
 use Rattle.rbd_kinds.specs.Form.{IsHeaderInForm}
 use Rattle.rbd_machine.specs.Answers.{CanGive, CanBeFed}
-use Rattle.rbd_machine.specs.Knowledge.{Knowledge, Own, nothing_known, same_site, is_at, own_of, learned, passed, maps_owned, maps_told, unmapped}
+use Rattle.rbd_machine.specs.Knowledge.{Knowledge, Own, nothing_known, same_site, is_at, is_gone, own_of, header_told, first_told, left, looked_owning, learned, passed, maps_told, unmapped}
 use Rattle.rbd_machine.specs.Label.{Label}
-use Rattle.rbd_machine.specs.Lawful.{IsLawful, known_after}
-use Rattle.rbd_machine.specs.Permits.{OwnsBy}
+use Rattle.rbd_machine.specs.Lawful.{CanTell, IsLawful, known_after}
+use Rattle.rbd_machine.specs.Permits.{IsLeftOver, OwnsBy}
 use Rattle.rbd_machine.specs.Plan.{Plan, Ask, Await, Note, Return, Goto, settled, plan_after}
+use Rattle.rbd_machine.specs.Standalone.{IsFedStandalone, IsStandalone, TellsStandalone}
 use Rattle.rbd_machine.specs.Steps.{or_else, unless, not_there, on_id, on_header, on_done, change, looked, holding, owned, joining}
 use Rattle.rbd_machine.specs.Wait as wait
 
@@ -36,27 +39,41 @@ at_itself s image = rw (same_site_itself s) (go (eqb_tells image image))
     go (inl same) = same.0
     go (inr other) = absurd (other.1 refl)
 
+-- it owns nothing more of an image that it left
+pub left_here : (s : SiteId) (image : ℕ) (owns : List Own) → own_of (left s image owns) s image ≡ None
+left_here s image [] = refl
+left_here s image (o ∷ owns) = by (is_at s image o.site o.image) refl (left_here s image owns)
+  where
+    by : (b : Bool) → is_at s image o.site o.image ≡ b → own_of (left s image owns) s image ≡ None → own_of (cond (not b) (o ∷ left s image owns) (left s image owns)) s image ≡ None
+    by true is rest = rest
+    by false is rest = ap (λ b. cond b (Some o) (own_of (left s image owns) s image)) is ∙ rest
+
 -- ---- a change at its own look: it owns its image, by the header that this look told
 
 abbrev pub own_at : (alone : Bool) → SiteId → (image : ℕ) → HeaderView → Own
 own_at alone s image h = record { site = s; image = image; alone = alone; header = Some h }
 
+abbrev pub unlooked : (alone : Bool) → SiteId → (image : ℕ) → Own
+unlooked alone s image = record { site = s; image = image; alone = alone; header = None }
+
 abbrev pub owning_known : (alone : Bool) → (turn : Option ℕ) → SiteId → (image : ℕ) → HeaderView → Knowledge
-owning_known alone turn s image h = record { alone = alone; owns = own_at alone s image h ∷ []; turn = turn; drawn = []; fenced = []; maps = maps_told s image unmapped [] }
+owning_known alone turn s image h = record { alone = alone; owns = own_at alone s image h ∷ []; turn = turn; drawn = []; fenced = []; maps = maps_told s image unmapped []; objects = []; gone = [] }
 
 abbrev pub holding_known : (alone : Bool) → SiteId → (image : ℕ) → Knowledge
-holding_known alone s image = record { alone = alone; owns = record { site = s; image = image; alone = alone; header = None } ∷ []; turn = None; drawn = []; fenced = []; maps = [] }
+holding_known alone s image = record { alone = alone; owns = unlooked alone s image ∷ []; turn = None; drawn = []; fenced = []; maps = []; objects = []; gone = [] }
 
 own_told : (alone : Bool) (s : SiteId) (image : ℕ) (h : HeaderView) → owning_known alone None s image h ≡ learned (holding_known alone s image) s (op.Header image header.Get) (answer.Header h)
 own_told alone s image h =
     ap (λ b. record {
       alone = alone;
-      owns = cond b (own_at alone s image h) (record { site = s; image = image; alone = alone; header = None }) ∷ [];
+      owns = cond b (own_at alone s image h) (unlooked alone s image) ∷ [];
       turn = None;
       drawn = [];
       fenced = [];
-      maps = maps_owned (cond b (Some (record { site = s; image = image; alone = alone; header = None })) None) s image [];
-    }) (sym (at_itself s image))
+      maps = maps_told s image unmapped [];
+      objects = [];
+      gone = [];
+    }) (sym (at_itself s image)) ∙ ap (λ b. header_told s image (first_told h) (looked_owning (cond b (Some (unlooked alone s image)) None) s image (holding_known alone s image))) (sym (at_itself s image))
 
 pub own_is_found : (alone : Bool) (turn : Option ℕ) (s : SiteId) (image : ℕ) (h : HeaderView)
     → own_of (owning_known alone turn s image h).owns s image ≡ Some (own_at alone s image h)
@@ -79,9 +96,9 @@ module _ (at : Label → Knowledge) where
   lawful_on_id known next lawful a = lawful_not_there (known a) a
 
   pub lawful_on_header : (s : SiteId) (image : ℕ) (known : Answer → Knowledge) (next : HeaderView → Plan)
-      → ((h : HeaderView) → IsHeaderInForm h → IsLawful at (known (answer.Header h)) (next h))
-      → (a : Answer) → CanGive (op.Header image header.Get) a → IsLawful at (known a) (on_header next a)
-  lawful_on_header s image known next lawful (answer.Header h) can = lawful h can.form
+      → ((h : HeaderView) → IsHeaderInForm h → IsStandalone h → IsLawful at (known (answer.Header h)) (next h))
+      → (a : Answer) → CanTell (op.Header image header.Get) a → IsLawful at (known a) (on_header next a)
+  lawful_on_header s image known next lawful (answer.Header h) can = lawful h can.form can.standalone
   lawful_on_header s image known next lawful a can = lawful_not_there (known a) a
 
   pub lawful_on_done : (known : Answer → Knowledge) (next : Plan) → IsLawful at (known answer.Done) next → (a : Answer) → IsLawful at (known a) (on_done next a)
@@ -100,10 +117,10 @@ module _ (at : Label → Knowledge) where
     λ found can.
         lawful_on_id (learned nothing_known s (op.Directory (directory.Find name))) (joining s alone refuses act) (λ image. (
           tt,
-          lawful_on_header s image (learned (passed nothing_known (wait.Join s image alone)) s (op.Header image header.Get)) (looked s refuses act image) (λ h form.
+          lawful_on_header s image (learned (passed nothing_known (wait.Join s image alone)) s (op.Header image header.Get)) (looked s refuses act image) (λ h form standalone.
               lawful_unless (record nothing_known { alone = alone }) (refuses h) (holding s refuses act image) (λ may_wait. (
                 tt,
-                lawful_on_header s image (learned (holding_known alone s image) s (op.Header image header.Get)) (owned refuses act image) (λ own form.
+                lawful_on_header s image (learned (holding_known alone s image) s (op.Header image header.Get)) (owned refuses act image) (λ own form standalone.
                     lawful_unless (learned (holding_known alone s image) s (op.Header image header.Get) (answer.Header own)) (refuses own) (act image own) (λ may.
                     subst (λ k. IsLawful at k (act image own)) (own_told alone s image own) (acts image own form may))),
               ))),
@@ -114,6 +131,12 @@ module _ (at : Label → Knowledge) where
 
 pub not_owned : (k : Knowledge) (s : SiteId) (image : ℕ) (condition : (alone : Bool) → HeaderView → Type 0) → own_of k.owns s image ≡ None → OwnsBy k s image condition → ⊥
 not_owned k s image condition none owns = let is = owns.is in cc
+
+-- an object of an image that isn't gone
+pub object_not_owned : (k : Knowledge) (s : SiteId) (image : ℕ) (condition : (alone : Bool) → HeaderView → Type 0) → own_of k.owns s image ≡ None → is_gone k.gone s image ≡ false
+    → IsLeftOver k s image ⊎ OwnsBy k s image condition → ⊥
+object_not_owned k s image condition none remains (inl over) = true≢false (sym over.gone ∙ remains)
+object_not_owned k s image condition none remains (inr owns) = not_owned k s image condition none owns
 
 -- what is owned is owned by one header
 abbrev pub header_of : Option Own → HeaderView → HeaderView
@@ -126,6 +149,9 @@ one_header k s image alone h condition is owns = ap (λ o. header_of o h) (sym o
 
 -- ---- a lawful request that is fed stays lawful
 
+pub told_alone : {o : Op} {a : Answer} → CanGive o a → TellsStandalone a → CanTell o a
+told_alone can alone = record { word = can.word; form = can.form; standalone = alone }
+
 module _ (labels : Label → Plan) (at : Label → Knowledge) (lawful_there : (label : Label) → IsLawful at (at label) (labels label)) where
   lawful_settled : (k : Knowledge) (plan : Plan) → IsLawful at k plan → IsLawful at k (settled labels plan)
   lawful_settled k (Ask site why op next) lawful = lawful
@@ -134,12 +160,12 @@ module _ (labels : Label → Plan) (at : Label → Knowledge) (lawful_there : (l
   lawful_settled k (Return reply) lawful = lawful
   lawful_settled k (Goto label) same = subst (λ known. IsLawful at known (labels label)) (sym same) (lawful_there label)
 
-  pub stays_lawful : (k : Knowledge) (plan : Plan) (f : Fed) → CanBeFed plan f → IsLawful at k plan → IsLawful at (known_after k plan f) (settled labels (plan_after plan f))
-  stays_lawful k (Ask site why op next) (fed.Answer a) can lawful = lawful_settled (learned k site op a) (next a) (lawful.1 a can)
-  stays_lawful k (Ask site why op next) fed.Passed can lawful = absurd can
-  stays_lawful k (Await wait next) (fed.Answer a) can lawful = absurd can
-  stays_lawful k (Await wait next) fed.Passed can lawful = lawful_settled (passed k wait) next lawful
-  stays_lawful k (Note site image event next) (fed.Answer a) can lawful = absurd can
-  stays_lawful k (Note site image event next) fed.Passed can lawful = lawful_settled k next lawful
-  stays_lawful k (Return reply) f can lawful = absurd can
-  stays_lawful k (Goto label) f can lawful = absurd can
+  pub stays_lawful : (k : Knowledge) (plan : Plan) (f : Fed) → CanBeFed plan f → IsFedStandalone f → IsLawful at k plan → IsLawful at (known_after k plan f) (settled labels (plan_after plan f))
+  stays_lawful k (Ask site why op next) (fed.Answer a) can alone lawful = lawful_settled (learned k site op a) (next a) (lawful.1 a (told_alone can alone))
+  stays_lawful k (Ask site why op next) fed.Passed can alone lawful = absurd can
+  stays_lawful k (Await wait next) (fed.Answer a) can alone lawful = absurd can
+  stays_lawful k (Await wait next) fed.Passed can alone lawful = lawful_settled (passed k wait) next lawful
+  stays_lawful k (Note site image event next) (fed.Answer a) can alone lawful = absurd can
+  stays_lawful k (Note site image event next) fed.Passed can alone lawful = lawful_settled k next lawful
+  stays_lawful k (Return reply) f can alone lawful = absurd can
+  stays_lawful k (Goto label) f can alone lawful = absurd can

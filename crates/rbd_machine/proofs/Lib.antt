@@ -12,3 +12,4 @@ pub mod Refused
 pub mod Walked
 pub mod Fed
 pub mod Wanted
+pub mod Gone

@@ -3,6 +3,8 @@
 use Rattle.std.specs.Prelude.{ℕ, ◌*◌, ◌==◌, ◌&&◌, Bool, true, false, not, if◌then◌else◌, List, [], ◌∷◌, length, map, filter, slice_set, Option, Some, None, option_map}
 use Rattle.rbd_kinds.specs.declared.answer.Answer.{Answer}
 use Rattle.rbd_kinds.specs.declared.answer.Answer.TheVariants as answer
+use Rattle.rbd_kinds.specs.declared.data_op.DataOp.{DataOp}
+use Rattle.rbd_kinds.specs.declared.data_op.DataOp.TheVariants as object
 use Rattle.rbd_kinds.specs.declared.directory_op.DirectoryOp.{DirectoryOp}
 use Rattle.rbd_kinds.specs.declared.directory_op.DirectoryOp.TheVariants as directory
 use Rattle.rbd_kinds.specs.declared.header.HeaderView.{HeaderView}
@@ -10,13 +12,13 @@ use Rattle.rbd_kinds.specs.declared.header_op.HeaderOp.{HeaderOp}
 use Rattle.rbd_kinds.specs.declared.header_op.HeaderOp.TheVariants as header
 use Rattle.rbd_kinds.specs.declared.id.Instance.{Instance}
 use Rattle.rbd_kinds.specs.declared.id.SiteId.{SiteId}
-use Rattle.rbd_kinds.specs.declared.id.SiteId.TheVariants as site
 use Rattle.rbd_kinds.specs.declared.map_op.MapOp.{MapOp}
 use Rattle.rbd_kinds.specs.declared.map_op.MapOp.TheVariants as states
 use Rattle.rbd_kinds.specs.declared.operation.Op.{Op}
 use Rattle.rbd_kinds.specs.declared.operation.Op.TheVariants as op
 pub use Rattle.rbd_kinds.specs.Images.{is_at, same_site}
-use Rattle.rbd_header.specs.Header.{with_snap, without_snap}
+use Rattle.rbd_kinds.specs.declared.layout.Part.{Part}
+use Rattle.rbd_header.specs.Header.{with_size, with_snap, without_snap}
 use Rattle.rbd_map.specs.States.{states_of}
 use Rattle.rbd_machine.specs.Wait.{Wait}
 use Rattle.rbd_machine.specs.Wait as wait
@@ -55,6 +57,22 @@ pub record ImageMaps : Type 0 where
   pub image : ℕ
   pub known : MapsKnown
 
+-- Places of an object of the head that this request made zeros: those of some parts, or all (None).
+pub record Blank : Type 0 where
+  pub object : ℕ
+  pub parts : Option (List Part)
+
+-- What is known of the objects of an image's head, by its own changes.
+pub record ObjectsKnown : Type 0 where
+  -- those that aren't there: it removed them
+  pub absent : List ℕ
+  pub blank : List Blank
+
+pub record ImageObjects : Type 0 where
+  pub site : SiteId
+  pub image : ℕ
+  pub known : ObjectsKnown
+
 -- an instance that it put into a site's blocklist
 pub record Fence : Type 0 where
   pub site : SiteId
@@ -72,9 +90,13 @@ pub record Knowledge : Type 0 where
   pub fenced : List Fence
   -- of images that it drew or owns, the latest first
   pub maps : List ImageMaps
+  -- of images that it owns, the latest first
+  pub objects : List ImageObjects
+  -- images whose header it removed
+  pub gone : List Place
 
 abbrev pub nothing_known : Knowledge
-nothing_known = record { alone = false; owns = []; turn = None; drawn = []; fenced = []; maps = [] }
+nothing_known = record { alone = false; owns = []; turn = None; drawn = []; fenced = []; maps = []; objects = []; gone = [] }
 
 -- ---- where
 
@@ -92,6 +114,22 @@ unmapped = record { raised = []; states = None; count = None; put = None }
 abbrev pub maps_of : List ImageMaps → SiteId → (image : ℕ) → MapsKnown
 maps_of [] site image = unmapped
 maps_of (m ∷ maps) site image = if is_at site image m.site m.image then m.known else maps_of maps site image
+
+abbrev pub untouched : ObjectsKnown
+untouched = record { absent = []; blank = [] }
+
+abbrev pub objects_of : List ImageObjects → SiteId → (image : ℕ) → ObjectsKnown
+objects_of [] site image = untouched
+objects_of (o ∷ objects) site image = if is_at site image o.site o.image then o.known else objects_of objects site image
+
+-- whether it removed the image's header
+abbrev pub is_gone : List Place → SiteId → (image : ℕ) → Bool
+is_gone = is_drawn
+
+-- whether it removed an object
+abbrev pub is_absent : (object : ℕ) → List ℕ → Bool
+is_absent object [] = false
+is_absent object (x ∷ absent) = if x == object then true else is_absent object absent
 
 -- ---- who
 
@@ -112,17 +150,27 @@ is_fenced_by (f ∷ fenced) site i = if is_fence_of site i f then true else is_f
 abbrev pub maps_told : SiteId → (image : ℕ) → MapsKnown → List ImageMaps → List ImageMaps
 maps_told site image m maps = record { site = site; image = image; known = m } ∷ maps
 
--- What it was told of an image's maps before its first look behind the lock is forgotten.
-abbrev pub maps_looked : (header : Option HeaderView) → SiteId → (image : ℕ) → List ImageMaps → List ImageMaps
-maps_looked None site image maps = maps_told site image unmapped maps
-maps_looked (Some h) site image maps = maps
+abbrev pub unmark : ImageMaps → ImageMaps
+unmark m = record m { known = record m.known { raised = [] } }
 
-abbrev pub maps_owned : Option Own → SiteId → (image : ℕ) → List ImageMaps → List ImageMaps
-maps_owned None site image maps = maps
-maps_owned (Some o) site image maps = maps_looked o.header site image maps
+abbrev pub unmarked : List ImageMaps → List ImageMaps
+unmarked = map unmark
+
+-- At its first look behind the lock all is forgotten that it was told of the image's maps, that it
+-- knew of objects by its own changes, and that it waited for before.
+abbrev pub afresh : SiteId → (image : ℕ) → Knowledge → Knowledge
+afresh site image k = record k { turn = None; maps = maps_told site image unmapped (unmarked k.maps); objects = [] }
+
+abbrev pub looked_by : (header : Option HeaderView) → SiteId → (image : ℕ) → Knowledge → Knowledge
+looked_by None site image k = afresh site image k
+looked_by (Some h) site image k = k
+
+abbrev pub looked_owning : Option Own → SiteId → (image : ℕ) → Knowledge → Knowledge
+looked_owning None site image k = k
+looked_owning (Some o) site image k = looked_by o.header site image k
 
 abbrev pub looked_behind : SiteId → (image : ℕ) → Knowledge → Knowledge
-looked_behind site image k = record k { maps = maps_owned (own_of k.owns site image) site image k.maps }
+looked_behind site image k = looked_owning (own_of k.owns site image) site image k
 
 -- The first look behind the lock tells the header. Later ones tell nothing new.
 abbrev pub first_told : HeaderView → Option HeaderView → Option HeaderView
@@ -192,6 +240,34 @@ learned_of_map k site image (states.Set view object state) answer.Done =
 learned_of_map k site image (states.Remove view) answer.Done = with_maps site image (λ m. unmapped) k
 learned_of_map k site image _ _ = k
 
+-- ---- objects of the head
+
+abbrev pub with_objects : SiteId → (image : ℕ) → (ObjectsKnown → ObjectsKnown) → Knowledge → Knowledge
+with_objects site image change k =
+    record k { objects = record { site = site; image = image; known = change (objects_of k.objects site image) } ∷ k.objects }
+
+-- it may be there, and have any bytes
+abbrev pub forgotten : (object : ℕ) → ObjectsKnown → ObjectsKnown
+forgotten object o = record { absent = filter (λ x. not (x == object)) o.absent; blank = filter (λ b. not (b.object == object)) o.blank }
+
+-- some of its places became zeros
+abbrev pub blanked : (object : ℕ) → Option (List Part) → ObjectsKnown → ObjectsKnown
+blanked object parts o = record o { blank = record { object = object; parts = parts } ∷ o.blank }
+
+-- it went
+abbrev pub removed : (object : ℕ) → ObjectsKnown → ObjectsKnown
+removed object o = blanked object None (record o { absent = object ∷ o.absent })
+
+-- A change of an object tells what it is then.
+abbrev pub learned_of_object : Knowledge → SiteId → (image number : ℕ) → DataOp → Answer → Knowledge
+learned_of_object k site image number (object.Write context must parts bytes) answer.Done = with_objects site image (forgotten number) k
+learned_of_object k site image number (object.WriteFull context bytes) answer.Done = with_objects site image (forgotten number) k
+learned_of_object k site image number (object.CopyUp bytes) answer.Done = with_objects site image (forgotten number) k
+learned_of_object k site image number (object.Zero context must parts) answer.Done = with_objects site image (blanked number (Some parts)) k
+learned_of_object k site image number (object.Empty context) answer.Done = with_objects site image (λ o. blanked number None (forgotten number o)) k
+learned_of_object k site image number (object.Remove context) answer.Done = with_objects site image (removed number) k
+learned_of_object k site image number _ _ = k
+
 abbrev pub learned_of_listing : Knowledge → SiteId → Instance → Answer → Knowledge
 learned_of_listing k site i answer.Done = with_fence site i k
 learned_of_listing k site i _ = k
@@ -200,9 +276,27 @@ abbrev pub learned_of_directory : Knowledge → SiteId → DirectoryOp → Answe
 learned_of_directory k site (directory.Add name) (answer.Id image) = with_drawn site image k
 learned_of_directory k site _ _ = k
 
+-- without what it knows of an image
+abbrev pub left : SiteId → (image : ℕ) → List Own → List Own
+left site image owns = filter (λ o. not (is_at site image o.site o.image)) owns
+
+-- the head's map is there, and nothing else is known
+abbrev pub only_there : MapsKnown
+only_there = record { raised = []; states = None; count = Some 0; put = None }
+
+-- An image without a header is nobody's any more. The map of its head is still there.
+abbrev pub removed_header : SiteId → (image : ℕ) → Knowledge → Knowledge
+removed_header site image k = record k {
+  owns = left site image k.owns;
+  maps = maps_told site image only_there k.maps;
+  gone = record { site = site; image = image } ∷ k.gone;
+}
+
 abbrev pub learned_of_header : Knowledge → SiteId → (image : ℕ) → HeaderOp → Answer → Knowledge
 learned_of_header k site image header.Get (answer.Header h) = header_told site image (first_told h) (looked_behind site image k)
 learned_of_header k site image (header.Create view) answer.Done = without_drawn site image k
+learned_of_header k site image (header.SetSize to) answer.Done = header_told site image (option_map (with_size to)) k
+learned_of_header k site image header.Remove answer.Done = removed_header site image k
 learned_of_header k site image (header.SnapAdd name) (answer.Snap snap) = header_told site image (option_map (with_snap name)) k
 learned_of_header k site image (header.SnapRemove snap) answer.Done = header_told site image (option_map (without_snap snap)) k
 learned_of_header k site image (header.LockBreak owner) answer.Done = without_fence site owner k
@@ -213,30 +307,23 @@ learned_of_header k site image _ _ = k
 abbrev pub learned : Knowledge → SiteId → Op → Answer → Knowledge
 learned k site (op.Directory o) a = learned_of_directory k site o a
 learned k site (op.Header image o) a = learned_of_header k site image o a
+learned k site (op.Data image number o) a = learned_of_object k site image number o a
 learned k site (op.BlockAdd instance) a = learned_of_listing k site instance a
 learned k site (op.Map image o) a = learned_of_map k site image o a
 learned k site _ a = k
 
 -- ---- what a wait teaches
 
-abbrev pub left : SiteId → (image : ℕ) → List Own → List Own
-left site image owns = filter (λ o. not (is_at site image o.site o.image)) owns
-
 -- What it knew of the image before it has the lock is forgotten.
 abbrev pub held : Knowledge → SiteId → (image : ℕ) → List Own
 held k site image = record { site = site; image = image; alone = k.alone; header = None } ∷ left site image k.owns
 
-abbrev pub unmark : ImageMaps → ImageMaps
-unmark m = record m { known = record m.known { raised = [] } }
-
-abbrev pub unmarked : List ImageMaps → List ImageMaps
-unmarked = map unmark
-
 -- What is known once it may go on. A turn lasts up to the next, or up to the end of its event, and
--- the marks that were made in it as long: another request may lower a state in its own turn.
+-- what it knows of an object by its own changes as long: another request may lower a state, or
+-- change the object, in its own turn.
 abbrev pub passed : Knowledge → Wait → Knowledge
 passed k (wait.Join site image alone) = record k { alone = alone }
-passed k (wait.Hold site image) = record k { owns = held k site image }
-passed k (wait.Turn object) = record k { turn = Some object; maps = unmarked k.maps }
-passed k (wait.Applied site image) = record k { turn = None; maps = unmarked k.maps }
+passed k (wait.Hold site image) = record k { owns = held k site image; objects = [] }
+passed k (wait.Turn object) = record k { turn = Some object; maps = unmarked k.maps; objects = [] }
+passed k (wait.Applied site image) = record k { turn = None; maps = unmarked k.maps; objects = [] }
 passed k (wait.Leave site image) = record k { owns = left site image k.owns }

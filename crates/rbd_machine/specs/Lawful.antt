@@ -1,18 +1,26 @@
 -- Requests that do only what they may by what they know.
-use Rattle.std.specs.Prelude.{◌≡◌}
+use Rattle.std.specs.Prelude.{◌≡◌, true}
 use Rattle.rbd_kinds.specs.declared.answer.Answer.{Answer}
 use Rattle.rbd_kinds.specs.declared.machine.Fed.{Fed}
 use Rattle.rbd_kinds.specs.declared.machine.Fed.TheVariants as fed
-use Rattle.rbd_machine.specs.Answers.{CanGive}
+use Rattle.rbd_kinds.specs.AnswerForm.{IsInForm}
+use Rattle.rbd_machine.specs.Answers.{gives}
 use Rattle.rbd_machine.specs.Knowledge.{Knowledge, nothing_known, learned, passed}
 use Rattle.rbd_machine.specs.Label.{Label}
 use Rattle.rbd_machine.specs.Permits.{Permits}
 use Rattle.rbd_machine.specs.Plan.{Plan, Ask, Await, Note, Return, Goto, Standing}
+use Rattle.rbd_machine.specs.Standalone.{TellsStandalone}
+
+-- What an operation can give as long as no image has a parent or a journal.
+pub record CanTell (o : Op) (a : Answer) : Type 0 where
+  pub word : gives o a ≡ true
+  pub form : IsInForm o a
+  pub standalone : TellsStandalone a
 
 -- Each operation is permitted by what is known there, whatever those before it were answered of
--- what they can give. A label is gone to with what is known at it.
+-- what they can tell. A label is gone to with what is known at it.
 abbrev pub IsLawful : (at : Label → Knowledge) → Knowledge → Plan → Type 0
-IsLawful at k (Ask site why op next) = Permits k site op × ((answer : Answer) → CanGive op answer → IsLawful at (learned k site op answer) (next answer))
+IsLawful at k (Ask site why op next) = Permits k site op × ((answer : Answer) → CanTell op answer → IsLawful at (learned k site op answer) (next answer))
 IsLawful at k (Await wait next) = IsLawful at (passed k wait) next
 IsLawful at k (Note site image event next) = IsLawful at k next
 IsLawful at k (Return reply) = Unit {0}

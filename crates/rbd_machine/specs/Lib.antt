@@ -7,6 +7,7 @@ pub mod Steps
 pub mod Objects
 pub mod Path
 pub mod Passes
+pub mod Standalone
 pub mod Turns
 pub mod Approach
 pub mod Knowledge

@@ -1,12 +1,13 @@
 -- What a request may do by what it knows. An operation that no request does yet isn't permitted:
 -- its row comes with the first request that does it. No image has a parent or a journal yet, so
 -- nothing is said of these either.
-use Rattle.std.specs.Prelude.{◌≡◌, ℕ, ◌+◌, ◌*◌, ◌^◌, ◌<◌, ◌≤◌, Bool, true, false, List, All, length, Option, Some, None}
+use Rattle.std.specs.Prelude.{◌≡◌, ◌⊎◌, ℕ, ◌+◌, ◌*◌, ◌^◌, ◌<◌, ◌≤◌, Bool, true, false, List, [], All, Any, length, slice_index, Option, Some, None, IsSome}
 use Rattle.rbd_kinds.specs.declared.data_op.DataOp.{DataOp}
 use Rattle.rbd_kinds.specs.declared.data_op.DataOp.TheVariants as object
 use Rattle.rbd_kinds.specs.declared.directory_op.DirectoryOp.{DirectoryOp}
 use Rattle.rbd_kinds.specs.declared.directory_op.DirectoryOp.TheVariants as directory
 use Rattle.rbd_kinds.specs.declared.header.HeaderView.{HeaderView}
+use Rattle.rbd_kinds.specs.declared.header.ParentLink.{ParentLink}
 use Rattle.rbd_kinds.specs.declared.header.SnapContext.{SnapContext}
 use Rattle.rbd_kinds.specs.declared.header.SnapStatus.TheVariants.{Unprotected}
 use Rattle.rbd_kinds.specs.declared.header.SnapView.{SnapView}
@@ -19,15 +20,15 @@ use Rattle.rbd_kinds.specs.declared.map_op.MapOp.{MapOp}
 use Rattle.rbd_kinds.specs.declared.map_op.MapOp.TheVariants as states
 use Rattle.rbd_kinds.specs.declared.operation.Op.{Op}
 use Rattle.rbd_kinds.specs.declared.operation.Op.TheVariants as op
-use Rattle.rbd_kinds.specs.Form.{IsNewHeader}
+use Rattle.rbd_kinds.specs.Form.{HasFewObjects, IsNewHeader}
 use Rattle.rbd_kinds.specs.Header.{snap_named}
 use Rattle.rbd_kinds.specs.Parts.{parts_len}
 use Rattle.rbd_kinds.specs.States.{HoldStates}
-use Rattle.rbd_kinds.specs.Striping.{object_of}
+use Rattle.rbd_kinds.specs.Striping.{byte_at, object_of, offset_of}
 use Rattle.rbd_header.specs.Header.{context_of, is_full, snap_in}
-use Rattle.rbd_layout.specs.Pieces.{IsPart}
+use Rattle.rbd_layout.specs.Pieces.{IsIn, IsPart}
 use Rattle.rbd_map.specs.States.{states_of}
-use Rattle.rbd_machine.specs.Knowledge.{Knowledge, MapsKnown, own_of, is_drawn, is_fenced_by, is_raised, maps_of}
+use Rattle.rbd_machine.specs.Knowledge.{Knowledge, MapsKnown, ObjectsKnown, own_of, is_absent, is_drawn, is_fenced_by, is_gone, is_raised, maps_of, objects_of}
 
 -- It has the image's lock, and by its own look, with its own changes since, the header meets a
 -- condition.
@@ -53,11 +54,19 @@ pub record IsMappedFor (m : MapsKnown) (layout : Layout) (size : ℕ) : Type 0 w
   pub known : m.count ≡ Some count
   pub room : HasRoomFor layout size count
 
+-- The object's state in the head's map isn't 0: this request set it.
+abbrev pub HasState : MapsKnown → (number : ℕ) → Type 0
+HasState m number = is_raised None number m.raised ≡ true
+
 -- The id was drawn by it, so that nobody else knows the image, and the map has at most 2^20
 -- objects.
 pub record MayMakeMap (k : Knowledge) (site : SiteId) (image count : ℕ) : Type 0 where
   pub drawn : is_drawn k.drawn site image ≡ true
   pub few : count ≤ 2 ^ 20
+
+-- The map of an image's head becomes longer, by who made the image and by who is alone on it.
+abbrev pub MayLengthen : Knowledge → SiteId → (image count : ℕ) → Type 0
+MayLengthen k site image count = MayMakeMap k site image count ⊎ OwnsAlone k site image (λ h. count ≤ 2 ^ 20)
 
 -- A map of the next snapshot is put, with the states of the head that it was told.
 pub record MayPut (m : MapsKnown) (snap : ℕ) (bits : List ℕ) (h : HeaderView) : Type 0 where
@@ -75,6 +84,27 @@ pub record MayMake (k : Knowledge) (site : SiteId) (image : ℕ) (view : HeaderV
   pub no_parent : view.parent ≡ None
   pub no_journal : view.journal ≡ false
   pub mapped : IsMappedFor (maps_of k.maps site image) view.layout view.size
+
+-- An image byte is zero in its object, by what is known: the object isn't there by its state in the
+-- head's map, or was zeroed there.
+pub record IsZeroByState (m : MapsKnown) (h : HeaderView) (x : ℕ) : Type 0 where
+  pub states : List ℕ
+  pub told : m.states ≡ Some states
+  pub none : slice_index states (object_of h.layout x) ≡ 0
+
+abbrev pub IsAmong : Option (List Part) → (x : ℕ) → Type 0
+IsAmong None x = Unit {0}
+IsAmong (Some parts) x = Any (IsIn x) parts
+
+abbrev pub IsZeroByChange : ObjectsKnown → HeaderView → (x : ℕ) → Type 0
+IsZeroByChange o h x = Any (λ b. (b.object ≡ object_of h.layout x) × IsAmong b.parts x) o.blank
+
+-- The size keeps its limits. Where it grows, the head's map has the new objects; where it shrinks,
+-- the bytes that go are zeros, so that an image which grows again shows zeros there.
+pub record MaySize (m : MapsKnown) (o : ObjectsKnown) (to : ℕ) (h : HeaderView) : Type 0 where
+  pub few : HasFewObjects h.layout to
+  pub mapped : h.size < to → IsMappedFor m h.layout to
+  pub zeroed : (x : ℕ) → to ≤ x → x < h.size → IsZeroByState m h x ⊎ IsZeroByChange o h x
 
 -- The name isn't listed, and one more snapshot can be. The snapshot's map was put.
 pub record MayTake (m : MapsKnown) (name : List ℕ) (h : HeaderView) : Type 0 where
@@ -114,28 +144,75 @@ pub record MayWrite (m : MapsKnown) (turn : Option ℕ) (number : ℕ) (context 
   pub within : All (LiesBelow h number) parts
   pub long : length bytes ≡ parts_len parts
   pub at_turn : HasTurn alone turn number
-  pub raised : is_raised None number m.raised ≡ true
+  pub raised : HasState m number
 
--- The state of an object of the size is raised in the head's map, at the turn.
-pub record MayRaise (turn : Option ℕ) (number state : ℕ) (alone : Bool) (h : HeaderView) : Type 0 where
-  pub within : (x : ℕ) × (x < h.size) × (object_of h.layout x ≡ number)
+-- the object has bytes of the size
+abbrev pub IsObjectOf : HeaderView → (number : ℕ) → Type 0
+IsObjectOf h number = (x : ℕ) × (x < h.size) × (object_of h.layout x ≡ number)
+
+-- The state of an object of the size is set in the head's map, at the turn: to 0 only where the
+-- object isn't there.
+pub record MaySet (o : ObjectsKnown) (turn : Option ℕ) (number state : ℕ) (alone : Bool) (h : HeaderView) : Type 0 where
+  pub within : IsObjectOf h number
   pub at_turn : HasTurn alone turn number
-  pub raises : 0 < state
   pub is_state : state < 3
+  pub lowers : state ≡ 0 → is_absent number o.absent ≡ true
+
+-- Parts become zeros, which makes no object that isn't there.
+pub record MayZero (turn : Option ℕ) (number : ℕ) (context : SnapContext) (parts : List Part) (alone : Bool) (h : HeaderView) : Type 0 where
+  pub under : context ≡ context_of h
+  pub within : All (LiesBelow h number) parts
+  pub at_turn : HasTurn alone turn number
+
+-- All bytes of an object become zeros, and it stays, behind its state in the head's map.
+pub record MayEmpty (m : MapsKnown) (turn : Option ℕ) (number : ℕ) (context : SnapContext) (alone : Bool) (h : HeaderView) : Type 0 where
+  pub under : context ≡ context_of h
+  pub within : IsObjectOf h number
+  pub at_turn : HasTurn alone turn number
+  pub raised : HasState m number
+
+-- no byte of the object is inside the overlap
+abbrev pub IsOutside : HeaderView → (number : ℕ) → Type 0
+IsOutside h number = (link : ParentLink) → h.parent ≡ Some link → link.overlap ≤ byte_at h.layout number 0
+
+-- An object goes, unless its parent's bytes would show then.
+pub record MayRemoveObject (turn : Option ℕ) (number : ℕ) (context : SnapContext) (alone : Bool) (h : HeaderView) : Type 0 where
+  pub under : context ≡ context_of h
+  pub within : IsObjectOf h number
+  pub at_turn : HasTurn alone turn number
+  pub outside : IsOutside h number
+
+-- An object becomes these bytes, of which those past the size are zeros, behind its state.
+pub record MayReplace (m : MapsKnown) (turn : Option ℕ) (number : ℕ) (context : SnapContext) (bytes : List ℕ) (alone : Bool) (h : HeaderView) : Type 0 where
+  pub under : context ≡ context_of h
+  pub within : IsObjectOf h number
+  pub at_turn : HasTurn alone turn number
+  pub raised : HasState m number
+  pub long : length bytes ≤ h.layout.object
+  pub clear : (x : ℕ) → h.size ≤ x → object_of h.layout x ≡ number → slice_index bytes (offset_of h.layout x) ≡ 0
+
+-- What is left of an image that it removed may go: it owns it no more.
+pub record IsLeftOver (k : Knowledge) (site : SiteId) (image : ℕ) : Type 0 where
+  pub gone : is_gone k.gone site image ≡ true
+  pub unowned : own_of k.owns site image ≡ None
 
 -- ---- all operations
 
-abbrev pub PermitsOnDirectory : DirectoryOp → Type 0
-PermitsOnDirectory (directory.Find name) = Unit {0}
-PermitsOnDirectory (directory.Add name) = Unit {0}
-PermitsOnDirectory directory.List = Unit {0}
-PermitsOnDirectory _ = ⊥
+-- A name is freed by who is alone on its image.
+abbrev pub PermitsOnDirectory : Knowledge → SiteId → DirectoryOp → Type 0
+PermitsOnDirectory k site (directory.Find name) = Unit {0}
+PermitsOnDirectory k site (directory.Add name) = Unit {0}
+PermitsOnDirectory k site (directory.Rename from to) = Unit {0}
+PermitsOnDirectory k site (directory.Remove image) = OwnsAlone k site image (λ h. Unit {0})
+PermitsOnDirectory k site directory.List = Unit {0}
 
 -- A lock is broken only behind the fence of its owner (Ceph), so that nothing which the owner may
 -- still send can do anything.
 abbrev pub PermitsOnHeader : Knowledge → SiteId → (image : ℕ) → HeaderOp → Type 0
 PermitsOnHeader k site image header.Get = Unit {0}
 PermitsOnHeader k site image (header.Create view) = MayMake k site image view
+PermitsOnHeader k site image (header.SetSize to) = OwnsAlone k site image (MaySize (maps_of k.maps site image) (objects_of k.objects site image) to)
+PermitsOnHeader k site image header.Remove = OwnsAlone k site image (λ h. h.snaps ≡ [])
 PermitsOnHeader k site image (header.SnapAdd name) = OwnsAlone k site image (MayTake (maps_of k.maps site image) name)
 PermitsOnHeader k site image (header.SnapRemove snap) = OwnsAlone k site image (MayRemove snap)
 PermitsOnHeader k site image header.LockTake = Unit {0}
@@ -150,19 +227,25 @@ PermitsOnHeader k site image _ = ⊥
 abbrev pub PermitsOnObject : Knowledge → SiteId → (image number : ℕ) → DataOp → Type 0
 PermitsOnObject k site image number (object.Read snap parts) = Unit {0}
 PermitsOnObject k site image number (object.Write context must parts bytes) = OwnsBy k site image (MayWrite (maps_of k.maps site image) k.turn number context parts bytes)
-PermitsOnObject k site image number _ = ⊥
+PermitsOnObject k site image number (object.Zero context must parts) = OwnsBy k site image (MayZero k.turn number context parts)
+PermitsOnObject k site image number (object.Empty context) = OwnsBy k site image (MayEmpty (maps_of k.maps site image) k.turn number context)
+PermitsOnObject k site image number (object.Remove context) = IsLeftOver k site image ⊎ OwnsBy k site image (MayRemoveObject k.turn number context)
+PermitsOnObject k site image number (object.WriteFull context bytes) = OwnsBy k site image (MayReplace (maps_of k.maps site image) k.turn number context bytes)
+PermitsOnObject k site image number (object.CopyUp bytes) = ⊥
 
--- The map of a snapshot is removed once the header doesn't list the snapshot.
+-- The map of a snapshot is removed once the header doesn't list the snapshot, and all maps of an
+-- image that is gone: that of its head where it is known to be there still.
 abbrev pub PermitsOnMap : Knowledge → SiteId → (image : ℕ) → MapOp → Type 0
-PermitsOnMap k site image (states.Resize count) = MayMakeMap k site image count
+PermitsOnMap k site image (states.Resize count) = MayLengthen k site image count
 PermitsOnMap k site image (states.Get view) = Unit {0}
 PermitsOnMap k site image (states.Put (Some snap) bits) = OwnsAlone k site image (MayPut (maps_of k.maps site image) snap bits)
-PermitsOnMap k site image (states.Set None object state) = OwnsBy k site image (MayRaise k.turn object state)
-PermitsOnMap k site image (states.Remove (Some snap)) = OwnsAlone k site image (λ h. snap_in h.snaps snap ≡ None)
+PermitsOnMap k site image (states.Set None object state) = OwnsBy k site image (MaySet (objects_of k.objects site image) k.turn object state)
+PermitsOnMap k site image (states.Remove None) = IsLeftOver k site image × IsSome (maps_of k.maps site image).count
+PermitsOnMap k site image (states.Remove (Some snap)) = IsLeftOver k site image ⊎ OwnsAlone k site image (λ h. snap_in h.snaps snap ≡ None)
 PermitsOnMap k site image _ = ⊥
 
 abbrev pub Permits : Knowledge → SiteId → Op → Type 0
-Permits k site (op.Directory o) = PermitsOnDirectory o
+Permits k site (op.Directory o) = PermitsOnDirectory k site o
 Permits k site (op.Header image o) = PermitsOnHeader k site image o
 Permits k site (op.Data image number o) = PermitsOnObject k site image number o
 Permits k site (op.BlockAdd instance) = Unit {0}

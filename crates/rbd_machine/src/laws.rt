@@ -1,15 +1,17 @@
 //! What plans mean: laws, each the contract of a function that does nothing.
-ghost use Rattle.std.specs.Prelude.{◌≡◌, ◌≢◌, ℕ, ◌≤◌, ◌+◌, ◌*◌, List, length, Bool, true, false, IsFalse, Option, Some, None};
-ghost use Rattle.rbd_kinds.specs.declared.data_op.DataOp.TheVariants.{Write};
+ghost use Rattle.std.specs.Prelude.{◌≡◌, ◌≢◌, ℕ, ◌<◌, ◌≤◌, ◌+◌, ◌*◌, List, length, Bool, true, false, IsFalse, Option, Some, None};
+ghost use Rattle.rbd_kinds.specs.declared.data_op.DataOp.TheVariants.{Empty, Remove, Write, WriteFull, Zero};
+ghost use Rattle.rbd_kinds.specs.declared.directory_op.DirectoryOp.TheVariants.{Remove as FreeName};
 ghost use Rattle.rbd_kinds.specs.declared.header.SnapContext.{SnapContext};
 ghost use Rattle.rbd_kinds.specs.declared.header.SnapStatus.TheVariants.{Unprotected};
 ghost use Rattle.rbd_kinds.specs.declared.header.SnapView.{SnapView};
-ghost use Rattle.rbd_kinds.specs.declared.header_op.HeaderOp.TheVariants.{Create, LockBreak, LockDrop, SnapAdd, SnapRemove};
+ghost use Rattle.rbd_kinds.specs.declared.header_op.HeaderOp.TheVariants.{Create, LockBreak, LockDrop, Remove as RemoveHeader, SetSize, SnapAdd, SnapRemove};
 ghost use Rattle.rbd_kinds.specs.declared.layout.Part.{Part};
+ghost use Rattle.rbd_kinds.specs.declared.map_op.MapOp.TheVariants.{Remove as RemoveMap, Set};
 ghost use Rattle.rbd_kinds.specs.declared.operation.Op.{Op};
-ghost use Rattle.rbd_kinds.specs.declared.operation.Op.TheVariants.{BlockAdd, Data, Header};
+ghost use Rattle.rbd_kinds.specs.declared.operation.Op.TheVariants.{BlockAdd, Data, Directory, Header, Map};
 ghost use Rattle.rbd_header.specs.Header.{context_of, snap_in};
-ghost use Rattle.rbd_machine.specs.Knowledge.{Knowledge, is_fenced_by, is_raised, learned, maps_of, own_of, same_site};
+ghost use Rattle.rbd_machine.specs.Knowledge.{Knowledge, is_absent, is_fenced_by, is_gone, is_raised, learned, maps_of, objects_of, only_there, own_of, same_site};
 ghost use Rattle.rbd_machine.specs.Permits.{Permits};
 ghost use Rattle.rbd_kinds.specs.declared.header.HeaderView.{HeaderView};
 ghost use Rattle.rbd_kinds.specs.declared.id.Instance.{Instance};
@@ -27,6 +29,7 @@ ghost use Rattle.rbd_machine.specs.Plan.{Plan, Ask, IsAsking, IsLive, IsNoting, 
 ghost use Rattle.rbd_machine.specs.declared.reason.Reason.{Reason};
 ghost use Rattle.rbd_machine.specs.Path.{Answered, IsPath, IsPass, IsWalk, IsBounded};
 ghost use Rattle.rbd_machine.specs.Passes.{EndsInPass, jumps};
+ghost use Rattle.rbd_machine.specs.Standalone.{IsFedStandalone};
 ghost use Rattle.rbd_machine.specs.Steps.{change};
 
 /// A request that wants an operation has one to ask for, and one that wants an event noted has that
@@ -70,15 +73,31 @@ pub fn changes_look_twice()
         → ((image : ℕ) (h : HeaderView) → IsBounded (act image h) n) → IsBounded (change site name alone refuses act) (n + 3) }
 {}
 
-/// What a request doesn't own by a look of its own it may not change: no bytes are written, and no
-/// snapshot is taken or removed, before the look behind the lock, whatever was told before.
+/// What a request doesn't own by a look of its own it may not change, whatever was told before: no
+/// bytes are written, cleared or replaced, no size is set, no snapshot is taken or removed, no name
+/// is freed and no header removed, before the look behind the lock. An object is removed with its
+/// image, or by who owns that.
 pub fn what_is_not_owned_is_left()
     ensures bytes { (k : Knowledge) (site : SiteId) (image number : ℕ) (context : SnapContext) (must : Bool) (parts : List Part) (bytes : List ℕ)
         → own_of k.owns site image ≡ None → Permits k site (Data image number (Write context must parts bytes)) → ⊥ }
+    ensures zeros { (k : Knowledge) (site : SiteId) (image number : ℕ) (context : SnapContext) (must : Bool) (parts : List Part)
+        → own_of k.owns site image ≡ None → Permits k site (Data image number (Zero context must parts)) → ⊥ }
+    ensures emptying { (k : Knowledge) (site : SiteId) (image number : ℕ) (context : SnapContext)
+        → own_of k.owns site image ≡ None → Permits k site (Data image number (Empty context)) → ⊥ }
+    ensures replacing { (k : Knowledge) (site : SiteId) (image number : ℕ) (context : SnapContext) (bytes : List ℕ)
+        → own_of k.owns site image ≡ None → Permits k site (Data image number (WriteFull context bytes)) → ⊥ }
+    ensures object { (k : Knowledge) (site : SiteId) (image number : ℕ) (context : SnapContext)
+        → own_of k.owns site image ≡ None → is_gone k.gone site image ≡ false → Permits k site (Data image number (Remove context)) → ⊥ }
+    ensures size { (k : Knowledge) (site : SiteId) (image to : ℕ)
+        → own_of k.owns site image ≡ None → Permits k site (Header image (SetSize to)) → ⊥ }
     ensures taking { (k : Knowledge) (site : SiteId) (image : ℕ) (name : List ℕ)
         → own_of k.owns site image ≡ None → Permits k site (Header image (SnapAdd name)) → ⊥ }
     ensures removing { (k : Knowledge) (site : SiteId) (image snap : ℕ)
         → own_of k.owns site image ≡ None → Permits k site (Header image (SnapRemove snap)) → ⊥ }
+    ensures name { (k : Knowledge) (site : SiteId) (image : ℕ)
+        → own_of k.owns site image ≡ None → Permits k site (Directory (FreeName image)) → ⊥ }
+    ensures header { (k : Knowledge) (site : SiteId) (image : ℕ)
+        → own_of k.owns site image ≡ None → Permits k site (Header image RemoveHeader) → ⊥ }
 {}
 
 /// By its own look a request may not write under another snapshot context than that look's, nor
@@ -93,15 +112,34 @@ pub fn the_own_look_decides()
         → Permits k site (Header image (SnapRemove snap)) → ⊥ }
 {}
 
-/// Maps come first: bytes are written behind the state of their object, a snapshot is taken behind
-/// its map, and an image is made behind its own.
+/// Maps come first: bytes are written, and an object emptied or replaced, behind the state of their
+/// object, a snapshot is taken behind its map, an image is made behind its own, and it grows behind
+/// a longer one. Only a state goes down behind its object.
 pub fn maps_come_first()
     ensures bytes { (k : Knowledge) (site : SiteId) (image number : ℕ) (context : SnapContext) (must : Bool) (parts : List Part) (bytes : List ℕ)
         → is_raised None number (maps_of k.maps site image).raised ≡ false → Permits k site (Data image number (Write context must parts bytes)) → ⊥ }
+    ensures emptying { (k : Knowledge) (site : SiteId) (image number : ℕ) (context : SnapContext)
+        → is_raised None number (maps_of k.maps site image).raised ≡ false → Permits k site (Data image number (Empty context)) → ⊥ }
+    ensures replacing { (k : Knowledge) (site : SiteId) (image number : ℕ) (context : SnapContext) (bytes : List ℕ)
+        → is_raised None number (maps_of k.maps site image).raised ≡ false → Permits k site (Data image number (WriteFull context bytes)) → ⊥ }
+    ensures lowering { (k : Knowledge) (site : SiteId) (image number : ℕ)
+        → is_absent number (objects_of k.objects site image).absent ≡ false → Permits k site (Map image (Set None number 0)) → ⊥ }
     ensures taking { (k : Knowledge) (site : SiteId) (image : ℕ) (name : List ℕ)
         → (maps_of k.maps site image).put ≡ None → Permits k site (Header image (SnapAdd name)) → ⊥ }
     ensures making { (k : Knowledge) (site : SiteId) (image : ℕ) (view : HeaderView)
         → (maps_of k.maps site image).count ≡ None → Permits k site (Header image (Create view)) → ⊥ }
+    ensures growing { (k : Knowledge) (site : SiteId) (image to : ℕ) (alone : Bool) (h : HeaderView)
+        → own_of k.owns site image ≡ Some (record { site = site; image = image; alone = alone; header = Some h }) → h.size < to
+        → (maps_of k.maps site image).count ≡ None → Permits k site (Header image (SetSize to)) → ⊥ }
+{}
+
+/// Who removed a header knows that it is gone, owns the image no more, and knows that the head's map
+/// is there until it removes that too.
+pub fn a_removed_header_leaves_its_map()
+    ensures gone { (k : Knowledge) (site : SiteId) (image : ℕ) → is_gone (learned k site (Header image RemoveHeader) Done).gone site image ≡ true }
+    ensures unowned { (k : Knowledge) (site : SiteId) (image : ℕ) → own_of (learned k site (Header image RemoveHeader) Done).owns site image ≡ None }
+    ensures map { (k : Knowledge) (site : SiteId) (image : ℕ) → maps_of (learned k site (Header image RemoveHeader) Done).maps site image ≡ only_there }
+    ensures once { (k : Knowledge) (site : SiteId) (image : ℕ) → Permits (learned k site (Map image (RemoveMap None)) Done) site (Map image (RemoveMap None)) → ⊥ }
 {}
 
 /// A lock is broken only by one that has put its owner into the site's blocklist. It is given up
@@ -133,10 +171,10 @@ pub fn fences_serve_once()
 {}
 
 /// A lawful request asks only for what it may by what it knows, and stays lawful by what it then
-/// knows, whatever it is fed.
+/// knows, whatever it is fed, as long as no header that it is told has a parent or a journal.
 pub fn lawful_requests_stay_lawful()
     ensures asks { (at : Label → Knowledge) (k : Knowledge) (site : SiteId) (why : Reason) (op : Op) (next : Answer → Plan)
         → IsLawful at k (Ask site why op next) → Permits k site op }
     ensures stays { (labels : Label → Plan) (at : Label → Knowledge) → ((label : Label) → IsLawful at (at label) (labels label))
-        → (k : Knowledge) (plan : Plan) (f : Fed) → CanBeFed plan f → IsLawful at k plan → IsLawful at (known_after k plan f) (settled labels (plan_after plan f)) }
+        → (k : Knowledge) (plan : Plan) (f : Fed) → CanBeFed plan f → IsFedStandalone f → IsLawful at k plan → IsLawful at (known_after k plan f) (settled labels (plan_after plan f)) }
 {}

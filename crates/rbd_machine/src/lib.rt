@@ -109,6 +109,7 @@ mod looks;
 mod machine;
 mod progress;
 mod reason;
+mod seat;
 mod told;
 
 pub use approach::{Approach, Refuses};
@@ -117,4 +118,5 @@ pub use looks::{dir_find, header_get};
 pub use machine::Machine;
 pub use progress::Progress;
 pub use reason::Reason;
+pub use seat::Seat;
 pub use told::{non_primary, refusal_of, told_done, told_header, told_image};

@@ -4,11 +4,10 @@ use Rattle.rbd_kinds.specs.declared.answer.Answer.{Answer}
 use Rattle.rbd_kinds.specs.declared.answer.Answer.TheVariants as answer
 use Rattle.rbd_kinds.specs.declared.id.Instance.{Instance}
 use Rattle.rbd_kinds.specs.declared.id.SiteId.{SiteId}
-use Rattle.rbd_machine.specs.Answers.{CanGive}
 use Rattle.rbd_machine.specs.Knowledge.{Knowledge, learned, with_fence}
 use Rattle.rbd_machine.specs.Label.{Label}
 use Rattle.rbd_machine.specs.Label as label
-use Rattle.rbd_machine.specs.Lawful.{IsLawful}
+use Rattle.rbd_machine.specs.Lawful.{CanTell, IsLawful}
 use Rattle.rbd_machine.specs.Permits.{HoldsUnlooked}
 use Rattle.rbd_machine.specs.Plan.{Plan}
 use Rattle.rbd_machine.proofs.Fences.{fence_is_known, fence_is_forgotten}
@@ -22,7 +21,7 @@ module _ (at : Label → Knowledge) (site : SiteId) (image : ℕ) (k : Knowledge
   lawful_breaking : (owner : Instance) → IsLawful at (with_fence site owner k) (breaking site image owner)
   lawful_breaking owner = (fence_is_known k site owner, on)
     where
-      on : (a : Answer) → CanGive (lock_break image owner) a → IsLawful at (learned (with_fence site owner k) site (lock_break image owner) a) (on_broken a)
+      on : (a : Answer) → CanTell (lock_break image owner) a → IsLawful at (learned (with_fence site owner k) site (lock_break image owner) a) (on_broken a)
       on answer.Done can = fence_is_forgotten k site owner ∙ at_lock
       on answer.Changed can = fence_is_forgotten k site owner ∙ at_lock
       on a can = lawful_not_there at (with_fence site owner k) a
@@ -40,14 +39,14 @@ module _ (at : Label → Knowledge) (site : SiteId) (image : ℕ) (k : Knowledge
   lawful_looking : (owner : Instance) → IsLawful at k (looking site image owner)
   lawful_looking owner = (tt, on)
     where
-      on : (a : Answer) → CanGive (watchers_get image) a → IsLawful at k (on_watchers site image owner a)
+      on : (a : Answer) → CanTell (watchers_get image) a → IsLawful at k (on_watchers site image owner a)
       on (answer.Instances watchers) can = lawful_by_look owner (is_among watchers owner)
       on a can = lawful_not_there at k a
 
   pub lawful_taking : (next : Plan) → IsLawful at k next → IsLawful at k (taking site image next)
   lawful_taking next lawful = (tt, on)
     where
-      on : (a : Answer) → CanGive (lock_take image) a → IsLawful at k (on_taken site image next a)
+      on : (a : Answer) → CanTell (lock_take image) a → IsLawful at k (on_taken site image next a)
       on answer.Done can = lawful
       on (answer.Held owner) can = lawful_looking owner
       on a can = lawful_not_there at k a

@@ -21,12 +21,13 @@ use Rattle.rbd_piece.specs.Write.{write_piece, writing}
 module _ (at : Label → Knowledge) (k : Knowledge) where
   pub lawful_write : (site : SiteId) (image : ℕ) (h : HeaderView) (piece : Piece) (bytes : List ℕ) (next : Plan)
       → Permits k site (map_exists image piece.object) → Permits (learned k site (map_exists image piece.object) answer.Done) site (data_write image (context_of h) piece bytes)
-      → IsLawful at (learned k site (map_exists image piece.object) answer.Done) next → IsLawful at k (write_piece site image h piece bytes next)
+      → IsLawful at (learned (learned k site (map_exists image piece.object) answer.Done) site (data_write image (context_of h) piece bytes) answer.Done) next
+      → IsLawful at k (write_piece site image h piece bytes next)
   lawful_write site image h piece bytes next may_raise may_write lawful = (
     may_raise,
     λ a can.
         lawful_on_done at (learned k site (map_exists image piece.object)) (writing site image (context_of h) piece bytes next)
-        (may_write, λ b can. lawful_on_done at (λ b. learned k site (map_exists image piece.object) answer.Done) next lawful b) a,
+        (may_write, λ b can. lawful_on_done at (learned (learned k site (map_exists image piece.object) answer.Done) site (data_write image (context_of h) piece bytes)) next lawful b) a,
   )
 
   lawful_on_bytes : (parts : List Part) (next : List ℕ → Plan) → ((bytes : List ℕ) → IsLawful at k (next bytes)) → (a : Answer) → IsLawful at k (on_bytes parts next a)

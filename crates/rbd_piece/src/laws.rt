@@ -38,12 +38,12 @@ pub fn pieces_go_to_no_label()
 
 /// A piece of a write is lawful where it may raise its object's state, and write its bytes once
 /// that is done, given that what comes next is lawful by what is known then: that the state was
-/// raised. A gather is lawful anywhere, and teaches nothing.
+/// raised, and that the object has any bytes. A gather is lawful anywhere, and teaches nothing.
 pub fn pieces_are_lawful()
     ensures write { (at : Label → Knowledge) (k : Knowledge) (site : SiteId) (image : ℕ) (h : HeaderView) (piece : Piece) (bytes : List ℕ) (next : Plan)
         → Permits k site (map_exists image piece.object)
         → Permits (learned k site (map_exists image piece.object) Done) site (data_write image (context_of h) piece bytes)
-        → IsLawful at (learned k site (map_exists image piece.object) Done) next
+        → IsLawful at (learned (learned k site (map_exists image piece.object) Done) site (data_write image (context_of h) piece bytes) Done) next
         → IsLawful at k (write_piece site image h piece bytes next) }
     ensures gather { (at : Label → Knowledge) (k : Knowledge) (site : SiteId) (image : ℕ) (snap : Option ℕ) (pieces : List Piece) (read : List ℕ) (next : List ℕ → Plan)
         → ((bytes : List ℕ) → IsLawful at k (next bytes)) → IsLawful at k (gather site image snap pieces read next) }

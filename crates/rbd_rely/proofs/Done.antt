@@ -1,12 +1,10 @@
--- What is permitted may be done, is answered as it can be, and has its effect.
-use Rattle.std.proofs.Common.{◌≡◌, ℕ, ◌+◌, ◌*◌, ◌^◌, ◌≤◌, ◌||◌, cond, not, Bool, true, false, List, [], ◌∷◌, length, length-append, Option, Some, None, is_some, refl, sym, ap, ◌∙◌, subst, arith, true≢false}
-use Rattle.std.proofs.lemmas.List.Elements.{All-weaker}
+-- What is permitted may be done, and is answered as it can be.
+use Rattle.std.proofs.Common.{◌≡◌, inl, inr, ℕ, ◌+◌, ◌*◌, ◌^◌, ◌≤◌, ◌||◌, cond, not, Bool, true, false, List, [], ◌∷◌, length, length-append, Option, Some, None, is_some, refl, sym, ap, ◌∙◌, subst, arith, true≢false}
 use Rattle.std.proofs.lemmas.Option.{slice_get_within, get_or_from_slice_get}
-use Rattle.std.specs.Prelude.{All, IsFalse}
+use Rattle.std.specs.Prelude.{All, IsFalse, IsSome}
 use Rattle.rbd_layout.proofs.Limits.{shape_of}
 use Rattle.rbd_parts.proofs.ContentsLemmas.{length-window}
 use Rattle.rbd_parts.specs.Contents.{window}
-use Rattle.rbd_kinds.specs.declared.answer.Answer.{Answer}
 use Rattle.rbd_kinds.specs.declared.answer.Answer.TheVariants as answer
 use Rattle.rbd_kinds.specs.declared.data_op.DataOp.{DataOp}
 use Rattle.rbd_kinds.specs.declared.data_op.DataOp.TheVariants as object
@@ -24,55 +22,33 @@ use Rattle.rbd_kinds.specs.declared.map_op.MapOp.{MapOp}
 use Rattle.rbd_kinds.specs.declared.map_op.MapOp.TheVariants as states
 use Rattle.rbd_kinds.specs.declared.operation.Op.{Op}
 use Rattle.rbd_kinds.specs.declared.operation.Op.TheVariants as op
+use Rattle.rbd_kinds.specs.Form.{HasFewObjects}
 use Rattle.rbd_kinds.specs.Parts.{parts_len}
-use Rattle.rbd_kinds.specs.Striping.{IsLayout, byte_at}
-use Rattle.rbd_header.specs.Header.{context_of, snap_in}
+use Rattle.rbd_kinds.specs.Striping.{IsLayout}
 use Rattle.rbd_object.specs.Mapped.{looked}
 use Rattle.rbd_parts.specs.Parts.{AreWithin, parts_of}
 use Rattle.rbd_object.specs.Versioned.{view}
 use Rattle.rbd_parts.specs.declared.parts.TheConstants.{LARGEST_OBJECT}
-use Rattle.rbd_registry.specs.Directory.{id_of}
+use Rattle.rbd_registry.specs.Directory.{holds, id_of}
 use Rattle.rbd_registry.specs.Directory as listing
-use Rattle.rbd_flat.specs.Flat.{Flat, FlatImage, image_at}
-use Rattle.rbd_flat.specs.declared.effect.Effect.{Effect}
-use Rattle.rbd_flat.specs.declared.effect.Effect.TheVariants as effect
 use Rattle.rbd_machine.specs.Answers.{CanGive, gives}
-use Rattle.rbd_machine.specs.Knowledge.{Knowledge, maps_of}
-use Rattle.rbd_machine.specs.Permits.{Permits, PermitsOnHeader, PermitsOnDirectory, PermitsOnMap, PermitsOnObject, OwnsAlone, OwnsBy, MayPut, MayRaise, MayWrite, LiesBelow}
+use Rattle.rbd_machine.specs.Knowledge.{Knowledge, maps_of, objects_of}
+use Rattle.rbd_machine.specs.Permits.{Permits, PermitsOnHeader, PermitsOnMap, PermitsOnObject, IsLeftOver, LiesBelow, MayLengthen, MayPut, MayReplace, MaySet, MaySize, MayWrite, OwnsAlone, OwnsBy}
 use Rattle.rbd_machine.specs.Refused.{IsGiven, finds_image}
 use Rattle.rbd_map.specs.States.{states_of}
 use Rattle.rbd_map.proofs.Packing.{hold_states, length-states_of}
 use Rattle.rbd_site.specs.DataStep.{finds, parts_read}
 use Rattle.rbd_site.specs.DataStep as step
-use Rattle.rbd_site.specs.DirectoryStep.{name_added, image_found}
+use Rattle.rbd_site.specs.DirectoryStep.{name_added, name_changed, image_found}
 use Rattle.rbd_site.specs.Found.{done_where}
-use Rattle.rbd_site.specs.HeaderStep.{header_answer, is_owner, lock_taken, same_instance}
+use Rattle.rbd_site.specs.HeaderStep.{MayDoOnHeader, header_answer, is_owner, lock_taken, same_instance}
 use Rattle.rbd_site.specs.InForm.{AreInForm}
-use Rattle.rbd_site.specs.Laws.{is_look, is_change}
 use Rattle.rbd_site.specs.MapStep.{AreBits, MaySetState, states_told}
 use Rattle.rbd_site.specs.Records.{Records, object_at}
-use Rattle.rbd_site.specs.Step.{MayDo, MayServe, is_fenced, after, answer_to, answer_served}
-use Rattle.rbd_site.specs.declared.done.DoneOp.TheVariants as done
-use Rattle.rbd_site.proofs.GenerationLemmas.{looked_at}
-use Rattle.rbd_site.proofs.StepLemmas.{refused}
-use Rattle.rbd_stands.specs.Condition.{IsContextOf, ArePartsBelow, IsPartBelow, extents_of}
-use Rattle.rbd_stands.specs.Effect.{effect_of, effect_of_op, effect_of_making}
-use Rattle.rbd_stands.specs.Shown.{IsInOverlap, snapshots_of, links_of}
-use Rattle.rbd_stands.specs.Site.{StandsFor, StandsAt}
-use Rattle.rbd_stands.proofs.Contexts.{reversed_context}
-use Rattle.rbd_stands.proofs.DataSteps.{write_stands}
-use Rattle.rbd_stands.proofs.DirectorySteps.{name_stands}
-use Rattle.rbd_stands.proofs.EditSteps.{unnamed}
-use Rattle.rbd_stands.proofs.EffectLemmas.{write_effect}
-use Rattle.rbd_stands.proofs.ImageSteps.{create_stands, snap_stands, unsnap_stands}
-use Rattle.rbd_stands.proofs.NoEffect.{listed_none, look_none, mapped_none, refused_none, unseen_none}
-use Rattle.rbd_stands.proofs.MapSteps.{map_stands}
-use Rattle.rbd_stands.proofs.Served.{fenced_answer, free_answer}
-use Rattle.rbd_stands.proofs.StoreSteps.{listed_stands, unseen_change}
-use Rattle.rbd_stands.specs.Unseen.{is_unseen}
-use Rattle.rbd_rely.specs.Truth.{AreMapped, IsTrueAt, IsParentless, changed_by, is_own_alone}
+use Rattle.rbd_site.specs.Step.{MayDo, MayServe, is_fenced, answer_to, answer_served}
+use Rattle.rbd_rely.specs.Truth.{AreMapped, HasAtLeast, IsCountTrue, IsTrueAt, is_own_alone}
 use Rattle.rbd_rely.proofs.Fenced.{where_free}
-use Rattle.rbd_rely.proofs.Headers.{own_known, owned_there}
+use Rattle.rbd_rely.proofs.Headers.{own_known, owned_there, same_layout}
 use Rattle.rbd_rely.proofs.MapsLearned.{within_map}
 use Rattle.rbd_rely.proofs.Learned.{takes, removes}
 
@@ -87,9 +63,6 @@ within h number parts laid lie k p there =
     let ends = part.part.within in
     let most = small h.layout laid in
     omega (arith, ends, most)
-
-same_layout : (h v : HeaderView) → v ≡ record h { owner = v.owner } → IsLayout v.layout → IsLayout h.layout
-same_layout h v same laid = subst IsLayout (ap (λ (w : HeaderView). w.layout) same) laid
 
 len_of_parts : (parts : List Part) (bytes : List ℕ) → length (parts_of parts bytes) ≡ parts_len parts
 len_of_parts [] bytes = refl
@@ -125,11 +98,24 @@ fence_found o = refl
 
 -- of an instance that isn't fenced
 module _ (site : SiteId) (r : Records) (me : Instance) (k : Knowledge) (most : ℕ) (form : AreInForm r most) (t : IsTrueAt site r me k) (free : IsFalse (is_fenced r me)) where
-  may_write : (image number : ℕ) (context : SnapContext) (parts : List Part) (bytes : List ℕ) → OwnsBy k site image (MayWrite (maps_of k.maps site image) k.turn number context parts bytes) → step.MayWrite parts bytes
+  -- the layout that it knows is one
+  laid : (image : ℕ) (condition : (alone : Bool) → HeaderView → Type 0) (owns : OwnsBy k site image condition) → IsLayout owns.header.layout
+  laid image condition owns =
+      let there = owned_there site r me k image condition t free owns in
+      same_layout owns.header there.view there.same (form.form image there.view there.is).layout
+
+  pub may_write : (image number : ℕ) (context : SnapContext) (parts : List Part) (bytes : List ℕ) → OwnsBy k site image (MayWrite (maps_of k.maps site image) k.turn number context parts bytes) → step.MayWrite parts bytes
   may_write image number context parts bytes owns =
+      record { within = within owns.header number parts (laid image _ owns) owns.meets.within; long = owns.meets.long }
+
+  may_replace : (image number : ℕ) (context : SnapContext) (bytes : List ℕ) → OwnsBy k site image (MayReplace (maps_of k.maps site image) k.turn number context bytes) → length bytes ≤ LARGEST_OBJECT
+  may_replace image number context bytes owns = let long = owns.meets.long in let most = small owns.header.layout (laid image _ owns) in omega (arith, long, most)
+
+  -- a size has few objects
+  may_size : (image to : ℕ) → OwnsAlone k site image (MaySize (maps_of k.maps site image) (objects_of k.objects site image) to) → MayServe r (op.Header image (header.SetSize to))
+  may_size image to owns =
       let there = owned_there site r me k image _ t free owns in
-      let laid : IsLayout owns.header.layout = same_layout owns.header there.view there.same (form.form image there.view there.is).layout in
-      record { within = within owns.header number parts laid owns.meets.within; long = owns.meets.long }
+      subst (λ h. MayDoOnHeader h (header.SetSize to)) (sym there.is) (subst (λ (h : HeaderView). HasFewObjects h.layout to) (sym there.same) owns.meets.1.few)
 
 module _ (site : SiteId) (r : Records) (me : Instance) (k : Knowledge) (most : ℕ) (form : AreInForm r most) (mapped : AreMapped r) (t : IsTrueAt site r me k) (free : IsFalse (is_fenced r me)) where
   -- a map is as long as the states that it is put from
@@ -139,15 +125,20 @@ module _ (site : SiteId) (r : Records) (me : Instance) (k : Knowledge) (most : �
       let are = (t.mapped free image (ap is_some known)).states (ap is_own_alone owns.is ∙ owns.meets.0) (states_of bits (4 * length bits)) owns.meets.1.told in
       record { states = owns.meets.1.hold; long = subst (λ n. n ≤ 2 ^ 20) (length-states_of bits (4 * length bits)) are.few }
 
-  may_set : (image object state : ℕ) → OwnsBy k site image (MayRaise k.turn object state) → (map : Option (List ℕ)) → r.maps image None ≡ map → MaySetState map object state
+  may_set : (image object state : ℕ) → OwnsBy k site image (MaySet (objects_of k.objects site image) k.turn object state) → (map : Option (List ℕ)) → r.maps image None ≡ map → MaySetState map object state
   may_set image object state owns None is = tt
   may_set image object state owns (Some there) is = (within_map site r me k most form mapped t free image object state owns (Some there) is, owns.meets.is_state)
 
   may_on_map : (image : ℕ) (o : MapOp) → PermitsOnMap k site image o → MayServe r (op.Map image o)
-  may_on_map image (states.Resize count) permits = permits.few
+  may_on_map image (states.Resize count) permits = few count permits
+    where
+      few : (count : ℕ) → MayLengthen k site image count → count ≤ 2 ^ 20
+      few count (inl makes) = makes.few
+      few count (inr owns) = owns.meets.1
   may_on_map image (states.Get view) permits = tt
   may_on_map image (states.Put (Some snap) bits) permits = may_put image snap bits permits
   may_on_map image (states.Set None object state) permits = may_set image object state permits (r.maps image None) refl
+  may_on_map image (states.Remove None) permits = tt
   may_on_map image (states.Remove (Some snap)) permits = tt
   may_on_map image _ permits = elim permits [ ]
 
@@ -156,6 +147,8 @@ module _ (site : SiteId) (r : Records) (me : Instance) (k : Knowledge) (most : �
   may_serve (op.BlockAdd i) permits = tt
   may_serve (op.Header image header.Get) permits = tt
   may_serve (op.Header image (header.Create view)) permits = permits.new
+  may_serve (op.Header image (header.SetSize to)) permits = may_size site r me k most form t free image to permits
+  may_serve (op.Header image header.Remove) permits = tt
   may_serve (op.Header image (header.SnapAdd name)) permits = tt
   may_serve (op.Header image (header.SnapRemove snap)) permits = tt
   may_serve (op.Header image header.LockTake) permits = tt
@@ -168,26 +161,40 @@ module _ (site : SiteId) (r : Records) (me : Instance) (k : Knowledge) (most : �
   may_serve (op.Header image _) permits = elim permits [ ]
   may_serve (op.Data image number (object.Read snap parts)) permits = tt
   may_serve (op.Data image number (object.Write context must parts bytes)) permits = may_write site r me k most form t free image number context parts bytes permits
+  may_serve (op.Data image number (object.WriteFull context bytes)) permits = may_replace site r me k most form t free image number context bytes permits
+  may_serve (op.Data image number (object.Zero context must parts)) permits = tt
+  may_serve (op.Data image number (object.Empty context)) permits = tt
+  may_serve (op.Data image number (object.Remove context)) permits = tt
   may_serve (op.Data image number _) permits = elim permits [ ]
   may_serve (op.Map image o) permits = may_on_map image o permits
   may_serve _ permits = elim permits [ ]
 
   -- ---- its answer
 
-  directory_gives_it : (o : DirectoryOp) → PermitsOnDirectory o → CanGive (op.Directory o) (answer_served r me (op.Directory o))
-  directory_gives_it (directory.Find name) permits = record { word = by (id_of r.directory name); form = tt }
+  directory_gives_it : (o : DirectoryOp) → CanGive (op.Directory o) (answer_served r me (op.Directory o))
+  directory_gives_it (directory.Find name) = record { word = by (id_of r.directory name); form = tt }
     where
       by : (held : Option ℕ) → gives (op.Directory (directory.Find name)) (image_found held) ≡ true
       by None = refl
       by (Some image) = refl
-  directory_gives_it directory.List permits = record { word = refl; form = tt }
-  directory_gives_it (directory.Add name) permits = record { word = by (id_of r.directory name) (listing.is_full r.directory); form = tt }
+  directory_gives_it directory.List = record { word = refl; form = tt }
+  directory_gives_it (directory.Add name) = record { word = by (id_of r.directory name) (listing.is_full r.directory); form = tt }
     where
       by : (held : Option ℕ) (full : Bool) → gives (op.Directory (directory.Add name)) (name_added held full (r.directory.drawn + 1)) ≡ true
       by (Some image) full = refl
       by None true = refl
       by None false = refl
-  directory_gives_it _ permits = elim permits [ ]
+  directory_gives_it (directory.Rename from to) = record { word = by (id_of r.directory from) (id_of r.directory to); form = tt }
+    where
+      by : (held taken : Option ℕ) → gives (op.Directory (directory.Rename from to)) (name_changed held taken) ≡ true
+      by None taken = refl
+      by (Some image) None = refl
+      by (Some image) (Some other) = refl
+  directory_gives_it (directory.Remove image) = record { word = by (holds image r.directory); form = tt }
+    where
+      by : (held : Bool) → gives (op.Directory (directory.Remove image)) (done_where held) ≡ true
+      by true = refl
+      by false = refl
 
   header_gives_it : (image : ℕ) (o : HeaderOp) → PermitsOnHeader k site image o → CanGive (op.Header image o) (answer_served r me (op.Header image o))
   header_gives_it image header.Get permits = by (r.headers image) refl
@@ -197,6 +204,16 @@ module _ (site : SiteId) (r : Records) (me : Instance) (k : Knowledge) (most : �
       by (Some h) is = record { word = refl; form = form.form image h is }
   header_gives_it image (header.Create view) permits =
       subst (λ there. CanGive (op.Header image (header.Create view)) (header_answer me there (r.watchers image) (header.Create view))) (sym (t.drawn image permits.drawn).header) (record { word = refl; form = tt })
+  header_gives_it image (header.SetSize to) permits = by (r.headers image)
+    where
+      by : (there : Option HeaderView) → CanGive (op.Header image (header.SetSize to)) (header_answer me there (r.watchers image) (header.SetSize to))
+      by None = record { word = refl; form = tt }
+      by (Some h) = record { word = refl; form = tt }
+  header_gives_it image header.Remove permits = by (r.headers image)
+    where
+      by : (there : Option HeaderView) → CanGive (op.Header image header.Remove) (header_answer me there (r.watchers image) header.Remove)
+      by None = record { word = refl; form = tt }
+      by (Some h) = record { word = refl; form = tt }
   header_gives_it image (header.SnapAdd name) permits =
       subst (CanGive (op.Header image (header.SnapAdd name))) (sym (takes site r me k t free image name permits).answered) (record { word = refl; form = tt })
   header_gives_it image (header.SnapRemove snap) permits =
@@ -266,6 +283,15 @@ module _ (site : SiteId) (r : Records) (me : Instance) (k : Knowledge) (most : �
       by true true = record { word = refl; form = tt }
       by true false = record { word = refl; form = tt }
       by false there = record { word = refl; form = tt }
+  object_gives_it image number (object.WriteFull context bytes) permits = record { word = refl; form = tt }
+  object_gives_it image number (object.Zero context must parts) permits = by must (is_some (object_at r image number).head)
+    where
+      by : (must there : Bool) → CanGive (op.Data image number (object.Zero context must parts)) (done_where (not must || there))
+      by true true = record { word = refl; form = tt }
+      by true false = record { word = refl; form = tt }
+      by false there = record { word = refl; form = tt }
+  object_gives_it image number (object.Empty context) permits = record { word = refl; form = tt }
+  object_gives_it image number (object.Remove context) permits = record { word = refl; form = tt }
   object_gives_it image number _ permits = elim permits [ ]
 
   map_gives_it : (image : ℕ) (o : MapOp) → PermitsOnMap k site image o → CanGive (op.Map image o) (answer_served r me (op.Map image o))
@@ -281,6 +307,11 @@ module _ (site : SiteId) (r : Records) (me : Instance) (k : Knowledge) (most : �
       by : (there : Bool) → CanGive (op.Map image (states.Set None object state)) (done_where there)
       by true = record { word = refl; form = tt }
       by false = record { word = refl; form = tt }
+  map_gives_it image (states.Remove None) permits = by (is_some (r.maps image None))
+    where
+      by : (there : Bool) → CanGive (op.Map image (states.Remove None)) (done_where there)
+      by true = record { word = refl; form = tt }
+      by false = record { word = refl; form = tt }
   map_gives_it image (states.Remove (Some snap)) permits = by (is_some (r.maps image (Some snap)))
     where
       by : (there : Bool) → CanGive (op.Map image (states.Remove (Some snap))) (done_where there)
@@ -289,7 +320,7 @@ module _ (site : SiteId) (r : Records) (me : Instance) (k : Knowledge) (most : �
   map_gives_it image _ permits = elim permits [ ]
 
   served_gives_it : (o : Op) → Permits k site o → CanGive o (answer_served r me o)
-  served_gives_it (op.Directory o) permits = directory_gives_it o permits
+  served_gives_it (op.Directory o) permits = directory_gives_it o
   served_gives_it (op.BlockAdd i) permits = record { word = refl; form = tt }
   served_gives_it (op.Header image o) permits = header_gives_it image o permits
   served_gives_it (op.Data image number o) permits = object_gives_it image number o permits
@@ -298,20 +329,33 @@ module _ (site : SiteId) (r : Records) (me : Instance) (k : Knowledge) (most : �
 
   -- ---- and misses no map
 
-  -- of an image that it owns the head's map is there
-  finds_it : (image object state : ℕ) → OwnsBy k site image (MayRaise k.turn object state) → (map : Option (List ℕ)) → r.maps image None ≡ map
+  -- of an image that it owns the header is there, and the head's map
+  finds_header : (image : ℕ) (o : HeaderOp) (condition : (alone : Bool) → HeaderView → Type 0) → OwnsBy k site image condition
+      → ((h : HeaderView) → finds_image (op.Header image o) (header_answer me (Some h) (r.watchers image) o) ≡ true) → finds_image (op.Header image o) (header_answer me (r.headers image) (r.watchers image) o) ≡ true
+  finds_header image o condition owns by =
+      let there = owned_there site r me k image condition t free owns in
+      subst (λ h. finds_image (op.Header image o) (header_answer me h (r.watchers image) o) ≡ true) (sym there.is) (by there.view)
+
+  finds_map : (image object state : ℕ) → OwnsBy k site image (MaySet (objects_of k.objects site image) k.turn object state) → (map : Option (List ℕ)) → r.maps image None ≡ map
       → finds_image (op.Map image (states.Set None object state)) (done_where (is_some map)) ≡ true
-  finds_it image object state owns None is =
+  finds_map image object state owns None is =
       let there = owned_there site r me k image _ t free owns in
       absurd (true≢false (sym (mapped image there.view there.is).there.head ∙ ap is_some is))
-  finds_it image object state owns (Some map) is = refl
+  finds_map image object state owns (Some map) is = refl
+
+  -- and that of an image whose header it removed, until it removes the map too
+  finds_left : (image : ℕ) → IsLeftOver k site image → (count : Option ℕ) → (maps_of k.maps site image).count ≡ count → IsSome count → finds_image (op.Map image (states.Remove None)) (done_where (is_some (r.maps image None))) ≡ true
+  finds_left image left None known some = absurd (true≢false (sym some))
+  finds_left image left (Some count) known some =
+      let has : HasAtLeast count (r.maps image None) = subst (λ c. IsCountTrue c (r.maps image None)) known (t.counted image (inr left.gone)) in
+      ap (λ map. finds_image (op.Map image (states.Remove None)) (done_where (is_some map))) has.is
 
   served_finds_it : (o : Op) → Permits k site o → finds_image o (answer_served r me o) ≡ true
-  served_finds_it (op.Header image (header.SetSize to)) permits = elim permits [ ]
-  served_finds_it (op.Header image header.Remove) permits = elim permits [ ]
+  served_finds_it (op.Header image (header.SetSize to)) permits = finds_header image (header.SetSize to) _ permits (λ h. refl)
+  served_finds_it (op.Header image header.Remove) permits = finds_header image header.Remove _ permits (λ h. refl)
   served_finds_it (op.Header image _) permits = refl
-  served_finds_it (op.Map image (states.Set None object state)) permits = finds_it image object state permits (r.maps image None) refl
-  served_finds_it (op.Map image (states.Remove None)) permits = elim permits [ ]
+  served_finds_it (op.Map image (states.Set None object state)) permits = finds_map image object state permits (r.maps image None) refl
+  served_finds_it (op.Map image (states.Remove None)) permits = finds_left image permits.0 (maps_of k.maps site image).count refl permits.1
   served_finds_it (op.Map image _) permits = refl
   served_finds_it o permits = refl
 
@@ -322,121 +366,3 @@ module _ (site : SiteId) (r : Records) (me : Instance) (k : Knowledge) (most : �
   pub gives_it : (o : Op) → Permits k site o → IsGiven o (answer_to r me o)
   gives_it o permits = where_free (λ a s. IsGiven o a) r me o (record { can = fence_given k site o permits; finds = fence_found o })
       (λ free. record { can = served_gives_it site r me k most form mapped t free o permits; finds = served_finds_it site r me k most form mapped t free o permits })
-
--- ---- its effect
-
-module _ (site : SiteId) (r : Records) (f : Flat) (k : Knowledge) (me : Instance) (most : ℕ) (stands : StandsFor [] r f) (form : AreInForm r most) (parentless : IsParentless r) (t : IsTrueAt site r me k) where
-  abbrev HasItsEffect : Op → Type 0
-  HasItsEffect o = StandsFor [] (after r me o) (changed_by f (effect_of r (done.Op o) (answer_to r me o)))
-
-  -- with the effect of the answer that it has
-  effects : (o : Op) (a : Answer) (e : Option Effect) → answer_to r me o ≡ a → effect_of r (done.Op o) a ≡ e → StandsFor [] (after r me o) (changed_by f e) → HasItsEffect o
-  effects o a e answered is after_it = subst (λ a. StandsFor [] (after r me o) (changed_by f (effect_of r (done.Op o) a))) (sym answered) (subst (λ e. StandsFor [] (after r me o) (changed_by f e)) (sym is) after_it)
-
-  look_effect : (o : Op) → is_look o ≡ true → HasItsEffect o
-  look_effect o look = effects o (answer_to r me o) None refl (look_none r o (answer_to r me o) look) (subst (λ s. StandsFor [] s f) (sym (looked_at r me o look)) stands)
-
-  refused_effect : (o : Op) (a : Answer) → answer_to r me o ≡ a → is_change a ≡ false → HasItsEffect o
-  refused_effect o a answered unchanged =
-      effects o a None answered (refused_none r o a unchanged)
-      (subst (λ s. StandsFor [] s f) (sym (refused r me o (ap is_change answered ∙ unchanged))) stands)
-
-  -- A fenced instance has none, so it is enough that what is served has its effect.
-  where_served : (o : Op) → (IsFalse (is_fenced r me) → answer_to r me o ≡ answer_served r me o → HasItsEffect o) → HasItsEffect o
-  where_served o served = go (is_fenced r me) refl
-    where
-      go : (b : Bool) → is_fenced r me ≡ b → HasItsEffect o
-      go true fenced = refused_effect o answer.Fenced (fenced_answer r me o fenced) refl
-      go false free = served free (sym (free_answer r me o free))
-
-  add_effect : (name : List ℕ) (held : Option ℕ) (full : Bool) → answer_to r me (op.Directory (directory.Add name)) ≡ name_added held full (r.directory.drawn + 1) → HasItsEffect (op.Directory (directory.Add name))
-  add_effect name (Some image) full answered = refused_effect (op.Directory (directory.Add name)) answer.Exists answered refl
-  add_effect name None true answered = refused_effect (op.Directory (directory.Add name)) answer.Full answered refl
-  add_effect name None false answered =
-      effects (op.Directory (directory.Add name)) (answer.Id (r.directory.drawn + 1)) (Some (effect.Name name (r.directory.drawn + 1))) answered refl
-      (name_stands [] r f me name (r.directory.drawn + 1) stands answered)
-
-  directory_effect : (o : DirectoryOp) → PermitsOnDirectory o → HasItsEffect (op.Directory o)
-  directory_effect (directory.Find name) permits = look_effect (op.Directory (directory.Find name)) refl
-  directory_effect directory.List permits = look_effect (op.Directory directory.List) refl
-  directory_effect (directory.Add name) permits = where_served (op.Directory (directory.Add name)) (λ free served. add_effect name (id_of r.directory name) (listing.is_full r.directory) served)
-  directory_effect _ permits = elim permits [ ]
-
-  -- an image without a header isn't there
-  no_image : (image : ℕ) → r.headers image ≡ None → image_at f image ≡ None
-  no_image image none =
-      by (image_at f image) (subst (λ h. StandsAt (snapshots_of f) (links_of f image) h (object_at r image) (image_at f image)) none (stands.images image))
-    where
-      by : (there : Option FlatImage) → StandsAt (snapshots_of f) (links_of f image) None (object_at r image) there → there ≡ None
-      by None at = refl
-      by (Some i) at = elim at [ ]
-
-  -- a flat site has neither locks nor watchers, nor a blocklist
-  unseen_effect : (image : ℕ) (o : HeaderOp) → is_unseen o ≡ true → HasItsEffect (op.Header image o)
-  unseen_effect image o unseen =
-      effects (op.Header image o) (answer_to r me (op.Header image o)) None refl (unseen_none r image o (answer_to r me (op.Header image o)) unseen) (unseen_change [] r f me image o stands unseen)
-
-  listed_effect : (i : Instance) → HasItsEffect (op.BlockAdd i)
-  listed_effect i = effects (op.BlockAdd i) (answer_to r me (op.BlockAdd i)) None refl (listed_none r i (answer_to r me (op.BlockAdd i))) (listed_stands [] r f me i stands)
-
-  header_effect : (image : ℕ) (o : HeaderOp) → PermitsOnHeader k site image o → HasItsEffect (op.Header image o)
-  header_effect image header.Get permits = look_effect (op.Header image header.Get) refl
-  header_effect image (header.Create view) permits = where_served (op.Header image (header.Create view)) (λ free served.
-      let waiting = t.drawn image permits.drawn in
-      let answered : answer_to r me (op.Header image (header.Create view)) ≡ answer.Done = served ∙ ap (λ h. header_answer me h (r.watchers image) (header.Create view)) waiting.header in
-      effects (op.Header image (header.Create view)) answer.Done (Some (effect.Create image view.size view.role)) answered
-      (ap (λ parent. Some (effect_of_making image view.size view.role parent)) permits.no_parent)
-      (create_stands [] r f me image view stands waiting.drawn (record { header = waiting.header; flat = no_image image waiting.header; blank = waiting.blank }) permits.new permits.no_parent answered))
-  header_effect image (header.SnapAdd name) permits = where_served (op.Header image (header.SnapAdd name)) (λ free served.
-      let edits = takes site r me k t free image name permits in
-      let snap = (owned_there site r me k image _ t free permits).view.snap_seq + 1 in
-      effects (op.Header image (header.SnapAdd name)) (answer.Snap snap) (Some (effect.Snap image snap name)) (served ∙ edits.answered) refl
-      (snap_stands [] r f me image snap name stands (served ∙ edits.answered)))
-  header_effect image (header.SnapRemove snap) permits = where_served (op.Header image (header.SnapRemove snap)) (λ free served.
-      let there = owned_there site r me k image _ t free permits in
-      let edits = removes site r me k t free image snap permits in
-      let may = permits.meets.1 in
-      effects (op.Header image (header.SnapRemove snap)) answer.Done (Some (effect.Unsnap image snap)) (served ∙ edits.answered) refl
-      (unsnap_stands [] r f me image snap stands
-      (unnamed [] r f image snap there.view may.view stands there.is (ap (λ (h : HeaderView). snap_in h.snaps snap) there.same ∙ may.listed) may.unprotected)
-      (served ∙ edits.answered)))
-  header_effect image header.LockTake permits = unseen_effect image header.LockTake refl
-  header_effect image header.LockDrop permits = unseen_effect image header.LockDrop refl
-  header_effect image (header.LockBreak owner) permits = unseen_effect image (header.LockBreak owner) refl
-  header_effect image header.Watch permits = unseen_effect image header.Watch refl
-  header_effect image header.Unwatch permits = unseen_effect image header.Unwatch refl
-  header_effect image header.WatchersGet permits = unseen_effect image header.WatchersGet refl
-  header_effect image (header.Notify kind) permits = unseen_effect image (header.Notify kind) refl
-  header_effect image _ permits = elim permits [ ]
-
-  write_effects : (image number : ℕ) (context : SnapContext) (must : Bool) (parts : List Part) (bytes : List ℕ) → OwnsBy k site image (MayWrite (maps_of k.maps site image) k.turn number context parts bytes)
-      → IsFalse (is_fenced r me) → answer_to r me (op.Data image number (object.Write context must parts bytes)) ≡ answer_served r me (op.Data image number (object.Write context must parts bytes))
-      → (found : Bool) → finds must (object_at r image number) ≡ found → HasItsEffect (op.Data image number (object.Write context must parts bytes))
-  write_effects image number context must parts bytes owns free served false lacks =
-      refused_effect (op.Data image number (object.Write context must parts bytes)) answer.Absent (served ∙ ap done_where lacks) refl
-  write_effects image number context must parts bytes owns free served true has =
-      let there = owned_there site r me k image _ t free owns in
-      let v = there.view in
-      let may = may_write site r me k most form t free image number context parts bytes owns in
-      let answered : answer_to r me (op.Data image number (object.Write context must parts bytes)) ≡ answer.Done = served ∙ ap done_where has in
-      let parts_lie : ArePartsBelow v v.size number parts =
-      subst (λ w. ArePartsBelow w w.size number parts) (sym there.same)
-      (All-weaker (LiesBelow owns.header number) (IsPartBelow (record owns.header { owner = v.owner }) owns.header.size number) (λ p lies. record { part = lies.part; below = lies.below }) parts owns.meets.within) in
-      let under : IsContextOf v context = subst (IsContextOf v) (ap context_of there.same ∙ sym owns.meets.under) (reversed_context v) in
-      effects (op.Data image number (object.Write context must parts bytes)) answer.Done (Some (effect.Piece image (extents_of parts) bytes)) answered
-      (ap (λ h. effect_of_op h (op.Data image number (object.Write context must parts bytes)) answer.Done) there.is
-      ∙ write_effect v image number context must parts bytes (form.form image v there.is).layout parts_lie may)
-      (write_stands [] r f me image number v context must parts bytes stands there.is under may parts_lie
-      (λ inside. elim (subst (λ parent. IsInOverlap parent (byte_at v.layout number 0)) (parentless image v there.is) inside) [ ])
-      answered)
-
-  pub has_its_effect : (o : Op) → Permits k site o → HasItsEffect o
-  has_its_effect (op.Directory o) permits = directory_effect o permits
-  has_its_effect (op.BlockAdd i) permits = listed_effect i
-  has_its_effect (op.Header image o) permits = header_effect image o permits
-  has_its_effect (op.Data image number (object.Read snap parts)) permits = look_effect (op.Data image number (object.Read snap parts)) refl
-  has_its_effect (op.Data image number (object.Write context must parts bytes)) permits =
-      where_served (op.Data image number (object.Write context must parts bytes)) (λ free served. write_effects image number context must parts bytes permits free served (finds must (object_at r image number)) refl)
-  has_its_effect (op.Data image number _) permits = elim permits [ ]
-  has_its_effect (op.Map image o) permits = effects (op.Map image o) (answer_to r me (op.Map image o)) None refl (mapped_none r image o (answer_to r me (op.Map image o))) (map_stands [] r f me image o stands)
-  has_its_effect _ permits = elim permits [ ]

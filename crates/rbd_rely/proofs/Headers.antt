@@ -5,6 +5,7 @@ use Rattle.std.specs.Prelude.{IsFalse, IsSome}
 use Rattle.rbd_kinds.specs.declared.header.HeaderView.{HeaderView}
 use Rattle.rbd_kinds.specs.declared.id.Instance.{Instance}
 use Rattle.rbd_kinds.specs.declared.id.SiteId.{SiteId}
+use Rattle.rbd_kinds.specs.Striping.{IsLayout}
 use Rattle.rbd_machine.specs.Knowledge.{Knowledge}
 use Rattle.rbd_machine.specs.Permits.{OwnsBy}
 use Rattle.rbd_site.specs.Records.{Records}
@@ -16,6 +17,9 @@ pub record IsThere (known : HeaderView) (there : Option HeaderView) : Type 0 whe
   pub view : HeaderView
   pub is : there ≡ Some view
   pub same : view ≡ record known { owner = view.owner }
+
+pub same_layout : (h v : HeaderView) → v ≡ record h { owner = v.owner } → IsLayout v.layout → IsLayout h.layout
+same_layout h v same laid = subst IsLayout (ap (λ (w : HeaderView). w.layout) same) laid
 
 pub find_there : (known there : Option HeaderView) (h : HeaderView) → known ≡ Some h → IsStill known there → IsThere h there
 find_there known None h is still = elim (subst (λ o. IsStill o None) is still) [ ]

@@ -1,5 +1,5 @@
 -- What is known stays true under what is permitted to others, and under the store's own steps.
-use Rattle.std.proofs.Common.{◌≡◌, ℕ, ◌==◌, cond, Bool, true, false, List, Option, Some, None, option_map, refl, sym, ap, ◌∙◌, subst}
+use Rattle.std.proofs.Common.{◌≡◌, inl, inr, ℕ, ◌==◌, cond, Bool, true, false, List, Option, Some, None, option_map, refl, sym, ap, ◌∙◌, subst, arith}
 use Rattle.std.proofs.lemmas.Bool.{true≢false, eqb-true, ne_eqb}
 use Rattle.std.specs.FinMap as finmap
 use Rattle.std.specs.Ordering.{nat_cmp}
@@ -7,6 +7,7 @@ use Rattle.std.specs.Prelude.{IsFalse, IsSome, is_some}
 use Rattle.rbd_kinds.specs.declared.data_op.DataOp.{DataOp}
 use Rattle.rbd_kinds.specs.declared.data_op.DataOp.TheVariants as object
 use Rattle.rbd_kinds.specs.declared.header.HeaderView.{HeaderView}
+use Rattle.rbd_kinds.specs.declared.header.SnapContext.{SnapContext}
 use Rattle.rbd_kinds.specs.declared.header_op.HeaderOp.{HeaderOp}
 use Rattle.rbd_kinds.specs.declared.header_op.HeaderOp.TheVariants as header
 use Rattle.rbd_kinds.specs.declared.id.Instance.{Instance}
@@ -14,7 +15,7 @@ use Rattle.rbd_kinds.specs.declared.id.SiteId.{SiteId}
 use Rattle.rbd_kinds.specs.declared.operation.Op.{Op}
 use Rattle.rbd_kinds.specs.declared.operation.Op.TheVariants as op
 use Rattle.rbd_object.specs.Mapped.{Mapped, mapped_blank, mapped_trim}
-use Rattle.rbd_machine.specs.Knowledge.{Knowledge, is_drawn, maps_of}
+use Rattle.rbd_machine.specs.Knowledge.{Knowledge, is_drawn, is_gone, maps_of, objects_of}
 use Rattle.rbd_machine.specs.Permits.{Permits, PermitsOnHeader, PermitsOnObject, OwnsBy}
 use Rattle.rbd_site.specs.HeaderStep.{header_after, is_owner}
 use Rattle.rbd_site.specs.Laws.{is_look}
@@ -29,11 +30,13 @@ use Rattle.rbd_stands.specs.Unseen.{is_about}
 use Rattle.rbd_stands.proofs.EditSteps.{untouched_served, drawn_served}
 use Rattle.rbd_stands.proofs.StoreSteps.{blank_trimmed}
 use Rattle.rbd_flat.specs.Flat.{no_images}
-use Rattle.rbd_rely.specs.Beside.{AreBeside, AreShared}
-use Rattle.rbd_rely.specs.Truth.{AreMapsTrue, is_alone_on, is_own_alone, IsCountTrue, IsStill, IsTrueAt, IsWaiting, known_header}
+use Rattle.rbd_rely.specs.Beside.{AreBeside, AreShared, MayAct}
+use Rattle.rbd_rely.specs.Truth.{AreMapsTrue, AreObjectsTrue, is_alone_on, is_own_alone, IsCountTrue, IsGoneAt, IsStill, IsTrueAt, IsWaiting, known_header}
+use Rattle.rbd_rely.proofs.Each.{alike_true, objects_alike}
 use Rattle.rbd_rely.proofs.Fenced.{after_free, was_free}
 use Rattle.rbd_rely.proofs.Headers.{not_waiting, own_known, unknown_of_none}
 use Rattle.rbd_rely.proofs.MapsKept.{counted_kept, mapped_kept}
+use Rattle.rbd_rely.proofs.ObjectsKept.{objects_kept}
 
 -- where both know the header of an image, neither is alone on it
 abbrev AreBothShared : SiteId → (k j : Knowledge) → Type 0
@@ -101,6 +104,15 @@ waits_by r you other o keeps image w =
     by true same = ap (λ h. header_after you h o) (ap r.headers (sym (eqb-true image other same)) ∙ w.header) ∙ none_behind you o keeps
     by false differ = w.header
 
+-- and an image that is gone stays so
+gone_by : (r : Records) (you : Instance) (other : ℕ) (o : HeaderOp) → keeps_header o ≡ true → (image : ℕ) → IsGoneAt r image → IsGoneAt (after r you (op.Header other o)) image
+gone_by r you other o keeps image g =
+    where_fenced (λ s. IsGoneAt s image) r you (op.Header other o) g (record { drawn = g.drawn; header = by (image == other) refl })
+  where
+    by : (b : Bool) → (image == other) ≡ b → cond b (header_after you (r.headers other) o) (r.headers image) ≡ None
+    by true same = ap (λ h. header_after you h o) (ap r.headers (sym (eqb-true image other same)) ∙ g.header) ∙ none_behind you o keeps
+    by false differ = g.header
+
 -- So whoever does it, what anybody knows stays true.
 pub kept_by : (site : SiteId) (r : Records) (me you : Instance) (k : Knowledge) (other : ℕ) (o : HeaderOp) → keeps_header o ≡ true → IsTrueAt site r me k
     → IsTrueAt site (after r you (op.Header other o)) me k
@@ -113,8 +125,13 @@ kept_by site r me you k other o keeps t = record {
   mapped = λ free image known.
       let was = t.mapped (was_free r you me (op.Header other o) free) image known in
       where_fenced (λ s. AreMapsTrue (is_alone_on k site image) (s.maps image) (maps_of k.maps site image)) r you (op.Header other o) was was;
-  counted = λ image drawn.
-      let was = t.counted image drawn in
+  objects = λ free image h known.
+      let was = t.objects (was_free r you me (op.Header other o) free) image h known in
+      where_fenced (λ s. AreObjectsTrue (is_alone_on k site image) h.layout (object_at s image) (objects_of k.objects site image)) r you (op.Header other o) was was;
+  gone = λ image gone. gone_by r you other o keeps image (t.gone image gone);
+  apart = t.apart;
+  counted = λ image without.
+      let was = t.counted image without in
       where_fenced (λ s. IsCountTrue (maps_of k.maps site image).count (s.maps image None)) r you (op.Header other o) was was;
 }
   where
@@ -138,6 +155,8 @@ module _ (site : SiteId) (r : Records) (k j : Knowledge) (you : Instance) (still
   header_kept image (header.Create view) permits =
       unknown_of_none (known_header k site image) (header_after you (r.headers image) (header.Create view))
       (subst (IsStill (known_header k site image)) (u.drawn image permits.drawn).header (still image))
+  header_kept image (header.SetSize to) permits = alone_beside site k j image _ shared permits (header_after you (r.headers image) (header.SetSize to))
+  header_kept image header.Remove permits = alone_beside site k j image _ shared permits (header_after you (r.headers image) header.Remove)
   header_kept image (header.SnapAdd name) permits = alone_beside site k j image _ shared permits (header_after you (r.headers image) (header.SnapAdd name))
   header_kept image (header.SnapRemove snap) permits = alone_beside site k j image _ shared permits (header_after you (r.headers image) (header.SnapRemove snap))
   header_kept image header.LockTake permits = still_behind you header.LockTake refl (known_header k site image) (r.headers image) (still image)
@@ -202,6 +221,8 @@ module _ (site : SiteId) (r : Records) (j : Knowledge) (you : Instance) (u : IsT
   waits_header other (header.Create view) permits apart =
       waits_on r you (op.Header other (header.Create view)) image
       (other_than other image (λ same. true≢false (sym permits.drawn ∙ ap (λ i. is_drawn j.drawn site i) same ∙ apart))) w
+  waits_header other (header.SetSize to) permits apart = waits_owned (op.Header other (header.SetSize to)) (λ free. owned_is_other site r you j other image _ u free permits w)
+  waits_header other header.Remove permits apart = waits_owned (op.Header other header.Remove) (λ free. owned_is_other site r you j other image _ u free permits w)
   waits_header other (header.SnapAdd name) permits apart = waits_owned (op.Header other (header.SnapAdd name)) (λ free. owned_is_other site r you j other image _ u free permits w)
   waits_header other (header.SnapRemove snap) permits apart = waits_owned (op.Header other (header.SnapRemove snap)) (λ free. owned_is_other site r you j other image _ u free permits w)
   waits_header other header.LockTake permits apart = waits_by r you other header.LockTake refl image w
@@ -213,27 +234,74 @@ module _ (site : SiteId) (r : Records) (j : Knowledge) (you : Instance) (u : IsT
   waits_header other (header.Notify kind) permits apart = waits_by r you other (header.Notify kind) refl image w
   waits_header other _ permits apart = elim permits [ ]
 
-  pub waits_object : (other number : ℕ) (o : DataOp) → PermitsOnObject j site other number o → IsWaiting (after r you (op.Data other number o)) image
-  waits_object other number (object.Read snap parts) permits = waits_behind_look r you (op.Data other number (object.Read snap parts)) image refl w
-  waits_object other number (object.Write context must parts bytes) permits =
-      waits_owned (op.Data other number (object.Write context must parts bytes)) (λ free. owned_is_other site r you j other image _ u free permits w)
-  waits_object other number _ permits = elim permits [ ]
+  -- nor removes what is left of it
+  waits_owned_object : (other number : ℕ) (o : DataOp) (condition : (alone : Bool) → HeaderView → Type 0) → OwnsBy j site other condition → IsWaiting (after r you (op.Data other number o)) image
+  waits_owned_object other number o condition owns = waits_owned (op.Data other number o) (λ free. owned_is_other site r you j other image condition u free owns w)
 
-  pub waits_still : (o : Op) → Permits j site o → is_drawn j.drawn site image ≡ false → IsWaiting (after r you o) image
-  waits_still (op.Directory o) permits apart = waits_on r you (op.Directory o) image refl w
-  waits_still (op.BlockAdd i) permits apart = waits_on r you (op.BlockAdd i) image refl w
-  waits_still (op.Header other o) permits apart = waits_header other o permits apart
-  waits_still (op.Data other number o) permits apart = waits_object other number o permits
-  waits_still (op.Map other o) permits apart = waits_on r you (op.Map other o) image refl w
-  waits_still _ permits apart = elim permits [ ]
+  waits_removal : (other number : ℕ) (context : SnapContext) → PermitsOnObject j site other number (object.Remove context) → (is_gone j.gone site image ≡ false)
+      → IsWaiting (after r you (op.Data other number (object.Remove context))) image
+  waits_removal other number context (inl left) remains =
+      waits_on r you (op.Data other number (object.Remove context)) image (other_than other image (λ same. true≢false (sym left.gone ∙ ap (λ i. is_gone j.gone site i) same ∙ remains))) w
+  waits_removal other number context (inr owns) remains = waits_owned_object other number (object.Remove context) _ owns
+
+  waits_object : (other number : ℕ) (o : DataOp) → PermitsOnObject j site other number o → (is_gone j.gone site image ≡ false) → IsWaiting (after r you (op.Data other number o)) image
+  waits_object other number (object.Read snap parts) permits remains = waits_behind_look r you (op.Data other number (object.Read snap parts)) image refl w
+  waits_object other number (object.Write context must parts bytes) permits remains = waits_owned_object other number (object.Write context must parts bytes) _ permits
+  waits_object other number (object.WriteFull context bytes) permits remains = waits_owned_object other number (object.WriteFull context bytes) _ permits
+  waits_object other number (object.Zero context must parts) permits remains = waits_owned_object other number (object.Zero context must parts) _ permits
+  waits_object other number (object.Empty context) permits remains = waits_owned_object other number (object.Empty context) _ permits
+  waits_object other number (object.Remove context) permits remains = waits_removal other number context permits remains
+  waits_object other number _ permits remains = elim permits [ ]
+
+  pub waits_still : (o : Op) → Permits j site o → is_drawn j.drawn site image ≡ false → is_gone j.gone site image ≡ false → IsWaiting (after r you o) image
+  waits_still (op.Directory o) permits apart remains = waits_on r you (op.Directory o) image refl w
+  waits_still (op.BlockAdd i) permits apart remains = waits_on r you (op.BlockAdd i) image refl w
+  waits_still (op.Header other o) permits apart remains = waits_header other o permits apart
+  waits_still (op.Data other number o) permits apart remains = waits_object other number o permits remains
+  waits_still (op.Map other o) permits apart remains = waits_on r you (op.Map other o) image refl w
+  waits_still _ permits apart remains = elim permits [ ]
+
+-- an image that is gone gets no header, but by who drew its id
+module _ (site : SiteId) (j : Knowledge) (image : ℕ) (undrawn : is_drawn j.drawn site image ≡ false) where
+  makes_none : (you : Instance) (o : HeaderOp) → PermitsOnHeader j site image o → header_after you None o ≡ None
+  makes_none you (header.Create view) permits = absurd (true≢false (sym permits.drawn ∙ undrawn))
+  makes_none you _ permits = refl
+
+  still_none : (r : Records) (you : Instance) (o : Op) → Permits j site o → r.headers image ≡ None → (after_served r you o).headers image ≡ None
+  still_none r you (op.Directory o) permits none = none
+  still_none r you (op.BlockAdd i) permits none = none
+  still_none r you (op.Data other number o) permits none = none
+  still_none r you (op.Map other o) permits none = none
+  still_none r you (op.Header other o) permits none = by (image == other) refl
+    where
+      by : (b : Bool) → (image == other) ≡ b → cond b (header_after you (r.headers other) o) (r.headers image) ≡ None
+      by true same =
+          let at = eqb-true image other same in
+          ap (λ i. header_after you (r.headers i) o) (sym at) ∙ ap (λ h. header_after you h o) none ∙ makes_none you o (subst (λ i. PermitsOnHeader j site i o) (sym at) permits)
+      by false differ = none
+  still_none r you _ permits none = elim permits [ ]
+
+  gone_still : (r : Records) (you : Instance) (o : Op) → Permits j site o → IsGoneAt r image → IsGoneAt (after r you o) image
+  gone_still r you o permits g =
+      where_fenced (λ s. IsGoneAt s image) r you o g (record { drawn = drawn_served r you o image g.drawn; header = still_none r you o permits g.header })
+
+not_gone_there : (site : SiteId) (r : Records) (me you : Instance) (k j : Knowledge) → AreBeside site r me you k j → (image : ℕ) → is_drawn k.drawn site image ≡ true → is_gone j.gone site image ≡ false
+not_gone_there site r me you k j beside image drawn = by (is_gone j.gone site image) refl
+  where
+    by : (b : Bool) → is_gone j.gone site image ≡ b → b ≡ false
+    by false is = refl
+    by true is = absurd (true≢false (sym drawn ∙ beside.gone_there image is))
 
 pub others_keep : (site : SiteId) (r : Records) (k j : Knowledge) (me you : Instance) (o : Op) → IsTrueAt site r me k → IsTrueAt site r you j → AreBeside site r me you k j → Permits j site o
-    → IsTrueAt site (after r you o) me k
-others_keep site r k j me you o t u beside permits = record {
+    → MayAct site r you me j k o → IsTrueAt site (after r you o) me k
+others_keep site r k j me you o t u beside permits may = record {
   owned = λ free. let before = was_free r you me o free in owned_kept site r k j me you o (t.owned before) u before beside permits;
-  drawn = λ image drawn. waits_still site r j you u image (t.drawn image drawn) o permits (beside.apart image drawn);
+  drawn = λ image drawn. waits_still site r j you u image (t.drawn image drawn) o permits (beside.apart image drawn) (not_gone_there site r me you k j beside image drawn);
   fenced = λ i known. fence_stays r you i o (t.fenced i known);
-  mapped = λ free. mapped_kept site r k j me you t u beside (was_free r you me o free) o permits;
+  mapped = λ free. mapped_kept site r k j me you t u beside (was_free r you me o free) o permits may;
+  objects = λ free. objects_kept site r k j me you t u beside (was_free r you me o free) o permits may;
+  gone = λ image gone. gone_still site j image (beside.gone image gone) r you o permits (t.gone image gone);
+  apart = t.apart;
   counted = counted_kept site r k j me you t u beside o permits;
 }
 
@@ -264,20 +332,43 @@ trim_waits r other number image w = record {
     by n true same true there = ap (λ b. or_blank (cond b now (r.objects other n))) there ∙ blank_in live (r.objects other number) (was number same)
     by n true same false elsewhere = ap (λ b. or_blank (cond b now (r.objects other n))) elsewhere ∙ was n same
 
+-- a trim leaves each head
+head_trimmed : (r : Records) (other number image n : ℕ) → (object_at (trimmed other number r) image n).head ≡ (object_at r image n).head
+head_trimmed r other number image n = by (image == other) refl (n == number) refl
+  where
+    live : List ℕ
+    live = live_in (r.headers other)
+
+    now : Option Mapped
+    now = option_map (mapped_trim live) (r.objects other number)
+
+    kept : (o : Option Mapped) → (or_blank (option_map (mapped_trim live) o)).head ≡ (or_blank o).head
+    kept None = refl
+    kept (Some o) = refl
+
+    head_of : Option Mapped → Option (List ℕ)
+    head_of o = (or_blank o).head
+
+    at : (m : ℕ) (b : Bool) → (m == number) ≡ b → head_of (cond b now (r.objects other m)) ≡ head_of (r.objects other m)
+    at m true there = kept (r.objects other number) ∙ ap (λ i. head_of (r.objects other i)) (sym (eqb-true m number there))
+    at m false elsewhere = refl
+
+    by : (a : Bool) → (image == other) ≡ a → (b : Bool) → (n == number) ≡ b → head_of (cond a (put (r.objects other) number now) (r.objects image) n) ≡ head_of (r.objects image n)
+    by false differ b e = refl
+    by true same b e = at n (n == number) refl ∙ ap (λ i. head_of (r.objects i n)) (sym (eqb-true image other same))
+
 pub trims_keep : (site : SiteId) (r : Records) (me : Instance) (k : Knowledge) (image number : ℕ) → IsTrueAt site r me k → IsTrueAt site (trimmed image number r) me k
 trims_keep site r me k image number t = record {
   owned = t.owned;
   drawn = λ i drawn. trim_waits r image number i (t.drawn i drawn);
   fenced = t.fenced;
   mapped = t.mapped;
+  objects = λ free i h known.
+      objects_alike (is_alone_on k site i) h.layout (object_at r i) (object_at (trimmed image number r) i) (objects_of k.objects site i) (head_trimmed r image number i) (t.objects free i h known);
+  gone = λ i gone. let g = t.gone i gone in record { drawn = g.drawn; header = g.header };
+  apart = t.apart;
   counted = t.counted;
 }
 
 pub expiries_keep : (site : SiteId) (r : Records) (me : Instance) (k : Knowledge) (image : ℕ) (i : Instance) → IsTrueAt site r me k → IsTrueAt site (expired image i r) me k
-expiries_keep site r me k image i t = record {
-  owned = t.owned;
-  drawn = λ n drawn. let w = t.drawn n drawn in record { drawn = w.drawn; header = w.header; blank = w.blank };
-  fenced = t.fenced;
-  mapped = t.mapped;
-  counted = t.counted;
-}
+expiries_keep site r me k image i t = alike_true site r (expired image i r) me k t (λ f. f) t.fenced (λ n. record { header = refl; maps = refl; objects = λ m. refl; drawn = omega arith })

@@ -1,10 +1,13 @@
 -- What a request learns by its own operations, and behind its waits, is true.
-use Rattle.std.proofs.Common.{◌≡◌, ◌≢◌, ℕ, ◌==◌, ◌+◌, ◌&&◌, cond, not, Bool, true, false, List, [], ◌∷◌, map, Option, Some, None, option_map, refl, sym, ap, ◌∙◌, subst, arith}
+use Rattle.std.proofs.Common.{◌≡◌, ◌≢◌, ◌⊎◌, inl, inr, ℕ, ◌<◌, ◌≤◌, ◌==◌, ◌+◌, ◌&&◌, cond, not, Bool, true, false, List, [], ◌∷◌, Option, Some, None, option_map, refl, sym, ap, ◌∙◌, subst, arith}
 use Rattle.std.specs.List.{filter}
 use Rattle.std.specs.Prelude.{IsFalse, IsSome, is_some}
-use Rattle.std.proofs.lemmas.Bool.{true≢false, eqb-true, ne_eqb, and_parts, eq-eqb}
+use Rattle.std.proofs.lemmas.Bool.{true≢false, cases_lt, eqb-true, ne_eqb, and_parts}
+use Rattle.std.proofs.lemmas.Option.{none-some, same_Some}
 use Rattle.rbd_kinds.specs.declared.answer.Answer.{Answer}
 use Rattle.rbd_kinds.specs.declared.answer.Answer.TheVariants as answer
+use Rattle.rbd_kinds.specs.declared.data_op.DataOp.{DataOp}
+use Rattle.rbd_kinds.specs.declared.data_op.DataOp.TheVariants as object
 use Rattle.rbd_kinds.specs.declared.directory_op.DirectoryOp.{DirectoryOp}
 use Rattle.rbd_kinds.specs.declared.directory_op.DirectoryOp.TheVariants as directory
 use Rattle.rbd_kinds.specs.declared.header.HeaderView.{HeaderView}
@@ -12,17 +15,15 @@ use Rattle.rbd_kinds.specs.declared.header_op.HeaderOp.{HeaderOp}
 use Rattle.rbd_kinds.specs.declared.header_op.HeaderOp.TheVariants as header
 use Rattle.rbd_kinds.specs.declared.id.Instance.{Instance}
 use Rattle.rbd_kinds.specs.declared.id.SiteId.{SiteId}
-use Rattle.rbd_kinds.specs.declared.id.SiteId.TheVariants as sites
 use Rattle.rbd_kinds.specs.declared.map_op.MapOp.{MapOp}
 use Rattle.rbd_kinds.specs.declared.map_op.MapOp.TheVariants as states
 use Rattle.rbd_kinds.specs.declared.operation.Op.{Op}
 use Rattle.rbd_kinds.specs.declared.operation.Op.TheVariants as op
-use Rattle.rbd_machine.specs.Knowledge.{ImageMaps, Knowledge, Own, Place, Fence, learned_of_map, looked_behind, maps_looked, maps_of, maps_owned, unmapped, unmarked, own_of, is_drawn, is_at, is_fence_of, is_fenced_by, same_instance, same_site, told_of, header_told, first_told, learned, learned_of_header, learned_of_directory, learned_of_listing, unfenced, with_drawn, with_fence, without_drawn, without_fence, passed, held, left}
-use Rattle.rbd_machine.specs.Wait.{Wait}
-use Rattle.rbd_machine.specs.Wait as wait
-use Rattle.rbd_machine.specs.Permits.{Permits, PermitsOnHeader, PermitsOnDirectory, OwnsBy, OwnsAlone, MayMake, MayTake, MayRemove}
+use Rattle.rbd_machine.specs.Knowledge.{Knowledge, Own, Place, afresh, first_told, header_told, is_at, is_drawn, is_fence_of, is_fenced_by, is_gone, learned, learned_of_directory, learned_of_header, learned_of_listing, learned_of_map, learned_of_object, looked_by, looked_owning, maps_of, objects_of, only_there, own_of, removed_header, same_instance, same_site, unmapped, unmarked, with_drawn, with_fence, without_drawn, without_fence}
+use Rattle.rbd_machine.specs.Permits.{Permits, PermitsOnHeader, OwnsBy, OwnsAlone, MayMake, MaySize, MayTake, MayRemove}
 use Rattle.rbd_kinds.specs.Header.{snap_named}
-use Rattle.rbd_header.specs.Header.{with_snap, without_snap, snap_in, is_full}
+use Rattle.rbd_header.specs.Header.{with_size, with_snap, without_snap, snap_in, is_full}
+use Rattle.rbd_machine.proofs.Lawful.{at_itself, left_here}
 use Rattle.rbd_registry.specs.Directory.{added, id_of}
 use Rattle.rbd_registry.specs.Directory as listing
 use Rattle.rbd_flat.specs.Flat.{Flat}
@@ -30,29 +31,27 @@ use Rattle.rbd_site.specs.DirectoryStep.{name_added, where_added}
 use Rattle.rbd_site.specs.HeaderStep.{header_after, header_answer, snap_added, where_made}
 use Rattle.rbd_site.specs.Found.{done_where}
 use Rattle.rbd_site.specs.InForm.{AreInForm}
-use Rattle.rbd_site.specs.Records.{Records, with_directory}
+use Rattle.rbd_site.specs.Records.{Records, object_at, with_directory}
 use Rattle.rbd_site.specs.Step.{is_fenced, after, after_served, answer_to, answer_served}
-use Rattle.rbd_site.proofs.FenceLemmas.{fence_stays}
-use Rattle.rbd_site.proofs.StepLemmas.{where_fenced}
 use Rattle.rbd_site.proofs.GenerationLemmas.{looked_at}
 use Rattle.rbd_stands.specs.Site.{StandsFor}
 use Rattle.rbd_stands.proofs.Locks.{same_is}
 use Rattle.rbd_stands.proofs.ObjectSteps.{put_there, put_elsewhere}
 use Rattle.rbd_stands.proofs.Served.{where_either}
-use Rattle.rbd_rely.specs.Truth.{AreMapped, AreMapsTrue, IsCountTrue, IsTrueAt, IsStill, IsWaiting, header_of_own, is_alone_on, is_own_alone, known_header}
-use Rattle.rbd_rely.proofs.Fenced.{where_free, was_free, is_put_up, stays_put_up}
-use Rattle.rbd_rely.proofs.Headers.{own_known, owned_there, unknown_of_none}
-use Rattle.rbd_rely.proofs.MapsBehind.{at_each, nothing_mapped}
-use Rattle.rbd_rely.proofs.MapsLearned.{forgotten_true, map_taught, told_of_it}
-use Rattle.rbd_rely.proofs.Kept.{owned_is_other, waits_served, waits_object, kept_by, other_than}
+use Rattle.rbd_stands.specs.Condition.{IsDrawn}
+use Rattle.rbd_stands.proofs.EditSteps.{drawn_served}
+use Rattle.rbd_rely.specs.Truth.{AreMapped, AreMapsTrue, AreObjectsTrue, HasAtLeast, IsCountTrue, IsGoneAt, IsStill, IsTrueAt, IsWaiting, KnowsNoHeader, header_of_own, is_alone_on, is_own_alone, known_header}
+use Rattle.rbd_rely.proofs.Each.{IsKnownAs, IsThereAs, IsTrueOfImage, alike_true, each_true, of_all, of_image, true_as}
+use Rattle.rbd_rely.proofs.Fenced.{where_free, is_put_up, stays_put_up}
+use Rattle.rbd_rely.proofs.Headers.{own_known, owned_there, not_waiting, unknown_of_none}
+use Rattle.rbd_rely.proofs.Kept.{kept_by}
+use Rattle.rbd_rely.proofs.Less.{afresh_less, left_there, less_true, nothing_of, unfenced_less}
+use Rattle.rbd_rely.proofs.MapsBehind.{nothing_mapped}
+use Rattle.rbd_rely.proofs.MapsLearned.{at_no_other, map_taught, told_of_it, told_of_others}
+use Rattle.rbd_rely.proofs.ObjectsLearned.{object_taught}
+use Rattle.rbd_rely.proofs.Told.{header_changed, told_alone, told_apart, told_here}
 
 -- ---- where
-
-site_is : (a b : SiteId) → same_site a b ≡ true → a ≡ b
-site_is sites.A sites.A is = refl
-site_is sites.B sites.B is = refl
-site_is sites.A sites.B is = cc
-site_is sites.B sites.A is = cc
 
 -- a place is that of at most one image
 at_one : (site : SiteId) (image other : ℕ) (there : SiteId) (place : ℕ) → image ≢ other → is_at site image there place ≡ true → is_at site other there place ≡ false
@@ -60,121 +59,104 @@ at_one site image other there place differ is =
     let parts = and_parts (same_site there site) (place == image) is in
     ap (λ b. b && (place == other)) parts.0 ∙ ne_eqb place other (λ e. differ (sym (eqb-true place image parts.1) ∙ e))
 
--- ---- the header of an own
+-- ---- what it is told of a header
 
-abbrev pub header_changed : (Option HeaderView → Option HeaderView) → Option Own → Option HeaderView
-header_changed change None = None
-header_changed change (Some o) = change o.header
+-- what it is told of an image's header is true, and so is what else it knows of the image
+pub record IsTold (site : SiteId) (new : Records) (k : Knowledge) (image : ℕ) (alone : Bool) (h : HeaderView) : Type 0 where
+  pub still : IsStill (Some h) (new.headers image)
+  pub mapped : AreMapsTrue alone (new.maps image) (maps_of k.maps site image)
+  pub objects : AreObjectsTrue alone h.layout (object_at new image) (objects_of k.objects site image)
 
-pub told_here : (site : SiteId) (image : ℕ) (change : Option HeaderView → Option HeaderView) (owns : List Own)
-    → header_of_own (own_of (map (told_of site image change) owns) site image) ≡ header_changed change (own_of owns site image)
-told_here site image change [] = refl
-told_here site image change (o ∷ owns) = by (is_at site image o.site o.image) refl (told_here site image change owns)
-  where
-    by : (b : Bool) → is_at site image o.site o.image ≡ b
-        → header_of_own (own_of (map (told_of site image change) owns) site image) ≡ header_changed change (own_of owns site image)
-        → header_of_own (own_of (map (told_of site image change) (o ∷ owns)) site image) ≡ header_changed change (own_of (o ∷ owns) site image)
-    by true is rest = rw is (rw is refl)
-    by false is rest = rw is (rw is rest)
-
-pub told_there : (site : SiteId) (image other : ℕ) (change : Option HeaderView → Option HeaderView) → image ≢ other → (owns : List Own)
-    → own_of (map (told_of site image change) owns) site other ≡ own_of owns site other
-told_there site image other change differ [] = refl
-told_there site image other change differ (o ∷ owns) = by (is_at site image o.site o.image) refl (told_there site image other change differ owns)
-  where
-    by : (b : Bool) → is_at site image o.site o.image ≡ b → own_of (map (told_of site image change) owns) site other ≡ own_of owns site other
-        → own_of (map (told_of site image change) (o ∷ owns)) site other ≡ own_of (o ∷ owns) site other
-    by true is rest = rw is (rw (at_one site image other o.site o.image differ is) rest)
-    by false is rest = rw is (ap (λ found. cond (is_at site other o.site o.image) (Some o) found) rest)
-
--- and it is alone where it was
-pub told_alone : (site there : SiteId) (image place : ℕ) (change : Option HeaderView → Option HeaderView) (owns : List Own)
-    → is_own_alone (own_of (map (told_of site image change) owns) there place) ≡ is_own_alone (own_of owns there place)
-told_alone site there image place change [] = refl
-told_alone site there image place change (o ∷ owns) = by (is_at site image o.site o.image) (told_alone site there image place change owns)
-  where
-    rest : List Own
-    rest = map (told_of site image change) owns
-
-    same : (t : Bool) → is_own_alone (own_of rest there place) ≡ is_own_alone (own_of owns there place)
-        → is_own_alone (cond t (Some (record o { header = change o.header })) (own_of rest there place)) ≡ is_own_alone (cond t (Some o) (own_of owns there place))
-    same true e = refl
-    same false e = e
-
-    kept : (t : Bool) → is_own_alone (own_of rest there place) ≡ is_own_alone (own_of owns there place)
-        → is_own_alone (cond t (Some o) (own_of rest there place)) ≡ is_own_alone (cond t (Some o) (own_of owns there place))
-    kept true e = refl
-    kept false e = e
-
-    by : (b : Bool) → is_own_alone (own_of rest there place) ≡ is_own_alone (own_of owns there place)
-        → is_own_alone (own_of (cond b (record o { header = change o.header }) o ∷ rest) there place) ≡ is_own_alone (own_of (o ∷ owns) there place)
-    by true e = same (is_at there place o.site o.image) e
-    by false e = kept (is_at there place o.site o.image) e
-
-module _ (site : SiteId) (r new : Records) (me : Instance) (k : Knowledge) (t : IsTrueAt site r me k) (free : IsFalse (is_fenced r me)) where
+module _ (site : SiteId) (r new : Records) (me : Instance) (k : Knowledge) (t : IsTrueAt site r me k) (was : IsFalse (is_fenced new me) → IsFalse (is_fenced r me))
+    (fences : (i : Instance) → is_fenced_by k.fenced site i ≡ true → is_fenced new i ≡ true) (image : ℕ) (others : (i : ℕ) → i ≢ image → IsThereAs r new i)
+    (change : Option HeaderView → Option HeaderView) (o : Option Own) (at : own_of k.owns site image ≡ o) where
   -- what it was told of one image
-  pub told_true : (image : ℕ) (change : Option HeaderView → Option HeaderView) → ((i : ℕ) → i ≢ image → new.headers i ≡ r.headers i)
-      → IsStill (header_changed change (own_of k.owns site image)) (new.headers image) → ((i : ℕ) → is_drawn k.drawn site i ≡ true → IsWaiting new i)
-      → ((i : Instance) → is_fenced_by k.fenced site i ≡ true → is_fenced new i ≡ true) → ((i : ℕ) → new.maps i ≡ r.maps i)
-      → (IsSome (header_changed change (own_of k.owns site image)) → AreMapsTrue (is_alone_on k site image) (r.maps image) (maps_of k.maps site image))
+  pub told_true : (is_drawn k.drawn site image ≡ true → IsWaiting new image) → (is_gone k.gone site image ≡ true → IsGoneAt new image)
+      → new.maps image ≡ r.maps image → ((h : HeaderView) → header_changed change o ≡ Some h → IsTold site new k image (is_own_alone o) h)
       → IsTrueAt site new me (header_told site image change k)
-  told_true image change others here waits listed maps mapped = record {
-    owned = λ still_free i. by i (i == image) refl;
-    drawn = waits;
-    fenced = listed;
-    mapped = λ still_free i known.
-        subst (λ m. AreMapsTrue (is_alone_on (header_told site image change k) site i) m (maps_of k.maps site i)) (sym (maps i))
-        (subst (λ alone. AreMapsTrue alone (r.maps i) (maps_of k.maps site i)) (sym (told_alone site site image i change k.owns)) (at_each IsMapped image mapped_here mapped_there i known));
-    counted = λ i drawn. subst (λ m. IsCountTrue (maps_of k.maps site i).count (m None)) (sym (maps i)) (t.counted i drawn);
-  }
+  told_true waits goes maps told =
+      each_true site r new me k learnt image t was fences it
+      (λ i other. record { own = told_apart site site image i change (at_no_other site image i other) k.owns; drawn = refl; maps = refl; objects = refl; gone = refl })
+      others
     where
-      IsMapped : ℕ → Type 0
-      IsMapped i = IsSome (known_header (header_told site image change k) site i) → AreMapsTrue (is_alone_on k site i) (r.maps i) (maps_of k.maps site i)
+      learnt : Knowledge
+      learnt = header_told site image change k
 
-      mapped_here : IsMapped image
-      mapped_here known = mapped (ap is_some (sym (told_here site image change k.owns)) ∙ known)
+      header_is : known_header learnt site image ≡ header_changed change o
+      header_is = told_here site image change k.owns ∙ ap (header_changed change) at
 
-      mapped_there : (i : ℕ) → i ≢ image → IsMapped i
-      mapped_there i differ known = t.mapped free i (ap (λ o. is_some (header_of_own o)) (sym (told_there site image i change (λ e. differ (sym e)) k.owns)) ∙ known)
+      alone_is : is_alone_on learnt site image ≡ is_own_alone o
+      alone_is = told_alone site site image image change k.owns ∙ ap is_own_alone at
 
-      by : (i : ℕ) (b : Bool) → (i == image) ≡ b → IsStill (known_header (header_told site image change k) site i) (new.headers i)
-      by i true same =
-          subst (λ i. IsStill (known_header (header_told site image change k) site i) (new.headers i)) (sym (eqb-true i image same))
-          (subst (λ o. IsStill o (new.headers image)) (sym (told_here site image change k.owns)) here)
-      by i false other =
-          let differ : i ≢ image = λ e. true≢false (sym (eq-eqb i image e) ∙ other) in
-          subst (λ o. IsStill o (new.headers i)) (sym (ap header_of_own (told_there site image i change (λ e. differ (sym e)) k.owns)))
-          (subst (IsStill (known_header k site i)) (sym (others i differ)) (t.owned free i))
+      still : (known : Option HeaderView) → header_changed change o ≡ known → IsStill known (new.headers image)
+      still None is = tt
+      still (Some h) is = (told h is).still
+
+      mapped : (known : Option HeaderView) → header_changed change o ≡ known → IsSome known → AreMapsTrue (is_own_alone o) (new.maps image) (maps_of k.maps site image)
+      mapped None is some = absurd (true≢false (sym some))
+      mapped (Some h) is some = (told h is).mapped
+
+      it : IsTrueOfImage site new me learnt image
+      it = record {
+        owned = λ free. subst (λ known. IsStill known (new.headers image)) (sym header_is) (still (header_changed change o) refl);
+        drawn = waits;
+        mapped = λ free some.
+            subst (λ alone. AreMapsTrue alone (new.maps image) (maps_of k.maps site image)) (sym alone_is)
+            (mapped (header_changed change o) refl (ap is_some (sym header_is) ∙ some));
+        objects = λ free h known.
+            subst (λ alone. AreObjectsTrue alone h.layout (object_at new image) (objects_of k.objects site image)) (sym alone_is) (told h (sym header_is ∙ known)).objects;
+        gone = goes;
+        apart = t.apart image;
+        counted = λ without. subst (λ m. IsCountTrue (maps_of k.maps site image).count (m None)) (sym maps) (t.counted image without);
+      }
 
 -- ---- the directory
 
 -- a fresh id waits for its header
 module _ (site : SiteId) (r : Records) (f : Flat) (me : Instance) (k : Knowledge) (stands : StandsFor [] r f) (t : IsTrueAt site r me k) where
-  fresh_waits : (name : List ℕ) (image : ℕ) → image ≡ r.directory.drawn + 1 → IsWaiting (with_directory (added name r.directory) r) image
-  fresh_waits name image new =
-      let untouched = stands.fresh image (omega (arith, new)) in
-      record { drawn = omega (arith, new); header = untouched.header; blank = untouched.blank }
+  abbrev fresh : ℕ
+  fresh = r.directory.drawn + 1
 
-  drawn_true : (name : List ℕ) → IsTrueAt site (with_directory (added name r.directory) r) me (with_drawn site (r.directory.drawn + 1) k)
-  drawn_true name = record {
-    owned = t.owned;
-    drawn = λ i drawn. by i (is_at site i site (r.directory.drawn + 1)) refl drawn;
-    fenced = t.fenced;
-    mapped = λ free i known. mapped i (is_at site i site (r.directory.drawn + 1)) (t.mapped free i known);
-    counted = λ i drawn. counted i (is_at site i site (r.directory.drawn + 1)) drawn;
-  }
+  fresh_waits : (name : List ℕ) → IsWaiting (with_directory (added name r.directory) r) fresh
+  fresh_waits name =
+      let untouched = stands.fresh fresh (omega arith) in
+      record { drawn = omega arith; header = untouched.header; blank = untouched.blank }
+
+  -- it is none whose header was removed
+  not_gone : is_gone k.gone site fresh ≡ true → ⊥
+  not_gone gone = let before = (t.gone fresh gone).drawn in omega (arith, before)
+
+  drawn_true : (name : List ℕ) → IsTrueAt site (with_directory (added name r.directory) r) me (with_drawn site fresh k)
+  drawn_true name =
+      each_true site r new me k learnt fresh t (λ f. f) t.fenced it
+      (λ i other. record {
+        own = refl;
+        drawn = ap (λ b. cond b true (is_drawn k.drawn site i)) (at_no_other site fresh i other);
+        maps = ap (λ b. cond b unmapped (maps_of k.maps site i)) (at_no_other site fresh i other);
+        objects = refl;
+        gone = refl;
+      })
+      (λ i other. record { header = refl; maps = refl; objects = λ n. refl; drawn = omega arith })
     where
-      mapped : (i : ℕ) (b : Bool) → AreMapsTrue (is_alone_on k site i) (r.maps i) (maps_of k.maps site i) → AreMapsTrue (is_alone_on k site i) (r.maps i) (cond b unmapped (maps_of k.maps site i))
-      mapped i true was = nothing_mapped (is_alone_on k site i) (r.maps i)
-      mapped i false was = was
+      new : Records
+      new = with_directory (added name r.directory) r
 
-      counted : (i : ℕ) (b : Bool) → cond b true (is_drawn k.drawn site i) ≡ true → IsCountTrue (cond b unmapped (maps_of k.maps site i)).count (r.maps i None)
-      counted i true drawn = tt
-      counted i false drawn = t.counted i drawn
+      learnt : Knowledge
+      learnt = with_drawn site fresh k
 
-      by : (i : ℕ) (b : Bool) → is_at site i site (r.directory.drawn + 1) ≡ b → cond b true (is_drawn k.drawn site i) ≡ true → IsWaiting (with_directory (added name r.directory) r) i
-      by i true here drawn = fresh_waits name i (sym (eqb-true (r.directory.drawn + 1) i (and_parts (same_site site site) ((r.directory.drawn + 1) == i) here).1))
-      by i false there drawn = let w = t.drawn i drawn in let before = w.drawn in record { drawn = omega (arith, before); header = w.header; blank = w.blank }
+      unmapped_now : maps_of learnt.maps site fresh ≡ unmapped
+      unmapped_now = ap (λ b. cond b unmapped (maps_of k.maps site fresh)) (at_itself site fresh)
+
+      it : IsTrueOfImage site new me learnt fresh
+      it = record {
+        owned = λ free. t.owned free fresh;
+        drawn = λ drawn. fresh_waits name;
+        mapped = λ free known. subst (AreMapsTrue (is_alone_on k site fresh) (r.maps fresh)) (sym unmapped_now) (nothing_mapped (is_alone_on k site fresh) (r.maps fresh));
+        objects = λ free. t.objects free fresh;
+        gone = λ gone. absurd (not_gone gone);
+        apart = λ gone. absurd (not_gone gone);
+        counted = λ without. subst (λ m. IsCountTrue m.count (r.maps fresh None)) (sym unmapped_now) tt;
+      }
 
   added_true : (name : List ℕ) (held : Option ℕ) (full : Bool)
       → IsTrueAt site (with_directory (where_added (name_added held full (r.directory.drawn + 1)) (added name r.directory) r.directory) r) me
@@ -183,11 +165,18 @@ module _ (site : SiteId) (r : Records) (f : Flat) (me : Instance) (k : Knowledge
   added_true name None true = t
   added_true name None false = drawn_true name
 
-  directory_learned : (o : DirectoryOp) → PermitsOnDirectory o → IsTrueAt site (after_served r me (op.Directory o)) me (learned_of_directory k site o (answer_served r me (op.Directory o)))
-  directory_learned (directory.Find name) permits = t
-  directory_learned directory.List permits = t
-  directory_learned (directory.Add name) permits = added_true name (id_of r.directory name) (listing.is_full r.directory)
-  directory_learned _ permits = elim permits [ ]
+  -- a change of names draws no id
+  renamed_true : (o : DirectoryOp) → IsTrueAt site (after_served r me (op.Directory o)) me k
+  renamed_true o =
+      alike_true site r (after_served r me (op.Directory o)) me k t (λ f. f) t.fenced
+      (λ i. record { header = refl; maps = refl; objects = λ n. refl; drawn = drawn_served r me (op.Directory o) r.directory.drawn (omega arith) })
+
+  directory_learned : (o : DirectoryOp) → IsTrueAt site (after_served r me (op.Directory o)) me (learned_of_directory k site o (answer_served r me (op.Directory o)))
+  directory_learned (directory.Find name) = t
+  directory_learned directory.List = t
+  directory_learned (directory.Add name) = added_true name (id_of r.directory name) (listing.is_full r.directory)
+  directory_learned (directory.Rename from to) = renamed_true (directory.Rename from to)
+  directory_learned (directory.Remove image) = renamed_true (directory.Remove image)
 
 -- ---- headers
 
@@ -209,6 +198,19 @@ drawn_left site image i (d ∷ drawn) is = by (is_at site image d.site d.image) 
     by false here true there is more = (refl, λ same. true≢false (sym there ∙ ap (λ n. is_at site n d.site d.image) same ∙ here))
     by false here false there is more = more (sym (ap (λ b. cond b true (is_drawn rest site i)) there) ∙ is)
 
+-- another one is left behind if it was drawn
+pub drawn_elsewhere : (site : SiteId) (image i : ℕ) → i ≢ image → (drawn : List Place) → is_drawn (filter (λ d. not (is_at site image d.site d.image)) drawn) site i ≡ is_drawn drawn site i
+drawn_elsewhere site image i other [] = refl
+drawn_elsewhere site image i other (d ∷ drawn) = by (is_at site image d.site d.image) refl (drawn_elsewhere site image i other drawn)
+  where
+    rest : List Place
+    rest = filter (λ d. not (is_at site image d.site d.image)) drawn
+
+    by : (b : Bool) → is_at site image d.site d.image ≡ b → is_drawn rest site i ≡ is_drawn drawn site i
+        → is_drawn (cond (not b) (d ∷ rest) rest) site i ≡ cond (is_at site i d.site d.image) true (is_drawn drawn site i)
+    by true here more = more ∙ sym (ap (λ c. cond c true (is_drawn drawn site i)) (at_one site image i d.site d.image (λ same. other (sym same)) here))
+    by false there more = ap (λ c. cond (is_at site i d.site d.image) true c) more
+
 -- of an instance that isn't fenced
 module _ (site : SiteId) (r : Records) (me : Instance) (k : Knowledge) (t : IsTrueAt site r me k) (free : IsFalse (is_fenced r me)) where
   abbrev pub doing : (image : ℕ) → HeaderOp → Records
@@ -217,70 +219,122 @@ module _ (site : SiteId) (r : Records) (me : Instance) (k : Knowledge) (t : IsTr
   elsewhere : (image : ℕ) (o : HeaderOp) (i : ℕ) → i ≢ image → (doing image o).headers i ≡ r.headers i
   elsewhere image o i differ = put_elsewhere r.headers image (header_after me (r.headers image) o) i differ
 
-  -- what it was told of maps before its first look is forgotten
-  looked_true : (image : ℕ) → IsTrueAt site r me (looked_behind site image k)
-  looked_true image = by (own_of k.owns site image)
-    where
-      of : (header : Option HeaderView) → IsTrueAt site r me (record k { maps = maps_looked header site image k.maps })
-      of None = forgotten_true site r me k image t
-      of (Some h) = t
-
-      by : (o : Option Own) → IsTrueAt site r me (record k { maps = maps_owned o site image k.maps })
-      by None = t
-      by (Some o) = of o.header
-
+  -- what a look teaches of an image that it owns, or doesn't
   got : (image : ℕ) (there : Option HeaderView) → r.headers image ≡ there → IsTrueAt site r me (learned_of_header k site image header.Get (header_answer me there (r.watchers image) header.Get))
   got image None is = t
-  got image (Some h) is =
-      let before = looked_true image in
-      told_true site r r me (looked_behind site image k) before free image (first_told h) (λ i differ. refl) (by (own_of k.owns site image) refl) before.drawn before.fenced (λ i. refl)
-      (mapped (own_of k.owns site image) refl)
+  got image (Some h) is = by (own_of k.owns site image) refl
     where
-      mapped : (o : Option Own) → own_of k.owns site image ≡ o → IsSome (header_changed (first_told h) o) → AreMapsTrue (is_own_alone o) (r.maps image) (maps_of (maps_owned o site image k.maps) site image)
-      mapped None at some = absurd (true≢false (sym some))
-      mapped (Some o) at some = of o.header refl
-        where
-          of : (header : Option HeaderView) → o.header ≡ header → AreMapsTrue o.alone (r.maps image) (maps_of (maps_looked header site image k.maps) site image)
-          of None unknown = subst (AreMapsTrue o.alone (r.maps image)) (sym (told_of_it site image unmapped k.maps)) (nothing_mapped o.alone (r.maps image))
-          of (Some own) known =
-              subst (λ alone. AreMapsTrue alone (r.maps image) (maps_of k.maps site image)) (ap is_own_alone at)
-              (t.mapped free image (ap (λ q. is_some (header_of_own q)) at ∙ ap is_some known))
+      look : (known : Knowledge) → IsTrueAt site r me known → (o : Option Own) → own_of known.owns site image ≡ o
+          → ((v : HeaderView) → header_changed (first_told h) o ≡ Some v → IsTold site r known image (is_own_alone o) v) → IsTrueAt site r me (header_told site image (first_told h) known)
+      look known true_of_it o at told =
+          told_true site r r me known true_of_it (λ f. f) true_of_it.fenced image (λ i other. record { header = refl; maps = refl; objects = λ n. refl; drawn = omega arith }) (first_told h) o at
+          (true_of_it.drawn image) (true_of_it.gone image) refl told
 
-      still : (o : Own) (known : Option HeaderView) → o.header ≡ known → IsStill known (Some h) → IsStill (first_told h o.header) (Some h)
-      still o None is was = subst (λ q. IsStill (first_told h q) (Some h)) (sym is) refl
-      still o (Some own) is was = subst (λ q. IsStill (first_told h q) (Some h)) (sym is) was
+      -- one that it knows already tells nothing new
+      again : (o : Own) (own : HeaderView) → o.header ≡ Some own → own_of k.owns site image ≡ Some o → (v : HeaderView) → first_told h o.header ≡ Some v → IsTold site r k image o.alone v
+      again o own had at v told =
+          let known : known_header k site image ≡ Some v = ap header_of_own at ∙ had ∙ sym (ap (first_told h) had) ∙ told in
+          let some : IsSome (known_header k site image) = ap is_some known in
+          let alone : is_alone_on k site image ≡ o.alone = ap is_own_alone at in
+          record {
+            still = subst (λ q. IsStill q (r.headers image)) known (t.owned free image);
+            mapped = subst (λ b. AreMapsTrue b (r.maps image) (maps_of k.maps site image)) alone (t.mapped free image some);
+            objects = subst (λ b. AreObjectsTrue b v.layout (object_at r image) (objects_of k.objects site image)) alone (t.objects free image v known);
+          }
 
-      by : (o : Option Own) → own_of k.owns site image ≡ o → IsStill (header_changed (first_told h) o) (r.headers image)
-      by None at = tt
-      by (Some o) at =
-          subst (IsStill (first_told h o.header)) (sym is)
-          (still o o.header refl (subst (IsStill o.header) is (subst (λ q. IsStill (header_of_own q) (r.headers image)) at (t.owned free image))))
+      -- the first one tells the header that is there
+      first : (o : Own) → o.header ≡ None → (v : HeaderView) → first_told h o.header ≡ Some v → IsTold site r (afresh site image k) image o.alone v
+      first o unknown v told =
+          let same : h ≡ v = same_Some h v (sym (ap (first_told h) unknown) ∙ told) in
+          let unmapped_now : maps_of (afresh site image k).maps site image ≡ unmapped = told_of_it site image unmapped (unmarked k.maps) in
+          record {
+            still = subst (λ q. IsStill (Some q) (r.headers image)) same (subst (IsStill (Some h)) (sym is) refl);
+            mapped = subst (AreMapsTrue o.alone (r.maps image)) (sym unmapped_now) (nothing_mapped o.alone (r.maps image));
+            objects = nothing_of o.alone v.layout (object_at r image);
+          }
+
+      owning : (o : Own) (header : Option HeaderView) → o.header ≡ header → own_of k.owns site image ≡ Some o → IsTrueAt site r me (header_told site image (first_told h) (looked_by header site image k))
+      owning o None unknown at = look (afresh site image k) (less_true site (afresh site image k) k (afresh_less site site image k) r me t) (Some o) at (first o unknown)
+      owning o (Some own) had at = look k t (Some o) at (again o own had at)
+
+      by : (o : Option Own) → own_of k.owns site image ≡ o → IsTrueAt site r me (header_told site image (first_told h) (looked_owning o site image k))
+      by None at = look k t None at (λ v told. absurd (none-some v told))
+      by (Some o) at = owning o o.header refl at
+
+  -- what is done to its header leaves the others
+  others_there : (image : ℕ) (o : HeaderOp) (i : ℕ) → i ≢ image → IsThereAs r (doing image o) i
+  others_there image o i other = record { header = elsewhere image o i other; maps = refl; objects = λ n. refl; drawn = omega arith }
 
   made : (image : ℕ) (view : HeaderView) → MayMake k site image view → IsTrueAt site (doing image (header.Create view)) me (without_drawn site image k)
-  made image view may = record { owned = λ still_free i. by i (i == image) refl; drawn = λ i drawn. waits i (drawn_left site image i k.drawn drawn); fenced = t.fenced; mapped = λ still_free. t.mapped free; counted = λ i drawn. t.counted i (drawn_left site image i k.drawn drawn).0 }
+  made image view may =
+      each_true site r (doing image (header.Create view)) me k (without_drawn site image k) image t (λ f. f) t.fenced it
+      (λ i other. record { own = refl; drawn = drawn_elsewhere site image i other k.drawn; maps = refl; objects = refl; gone = refl })
+      (others_there image (header.Create view))
     where
-      by : (i : ℕ) (b : Bool) → (i == image) ≡ b → IsStill (known_header k site i) ((doing image (header.Create view)).headers i)
-      by i true same =
-          unknown_of_none (known_header k site i) ((doing image (header.Create view)).headers i)
-          (subst (λ n. IsStill (known_header k site n) None) (sym (eqb-true i image same)) (subst (IsStill (known_header k site image)) (t.drawn image may.drawn).header (t.owned free image)))
-      by i false other =
-          subst (IsStill (known_header k site i)) (sym (elsewhere image (header.Create view) i (λ e. true≢false (sym (eq-eqb i image e) ∙ other)))) (t.owned free i)
+      undrawn : is_drawn (without_drawn site image k).drawn site image ≡ true → ⊥
+      undrawn drawn = (drawn_left site image image k.drawn drawn).1 refl
 
-      waits : (i : ℕ) → (is_drawn k.drawn site i ≡ true) × (i ≢ image) → IsWaiting (doing image (header.Create view)) i
-      waits i left = waits_served r me (op.Header image (header.Create view)) i (other_than image i (λ e. left.1 (sym e))) (t.drawn i left.0)
+      remains : is_gone k.gone site image ≡ true → ⊥
+      remains gone = true≢false (sym may.drawn ∙ t.apart image gone)
+
+      it : IsTrueOfImage site (doing image (header.Create view)) me (without_drawn site image k) image
+      it = record {
+        owned = λ f. unknown_of_none (known_header k site image) ((doing image (header.Create view)).headers image) (subst (IsStill (known_header k site image)) (t.drawn image may.drawn).header (t.owned free image));
+        drawn = λ drawn. absurd (undrawn drawn);
+        mapped = λ f. t.mapped free image;
+        objects = λ f. t.objects free image;
+        gone = λ gone. absurd (remains gone);
+        apart = λ gone. absurd (remains gone);
+        counted = counted;
+      }
+        where
+          counted : KnowsNoHeader (without_drawn site image k) site image → IsCountTrue (maps_of k.maps site image).count (r.maps image None)
+          counted (inl drawn) = absurd (undrawn drawn)
+          counted (inr gone) = absurd (remains gone)
+
+  -- ---- a header that it owns
+
+  -- an image that it owns has a header
+  module _ (image : ℕ) (condition : (alone : Bool) → HeaderView → Type 0) (owns : OwnsBy k site image condition) where
+    owned_undrawn : is_drawn k.drawn site image ≡ true → ⊥
+    owned_undrawn drawn = not_waiting site r me k image condition t free owns (t.drawn image drawn).header
+
+    owned_remains : is_gone k.gone site image ≡ true → ⊥
+    owned_remains gone = not_waiting site r me k image condition t free owns (t.gone image gone).header
 
   -- a change of the header by the one who owns it
   edited : (image : ℕ) (o : HeaderOp) (condition : (alone : Bool) → HeaderView → Type 0) (owns : OwnsBy k site image condition) (edit : HeaderView → HeaderView)
-      → ((h : HeaderView) (owner : Option Instance) → edit (record h { owner = owner }) ≡ record (edit h) { owner = owner })
+      → ((h : HeaderView) (owner : Option Instance) → edit (record h { owner = owner }) ≡ record (edit h) { owner = owner }) → ((h : HeaderView) → (edit h).layout ≡ h.layout)
       → (v : HeaderView) → v ≡ record owns.header { owner = v.owner } → (edit v).owner ≡ v.owner
       → header_after me (r.headers image) o ≡ Some (edit v) → IsTrueAt site (doing image o) me (header_told site image (option_map edit) k)
-  edited image o condition owns edit keeps v same owner is =
-      told_true site r (doing image o) me k t free image (option_map edit) (elsewhere image o)
-      (subst (λ q. IsStill (header_changed (option_map edit) q) ((doing image o).headers image)) (sym owns.is)
-      (subst (IsStill (Some (edit owns.header))) (sym (put_there r.headers image (header_after me (r.headers image) o) ∙ is))
-      (ap edit same ∙ keeps owns.header v.owner ∙ ap (λ w. record (edit owns.header) { owner = w }) (sym owner))))
-      (λ i drawn. waits_served r me (op.Header image o) i (owned_is_other site r me k image i condition t free owns (t.drawn i drawn)) (t.drawn i drawn))
-      t.fenced (λ i. refl) (λ some. t.mapped free image (ap is_some (own_known k site image condition owns)))
+  edited image o condition owns edit keeps laid v same owner is =
+      told_true site r (doing image o) me k t (λ f. f) t.fenced image (others_there image o) (option_map edit) (Some own) owns.is
+      (λ drawn. absurd (owned_undrawn image condition owns drawn)) (λ gone. absurd (owned_remains image condition owns gone)) refl told
+    where
+      own : Own
+      own = record { site = site; image = image; alone = owns.alone; header = Some owns.header }
+
+      known : known_header k site image ≡ Some owns.header
+      known = own_known k site image condition owns
+
+      alone : is_alone_on k site image ≡ owns.alone
+      alone = ap is_own_alone owns.is
+
+      still : IsStill (Some (edit owns.header)) ((doing image o).headers image)
+      still =
+          subst (IsStill (Some (edit owns.header))) (sym (put_there r.headers image (header_after me (r.headers image) o) ∙ is))
+          (ap edit same ∙ keeps owns.header v.owner ∙ ap (λ w. record (edit owns.header) { owner = w }) (sym owner))
+
+      told : (w : HeaderView) → Some (edit owns.header) ≡ Some w → IsTold site (doing image o) k image owns.alone w
+      told w at =
+          let now : edit owns.header ≡ w = same_Some (edit owns.header) w at in
+          let layout : owns.header.layout ≡ w.layout = sym (laid owns.header) ∙ ap (λ (h : HeaderView). h.layout) now in
+          record {
+            still = subst (λ q. IsStill (Some q) ((doing image o).headers image)) now still;
+            mapped = subst (λ b. AreMapsTrue b (r.maps image) (maps_of k.maps site image)) alone (t.mapped free image (ap is_some known));
+            objects = subst (λ l. AreObjectsTrue owns.alone l (object_at r image) (objects_of k.objects site image)) layout
+                (subst (λ b. AreObjectsTrue b owns.header.layout (object_at r image) (objects_of k.objects site image)) alone (t.objects free image owns.header known));
+          }
 
   -- ---- snapshots
 
@@ -322,7 +376,7 @@ module _ (site : SiteId) (r : Records) (me : Instance) (k : Knowledge) (t : IsTr
       let there = owned_there site r me k image _ t free owns in
       let edits = takes image name owns in
       subst (λ a. IsTrueAt site (doing image (header.SnapAdd name)) me (learned_of_header k site image (header.SnapAdd name) a)) (sym edits.answered)
-      (edited image (header.SnapAdd name) _ owns (with_snap name) (λ h owner. refl) there.view there.same refl edits.is)
+      (edited image (header.SnapAdd name) _ owns (with_snap name) (λ h owner. refl) (λ h. refl) there.view there.same refl edits.is)
 
   removed : (image snap : ℕ) → OwnsAlone k site image (MayRemove snap)
       → IsTrueAt site (doing image (header.SnapRemove snap)) me (learned_of_header k site image (header.SnapRemove snap) (header_answer me (r.headers image) (r.watchers image) (header.SnapRemove snap)))
@@ -330,41 +384,86 @@ module _ (site : SiteId) (r : Records) (me : Instance) (k : Knowledge) (t : IsTr
       let there = owned_there site r me k image _ t free owns in
       let edits = removes image snap owns in
       subst (λ a. IsTrueAt site (doing image (header.SnapRemove snap)) me (learned_of_header k site image (header.SnapRemove snap) a)) (sym edits.answered)
-      (edited image (header.SnapRemove snap) _ owns (without_snap snap) (λ h owner. refl) there.view there.same refl edits.is)
+      (edited image (header.SnapRemove snap) _ owns (without_snap snap) (λ h owner. refl) (λ h. refl) there.view there.same refl edits.is)
+
+  -- ---- its size, and its end
+
+  sized : (image to : ℕ) → OwnsAlone k site image (MaySize (maps_of k.maps site image) (objects_of k.objects site image) to)
+      → IsTrueAt site (doing image (header.SetSize to)) me (learned_of_header k site image (header.SetSize to) (header_answer me (r.headers image) (r.watchers image) (header.SetSize to)))
+  sized image to owns =
+      let there = owned_there site r me k image _ t free owns in
+      subst (λ a. IsTrueAt site (doing image (header.SetSize to)) me (learned_of_header k site image (header.SetSize to) a)) (sym (ap (λ h. header_answer me h (r.watchers image) (header.SetSize to)) there.is))
+      (edited image (header.SetSize to) _ owns (with_size to) (λ h owner. refl) (λ h. refl) there.view there.same refl (ap (λ h. header_after me h (header.SetSize to)) there.is))
+
+  -- It has no header any more, but its id was drawn, and its head's map is still there.
+  gone : (image : ℕ) → IsDrawn r image → IsSome (r.maps image None) → OwnsAlone k site image (λ h. h.snaps ≡ [])
+      → IsTrueAt site (doing image header.Remove) me (learned_of_header k site image header.Remove (header_answer me (r.headers image) (r.watchers image) header.Remove))
+  gone image drawn has_map owns =
+      let there = owned_there site r me k image _ t free owns in
+      subst (λ a. IsTrueAt site (doing image header.Remove) me (learned_of_header k site image header.Remove a)) (sym (ap (λ h. header_answer me h (r.watchers image) header.Remove) there.is))
+      (each_true site r (doing image header.Remove) me k learnt image t (λ f. f) t.fenced (it there.view there.is) known_elsewhere (others_there image header.Remove))
+    where
+      learnt : Knowledge
+      learnt = removed_header site image k
+
+      known_elsewhere : (i : ℕ) → i ≢ image → IsKnownAs site learnt k i
+      known_elsewhere i other = record {
+        own = left_there site site image i (at_no_other site image i other) k.owns;
+        drawn = refl;
+        maps = told_of_others site image only_there k.maps i other;
+        objects = refl;
+        gone = ap (λ b. cond b true (is_gone k.gone site i)) (at_no_other site image i other);
+      }
+
+      unowned : known_header learnt site image ≡ None
+      unowned = ap header_of_own (left_here site image k.owns)
+
+      unknown : (h : HeaderView) → known_header learnt site image ≡ Some h → ⊥
+      unknown h known = none-some h (sym unowned ∙ known)
+
+      unsome : IsSome (known_header learnt site image) → ⊥
+      unsome some = true≢false (sym some ∙ ap is_some unowned)
+
+      it : (h : HeaderView) → r.headers image ≡ Some h → IsTrueOfImage site (doing image header.Remove) me learnt image
+      it h is = record {
+        owned = λ f. subst (λ q. IsStill q ((doing image header.Remove).headers image)) (sym unowned) tt;
+        drawn = λ d. absurd (owned_undrawn image _ owns d);
+        mapped = λ f some. absurd (unsome some);
+        objects = λ f v known. absurd (unknown v known);
+        gone = λ g. record { drawn = drawn; header = put_there r.headers image (header_after me (r.headers image) header.Remove) ∙ ap (λ q. header_after me q header.Remove) is };
+        apart = λ g. unlisted (is_drawn k.drawn site image) refl;
+        counted = λ without. subst (λ m. IsCountTrue m.count (r.maps image None)) (sym (told_of_it site image only_there k.maps)) (at_least (r.maps image None) has_map);
+      }
+        where
+          unlisted : (b : Bool) → is_drawn k.drawn site image ≡ b → b ≡ false
+          unlisted false d = refl
+          unlisted true d = absurd (owned_undrawn image _ owns d)
+
+          at_least : (map : Option (List ℕ)) → IsSome map → HasAtLeast 0 map
+          at_least None some = absurd (true≢false (sym some))
+          at_least (Some there) some = record { there = there; is = refl; long = omega arith }
 
 -- ---- fences
 
--- a fence that is known without the last one of an instance was known with it
-pub was_known : (there : SiteId) (owner : Instance) (site : SiteId) (i : Instance) (fenced : List Fence) → is_fenced_by (unfenced there owner fenced) site i ≡ true → is_fenced_by fenced site i ≡ true
-was_known there owner site i [] known = known
-was_known there owner site i (f ∷ fenced) known = by (is_fence_of there owner f) (is_fence_of site i f) refl known (was_known there owner site i fenced)
-  where
-    by : (a b : Bool) → is_fence_of site i f ≡ b → is_fenced_by (cond a fenced (f ∷ unfenced there owner fenced)) site i ≡ true
-        → (is_fenced_by (unfenced there owner fenced) site i ≡ true → is_fenced_by fenced site i ≡ true) → cond b true (is_fenced_by fenced site i) ≡ true
-    by a true is known before = refl
-    by true false is known before = known
-    by false false is known before = before (sym (ap (λ b. cond b true (is_fenced_by (unfenced there owner fenced) site i)) is) ∙ known)
-
--- to forget one does no harm
-unfenced_true : (site there : SiteId) (r : Records) (me : Instance) (k : Knowledge) (owner : Instance) → IsTrueAt site r me k → IsTrueAt site r me (without_fence there owner k)
-unfenced_true site there r me k owner t = record { owned = t.owned; drawn = t.drawn; fenced = λ i known. t.fenced i (was_known there owner site i k.fenced known); mapped = t.mapped; counted = t.counted }
-
 broken_true : (site : SiteId) (r : Records) (me : Instance) (k : Knowledge) (image : ℕ) (owner : Instance) (a : Answer) → IsTrueAt site r me k
     → IsTrueAt site r me (learned_of_header k site image (header.LockBreak owner) a)
-broken_true site r me k image owner answer.Done t = unfenced_true site site r me k owner t
-broken_true site r me k image owner answer.Changed t = unfenced_true site site r me k owner t
+broken_true site r me k image owner answer.Done t = less_true site (without_fence site owner k) k (unfenced_less site site owner k) r me t
+broken_true site r me k image owner answer.Changed t = less_true site (without_fence site owner k) k (unfenced_less site site owner k) r me t
 broken_true site r me k image owner _ t = t
 
 listed_true : (site : SiteId) (r : Records) (me : Instance) (k : Knowledge) (i : Instance) → IsTrueAt site r me k → IsFalse (is_fenced r me)
     → IsTrueAt site (after_served r me (op.BlockAdd i)) me (with_fence site i k)
-listed_true site r me k i t free = record {
-  owned = λ still_free. t.owned free;
-  drawn = λ image drawn. let w = t.drawn image drawn in record { drawn = w.drawn; header = w.header; blank = w.blank };
-  fenced = λ other known. by other (is_fence_of site other (record { site = site; instance = i })) refl known;
-  mapped = λ still_free. t.mapped free;
-  counted = t.counted;
-}
+listed_true site r me k i t free =
+    of_all site new me learnt (λ other known. by other (is_fence_of site other (record { site = site; instance = i })) refl known)
+    (λ image. true_as site r new me k learnt image (of_image site r me k t image) (record { own = refl; drawn = refl; maps = refl; objects = refl; gone = refl })
+    (record { header = refl; maps = refl; objects = λ n. refl; drawn = omega arith }) (λ f. free))
   where
+    new : Records
+    new = after_served r me (op.BlockAdd i)
+
+    learnt : Knowledge
+    learnt = with_fence site i k
+
     by : (other : Instance) (b : Bool) → is_fence_of site other (record { site = site; instance = i }) ≡ b → cond b true (is_fenced_by k.fenced site other) ≡ true
         → is_fenced (after_served r me (op.BlockAdd i)) other ≡ true
     by other true is known =
@@ -373,9 +472,17 @@ listed_true site r me k i t free = record {
 
 -- ---- headers, whether it is fenced or not
 
-module _ (site : SiteId) (r : Records) (me : Instance) (k : Knowledge) (t : IsTrueAt site r me k) where
+module _ (site : SiteId) (r : Records) (f : Flat) (me : Instance) (k : Knowledge) (stands : StandsFor [] r f) (mapped : AreMapped r) (t : IsTrueAt site r me k) where
   abbrev HeaderTeaches : (image : ℕ) → HeaderOp → Answer → Records → Type 0
   HeaderTeaches image o a s = IsTrueAt site s me (learned_of_header k site image o a)
+
+  -- the id of an image that has a header was drawn
+  has_drawn : (image : ℕ) (h : HeaderView) → r.headers image ≡ Some h → IsDrawn r image
+  has_drawn image h is = by (cases_lt r.directory.drawn image)
+    where
+      by : (r.directory.drawn < image) ⊎ (image ≤ r.directory.drawn) → IsDrawn r image
+      by (inl past) = absurd (none-some h (sym (stands.fresh image past).header ∙ is))
+      by (inr within) = within
 
   header_learned : (image : ℕ) (o : HeaderOp) → PermitsOnHeader k site image o
       → HeaderTeaches image o (answer_to r me (op.Header image o)) (after r me (op.Header image o))
@@ -390,6 +497,12 @@ module _ (site : SiteId) (r : Records) (me : Instance) (k : Knowledge) (t : IsTr
       where_free (HeaderTeaches image (header.SnapAdd name)) r me (op.Header image (header.SnapAdd name)) t (λ free. taken site r me k t free image name permits)
   header_learned image (header.SnapRemove snap) permits =
       where_free (HeaderTeaches image (header.SnapRemove snap)) r me (op.Header image (header.SnapRemove snap)) t (λ free. removed site r me k t free image snap permits)
+  header_learned image (header.SetSize to) permits =
+      where_free (HeaderTeaches image (header.SetSize to)) r me (op.Header image (header.SetSize to)) t (λ free. sized site r me k t free image to permits)
+  header_learned image header.Remove permits =
+      where_free (HeaderTeaches image header.Remove) r me (op.Header image header.Remove) t (λ free.
+      let there = owned_there site r me k image _ t free permits in
+      gone site r me k t free image (has_drawn image there.view there.is) (mapped image there.view there.is).there.head permits)
   header_learned image (header.LockBreak owner) permits =
       broken_true site (after r me (op.Header image (header.LockBreak owner))) me k image owner (answer_to r me (op.Header image (header.LockBreak owner)))
       (kept_by site r me me k image (header.LockBreak owner) refl t)
@@ -413,140 +526,43 @@ map_of_fence k site image (states.Put (Some snap) bits) = refl
 map_of_fence k site image (states.Set view object state) = refl
 map_of_fence k site image (states.Remove view) = refl
 
+object_of_fence : (k : Knowledge) (site : SiteId) (image number : ℕ) (o : DataOp) → learned_of_object k site image number o answer.Fenced ≡ k
+object_of_fence k site image number (object.Read snap parts) = refl
+object_of_fence k site image number (object.Write context must parts bytes) = refl
+object_of_fence k site image number (object.WriteFull context bytes) = refl
+object_of_fence k site image number (object.Zero context must parts) = refl
+object_of_fence k site image number (object.Empty context) = refl
+object_of_fence k site image number (object.Remove context) = refl
+object_of_fence k site image number (object.CopyUp bytes) = refl
+
 pub learned_of_fence : (k : Knowledge) (site : SiteId) (o : Op) → learned k site o answer.Fenced ≡ k
 learned_of_fence k site (op.Directory (directory.Add name)) = refl
 learned_of_fence k site (op.Directory o) = refl
 learned_of_fence k site (op.Header image header.Get) = refl
 learned_of_fence k site (op.Header image (header.Create view)) = refl
+learned_of_fence k site (op.Header image (header.SetSize to)) = refl
+learned_of_fence k site (op.Header image header.Remove) = refl
 learned_of_fence k site (op.Header image (header.SnapAdd name)) = refl
 learned_of_fence k site (op.Header image (header.SnapRemove snap)) = refl
 learned_of_fence k site (op.Header image (header.LockBreak owner)) = refl
 learned_of_fence k site (op.Header image o) = refl
 learned_of_fence k site (op.BlockAdd i) = refl
 learned_of_fence k site (op.Map image o) = map_of_fence k site image o
+learned_of_fence k site (op.Data image number o) = object_of_fence k site image number o
 learned_of_fence k site o = refl
 
 pub own_learned : (site : SiteId) (r : Records) (f : Flat) (k : Knowledge) (me : Instance) (o : Op) (most : ℕ) → StandsFor [] r f → AreInForm r most → AreMapped r → IsTrueAt site r me k → Permits k site o
     → IsTrueAt site (after r me o) me (learned k site o (answer_to r me o))
 own_learned site r f k me (op.Directory o) most stands form mapped t permits =
     where_either (λ a s. IsTrueAt site s me (learned k site (op.Directory o) a)) r me (op.Directory o)
-    (subst (IsTrueAt site r me) (sym (learned_of_fence k site (op.Directory o))) t) (directory_learned site r f me k stands t o permits)
+    (subst (IsTrueAt site r me) (sym (learned_of_fence k site (op.Directory o))) t) (directory_learned site r f me k stands t o)
 own_learned site r f k me (op.BlockAdd i) most stands form mapped t permits =
     where_free (λ a s. IsTrueAt site s me (learned_of_listing k site i a)) r me (op.BlockAdd i) t (λ free. listed_true site r me k i t free)
-own_learned site r f k me (op.Header image o) most stands form mapped t permits = header_learned site r me k t image o permits
-own_learned site r f k me (op.Data image number o) most stands form mapped t permits = record {
-  owned = λ free i.
-      let still = t.owned (was_free r me me (op.Data image number o) free) i in
-      where_fenced (λ s. IsStill (known_header k site i) (s.headers i)) r me (op.Data image number o) still still;
-  drawn = λ i drawn. waits_object site r k me t i (t.drawn i drawn) image number o permits;
-  fenced = λ i known. fence_stays r me i (op.Data image number o) (t.fenced i known);
-  mapped = λ free i known.
-      let was = t.mapped (was_free r me me (op.Data image number o) free) i known in
-      where_fenced (λ s. AreMapsTrue (is_alone_on k site i) (s.maps i) (maps_of k.maps site i)) r me (op.Data image number o) was was;
-  counted = λ i drawn.
-      let was = t.counted i drawn in
-      where_fenced (λ s. IsCountTrue (maps_of k.maps site i).count (s.maps i None)) r me (op.Data image number o) was was;
-}
+own_learned site r f k me (op.Header image o) most stands form mapped t permits = header_learned site r f me k stands mapped t image o permits
+own_learned site r f k me (op.Data image number o) most stands form mapped t permits =
+    where_free (λ a s. IsTrueAt site s me (learned_of_object k site image number o a)) r me (op.Data image number o) (subst (IsTrueAt site r me) (sym (object_of_fence k site image number o)) t)
+    (λ free. object_taught site r me k most form t free image number o permits)
 own_learned site r f k me (op.Map image o) most stands form mapped t permits =
     where_free (λ a s. IsTrueAt site s me (learned_of_map k site image o a)) r me (op.Map image o) (subst (IsTrueAt site r me) (sym (map_of_fence k site image o)) t)
     (λ free. map_taught site r me k most form mapped t free image o permits)
 own_learned site r f k me _ most stands form mapped t permits = elim permits [ ]
-
--- ---- waits
-
-pub place_of : (site there : SiteId) (image place : ℕ) → is_at site image there place ≡ true → (site ≡ there) × (image ≡ place)
-place_of site there image place is =
-    let parts = and_parts (same_site there site) (place == image) is in
-    (sym (site_is there site parts.0), sym (eqb-true place image parts.1))
-
--- the own that is left at another place is the one that was there, and at its place there is none
-pub left_here : (site : SiteId) (image : ℕ) (owns : List Own) → own_of (left site image owns) site image ≡ None
-left_here site image [] = refl
-left_here site image (o ∷ owns) = by (is_at site image o.site o.image) refl (left_here site image owns)
-  where
-    by : (b : Bool) → is_at site image o.site o.image ≡ b → own_of (left site image owns) site image ≡ None
-        → own_of (cond (not b) (o ∷ left site image owns) (left site image owns)) site image ≡ None
-    by true is rest = rest
-    by false is rest = ap (λ b. cond b (Some o) (own_of (left site image owns) site image)) is ∙ rest
-
-pub left_there : (site there : SiteId) (image place : ℕ) → is_at there place site image ≡ false → (owns : List Own) → own_of (left site image owns) there place ≡ own_of owns there place
-left_there site there image place differ [] = refl
-left_there site there image place differ (o ∷ owns) = by (is_at site image o.site o.image) refl (left_there site there image place differ owns)
-  where
-    by : (b : Bool) → is_at site image o.site o.image ≡ b → own_of (left site image owns) there place ≡ own_of owns there place
-        → own_of (cond (not b) (o ∷ left site image owns) (left site image owns)) there place ≡ cond (is_at there place o.site o.image) (Some o) (own_of owns there place)
-    by true is rest =
-        let same = place_of site o.site image o.image is in
-        rest ∙ sym (ap (λ b. cond b (Some o) (own_of owns there place)) (sym (ap (λ s. is_at there place s image) same.0 ∙ ap (λ i. is_at there place o.site i) same.1) ∙ differ))
-    by false is rest = ap (λ found. cond (is_at there place o.site o.image) (Some o) found) rest
-
--- What holds of the own that was there, and of none, holds of the one that is left.
-own_left : (P : Option Own → Type 0) (site there : SiteId) (image place : ℕ) (owns : List Own) → P None → P (own_of owns site image) → P (own_of (left there place owns) site image)
-own_left P site there image place owns none was = by (is_at site image there place) refl
-  where
-    by : (b : Bool) → is_at site image there place ≡ b → P (own_of (left there place owns) site image)
-    by true is =
-        let same = place_of site there image place is in
-        let gone : own_of (left there place owns) site image ≡ None =
-        ap (λ s. own_of (left there place owns) s image) same.0 ∙ ap (λ i. own_of (left there place owns) there i) same.1 ∙ left_here there place owns in
-        subst P (sym gone) none
-    by false other = subst P (sym (left_there there site place image other owns)) was
-
--- who waits at a place has looked at nothing there
-abbrev waiting : Knowledge → SiteId → (place : ℕ) → Own
-waiting k there place = record { site = there; image = place; alone = k.alone; header = None }
-
-own_held : (P : Option Own → Type 0) (site there : SiteId) (image place : ℕ) (k : Knowledge) → P (Some (waiting k there place)) → P None → P (own_of k.owns site image)
-    → P (own_of (held k there place) site image)
-own_held P site there image place k waits none was = by (is_at site image there place)
-  where
-    by : (b : Bool) → P (cond b (Some (waiting k there place)) (own_of (left there place k.owns) site image))
-    by true = waits
-    by false = own_left P site there image place k.owns none was
-
--- without the marks
-maps_unmarked : (maps : List ImageMaps) (site : SiteId) (image : ℕ) → maps_of (unmarked maps) site image ≡ record (maps_of maps site image) { raised = [] }
-maps_unmarked [] site image = refl
-maps_unmarked (m ∷ maps) site image = by (is_at site image m.site m.image) (maps_unmarked maps site image)
-  where
-    by : (b : Bool) → maps_of (unmarked maps) site image ≡ record (maps_of maps site image) { raised = [] }
-        → cond b (record m.known { raised = [] }) (maps_of (unmarked maps) site image) ≡ record (cond b m.known (maps_of maps site image)) { raised = [] }
-    by true rest = refl
-    by false rest = rest
-
-module _ (site : SiteId) (r : Records) (me : Instance) (k : Knowledge) (t : IsTrueAt site r me k) where
-  abbrev IsOwnStill : (image : ℕ) → Option Own → Type 0
-  IsOwnStill image o = IsStill (header_of_own o) (r.headers image)
-
-  abbrev IsOwnMapped : (image : ℕ) → Option Own → Type 0
-  IsOwnMapped image o = IsSome (header_of_own o) → AreMapsTrue (is_own_alone o) (r.maps image) (maps_of k.maps site image)
-
-  none_mapped : (image : ℕ) → IsOwnMapped image None
-  none_mapped image some = absurd (true≢false (sym some))
-
-  marks_forgotten : (free : IsFalse (is_fenced r me)) (image : ℕ) → IsSome (known_header k site image) → AreMapsTrue (is_alone_on k site image) (r.maps image) (maps_of (unmarked k.maps) site image)
-  marks_forgotten free image known =
-      let was = t.mapped free image known in
-      subst (AreMapsTrue (is_alone_on k site image) (r.maps image)) (sym (maps_unmarked k.maps site image)) (record { raised = λ object marked. cc; states = was.states; put = was.put })
-
-  still_counted : (image : ℕ) → is_drawn k.drawn site image ≡ true → IsCountTrue (maps_of (unmarked k.maps) site image).count (r.maps image None)
-  still_counted image drawn = subst (λ m. IsCountTrue m.count (r.maps image None)) (sym (maps_unmarked k.maps site image)) (t.counted image drawn)
-
-  pub waits_learned : (w : Wait) → IsTrueAt site r me (passed k w)
-  waits_learned (wait.Join there image alone) = record { owned = t.owned; drawn = t.drawn; fenced = t.fenced; mapped = t.mapped; counted = t.counted }
-  waits_learned (wait.Hold there place) = record {
-    owned = λ free image. own_held (IsOwnStill image) site there image place k tt tt (t.owned free image);
-    drawn = t.drawn;
-    fenced = t.fenced;
-    mapped = λ free image. own_held (IsOwnMapped image) site there image place k (λ some. absurd (true≢false (sym some))) (none_mapped image) (t.mapped free image);
-    counted = t.counted;
-  }
-  waits_learned (wait.Turn object) = record { owned = t.owned; drawn = t.drawn; fenced = t.fenced; mapped = marks_forgotten; counted = still_counted }
-  waits_learned (wait.Applied there image) = record { owned = t.owned; drawn = t.drawn; fenced = t.fenced; mapped = marks_forgotten; counted = still_counted }
-  waits_learned (wait.Leave there place) = record {
-    owned = λ free image. own_left (IsOwnStill image) site there image place k.owns tt (t.owned free image);
-    drawn = t.drawn;
-    fenced = t.fenced;
-    mapped = λ free image. own_left (IsOwnMapped image) site there image place k.owns (none_mapped image) (t.mapped free image);
-    counted = t.counted;
-  }

@@ -11,5 +11,13 @@ pub mod MapsKept
 pub mod MapsLearned
 pub mod States
 pub mod Together
-pub mod Parents
+pub mod Standalone
 pub mod Nothing
+pub mod Each
+pub mod Less
+pub mod Objects
+pub mod ObjectsKept
+pub mod ObjectsLearned
+pub mod Effects
+pub mod Told
+pub mod Turns

@@ -11,17 +11,19 @@ use Rattle.rbd_kinds.specs.declared.id.Instance.{Instance}
 use Rattle.rbd_kinds.specs.declared.id.SiteId.{SiteId}
 use Rattle.rbd_kinds.specs.declared.operation.Op.{Op}
 use Rattle.rbd_kinds.specs.declared.operation.Op.TheVariants as op
-use Rattle.rbd_machine.specs.Knowledge.{Knowledge, is_drawn}
+use Rattle.rbd_machine.specs.Knowledge.{Knowledge, is_drawn, is_gone}
 use Rattle.rbd_machine.specs.Permits.{Permits, PermitsOnHeader}
 use Rattle.rbd_site.specs.HeaderStep.{header_after, header_answer, lock_taken, same_instance}
 use Rattle.rbd_site.specs.Records.{Records}
 use Rattle.rbd_site.specs.Step.{is_fenced, after, after_served, answer_to}
 use Rattle.rbd_stands.specs.Owned.{HasLock}
 use Rattle.rbd_stands.proofs.Locks.{EndsLock, EndsIt, operation_keeps, same_is}
-use Rattle.rbd_rely.specs.Beside.{AreBeside, AreFree, SharesLock}
+use Rattle.rbd_rely.specs.Beside.{AreBeside, AreFree, LeavesObject, SharesLock}
 use Rattle.rbd_rely.specs.Locks.{HasLockWhileFree, KnowsByLock, gives_up}
 use Rattle.rbd_rely.specs.Truth.{IsTrueAt}
+use Rattle.rbd_stands.proofs.Served.{fenced_after}
 use Rattle.rbd_rely.proofs.Fenced.{was_free, where_free}
+use Rattle.rbd_rely.proofs.Headers.{own_known}
 
 -- ---- one owner
 
@@ -35,9 +37,14 @@ pub one_owner : (r : Records) (me you : Instance) (image : ℕ) → AreFree r me
 one_owner r me you image free mine yours = same_owner r me you image (mine free.0) (yours free.1)
 
 pub apart_by_locks : (site : SiteId) (r : Records) (me you : Instance) (k j : Knowledge) → me ≢ you → KnowsByLock site r me k → KnowsByLock site r you j
-    → ((image : ℕ) → is_drawn k.drawn site image ≡ true → is_drawn j.drawn site image ≡ false) → AreBeside site r me you k j
-apart_by_locks site r me you k j differ mine yours apart = record {
+    → ((image : ℕ) → is_drawn k.drawn site image ≡ true → is_drawn j.drawn site image ≡ false) → ((image : ℕ) → is_gone k.gone site image ≡ true → is_drawn j.drawn site image ≡ false)
+    → ((image : ℕ) → is_gone j.gone site image ≡ true → is_drawn k.drawn site image ≡ false) → ((image : ℕ) → is_gone k.gone site image ≡ true → is_gone j.gone site image ≡ false)
+    → AreBeside site r me you k j
+apart_by_locks site r me you k j differ mine yours apart gone gone_there removed = record {
   shared = λ free image one other. absurd (differ (one_owner r me you image free (mine image one) (yours image other)));
+  gone = gone;
+  gone_there = gone_there;
+  removed = removed;
   apart = apart;
 }
 
@@ -45,6 +52,11 @@ apart_by_locks site r me you k j differ mine yours apart = record {
 pub shares_by_lock : (site : SiteId) (r : Records) (me you : Instance) (k j : Knowledge) (image : ℕ) → me ≢ you → HasLockWhileFree r me image → KnowsByLock site r you j
     → SharesLock site image r me you k j
 shares_by_lock site r me you k j image differ mine yours = λ free some told. absurd (differ (one_owner r me you image free mine (yours image told)))
+
+-- nor can both know the header where one changes an object
+pub changes_by_lock : (site : SiteId) (r : Records) (me you : Instance) (k j : Knowledge) (image object : ℕ) → me ≢ you → KnowsByLock site r me k → KnowsByLock site r you j
+    → LeavesObject site image object r me you k j
+changes_by_lock site r me you k j image object differ mine yours = λ free known told knows. absurd (differ (one_owner r me you image free (mine image known) (yours image told)))
 
 -- ---- it is taken
 
@@ -83,25 +95,33 @@ lock_is_taken r me image done =
 
 -- ---- and lasts
 
--- none of what ends a lock is permitted, but that its owner gives it up, or is fenced
-ends_by : (site : SiteId) (r : Records) (me you : Instance) (j : Knowledge) (image : ℕ) (o : HeaderOp) → IsTrueAt site r you j → PermitsOnHeader j site image o
-    → (you ≡ me → gives_up image (op.Header image o) ≡ false) → IsFalse (is_fenced r me) → EndsLock you me o → ⊥
-ends_by site r me you j image header.LockDrop u permits keeps free same = true≢false (sym (eq-eqb image image refl) ∙ keeps same)
-ends_by site r me you j image (header.LockBreak owner) u permits keeps free same = true≢false (sym (u.fenced owner permits) ∙ ap (is_fenced r) same ∙ free)
-ends_by site r me you j image header.Remove u permits keeps free ends = permits
-ends_by site r me you j image _ u permits keeps free ends = ends
+-- None of what ends a lock is permitted, but that its owner gives it up, or is fenced. A header is
+-- removed by one that knows it, who has the lock.
+ends_by : (site : SiteId) (r : Records) (me you : Instance) (j : Knowledge) (image : ℕ) (o : HeaderOp) → IsTrueAt site r you j → KnowsByLock site r you j → PermitsOnHeader j site image o
+    → (you ≡ me → gives_up image (op.Header image o) ≡ false) → IsFalse (is_fenced r me) → IsFalse (is_fenced r you) → HasLock image me r → EndsLock you me o → ⊥
+ends_by site r me you j image header.LockDrop u locks permits keeps free served has same = true≢false (sym (eq-eqb image image refl) ∙ keeps same)
+ends_by site r me you j image (header.LockBreak owner) u locks permits keeps free served has same = true≢false (sym (u.fenced owner permits) ∙ ap (is_fenced r) same ∙ free)
+ends_by site r me you j image header.Remove u locks permits keeps free served has ends =
+    let theirs = locks image (ap is_some (own_known j site image _ permits)) served in
+    true≢false (sym (eq-eqb image image refl) ∙ keeps (same_owner r you me image theirs has))
+ends_by site r me you j image _ u locks permits keeps free served has ends = ends
 
-pub lock_lasts : (site : SiteId) (r : Records) (me you : Instance) (j : Knowledge) (image : ℕ) (o : Op) → IsTrueAt site r you j → Permits j site o
+pub lock_lasts : (site : SiteId) (r : Records) (me you : Instance) (j : Knowledge) (image : ℕ) (o : Op) → IsTrueAt site r you j → KnowsByLock site r you j → Permits j site o
     → (you ≡ me → gives_up image o ≡ false) → HasLockWhileFree r me image → HasLockWhileFree (after r you o) me image
-lock_lasts site r me you j image o u permits keeps lock free = go (operation_keeps r image you me (lock before) o)
+lock_lasts site r me you j image o u locks permits keeps lock free = by (is_fenced r you) refl
   where
     before : IsFalse (is_fenced r me)
     before = was_free r you me o free
 
-    ended : (e : EndsIt image you me o) → ⊥
-    ended e =
-        ends_by site r me you j image e.o u (subst (Permits j site) e.is permits) (λ same. sym (ap (gives_up image) e.is) ∙ keeps same) before e.ends
+    ended : IsFalse (is_fenced r you) → (e : EndsIt image you me o) → ⊥
+    ended served e =
+        ends_by site r me you j image e.o u locks (subst (Permits j site) e.is permits) (λ same. sym (ap (gives_up image) e.is) ∙ keeps same) before served (lock before) e.ends
 
-    go : HasLock image me (after r you o) ⊎ ((answer_to r you o ≡ answer.Done) × EndsIt image you me o) → HasLock image me (after r you o)
-    go (inl kept) = kept
-    go (inr lost) = absurd (ended lost.1)
+    go : IsFalse (is_fenced r you) → HasLock image me (after r you o) ⊎ ((answer_to r you o ≡ answer.Done) × EndsIt image you me o) → HasLock image me (after r you o)
+    go served (inl kept) = kept
+    go served (inr lost) = absurd (ended served lost.1)
+
+    -- who is fenced ends none
+    by : (b : Bool) → is_fenced r you ≡ b → HasLock image me (after r you o)
+    by true fenced = subst (HasLock image me) (sym (fenced_after r you o fenced)) (lock before)
+    by false served = go served (operation_keeps r image you me (lock before) o)

@@ -1,9 +1,10 @@
 -- Each image goes on to have its object maps, which cover its objects.
-use Rattle.std.proofs.Common.{◌≡◌, ◌≢◌, ℕ, ◌+◌, ◌*◌, ◌==◌, cond, eqb, Bool, true, false, List, [], length, set, Option, Some, None, option_map, is_some, refl, sym, ap, ◌∙◌, subst, arith, true≢false}
+use Rattle.std.proofs.Common.{◌≡◌, ◌≢◌, ◌⊎◌, inl, inr, ℕ, ◌+◌, ◌*◌, ◌<◌, ◌≤◌, ◌==◌, cond, eqb, Bool, true, false, List, [], length, length-append, set, unwrap_or, Option, Some, None, option_map, is_some, refl, sym, ap, ◌∙◌, subst, arith, true≢false}
 use Rattle.std.specs.Prelude.{IsFalse, IsSome}
-use Rattle.std.proofs.lemmas.Bool.{eqb-true}
+use Rattle.std.proofs.lemmas.Bool.{cases_lt, eqb-true}
 use Rattle.std.proofs.lemmas.List.{length-set}
 use Rattle.std.proofs.lemmas.Option.{none-some, same_Some}
+use Rattle.rbd_kinds.specs.declared.data_op.DataOp.{DataOp}
 use Rattle.rbd_kinds.specs.declared.data_op.DataOp.TheVariants as object
 use Rattle.rbd_kinds.specs.declared.header.HeaderView.{HeaderView}
 use Rattle.rbd_kinds.specs.declared.header.SnapContext.{SnapContext}
@@ -12,20 +13,21 @@ use Rattle.rbd_kinds.specs.declared.header_op.HeaderOp.{HeaderOp}
 use Rattle.rbd_kinds.specs.declared.header_op.HeaderOp.TheVariants as header
 use Rattle.rbd_kinds.specs.declared.id.Instance.{Instance}
 use Rattle.rbd_kinds.specs.declared.id.SiteId.{SiteId}
-use Rattle.rbd_kinds.specs.declared.layout.Part.{Part}
 use Rattle.rbd_kinds.specs.declared.map_op.MapOp.{MapOp}
 use Rattle.rbd_kinds.specs.declared.map_op.MapOp.TheVariants as states
 use Rattle.rbd_kinds.specs.declared.operation.Op.{Op}
 use Rattle.rbd_kinds.specs.declared.operation.Op.TheVariants as op
 use Rattle.rbd_kinds.specs.Header.{snap_named}
-use Rattle.rbd_header.specs.Header.{context_of, is_full, snap_in, with_snap, without_snap}
-use Rattle.rbd_machine.specs.Knowledge.{Knowledge, maps_of}
-use Rattle.rbd_machine.specs.Permits.{HasRoomFor, Permits, PermitsOnHeader, PermitsOnMap, OwnsAlone, OwnsBy, MayMake, MayPut, MayTake, MayWrite}
+use Rattle.rbd_kinds.specs.Striping.{object_of}
+use Rattle.rbd_header.specs.Header.{context_of, is_full, snap_in, with_size, with_snap, without_snap}
+use Rattle.rbd_machine.specs.Knowledge.{Knowledge, maps_of, objects_of}
+use Rattle.rbd_machine.specs.Permits.{HasRoomFor, HasState, IsLeftOver, Permits, PermitsOnHeader, PermitsOnMap, PermitsOnObject, OwnsAlone, OwnsBy, MayMake, MayPut, MaySet, MaySize, MayTake}
 use Rattle.rbd_map.specs.States.{states_of}
 use Rattle.rbd_flat.specs.Flat.{Flat, image_at}
 use Rattle.rbd_site.specs.HeaderStep.{header_after, is_owner}
 use Rattle.rbd_site.specs.InForm.{AreInForm}
 use Rattle.rbd_site.specs.Log.{expired, trimmed}
+use Rattle.rbd_site.specs.MapStep.{lengthened}
 use Rattle.rbd_site.specs.Records.{Records, no_records, object_at}
 use Rattle.rbd_site.specs.Step.{is_fenced, after, after_served}
 use Rattle.rbd_stands.specs.Condition.{IsContextOf}
@@ -103,6 +105,17 @@ views_left maps h snap unlisted all = record { there = record { head = all.there
     by t s at true same was = absurd (none-some s (sym unlisted ∙ ap (snap_in h.snaps) (sym (eqb-true t snap same)) ∙ at))
     by t s at false other was = was
 
+-- the head's map becomes longer
+views_lengthened : (maps : Maps) (h : HeaderView) (count : ℕ) → HasViews h maps → HasViews h (maps_behind maps (states.Resize count))
+views_lengthened maps h count all = record {
+  there = record { head = refl; snap = all.there.snap };
+  room = λ x inside. let below = all.room x inside in let more = longer (maps None) in omega (arith, below, more);
+}
+  where
+    longer : (map : Option (List ℕ)) → map_len map ≤ length (lengthened count (unwrap_or map []))
+    longer None = omega arith
+    longer (Some states) = rw length-append (omega arith)
+
 views_set : (maps : Maps) (h : HeaderView) (object state : ℕ) → HasViews h maps → HasViews h (maps_behind maps (states.Set None object state))
 views_set maps h object state all = record {
   there = record { head = set_some (maps None) object state all.there.head; snap = all.there.snap };
@@ -138,15 +151,35 @@ module _ (site : SiteId) (r : Records) (f : Flat) (k : Knowledge) (you : Instanc
         put_covered (r.maps image (Some (h.snap_seq + 1))) (r.maps image None) (exists_at (object_at r image) None) (put_next name permits h is) (views image h is).there.head (covers image h is).head
     header_covers o permits (Some h) is = tt
 
-    write_covers : (number : ℕ) (context : SnapContext) (must : Bool) (parts : List Part) (bytes : List ℕ) → OwnsBy k site image (MayWrite (maps_of k.maps site image) k.turn number context parts bytes)
-        → (h : HeaderView) → r.headers image ≡ Some h → KeepsDataCover h (r.maps image) number (object_at r image number) (object.Write context must parts bytes)
-    write_covers number context must parts bytes owns h is =
-        let there = owned_there site r you k image _ t free owns in
+    -- a context that is the own header's, and a state that it set
+    under_own : (condition : (alone : Bool) → HeaderView → Type 0) (owns : OwnsBy k site image condition) (context : SnapContext) → context ≡ context_of owns.header
+        → (h : HeaderView) → r.headers image ≡ Some h → IsContextOf h context
+    under_own condition owns context at h is =
+        let there = owned_there site r you k image condition t free owns in
         let same : h ≡ there.view = same_Some h there.view (sym is ∙ there.is) in
-        let under : context_of h ≡ context = ap context_of (same ∙ there.same) ∙ sym owns.meets.under in (
-          subst (IsContextOf h) under (reversed_context h),
-          raised_map (r.maps image None) number ((t.mapped free image (ap is_some (own_known k site image _ owns))).raised number owns.meets.raised),
-        )
+        subst (IsContextOf h) (ap context_of (same ∙ there.same) ∙ sym at) (reversed_context h)
+
+    raised_own : (condition : (alone : Bool) → HeaderView → Type 0) → OwnsBy k site image condition → (number : ℕ) → HasState (maps_of k.maps site image) number → IsRaised (r.maps image None) number
+    raised_own condition owns number raised = raised_map (r.maps image None) number ((t.mapped free image (ap is_some (own_known k site image condition owns))).raised number raised)
+
+    -- who removed the header finds none
+    never_left : IsLeftOver k site image → (h : HeaderView) → r.headers image ≡ Some h → ⊥
+    never_left left h is = none-some h (sym (t.gone image left.gone).header ∙ is)
+
+    removal_covers : (number : ℕ) (context : SnapContext) → PermitsOnObject k site image number (object.Remove context) → (h : HeaderView) → r.headers image ≡ Some h
+        → KeepsDataCover h (r.maps image) number (object_at r image number) (object.Remove context)
+    removal_covers number context (inl gone) h is = absurd (never_left gone h is)
+    removal_covers number context (inr owns) h is = under_own _ owns context owns.meets.under h is
+
+    object_covers : (number : ℕ) (o : DataOp) → PermitsOnObject k site image number o → (h : HeaderView) → r.headers image ≡ Some h
+        → KeepsDataCover h (r.maps image) number (object_at r image number) o
+    object_covers number (object.Read snap parts) permits h is = tt
+    object_covers number (object.Write context must parts bytes) permits h is = (under_own _ permits context permits.meets.under h is, raised_own _ permits number permits.meets.raised)
+    object_covers number (object.WriteFull context bytes) permits h is = (under_own _ permits context permits.meets.under h is, raised_own _ permits number permits.meets.raised)
+    object_covers number (object.Zero context must parts) permits h is = under_own _ permits context permits.meets.under h is
+    object_covers number (object.Empty context) permits h is = (under_own _ permits context permits.meets.under h is, raised_own _ permits number permits.meets.raised)
+    object_covers number (object.Remove context) permits h is = removal_covers number context permits h is
+    object_covers number _ permits h is = elim permits [ ]
 
     -- a snapshot that comes next isn't listed yet
     put_unlisted : (snap : ℕ) (bits : List ℕ) → OwnsAlone k site image (MayPut (maps_of k.maps site image) snap bits) → (h : HeaderView) → r.headers image ≡ Some h → (shape : Shape)
@@ -160,12 +193,18 @@ module _ (site : SiteId) (r : Records) (f : Flat) (k : Knowledge) (you : Instanc
         let next = owns.meets.1.next in
         omega (arith, numbered, next, seq)
 
+    -- An object whose state becomes 0 isn't there.
+    lowered : (number state : ℕ) → (owns : OwnsBy k site image (MaySet (objects_of k.objects site image) k.turn number state)) → state ≡ 0 → IsFalse (exists_at (object_at r image) None number)
+    lowered number state owns zeroed =
+        ap is_some ((t.objects free image owns.header (own_known k site image _ owns)).absent number (owns.meets.lowers zeroed))
+
     map_covers : (o : MapOp) → PermitsOnMap k site image o → (there : Option HeaderView) → r.headers image ≡ there → KeepsMapCover there (r.maps image) (object_at r image) o
     map_covers o permits None is = tt
-    map_covers (states.Resize count) permits (Some h) is = absurd (none-some h (sym (t.drawn image permits.drawn).header ∙ is))
+    map_covers (states.Resize count) permits (Some h) is = λ none. absurd (true≢false (sym (views image h is).there.head ∙ ap is_some none))
     map_covers (states.Get view) permits (Some h) is = tt
     map_covers (states.Put (Some snap) bits) permits (Some h) is = λ shape at. absurd (put_unlisted snap bits permits h is shape at)
-    map_covers (states.Set None object state) permits (Some h) is = λ zeroed. absurd (let raises = permits.meets.raises in omega (arith, raises, zeroed))
+    map_covers (states.Set None object state) permits (Some h) is = lowered object state permits
+    map_covers (states.Remove None) permits (Some h) is = tt
     map_covers (states.Remove (Some snap)) permits (Some h) is = tt
     map_covers _ permits (Some h) is = elim permits [ ]
 
@@ -174,17 +213,49 @@ module _ (site : SiteId) (r : Records) (f : Flat) (k : Knowledge) (you : Instanc
     made_views : (view : HeaderView) → MayMake k site image view → HasViews view (r.maps image)
     made_views view may =
         let count = may.mapped.count in
-        let has : HasAtLeast count (r.maps image None) = subst (λ c. IsCountTrue c (r.maps image None)) may.mapped.known (t.counted image may.drawn) in
+        let has : HasAtLeast count (r.maps image None) = subst (λ c. IsCountTrue c (r.maps image None)) may.mapped.known (t.counted image (inl may.drawn)) in
         record {
           there = record { head = ap is_some has.is; snap = λ n s at. absurd (none-some s (ap (λ snaps. snap_in snaps n) (sym may.new.snaps) ∙ at)) };
           room = λ x inside. let below = may.mapped.room x inside in let long = has.long in let len : map_len (r.maps image None) ≡ length has.there = ap map_len has.is in omega (arith, below, long, len);
         }
+
+    -- The head's map has the objects of a greater size before the size is set.
+    sized_views : (to : ℕ) → OwnsAlone k site image (MaySize (maps_of k.maps site image) (objects_of k.objects site image) to) → (h : HeaderView) → r.headers image ≡ Some h
+        → HasViews (with_size to h) (r.maps image)
+    sized_views to owns h is = record { there = record { head = all.there.head; snap = all.there.snap }; room = λ x inside. by x inside (cases_lt x h.size) }
+      where
+        all : HasViews h (r.maps image)
+        all = views image h is
+
+        same : h ≡ record owns.header { owner = h.owner }
+        same =
+            let there = owned_there site r you k image _ t free owns in
+            let at : h ≡ there.view = same_Some h there.view (sym is ∙ there.is) in
+            at ∙ there.same ∙ ap (λ (v : HeaderView). record owns.header { owner = v.owner }) (sym at)
+
+        grown : (x : ℕ) → x < to → owns.header.size < to → object_of owns.header.layout x < map_len (r.maps image None)
+        grown x inside more =
+            let may = owns.meets.1.mapped more in
+            let known = t.mapped free image (ap is_some (own_known k site image _ owns)) in
+            let has : HasAtLeast may.count (r.maps image None) = subst (λ c. IsCountTrue c (r.maps image None)) may.known (known.count (ap is_own_alone owns.is ∙ owns.meets.0)) in
+            let below = may.room x inside in
+            let long = has.long in
+            let len : map_len (r.maps image None) ≡ length has.there = ap map_len has.is in
+            omega (arith, below, long, len)
+
+        by : (x : ℕ) → x < to → (x < h.size) ⊎ (h.size ≤ x) → object_of h.layout x < map_len (r.maps image None)
+        by x inside (inl within) = all.room x within
+        by x inside (inr past) =
+            let size : h.size ≡ owns.header.size = ap (λ (v : HeaderView). v.size) same in
+            subst (λ (v : HeaderView). object_of v.layout x < map_len (r.maps image None)) (sym same) (grown x inside (omega (arith, inside, past, size)))
 
     header_views : (o : HeaderOp) → PermitsOnHeader k site image o → (there : Option HeaderView) → r.headers image ≡ there → (g : HeaderView) → header_after you there o ≡ Some g → HasViews g (r.maps image)
     header_views (header.Create view) permits None is g at = told_views (r.maps image) view g at (made_views view permits)
     header_views o permits None is g at = absurd (none-some g at)
     header_views header.Get permits (Some h) is g at = told_views (r.maps image) h g at (views image h is)
     header_views (header.Create view) permits (Some h) is g at = told_views (r.maps image) h g at (views image h is)
+    header_views (header.SetSize to) permits (Some h) is g at = told_views (r.maps image) (with_size to h) g at (sized_views to permits h is)
+    header_views header.Remove permits (Some h) is g at = absurd (none-some g at)
     header_views (header.SnapAdd name) permits (Some h) is g at =
         let all = views image h is in
         told_views (r.maps image) (cond (is_some (snap_named h.snaps name)) h (cond (is_full h) h (with_snap name h))) g at
@@ -212,24 +283,27 @@ module _ (site : SiteId) (r : Records) (f : Flat) (k : Knowledge) (you : Instanc
     header_views (header.Notify kind) permits (Some h) is g at = told_views (r.maps image) h g at (views image h is)
     header_views _ permits (Some h) is g at = elim permits [ ]
 
+    left_views : (snap : ℕ) → PermitsOnMap k site image (states.Remove (Some snap)) → (h : HeaderView) → r.headers image ≡ Some h → HasViews h (maps_behind (r.maps image) (states.Remove (Some snap)))
+    left_views snap (inl gone) h is = absurd (never_left gone h is)
+    left_views snap (inr owns) h is =
+        let there = owned_there site r you k image _ t free owns in
+        let same : h ≡ there.view = same_Some h there.view (sym is ∙ there.is) in
+        views_left (r.maps image) h snap (ap (λ (v : HeaderView). snap_in v.snaps snap) (same ∙ there.same) ∙ owns.meets.1) (views image h is)
+
     map_views : (o : MapOp) → PermitsOnMap k site image o → (h : HeaderView) → r.headers image ≡ Some h → HasViews h (maps_behind (r.maps image) o)
-    map_views (states.Resize count) permits h is = absurd (none-some h (sym (t.drawn image permits.drawn).header ∙ is))
+    map_views (states.Resize count) permits h is = views_lengthened (r.maps image) h count (views image h is)
     map_views (states.Get view) permits h is = views_again (r.maps image) (maps_behind (r.maps image) (states.Get view)) h (same_again (r.maps image) view) (views image h is)
     map_views (states.Put (Some snap) bits) permits h is = views_put (r.maps image) h snap (states_of bits (4 * length bits)) (views image h is)
     map_views (states.Set None object state) permits h is = views_set (r.maps image) h object state (views image h is)
-    map_views (states.Remove (Some snap)) permits h is =
-        let there = owned_there site r you k image _ t free permits in
-        let same : h ≡ there.view = same_Some h there.view (sym is ∙ there.is) in
-        views_left (r.maps image) h snap (ap (λ (v : HeaderView). snap_in v.snaps snap) (same ∙ there.same) ∙ permits.meets.1) (views image h is)
+    map_views (states.Remove None) permits h is = absurd (never_left permits.0 h is)
+    map_views (states.Remove (Some snap)) permits h is = left_views snap permits h is
     map_views _ permits h is = elim permits [ ]
 
   keeps_cover : (o : Op) → Permits k site o → IsFalse (is_fenced r you) → KeepsCover r o
   keeps_cover (op.Directory o) permits free = tt
   keeps_cover (op.BlockAdd i) permits free = tt
   keeps_cover (op.Header image o) permits free = header_covers free image o permits (r.headers image) refl
-  keeps_cover (op.Data image number (object.Read snap parts)) permits free = λ h is. tt
-  keeps_cover (op.Data image number (object.Write context must parts bytes)) permits free = write_covers free image number context must parts bytes permits
-  keeps_cover (op.Data image number _) permits free = elim permits [ ]
+  keeps_cover (op.Data image number o) permits free = object_covers free image number o permits
   keeps_cover (op.Map image o) permits free = map_covers free image o permits (r.headers image) refl
   keeps_cover _ permits free = elim permits [ ]
 

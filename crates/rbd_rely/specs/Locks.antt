@@ -15,9 +15,11 @@ use Rattle.rbd_stands.specs.Owned.{HasLock}
 abbrev pub HasLockWhileFree : Records → Instance → (image : ℕ) → Type 0
 HasLockWhileFree r me image = IsFalse (is_fenced r me) → HasLock image me r
 
--- whether who does the operation gives up the lock of the image, where that is its own
+-- Whether who does the operation gives up the lock of the image, where that is its own: a header
+-- that is removed takes the lock with it.
 abbrev pub gives_up : (image : ℕ) → Op → Bool
 gives_up image (op.Header other header.LockDrop) = image == other
+gives_up image (op.Header other header.Remove) = image == other
 gives_up image o = false
 
 -- Who knows a header, behind its own look, has the lock of the image.

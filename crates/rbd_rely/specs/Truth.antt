@@ -1,13 +1,18 @@
 -- When what a request knows is true at a site, by the site's records.
-use Rattle.std.specs.Prelude.{◌≡◌, ◌≢◌, ℕ, ◌≤◌, ◌^◌, Bool, true, false, List, length, slice_index, Option, Some, None, IsFalse, IsSome}
+use Rattle.std.specs.Prelude.{◌≡◌, ◌≢◌, ◌⊎◌, ℕ, ◌≤◌, ◌^◌, Bool, true, false, List, [], All, Any, length, slice_index, unwrap_or, Option, Some, None, IsFalse, IsSome}
+use Rattle.rbd_kinds.specs.declared.layout.Layout.{Layout}
+use Rattle.rbd_kinds.specs.declared.layout.Part.{Part}
+use Rattle.rbd_kinds.specs.Striping.{offset_of}
+use Rattle.rbd_layout.specs.Pieces.{IsIn}
 use Rattle.rbd_kinds.specs.declared.header.HeaderView.{HeaderView}
 use Rattle.rbd_kinds.specs.declared.id.Instance.{Instance}
 use Rattle.rbd_kinds.specs.declared.id.SiteId.{SiteId}
 use Rattle.rbd_object.specs.Mapped.{Mapped, mapped_blank}
 use Rattle.rbd_flat.specs.Flat.{Flat, after}
 use Rattle.rbd_flat.specs.declared.effect.Effect.{Effect}
-use Rattle.rbd_machine.specs.Knowledge.{Knowledge, MapsKnown, Own, own_of, is_drawn, is_fenced_by, is_raised, maps_of}
+use Rattle.rbd_machine.specs.Knowledge.{Knowledge, MapsKnown, ObjectsKnown, Own, own_of, is_absent, is_drawn, is_fenced_by, is_gone, is_raised, maps_of, objects_of}
 use Rattle.rbd_machine.specs.Permits.{HasRoomFor}
+use Rattle.rbd_machine.specs.Standalone.{IsStandalone}
 use Rattle.rbd_site.specs.Records.{Records, object_at}
 use Rattle.rbd_site.specs.Step.{is_fenced}
 use Rattle.rbd_stands.specs.Condition.{IsDrawn}
@@ -61,13 +66,6 @@ pub record IsPutAs (put head : Option (List ℕ)) : Type 0 where
   pub is : put ≡ Some there
   pub same : (object : ℕ) → slice_index there object ≡ state_in head object
 
--- What is known of an image's maps: a state that was raised in the head's map isn't 0. Who is alone
--- on the image knows the head's states as they are, and that a map which it put still has them.
-pub record AreMapsTrue (alone : Bool) (maps : Maps) (m : MapsKnown) : Type 0 where
-  pub raised : (object : ℕ) → is_raised None object m.raised ≡ true → state_in (maps None) object ≢ 0
-  pub states : alone ≡ true → (states : List ℕ) → m.states ≡ Some states → AreStatesOf states (maps None)
-  pub put : alone ≡ true → (snap : ℕ) → m.put ≡ Some snap → IsPutAs (maps (Some snap)) (maps None)
-
 -- a map is there, of so many objects at least
 pub record HasAtLeast (count : ℕ) (map : Option (List ℕ)) : Type 0 where
   pub there : List ℕ
@@ -78,30 +76,69 @@ abbrev pub IsCountTrue : Option ℕ → (map : Option (List ℕ)) → Type 0
 IsCountTrue None map = Unit {0}
 IsCountTrue (Some count) map = HasAtLeast count map
 
+-- What is known of an image's maps: a state that was raised in the head's map isn't 0. Who is alone
+-- on the image knows the head's states as they are, how long its map is at least, and that a map
+-- which it put still has them.
+pub record AreMapsTrue (alone : Bool) (maps : Maps) (m : MapsKnown) : Type 0 where
+  pub raised : (object : ℕ) → is_raised None object m.raised ≡ true → state_in (maps None) object ≢ 0
+  pub states : alone ≡ true → (states : List ℕ) → m.states ≡ Some states → AreStatesOf states (maps None)
+  pub count : alone ≡ true → IsCountTrue m.count (maps None)
+  pub put : alone ≡ true → (snap : ℕ) → m.put ≡ Some snap → IsPutAs (maps (Some snap)) (maps None)
+
+-- ---- objects
+
+-- each place of the parts is zero in an object's head, or each place of the object
+abbrev pub AreZeros : Layout → (head : Option (List ℕ)) → Option (List Part) → Type 0
+AreZeros layout head None = (offset : ℕ) → slice_index (unwrap_or head []) offset ≡ 0
+AreZeros layout head (Some parts) = (x : ℕ) → Any (IsIn x) parts → slice_index (unwrap_or head []) (offset_of layout x) ≡ 0
+
+-- What is known of an image's objects: one that it removed isn't there. Who is alone on the image
+-- knows that what he made zeros still is.
+pub record AreObjectsTrue (alone : Bool) (layout : Layout) (objects : ℕ → Mapped) (o : ObjectsKnown) : Type 0 where
+  pub absent : (number : ℕ) → is_absent number o.absent ≡ true → (objects number).head ≡ None
+  pub blank : alone ≡ true → All (λ b. AreZeros layout (objects b.object).head b.parts) o.blank
+
 -- ---- ids
+
+abbrev pub HasNoHeader : Records → (image : ℕ) → Type 0
+HasNoHeader r image = r.headers image ≡ None
+
+-- an image whose header was removed: its id isn't drawn again
+pub record IsGoneAt (r : Records) (image : ℕ) : Type 0 where
+  pub drawn : IsDrawn r image
+  pub header : HasNoHeader r image
 
 -- an id that was drawn waits for its header: nothing was done to it yet
 pub record IsWaiting (r : Records) (image : ℕ) : Type 0 where
   pub drawn : IsDrawn r image
-  pub header : r.headers image ≡ None
+  pub header : HasNoHeader r image
   pub blank : (number : ℕ) → object_at r image number ≡ mapped_blank
+
+-- It knows that an image has no header: it made none yet, or removed it.
+abbrev pub KnowsNoHeader : Knowledge → SiteId → (image : ℕ) → Type 0
+KnowsNoHeader k site image = (is_drawn k.drawn site image ≡ true) ⊎ (is_gone k.gone site image ≡ true)
 
 -- ---- all of it
 
 -- What a request of an instance knows. Where the instance is fenced, its headers say nothing: its
--- lock may be broken, and another changes the image. It does nothing by them any more.
+-- lock may be broken, and another changes the image. It does nothing by them any more. No id waits
+-- for its header whose header it removed.
 pub record IsTrueAt (site : SiteId) (r : Records) (me : Instance) (k : Knowledge) : Type 0 where
   pub owned : IsFalse (is_fenced r me) → (image : ℕ) → IsStill (known_header k site image) (r.headers image)
   pub drawn : (image : ℕ) → is_drawn k.drawn site image ≡ true → IsWaiting r image
   pub fenced : (i : Instance) → is_fenced_by k.fenced site i ≡ true → is_fenced r i ≡ true
   pub mapped : IsFalse (is_fenced r me) → (image : ℕ) → IsSome (known_header k site image) → AreMapsTrue (is_alone_on k site image) (r.maps image) (maps_of k.maps site image)
-  pub counted : (image : ℕ) → is_drawn k.drawn site image ≡ true → IsCountTrue (maps_of k.maps site image).count (r.maps image None)
+  pub objects : IsFalse (is_fenced r me) → (image : ℕ) (h : HeaderView) → known_header k site image ≡ Some h
+      → AreObjectsTrue (is_alone_on k site image) h.layout (object_at r image) (objects_of k.objects site image)
+  pub gone : (image : ℕ) → is_gone k.gone site image ≡ true → IsGoneAt r image
+  pub apart : (image : ℕ) → is_gone k.gone site image ≡ true → is_drawn k.drawn site image ≡ false
+  pub counted : (image : ℕ) → KnowsNoHeader k site image → IsCountTrue (maps_of k.maps site image).count (r.maps image None)
 
 -- ---- the site
 
--- No image has a parent. So it is until there are clones.
-abbrev pub IsParentless : Records → Type 0
-IsParentless r = (image : ℕ) (h : HeaderView) → r.headers image ≡ Some h → h.parent ≡ None
+-- No image has a parent or a journal. So it is until there are clones and journals.
+abbrev pub AreStandalone : Records → Type 0
+AreStandalone r = (image : ℕ) (h : HeaderView) → r.headers image ≡ Some h → IsStandalone h
 
 -- the objects of a map, none where there is no map
 abbrev pub map_len : (map : Option (List ℕ)) → ℕ

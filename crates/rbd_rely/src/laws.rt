@@ -9,10 +9,12 @@ ghost use Rattle.rbd_kinds.specs.declared.header_op.HeaderOp.TheVariants as head
 ghost use Rattle.rbd_kinds.specs.declared.operation.Op.{Op};
 ghost use Rattle.rbd_kinds.specs.declared.operation.Op.TheVariants as on;
 ghost use Rattle.rbd_flat.specs.Flat.{Flat};
-ghost use Rattle.rbd_machine.specs.Knowledge.{Knowledge, nothing_known, is_drawn, learned, passed, same_site};
+ghost use Rattle.rbd_machine.specs.Knowledge.{Knowledge, nothing_known, is_drawn, is_gone, learned, passed, same_site};
 ghost use Rattle.rbd_machine.specs.Permits.{Permits};
 ghost use Rattle.rbd_machine.specs.Refused.{IsGiven};
+ghost use Rattle.rbd_machine.specs.Standalone.{TellsStandalone};
 ghost use Rattle.rbd_machine.specs.Wait.{Wait};
+ghost use Rattle.rbd_machine.specs.Wait as waits;
 ghost use Rattle.rbd_site.specs.InForm.{AreInForm};
 ghost use Rattle.rbd_site.specs.Log.{expired, trimmed};
 ghost use Rattle.rbd_site.specs.Records.{Records, no_records};
@@ -20,10 +22,11 @@ ghost use Rattle.rbd_site.specs.Step.{MayDo, is_fenced, answer_to, after};
 ghost use Rattle.rbd_site.specs.declared.done.DoneOp.TheVariants as done;
 ghost use Rattle.rbd_stands.specs.Effect.{effect_of};
 ghost use Rattle.rbd_stands.specs.Site.{StandsFor};
-ghost use Rattle.rbd_rely.specs.Beside.{AreBeside, AreFree, MayLook};
+ghost use Rattle.rbd_rely.specs.Beside.{AreBeside, AreFree, LeavesObject, MayAct};
 ghost use Rattle.rbd_rely.specs.Locks.{HasLockWhileFree, KnowsByLock, gives_up};
 ghost use Rattle.rbd_stands.specs.Owned.{HasLock};
-ghost use Rattle.rbd_rely.specs.Truth.{AreMapped, IsTrueAt, IsParentless, changed_by, known_header};
+ghost use Rattle.rbd_rely.specs.Truth.{AreMapped, IsTrueAt, AreStandalone, changed_by, known_header};
+ghost use Rattle.rbd_rely.specs.Turns.{KnowsInTurn, KnowsOf};
 
 /// Who knows nothing knows nothing false.
 pub fn nothing_is_false_at_first()
@@ -31,10 +34,11 @@ pub fn nothing_is_false_at_first()
 {}
 
 /// What a request of an instance `me` knows stays true while another one does what is permitted to
-/// it, by what that one knows truly. `you` is the instance that does it, which may be the same.
+/// it, by what that one knows truly, and what it may do beside the first. `you` is the instance that
+/// does it, which may be the same.
 pub fn others_keep_what_is_known()
     ensures { (site : Site) (r : Records) (k j : Knowledge) (me you : Instance) (op : Op)
-        → IsTrueAt site r me k → IsTrueAt site r you j → AreBeside site r me you k j → Permits j site op
+        → IsTrueAt site r me k → IsTrueAt site r you j → AreBeside site r me you k j → Permits j site op → MayAct site r you me j k op
         → IsTrueAt site (after r you op) me k }
 {}
 
@@ -75,11 +79,11 @@ pub fn sites_are_known_apart()
 {}
 
 /// Two requests stay beside each other: whatever one of them learns by an operation that is
-/// permitted to it, if it may look at what it looks at; whatever it waited for; whatever anybody
+/// permitted to it, if it may do that beside the other; whatever it waited for; whatever anybody
 /// does, and the store; and it doesn't matter which is named first.
 pub fn requests_stay_beside()
     ensures answered { (site : Site) (r : Records) (k j : Knowledge) (me you : Instance) (op : Op)
-        → IsTrueAt site r you j → AreBeside site r me you k j → Permits k site op → MayLook site r me you k j op
+        → IsTrueAt site r you j → AreBeside site r me you k j → Permits k site op → MayAct site r me you k j op
         → AreBeside site (after r me op) me you (learned k site op (answer_to r me op)) j }
     ensures waited { (site : Site) (r : Records) (me you : Instance) (k j : Knowledge) (wait : Wait) → AreBeside site r me you k j → AreBeside site r me you (passed k wait) j }
     ensures others { (site : Site) (r : Records) (him me you : Instance) (k j : Knowledge) (op : Op) → AreBeside site r me you k j → AreBeside site (after r him op) me you k j }
@@ -89,15 +93,27 @@ pub fn requests_stay_beside()
     ensures mutual { (site : Site) (r : Records) (me you : Instance) (k j : Knowledge) → AreBeside site r me you k j → AreBeside site r you me j k }
 {}
 
+/// Who isn't alone on an image knows of an object only in its turn, and nothing once it waited for
+/// another turn, or that its event counts as applied.
+pub fn objects_are_known_in_their_turn()
+    ensures first { KnowsInTurn nothing_known }
+    ensures answered { (site : Site) (k : Knowledge) (op : Op) (answer : Answer) → KnowsInTurn k → Permits k site op → KnowsInTurn (learned k site op answer) }
+    ensures waited { (k : Knowledge) (wait : Wait) → KnowsInTurn k → KnowsInTurn (passed k wait) }
+    ensures turned { (site there : Site) (k : Knowledge) (image object of turn : ℕ)
+        → (KnowsOf (passed k (waits.Turn turn)) site image object → ⊥) × (KnowsOf (passed k (waits.Applied there of)) site image object → ⊥) }
+{}
+
 /// A lock is broken only where its owner is fenced, so that what the owner knew of the image rests
-/// on the lock no more. And where one gives up a lock that is its own, no request that goes beside
-/// it relies on the image's header.
+/// on the lock no more. And where one gives up a lock that is its own, or removes the header with
+/// it, no request that goes beside it relies on the image's header.
 pub fn nobody_relies_on_a_lock_that_ends()
     ensures broken { (site : Site) (r : Records) (me owner : Instance) (k : Knowledge) (image : ℕ)
         → IsTrueAt site r me k → Permits k site (on.Header image (header.LockBreak owner)) → is_fenced r owner ≡ true }
     ensures dropped { (site : Site) (r : Records) (me you : Instance) (k j : Knowledge) (image : ℕ)
         → AreFree r me you → HasLock image me r
-        → Permits k site (on.Header image header.LockDrop) → MayLook site r me you k j (on.Header image header.LockDrop) → known_header j site image ≡ None }
+        → Permits k site (on.Header image header.LockDrop) → MayAct site r me you k j (on.Header image header.LockDrop) → known_header j site image ≡ None }
+    ensures removed { (site : Site) (r : Records) (me you : Instance) (k j : Knowledge) (image : ℕ)
+        → AreFree r me you → AreBeside site r me you k j → Permits k site (on.Header image header.Remove) → known_header j site image ≡ None }
 {}
 
 /// A lock has one owner, as long as nobody is fenced. So two instances that each know headers by
@@ -106,19 +122,24 @@ pub fn a_lock_has_one_owner()
     ensures one { (r : Records) (me you : Instance) (image : ℕ) → AreFree r me you → HasLockWhileFree r me image → HasLockWhileFree r you image → me ≡ you }
     ensures beside { (site : Site) (r : Records) (me you : Instance) (k j : Knowledge)
         → me ≢ you → KnowsByLock site r me k → KnowsByLock site r you j
-        → ((image : ℕ) → is_drawn k.drawn site image ≡ true → is_drawn j.drawn site image ≡ false) → AreBeside site r me you k j }
+        → ((image : ℕ) → is_drawn k.drawn site image ≡ true → is_drawn j.drawn site image ≡ false)
+        → ((image : ℕ) → is_gone k.gone site image ≡ true → is_drawn j.drawn site image ≡ false)
+        → ((image : ℕ) → is_gone j.gone site image ≡ true → is_drawn k.drawn site image ≡ false)
+        → ((image : ℕ) → is_gone k.gone site image ≡ true → is_gone j.gone site image ≡ false) → AreBeside site r me you k j }
     ensures looks { (site : Site) (r : Records) (me you : Instance) (k j : Knowledge) (image : ℕ)
-        → me ≢ you → HasLockWhileFree r me image → KnowsByLock site r you j → MayLook site r me you k j (on.Header image header.Get) }
+        → me ≢ you → HasLockWhileFree r me image → KnowsByLock site r you j → MayAct site r me you k j (on.Header image header.Get) }
     ensures drops { (site : Site) (r : Records) (me you : Instance) (k j : Knowledge) (image : ℕ)
-        → me ≢ you → KnowsByLock site r you j → MayLook site r me you k j (on.Header image header.LockDrop) }
+        → me ≢ you → KnowsByLock site r you j → MayAct site r me you k j (on.Header image header.LockDrop) }
+    ensures changes { (site : Site) (r : Records) (me you : Instance) (k j : Knowledge) (image object : ℕ)
+        → me ≢ you → KnowsByLock site r me k → KnowsByLock site r you j → LeavesObject site image object r me you k j }
 {}
 
-/// A lock is taken where the answer says so, and lasts: nobody ends it by what is permitted to him,
-/// but who gives up his own, and who breaks that of a fenced owner.
+/// A lock is taken where the answer says so, and lasts: nobody who knows headers by his locks ends it
+/// by what is permitted to him, but who gives up his own, and who breaks that of a fenced owner.
 pub fn locks_last()
     ensures taken { (r : Records) (me : Instance) (image : ℕ) → answer_to r me (on.Header image header.LockTake) ≡ answered.Done → HasLockWhileFree (after r me (on.Header image header.LockTake)) me image }
     ensures operation { (site : Site) (r : Records) (me you : Instance) (j : Knowledge) (image : ℕ) (op : Op)
-        → IsTrueAt site r you j → Permits j site op → (you ≡ me → gives_up image op ≡ false)
+        → IsTrueAt site r you j → KnowsByLock site r you j → Permits j site op → (you ≡ me → gives_up image op ≡ false)
         → HasLockWhileFree r me image → HasLockWhileFree (after r you op) me image }
     ensures trim { (r : Records) (me : Instance) (image other number : ℕ) → HasLockWhileFree r me image → HasLockWhileFree (trimmed other number r) me image }
     ensures expiry { (r : Records) (me i : Instance) (image other : ℕ) → HasLockWhileFree r me image → HasLockWhileFree (expired other i r) me image }
@@ -137,7 +158,7 @@ pub fn what_is_permitted_may_be_done()
 /// there and no other. So each step of a request is a step of the flat-copy machine, or none.
 pub fn what_is_permitted_has_its_effect()
     ensures { (site : Site) (r : Records) (f : Flat) (k : Knowledge) (me : Instance) (op : Op) (most : ℕ)
-        → StandsFor [] r f → AreInForm r most → IsParentless r → IsTrueAt site r me k → Permits k site op
+        → StandsFor [] r f → AreInForm r most → AreStandalone r → AreMapped r → IsTrueAt site r me k → Permits k site op
         → StandsFor [] (after r me op) (changed_by f (effect_of r (done.Op op) (answer_to r me op))) }
 {}
 
@@ -153,10 +174,11 @@ pub fn images_keep_their_maps()
     ensures expiry { (r : Records) (image : ℕ) (i : Instance) → AreMapped r → AreMapped (expired image i r) }
 {}
 
-/// No image gets a parent by what is permitted.
-pub fn images_stay_parentless()
-    ensures first { IsParentless no_records }
-    ensures operation { (site : Site) (r : Records) (k : Knowledge) (you : Instance) (op : Op) → IsParentless r → Permits k site op → IsParentless (after r you op) }
-    ensures trim { (r : Records) (image number : ℕ) → IsParentless r → IsParentless (trimmed image number r) }
-    ensures expiry { (r : Records) (image : ℕ) (i : Instance) → IsParentless r → IsParentless (expired image i r) }
+/// No image gets a parent or a journal by what is permitted, and so no header that is told has one.
+pub fn images_stay_standalone()
+    ensures first { AreStandalone no_records }
+    ensures told { (r : Records) (me : Instance) (op : Op) → AreStandalone r → IsGiven op (answer_to r me op) → TellsStandalone (answer_to r me op) }
+    ensures operation { (site : Site) (r : Records) (k : Knowledge) (you : Instance) (op : Op) → AreStandalone r → Permits k site op → AreStandalone (after r you op) }
+    ensures trim { (r : Records) (image number : ℕ) → AreStandalone r → AreStandalone (trimmed image number r) }
+    ensures expiry { (r : Records) (image : ℕ) (i : Instance) → AreStandalone r → AreStandalone (expired image i r) }
 {}

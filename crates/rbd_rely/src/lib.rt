@@ -23,22 +23,32 @@
 //! |---|---|
 //! | a header, behind an own look | the image has it still, with the request's own changes; its owner may change |
 //! | an id that was drawn | it waits for its header: no object of it was changed |
+//! | an image whose header was removed | it has none, and its id isn't drawn again |
 //! | an instance that was fenced | it is in the site's blocklist |
 //! | a state that was raised in the head's object map | it isn't 0 |
 //! | the states of that map, of who is alone | the map has them, and no other |
+//! | the count of that map, of who is alone, and of an image without a header that it drew or removed | the map is there, and as long at least |
 //! | a snapshot's map that was put, of who is alone | it has the head's states |
-//! | the count of the map of an id that was drawn | the map is there, and as long at least |
+//! | an object that was removed | it isn't there |
+//! | places of an object that were made zeros, of who is alone | they are zeros |
 //!
 //! - Knowledge is an instance's. What a fenced instance knew of headers says nothing any more: its
 //!   lock may be broken, and another instance changes the image. It does nothing by them, since
 //!   each of its operations is refused. The ids that it drew still wait.
 //! - Two requests are *beside* each other where neither is alone on an image whose header both
-//!   know, unless the instance of one is fenced, and no id was drawn by both. The line of a session
-//!   sees to the first (`rbd_line`), and the lock between clients: it has one owner, who keeps it
-//!   until he gives it up or is fenced.
+//!   know, unless the instance of one is fenced, and where no id was drawn by both, or by one and
+//!   its header removed by the other, and no header was removed by both. The line of a session sees
+//!   to the first (`rbd_line`), and the lock between clients: it has one owner, who keeps it until
+//!   he gives it up, removes the header, or is fenced.
 //! - A request that has its image's lock may look at its header, the first time, only where it is
-//!   so (`MayLook`), and give the lock up only where it is so: it is alone then, so nobody else of
-//!   its session relies on the header. All else keeps two requests beside each other.
+//!   so, and give the lock up only where it is so: it is alone then, so nobody else of its session
+//!   relies on the header. It may change an object, or its state in the head's map, only where the
+//!   other knows nothing of that object. This is what one may do beside another (`MayAct`). All else
+//!   keeps two requests beside each other.
+//! - Who isn't alone on an image knows of an object only in its turn there (`KnowsInTurn`), and
+//!   nothing once it waited for the next. So where one acts in its turn, others know nothing of the
+//!   object: they had their turn before, or wait for it. Turns are no part of being beside: a
+//!   request that waits for its turn has passed that wait already, as far as its knowledge goes.
 //!
 //! # Contracts
 //!
@@ -46,12 +56,13 @@
 //! |---|---|
 //! | `specs/Truth.antt` | when knowledge is true at a site (`IsTrueAt`), which maps images have, and the flat site behind an effect |
 //! | `specs/Locks.antt` | what an instance may count on of a lock that is its own |
-//! | `specs/Beside.antt` | which two requests are beside each other, and when one may look |
+//! | `specs/Turns.antt` | what is known of single objects, and that it is so in a turn |
+//! | `specs/Beside.antt` | which two requests are beside each other, and what one may do beside another |
 //!
 //! [`laws`] says, of any records:
 //!
-//! - what is known stays true under each operation that is permitted to another, who knows truly,
-//!   and under the store's trims and ends of watches;
+//! - what is known stays true under each operation that is permitted to another, who knows truly and
+//!   may do it beside the first, and under the store's trims and ends of watches;
 //! - what an answer and a wait teach is true, and says nothing of the other site; an instance that
 //!   is fenced learns nothing, and changes nothing;
 //! - what is permitted by true knowledge meets the site's condition, and gets an answer that its
@@ -61,8 +72,9 @@
 //! - where the records stand for a flat site, it has the effect there that `effect_of` tells, and
 //!   no other; so the records stand for a flat site behind it too;
 //! - two requests that are beside each other stay so;
-//! - a lock is broken only where its owner is fenced, and given up only where no request beside
-//!   knows the header; it has one owner, and lasts.
+//! - who isn't alone knows of an object only in its turn;
+//! - a lock is broken only where its owner is fenced, and given up, or removed with its header, only
+//!   where no request beside knows the header; it has one owner, and lasts.
 //!
 //! With these a world of several clients goes on step by step: whatever request comes next, what
 //! all know is true, what it wants may be done, and the step is one of the flat-copy machine, or

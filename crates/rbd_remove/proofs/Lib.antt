@@ -2,6 +2,7 @@ pub mod About
 pub mod Bounded
 pub mod Closed
 pub mod Journals
+pub mod Lawful
 pub mod Made
 pub mod Meant
 pub mod Refused

@@ -1,6 +1,6 @@
 //! What removals do, by how many operations, and what their replies mean: laws, each the contract
 //! of a function that does nothing.
-ghost use Rattle.std.specs.Prelude.{◌≡◌, ◌≢◌, ℕ, ◌+◌, ◌≤◌, ◌↔◌, List, length, Contains};
+ghost use Rattle.std.specs.Prelude.{◌≡◌, ◌≢◌, ℕ, ◌+◌, ◌≤◌, ◌↔◌, true, false, List, [], length, Contains, Some, None};
 ghost use Rattle.std.specs.List.Sorted.{IsStrictlyIncreasing};
 ghost use Rattle.rbd_commands.specs.declared.command.Command.{Command};
 ghost use Rattle.rbd_kinds.specs.declared.header.HeaderView.{HeaderView};
@@ -10,7 +10,9 @@ ghost use Rattle.rbd_kinds.specs.declared.operation.Op.{Op};
 ghost use Rattle.rbd_kinds.specs.declared.reply.Reply.{Reply};
 ghost use Rattle.rbd_kinds.specs.declared.reply.Reply.TheVariants.{Done};
 ghost use Rattle.rbd_kinds.specs.States.{state_at};
+ghost use Rattle.rbd_machine.specs.Knowledge.{Knowledge, nothing_known, own_of};
 ghost use Rattle.rbd_machine.specs.Label.{Label};
+ghost use Rattle.rbd_machine.specs.Lawful.{IsLawful};
 ghost use Rattle.rbd_machine.specs.Path.{Answered, IsBounded, IsWalk};
 ghost use Rattle.rbd_machine.specs.Plan.{Plan, Goto, Return, IsClosed};
 ghost use Rattle.rbd_machine.specs.Refused.{AreGiven};
@@ -30,6 +32,18 @@ pub fn removals_are_bounded()
         → IsWalk Goto (remove site image h (Return Done)) feds steps last → length steps ≤ 6 + length h.snaps + objects_told steps }
     ensures request { (site : SiteId) (session : ℕ) (name : List ℕ) (feds : List Fed) (steps : List Answered) (last : Plan)
         → IsWalk Goto (remove_image site session name) feds steps last → length steps ≤ 11 + objects_told steps }
+{}
+
+/// The removal of an image is lawful where the image is its own, alone, by a header that lists no
+/// snapshot and tells neither a parent nor a journal, and what comes next is lawful whatever is
+/// known. An `rm` is lawful from nothing known, as long as no header that it is told has a parent
+/// or a journal.
+pub fn removals_are_lawful()
+    ensures part { (at : Label → Knowledge) (k : Knowledge) (site : SiteId) (image : ℕ) (h : HeaderView) (next : Plan)
+        → own_of k.owns site image ≡ Some (record { site = site; image = image; alone = true; header = Some h })
+        → h.snaps ≡ [] → link_of h ≡ None → h.journal ≡ false
+        → ((k : Knowledge) → IsLawful at k next) → IsLawful at k (remove site image h next) }
+    ensures request { (at : Label → Knowledge) (site : SiteId) (session : ℕ) (command : Command) → IsLawful at nothing_known (remove_plan site session command) }
 {}
 
 /// A removal begins no part again, unless what comes next does.

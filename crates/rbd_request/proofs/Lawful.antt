@@ -1,6 +1,5 @@
 -- The plans do what they may.
-use Rattle.std.proofs.Common.{◌≡◌, ◌≢◌, ◌⊎◌, inl, inr, ℕ, ◌+◌, ◌-◌, ◌<◌, ◌≤◌, List, [], ◌∷◌, length, map, get_or, replicate, All, Bool, true, false, cond, eqb, Option, Some, None, refl, ap, sym, subst, ◌∙◌, arith}
-use Rattle.std.proofs.lemmas.Bool.Decides.{eqb_tells}
+use Rattle.std.proofs.Common.{◌≡◌, ℕ, ◌+◌, ◌-◌, List, [], ◌∷◌, length, map, replicate, All, Bool, true, false, cond, eqb, Option, Some, None, refl, ap, sym, subst, ◌∙◌, arith}
 use Rattle.std.proofs.lemmas.List.{length-append}
 use Rattle.std.proofs.lemmas.List.Elements.{All-head, All-tail}
 use Rattle.rbd_kinds.specs.declared.answer.Answer.{Answer}
@@ -15,31 +14,29 @@ use Rattle.rbd_kinds.specs.declared.layout.Extent.{Extent}
 use Rattle.rbd_kinds.specs.declared.layout.Part.{Part}
 use Rattle.rbd_kinds.specs.declared.operation.Op.TheVariants as op
 use Rattle.rbd_kinds.specs.declared.reply.Reply.TheVariants as reply
-use Rattle.rbd_kinds.specs.Form.{IsHeaderInForm}
 use Rattle.rbd_kinds.specs.Parts.{parts_len}
-use Rattle.rbd_kinds.specs.Striping.{object_of}
 use Rattle.rbd_layout.specs.Pieces.{pieces_of}
 use Rattle.rbd_layout.specs.declared.types.Piece.{Piece}
-use Rattle.rbd_layout.proofs.Listed.{pieces_listed}
-use Rattle.rbd_layout.proofs.Within.{lies_in}
 use Rattle.rbd_parts.specs.Contents.{window}
 use Rattle.rbd_parts.specs.Parts.{bytes_for, parts_of, shifted}
 use Rattle.rbd_parts.proofs.ContentsLemmas.{length-window}
-use Rattle.rbd_header.specs.Header.{view_of}
+use Rattle.rbd_header.specs.Header.{context_of, view_of}
 use Rattle.rbd_header.specs.declared.view.View.{View}
-use Rattle.rbd_machine.specs.Knowledge.{Knowledge, nothing_known, learned, passed, own_of, maps_of, is_raised, marked, states_set}
+use Rattle.rbd_machine.specs.Knowledge.{Knowledge, nothing_known, learned, passed}
 use Rattle.rbd_machine.specs.Label.{Label}
 use Rattle.rbd_machine.specs.Label as label
 use Rattle.rbd_machine.specs.Lawful.{IsLawful, IsLawfulRequest}
-use Rattle.rbd_machine.specs.Objects.{map_exists}
-use Rattle.rbd_machine.specs.Permits.{LiesBelow}
+use Rattle.rbd_machine.specs.Objects.{data_write, map_exists}
 use Rattle.rbd_machine.specs.Plan.{Return, Goto, Standing}
 use Rattle.rbd_machine.specs.Steps.{applied, non_primary}
 use Rattle.rbd_machine.specs.Wait as wait
-use Rattle.rbd_machine.proofs.Lawful.{at_itself, own_at, owning_known, own_is_found, or_else_none, lawful_not_there, lawful_on_id, lawful_on_header, lawful_unless, lawful_change}
+use Rattle.rbd_machine.proofs.Lawful.{owning_known, own_is_found, or_else_none, lawful_not_there, lawful_on_id, lawful_on_header, lawful_unless, lawful_change}
 use Rattle.rbd_meaning.specs.Range.{extent_at, out_of_range}
 use Rattle.rbd_meaning.specs.Writes.{write_refuses}
 use Rattle.rbd_piece.proofs.Lawful.{lawful_write, lawful_gather}
+use Rattle.rbd_zero.specs.Known.{IsOwn, IsPieceOf}
+use Rattle.rbd_zero.proofs.Below.{pieces_below}
+use Rattle.rbd_zero.proofs.Lawful.{may_raise, raised_last}
 use Rattle.rbd_request.specs.Read.{IsReadOf, pass, looking, reading, viewing, gathering, closing, on_closing}
 use Rattle.rbd_request.specs.Seen.{Seen, seen_at, shown}
 use Rattle.rbd_request.specs.Write.{put, write, write_pieces, write_plan}
@@ -55,74 +52,31 @@ long_enough (p ∷ parts) from bytes =
     ∙ ap (λ n. n + length (parts_of (map (shifted from) parts) bytes)) (length-window bytes (p.at - from) p.len)
     ∙ ap (λ n. p.len + n) (long_enough parts from bytes)
 
--- The parts lie in their object, and end within the size, which so has a byte of the object.
-record IsBelow (h : HeaderView) (p : Piece) : Type 0 where
-  parts : All (LiesBelow h p.object) p.parts
-  byte : (x : ℕ) × (x < h.size) × (object_of h.layout x ≡ p.object)
-
-first_byte : (h : HeaderView) (object : ℕ) (parts : List Part) → 0 < length parts → All (LiesBelow h object) parts → (x : ℕ) × (x < h.size) × (object_of h.layout x ≡ object)
-first_byte h object [] some below = absurd (omega arith)
-first_byte h object (p ∷ parts) some below =
-    let lies = All-head (LiesBelow h object) p parts below in
-    let long : 0 < p.len = lies.part.some in
-    let ends : p.at + p.len ≤ h.size = lies.below in
-    let begins : p.at + 0 ≡ p.at = omega arith in
-    (p.at, (let less : p.at < h.size = omega arith in less), ap (object_of h.layout) (sym begins) ∙ (lies.part.lies 0 long).0)
-
-pieces_below : (h : HeaderView) (e : Extent) → IsHeaderInForm h → out_of_range e h.size ≡ None → All (IsBelow h) (pieces_of h.layout e)
-pieces_below h e form fits =
-    let are = pieces_listed h.layout form.layout e in
-    let ends : e.at + e.len ≤ h.size = within_size e h.size fits in
-    λ k d below.
-    let p = get_or (pieces_of h.layout e) k d in
-    let parts : All (LiesBelow h p.object) p.parts = λ k' d' below'. record {
-      part = (are.parts k d below).each k' d' below';
-      below = (
-          let last : (get_or p.parts k' d').at + (get_or p.parts k' d').len ≤ e.at + e.len = (lies_in h.layout e p.object p.parts (are.parts k d below) k' d' below').before in
-          omega (arith, last, ends)
-          );
-    } in
-    record { parts = parts; byte = first_byte h p.object p.parts (are.touched k d below) parts }
-
--- ---- states that were raised
-
-same_number : (n : ℕ) → eqb n n ≡ true
-same_number n = go (eqb_tells n n)
-  where
-    go : ((eqb n n ≡ true) × (n ≡ n)) ⊎ ((eqb n n ≡ false) × (n ≢ n)) → eqb n n ≡ true
-    go (inl same) = same.0
-    go (inr other) = absurd (other.1 refl)
-
--- the last that was raised is known to be
-raised_last : (k : Knowledge) (site : SiteId) (image object : ℕ) → is_raised None object (maps_of (learned k site (map_exists image object) answer.Done).maps site image).raised ≡ true
-raised_last k site image object =
-    let m = maps_of k.maps site image in
-    ap (λ b. is_raised None object (cond b (record { raised = marked None object 1 m.raised; states = states_set None object 1 m.states; count = m.count; put = None }) m).raised) (at_itself site image)
-    ∙ ap (λ b. cond b true (is_raised None object m.raised)) (same_number object)
-
 module _ (known_at : Label → Knowledge) where
   -- from anything known by which it owns the image
-  lawful_pieces : (pieces : List Piece) (k : Knowledge) (site : SiteId) (image : ℕ) (h : HeaderView) (at : ℕ) (bytes : List ℕ) → own_of k.owns site image ≡ Some (own_at false site image h) → All (IsBelow h) pieces
+  lawful_pieces : (pieces : List Piece) (k : Knowledge) (site : SiteId) (image : ℕ) (h : HeaderView) (at : ℕ) (bytes : List ℕ) → IsOwn k site image false h → All (IsPieceOf h) pieces
       → IsLawful known_at k (write_pieces site image h at bytes pieces (applied site image))
   lawful_pieces [] k site image h at bytes owns below = tt
   lawful_pieces (p ∷ pieces) k site image h at bytes owns below =
       let turned = passed k (wait.Turn p.object) in
-      let is = All-head (IsBelow h) p pieces below in
-      lawful_write known_at turned site image h p (bytes_for p.parts at bytes) (write_pieces site image h at bytes pieces (applied site image))
-      (record { alone = false; header = h; is = owns; meets = record { within = is.byte; at_turn = refl; raises = omega arith; is_state = omega arith } })
+      let raised = learned turned site (map_exists image p.object) answer.Done in
+      let put = bytes_for p.parts at bytes in
+      let is = All-head (IsPieceOf h) p pieces below in
+      lawful_write known_at turned site image h p put (write_pieces site image h at bytes pieces (applied site image))
+      (may_raise site image h p is false turned owns refl 0 (omega arith))
       (record {
         alone = false;
         header = h;
         is = owns;
         meets = record { under = refl; within = is.parts; long = long_enough p.parts at bytes; at_turn = refl; raised = raised_last turned site image p.object };
       })
-      (lawful_pieces pieces (learned turned site (map_exists image p.object) answer.Done) site image h at bytes owns (All-tail (IsBelow h) p pieces below))
+      (lawful_pieces pieces (learned raised site (data_write image (context_of h) p put) answer.Done) site image h at bytes owns (All-tail (IsPieceOf h) p pieces below))
 
   lawful_write_request : (site : SiteId) (name : List ℕ) (at : ℕ) (bytes : List ℕ) → IsLawful known_at nothing_known (write site name at bytes)
   lawful_write_request site name at bytes =
       lawful_change known_at site name false (write_refuses (extent_at at bytes)) (put site at bytes) (λ image h form may.
       lawful_pieces (pieces_of h.layout (extent_at at bytes)) (owning_known false None site image h) site image h at bytes (own_is_found false None site image h)
-      (pieces_below h (extent_at at bytes) form (or_else_none (non_primary h.role) (out_of_range (extent_at at bytes) h.size) may)))
+      (pieces_below h (extent_at at bytes) form.layout (within_size (extent_at at bytes) h.size (or_else_none (non_primary h.role) (out_of_range (extent_at at bytes) h.size) may))))
 
   pub lawful_write_plan : (site : SiteId) (c : Command) → IsLawful known_at nothing_known (write_plan site c)
   lawful_write_plan site (command.Write image at bytes) = lawful_write_request site image at bytes
@@ -155,7 +109,7 @@ lawful_pass site name snap e = (
   tt,
   λ found can. lawful_on_id nothing_at (learned nothing_known site (op.Directory (directory.Find name))) (looking site snap e) (λ image. (
     tt,
-    lawful_on_header nothing_at site image (learned nothing_known site (op.Header image header.Get)) (reading site snap e image) (λ h form.
+    lawful_on_header nothing_at site image (learned nothing_known site (op.Header image header.Get)) (reading site snap e image) (λ h form standalone.
         lawful_viewing site image h e (view_of h snap)),
   )) found,
 )

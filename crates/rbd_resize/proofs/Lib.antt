@@ -4,6 +4,7 @@ pub mod Closed
 pub mod Counts
 pub mod Ended
 pub mod Hopes
+pub mod Lawful
 pub mod Means
 pub mod Owned
 pub mod Refusing

@@ -13,8 +13,9 @@ ghost use Rattle.rbd_kinds.specs.Form.{HasFewObjects};
 ghost use Rattle.rbd_kinds.specs.Striping.{IsLayout, IsObjectCount};
 ghost use Rattle.rbd_layout.specs.Pieces.{pieces_of};
 ghost use Rattle.rbd_machine.specs.Label.{Label};
+ghost use Rattle.rbd_machine.specs.Lawful.{IsLawfulRequest};
 ghost use Rattle.rbd_machine.specs.Path.{Answered, IsBounded, IsWalk};
-ghost use Rattle.rbd_machine.specs.Plan.{Plan, Goto, Return, IsClosed};
+ghost use Rattle.rbd_machine.specs.Plan.{Plan, Goto, Return, IsClosed, without_labels};
 ghost use Rattle.rbd_machine.specs.Refused.{AreGiven};
 ghost use Rattle.rbd_meaning.specs.Parentless.{AreParentless};
 ghost use Rattle.rbd_meaning.specs.Resizes.{ResizeMeans, ResizesWhole, has_few_objects};
@@ -50,6 +51,19 @@ pub fn requests_are_bounded()
         → IsWalk Goto (size_change site name to) feds steps (Return reply) → length steps ≤ 5 + 3 * most }
     ensures rollback { (site : SiteId) (name snap : List ℕ) (most : ℕ) (feds : List Fed) (steps : List Answered) (reply : Reply) → HoldsOfTold (HasFewToRestore snap most) steps
         → IsWalk Goto (rollback site name snap) feds steps (Return reply) → length steps ≤ 5 + most }
+{}
+
+/// A resize is lawful from nothing known: all is done alone on the image, by the header that the
+/// own look told. A size that grows is set once the head's map has the new objects, and one that
+/// shrinks once each byte that goes is zero.
+pub fn resizes_are_lawful()
+    ensures { (home : SiteId) (command : Command) → IsLawfulRequest (without_labels (resize_plan home command)) }
+{}
+
+/// So is a rollback: behind its size, by the header at that size, each object becomes what it was
+/// behind its state, and under the snapshot context.
+pub fn rollbacks_are_lawful()
+    ensures { (home : SiteId) (command : Command) → IsLawfulRequest (without_labels (rollback_plan home command)) }
 {}
 
 /// None begins a part again, nor does a rollback as a part, unless what comes next does.

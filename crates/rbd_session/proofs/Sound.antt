@@ -14,6 +14,7 @@ use Rattle.rbd_kinds.specs.declared.machine.Fed.{Fed}
 use Rattle.rbd_kinds.specs.declared.reply.Reply.{Reply}
 use Rattle.rbd_machine.specs.Label.{Label}
 use Rattle.rbd_machine.specs.Path.{at_operation}
+use Rattle.rbd_machine.specs.declared.seat.Seat.{Seat}
 use Rattle.rbd_machine.specs.Plan.{Plan, Ask, Await, Note, Return, Goto, Standing, IsAsking, plan_after}
 use Rattle.rbd_kinds.specs.declared.image_at.ImageAt.{ImageAt}
 use Rattle.rbd_session.specs.declared.running.Occupant.{Occupant}
@@ -161,12 +162,12 @@ taken slots lowest value next old len most from to below free = record {
         by (inl before) = subst IsSome (sym (get_or-set_other slots lowest slot (Some value) None differ)) (old.below slot one before)
         by (inr behind) = below slot (omega (arith, behind, differ)) less
 
-module _ {R W : Type 0} (stands : R → Standing) (stands_for : SiteId → W → Standing → Type 0) (extent_for : W → Option Extent) where
-  pub newcomer_well : (home : SiteId) (line : ℕ) (work : W) (slot : ℕ) (o : Occupant R) (lines : LinesView)
-      → ((s : Standing) → stands_for home work s → IsAsking s.plan → IsOrderlyFrom (extent_for work) true beginning s)
-      → ((site : SiteId) (image : ℕ) → member_of slot (lines_of lines site image) ≡ None) → IsNewcomer stands stands_for extent_for home line work (Some o) → IsWell stands slot (Some o) lines
-  newcomer_well home line work slot (occupant.Refused number refusal) lines orderly none new = none
-  newcomer_well home line work slot (occupant.Running r) lines orderly none new = (
+module _ {R W : Type 0} (stands : R → Standing) (stands_for : Seat → W → Standing → Type 0) (extent_for : W → Option Extent) where
+  pub newcomer_well : (seat : Seat) (line : ℕ) (work : W) (slot : ℕ) (o : Occupant R) (lines : LinesView)
+      → ((s : Standing) → stands_for seat work s → IsAsking s.plan → IsOrderlyFrom (extent_for work) true beginning s)
+      → ((site : SiteId) (image : ℕ) → member_of slot (lines_of lines site image) ≡ None) → IsNewcomer stands stands_for extent_for seat line work (Some o) → IsWell stands slot (Some o) lines
+  newcomer_well seat line work slot (occupant.Refused number refusal) lines orderly none new = none
+  newcomer_well seat line work slot (occupant.Running r) lines orderly none new = (
     record {
       somewhere = inl new.place;
       elsewhere = λ site image not_here. none site image;

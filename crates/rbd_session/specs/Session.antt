@@ -21,6 +21,7 @@ use Rattle.rbd_machine.specs.Path.{at_operation}
 use Rattle.rbd_machine.specs.Plan.{Plan, Ask, Standing, IsAsking, plan_after}
 use Rattle.rbd_machine.specs.Ready.{IsReadyFor}
 use Rattle.rbd_machine.specs.Steps.{refused}
+use Rattle.rbd_machine.specs.declared.seat.Seat.{Seat}
 use Rattle.rbd_session.specs.declared.running.Occupant.{Occupant}
 use Rattle.rbd_session.specs.declared.running.Occupant.TheVariants as occupant
 use Rattle.rbd_session.specs.declared.running.Running.{Running}
@@ -84,21 +85,25 @@ script_line None = None
 script_line (Some (occupant.Refused line refusal)) = Some line
 script_line (Some (occupant.Running r)) = Some r.line
 
+-- who its requests are of
+abbrev pub seat_of : {R : Type 0} → SessionView R → Seat
+seat_of s = record { session = s.instance.session; home = s.home }
+
 -- ---- what a request is in its slot at first
 
-pub record BeginsAt {R W : Type 0} (stands : R → Standing) (stands_for : SiteId → W → Standing → Type 0) (extent_for : W → Option Extent) (home : SiteId) (line : ℕ) (work : W) (r : Running R) : Type 0 where
+pub record BeginsAt {R W : Type 0} (stands : R → Standing) (stands_for : Seat → W → Standing → Type 0) (extent_for : W → Option Extent) (seat : Seat) (line : ℕ) (work : W) (r : Running R) : Type 0 where
   pub is_line : r.line ≡ line
-  pub stands_there : stands_for home work (stands r.request)
+  pub stands_there : stands_for seat work (stands r.request)
   pub asks : IsAsking (stands r.request).plan
   pub extent : r.extent ≡ extent_for work
   pub place : r.place ≡ None
   pub turn : r.turn ≡ None
 
 -- it is refused where each request of its work has ended so, or runs from where it is to stand
-abbrev pub IsNewcomer : {R W : Type 0} → (stands : R → Standing) → (stands_for : SiteId → W → Standing → Type 0) → (extent_for : W → Option Extent) → SiteId → (line : ℕ) → W → Option (Occupant R) → Type 0
-IsNewcomer stands stands_for extent_for home line work (Some (occupant.Refused number refusal)) = (number ≡ line) × ((s : Standing) → stands_for home work s → s.plan ≡ refused refusal)
-IsNewcomer stands stands_for extent_for home line work (Some (occupant.Running r)) = BeginsAt stands stands_for extent_for home line work r
-IsNewcomer stands stands_for extent_for home line work None = ⊥
+abbrev pub IsNewcomer : {R W : Type 0} → (stands : R → Standing) → (stands_for : Seat → W → Standing → Type 0) → (extent_for : W → Option Extent) → Seat → (line : ℕ) → W → Option (Occupant R) → Type 0
+IsNewcomer stands stands_for extent_for seat line work (Some (occupant.Refused number refusal)) = (number ≡ line) × ((s : Standing) → stands_for seat work s → s.plan ≡ refused refusal)
+IsNewcomer stands stands_for extent_for seat line work (Some (occupant.Running r)) = BeginsAt stands stands_for extent_for seat line work r
+IsNewcomer stands stands_for extent_for seat line work None = ⊥
 
 -- ---- what the request in a slot wants, where it may go on
 

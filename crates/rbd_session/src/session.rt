@@ -4,7 +4,7 @@ ghost use Rattle.rbd_kinds.specs.declared.id.SiteId.{SiteId as Site};
 ghost use Rattle.rbd_line.specs.Line.{any_past};
 ghost use Rattle.rbd_session.specs.Advance.{track_of};
 ghost use Rattle.rbd_session.specs.Lines.{lines_of};
-ghost use Rattle.rbd_session.specs.Session.{IsSoundSession, IsNewcomer, free_slot, held_in, running_at, script_line, kind_at, op_at, own_look_at, refusal_in, reply_of, lowest_after, OfRunning, IsAlike, IsAnswered, IsFed, IsReadied};
+ghost use Rattle.rbd_session.specs.Session.{IsSoundSession, IsNewcomer, free_slot, held_in, running_at, script_line, kind_at, op_at, own_look_at, refusal_in, reply_of, lowest_after, seat_of, OfRunning, IsAlike, IsAnswered, IsFed, IsReadied};
 ghost use Rattle.rbd_session.specs.OnTrack.{LeavesOthers};
 ghost use Rattle.rbd_session.specs.Track.{ended_by};
 ghost use Rattle.rbd_session.specs.declared.running.Running.{Running};
@@ -16,6 +16,7 @@ use crate::slots::{empty_slots, free_up, held_at, next_free};
 use crate::wanted::{going, own_look, running_in, wanted_kind, wanted_op};
 use rbd_course::{Begun, Request};
 use rbd_kinds::{Fed, ImageAt, Instance, NoMemory, Op, OpKind, Refusal, Reply, SiteId, Slot};
+use rbd_machine::Seat;
 use std::alloc::Global;
 use std::marker::Model;
 
@@ -89,14 +90,18 @@ impl<R: Request> Session<R> {
         requires free { self.old.lowest ≤ 64 }
         requires serves { R.serves work }
         ensures slot { IfOk result (λ slot. slot ≡ self.old.lowest) }
-        ensures held { OnOk result (IsNewcomer R.stands R.stands_for R.extent_for self.old.home line work (held_in self.old.lowest self.new.slots)) }
+        ensures held { OnOk result (IsNewcomer R.stands R.stands_for R.extent_for (seat_of self.old) line work (held_in self.old.lowest self.new.slots)) }
         ensures others { (slot : ℕ) → slot ≢ self.old.lowest → held_in slot self.new.slots ≡ held_in slot self.old.slots }
         ensures lines { self.new.lines ≡ self.old.lines }
         ensures who { (self.new.instance ≡ self.old.instance) × (self.new.home ≡ self.old.home) }
         ensures err { OnErr result (self.new ≡ self.old) }
         ensures sound { IsSoundSession R.stands self.new }
     {
-        let occupant = newcomer(alloc, self.home, line, work)?;
+        let seat = Seat {
+            session: self.instance.session,
+            home: self.home,
+        };
+        let occupant = newcomer(alloc, &seat, line, work)?;
         let slot = self.lowest;
         self.slots[slot as usize] = Some(occupant);
         self.lowest = next_free(self.slots.as_slice(), slot + 1);
@@ -255,15 +260,15 @@ fn refusal_at<R>(slots: &[Option<Occupant<R>>], slot: Slot) -> Option<Refusal>
 /// A request as it comes into a slot.
 fn newcomer<R: Request>(
     alloc: Global,
-    home: SiteId,
+    seat: &Seat,
     line: u32,
     work: R::Work,
 ) -> Result<Occupant<R>, NoMemory>
     requires { R.serves work }
-    ensures { IfOk result (λ o. IsNewcomer R.stands R.stands_for R.extent_for home line work (Some o)) }
+    ensures { IfOk result (λ o. IsNewcomer R.stands R.stands_for R.extent_for seat.now line work (Some o)) }
 {
     let extent = R::extent(&work);
-    match R::begin(alloc, home, work)? {
+    match R::begin(alloc, seat, work)? {
         Begun::Refused(refusal) => Ok(Occupant::Refused { line, refusal }),
         Begun::Asks(request) => Ok(Occupant::Running(Running {
             line,

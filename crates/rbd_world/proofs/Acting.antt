@@ -31,7 +31,7 @@ use Rattle.rbd_machine.specs.Permits.{Permits}
 use Rattle.rbd_machine.specs.Plan.{Ask, Standing}
 use Rattle.rbd_machine.specs.Refused.{IsGiven}
 use Rattle.rbd_owner.specs.declared.release.Release.{Release}
-use Rattle.rbd_rely.specs.Beside.{AreBeside, MayLook}
+use Rattle.rbd_rely.specs.Beside.{AreBeside, MayAct}
 use Rattle.rbd_rely.specs.Locks.{KnowsByLock}
 use Rattle.rbd_rely.specs.Truth.{IsTrueAt, known_header}
 use Rattle.rbd_rely.proofs.Elsewhere.{beside_elsewhere}
@@ -266,7 +266,7 @@ module _ {R : Type 0} (stands : R → Standing) (old new : WorldView R) (w : IsS
             at_either s (λ t. Beside t (learned (knew slot) s o a))
             (subst (λ r. AreBeside s r me (w.who g) (learned (knew slot) s o a) (w.knows g)) (sym (here_now stands old new w me doer s o result goes_by known permits at_sites))
             (learned_beside s (records_in s old.sites) me (w.who g) (knew slot) (w.knows g) (beside_slot s) o (holds.truth s) permits_it
-            (subst (λ m. MayLook s (records_in s old.sites) me (w.who g) (known_to (knew slot) m) (w.knows g) o) (sym requests)
+            (subst (λ m. MayAct s (records_in s old.sites) me (w.who g) (known_to (knew slot) m) (w.knows g) o) (sym requests)
             (looks_beside_others stands c knew living.sound living.know (records_in s old.sites) me (w.who g) (w.knows g) s (was_true s) holds.other (holds.locks s) slot o wanted))))
             (λ t apart.
             subst (λ r. AreBeside t r me (w.who g) (learned (knew slot) s o a) (w.knows g)) (sym (elsewhere_now stands old new w me doer s o result goes_by known permits at_sites t apart))

@@ -20,11 +20,12 @@ use Rattle.rbd_rely.specs.Beside.{AreBeside}
 use Rattle.rbd_rely.specs.Locks.{KnowsByLock, gives_up}
 use Rattle.rbd_rely.specs.Truth.{IsTrueAt, changed_by, known_header}
 use Rattle.rbd_rely.proofs.Fenced.{was_free}
-use Rattle.rbd_rely.proofs.Done.{gives_it, has_its_effect}
+use Rattle.rbd_rely.proofs.Done.{gives_it}
+use Rattle.rbd_rely.proofs.Effects.{has_its_effect}
 use Rattle.rbd_rely.proofs.Kept.{others_keep}
 use Rattle.rbd_rely.proofs.Locks.{lock_lasts}
 use Rattle.rbd_rely.proofs.Maps.{mapped_stays}
-use Rattle.rbd_rely.proofs.Parents.{parentless_stays}
+use Rattle.rbd_rely.proofs.Standalone.{standalone_stays}
 use Rattle.rbd_rely.proofs.Together.{beside_stays}
 use Rattle.rbd_site.specs.Records.{Records}
 use Rattle.rbd_site.specs.Step.{after, answer_to, is_fenced}
@@ -84,7 +85,7 @@ module _ {R : Type 0} (stands : R → Standing) (old new : WorldView R) (w : IsS
   stands_then = at_either s (λ t. StandsFor [] (records_after t (does_it ∷ w.run)) (flat_after t (does_it ∷ w.run))) here elsewhere
     where
       effected : StandsFor [] (after (records_in s old.sites) who o) (changed_by (flat_after s w.run) operation.effect)
-      effected = has_its_effect s (records_in s old.sites) (flat_after s w.run) k who (length (site_in s old.sites).log) (stands_in s) (w.form s) (w.parentless s) (known s) o permits
+      effected = has_its_effect s (records_in s old.sites) (flat_after s w.run) k who (length (site_in s old.sites).log) (stands_in s) (w.form s) (w.standalone s) (known s) o permits
 
       here : StandsFor [] (records_after s (does_it ∷ w.run)) (flat_after s (does_it ∷ w.run))
       here =
@@ -102,7 +103,7 @@ module _ {R : Type 0} (stands : R → Standing) (old new : WorldView R) (w : IsS
     where
       here : HasWholeImages (after (records_in s old.sites) who o)
       here = record {
-        parentless = parentless_stays s (records_in s old.sites) k who o (w.parentless s) permits;
+        standalone = standalone_stays s (records_in s old.sites) k who o (w.standalone s) permits;
         mapped = mapped_stays s (records_in s old.sites) (flat_after s w.run) k who o (length (site_in s old.sites).log) (stands_in s) (w.form s) (w.mapped s) (known s) permits;
       }
 

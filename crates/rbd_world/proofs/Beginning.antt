@@ -11,9 +11,9 @@ use Rattle.rbd_kinds.specs.declared.id.SiteId.TheVariants as site
 use Rattle.rbd_known.specs.Knowing.{KnowsIn}
 use Rattle.rbd_machine.specs.Knowledge.{nothing_known}
 use Rattle.rbd_machine.specs.Plan.{Standing}
-use Rattle.rbd_rely.specs.Truth.{AreMapped, IsParentless}
+use Rattle.rbd_rely.specs.Truth.{AreMapped, AreStandalone}
 use Rattle.rbd_rely.proofs.Maps.{none_mapped}
-use Rattle.rbd_rely.proofs.Nothing.{none_parentless, nothing_is_beside}
+use Rattle.rbd_rely.proofs.Nothing.{none_standalone, nothing_is_beside}
 use Rattle.rbd_session.specs.Session.{running_at, running_in, script_line}
 use Rattle.rbd_session.proofs.Sound.{no_some, some_same}
 use Rattle.rbd_site.specs.InForm.{AreInForm}
@@ -122,9 +122,9 @@ module _ {R : Type 0} (stands : R → Standing) where
     logs = new.sites;
     records = λ s. ap (after_all no_records) (new.sites s);
     mail = new.mail;
-    right = λ s. record { stands = nothing_stands; parentless = none_parentless; mapped = none_mapped; form = form_at_first };
+    right = λ s. record { stands = nothing_stands; standalone = none_standalone; mapped = none_mapped; form = form_at_first };
     form = λ s. subst (λ log. AreInForm (after_all no_records log) (length log)) (sym (new.sites s)) form_at_first;
-    parentless = λ s. subst (λ log. IsParentless (after_all no_records log)) (sym (new.sites s)) none_parentless;
+    standalone = λ s. subst (λ log. AreStandalone (after_all no_records log)) (sym (new.sites s)) none_standalone;
     mapped = λ s. subst (λ log. AreMapped (after_all no_records log)) (sym (new.sites s)) none_mapped;
     exact = λ calm s. subst (λ log. IsExactBut (is_owed s []) (after_all no_records log)) (sym (new.sites s)) (none_exact (is_owed s []));
     lives = first_lives w new;

@@ -13,8 +13,8 @@ use Rattle.rbd_kinds.specs.declared.notice.Notice.{Notice}
 use Rattle.rbd_machine.specs.Knowledge.{Knowledge, nothing_known, same_instance}
 use Rattle.rbd_machine.specs.Label.{Label}
 use Rattle.rbd_machine.specs.Plan.{Plan, Ask, Await, Note, Return, Goto, Standing}
-use Rattle.rbd_rely.specs.Beside.{AreBeside, MayLook}
-use Rattle.rbd_rely.specs.Truth.{AreMapped, IsParentless}
+use Rattle.rbd_rely.specs.Beside.{AreBeside, MayAct}
+use Rattle.rbd_rely.specs.Truth.{AreMapped, AreStandalone}
 use Rattle.rbd_session.specs.declared.running.Occupant.{Occupant}
 use Rattle.rbd_session.specs.declared.running.Occupant.TheVariants as occupant
 use Rattle.rbd_session.specs.declared.running.Running.{Running}
@@ -45,7 +45,7 @@ StandFlat run = (s : SiteId) → StandsFor [] (records_after s run) (flat_after 
 
 -- No image has a parent, and each has its object maps.
 pub record HasWholeImages (r : Records) : Type 0 where
-  pub parentless : IsParentless r
+  pub standalone : AreStandalone r
   pub mapped : AreMapped r
 
 -- ---- it is the event's
@@ -171,7 +171,7 @@ module _ {R : Type 0} (stands : R → Standing) where
       by false = tt
 
   pub whole_in : (w : WorldView R) → IsSoundWorld stands w → (s : SiteId) → HasWholeImages (records_in s w.sites)
-  whole_in w sound s = record { parentless = sound.parentless s; mapped = sound.mapped s }
+  whole_in w sound s = record { standalone = sound.standalone s; mapped = sound.mapped s }
 
   -- ---- what has to be shown
 
@@ -191,7 +191,7 @@ module _ {R : Type 0} (stands : R → Standing) where
         → (who (Sending session slot) ≡ x.instance) × MayStillCome session (λ s. records_in s new.sites) x (knows (Sending session slot))
     pub unsent : (session slot : ℕ) → late_at session slot new.lives ≡ None → knows (Sending session slot) ≡ nothing_known
     pub drops : (session slot there : ℕ) (x : Sent) → slot ≢ there → late_at session slot new.lives ≡ Some x → (r : Records)
-        → MayLook x.site r (who (Sending session slot)) (who (Sending session there)) (knows (Sending session slot)) (knows (Sending session there)) x.op
+        → MayAct x.site r (who (Sending session slot)) (who (Sending session there)) (knows (Sending session slot)) (knows (Sending session there)) x.op
     pub beside : (h g : Holder) → AreStrangers h g → (s : SiteId) → AreBeside s (records_in s new.sites) (who h) (who g) (knows h) (knows g)
     pub owes : IsOwedFor h w.run
     pub turn : IsInTurn h w.run
@@ -235,7 +235,7 @@ module _ {R : Type 0} (stands : R → Standing) where
         mail = does.mail ∙ mail_goes h old w;
         right = (λ s. standing_now carries.standing carries.whole s, carries.due, w.right);
         form = λ s. at_sites.form s (w.form s);
-        parentless = λ s. (carries.whole s).parentless;
+        standalone = λ s. (carries.whole s).standalone;
         mapped = λ s. (carries.whole s).mapped;
         exact = exact_then stands old new w h at_sites carries.due carries.owes;
         lives = carries.lives;
@@ -263,7 +263,7 @@ module _ {R : Type 0} (stands : R → Standing) where
       standing_now : StandFlat (h ∷ w.run) → ((s : SiteId) → HasWholeImages (records_in s new.sites)) → (s : SiteId) → IsStanding s (h ∷ w.run)
       standing_now standing whole s = record {
         stands = standing s;
-        parentless = subst IsParentless (records_now s) (whole s).parentless;
+        standalone = subst AreStandalone (records_now s) (whole s).standalone;
         mapped = subst AreMapped (records_now s) (whole s).mapped;
         form =
             subst (λ ds. AreInForm (records_after s (h ∷ w.run)) (length ds)) (logs_now s)

@@ -14,7 +14,7 @@ use Rattle.rbd_kinds.specs.declared.operation.Op.TheVariants as op
 use Rattle.rbd_machine.specs.Knowledge.{Knowledge, nothing_known}
 use Rattle.rbd_machine.specs.Permits.{Permits}
 use Rattle.rbd_machine.specs.Plan.{Standing}
-use Rattle.rbd_rely.specs.Beside.{AreBeside, MayLook}
+use Rattle.rbd_rely.specs.Beside.{AreBeside, MayAct}
 use Rattle.rbd_rely.specs.Locks.{KnowsByLock, gives_up}
 use Rattle.rbd_rely.specs.Truth.{known_header}
 use Rattle.rbd_rely.proofs.Together.{nobody_knows}
@@ -113,7 +113,7 @@ module _ {R : Type 0} (stands : R → Standing) (old : WorldView R) (w : IsSound
 -- ---- a lock that is dropped
 
 -- Whoever knows a header keeps its lock where another of its instance drops one.
-keeps_lock : (s : SiteId) (r : Records) (me : Instance) (k j : Knowledge) (o : Op) → Permits k s o → MayLook s r me me k j o → KnowsByLock s r me j
+keeps_lock : (s : SiteId) (r : Records) (me : Instance) (k j : Knowledge) (o : Op) → Permits k s o → MayAct s r me me k j o → KnowsByLock s r me j
     → (image : ℕ) → IsSome (known_header j s image) → IsFalse (is_fenced r me) → gives_up image o ≡ false
 keeps_lock s r me k j (op.Header other header.LockDrop) permits may locks image known free = by (image == other) refl
   where
@@ -281,10 +281,10 @@ module _ {R : Type 0} (stands : R → Standing) (old new : WorldView R) (w : IsS
       theirs : MayStillCome session (λ s. records_in s old.sites) z (w.knows (Sending session y))
       theirs = (w.sending session y z is).1
 
-      looks : MayLook x.site (records_in x.site old.sites) z.instance z.instance k (w.knows (Sending session y)) x.op
+      looks : MayAct x.site (records_in x.site old.sites) z.instance z.instance k (w.knows (Sending session y)) x.op
       looks =
-          subst (λ i. MayLook x.site (records_in x.site old.sites) i z.instance k (w.knows (Sending session y)) x.op) (who_is ∙ same)
-          (subst (λ i. MayLook x.site (records_in x.site old.sites) (w.who (Sending session slot)) i k (w.knows (Sending session y)) x.op) (w.sending session y z is).0
+          subst (λ i. MayAct x.site (records_in x.site old.sites) i z.instance k (w.knows (Sending session y)) x.op) (who_is ∙ same)
+          (subst (λ i. MayAct x.site (records_in x.site old.sites) (w.who (Sending session slot)) i k (w.knows (Sending session y)) x.op) (w.sending session y z is).0
           (w.drops session slot y x (λ e. differ (sym e)) sent (records_in x.site old.sites)))
 
   same_life : (y : ℕ) (z : Sent) → late_at session y old.lives ≡ Some z → x.instance ≡ z.instance
@@ -320,19 +320,19 @@ module _ {R : Type 0} (stands : R → Standing) (old new : WorldView R) (w : IsS
       by (inr apart) = knows_there m y apart ∙ w.unsent m y (sym (late_elsewhere m y apart) ∙ is)
 
   drops_now : (m y at : ℕ) (z : Sent) → y ≢ at → late_at m y new.lives ≡ Some z → (r : Records)
-      → MayLook z.site r (w.who (Sending m y)) (w.who (Sending m at)) (knows_then (Sending m y)) (knows_then (Sending m at)) z.op
+      → MayAct z.site r (w.who (Sending m y)) (w.who (Sending m at)) (knows_then (Sending m y)) (knows_then (Sending m at)) z.op
   drops_now m y at z differ is r =
       let apart = elsewhere m y z is in
-      subst (λ q. MayLook z.site r (w.who (Sending m y)) (w.who (Sending m at)) q (knows_then (Sending m at)) z.op) (sym (knows_there m y apart))
+      subst (λ q. MayAct z.site r (w.who (Sending m y)) (w.who (Sending m at)) q (knows_then (Sending m at)) z.op) (sym (knows_there m y apart))
       (by (here_or_elsewhere session slot m at) (sym (late_elsewhere m y apart) ∙ is))
     where
       by : ((m ≡ session) × (at ≡ slot)) ⊎ IsElsewhere session slot m at → late_at m y old.lives ≡ Some z
-          → MayLook z.site r (w.who (Sending m y)) (w.who (Sending m at)) (w.knows (Sending m y)) (knows_then (Sending m at)) z.op
+          → MayAct z.site r (w.who (Sending m y)) (w.who (Sending m at)) (w.knows (Sending m y)) (knows_then (Sending m at)) z.op
       by (inl (one, two)) before =
-          subst (λ q. MayLook z.site r (w.who (Sending m y)) (w.who (Sending m at)) (w.knows (Sending m y)) q z.op) (sym (knows_here m at one two))
+          subst (λ q. MayAct z.site r (w.who (Sending m y)) (w.who (Sending m at)) (w.knows (Sending m y)) q z.op) (sym (knows_here m at one two))
           (unknown_looks z.site r (w.who (Sending m y)) (w.who (Sending m at)) (w.knows (Sending m y)) nothing_known (λ image. refl) z.op)
       by (inr elsewhere) before =
-          subst (λ q. MayLook z.site r (w.who (Sending m y)) (w.who (Sending m at)) (w.knows (Sending m y)) q z.op) (sym (knows_there m at elsewhere)) (w.drops m y at z differ before r)
+          subst (λ q. MayAct z.site r (w.who (Sending m y)) (w.who (Sending m at)) (w.knows (Sending m y)) q z.op) (sym (knows_there m at elsewhere)) (w.drops m y at z differ before r)
 
   late_now : (m y : ℕ) → late_at m y new.lives ≡ sent_after m y (h ∷ w.run)
   late_now m y = by (here_or_elsewhere session slot m y)

@@ -9,7 +9,7 @@ use Rattle.rbd_kinds.specs.declared.operation.Op.{Op}
 use Rattle.rbd_kinds.specs.declared.operation.Op.TheVariants as op
 use Rattle.rbd_machine.specs.Knowledge.{Knowledge, nothing_known}
 use Rattle.rbd_machine.specs.Plan.{Standing}
-use Rattle.rbd_rely.specs.Beside.{AreBeside, MayLook}
+use Rattle.rbd_rely.specs.Beside.{AreBeside, MayAct}
 use Rattle.rbd_rely.specs.Truth.{known_header}
 use Rattle.rbd_rely.proofs.Nothing.{nothing_is_beside}
 use Rattle.rbd_rely.proofs.Together.{beside_mutual}
@@ -70,7 +70,7 @@ pub nothing_beside : (s : SiteId) (r : Records) (me you : Instance) (k : Knowled
 nothing_beside s r me you k = beside_mutual s r you me nothing_known k (nothing_is_beside s r you me k)
 
 -- beside one who knows no header anybody may look, and drop a lock
-pub unknown_looks : (s : SiteId) (r : Records) (me you : Instance) (k j : Knowledge) → ((image : ℕ) → known_header j s image ≡ None) → (o : Op) → MayLook s r me you k j o
+pub unknown_looks : (s : SiteId) (r : Records) (me you : Instance) (k j : Knowledge) → ((image : ℕ) → known_header j s image ≡ None) → (o : Op) → MayAct s r me you k j o
 unknown_looks s r me you k j none (op.Header image header.Get) = λ free some told. absurd (true≢false (sym told ∙ ap is_some (none image)))
 unknown_looks s r me you k j none (op.Header image header.LockDrop) = λ lock free some told. absurd (true≢false (sym told ∙ ap is_some (none image)))
 unknown_looks s r me you k j none _ = tt

@@ -62,7 +62,7 @@ module _ {R : Type 0} (stands : R → Standing) (old new : WorldView R) (w : IsS
     known = λ me k t. trims_keep s (records_in s old.sites) me k image number t;
     locks = λ me k t i known free. let lock = t i known free in record { header = lock.header; there = lock.there; owner = lock.owner };
     beside = λ me you k j t. record { shared = t.shared; apart = t.apart };
-    whole = λ t. record { parentless = t.parentless; mapped = mapped_trimmed (records_in s old.sites) image number t.mapped };
+    whole = λ t. record { standalone = t.standalone; mapped = mapped_trimmed (records_in s old.sites) image number t.mapped };
   }
 
   expiry_true : (s : SiteId) (image : ℕ) (who : Instance) → StaysTrue s (expired image who (records_in s old.sites))
@@ -71,7 +71,7 @@ module _ {R : Type 0} (stands : R → Standing) (old new : WorldView R) (w : IsS
     known = λ me k t. expiries_keep s (records_in s old.sites) me k image who t;
     locks = λ me k t i known free. let lock = t i known free in record { header = lock.header; there = lock.there; owner = lock.owner };
     beside = λ me you k j t. record { shared = t.shared; apart = t.apart };
-    whole = λ t. record { parentless = t.parentless; mapped = mapped_expired (records_in s old.sites) image who t.mapped };
+    whole = λ t. record { standalone = t.standalone; mapped = mapped_expired (records_in s old.sites) image who t.mapped };
   }
 
   pub still_may_come : (r : SiteId → Records) → ((s : SiteId) → StaysTrue s (r s)) → (m : ℕ) (x : Sent) (k : Knowledge) → MayStillCome m (λ s. records_in s old.sites) x k → MayStillCome m r x k

@@ -22,7 +22,7 @@ use Rattle.rbd_kinds.specs.declared.operation.Op.{Op}
 use Rattle.rbd_machine.specs.Knowledge.{Knowledge, nothing_known}
 use Rattle.rbd_machine.specs.Plan.{Standing}
 use Rattle.rbd_machine.specs.Refused.{AreGiven}
-use Rattle.rbd_rely.specs.Beside.{AreBeside, MayLook}
+use Rattle.rbd_rely.specs.Beside.{AreBeside, MayAct}
 use Rattle.rbd_rely.specs.Locks.{KnowsByLock}
 use Rattle.rbd_rely.proofs.Nothing.{nothing_is_beside}
 use Rattle.rbd_rely.proofs.Together.{beside_mutual}
@@ -367,28 +367,28 @@ module _ {R : Type 0} (stands : R → Standing) (old new : WorldView R) (w : IsS
 
   -- ---- who may look
 
-  looks_by : (x y : ℕ) (s : SiteId) (o : Op) → x ≢ y → op_wanted stands x c ≡ Some (s, o) → (r : Records) (a : Actor) → MayLook s r who who (knew_at x) (known_to (knew y) a) o
+  looks_by : (x y : ℕ) (s : SiteId) (o : Op) → x ≢ y → op_wanted stands x c ≡ Some (s, o) → (r : Records) (a : Actor) → MayAct s r who who (knew_at x) (known_to (knew y) a) o
   looks_by x y s o differ is r actor.Nobody = unknown_looks s r who who (knew_at x) nothing_known (λ image. refl) o
   looks_by x y s o differ is r actor.Request = looks_beside_own stands c knew living.sound living.know r who who x y s o differ is
   looks_by x y s o differ is r (actor.Way a) = unknown_looks s r who who (knew_at x) (known_on_way a) (λ image. way_knows_no_header a s image) o
   looks_by x y s o differ is r (actor.Release z) = unknown_looks s r who who (knew_at x) (known_to_release z) (λ image. release_knows_no_header z s image) o
 
   looks_sent : (x y : ℕ) → x ≢ y → (z : Sent) (o : Option (SiteId × Op)) → wanted x ≡ o → sent_of who o ≡ Some z → (r : Records)
-      → MayLook z.site r who who (sends_by o (knew_at x)) (knows_sent y) z.op
+      → MayAct z.site r who who (sends_by o (knew_at x)) (knows_sent y) z.op
   looks_sent x y differ z None is sent r = absurd (no_some z sent)
   looks_sent x y differ z (Some p) is sent r =
-      subst (λ (v : Sent). MayLook v.site r who who (knew_at x) (knows_sent y) v.op) (some_same _ z sent)
-      (unless_sent (λ j. MayLook p.0 r who who (knew_at x) j p.1) (wanted y) (knew_at y) (unknown_looks p.0 r who who (knew_at x) nothing_known (λ image. refl) p.1)
+      subst (λ (v : Sent). MayAct v.site r who who (knew_at x) (knows_sent y) v.op) (some_same _ z sent)
+      (unless_sent (λ j. MayAct p.0 r who who (knew_at x) j p.1) (wanted y) (knew_at y) (unknown_looks p.0 r who who (knew_at x) nothing_known (λ image. refl) p.1)
       (looks_by x y p.0 p.1 differ (wanted_at (λ slot. op_wanted stands slot c) 65 x p is) r (actor_at stands y c)))
 
-  looks_as : (s : SiteId) (r : Records) (o : Op) (me you : Instance) (k j : Knowledge) (i v : Instance) (q p : Knowledge) → me ≡ i → you ≡ v → k ≡ q → j ≡ p → MayLook s r i v q p o
-      → MayLook s r me you k j o
+  looks_as : (s : SiteId) (r : Records) (o : Op) (me you : Instance) (k j : Knowledge) (i v : Instance) (q p : Knowledge) → me ≡ i → you ≡ v → k ≡ q → j ≡ p → MayAct s r i v q p o
+      → MayAct s r me you k j o
   looks_as s r o me you k j i v q p one two three four may =
-      subst (λ a. MayLook s r a you k j o) (sym one)
-      (subst (λ a. MayLook s r i a k j o) (sym two) (subst (λ a. MayLook s r i v a j o) (sym three) (subst (λ a. MayLook s r i v q a o) (sym four) may)))
+      subst (λ a. MayAct s r a you k j o) (sym one)
+      (subst (λ a. MayAct s r i a k j o) (sym two) (subst (λ a. MayAct s r i v a j o) (sym three) (subst (λ a. MayAct s r i v q a o) (sym four) may)))
 
   drops_now : (m x y : ℕ) (z : Sent) → x ≢ y → late_at m x new.lives ≡ Some z → (r : Records) → (m ≡ session) ⊎ (m ≢ session)
-      → MayLook z.site r (who_then (Sending m x)) (who_then (Sending m y)) (knows_then (Sending m x)) (knows_then (Sending m y)) z.op
+      → MayAct z.site r (who_then (Sending m x)) (who_then (Sending m y)) (knows_then (Sending m x)) (knows_then (Sending m y)) z.op
   drops_now m x y z differ is r (inl same) =
       looks_as z.site r z.op (who_then (Sending m x)) (who_then (Sending m y)) (knows_then (Sending m x)) (knows_then (Sending m y)) who who (knows_sent x) (knows_sent y)
       (who_here m x same) (who_here m y same) (knows_here m x same) (knows_here m y same)

@@ -16,7 +16,7 @@ use Rattle.rbd_machine.specs.Path.{IsWalk}
 use Rattle.rbd_machine.specs.Plan.{Standing}
 use Rattle.rbd_machine.specs.Refused.{AreGiven}
 use Rattle.rbd_rely.specs.Beside.{AreBeside}
-use Rattle.rbd_rely.specs.Truth.{AreMapped, IsParentless}
+use Rattle.rbd_rely.specs.Truth.{AreMapped, AreStandalone}
 use Rattle.rbd_session.specs.declared.running.Occupant.{Occupant}
 use Rattle.rbd_session.specs.declared.running.Occupant.TheVariants as occupant
 use Rattle.rbd_session.specs.declared.running.Running.{Running}
@@ -178,7 +178,7 @@ module _ {R : Type 0} (stands : R → Standing) where
     mail = ap (λ (sites : Sites). sites.mail) undone.sites ∙ w.mail;
     right = w.right;
     form = subst (λ (sites : Sites). (s : SiteId) → AreInForm (records_in s sites) (length (site_in s sites).log)) (sym undone.sites) w.form;
-    parentless = subst (λ (sites : Sites). (s : SiteId) → IsParentless (records_in s sites)) (sym undone.sites) w.parentless;
+    standalone = subst (λ (sites : Sites). (s : SiteId) → AreStandalone (records_in s sites)) (sym undone.sites) w.standalone;
     mapped = subst (λ (sites : Sites). (s : SiteId) → AreMapped (records_in s sites)) (sym undone.sites) w.mapped;
     exact = subst (λ (sites : Sites). IsUnhindered w.run → (s : SiteId) → IsExactBut (is_owed s w.run) (records_in s sites)) (sym undone.sites) w.exact;
     lives = λ session. lives_if w.run (w.homes session) session (lives_in session old.lives) (lives_in session new.lives) (undone.lives session) (w.lives session);

@@ -27,9 +27,9 @@ use Rattle.rbd_machine.specs.Plan.{Plan, Return, Standing}
 use Rattle.rbd_machine.specs.Refused.{AreGiven}
 use Rattle.rbd_machine.specs.Steps.{EndsIt, not_there, refused}
 use Rattle.rbd_meaning.specs.Meant.{IsMeantBy}
-use Rattle.rbd_rely.specs.Beside.{AreBeside, MayLook}
+use Rattle.rbd_rely.specs.Beside.{AreBeside, MayAct}
 use Rattle.rbd_rely.specs.Locks.{KnowsByLock}
-use Rattle.rbd_rely.specs.Truth.{AreMapped, IsTrueAt, IsParentless}
+use Rattle.rbd_rely.specs.Truth.{AreMapped, IsTrueAt, AreStandalone}
 use Rattle.rbd_requests.specs.Served.{IsPlanFor}
 use Rattle.rbd_session.specs.declared.running.Occupant.{Occupant}
 use Rattle.rbd_session.specs.declared.running.Occupant.TheVariants as occupant
@@ -216,7 +216,7 @@ IsDue homes h before = Unit {0}
 -- its objects, and headers are in form.
 pub record IsStanding (s : SiteId) (run : List Happening) : Type 0 where
   pub stands : StandsFor [] (records_after s run) (flat_after s run)
-  pub parentless : IsParentless (records_after s run)
+  pub standalone : AreStandalone (records_after s run)
   pub mapped : AreMapped (records_after s run)
   pub form : AreInForm (records_after s run) (length (log_of s run))
 
@@ -351,7 +351,7 @@ pub record IsSoundWorld {R : Type 0} (stands : R → Standing) (w : WorldView R)
   pub right : IsRight homes run
   -- each site's headers are in form, and no image has a parent
   pub form : (s : SiteId) → AreInForm (records_in s w.sites) (length (site_in s w.sites).log)
-  pub parentless : (s : SiteId) → IsParentless (records_in s w.sites)
+  pub standalone : (s : SiteId) → AreStandalone (records_in s w.sites)
   pub mapped : (s : SiteId) → AreMapped (records_in s w.sites)
   -- where nobody was stopped or fenced, maps tell exactly what exists, but for what lines owe
   pub exact : IsUnhindered run → (s : SiteId) → IsExactBut (is_owed s run) (records_in s w.sites)
@@ -372,7 +372,7 @@ pub record IsSoundWorld {R : Type 0} (stands : R → Standing) (w : WorldView R)
       → (who (Sending session slot) ≡ x.instance) × MayStillCome session (λ s. records_in s w.sites) x (knows (Sending session slot))
   pub unsent : (session slot : ℕ) → late_at session slot w.lives ≡ None → knows (Sending session slot) ≡ nothing_known
   pub drops : (session slot there : ℕ) (x : Sent) → slot ≢ there → late_at session slot w.lives ≡ Some x → (r : Records)
-      → MayLook x.site r (who (Sending session slot)) (who (Sending session there)) (knows (Sending session slot)) (knows (Sending session there)) x.op
+      → MayAct x.site r (who (Sending session slot)) (who (Sending session there)) (knows (Sending session slot)) (knows (Sending session there)) x.op
   -- no two that aren't of one client are in each other's way
   pub beside : (h g : Holder) → AreStrangers h g → (s : SiteId) → AreBeside s (records_in s w.sites) (who h) (who g) (knows h) (knows g)
   -- the writes of each instance change an image in the order in which they found it

@@ -1,7 +1,12 @@
 pub mod AllBytes
+pub mod Below
 pub mod Bounded
 pub mod Closed
 pub mod Ends
+pub mod Held
+pub mod Lawful
+pub mod Resized
 pub mod Sizes
 pub mod Tells
 pub mod Walked
+pub mod Zeroed

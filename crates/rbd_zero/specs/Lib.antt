@@ -1,4 +1,5 @@
 pub mod Full
+pub mod Known
 pub mod Operations
 pub mod Shrink
 pub mod Size

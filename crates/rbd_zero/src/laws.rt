@@ -1,18 +1,24 @@
 //! What parts do to their end, and by how many operations, and what their definitions mean: laws,
 //! each the contract of a function that does nothing.
-ghost use Rattle.std.specs.Prelude.{◌≡◌, ℕ, ◌+◌, ◌*◌, ◌<◌, ◌≤◌, ◌↔◌, true, All, List, length};
+ghost use Rattle.std.specs.Prelude.{◌≡◌, ℕ, ◌+◌, ◌*◌, ◌<◌, ◌≤◌, ◌↔◌, Bool, true, All, List, length};
 ghost use Rattle.rbd_kinds.specs.declared.header.HeaderView.{HeaderView};
 ghost use Rattle.rbd_kinds.specs.declared.id.SiteId.{SiteId};
 ghost use Rattle.rbd_kinds.specs.declared.layout.Extent.{Extent};
 ghost use Rattle.rbd_kinds.specs.declared.machine.Fed.{Fed};
 ghost use Rattle.rbd_kinds.specs.declared.reply.Reply.TheVariants.{Done};
-ghost use Rattle.rbd_kinds.specs.Striping.{IsLayout};
+ghost use Rattle.rbd_kinds.specs.Form.{HasFewObjects};
+ghost use Rattle.rbd_kinds.specs.Parts.{parts_len};
+ghost use Rattle.rbd_kinds.specs.Striping.{IsLayout, IsObjectCount};
+ghost use Rattle.rbd_header.specs.Header.{with_size};
 ghost use Rattle.rbd_layout.specs.declared.types.Piece.{Piece};
 ghost use Rattle.rbd_layout.specs.Pieces.{IsPartsOf, IsPieces, pieces_of};
+ghost use Rattle.rbd_machine.specs.Knowledge.{Knowledge};
 ghost use Rattle.rbd_machine.specs.Label.{Label};
+ghost use Rattle.rbd_machine.specs.Lawful.{IsLawful};
 ghost use Rattle.rbd_machine.specs.Path.{Answered, IsBounded, IsWalk};
 ghost use Rattle.rbd_machine.specs.Plan.{Plan, Goto, Return, IsClosed};
 ghost use Rattle.rbd_zero.specs.Full.{IsCut, cut_bytes, full_piece, replaced};
+ghost use Rattle.rbd_zero.specs.Known.{IsOwn, IsPieceOf, OwnsObject, known_behind};
 ghost use Rattle.rbd_zero.specs.Shrink.{head_from};
 ghost use Rattle.rbd_zero.specs.Size.{IsResized, resize};
 ghost use Rattle.rbd_zero.specs.Zero.{IsOfHead, head_of, is_whole, zeroed, zero_piece};
@@ -63,4 +69,34 @@ pub fn words_are_meant()
     ensures whole { (h : HeaderView) (piece : Piece) → IsLayout h.layout
         → (is_whole h piece ≡ true) ↔ IsPartsOf h.layout (head_of h) piece.object piece.parts }
     ensures cut { (bytes : List ℕ) → IsCut bytes (cut_bytes bytes) }
+{}
+
+/// A part is lawful wherever the image is its own by a header, given that what comes next is lawful
+/// by what is known behind the part. A piece is one of the head, and the image its own alone or at
+/// the turn at its object. Bytes that replace are no more than the piece has. For a size the image
+/// is its own alone: where it shrinks, each byte that goes is zero by a state that the map told, or
+/// by this request's own change.
+pub fn parts_are_lawful()
+    ensures zero { (at : Label → Knowledge) (k : Knowledge) (site : SiteId) (image : ℕ) (h : HeaderView) (piece : Piece) (next : Plan)
+        → OwnsObject k site image h piece.object → IsPieceOf h piece
+        → IsLawful at (known_behind k (zeroed site image h piece)) next
+        → IsLawful at k (zero_piece site image h piece next) }
+    ensures full { (at : Label → Knowledge) (k : Knowledge) (site : SiteId) (image : ℕ) (h : HeaderView) (piece : Piece) (bytes : List ℕ) (next : Plan)
+        → OwnsObject k site image h piece.object → IsLayout h.layout → IsPieceOf h piece → is_whole h piece ≡ true → length bytes ≤ parts_len piece.parts
+        → IsLawful at (known_behind k (replaced site image h piece bytes)) next
+        → IsLawful at k (full_piece site image h piece bytes next) }
+    ensures size { (at : Label → Knowledge) (k : Knowledge) (site : SiteId) (image : ℕ) (h : HeaderView) (to objects : ℕ) (next : Plan)
+        → IsOwn k site image true h → IsLayout h.layout → HasFewObjects h.layout to → IsObjectCount h.layout to objects
+        → ((steps : List Answered) → IsResized site image h to objects steps → IsLawful at (known_behind k steps) next)
+        → IsLawful at k (resize site image h to objects next) }
+{}
+
+/// Behind a part the image is still its own, behind a size by the header at that size.
+pub fn parts_leave_the_image_its_own()
+    ensures zero { (k : Knowledge) (site : SiteId) (image : ℕ) (alone : Bool) (h own : HeaderView) (piece : Piece)
+        → IsOwn k site image alone own → IsOwn (known_behind k (zeroed site image h piece)) site image alone own }
+    ensures full { (k : Knowledge) (site : SiteId) (image : ℕ) (alone : Bool) (h own : HeaderView) (piece : Piece) (bytes : List ℕ)
+        → IsOwn k site image alone own → IsOwn (known_behind k (replaced site image h piece bytes)) site image alone own }
+    ensures size { (k : Knowledge) (site : SiteId) (image : ℕ) (h : HeaderView) (to objects : ℕ) (steps : List Answered)
+        → IsOwn k site image true h → IsResized site image h to objects steps → IsOwn (known_behind k steps) site image true (with_size to h) }
 {}

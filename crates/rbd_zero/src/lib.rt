@@ -69,10 +69,12 @@
 //! | `specs/Full.antt` | `cut_bytes`; `full_piece` and `replaced`, the same of a piece that replaces its object |
 //! | `specs/Shrink.antt` | `pieces_from`, the pieces that a smaller size zeros, by the states of the head's map |
 //! | `specs/Size.antt` | `resize` and `IsResized`, the same of a size; `IsReady` says for which answers it has the memory |
+//! | `specs/Known.antt` | `known_behind`, what a request knows behind what it has done; `OwnsObject` and `IsPieceOf`, where a piece is lawful |
 //!
 //! In each, `rest_of_..` is what is left of a part. [`laws`] says how many operations they have,
 //! that none begins a part again, that what is done at a good end is exactly what the definitions
-//! list, and what the words for pieces and bytes mean.
+//! list, that they are lawful where the image is its own, and what the words for pieces and bytes
+//! mean.
 //!
 //! # Cost
 //!

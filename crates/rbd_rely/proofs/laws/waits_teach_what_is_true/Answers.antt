@@ -1,4 +1,4 @@
-use Rattle.rbd_rely.proofs.Learned.{waits_learned}
+use Rattle.rbd_rely.proofs.Less.{waits_learned}
 use Rattle.rbd_rely.proofs.laws.waits_teach_what_is_true.Goals as goal
 
 pub returns : goal.returns

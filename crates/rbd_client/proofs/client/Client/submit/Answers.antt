@@ -1,7 +1,7 @@
 use Rattle.std.proofs.Common.{◌≡◌, ◌∙◌, refl, sym, ap}
 use Rattle.rbd_client.specs.Client.{newcomer}
 use Rattle.rbd_client.proofs.Calls.{newcomer_held, slot_set_sound}
-use Rattle.rbd_session.specs.Session.{held_in}
+use Rattle.rbd_session.specs.Session.{held_in, seat_of}
 use Rattle.rbd_client.proofs.client.Client.submit.Goals as goal
 
 pub invariant_of-self-2 : goal.invariant_of-self-2
@@ -12,7 +12,7 @@ invariant_of-self-2 g c =
     (record { session = c.submit.new.self; locks = c.self.inside.locks; slots = c.set_state.new.slots.items; release = c.self.inside.release; heard = c.self.inside.heard.items })
     c.self.invariant c.submit.ensures.sound (λ k differ. c.submit.ensures.others k (λ same. differ (same ∙ sym slot))) c.submit.ensures.lines refl refl c.set_state.ensures.length c.set_state.ensures.here c.set_state.ensures.others
     refl
-    (λ none. absurd (newcomer_held g.R.Machine.stands g.R.Request.stands_for g.R.Request.extent_for c.self.inside.session.home c.args.line c.args.work (held_in c.self.inside.session.lowest c.submit.new.self.slots)
+    (λ none. absurd (newcomer_held g.R.Machine.stands g.R.Request.stands_for g.R.Request.extent_for (seat_of c.self.inside.session) c.args.line c.args.work (held_in c.self.inside.session.lowest c.submit.new.self.slots)
     c.in_ok-slot.ensures.held (sym (ap (λ k. held_in k c.submit.new.self.slots) slot) ∙ none)))
 
 pub returns-clause-sound : goal.returns-clause-sound

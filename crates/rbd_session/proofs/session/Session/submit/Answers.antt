@@ -18,13 +18,13 @@ invariant_of-self g c =
     c.next_free-self-inside.ensures.from c.next_free-self-inside.ensures.to
     (subst (λ xs. (slot : ℕ) → c.self.inside.lowest + 1 ≤ slot → slot < c.next_free-self-inside.result → IsSome (held_in slot xs)) slots c.next_free-self-inside.ensures.below)
     (ap (held_in c.next_free-self-inside.result) (sym slots) ∙ c.next_free-self-inside.ensures.free))
-    (newcomer_well g.R.Machine.stands g.R.Request.stands_for g.R.Request.extent_for c.self.inside.home c.args.line c.args.work c.self.inside.lowest c.in_ok-occupant.occupant c.self.inside.lines
-    (λ to there asks. g.met.R.Request.orderly c.self.inside.home c.args.work to c.requires.serves there asks) none c.in_ok-occupant.ensures)
+    (newcomer_well g.R.Machine.stands g.R.Request.stands_for g.R.Request.extent_for (record { session = c.self.inside.instance.session; home = c.self.inside.home }) c.args.line c.args.work c.self.inside.lowest c.in_ok-occupant.occupant c.self.inside.lines
+    (λ to there asks. g.met.R.Request.orderly (record { session = c.self.inside.instance.session; home = c.self.inside.home }) c.args.work to c.requires.serves there asks) none c.in_ok-occupant.ensures)
 
 pub returns-clause-held : goal.returns-clause-held
 returns-clause-held g c =
     rw (← c.self.view_is)
-    (subst (IsNewcomer g.R.Machine.stands g.R.Request.stands_for g.R.Request.extent_for c.self.inside.home c.args.line c.args.work)
+    (subst (IsNewcomer g.R.Machine.stands g.R.Request.stands_for g.R.Request.extent_for (record { session = c.self.inside.instance.session; home = c.self.inside.home }) c.args.line c.args.work)
     (sym (get_or-set_same c.self.inside.slots.items c.self.inside.lowest (Some c.in_ok-occupant.occupant) None (let len = c.self.invariant.slots in let few = free g c in omega (arith, len, few))))
     c.in_ok-occupant.ensures)
 
