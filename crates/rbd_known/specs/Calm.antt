@@ -5,7 +5,7 @@ use Rattle.rbd_kinds.specs.declared.answer.Answer.{Answer}
 use Rattle.rbd_commands.specs.declared.command.Command.{Command}
 use Rattle.rbd_commands.specs.declared.command.Command.TheVariants as command
 use Rattle.rbd_kinds.specs.declared.id.SiteId.{SiteId}
-use Rattle.rbd_machine.specs.Knowledge.{Knowledge, own_of}
+use Rattle.rbd_machine.specs.Knowledge.{Knowledge, is_gone, own_of}
 use Rattle.rbd_machine.specs.Label.{Label}
 use Rattle.rbd_machine.specs.Plan.{Plan, Ask, Await, Note, Return, Goto, Standing}
 use Rattle.rbd_request.specs.Write.{is_write}
@@ -21,9 +21,10 @@ pub record IsCalmRequest (s : Standing) : Type 0 where
   pub plan : IsCalm s.plan
   pub labels : (label : Label) → IsCalm (s.labels label)
 
--- it waited for the lock of no image
-abbrev pub OwnsNothing : Knowledge → Type 0
-OwnsNothing k = (site : SiteId) (image : ℕ) → own_of k.owns site image ≡ None
+-- it waited for the lock of no image, and removed none
+pub record OwnsNothing (k : Knowledge) : Type 0 where
+  pub owns : (site : SiteId) (image : ℕ) → own_of k.owns site image ≡ None
+  pub gone : (site : SiteId) (image : ℕ) → is_gone k.gone site image ≡ false
 
 -- A `close` and a `quiesce` join the line of their image, and wait there. A `resume` and a `tell`
 -- wait for nothing.

@@ -1,16 +1,20 @@
 -- What the requests of a session know.
-use Rattle.std.specs.Prelude.{◌≡◌, ℕ, ◌==◌, if◌then◌else◌, Option, Some, None}
+use Rattle.std.specs.Prelude.{◌≡◌, ℕ, ◌==◌, if◌then◌else◌, true, false, Option, Some, None, IsSome}
+use Rattle.rbd_kinds.specs.declared.id.SiteId.{SiteId}
 use Rattle.rbd_kinds.specs.declared.machine.Fed.{Fed}
 use Rattle.rbd_kinds.specs.declared.reply.Reply.{Reply}
+use Rattle.rbd_line.specs.Line.{has_turn}
 use Rattle.rbd_machine.specs.Knowledge.{Knowledge, nothing_known, passed}
 use Rattle.rbd_machine.specs.Label.{Label}
 use Rattle.rbd_machine.specs.Lawful.{IsLawful, known_after}
 use Rattle.rbd_machine.specs.Plan.{Plan, Await, Note, Standing, plan_after}
+use Rattle.rbd_rely.specs.Truth.{is_alone_on, known_header}
+use Rattle.rbd_rely.specs.Turns.{KnowsInTurn, KnowsOf}
 use Rattle.rbd_session.specs.declared.running.Running.{Running}
 use Rattle.rbd_session.specs.Advance.{track_of}
-use Rattle.rbd_session.specs.Lines.{LinesView}
+use Rattle.rbd_session.specs.Lines.{LinesView, lines_of}
 use Rattle.rbd_session.specs.Session.{SessionView, running_at}
-use Rattle.rbd_session.specs.Track.{course_of}
+use Rattle.rbd_session.specs.Track.{Lines, course_of}
 use Rattle.rbd_known.specs.Tied.{IsTied}
 
 -- what is known at the plan's next operation, where all that it waits for before has come
@@ -32,14 +36,22 @@ unless_ended (Some reply) k = nothing_known
 abbrev pub knows_after : (knows : (slot : ℕ) → Knowledge) → (slot : ℕ) → Option Reply → Plan → Fed → (other : ℕ) → Knowledge
 knows_after knows slot result plan f other = if other == slot then unless_ended result (known_behind (knows slot) plan f) else knows other
 
+-- Of an object of an image that others change too it knows only in its turn there, and that turn is
+-- its own.
+abbrev pub HasItsTurns : (slot : ℕ) → Knowledge → Lines → Type 0
+HasItsTurns slot k lines = (site : SiteId) (image object : ℕ)
+    → IsSome (known_header k site image) → is_alone_on k site image ≡ false → KnowsOf k site image object → has_turn slot object (lines site image) ≡ true
+
 module _ {R : Type 0} (stands : R → Standing) where
   -- A request knows this: by it, it asks for nothing but what it may, and it goes with where the
-  -- request stands in its line.
+  -- request stands in its line, and with its turns.
   pub record KnowsBy (slot : ℕ) (r : Running R) (lines : LinesView) (k : Knowledge) : Type 0 where
     pub known_at : Label → Knowledge
     pub lawful : IsLawful known_at k (stands r.request).plan
     pub labels : (label : Label) → IsLawful known_at (known_at label) ((stands r.request).labels label)
     pub tied : IsTied k (course_of slot (track_of r lines))
+    pub in_turn : KnowsInTurn k
+    pub has_turn : HasItsTurns slot k (lines_of lines)
 
   -- nobody knows nothing
   abbrev pub KnowsIn : (slot : ℕ) → Option (Running R) → LinesView → Knowledge → Type 0

@@ -4,6 +4,7 @@ use Rattle.rbd_course.specs.Course.{Course, Place, has_just_joined}
 use Rattle.rbd_kinds.specs.declared.id.SiteId.{SiteId}
 use Rattle.rbd_line.specs.Line.{is_past}
 use Rattle.rbd_machine.specs.Knowledge.{Knowledge, Own, own_of, is_at}
+use Rattle.rbd_rely.specs.Truth.{known_header}
 
 -- It is in this image's line, alone there exactly where it owns alone, and waits for its own look
 -- or is past it. It is past it exactly where it knows the header, which that look told.
@@ -22,3 +23,5 @@ OwnsIn site image o (Some p) = OwnsAt site image o p
 pub record IsTied (k : Knowledge) (c : Course) : Type 0 where
   pub owns : (site : SiteId) (image : ℕ) (o : Own) → own_of k.owns site image ≡ Some o → OwnsIn site image o c.place
   pub alone : (p : Place) → c.place ≡ Some p → k.alone ≡ p.alone
+  -- where it knows a header, it has the turn of its course
+  pub turn : (site : SiteId) (image : ℕ) → IsSome (known_header k site image) → k.turn ≡ c.turn

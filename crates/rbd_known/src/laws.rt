@@ -9,12 +9,14 @@ ghost use Rattle.rbd_kinds.specs.declared.machine.Fed.{Fed};
 ghost use Rattle.rbd_kinds.specs.declared.operation.Op.{Op};
 ghost use Rattle.rbd_kinds.specs.declared.reply.Reply.{Reply};
 ghost use Rattle.rbd_machine.specs.Answers.{CanBeFed};
-ghost use Rattle.rbd_machine.specs.Knowledge.{Knowledge, nothing_known, is_drawn};
+ghost use Rattle.rbd_machine.specs.Knowledge.{Knowledge, nothing_known, is_drawn, is_gone};
 ghost use Rattle.rbd_machine.specs.Label.{Label};
 ghost use Rattle.rbd_machine.specs.Lawful.{IsLawful};
 ghost use Rattle.rbd_machine.specs.Path.{at_operation};
 ghost use Rattle.rbd_machine.specs.Plan.{Plan, Ask, Standing, plan_after};
+ghost use Rattle.rbd_machine.specs.Standalone.{IsFedStandalone};
 ghost use Rattle.rbd_machine.specs.declared.reason.Reason.{Reason};
+ghost use Rattle.rbd_machine.specs.declared.seat.Seat.{Seat};
 ghost use Rattle.rbd_rely.specs.Beside.{AreBeside, MayAct};
 ghost use Rattle.rbd_rely.specs.Truth.{IsTrueAt};
 ghost use Rattle.rbd_requests.specs.Served.{IsPlanFor};
@@ -32,16 +34,18 @@ use rbd_course::Request;
 
 /// A request that begins knows nothing.
 pub fn newcomers_know_nothing<R: Request>()
-    ensures { (home : Site) (line slot : ℕ) (work : R.Work) (r : Running R) (lines : LinesView)
-        → R.serves work → BeginsAt R.stands R.stands_for R.extent_for home line work r
+    ensures { (seat : Seat) (line slot : ℕ) (work : R.Work) (r : Running R) (lines : LinesView)
+        → R.serves work → BeginsAt R.stands R.stands_for R.extent_for seat line work r
         → KnowsBy R.stands slot r lines nothing_known }
 {}
 
-/// A request that is fed knows what the answer taught it and what it waited for then, and each
-/// other request of the session knows what it did.
+/// A request that may go on and is fed knows what the answer taught it and what it waited for then,
+/// and each other request of the session knows what it did. No header that it is told has a parent
+/// or a journal.
 pub fn knowledge_goes_with_the_line<R: Request>()
     ensures { (s t : SessionView R) (slot : ℕ) (r : Running R) (f : Fed) (result : Option Reply) (knows : ℕ → Knowledge)
-        → IsSoundSession R.stands s → IsSoundSession R.stands t → running_at slot s ≡ Some r → CanBeFed (R.stands r.request).plan f
+        → IsSoundSession R.stands s → IsSoundSession R.stands t → running_at slot s ≡ Some r → waits slot (track_of r s.lines) ≡ false
+        → CanBeFed (R.stands r.request).plan f → IsFedStandalone f
         → IsFed R.stands slot f result s t
         → ((other : ℕ) → other ≢ slot → held_in other t.slots ≡ held_in other s.slots)
         → LeavesOthers slot (lines_of s.lines) (lines_of t.lines)
@@ -53,9 +57,10 @@ pub fn ready_requests_know_the_same<R: Request>()
     ensures { (s t : SessionView R) (knows : ℕ → Knowledge) → IsAlike R.stands s t → AllKnow R.stands knows s → AllKnow R.stands knows t }
 {}
 
-/// A request that may go on may look, and may drop a lock, whatever another one of its session
-/// knows: the line lets it look under the lock only where neither is alone that knows the header.
-pub fn who_may_go_on_may_look<R: Request>()
+/// A request that may go on may do what it asks for, whatever another one of its session knows: the
+/// line lets it look under the lock only where neither is alone that knows the header, and change an
+/// object only in its turn, when the other knows nothing of that object.
+pub fn who_may_go_on_may_act<R: Request>()
     ensures { (s : SessionView R) (slot other : ℕ) (r : Running R) (knows : ℕ → Knowledge) (site : Site) (why : Reason) (op : Op) (next : Answer → Plan)
         → IsSoundSession R.stands s → AllKnow R.stands knows s → slot ≢ other
         → running_at slot s ≡ Some r → waits slot (track_of r s.lines) ≡ false → (R.stands r.request).plan ≡ Ask site why op next
@@ -71,24 +76,26 @@ pub fn waits_change_little()
     ensures beside { (site : Site) (r : Records) (me you : Instance) (k j : Knowledge) (plan : Plan) → AreBeside site r me you k j → AreBeside site r me you (known_at_operation k plan) j }
 {}
 
-/// A request that waits for nothing owns nothing, and so is beside each other one that drew no id
-/// of its; it may look at whatever it looks at, and each other one may, beside it.
+/// A request that waits for nothing owns and removes nothing, and so is beside each other one that
+/// drew no id of its, and removed none; it may do whatever it does, and each other one may, beside
+/// it.
 pub fn calm_requests_own_nothing()
     ensures first { OwnsNothing nothing_known }
-    ensures fed { (labels : Label → Plan) (k : Knowledge) (plan : Plan) (f : Fed)
-        → IsCalmRequest (record { labels = labels; plan = plan }) → CanBeFed plan f → OwnsNothing k
+    ensures fed { (labels : Label → Plan) (known_at : Label → Knowledge) (k : Knowledge) (plan : Plan) (f : Fed)
+        → IsCalmRequest (record { labels = labels; plan = plan }) → IsLawful known_at k plan → CanBeFed plan f → OwnsNothing k
         → OwnsNothing (known_behind k plan f) }
     ensures stays { (labels : Label → Plan) (plan : Plan) (f : Fed)
         → IsCalmRequest (record { labels = labels; plan = plan }) → CanBeFed plan f
         → IsCalmRequest (record { labels = labels; plan = at_operation labels (plan_after plan f) }) }
     ensures beside { (site : Site) (r : Records) (me you : Instance) (k j : Knowledge) → OwnsNothing k
-        → ((image : ℕ) → is_drawn k.drawn site image ≡ true → is_drawn j.drawn site image ≡ false) → AreBeside site r me you k j }
-    ensures looks { (site : Site) (r : Records) (me you : Instance) (k j : Knowledge) (op : Op) → OwnsNothing k → MayAct site r me you k j op }
-    ensures looked_beside { (site : Site) (r : Records) (me you : Instance) (k j : Knowledge) (op : Op) → OwnsNothing j → MayAct site r me you k j op }
+        → ((image : ℕ) → is_drawn k.drawn site image ≡ true → is_drawn j.drawn site image ≡ false)
+        → ((image : ℕ) → is_gone j.gone site image ≡ true → is_drawn k.drawn site image ≡ false) → AreBeside site r me you k j }
+    ensures acts { (site : Site) (r : Records) (me you : Instance) (k j : Knowledge) (op : Op) → OwnsNothing k → MayAct site r me you k j op }
+    ensures acted_beside { (site : Site) (r : Records) (me you : Instance) (k j : Knowledge) (op : Op) → OwnsNothing j → MayAct site r me you k j op }
 {}
 
 /// Only a `write`, a `fill`, a `snap create`, a `snap rm`, a `close` and a `quiesce` wait for
 /// anything: those that wait in the line of an image.
 pub fn looks_wait_for_nothing()
-    ensures { (home : Site) (command : Command) (s : Standing) → is_change command ≡ false → IsPlanFor home command s → IsCalmRequest s }
+    ensures { (seat : Seat) (command : Command) (s : Standing) → is_change command ≡ false → IsPlanFor seat command s → IsCalmRequest s }
 {}

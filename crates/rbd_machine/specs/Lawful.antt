@@ -4,6 +4,7 @@ use Rattle.rbd_kinds.specs.declared.answer.Answer.{Answer}
 use Rattle.rbd_kinds.specs.declared.machine.Fed.{Fed}
 use Rattle.rbd_kinds.specs.declared.machine.Fed.TheVariants as fed
 use Rattle.rbd_kinds.specs.AnswerForm.{IsInForm}
+use Rattle.rbd_kinds.specs.declared.operation.Op.{Op}
 use Rattle.rbd_machine.specs.Answers.{gives}
 use Rattle.rbd_machine.specs.Knowledge.{Knowledge, nothing_known, learned, passed}
 use Rattle.rbd_machine.specs.Label.{Label}

@@ -2,30 +2,40 @@
 use Rattle.std.specs.Prelude.{◌≡◌, List, false, replicate}
 use Rattle.rbd_commands.specs.declared.command.Command.{Command}
 use Rattle.rbd_commands.specs.declared.command.Command.TheVariants as command
-use Rattle.rbd_kinds.specs.declared.id.SiteId.{SiteId}
 use Rattle.rbd_kinds.specs.declared.reply.Reply.{Reply}
 use Rattle.rbd_machine.specs.Path.{Answered}
+use Rattle.rbd_machine.specs.declared.seat.Seat.{Seat}
 use Rattle.rbd_meaning.specs.Closes.{CloseMeans, QuiesceMeans, ResumeMeans, TellMeans}
 use Rattle.rbd_meaning.specs.Creates.{CreateMeans}
-use Rattle.rbd_meaning.specs.Listings.{ListMeans, InfoMeans, SnapListMeans}
+use Rattle.rbd_meaning.specs.Discards.{DiscardMeans}
+use Rattle.rbd_meaning.specs.Listings.{InfoMeans, ListMeans, RenameMeans, SnapListMeans, UsedMeans}
 use Rattle.rbd_meaning.specs.Reads.{ReadMeans}
+use Rattle.rbd_meaning.specs.Removals.{RemoveMeans}
+use Rattle.rbd_meaning.specs.Resizes.{ResizeMeans}
+use Rattle.rbd_meaning.specs.Rollbacks.{RollbackMeans}
 use Rattle.rbd_meaning.specs.Snaps.{SnapCreateMeans, SnapRemoveMeans}
 use Rattle.rbd_meaning.specs.Writes.{WriteMeans}
 
--- The reply to a command of a session at a site, behind these steps, says what happened. Other
+-- The reply to a command of a session, behind these steps, says what happened. Other
 -- commands aren't served yet, nor is a `create` of an image with a journal.
-abbrev pub IsMeantBy : SiteId → Command → List Answered → Reply → Type 0
-IsMeantBy site (command.Create image size shape) steps r = (shape.journal ≡ false) × CreateMeans site image size shape steps r
-IsMeantBy site (command.Write image at bytes) steps r = WriteMeans site image at bytes steps r
-IsMeantBy site (command.Fill image at len byte) steps r = WriteMeans site image at (replicate len byte) steps r
-IsMeantBy site (command.Read image snap at len) steps r = ReadMeans site image snap (record { at = at; len = len }) steps r
-IsMeantBy site command.List steps r = ListMeans site steps r
-IsMeantBy site (command.Info image) steps r = InfoMeans site image steps r
-IsMeantBy site (command.SnapList image) steps r = SnapListMeans site image steps r
-IsMeantBy site (command.SnapCreate image snap) steps r = SnapCreateMeans site image snap steps r
-IsMeantBy site (command.SnapRemove image snap) steps r = SnapRemoveMeans site image snap steps r
-IsMeantBy site (command.Close image) steps r = CloseMeans site image steps r
-IsMeantBy site (command.Quiesce image) steps r = QuiesceMeans site image steps r
-IsMeantBy site (command.Resume image) steps r = ResumeMeans site image steps r
-IsMeantBy site (command.Tell image bytes) steps r = TellMeans site image bytes steps r
-IsMeantBy site _ steps r = ⊥
+abbrev pub IsMeantBy : Seat → Command → List Answered → Reply → Type 0
+IsMeantBy seat (command.Create image size shape) steps r = (shape.journal ≡ false) × CreateMeans seat.home image size shape steps r
+IsMeantBy seat (command.Write image at bytes) steps r = WriteMeans seat.home image at bytes steps r
+IsMeantBy seat (command.Fill image at len byte) steps r = WriteMeans seat.home image at (replicate len byte) steps r
+IsMeantBy seat (command.Discard image at len) steps r = DiscardMeans seat.home image at len steps r
+IsMeantBy seat (command.Read image snap at len) steps r = ReadMeans seat.home image snap (record { at = at; len = len }) steps r
+IsMeantBy seat (command.Resize image size) steps r = ResizeMeans seat.home image size steps r
+IsMeantBy seat (command.Rename from to) steps r = RenameMeans seat.home from to steps r
+IsMeantBy seat (command.Remove image) steps r = RemoveMeans seat.home seat.session image steps r
+IsMeantBy seat (command.Used image) steps r = UsedMeans seat.home image steps r
+IsMeantBy seat command.List steps r = ListMeans seat.home steps r
+IsMeantBy seat (command.Info image) steps r = InfoMeans seat.home image steps r
+IsMeantBy seat (command.SnapList image) steps r = SnapListMeans seat.home image steps r
+IsMeantBy seat (command.SnapCreate image snap) steps r = SnapCreateMeans seat.home image snap steps r
+IsMeantBy seat (command.SnapRemove image snap) steps r = SnapRemoveMeans seat.home image snap steps r
+IsMeantBy seat (command.SnapRollback image snap) steps r = RollbackMeans seat.home image snap steps r
+IsMeantBy seat (command.Close image) steps r = CloseMeans seat.home image steps r
+IsMeantBy seat (command.Quiesce image) steps r = QuiesceMeans seat.home image steps r
+IsMeantBy seat (command.Resume image) steps r = ResumeMeans seat.home image steps r
+IsMeantBy seat (command.Tell image bytes) steps r = TellMeans seat.home image bytes steps r
+IsMeantBy seat _ steps r = ⊥

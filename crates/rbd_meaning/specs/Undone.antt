@@ -29,7 +29,11 @@ abbrev pub ComesLate : Command → Refusal → Type 0
 ComesLate (command.Create image size shape) = by_fence
 ComesLate (command.Write image at bytes) = by_fence
 ComesLate (command.Fill image at len byte) = by_fence
+ComesLate (command.Discard image at len) = by_fence
+ComesLate (command.Resize image size) = by_fence
+ComesLate (command.Remove image) = by_fence
 ComesLate (command.SnapRemove image snap) = by_fence
+ComesLate (command.SnapRollback image snap) = by_fence
 ComesLate (command.Close image) = gone_or_fenced
 ComesLate _ = never
 
