@@ -1,8 +1,8 @@
 //! `rm`, and the removal of an image as a part of a request: resync, the following of another site
-//! and synchronisation will be made of that. No session serves them yet.
+//! and synchronisation will be made of that.
 //!
 //! ```text
-//! let mut rm = RemoveRequest::new(me, SiteId::A, remove);     // rm disk
+//! let mut rm = RemoveRequest::new(SessionNo(0), SiteId::A, remove);    // rm disk
 //! rm.next(alloc)?               // dir-find disk
 //! rm.feed(&id)                  // More: it is image 7; then it joins the line of image 7, alone
 //! rm.next(alloc)?               // header-get 7

@@ -16,8 +16,8 @@ ghost use Rattle.rbd_kinds.specs.declared.header.HeaderView.{HeaderView};
 use crate::remove::Remove;
 use crate::watchers::{told_watchers, watchers_get};
 use rbd_kinds::{
-    Answer, Command, Event, Fed, HeaderView, ImageId, Instance, Name, NoMemory, Op, OpKind,
-    Refusal, Reply, SessionNo, SiteId, Snaps, Turn, Want,
+    Answer, Command, Event, Fed, HeaderView, ImageId, Name, NoMemory, Op, OpKind, Refusal, Reply,
+    SessionNo, SiteId, Snaps, Turn, Want,
 };
 use rbd_machine::{
     Machine, Progress, Reason, dir_find, header_get, non_primary, told_header, told_image,
@@ -72,15 +72,15 @@ enum Stage {
 }
 
 impl RemoveRequest {
-    /// The request of an `rm` of an instance at its home site. It takes no memory.
-    pub fn new(me: Instance, home: SiteId, command: Command) -> Self
+    /// The request of an `rm` of a session at its home site. It takes no memory.
+    pub fn new(session: SessionNo, home: SiteId, command: Command) -> Self
         requires { is_remove command ≡ true }
-        ensures { rest_of_request result ≡ remove_plan home me.session command }
+        ensures { rest_of_request result ≡ remove_plan home session command }
     {
         match command {
             Command::Remove { image } => RemoveRequest {
                 site: home,
-                session: me.session,
+                session,
                 stage: Stage::Finding(image.into_name()),
                 removal: None,
             },

@@ -1,6 +1,6 @@
 //! The requests of `resize` and `snap rollback`, as machines that want one thing at a time, and the
 //! part of which a rollback is made. They do nothing themselves: whoever holds one does what it
-//! wants, and feeds it what came of it. No session begins them yet.
+//! wants, and feeds it what came of it.
 //!
 //! ```text
 //! let mut request = ResizeRequest::new(SiteId::A, command);     // resize disk 6000

@@ -3,17 +3,14 @@ use super::drive::{Log, Scene, play};
 use super::looks::number;
 use super::removal::removing;
 use rbd_discard::DiscardRequest;
-use rbd_kinds::{AskedName, Bytes, Command, Instance, NoMemory, Number, SessionNo, SiteId};
+use rbd_kinds::{AskedName, Bytes, Command, NoMemory, Number, SessionNo, SiteId};
 use rbd_remove::RemoveRequest;
 use rbd_resize::{ResizeRequest, RollbackRequest};
 use std::alloc::Global;
 use std::process::Abort;
 
-/// Who removes: the third life of its session.
-const ME: Instance = Instance {
-    session: SessionNo(0),
-    life: 2,
-};
+/// Who removes.
+const ME: SessionNo = SessionNo(0);
 
 fn name(rt: &impl Abort, alloc: Global, text: &str) -> Result<AskedName, NoMemory> {
     Ok(AskedName::parse(Bytes::from_slice(alloc, text.as_bytes())?).expect(rt, "a name"))
