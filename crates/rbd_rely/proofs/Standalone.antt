@@ -143,7 +143,7 @@ only_look_tells (op.Data image number o) h is = absurd (object_tells o h is)
 only_look_tells (op.Map image o) h is = absurd (map_tells o h is)
 only_look_tells (op.Journal image o) h is = absurd (journal_tells o h is)
 
-told_or : HeaderView → Answer → HeaderView
+abbrev told_or : HeaderView → Answer → HeaderView
 told_or other (answer.Header h) = h
 told_or other _ = other
 
