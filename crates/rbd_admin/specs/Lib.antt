@@ -1,3 +1,4 @@
 pub mod Create
 pub mod Listing
 pub mod Snap
+pub mod Used

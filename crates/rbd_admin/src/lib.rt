@@ -70,7 +70,9 @@
 mod create;
 pub mod laws;
 mod listing;
+mod operations;
 mod snap;
+mod used;
 
 pub use create::CreateRequest;
 pub use listing::ListRequest;

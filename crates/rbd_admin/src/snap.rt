@@ -13,6 +13,7 @@ ghost use Rattle.rbd_machine.specs.Steps.{going, change as change_of};
 ghost use Rattle.rbd_meaning.specs.Snaps.{removal_refusal, is_unprotected};
 ghost use Rattle.rbd_admin.specs.Snap.{is_snap, snap_plan, rest_at, rest_of_snap, IsApproaching, refuses_by, does_by, refuses_of, does, noting, doing, event_of, TellsAt, IsReadied, HasBits};
 
+use crate::operations::map_get;
 use rbd_header::is_full;
 use rbd_kinds::{
     Answer, Bytes, Command, Event, Fed, HeaderOp, HeaderView, ImageId, MapOp, Name, NoMemory, Op,
@@ -406,14 +407,6 @@ impl Machine for SnapRequest {
             }
         }
     }
-}
-
-/// The head's object map.
-fn map_get(image: ImageId) -> Op
-    ensures { result ≡ on.Map image (states.Get None) }
-{
-    let op = MapOp::Get { snap: None };
-    Op::Map { image, op }
 }
 
 /// A map of a snapshot is put.

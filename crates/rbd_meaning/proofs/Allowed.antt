@@ -1,5 +1,5 @@
 -- Refusals that don't hold.
-use Rattle.std.proofs.Common.{◌≡◌, List, ℕ, ◌+◌, Bool, true, false, cond, Option, Some, None, refl, subst}
+use Rattle.std.proofs.Common.{◌≡◌, List, [], ◌∷◌, ℕ, ◌+◌, Bool, true, false, cond, Option, Some, None, refl, subst}
 use Rattle.std.specs.Prelude.{is_some}
 use Rattle.rbd_kinds.specs.declared.header.HeaderView.{HeaderView}
 use Rattle.rbd_kinds.specs.declared.header.SnapStatus.{SnapStatus}
@@ -12,6 +12,7 @@ use Rattle.rbd_machine.specs.Knowledge.{MapsKnown}
 use Rattle.rbd_machine.specs.Permits.{MayTake}
 use Rattle.rbd_machine.specs.Steps.{non_primary}
 use Rattle.rbd_machine.proofs.Lawful.{or_else_none}
+use Rattle.rbd_meaning.specs.Removals.{image_removal_refuses, snaps_refuse}
 use Rattle.rbd_meaning.specs.Snaps.{create_refuses, is_unprotected, remove_refuses, removal_refusal}
 
 unlisted : (o : Option SnapView) (full : Bool) → cond (is_some o) (Some refusal.SnapExists) (cond full (Some refusal.BadShape) None) ≡ None → (o ≡ None) × (full ≡ false)
@@ -41,3 +42,11 @@ listed_unprotected snap h s none is = unprotected s.status (go (snap_named h.sna
     go : (listed : Option SnapView) → listed ≡ Some s → removal_refusal listed ≡ None → removal_refusal (Some s) ≡ None
     go None is none = cc
     go (Some t) is none = let same : t ≡ s = cc in subst (λ u. removal_refusal (Some u) ≡ None) same none
+
+without_snapshots : (snaps : List SnapView) → snaps_refuse snaps ≡ None → snaps ≡ []
+without_snapshots [] none = refl
+without_snapshots (s ∷ snaps) none = cc
+
+-- a header lists no snapshot where the removal of its image isn't refused
+pub no_snapshots_listed : (h : HeaderView) → image_removal_refuses h ≡ None → h.snaps ≡ []
+no_snapshots_listed h none = without_snapshots h.snaps (or_else_none (non_primary h.role) (snaps_refuse h.snaps) none)

@@ -17,6 +17,7 @@ use Rattle.rbd_commands.specs.declared.refusal.Refusal.TheVariants as refusal
 use Rattle.rbd_kinds.specs.declared.reply.Reply.{Reply}
 use Rattle.rbd_kinds.specs.declared.reply.Reply.TheVariants as reply
 use Rattle.rbd_kinds.specs.Extents.{fits}
+use Rattle.rbd_kinds.specs.Striping.{IsObjectCount}
 use Rattle.rbd_layout.specs.Pieces.{pieces_of}
 use Rattle.rbd_layout.specs.declared.types.Piece.{Piece}
 use Rattle.rbd_header.specs.Header.{view_of}
@@ -24,17 +25,24 @@ use Rattle.rbd_header.specs.declared.view.View.{View}
 use Rattle.rbd_machine.specs.About.{look_up, AreOwn}
 use Rattle.rbd_machine.specs.Passes.{joined}
 use Rattle.rbd_machine.specs.Path.{Answered, found, looked_at}
-use Rattle.rbd_machine.specs.Refused.{refusal_by, refuses_none, never, by_fence, IsRefusedBy, IsRefused}
+use Rattle.rbd_machine.specs.declared.seat.Seat.{Seat}
+use Rattle.rbd_machine.specs.Refused.{refusal_by, AreAllowed, refuses_none, never, by_fence, IsRefusedBy, IsRefused}
 use Rattle.rbd_meaning.specs.Arrange.{bytes_of_extent}
 use Rattle.rbd_meaning.specs.Closes.{lock_dropped, release_told, watch_ended, bytes_told, ClosesBy, Closes, LooksTwice, Finds, Says, gone_or_fenced, CloseMeans, QuiesceMeans, ResumeMeans, TellMeans}
 use Rattle.rbd_meaning.specs.Creates.{CreateMeans, Makes, IsOutside, IsNotMade}
-use Rattle.rbd_meaning.specs.Listings.{listed, shown_snaps, ListMeans, InfoMeans, SnapListMeans, ShowsHeader}
+use Rattle.rbd_meaning.specs.Discards.{DiscardMeans, DiscardsWhole, RefusesDiscard}
+use Rattle.rbd_meaning.specs.Listings.{listed, renamed, shown_snaps, used_among, ListMeans, InfoMeans, RenameMeans, SnapListMeans, ShowsHeader, ShowsUsed, UsedMeans}
 use Rattle.rbd_meaning.specs.Meant.{IsMeantBy}
 use Rattle.rbd_meaning.specs.Range.{extent_at}
 use Rattle.rbd_meaning.specs.Reads.{ReadMeans, ShowsAtLast, RefusedAtLast, IsPassTo, AreRead, bytes_read, view_refuses, read_refuses}
-use Rattle.rbd_meaning.specs.Snaps.{create_refuses, remove_refuses, map_removed, IsGone, TakesOne, RemovesOne, RefusesRemoval, SnapCreateMeans, SnapRemoveMeans}
+use Rattle.rbd_meaning.specs.Removals.{removal_refusal_by, RefusesRemovalOf, RemoveMeans, RemovesImage}
+use Rattle.rbd_meaning.specs.Resizes.{resize_refuses, RefusesResize, ResizeMeans, ResizesWhole}
+use Rattle.rbd_meaning.specs.Rollbacks.{rollback_refuses, RefusesRollback, RollbackMeans, RollsBack}
+use Rattle.rbd_meaning.specs.Snaps.{map_told, create_refuses, remove_refuses, map_removed, IsGone, TakesOne, RemovesOne, RefusesRemoval, SnapCreateMeans, SnapRemoveMeans}
 use Rattle.rbd_meaning.specs.Writes.{write_refuses, state_raised, piece_written, pieces_written, WritesWhole, RefusesWrite, WriteMeans}
+use Rattle.rbd_meaning.proofs.Counts.{one_count}
 use Rattle.rbd_meaning.proofs.Ends.{same_last, same_front}
+use Rattle.rbd_meaning.proofs.Whole.{allowed_ends, discard_allowed, removal_ends, resize_allowed, rollback_allowed}
 
 -- ---- replies that are granted or refused, each by what holds behind the same operations
 
@@ -200,6 +208,126 @@ snap_list_is : (site : SiteId) (name : List ℕ) (steps : List Answered) (r : Re
 snap_list_is site name steps (reply.Snaps snaps) meant = inl meant
 snap_list_is site name steps (reply.Refused x) refused = inr (x, refl, refused)
 snap_list_is site name steps _ meant = absurd meant
+
+-- ---- du
+
+module _ (site : SiteId) (name : List ℕ) (steps : List Answered) where
+  abbrev UsedBy : Reply → Type 0
+  UsedBy (reply.Used used of) = ShowsUsed site name used of steps
+  UsedBy _ = ⊥
+
+  abbrev UseRefused : Refusal → Type 0
+  UseRefused = IsRefused site (look_up name) refuses_none never steps
+
+  used_is : (r : Reply) → UsedMeans site name steps r → Is UsedBy UseRefused r
+  used_is (reply.Used used of) meant = inl meant
+  used_is (reply.Refused x) refused = inr (x, refl, refused)
+  used_is _ meant = absurd meant
+
+  same_used : (used of other_used other_of : ℕ) → ShowsUsed site name used of steps → ShowsUsed site name other_used other_of steps → reply.Used used of ≡ reply.Used other_used other_of
+  same_used used of other_used other_of one other =
+      let same = sym one.are ∙ other.are in
+      let look : looked_at site one.image one.header ≡ looked_at site other.image other.header = cc in
+      let told = ap (λ (t : Answered). t.answer) look in
+      let header : one.header ≡ other.header = cc in
+      let map : map_told site one.image one.bits ≡ map_told site other.image other.bits = cc in
+      let shown = ap (λ (t : Answered). t.answer) map in
+      let bits : one.bits ≡ other.bits = cc in
+      let objects : of ≡ other_of = one_count other.header.layout other.header.size of other_of (subst (λ (h : HeaderView). IsObjectCount h.layout h.size of) header one.of_is) other.of_is in
+      ap (λ n. reply.Used n of) (one.used_is ∙ ap (λ b. used_among of b) bits ∙ ap (λ n. used_among n other.bits) objects ∙ sym other.used_is) ∙ ap (λ n. reply.Used other_used n) objects
+
+  used_once : (r s : Reply) → UsedBy r → UsedBy s → r ≡ s
+  used_once (reply.Used used of) (reply.Used other_used other_of) one other = same_used used of other_used other_of one other
+  used_once (reply.Used used of) _ one other = absurd other
+  used_once _ s one other = absurd one
+
+  used_apart : (r : Reply) (x : Refusal) → UsedBy r → UseRefused x → ⊥
+  used_apart (reply.Used used of) x shows refused = unrefused refuses_none never steps (_ ∷ _ ∷ []) _ x shows.are refl refused.by
+  used_apart _ x shows refused = absurd shows
+
+  one_used : (r s : Reply) → UsedMeans site name steps r → UsedMeans site name steps s → r ≡ s
+  one_used r s one other = one_of UsedBy UseRefused used_once used_apart (λ x y a b. refused_alike refuses_none never steps x y a.by b.by) r s (used_is r one) (used_is s other)
+
+-- ---- rename
+
+module _ (site : SiteId) (from to : List ℕ) (steps : List Answered) where
+  abbrev NameRefused : Refusal → Type 0
+  NameRefused = IsRefused site (op.Directory (directory.Rename from to)) refuses_none never steps
+
+  rename_is : (r : Reply) → RenameMeans site from to steps r → Is (DoneBy (steps ≡ renamed site from to ∷ [])) NameRefused r
+  rename_is reply.Done meant = inl meant
+  rename_is (reply.Refused x) refused = inr (x, refl, refused)
+  rename_is _ meant = absurd meant
+
+  rename_apart : (r : Reply) (x : Refusal) → DoneBy (steps ≡ renamed site from to ∷ []) r → NameRefused x → ⊥
+  rename_apart reply.Done x are refused = unrefused refuses_none never steps [] _ x are refl refused.by
+  rename_apart _ x are refused = absurd are
+
+  one_rename : (r s : Reply) → RenameMeans site from to steps r → RenameMeans site from to steps s → r ≡ s
+  one_rename r s one other = one_of _ NameRefused (done_once _) rename_apart (λ x y a b. refused_alike refuses_none never steps x y a.by b.by) r s (rename_is r one) (rename_is s other)
+
+-- ---- discard, resize, snap rollback: what no answer of a whole change refuses
+
+module _ (refuses : HeaderView → Option Refusal) (steps : List Answered) (T : Type 0) (whole : T → AreAllowed refuses steps)
+    (R : Refusal → Type 0) (refused : (x : Refusal) → R x → IsRefusedBy refuses by_fence steps x) where
+  change_apart : (r : Reply) (x : Refusal) → DoneBy T r → R x → ⊥
+  change_apart reply.Done x t by = allowed_ends refuses by_fence steps x (whole t) (refused x by)
+  change_apart _ x t by = absurd t
+
+  one_change : (r s : Reply) → Is (DoneBy T) R r → Is (DoneBy T) R s → r ≡ s
+  one_change r s one other = one_of (DoneBy T) R (done_once T) change_apart (λ x y a b. refused_alike refuses by_fence steps x y (refused x a) (refused y b)) r s one other
+
+module _ (site : SiteId) (name : List ℕ) (steps : List Answered) where
+  discard_is : (at len : ℕ) (r : Reply) → DiscardMeans site name at len steps r
+      → Is (DoneBy (DiscardsWhole site name (record { at = at; len = len }) steps)) (RefusesDiscard site name (record { at = at; len = len }) steps) r
+  discard_is at len reply.Done meant = inl meant
+  discard_is at len (reply.Refused x) refused = inr (x, refl, refused)
+  discard_is at len _ meant = absurd meant
+
+  one_discard : (at len : ℕ) (r s : Reply) → DiscardMeans site name at len steps r → DiscardMeans site name at len steps s → r ≡ s
+  one_discard at len r s one other =
+      one_change (write_refuses (record { at = at; len = len })) steps _ (discard_allowed site name (record { at = at; len = len }) steps)
+      (RefusesDiscard site name (record { at = at; len = len }) steps) (λ x refuses. refuses.refused.by) r s (discard_is at len r one) (discard_is at len s other)
+
+  resize_is : (to : ℕ) (r : Reply) → ResizeMeans site name to steps r → Is (DoneBy (ResizesWhole site name to steps)) (RefusesResize site name to steps) r
+  resize_is to reply.Done meant = inl meant
+  resize_is to (reply.Refused x) refused = inr (x, refl, refused)
+  resize_is to _ meant = absurd meant
+
+  one_resize : (to : ℕ) (r s : Reply) → ResizeMeans site name to steps r → ResizeMeans site name to steps s → r ≡ s
+  one_resize to r s one other =
+      one_change (resize_refuses to) steps _ (resize_allowed site name to steps) (RefusesResize site name to steps) (λ x refuses. refuses.refused.by) r s (resize_is to r one) (resize_is to s other)
+
+  rollback_is : (snap : List ℕ) (r : Reply) → RollbackMeans site name snap steps r → Is (DoneBy (RollsBack site name snap steps)) (RefusesRollback site name snap steps) r
+  rollback_is snap reply.Done meant = inl meant
+  rollback_is snap (reply.Refused x) refused = inr (x, refl, refused)
+  rollback_is snap _ meant = absurd meant
+
+  one_rollback : (snap : List ℕ) (r s : Reply) → RollbackMeans site name snap steps r → RollbackMeans site name snap steps s → r ≡ s
+  one_rollback snap r s one other =
+      one_change (rollback_refuses snap) steps _ (rollback_allowed site name snap steps) (RefusesRollback site name snap steps) (λ x refuses. refuses.refused.by) r s (rollback_is snap r one) (rollback_is snap s other)
+
+-- ---- rm
+
+module _ (site : SiteId) (session : ℕ) (name : List ℕ) (steps : List Answered) where
+  image_removal_is : (r : Reply) → RemoveMeans site session name steps r → Is (DoneBy (RemovesImage site session name steps)) (RefusesRemovalOf site session name steps) r
+  image_removal_is reply.Done meant = inl meant
+  image_removal_is (reply.Refused x) refused = inr (x, refl, refused)
+  image_removal_is _ meant = absurd meant
+
+  image_removal_apart : (r : Reply) (x : Refusal) → DoneBy (RemovesImage site session name steps) r → RefusesRemovalOf site session name steps x → ⊥
+  image_removal_apart reply.Done x whole refused = removal_ends site session name steps x whole refused
+  image_removal_apart _ x whole refused = absurd whole
+
+  removal_alike : (x y : Refusal) → RefusesRemovalOf site session name steps x → RefusesRemovalOf site session name steps y → x ≡ y
+  removal_alike x y a b =
+      let last = same_last a.before b.before a.last b.last (sym a.are ∙ b.are) in
+      let is = subst (λ (t : Answered). removal_refusal_by session t.op t.answer ≡ Some x) last a.refused in
+      let too = b.refused in
+      cc
+
+  one_image_removal : (r s : Reply) → RemoveMeans site session name steps r → RemoveMeans site session name steps s → r ≡ s
+  one_image_removal r s one other = one_of _ (RefusesRemovalOf site session name steps) (done_once _) image_removal_apart removal_alike r s (image_removal_is r one) (image_removal_is s other)
 
 -- ---- snap create, snap rm
 
@@ -458,18 +586,24 @@ module _ (site : SiteId) (name : List ℕ) (snap : Option (List ℕ)) (e : Exten
 
 -- ---- all commands
 
-pub one_reply : (site : SiteId) (c : Command) (steps : List Answered) (r s : Reply) → IsMeantBy site c steps r → IsMeantBy site c steps s → r ≡ s
-one_reply site (command.Create name size shape) steps r s one other = one_create site name size shape steps r s one.1 other.1
-one_reply site (command.Write name at bytes) steps r s one other = one_write site name at bytes steps r s one other
-one_reply site (command.Fill name at len byte) steps r s one other = one_write site name at (replicate len byte) steps r s one other
-one_reply site (command.Read name snap at len) steps r s one other = one_read site name snap (record { at = at; len = len }) steps r s one other
-one_reply site command.List steps r s one other = one_list site steps r s one other
-one_reply site (command.Info name) steps r s one other = one_shown site name reply.Info steps r s (info_is site name steps r one) (info_is site name steps s other)
-one_reply site (command.SnapList name) steps r s one other = one_shown site name shown_snaps steps r s (snap_list_is site name steps r one) (snap_list_is site name steps s other)
-one_reply site (command.SnapCreate name snap) steps r s one other = one_take site name snap steps r s one other
-one_reply site (command.SnapRemove name snap) steps r s one other = one_remove site name snap steps r s one other
-one_reply site (command.Close name) steps r s one other = one_close site name steps r s one other
-one_reply site (command.Quiesce name) steps r s one other = one_quiesce site name steps r s one other
-one_reply site (command.Resume name) steps r s one other = one_resume site name steps r s one other
-one_reply site (command.Tell name bytes) steps r s one other = one_tell site name steps bytes r s one other
-one_reply site _ steps r s one other = absurd one
+pub one_reply : (seat : Seat) (c : Command) (steps : List Answered) (r s : Reply) → IsMeantBy seat c steps r → IsMeantBy seat c steps s → r ≡ s
+one_reply seat (command.Create name size shape) steps r s one other = one_create seat.home name size shape steps r s one.1 other.1
+one_reply seat (command.Write name at bytes) steps r s one other = one_write seat.home name at bytes steps r s one other
+one_reply seat (command.Fill name at len byte) steps r s one other = one_write seat.home name at (replicate len byte) steps r s one other
+one_reply seat (command.Discard name at len) steps r s one other = one_discard seat.home name steps at len r s one other
+one_reply seat (command.Read name snap at len) steps r s one other = one_read seat.home name snap (record { at = at; len = len }) steps r s one other
+one_reply seat (command.Resize name size) steps r s one other = one_resize seat.home name steps size r s one other
+one_reply seat (command.Rename from to) steps r s one other = one_rename seat.home from to steps r s one other
+one_reply seat (command.Remove name) steps r s one other = one_image_removal seat.home seat.session name steps r s one other
+one_reply seat (command.Used name) steps r s one other = one_used seat.home name steps r s one other
+one_reply seat command.List steps r s one other = one_list seat.home steps r s one other
+one_reply seat (command.Info name) steps r s one other = one_shown seat.home name reply.Info steps r s (info_is seat.home name steps r one) (info_is seat.home name steps s other)
+one_reply seat (command.SnapList name) steps r s one other = one_shown seat.home name shown_snaps steps r s (snap_list_is seat.home name steps r one) (snap_list_is seat.home name steps s other)
+one_reply seat (command.SnapCreate name snap) steps r s one other = one_take seat.home name snap steps r s one other
+one_reply seat (command.SnapRemove name snap) steps r s one other = one_remove seat.home name snap steps r s one other
+one_reply seat (command.SnapRollback name snap) steps r s one other = one_rollback seat.home name steps snap r s one other
+one_reply seat (command.Close name) steps r s one other = one_close seat.home name steps r s one other
+one_reply seat (command.Quiesce name) steps r s one other = one_quiesce seat.home name steps r s one other
+one_reply seat (command.Resume name) steps r s one other = one_resume seat.home name steps r s one other
+one_reply seat (command.Tell name bytes) steps r s one other = one_tell seat.home name steps bytes r s one other
+one_reply seat _ steps r s one other = absurd one

@@ -19,9 +19,11 @@ use Rattle.rbd_kinds.specs.declared.reply.Reply.TheVariants as reply
 use Rattle.rbd_layout.specs.declared.types.Piece.{Piece}
 use Rattle.rbd_machine.specs.Passes.{joined}
 use Rattle.rbd_machine.specs.Path.{Answered}
-use Rattle.rbd_machine.specs.Refused.{refusal_by, only_looks, AreLooks, IsRefusedBy}
+use Rattle.rbd_machine.specs.declared.seat.Seat.{Seat}
+use Rattle.rbd_machine.specs.Refused.{by_fence, refusal_by, only_looks, AreLooks, IsRefusedBy}
 use Rattle.rbd_meaning.specs.Meant.{IsMeantBy}
 use Rattle.rbd_meaning.specs.Reads.{AreRead, IsPassTo, SeeOthers, RefusedAtLast}
+use Rattle.rbd_meaning.specs.Removals.{image_removal_refuses, removal_refusal_by, RefusesRemovalOf}
 use Rattle.rbd_meaning.specs.Undone.{ComesLate, lets_go, tells_undone, ChangeNothing}
 
 -- those of two stretches
@@ -97,33 +99,69 @@ read_changes_nothing site name snap e steps x refused =
     subst ChangeNothing (sym refused.are)
     (nothing_after (joined refused.passes) refused.pass (passes_change_nothing site name snap e refused.passes refused.before) (refused_changes_nothing _ _ x refused.pass refused.by.by (λ late. late)))
 
+-- ---- the removal of an image
+
+removal_undone : (session : ℕ) (x : Refusal) (o : Op) (a : Answer) → removal_refusal_by session o a ≡ Some x → (only_looks o ≡ true) ⊎ (tells_undone a ≡ true)
+removal_undone session x (op.Header image header.WatchersGet) a is = inl refl
+removal_undone session x (op.Directory o) a is = undone image_removal_refuses x (op.Directory o) a is
+removal_undone session x (op.Header image o) a is = header_removal o a is
+  where
+    header_removal : (o : HeaderOp) (a : Answer) → removal_refusal_by session (op.Header image o) a ≡ Some x → (only_looks (op.Header image o) ≡ true) ⊎ (tells_undone a ≡ true)
+    header_removal header.WatchersGet a is = inl refl
+    header_removal header.Get a is = inl refl
+    header_removal o answer.Absent is = inr refl
+    header_removal o answer.Exists is = inr refl
+    header_removal o answer.Full is = inr refl
+    header_removal o answer.Fenced is = inr refl
+    header_removal _ _ is = cc
+removal_undone session x o answer.Absent is = inr refl
+removal_undone session x o answer.Exists is = inr refl
+removal_undone session x o answer.Full is = inr refl
+removal_undone session x o answer.Fenced is = inr refl
+removal_undone session x _ _ is = cc
+
+removal_changes_nothing : (site : SiteId) (session : ℕ) (image : List ℕ) (steps : List Answered) (x : Refusal) → RefusesRemovalOf site session image steps x → (by_fence x → ⊥) → ChangeNothing steps
+removal_changes_nothing site session image steps x refuses not_late =
+    subst ChangeNothing (sym refuses.are)
+    (nothing_after refuses.before (refuses.last ∷ []) (looks_change_nothing refuses.before (refuses.unchanged not_late)) (removal_undone session x refuses.last.op refuses.last.answer refuses.refused, tt))
+
 -- ---- all commands
 
-pub meant_changes_nothing : (site : SiteId) (c : Command) (steps : List Answered) (x : Refusal) → IsMeantBy site c steps (reply.Refused x) → (ComesLate c x → ⊥) → ChangeNothing steps
-meant_changes_nothing site (command.Create image size shape) steps x (plain, inl outside) not_late = subst ChangeNothing (sym outside.none) tt
-meant_changes_nothing site (command.Create image size shape) steps x (plain, inr unmade) not_late = refused_changes_nothing _ _ x steps unmade.by.by not_late
-meant_changes_nothing site (command.Write image at bytes) steps x refuses not_late = refused_changes_nothing _ _ x steps refuses.refused.by not_late
-meant_changes_nothing site (command.Fill image at len byte) steps x refuses not_late = refused_changes_nothing _ _ x steps refuses.refused.by not_late
-meant_changes_nothing site (command.Read image snap at len) steps x refused not_late = read_changes_nothing site image snap _ steps x refused
-meant_changes_nothing site command.List steps x by not_late = refused_changes_nothing _ _ x steps by.by not_late
-meant_changes_nothing site (command.Info image) steps x by not_late = refused_changes_nothing _ _ x steps by.by not_late
-meant_changes_nothing site (command.SnapList image) steps x by not_late = refused_changes_nothing _ _ x steps by.by not_late
-meant_changes_nothing site (command.SnapCreate image snap) steps x by not_late = refused_changes_nothing _ _ x steps by.by not_late
-meant_changes_nothing site (command.SnapRemove image snap) steps x refuses not_late = refused_changes_nothing _ _ x steps refuses.refused.by not_late
-meant_changes_nothing site (command.Close image) steps x by not_late = refused_changes_nothing _ _ x steps by.by not_late
-meant_changes_nothing site (command.Quiesce image) steps x by not_late = refused_changes_nothing _ _ x steps by.by not_late
-meant_changes_nothing site (command.Resume image) steps x by not_late = refused_changes_nothing _ _ x steps by.by not_late
-meant_changes_nothing site (command.Tell image bytes) steps x by not_late = refused_changes_nothing _ _ x steps by.by not_late
-meant_changes_nothing site _ steps x meant not_late = absurd meant
+pub meant_changes_nothing : (seat : Seat) (c : Command) (steps : List Answered) (x : Refusal) → IsMeantBy seat c steps (reply.Refused x) → (ComesLate c x → ⊥) → ChangeNothing steps
+meant_changes_nothing seat (command.Create image size shape) steps x (plain, inl outside) not_late = subst ChangeNothing (sym outside.none) tt
+meant_changes_nothing seat (command.Create image size shape) steps x (plain, inr unmade) not_late = refused_changes_nothing _ _ x steps unmade.by.by not_late
+meant_changes_nothing seat (command.Write image at bytes) steps x refuses not_late = refused_changes_nothing _ _ x steps refuses.refused.by not_late
+meant_changes_nothing seat (command.Fill image at len byte) steps x refuses not_late = refused_changes_nothing _ _ x steps refuses.refused.by not_late
+meant_changes_nothing seat (command.Discard image at len) steps x refuses not_late = refused_changes_nothing _ _ x steps refuses.refused.by not_late
+meant_changes_nothing seat (command.Read image snap at len) steps x refused not_late = read_changes_nothing seat.home image snap _ steps x refused
+meant_changes_nothing seat (command.Resize image size) steps x refuses not_late = refused_changes_nothing _ _ x steps refuses.refused.by not_late
+meant_changes_nothing seat (command.Rename from to) steps x by not_late = refused_changes_nothing _ _ x steps by.by not_late
+meant_changes_nothing seat (command.Remove image) steps x refuses not_late = removal_changes_nothing seat.home seat.session image steps x refuses not_late
+meant_changes_nothing seat (command.Used image) steps x by not_late = refused_changes_nothing _ _ x steps by.by not_late
+meant_changes_nothing seat command.List steps x by not_late = refused_changes_nothing _ _ x steps by.by not_late
+meant_changes_nothing seat (command.Info image) steps x by not_late = refused_changes_nothing _ _ x steps by.by not_late
+meant_changes_nothing seat (command.SnapList image) steps x by not_late = refused_changes_nothing _ _ x steps by.by not_late
+meant_changes_nothing seat (command.SnapCreate image snap) steps x by not_late = refused_changes_nothing _ _ x steps by.by not_late
+meant_changes_nothing seat (command.SnapRemove image snap) steps x refuses not_late = refused_changes_nothing _ _ x steps refuses.refused.by not_late
+meant_changes_nothing seat (command.SnapRollback image snap) steps x refuses not_late = refused_changes_nothing _ _ x steps refuses.refused.by not_late
+meant_changes_nothing seat (command.Close image) steps x by not_late = refused_changes_nothing _ _ x steps by.by not_late
+meant_changes_nothing seat (command.Quiesce image) steps x by not_late = refused_changes_nothing _ _ x steps by.by not_late
+meant_changes_nothing seat (command.Resume image) steps x by not_late = refused_changes_nothing _ _ x steps by.by not_late
+meant_changes_nothing seat (command.Tell image bytes) steps x by not_late = refused_changes_nothing _ _ x steps by.by not_late
+meant_changes_nothing seat _ steps x meant not_late = absurd meant
 
 -- but for the fence, whatever the command is that drops no lock
-pub meant_unless_fenced : (site : SiteId) (c : Command) (steps : List Answered) (x : Refusal) → lets_go c ≡ false → IsMeantBy site c steps (reply.Refused x) → (x ≡ refusal.Fenced → ⊥) → ChangeNothing steps
-meant_unless_fenced site c steps x keeps meant not_fenced = meant_changes_nothing site c steps x meant (not_late c keeps)
+pub meant_unless_fenced : (seat : Seat) (c : Command) (steps : List Answered) (x : Refusal) → lets_go c ≡ false → IsMeantBy seat c steps (reply.Refused x) → (x ≡ refusal.Fenced → ⊥) → ChangeNothing steps
+meant_unless_fenced seat c steps x keeps meant not_fenced = meant_changes_nothing seat c steps x meant (not_late c keeps)
   where
     not_late : (c : Command) → lets_go c ≡ false → ComesLate c x → ⊥
     not_late (command.Create image size shape) keeps late = not_fenced late
     not_late (command.Write image at bytes) keeps late = not_fenced late
     not_late (command.Fill image at len byte) keeps late = not_fenced late
+    not_late (command.Discard image at len) keeps late = not_fenced late
+    not_late (command.Resize image size) keeps late = not_fenced late
+    not_late (command.Remove image) keeps late = not_fenced late
     not_late (command.SnapRemove image snap) keeps late = not_fenced late
+    not_late (command.SnapRollback image snap) keeps late = not_fenced late
     not_late (command.Close image) keeps late = cc
     not_late _ keeps late = absurd late

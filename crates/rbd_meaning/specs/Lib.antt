@@ -1,3 +1,4 @@
+pub mod Count
 pub mod Range
 pub mod Arrange
 pub mod Writes

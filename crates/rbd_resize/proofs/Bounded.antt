@@ -25,7 +25,7 @@ use Rattle.rbd_zero.specs.Full.{full_piece}
 use Rattle.rbd_zero.specs.Shrink.{head_from}
 use Rattle.rbd_zero.specs.Zero.{head_of}
 use Rattle.rbd_zero.proofs.Bounded.{bounded_full, bounded_grow, bounded_shrink}
-use Rattle.rbd_resize.specs.Count.{object_count}
+use Rattle.rbd_meaning.specs.Count.{object_count}
 use Rattle.rbd_resize.specs.Resize.{set_size, size_change}
 use Rattle.rbd_resize.specs.Rollback.{restore_all, restore_pieces, roll_back, roll_back_listed, roll_back_to, rollback}
 use Rattle.rbd_resize.specs.Told.{HasFewToCut, HasFewToRestore, HoldsOfTold}

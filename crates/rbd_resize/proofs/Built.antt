@@ -19,7 +19,7 @@ use Rattle.rbd_zero.specs.Operations.{data_empty, data_remove, data_write_full, 
 use Rattle.rbd_zero.specs.Shrink.{pieces_from}
 use Rattle.rbd_zero.specs.Size.{cutting, resize, resize_by, sizing, zero_pieces}
 use Rattle.rbd_zero.specs.Zero.{emptying, head_of, is_inside, is_whole, removing, setting, zero_all, zero_by, zeroing}
-use Rattle.rbd_resize.specs.Count.{object_count}
+use Rattle.rbd_meaning.specs.Count.{object_count}
 use Rattle.rbd_resize.specs.Rollback.{restore_all, restore_pieces, roll_back}
 
 -- A relation of two plans that each step keeps, where its operation is fine. `First` is kept by a

@@ -18,7 +18,7 @@ use Rattle.rbd_piece.proofs.Closed.{closed_gather}
 use Rattle.rbd_zero.specs.Full.{full_piece}
 use Rattle.rbd_zero.specs.Zero.{head_of}
 use Rattle.rbd_zero.proofs.Closed.{closed_full, closed_resize}
-use Rattle.rbd_resize.specs.Count.{object_count}
+use Rattle.rbd_meaning.specs.Count.{object_count}
 use Rattle.rbd_resize.specs.Resize.{resize_plan, set_size}
 use Rattle.rbd_resize.specs.Rollback.{restore_all, restore_pieces, roll_back, roll_back_listed, roll_back_to, rollback_plan}
 

@@ -33,11 +33,11 @@ use Rattle.rbd_zero.proofs.Below.{pieces_below}
 use Rattle.rbd_zero.proofs.Lawful.{lawful_full}
 use Rattle.rbd_zero.proofs.Resized.{lawful_resize, resized_owns}
 use Rattle.rbd_zero.proofs.Zeroed.{full_owns}
-use Rattle.rbd_resize.specs.Count.{object_count}
+use Rattle.rbd_meaning.specs.Count.{object_count}
 use Rattle.rbd_resize.specs.Resize.{resize_plan, set_size}
 use Rattle.rbd_resize.specs.Restore.{IsObjectOf}
 use Rattle.rbd_resize.specs.Rollback.{restore, restore_pieces, roll_back, roll_back_listed, roll_back_to, rollback_plan}
-use Rattle.rbd_resize.proofs.Counts.{counts, size_is_few}
+use Rattle.rbd_meaning.proofs.Counts.{counts, size_is_few}
 use Rattle.rbd_resize.proofs.Restored.{objects_of_head}
 use Rattle.rbd_resize.proofs.Rolled.{named_in_form}
 

@@ -22,7 +22,7 @@ use Rattle.rbd_meaning.specs.Partly.{IsFrontOf}
 use Rattle.rbd_meaning.specs.Resizes.{ResizeMeans, ResizesWhole, resize_refuses}
 use Rattle.rbd_meaning.specs.Rollbacks.{RollbackMeans, RollsBack, listing_refusal, rollback_refuses}
 use Rattle.rbd_meaning.proofs.Ends.{same_front}
-use Rattle.rbd_resize.specs.Count.{object_count}
+use Rattle.rbd_meaning.specs.Count.{object_count}
 use Rattle.rbd_resize.specs.Resize.{set_size, size_change}
 use Rattle.rbd_resize.specs.Rollback.{roll_back_listed, roll_back_to, rollback}
 use Rattle.rbd_resize.proofs.Built.{built_resize, built_roll_back}

@@ -16,7 +16,7 @@ use Rattle.rbd_machine.proofs.About.{IsOfImage, are_own, by_on_id, of_joining, o
 use Rattle.rbd_meaning.specs.Resizes.{resize_refuses}
 use Rattle.rbd_meaning.specs.Rollbacks.{rollback_refuses}
 use Rattle.rbd_piece.specs.Gather.{on_bytes}
-use Rattle.rbd_resize.specs.Count.{object_count}
+use Rattle.rbd_meaning.specs.Count.{object_count}
 use Rattle.rbd_resize.specs.Resize.{set_size, size_change}
 use Rattle.rbd_resize.specs.Rollback.{roll_back_listed, roll_back_to, rollback}
 use Rattle.rbd_resize.proofs.Built.{Rules, built_resize, built_roll_back}

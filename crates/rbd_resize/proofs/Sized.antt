@@ -14,12 +14,12 @@ use Rattle.rbd_machine.proofs.Approached.{owning_form}
 use Rattle.rbd_meaning.specs.Resizes.{resize_refuses}
 use Rattle.rbd_zero.specs.Size.{resize, rest_of_size}
 use Rattle.rbd_zero.specs.declared.size.Size.{Size}
-use Rattle.rbd_resize.specs.Count.{object_count}
+use Rattle.rbd_meaning.specs.Count.{object_count}
 use Rattle.rbd_resize.specs.Resize.{rest_at, set_size, owning_in, IsApproaching, HasSize, IsReadyAt}
 use Rattle.rbd_resize.specs.declared.resize.ResizeRequest.{ResizeRequest}
 use Rattle.rbd_resize.specs.declared.resize.Stage.{Stage}
 use Rattle.rbd_resize.specs.declared.resize.Stage.TheVariants as stage
-use Rattle.rbd_resize.proofs.Counts.{counts}
+use Rattle.rbd_meaning.proofs.Counts.{counts}
 
 -- ---- at its own look
 

@@ -30,11 +30,11 @@ use Rattle.rbd_zero.specs.Full.{full_piece, replaced}
 use Rattle.rbd_zero.specs.Size.{IsResized, resize}
 use Rattle.rbd_zero.specs.Zero.{head_of}
 use Rattle.rbd_zero.proofs.Walked.{full_did, size_did}
-use Rattle.rbd_resize.specs.Count.{object_count}
+use Rattle.rbd_meaning.specs.Count.{object_count}
 use Rattle.rbd_resize.specs.Resize.{set_size, size_change}
 use Rattle.rbd_resize.specs.Rollback.{restore_all, restore_pieces, roll_back, roll_back_listed, roll_back_to, rollback}
 use Rattle.rbd_resize.proofs.Built.{built_full, built_resize}
-use Rattle.rbd_resize.proofs.Counts.{counts}
+use Rattle.rbd_meaning.proofs.Counts.{counts}
 use Rattle.rbd_resize.proofs.Splits.{Follows, Splits, Stays, follows_rules, splits}
 
 abbrev Done : Plan

@@ -1,4 +1,3 @@
-pub mod Count
 pub mod Resize
 pub mod Rollback
 pub mod Restore

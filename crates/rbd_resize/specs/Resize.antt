@@ -15,7 +15,7 @@ use Rattle.rbd_meaning.specs.Resizes.{resize_refuses}
 use Rattle.rbd_zero.specs.Size as of_size
 use Rattle.rbd_zero.specs.Size.{resize, rest_of_size}
 use Rattle.rbd_zero.specs.declared.size.Size.{Size}
-use Rattle.rbd_resize.specs.Count.{object_count}
+use Rattle.rbd_meaning.specs.Count.{object_count}
 use Rattle.rbd_resize.specs.declared.resize.ResizeRequest.{ResizeRequest}
 use Rattle.rbd_resize.specs.declared.resize.Stage.{Stage}
 use Rattle.rbd_resize.specs.declared.resize.Stage.TheVariants as stage

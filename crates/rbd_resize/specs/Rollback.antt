@@ -17,7 +17,7 @@ use Rattle.rbd_piece.specs.Gather.{gather}
 use Rattle.rbd_zero.specs.Full.{full_piece}
 use Rattle.rbd_zero.specs.Size.{resize}
 use Rattle.rbd_zero.specs.Zero.{head_of}
-use Rattle.rbd_resize.specs.Count.{object_count}
+use Rattle.rbd_meaning.specs.Count.{object_count}
 
 -- the commands that it serves
 abbrev pub is_rollback : Command → Bool

@@ -1,16 +1,13 @@
-//! What requests do to their end, and by how many operations, and what counts mean: laws, each the
-//! contract of a function that does nothing.
-ghost use Rattle.std.specs.Prelude.{◌≡◌, ℕ, ◌+◌, ◌*◌, ◌<◌, ◌≤◌, ◌↔◌, true, List, length};
+//! What requests do to their end, and by how many operations: laws, each the contract of a function
+//! that does nothing.
+ghost use Rattle.std.specs.Prelude.{◌≡◌, ℕ, ◌+◌, ◌*◌, ◌<◌, ◌≤◌, List, length};
 ghost use Rattle.rbd_commands.specs.declared.command.Command.{Command};
 ghost use Rattle.rbd_kinds.specs.declared.header.HeaderView.{HeaderView};
 ghost use Rattle.rbd_kinds.specs.declared.header.SnapView.{SnapView};
 ghost use Rattle.rbd_kinds.specs.declared.id.SiteId.{SiteId};
-ghost use Rattle.rbd_kinds.specs.declared.layout.Layout.{Layout};
 ghost use Rattle.rbd_kinds.specs.declared.machine.Fed.{Fed};
 ghost use Rattle.rbd_kinds.specs.declared.reply.Reply.{Reply};
 ghost use Rattle.rbd_kinds.specs.declared.reply.Reply.TheVariants.{Done};
-ghost use Rattle.rbd_kinds.specs.Form.{HasFewObjects};
-ghost use Rattle.rbd_kinds.specs.Striping.{IsLayout, IsObjectCount};
 ghost use Rattle.rbd_layout.specs.Pieces.{pieces_of};
 ghost use Rattle.rbd_machine.specs.Label.{Label};
 ghost use Rattle.rbd_machine.specs.Lawful.{IsLawfulRequest};
@@ -18,21 +15,13 @@ ghost use Rattle.rbd_machine.specs.Path.{Answered, IsBounded, IsWalk};
 ghost use Rattle.rbd_machine.specs.Plan.{Plan, Goto, Return, IsClosed, without_labels};
 ghost use Rattle.rbd_machine.specs.Refused.{AreGiven};
 ghost use Rattle.rbd_meaning.specs.Parentless.{AreParentless};
-ghost use Rattle.rbd_meaning.specs.Resizes.{ResizeMeans, ResizesWhole, has_few_objects};
+ghost use Rattle.rbd_meaning.specs.Resizes.{ResizeMeans, ResizesWhole};
 ghost use Rattle.rbd_meaning.specs.Rollbacks.{RollbackMeans, RollsBack, at_size};
 ghost use Rattle.rbd_zero.specs.Shrink.{head_from};
 ghost use Rattle.rbd_zero.specs.Zero.{head_of};
-ghost use Rattle.rbd_resize.specs.Count.{object_count};
 ghost use Rattle.rbd_resize.specs.Resize.{resize_plan, set_size, size_change};
 ghost use Rattle.rbd_resize.specs.Rollback.{roll_back, rollback, rollback_plan};
 ghost use Rattle.rbd_resize.specs.Told.{HasFewToCut, HasFewToRestore, HoldsOfTold};
-
-/// The pieces of a size are as many as its objects. A size is one of few objects exactly where its
-/// bytes lie in the first 2^20.
-pub fn counts_are_counts()
-    ensures count { (l : Layout) (size : ℕ) → IsLayout l → IsObjectCount l size (object_count l size) }
-    ensures few { (l : Layout) (size : ℕ) → IsLayout l → (has_few_objects l size ≡ true) ↔ HasFewObjects l size }
-{}
 
 /// Behind its own look a resize has two operations, and where the size is less than before, three
 /// more for each object with a byte from the new size on. A rollback has those of its size, and

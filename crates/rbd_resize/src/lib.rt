@@ -53,11 +53,10 @@
 //! the form of those of `rbd_zero`: its clauses hold for every plan that comes next, and a step
 //! tells a [`Progress`](rbd_machine::Progress). They are read in this order, after those of
 //! `rbd_zero`; what the commands refuse, what they have done, and what their replies mean stands in
-//! `Resizes` and `Rollbacks` of `rbd_meaning`.
+//! `Resizes` and `Rollbacks` of `rbd_meaning`, and how many objects a size has in its `Count`.
 //!
 //! | file | what it says |
 //! |---|---|
-//! | `specs/Count.antt` | `object_count`, how many objects a size has |
 //! | `specs/Resize.antt` | `size_change`, the plan of a resize, and what is left of one |
 //! | `specs/Rollback.antt` | `roll_back`, the plan of the part, and `rollback`, that of the request |
 //! | `specs/Restore.antt` | where the objects of a head stand that are restored |
@@ -66,8 +65,7 @@
 //!
 //! [`laws`] says what such plans come to: what is done where a request is done, that each reply is
 //! meant where images have no parent, refusals among them, with all that was done before being the
-//! front of a whole one, how many operations they have, that none begins a part again, and that
-//! `object_count` counts.
+//! front of a whole one, how many operations they have, and that none begins a part again.
 //!
 //! # Cost
 //!

@@ -1,5 +1,5 @@
 use Rattle.std.proofs.Common.{}
-use Rattle.rbd_resize.proofs.Counts.{first_byte}
+use Rattle.rbd_meaning.proofs.Counts.{first_byte}
 use Rattle.rbd_resize.proofs.few.first_past_the_most.Goals as goal
 
 pub returns : goal.returns

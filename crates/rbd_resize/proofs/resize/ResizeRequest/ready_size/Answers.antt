@@ -3,7 +3,7 @@ use Rattle.rbd_kinds.specs.Form.{IsHeaderInForm}
 use Rattle.rbd_kinds.specs.declared.machine.Fed.TheVariants as fed
 use Rattle.rbd_machine.specs.Answers.{CanBeFed}
 use Rattle.rbd_resize.specs.Resize.{rest_at}
-use Rattle.rbd_resize.proofs.Counts.{size_is_few}
+use Rattle.rbd_meaning.proofs.Counts.{size_is_few}
 use Rattle.rbd_resize.proofs.Sized.{not_refused, own_form, sized_at}
 use Rattle.rbd_resize.proofs.resize.ResizeRequest.ready_size.Goals as goal
 

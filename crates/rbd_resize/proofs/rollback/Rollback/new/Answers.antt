@@ -1,10 +1,10 @@
 use Rattle.std.proofs.Common.{sym, subst, ap, ◌∙◌}
 use Rattle.rbd_kinds.specs.Form.{IsHeaderInForm}
 use Rattle.rbd_zero.specs.Size.{resize}
-use Rattle.rbd_resize.specs.Count.{object_count}
+use Rattle.rbd_meaning.specs.Count.{object_count}
 use Rattle.rbd_resize.specs.Restore.{rest_of_some}
 use Rattle.rbd_resize.specs.Rollback.{restore_all}
-use Rattle.rbd_resize.proofs.Counts.{counts}
+use Rattle.rbd_meaning.proofs.Counts.{counts}
 use Rattle.rbd_resize.proofs.Rolled.{sized_in_form}
 use Rattle.rbd_resize.proofs.rollback.Rollback.new.Goals as goal
 

@@ -1,5 +1,5 @@
-use Rattle.rbd_resize.proofs.Counts.{counts, few_decides}
-use Rattle.rbd_resize.proofs.laws.counts_are_counts.Goals as goal
+use Rattle.rbd_meaning.proofs.Counts.{counts, few_decides}
+use Rattle.rbd_meaning.proofs.laws.counts_are_counts.Goals as goal
 
 pub returns-clause-count : goal.returns-clause-count
 returns-clause-count c = counts

@@ -21,7 +21,7 @@ use Rattle.rbd_layout.proofs.Places.{count_of_full, count_of_short, number_bound
 use Rattle.rbd_machine.specs.Steps.{non_primary}
 use Rattle.rbd_machine.proofs.Lawful.{or_else_none}
 use Rattle.rbd_meaning.specs.Resizes.{has_few_objects, resize_refuses}
-use Rattle.rbd_resize.specs.Count.{object_count}
+use Rattle.rbd_meaning.specs.Count.{object_count}
 
 -- ---- the first byte of an object, of any layout
 
@@ -41,6 +41,20 @@ first_byte l n =
     (div-add-mod' n l.count) (div-add-mod' l.object l.unit) none nothing
 
 -- ---- the number of objects
+
+no_fewer : (l : Layout) (size few many : ℕ) → IsObjectCount l size few → IsObjectCount l size many → few ≤ many
+no_fewer l zero few many counts also = let none = counts.none refl in omega (arith, none)
+no_fewer l (suc n) few many counts also =
+    let (x, below, is) = counts.greatest (omega arith) in
+    let within = also.each x below in
+    omega (arith, is, within)
+
+-- a size has one number of objects
+pub one_count : (l : Layout) (size one other : ℕ) → IsObjectCount l size one → IsObjectCount l size other → one ≡ other
+one_count l size one other counts also =
+    let less = no_fewer l size one other counts also in
+    let more = no_fewer l size other one also counts in
+    omega (arith, less, more)
 
 pub record Counted (l : Layout) (size : ℕ) : Type 0 where
   pub count : ℕ

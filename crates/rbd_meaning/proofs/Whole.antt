@@ -1,0 +1,173 @@
+-- No answer of a whole change refuses it.
+use Rattle.std.proofs.Common.{◌≡◌, ℕ, List, [], ◌∷◌, ◌++◌, Bool, true, false, cond, Option, Some, None, refl, sym, ap, subst}
+use Rattle.std.specs.Prelude.{nat_le}
+use Rattle.rbd_kinds.specs.declared.answer.Answer.{Answer}
+use Rattle.rbd_kinds.specs.declared.answer.Answer.TheVariants as answer
+use Rattle.rbd_kinds.specs.declared.directory_op.DirectoryOp.{DirectoryOp}
+use Rattle.rbd_kinds.specs.declared.directory_op.DirectoryOp.TheVariants as directory
+use Rattle.rbd_kinds.specs.declared.header.HeaderView.{HeaderView}
+use Rattle.rbd_kinds.specs.declared.header.SnapContext.{SnapContext}
+use Rattle.rbd_kinds.specs.declared.header_op.HeaderOp.{HeaderOp}
+use Rattle.rbd_kinds.specs.declared.header_op.HeaderOp.TheVariants as header
+use Rattle.rbd_kinds.specs.declared.id.Instance.{Instance}
+use Rattle.rbd_kinds.specs.declared.id.SiteId.{SiteId}
+use Rattle.rbd_kinds.specs.declared.layout.Extent.{Extent}
+use Rattle.rbd_kinds.specs.declared.map_op.MapOp.{MapOp}
+use Rattle.rbd_kinds.specs.declared.map_op.MapOp.TheVariants as states
+use Rattle.rbd_kinds.specs.declared.operation.Op.{Op}
+use Rattle.rbd_kinds.specs.declared.operation.Op.TheVariants as op
+use Rattle.rbd_commands.specs.declared.refusal.Refusal.{Refusal}
+use Rattle.rbd_commands.specs.declared.refusal.Refusal.TheVariants as refusal
+use Rattle.rbd_layout.specs.declared.types.Piece.{Piece}
+use Rattle.rbd_header.specs.Header.{context_of}
+use Rattle.rbd_machine.specs.Objects.{data_read}
+use Rattle.rbd_machine.specs.Path.{Answered}
+use Rattle.rbd_machine.specs.Refused.{refusal_by, AreAllowed, IsRefusedBy}
+use Rattle.rbd_zero.specs.Full.{cut_bytes, replaced_by}
+use Rattle.rbd_zero.specs.Shrink.{pieces_from}
+use Rattle.rbd_zero.specs.Size.{pieces_zeroed, IsResizedBy}
+use Rattle.rbd_zero.specs.Zero.{all_zeroed, is_inside, is_whole, some_zeroed, zeroed, zeroed_by}
+use Rattle.rbd_meaning.specs.Discards.{DiscardsWhole}
+use Rattle.rbd_meaning.specs.Reads.{bytes_shown}
+use Rattle.rbd_meaning.specs.Removals.{is_watched_beside, removal, removal_refusal_by, watchers_refuse, AllowRemoval, AreRemovals, IsRemovedBy, RefusesRemovalOf, RemovesImage}
+use Rattle.rbd_meaning.specs.Resizes.{ResizesWhole, resize_refuses}
+use Rattle.rbd_meaning.specs.Rollbacks.{AreRestored, RollsBack, rollback_refuses}
+use Rattle.rbd_meaning.specs.Writes.{write_refuses}
+
+module _ (refuses : HeaderView → Option Refusal) where
+  last_allowed : (before : List Answered) (last : Answered) → AreAllowed refuses (before ++ last ∷ []) → refusal_by refuses last.op last.answer ≡ None
+  last_allowed [] last allowed = allowed.0
+  last_allowed (s ∷ before) last allowed = last_allowed before last allowed.1
+
+  -- what was refused has an answer that refuses
+  pub allowed_ends : (late : Refusal → Type 0) (steps : List Answered) (x : Refusal) → AreAllowed refuses steps → IsRefusedBy refuses late steps x → ⊥
+  allowed_ends late steps x allowed by =
+      let none = last_allowed by.before by.last (subst (AreAllowed refuses) by.are allowed) in
+      let some = by.refused in
+      cc
+
+  both_allowed : (one two : List Answered) → AreAllowed refuses one → AreAllowed refuses two → AreAllowed refuses (one ++ two)
+  both_allowed [] two first second = second
+  both_allowed (s ∷ one) two first second = (first.0, both_allowed one two first.1 second)
+
+  -- ---- parts of changes
+
+  some_allowed : (site : SiteId) (image : ℕ) (context : SnapContext) (p : Piece) (inside : Bool) → AreAllowed refuses (some_zeroed site image context p inside)
+  some_allowed site image context p false = (refl, tt)
+  some_allowed site image context p true = (refl, (refl, tt))
+
+  all_allowed : (site : SiteId) (image : ℕ) (context : SnapContext) (p : Piece) (inside : Bool) → AreAllowed refuses (all_zeroed site image context p inside)
+  all_allowed site image context p false = (refl, (refl, (refl, tt)))
+  all_allowed site image context p true = (refl, (refl, tt))
+
+  zeroed_allowed : (site : SiteId) (image : ℕ) (context : SnapContext) (p : Piece) (whole inside : Bool) → AreAllowed refuses (zeroed_by site image context p whole inside)
+  zeroed_allowed site image context p false inside = some_allowed site image context p inside
+  zeroed_allowed site image context p true inside = all_allowed site image context p inside
+
+  pieces_allowed : (site : SiteId) (image : ℕ) (h : HeaderView) (pieces : List Piece) → AreAllowed refuses (pieces_zeroed site image h pieces)
+  pieces_allowed site image h [] = tt
+  pieces_allowed site image h (p ∷ pieces) =
+      both_allowed (zeroed site image h p) (pieces_zeroed site image h pieces) (zeroed_allowed site image (context_of h) p (is_whole h p) (is_inside h p.object)) (pieces_allowed site image h pieces)
+
+  resized_allowed : (site : SiteId) (image : ℕ) (h : HeaderView) (to objects : ℕ) (grows : Bool) (steps : List Answered) → IsResizedBy grows site image h to objects steps → AreAllowed refuses steps
+  resized_allowed site image h to objects true steps are = subst (AreAllowed refuses) (sym are) (refl, (refl, tt))
+  resized_allowed site image h to objects false steps shrunk =
+      subst (AreAllowed refuses) (sym shrunk.are)
+      (refl, both_allowed (pieces_zeroed site image h (pieces_from h to shrunk.bits)) _ (pieces_allowed site image h (pieces_from h to shrunk.bits)) (refl, tt))
+
+  replaced_allowed : (site : SiteId) (image : ℕ) (h : HeaderView) (p : Piece) (left : List ℕ) → AreAllowed refuses (replaced_by site image h p left)
+  replaced_allowed site image h p [] = all_allowed site image (context_of h) p (is_inside h p.object)
+  replaced_allowed site image h p (byte ∷ left) = (refl, (refl, tt))
+
+  read_allowed : (image : ℕ) (snap : Option ℕ) (p : Piece) (a : Answer) (bytes : List ℕ) → bytes_shown p.parts a ≡ Some bytes → refusal_by refuses (data_read image snap p) a ≡ None
+  read_allowed image snap p (answer.Bytes shown) bytes is = refl
+  read_allowed image snap p answer.Absent bytes is = refl
+  read_allowed image snap p _ bytes is = cc
+
+  restored_allowed : (site : SiteId) (image : ℕ) (h : HeaderView) (snap : ℕ) (pieces : List Piece) (steps : List Answered) → AreRestored site image h snap pieces steps → AreAllowed refuses steps
+  restored_allowed site image h snap [] steps none = subst (AreAllowed refuses) (sym none) tt
+  restored_allowed site image h snap (p ∷ pieces) steps are =
+      let f = are.is_first in
+      subst (AreAllowed refuses) (sym are.are)
+      (both_allowed are.first are.others
+      (subst (AreAllowed refuses) (sym f.are) (read_allowed image (Some snap) p f.answer f.bytes f.shown, replaced_allowed site image h p (cut_bytes f.bytes)))
+      (restored_allowed site image h snap pieces are.others are.are_others))
+
+-- ---- whole ones
+
+pub discard_allowed : (site : SiteId) (name : List ℕ) (e : Extent) (steps : List Answered) → DiscardsWhole site name e steps → AreAllowed (write_refuses e) steps
+discard_allowed site name e steps whole = subst (AreAllowed (write_refuses e)) (sym whole.are) (refl, (whole.may_wait, (whole.may, pieces_allowed (write_refuses e) site whole.image whole.own _)))
+
+pub resize_allowed : (site : SiteId) (name : List ℕ) (to : ℕ) (steps : List Answered) → ResizesWhole site name to steps → AreAllowed (resize_refuses to) steps
+resize_allowed site name to steps whole =
+    subst (AreAllowed (resize_refuses to)) (sym whole.are)
+    (refl, (whole.may_wait, (whole.may, resized_allowed (resize_refuses to) site whole.image whole.own to whole.objects (nat_le whole.own.size to) whole.resized whole.is_resized)))
+
+pub rollback_allowed : (site : SiteId) (name snap : List ℕ) (steps : List Answered) → RollsBack site name snap steps → AreAllowed (rollback_refuses snap) steps
+rollback_allowed site name snap steps whole =
+    subst (AreAllowed (rollback_refuses snap)) (sym whole.are) (
+      refl,
+      (
+        whole.may_wait,
+        (
+          whole.may,
+          both_allowed (rollback_refuses snap) whole.resized whole.restored
+              (resized_allowed (rollback_refuses snap) site whole.image whole.own whole.listed.size whole.objects (nat_le whole.own.size whole.listed.size) whole.resized whole.is_resized)
+              (restored_allowed (rollback_refuses snap) site whole.image _ whole.listed.id _ whole.restored whole.are_restored),
+        ),
+      ),
+    )
+
+-- ---- the removal of an image
+
+last_removal_allowed : (session : ℕ) (before : List Answered) (last : Answered) → AllowRemoval session (before ++ last ∷ []) → removal_refusal_by session last.op last.answer ≡ None
+last_removal_allowed session [] last allowed = allowed.0
+last_removal_allowed session (s ∷ before) last allowed = last_removal_allowed session before last allowed.1
+
+unwatched : (session : ℕ) (watchers : List Instance) → is_watched_beside session watchers ≡ false → watchers_refuse session watchers ≡ None
+unwatched session watchers none = ap (λ b. cond b (Some refusal.InUse) None) none
+
+header_gone : (session image : ℕ) (o : HeaderOp) (a : Answer) → IsRemovedBy (op.Header image o) a → removal_refusal_by session (op.Header image o) a ≡ None
+header_gone session image header.WatchersGet answer.Done gone = refl
+header_gone session image o answer.Done gone = refl
+header_gone session image o answer.Absent gone = cc
+header_gone session image o _ gone = absurd gone
+
+directory_gone : (session : ℕ) (o : DirectoryOp) (a : Answer) → IsRemovedBy (op.Directory o) a → removal_refusal_by session (op.Directory o) a ≡ None
+directory_gone session o answer.Done gone = refl
+directory_gone session (directory.Remove image) answer.Absent gone = refl
+directory_gone session o answer.Absent gone = cc
+directory_gone session o _ gone = absurd gone
+
+map_gone : (session image : ℕ) (o : MapOp) (a : Answer) → IsRemovedBy (op.Map image o) a → removal_refusal_by session (op.Map image o) a ≡ None
+map_gone session image o answer.Done gone = refl
+map_gone session image (states.Remove (Some snap)) answer.Absent gone = refl
+map_gone session image o answer.Absent gone = cc
+map_gone session image o _ gone = absurd gone
+
+gone_allowed : (session : ℕ) (o : Op) (a : Answer) → IsRemovedBy o a → removal_refusal_by session o a ≡ None
+gone_allowed session (op.Header image o) a gone = header_gone session image o a gone
+gone_allowed session (op.Directory o) a gone = directory_gone session o a gone
+gone_allowed session (op.Map image o) a gone = map_gone session image o a gone
+gone_allowed session o answer.Done gone = refl
+gone_allowed session o answer.Absent gone = refl
+gone_allowed session o _ gone = absurd gone
+
+removals_allowed : (session : ℕ) (site : SiteId) (ops : List Op) (steps : List Answered) → AreRemovals site ops steps → AllowRemoval session steps
+removals_allowed session site [] [] are = tt
+removals_allowed session site [] (s ∷ steps) are = absurd are
+removals_allowed session site (o ∷ ops) [] are = absurd are
+removals_allowed session site (o ∷ ops) (s ∷ steps) (at, is, gone, are) =
+    (subst (λ p. removal_refusal_by session p s.answer ≡ None) (sym is) (gone_allowed session o s.answer gone), removals_allowed session site ops steps are)
+
+removal_allowed : (site : SiteId) (session : ℕ) (name : List ℕ) (steps : List Answered) → RemovesImage site session name steps → AllowRemoval session steps
+removal_allowed site session name steps whole =
+    subst (AllowRemoval session) (sym whole.are)
+    (refl, (whole.may_wait, (unwatched session whole.watchers whole.unused, (whole.may, (unwatched session whole.others whole.unused_still, (refl, removals_allowed session site (removal whole.image whole.own whole.bits) whole.removed whole.are_removed))))))
+
+-- a removal that was refused isn't a whole one
+pub removal_ends : (site : SiteId) (session : ℕ) (name : List ℕ) (steps : List Answered) (x : Refusal) → RemovesImage site session name steps → RefusesRemovalOf site session name steps x → ⊥
+removal_ends site session name steps x whole refused =
+    let none = last_removal_allowed session refused.before refused.last (subst (AllowRemoval session) refused.are (removal_allowed site session name steps whole)) in
+    let some = refused.refused in
+    cc
