@@ -1,5 +1,5 @@
 -- What a request knows goes with its place, whatever it is answered and waits for.
-use Rattle.std.proofs.Common.{◌≡◌, ℕ, ◌&&◌, cond, Bool, true, false, List, Option, Some, None, option_map, refl, sym, ap, ◌∙◌, subst}
+use Rattle.std.proofs.Common.{◌≡◌, ℕ, ◌&&◌, cond, Bool, true, false, List, [], Option, Some, None, option_map, refl, sym, ap, ◌∙◌, subst}
 use Rattle.std.specs.Prelude.{IsSome, is_some}
 use Rattle.std.proofs.lemmas.Bool.{true≢false, and_parts}
 use Rattle.rbd_course.specs.Course.{Course, Place, answered, waited, noted, looked, past, is_newcomer_at, is_own_at, is_waiting, has_just_joined, held_stage}
@@ -9,6 +9,8 @@ use Rattle.rbd_course.specs.declared.stage.Stage.{Stage}
 use Rattle.rbd_course.specs.declared.stage.Stage.TheVariants as stage
 use Rattle.rbd_kinds.specs.declared.answer.Answer.{Answer}
 use Rattle.rbd_kinds.specs.declared.answer.Answer.TheVariants as answer
+use Rattle.rbd_kinds.specs.declared.data_op.DataOp.{DataOp}
+use Rattle.rbd_kinds.specs.declared.data_op.DataOp.TheVariants as object
 use Rattle.rbd_kinds.specs.declared.directory_op.DirectoryOp.{DirectoryOp}
 use Rattle.rbd_kinds.specs.declared.directory_op.DirectoryOp.TheVariants as directory
 use Rattle.rbd_kinds.specs.declared.header.HeaderView.{HeaderView}
@@ -21,11 +23,13 @@ use Rattle.rbd_kinds.specs.declared.map_op.MapOp.{MapOp}
 use Rattle.rbd_kinds.specs.declared.map_op.MapOp.TheVariants as states
 use Rattle.rbd_kinds.specs.declared.operation.Op.{Op}
 use Rattle.rbd_kinds.specs.declared.operation.Op.TheVariants as op
-use Rattle.rbd_header.specs.Header.{with_snap, without_snap}
+use Rattle.rbd_header.specs.Header.{with_size, with_snap, without_snap}
 use Rattle.rbd_line.specs.Line.{is_past}
-use Rattle.rbd_machine.specs.Knowledge.{ImageMaps, Knowledge, Own, learned_of_map, own_of, is_at, told_of, with_header, header_told, first_told, learned, learned_of_directory, learned_of_header, learned_of_listing, passed, held, left}
+use Rattle.rbd_machine.specs.Knowledge.{ImageMaps, ImageObjects, Knowledge, Own, learned_of_map, learned_of_object, looked_by, looked_owning, own_of, is_at, told_of, with_header, header_told, first_told, learned, learned_of_directory, learned_of_header, learned_of_listing, passed, held, left}
 use Rattle.rbd_machine.specs.Wait.{Wait}
 use Rattle.rbd_machine.specs.Wait as wait
+use Rattle.rbd_rely.specs.Truth.{header_of_own}
+use Rattle.rbd_rely.proofs.Told.{header_changed, told_knew}
 use Rattle.rbd_session.proofs.Sound.{no_some, some_same}
 use Rattle.rbd_known.specs.Tied.{IsTied, OwnsAt, OwnsIn}
 use Rattle.rbd_known.proofs.Owned.{meets, at_through, own_there, own_told, from_told, left_before}
@@ -52,6 +56,12 @@ held_behind : (s : Stage) → has_just_joined s ≡ true → is_past (held_stage
 held_behind stage.Joined joined past = true≢false (sym past)
 held_behind stage.Waiting joined past = true≢false (sym joined)
 held_behind stage.Past joined past = true≢false (sym joined)
+
+-- who waits isn't past
+not_both : (s : Stage) → is_waiting s ≡ true → is_past s ≡ true → ⊥
+not_both stage.Joined waits past = true≢false (sym waits)
+not_both stage.Waiting waits past = true≢false (sym past)
+not_both stage.Past waits past = true≢false (sym waits)
 
 -- ---- what it is told of the image that it owns
 
@@ -132,6 +142,14 @@ past_alone : (k : Knowledge) (place : Option Place) (p : Place) → ((q : Place)
 past_alone k None p alone is = absurd (no_some p is)
 past_alone k (Some q) p alone is = alone q refl ∙ ap (λ (x : Place). x.alone) (some_same (record q { stage = stage.Past }) p is)
 
+-- a header that it knows once it left an image it knew before
+left_knew : (k : Knowledge) (s : SiteId) (i : ℕ) (site : SiteId) (image : ℕ) → IsSome (header_of_own (own_of (left s i k.owns) site image)) → IsSome (header_of_own (own_of k.owns site image))
+left_knew k s i site image some = by (own_of (left s i k.owns) site image) refl some
+  where
+    by : (o : Option Own) → own_of (left s i k.owns) site image ≡ o → IsSome (header_of_own o) → IsSome (header_of_own (own_of k.owns site image))
+    by None is some = absurd (true≢false (sym some))
+    by (Some o) is some = ap (λ q. is_some (header_of_own q)) (left_before s site i image k.owns o is).0 ∙ some
+
 module _ (e : Option Extent) (k : Knowledge) (c : Course) (t : IsTied k c) where
   -- it owns the images that it owned before, each as it was told of it
   told_owns : (s : SiteId) (i : ℕ) (change : Option HeaderView → Option HeaderView) (place : Option Place)
@@ -140,58 +158,132 @@ module _ (e : Option Extent) (k : Knowledge) (c : Course) (t : IsTied k c) where
   told_owns s i change place each site image o is =
       from_told (told_of s i change) (own_of k.owns site image) o (λ told. OwnsIn site image told place) (sym (own_told s site i image change k.owns) ∙ is) (each site image)
 
+  -- a header that it knows once an edit was told it knew before
+  edit_knew : (s : SiteId) (i : ℕ) (edit : HeaderView → HeaderView) (o : Option Own) → IsSome (header_changed (option_map edit) o) → IsSome (header_of_own o)
+  edit_knew s i edit None some = some
+  edit_knew s i edit (Some o) some = of_edit edit o.header some
+
   edited_tied : (s : SiteId) (i : ℕ) (edit : HeaderView → HeaderView) → IsTied (header_told s i (option_map edit) k) c
   edited_tied s i edit = record {
     owns = told_owns s i (option_map edit) c.place (λ site image o is. edited_in site image o s i (option_map edit) (of_edit edit) (by_edit edit) c.place (t.owns site image o is));
     alone = t.alone;
+    turn = λ site image some. t.turn site image (told_knew s site i image (option_map edit) k.owns (edit_knew s i edit (own_of k.owns s i)) some);
   }
 
-  looked_tied : (s : SiteId) (i : ℕ) (h : HeaderView) → is_own_at s i c.place ≡ true → IsTied (header_told s i (first_told h) k) (looked e h c)
-  looked_tied s i h own = record {
+  -- it knows no header before its own look
+  nothing_known_yet : (s : SiteId) (i : ℕ) → is_own_at s i c.place ≡ true → (site : SiteId) (image : ℕ) (o : Option Own) → own_of k.owns site image ≡ o → IsSome (header_of_own o) → ⊥
+  nothing_known_yet s i own site image None is some = true≢false (sym some)
+  nothing_known_yet s i own site image (Some o) is some = by c.place own (t.owns site image o is)
+    where
+      by : (place : Option Place) → is_own_at s i place ≡ true → OwnsIn site image o place → ⊥
+      by None own owns = owns
+      by (Some p) own owns = not_both p.stage (and_parts (is_at s i p.site p.image) (is_waiting p.stage) own).1 (owns.past some)
+
+  -- another look tells nothing new of an image that it owns
+  known_yet : (s : SiteId) (i : ℕ) → is_own_at s i c.place ≡ false → (o : Own) → own_of k.owns s i ≡ Some o → o.header ≡ None → ⊥
+  known_yet s i other o is none = by c.place other (t.owns s i o is)
+    where
+      by : (place : Option Place) → is_own_at s i place ≡ false → OwnsIn s i o place → ⊥
+      by None other owns = owns
+      by (Some p) other owns =
+          let past = past_else p.stage owns.waits (sym (ap (λ b. b && is_waiting p.stage) owns.there) ∙ other) in
+          true≢false (sym (owns.told past) ∙ ap is_some none)
+
+  -- behind its own look, where it has no turn yet
+  looked_tied : (s : SiteId) (i : ℕ) (h : HeaderView) (turn : Option ℕ) (maps : List ImageMaps) (objects : List ImageObjects) → is_own_at s i c.place ≡ true
+      → (IsSome (header_changed (first_told h) (own_of k.owns s i)) → turn ≡ c.turn)
+      → IsTied (header_told s i (first_told h) (record k { turn = turn; maps = maps; objects = objects })) (looked e h c)
+  looked_tied s i h turn maps objects own quiet = record {
     owns = told_owns s i (first_told h) (past c.place)
         (λ site image o is. looked_in site image o s i h c.place own (own_there k.owns site image o is) (t.owns site image o is));
     alone = λ p is. past_alone k c.place p t.alone is;
+    turn = λ site image some. by (header_changed (first_told h) (own_of k.owns s i)) refl site image some;
   }
+    where
+      by : (told : Option HeaderView) → header_changed (first_told h) (own_of k.owns s i) ≡ told → (site : SiteId) (image : ℕ)
+          → IsSome (header_of_own (own_of (header_told s i (first_told h) k).owns site image)) → turn ≡ c.turn
+      by (Some v) is site image some = quiet (ap is_some is)
+      by None is site image some =
+          absurd (nothing_known_yet s i own site image (own_of k.owns site image) refl (told_knew s site i image (first_told h) k.owns (λ changed. absurd (true≢false (sym changed ∙ ap is_some is))) some))
 
   seen_tied : (s : SiteId) (i : ℕ) (h : HeaderView) → is_own_at s i c.place ≡ false → IsTied (header_told s i (first_told h) k) c
   seen_tied s i h other = record {
     owns = told_owns s i (first_told h) c.place
         (λ site image o is. seen_in site image o s i h c.place other (own_there k.owns site image o is) (t.owns site image o is));
     alone = t.alone;
+    turn = λ site image some. t.turn site image (told_knew s site i image (first_told h) k.owns (knew (own_of k.owns s i) refl) some);
   }
+    where
+      knew : (o : Option Own) → own_of k.owns s i ≡ o → IsSome (header_changed (first_told h) o) → IsSome (header_of_own o)
+      knew None is some = some
+      knew (Some o) is some = by o.header refl
+        where
+          by : (header : Option HeaderView) → o.header ≡ header → IsSome header
+          by (Some v) there = refl
+          by None there = absurd (known_yet s i other o is there)
 
-  got_tied : (s : SiteId) (i : ℕ) (h : HeaderView) (b : Bool) → is_own_at s i c.place ≡ b → IsTied (header_told s i (first_told h) k) (cond b (looked e h c) c)
-  got_tied s i h true own = looked_tied s i h own
-  got_tied s i h false other = seen_tied s i h other
+  got_tied : (s : SiteId) (i : ℕ) (h : HeaderView) (b : Bool) → is_own_at s i c.place ≡ b → (is_own_at s i c.place ≡ true → c.turn ≡ None)
+      → (o : Option Own) → own_of k.owns s i ≡ o → IsTied (header_told s i (first_told h) (looked_owning o s i k)) (cond b (looked e h c) c)
+  got_tied s i h true own quiet None is = looked_tied s i h k.turn k.maps k.objects own (λ some. absurd (true≢false (sym some ∙ ap (λ o. is_some (header_changed (first_told h) o)) is)))
+  got_tied s i h true own quiet (Some o) is = by o.header refl
+    where
+      by : (header : Option HeaderView) → o.header ≡ header → IsTied (header_told s i (first_told h) (looked_by header s i k)) (looked e h c)
+      by None there = looked_tied s i h None _ [] own (λ some. sym (quiet own))
+      by (Some v) there = absurd (nothing_known_yet s i own s i (Some o) is (ap is_some there))
+  got_tied s i h false other quiet None is = seen_tied s i h other
+  got_tied s i h false other quiet (Some o) is = by o.header refl
+    where
+      by : (header : Option HeaderView) → o.header ≡ header → IsTied (header_told s i (first_told h) (looked_by header s i k)) c
+      by None there = absurd (known_yet s i other o is there)
+      by (Some v) there = seen_tied s i h other
 
-  header_tied : (s : SiteId) (i : ℕ) (o : HeaderOp) (a : Answer) → IsTied (learned_of_header k s i o a) (answered e c s (op.Header i o) a)
-  header_tied s i header.Get (answer.Header h) =
-      let told = got_tied s i h (is_own_at s i c.place) refl in
-      record { owns = told.owns; alone = told.alone }
-  header_tied s i (header.Create view) answer.Done = record { owns = t.owns; alone = t.alone }
-  header_tied s i (header.SnapAdd name) (answer.Snap snap) = edited_tied s i (with_snap name)
-  header_tied s i (header.SnapRemove snap) answer.Done = edited_tied s i (without_snap snap)
-  header_tied s i header.Get _ = t
-  header_tied s i (header.Create view) _ = t
-  header_tied s i (header.SnapAdd name) _ = t
-  header_tied s i (header.SnapRemove snap) _ = t
-  header_tied s i (header.LockBreak owner) answer.Done = record { owns = t.owns; alone = t.alone }
-  header_tied s i (header.LockBreak owner) answer.Changed = record { owns = t.owns; alone = t.alone }
-  header_tied s i (header.LockBreak owner) _ = t
-  header_tied s i _ a = t
+  header_tied : (s : SiteId) (i : ℕ) (o : HeaderOp) (a : Answer) → (is_own_at s i c.place ≡ true → c.turn ≡ None) → IsTied (learned_of_header k s i o a) (answered e c s (op.Header i o) a)
+  header_tied s i header.Get (answer.Header h) quiet = got_tied s i h (is_own_at s i c.place) refl quiet (own_of k.owns s i) refl
+  header_tied s i (header.Create view) answer.Done quiet = record { owns = t.owns; alone = t.alone; turn = t.turn }
+  header_tied s i (header.SetSize to) answer.Done quiet = edited_tied s i (with_size to)
+  header_tied s i header.Remove answer.Done quiet = record {
+    owns = λ site image o is. t.owns site image o (left_before s site i image k.owns o is).0;
+    alone = t.alone;
+    turn = λ site image some. t.turn site image (left_knew k s i site image some);
+  }
+  header_tied s i (header.SnapAdd name) (answer.Snap snap) quiet = edited_tied s i (with_snap name)
+  header_tied s i (header.SnapRemove snap) answer.Done quiet = edited_tied s i (without_snap snap)
+  header_tied s i header.Get _ quiet = t
+  header_tied s i (header.Create view) _ quiet = t
+  header_tied s i (header.SetSize to) _ quiet = t
+  header_tied s i header.Remove _ quiet = t
+  header_tied s i (header.SnapAdd name) _ quiet = t
+  header_tied s i (header.SnapRemove snap) _ quiet = t
+  header_tied s i (header.LockBreak owner) answer.Done quiet = record { owns = t.owns; alone = t.alone; turn = t.turn }
+  header_tied s i (header.LockBreak owner) answer.Changed quiet = record { owns = t.owns; alone = t.alone; turn = t.turn }
+  header_tied s i (header.LockBreak owner) _ quiet = t
+  header_tied s i _ a quiet = t
 
   directory_tied : (s : SiteId) (o : DirectoryOp) (a : Answer) → IsTied (learned_of_directory k s o a) c
-  directory_tied s (directory.Add name) (answer.Id image) = record { owns = t.owns; alone = t.alone }
+  directory_tied s (directory.Add name) (answer.Id image) = record { owns = t.owns; alone = t.alone; turn = t.turn }
   directory_tied s (directory.Add name) _ = t
   directory_tied s _ a = t
 
   listing_tied : (s : SiteId) (i : Instance) (a : Answer) → IsTied (learned_of_listing k s i a) c
-  listing_tied s i answer.Done = record { owns = t.owns; alone = t.alone }
+  listing_tied s i answer.Done = record { owns = t.owns; alone = t.alone; turn = t.turn }
   listing_tied s i _ = t
 
   -- whatever it knows of maps
   maps_tied : (maps : List ImageMaps) → IsTied (record k { maps = maps }) c
-  maps_tied maps = record { owns = t.owns; alone = t.alone }
+  maps_tied maps = record { owns = t.owns; alone = t.alone; turn = t.turn }
+
+  -- whatever it knows of objects
+  objects_tied : (objects : List ImageObjects) → IsTied (record k { objects = objects }) c
+  objects_tied objects = record { owns = t.owns; alone = t.alone; turn = t.turn }
+
+  object_tied : (s : SiteId) (i n : ℕ) (o : DataOp) (a : Answer) → IsTied (learned_of_object k s i n o a) c
+  object_tied s i n (object.Write context must parts bytes) answer.Done = objects_tied _
+  object_tied s i n (object.WriteFull context bytes) answer.Done = objects_tied _
+  object_tied s i n (object.CopyUp bytes) answer.Done = objects_tied _
+  object_tied s i n (object.Zero context must parts) answer.Done = objects_tied _
+  object_tied s i n (object.Empty context) answer.Done = objects_tied _
+  object_tied s i n (object.Remove context) answer.Done = objects_tied _
+  object_tied s i n _ _ = t
 
   map_tied : (s : SiteId) (i : ℕ) (o : MapOp) (a : Answer) → IsTied (learned_of_map k s i o a) c
   map_tied s i (states.Resize count) answer.Done = maps_tied _
@@ -201,12 +293,14 @@ module _ (e : Option Extent) (k : Knowledge) (c : Course) (t : IsTied k c) where
   map_tied s i (states.Remove view) answer.Done = maps_tied _
   map_tied s i _ _ = t
 
-  pub answered_tied : (s : SiteId) (o : Op) (a : Answer) → IsTied (learned k s o a) (answered e c s o a)
-  answered_tied s (op.Directory o) a = directory_tied s o a
-  answered_tied s (op.Header i o) a = header_tied s i o a
-  answered_tied s (op.BlockAdd i) a = listing_tied s i a
-  answered_tied s (op.Map i o) a = map_tied s i o a
-  answered_tied s _ a = t
+  -- no turn is had before the own look
+  pub answered_tied : (s : SiteId) (o : Op) (a : Answer) → ((i : ℕ) → is_own_at s i c.place ≡ true → c.turn ≡ None) → IsTied (learned k s o a) (answered e c s o a)
+  answered_tied s (op.Directory o) a quiet = directory_tied s o a
+  answered_tied s (op.Header i o) a quiet = header_tied s i o a (quiet i)
+  answered_tied s (op.Data i n o) a quiet = object_tied s i n o a
+  answered_tied s (op.BlockAdd i) a quiet = listing_tied s i a
+  answered_tied s (op.Map i o) a quiet = map_tied s i o a
+  answered_tied s _ a quiet = t
 
 -- ---- waits
 
@@ -257,21 +351,39 @@ module _ (k : Knowledge) (c : Course) (t : IsTied k c) (site : SiteId) (image : 
       let before = left_before site s image i k.owns o is in
       none_else s i o c.place in_line (t.owns s i o before.0) before.1
 
+  -- a header that it knows once it holds the lock it knew before
+  held_knew : (s : SiteId) (i : ℕ) → IsSome (header_of_own (own_of (held k site image) s i)) → IsSome (header_of_own (own_of k.owns s i))
+  held_knew s i some = by (is_at s i site image) some
+    where
+      by : (b : Bool) → IsSome (header_of_own (cond b (Some waiting) (own_of (left site image k.owns) s i))) → IsSome (header_of_own (own_of k.owns s i))
+      by true some = absurd (true≢false (sym some))
+      by false some = left_knew k site image s i some
+
+  pub left_knows_none : IsInLine site image c.place → (s : SiteId) (i : ℕ) → IsSome (header_of_own (own_of (left site image k.owns) s i)) → ⊥
+  left_knows_none in_line s i some = by (own_of (left site image k.owns) s i) refl some
+    where
+      by : (o : Option Own) → own_of (left site image k.owns) s i ≡ o → IsSome (header_of_own o) → ⊥
+      by None is some = true≢false (sym some)
+      by (Some o) is some = left_owns in_line s i o is
+
 pub waited_tied : (fresh : Bool) (k : Knowledge) (c : Course) (w : Wait) → MayWait fresh c w → IsTied k c → IsTied (passed k w) (waited c w)
 waited_tied fresh k c (wait.Join site image alone) may t = record {
   owns = λ s i o is. absurd (subst (OwnsIn s i o) may.1 (t.owns s i o is));
   alone = λ p is. ap (λ (x : Place). x.alone) (some_same (record { site = site; image = image; alone = alone; stage = stage.Joined }) p is);
+  turn = t.turn;
 }
 waited_tied fresh k c (wait.Hold site image) may t = record {
   owns = held_owns k c t site image may.0 may.1;
   alone = λ p is. held_alone k c t site image c.place p refl is;
+  turn = λ s i some. t.turn s i (held_knew k c t site image s i some);
 }
-waited_tied fresh k c (wait.Turn object) may t = record { owns = t.owns; alone = t.alone }
-waited_tied fresh k c (wait.Applied site image) may t = record { owns = t.owns; alone = t.alone }
+waited_tied fresh k c (wait.Turn object) may t = record { owns = t.owns; alone = t.alone; turn = λ s i some. refl }
+waited_tied fresh k c (wait.Applied site image) may t = record { owns = t.owns; alone = t.alone; turn = λ s i some. refl }
 waited_tied fresh k c (wait.Leave site image) may t = record {
   owns = λ s i o is. absurd (left_owns k c t site image may s i o is);
   alone = λ p is. absurd (no_some p is);
+  turn = λ s i some. absurd (left_knows_none k c t site image may s i some);
 }
 
 pub noted_tied : (k : Knowledge) (c : Course) → IsTied k c → IsTied k (noted c)
-noted_tied k c t = record { owns = t.owns; alone = t.alone }
+noted_tied k c t = record { owns = t.owns; alone = t.alone; turn = t.turn }

@@ -1,10 +1,14 @@
 pub mod Along
 pub mod Behind
 pub mod Calmly
+pub mod Firsts
+pub mod InTurn
 pub mod Little
 pub mod Looking
 pub mod Newcomers
 pub mod Onward
 pub mod Owned
+pub mod There
+pub mod Turning
 pub mod Unowned
 pub mod Wanting

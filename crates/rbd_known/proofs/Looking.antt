@@ -1,37 +1,51 @@
--- Who may go on may look, whatever another one knows.
-use Rattle.std.proofs.Common.{◌≡◌, ◌≢◌, inl, inr, ℕ, ◌&&◌, not, Bool, true, false, List, Option, Some, None, refl, sym, ap, ◌∙◌, subst}
+-- Who may go on may act, whatever another one knows.
+use Rattle.std.proofs.Common.{◌≡◌, ◌≢◌, inl, inr, ℕ, ◌&&◌, not, Bool, true, false, List, Option, Some, None, is_some, refl, sym, ap, ◌∙◌, subst}
 use Rattle.std.specs.Prelude.{IsSome}
+use Rattle.std.specs.List.{filter}
 use Rattle.std.specs.Option.{option_map}
 use Rattle.std.proofs.lemmas.Bool.{true≢false, or_parts}
 use Rattle.rbd_course.specs.Course.{is_waiting, has_just_joined}
 use Rattle.rbd_course.specs.declared.stage.Stage.{Stage}
 use Rattle.rbd_course.specs.declared.stage.Stage.TheVariants as stage
+use Rattle.rbd_kinds.specs.declared.answer.Answer.{Answer}
+use Rattle.rbd_kinds.specs.declared.data_op.DataOp.{DataOp}
+use Rattle.rbd_kinds.specs.declared.data_op.DataOp.TheVariants as object
+use Rattle.rbd_kinds.specs.declared.header.HeaderView.{HeaderView}
 use Rattle.rbd_kinds.specs.declared.header_op.HeaderOp.TheVariants as header
 use Rattle.rbd_kinds.specs.declared.id.Instance.{Instance}
 use Rattle.rbd_kinds.specs.declared.id.SiteId.{SiteId}
+use Rattle.rbd_kinds.specs.declared.map_op.MapOp.TheVariants as states
 use Rattle.rbd_kinds.specs.declared.operation.Op.{Op}
 use Rattle.rbd_kinds.specs.declared.operation.Op.TheVariants as op
-use Rattle.rbd_line.specs.Line.{Member, member_of, is_past, may_pass, changed, passed, IsFairLine}
+use Rattle.rbd_line.specs.Line.{Member, changed, has_turn, holds, is_past, may_pass, member_of, passed, slots, IsFairLine}
 use Rattle.rbd_line.proofs.Fair.{passed_fair}
 use Rattle.rbd_line.proofs.Passing.{alone_past, found_at, own_changed, others_changed, passed_is_steady}
 use Rattle.rbd_machine.specs.Knowledge.{Knowledge, Own, own_of}
-use Rattle.rbd_machine.specs.Plan.{Standing}
-use Rattle.rbd_rely.specs.Beside.{MayAct, SharesLock}
-use Rattle.rbd_rely.specs.Truth.{header_of_own, is_own_alone}
-use Rattle.rbd_rely.proofs.Less.{place_of}
+use Rattle.rbd_machine.specs.Lawful.{IsLawful}
+use Rattle.rbd_machine.specs.Permits.{HasTurn, OwnsBy, Permits, PermitsOnObject}
+use Rattle.rbd_machine.specs.Plan.{Ask, Plan, Standing}
+use Rattle.rbd_machine.specs.declared.reason.Reason.{Reason}
+use Rattle.rbd_rely.specs.Beside.{LeavesObject, MayAct, SharesLock}
+use Rattle.rbd_rely.specs.Truth.{header_of_own, is_alone_on, is_own_alone, known_header}
 use Rattle.rbd_session.specs.declared.running.Running.{Running}
 use Rattle.rbd_session.specs.Advance.{track_of}
-use Rattle.rbd_session.specs.OnTrack.{IsSomewhere}
+use Rattle.rbd_session.specs.Lines.{lines_of}
 use Rattle.rbd_session.specs.Session.{SessionView, IsSoundSession, running_at}
 use Rattle.rbd_session.specs.Track.{Track, Lines, line_in, course_of}
 use Rattle.rbd_session.specs.Waits.{waits, awaits_line, awaits_turn, is_at_own}
 use Rattle.rbd_session.proofs.Members.{at_own_slot}
 use Rattle.rbd_session.proofs.Sound.{no_some}
-use Rattle.rbd_session.proofs.Way.{nowhere_course, place_there}
 use Rattle.rbd_site.specs.Records.{Records}
-use Rattle.rbd_known.specs.Knowing.{KnowsIn, AllKnow}
-use Rattle.rbd_known.specs.Tied.{OwnsIn}
+use Rattle.rbd_known.specs.Knowing.{AllKnow, KnowsBy, KnowsIn}
 use Rattle.rbd_known.proofs.Behind.{knows_there}
+use Rattle.rbd_known.proofs.Firsts.{one_first}
+use Rattle.rbd_known.proofs.There.{IsMemberFor, may_of, owner_there}
+use Rattle.rbd_known.proofs.Turning.{turn_of_goes}
+
+-- it changes the object, or may
+abbrev changes_object : DataOp → Bool
+changes_object (object.Read snap parts) = false
+changes_object o = true
 
 -- ---- in one line
 
@@ -64,44 +78,7 @@ may_shared line slot other m n fair differ here there may behind =
     (others_changed line slot other passed passed_is_steady (λ same. differ (sym same)) ∙ there)
     refl behind
 
--- ---- where they are
-
--- who owns an image is a member of its line
-pub record IsMemberFor (slot : ℕ) (site : SiteId) (image : ℕ) (o : Own) (t : Track) : Type 0 where
-  pub member : Member
-  pub found : member_of slot (t.lines site image) ≡ Some member
-  pub line : line_in t.place t.lines ≡ t.lines site image
-  pub place : (course_of slot t).place ≡ Some (record { site = site; image = image; alone = member.alone; stage = member.stage })
-  pub alone : o.alone ≡ member.alone
-  pub waits : has_just_joined member.stage ≡ false
-  pub past : IsSome o.header → is_past member.stage ≡ true
-  pub told : is_past member.stage ≡ true → IsSome o.header
-
-owner_there : (slot : ℕ) (site : SiteId) (image : ℕ) (o : Own) (t : Track) → IsSomewhere slot t → OwnsIn site image o (course_of slot t).place → IsMemberFor slot site image o t
-owner_there slot site image o t (inl nowhere) owns = absurd (subst (OwnsIn site image o) (nowhere_course slot t nowhere) owns)
-owner_there slot site image o t (inr (p, m, there)) owns =
-    let at = subst (OwnsIn site image o) (place_there slot p m t there) owns in
-    let same = place_of site p.site image p.image at.there in
-    record {
-      member = m;
-      found = ap (λ s. member_of slot (t.lines s image)) same.0 ∙ ap (λ i. member_of slot (t.lines p.site i)) same.1 ∙ there.member;
-      line = ap (λ q. line_in q t.lines) there.place ∙ ap (λ i. t.lines p.site i) (sym same.1) ∙ ap (λ s. t.lines s image) (sym same.0);
-      place =
-          place_there slot p m t there
-          ∙ ap (λ i. Some (record { site = p.site; image = i; alone = m.alone; stage = m.stage })) (sym same.1)
-          ∙ ap (λ s. Some (record { site = s; image = image; alone = m.alone; stage = m.stage })) (sym same.0);
-      alone = at.alone;
-      waits = at.waits;
-      past = at.past;
-      told = at.told;
-    }
-
 -- ---- who doesn't wait
-
-pub may_of : (own may : Bool) → own ≡ true → (own && not may) ≡ false → may ≡ true
-may_of true true is waits = refl
-may_of true false is waits = absurd (true≢false waits)
-may_of false may is waits = absurd (true≢false (sym is))
 
 module _ (slot other : ℕ) (site : SiteId) (image : ℕ) (o p : Own) (t u : Track) (differ : slot ≢ other) (same : u.lines ≡ t.lines) (fair : IsFairLine (t.lines site image))
     (goes : waits slot t ≡ false) (one : IsMemberFor slot site image o t) (two : IsMemberFor other site image p u) where
@@ -156,8 +133,70 @@ module _ {R : Type 0} (stands : R → Standing) (s : SessionView R) (knows : ℕ
         let shared = header_shared (own_of (knows slot).owns site image) (own_of (knows other).owns site image) refl refl some told in
         record { one = shared.0; other = shared.1 }
 
-  pub may_look : (slot other : ℕ) (r : Running R) (site : SiteId) (o : Op) → slot ≢ other → running_at slot s ≡ Some r → waits slot (track_of r s.lines) ≡ false
-      → (records : Records) (me you : Instance) → MayAct site records me you (knows slot) (knows other) o
-  may_look slot other r site (op.Header image header.Get) differ runs goes records me you = lock_shared slot other differ r runs goes site image records me you
-  may_look slot other r site (op.Header image header.LockDrop) differ runs goes records me you = λ lock. lock_shared slot other differ r runs goes site image records me you
-  may_look slot other r site _ differ runs goes records me you = tt
+  -- ---- changes of an object
+
+  module _ (slot other : ℕ) (differ : slot ≢ other) (r : Running R) (runs : running_at slot s ≡ Some r) (goes : waits slot (track_of r s.lines) ≡ false) (site : SiteId) (image number : ℕ) where
+    -- who changes it has its turn there, and the other one would have it
+    others_know_nothing : (IsSome (known_header (knows slot) site image) → is_alone_on (knows slot) site image ≡ false → (knows slot).turn ≡ Some number)
+        → (records : Records) (me you : Instance) → LeavesObject site image number records me you (knows slot) (knows other)
+    others_know_nothing at_turn records me you free mine others known = by (own_of (knows slot).owns site image) refl (own_of (knows other).owns site image) refl mine others
+      where
+        by : (one : Option Own) → own_of (knows slot).owns site image ≡ one → (two : Option Own) → own_of (knows other).owns site image ≡ two → IsSome (header_of_own one) → IsSome (header_of_own two) → ⊥
+        by None is two that mine others = true≢false (sym mine)
+        by (Some o) is None that mine others = true≢false (sym others)
+        by (Some o) is (Some p) that told_one told_two =
+            let (q, others_run) = runs_who_owns other site image p that in
+            let shared = owners_shared slot other differ r runs goes site image o p is that told_two in
+            let one = owner_runs slot r runs site image o is in
+            let turn = at_turn (ap (λ x. is_some (header_of_own x)) is ∙ told_one) (ap is_own_alone is ∙ shared.0) in
+            let mine_knows = knows_there stands s knows slot r runs all in
+            let its = turn_of_goes slot (track_of r s.lines) goes number (sym (mine_knows.tied.turn site image (ap (λ x. is_some (header_of_own x)) is ∙ told_one)) ∙ turn) in
+            let theirs = (knows_there stands s knows other q others_run all).has_turn site image number (ap (λ x. is_some (header_of_own x)) that ∙ told_two) (ap is_own_alone that ∙ shared.1) known in
+            differ (one_first (slots (filter (holds number) (lines_of s.lines site image))) slot other (subst (λ ms. has_turn slot number ms ≡ true) one.line its) theirs)
+
+  module _ (slot : ℕ) (site : SiteId) (image number : ℕ) where
+    -- who owns an image that it isn't alone on has its turn, where it wants one
+    turn_by : (condition : (alone : Bool) → HeaderView → Type 0) → ((alone : Bool) (h : HeaderView) → condition alone h → HasTurn alone (knows slot).turn number) → OwnsBy (knows slot) site image condition
+        → is_alone_on (knows slot) site image ≡ false → (knows slot).turn ≡ Some number
+    turn_by condition wants owns shared = subst (λ alone. HasTurn alone (knows slot).turn number) (sym (ap is_own_alone owns.is) ∙ shared) (wants owns.alone owns.header owns.meets)
+
+    turn_at : (o : DataOp) → PermitsOnObject (knows slot) site image number o → changes_object o ≡ true → IsSome (known_header (knows slot) site image) → is_alone_on (knows slot) site image ≡ false
+        → (knows slot).turn ≡ Some number
+    turn_at (object.Read snap parts) permits changes some shared = absurd (true≢false (sym changes))
+    turn_at (object.Write context must parts bytes) permits changes some shared = turn_by _ (λ alone h may. may.at_turn) permits shared
+    turn_at (object.Zero context must parts) permits changes some shared = turn_by _ (λ alone h may. may.at_turn) permits shared
+    turn_at (object.Empty context) permits changes some shared = turn_by _ (λ alone h may. may.at_turn) permits shared
+    turn_at (object.Remove context) (inl over) changes some shared = absurd (true≢false (sym some ∙ ap (λ o. is_some (header_of_own o)) over.unowned))
+    turn_at (object.Remove context) (inr owns) changes some shared = turn_by _ (λ alone h may. may.at_turn) owns shared
+    turn_at (object.WriteFull context bytes) permits changes some shared = turn_by _ (λ alone h may. may.at_turn) permits shared
+    turn_at (object.CopyUp bytes) permits changes some shared = absurd permits
+
+  pub may_act : (slot other : ℕ) (r : Running R) (site : SiteId) (why : Reason) (o : Op) (next : Answer → Plan) → slot ≢ other → running_at slot s ≡ Some r → waits slot (track_of r s.lines) ≡ false
+      → (stands r.request).plan ≡ Ask site why o next → (records : Records) (me you : Instance) → MayAct site records me you (knows slot) (knows other) o
+  may_act slot other r site why o next differ runs goes asks records me you = by o permits
+    where
+      knows_by : KnowsBy stands slot r s.lines (knows slot)
+      knows_by = knows_there stands s knows slot r runs all
+
+      permits : Permits (knows slot) site o
+      permits = (subst (IsLawful knows_by.known_at (knows slot)) asks knows_by.lawful).0
+
+      changing : (image number : ℕ) (d : DataOp) → PermitsOnObject (knows slot) site image number d → changes_object d ≡ true → LeavesObject site image number records me you (knows slot) (knows other)
+      changing image number d may changes = others_know_nothing slot other differ r runs goes site image number (turn_at slot site image number d may changes) records me you
+
+      by : (o : Op) → Permits (knows slot) site o → MayAct site records me you (knows slot) (knows other) o
+      by (op.Header image header.Get) may = lock_shared slot other differ r runs goes site image records me you
+      by (op.Header image header.LockDrop) may = λ lock. lock_shared slot other differ r runs goes site image records me you
+      by (op.Header image o) may = tt
+      by (op.Data image number (object.Read snap parts)) may = tt
+      by (op.Data image number (object.Write context must parts bytes)) may = changing image number (object.Write context must parts bytes) may refl
+      by (op.Data image number (object.Zero context must parts)) may = changing image number (object.Zero context must parts) may refl
+      by (op.Data image number (object.Empty context)) may = changing image number (object.Empty context) may refl
+      by (op.Data image number (object.Remove context)) may = changing image number (object.Remove context) may refl
+      by (op.Data image number (object.WriteFull context bytes)) may = changing image number (object.WriteFull context bytes) may refl
+      by (op.Data image number (object.CopyUp bytes)) may = changing image number (object.CopyUp bytes) may refl
+      by (op.Map image (states.Set None number state)) may =
+          others_know_nothing slot other differ r runs goes site image number (λ some shared. turn_by slot site image number _ (λ alone h may_set. may_set.at_turn) may shared) records me you
+      by (op.Map image (states.Set (Some snap) number state)) may = tt
+      by (op.Map image o) may = tt
+      by _ may = tt

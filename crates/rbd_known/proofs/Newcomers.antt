@@ -1,10 +1,12 @@
 -- A request that begins knows nothing, and so goes with its place.
 use Rattle.std.proofs.Common.{◌≡◌, ℕ, Option, None, sym, ◌∙◌}
+use Rattle.std.proofs.lemmas.Bool.{true≢false}
 use Rattle.rbd_kinds.specs.declared.layout.Extent.{Extent}
 use Rattle.rbd_machine.specs.Knowledge.{nothing_known}
 use Rattle.rbd_machine.specs.Lawful.{IsLawfulRequest}
 use Rattle.rbd_machine.specs.Plan.{Standing}
 use Rattle.rbd_machine.specs.declared.seat.Seat.{Seat}
+use Rattle.rbd_rely.proofs.Turns.{nothing_in_turn}
 use Rattle.rbd_session.specs.declared.running.Running.{Running}
 use Rattle.rbd_session.specs.Advance.{track_of}
 use Rattle.rbd_session.specs.Lines.{LinesView}
@@ -19,6 +21,7 @@ nowhere_tied : (slot : ℕ) (t : Track) → t.place ≡ None → IsTied nothing_
 nowhere_tied slot t nowhere = record {
   owns = λ site image o is. absurd (no_some o is);
   alone = λ p is. absurd (no_some p (sym (nowhere_course slot t nowhere) ∙ is));
+  turn = λ site image some. absurd (true≢false (sym some));
 }
 
 module _ {R W : Type 0} (stands : R → Standing) (stands_for : Seat → W → Standing → Type 0) (extent_for : W → Option Extent) (serves : W → Type 0)
@@ -32,4 +35,6 @@ module _ {R W : Type 0} (stands : R → Standing) (stands_for : Seat → W → S
         lawful = is_lawful.plan;
         labels = is_lawful.labels;
         tied = nowhere_tied slot (track_of r lines) begins.place;
+        in_turn = nothing_in_turn;
+        has_turn = λ site image object some. absurd (true≢false (sym some));
       }

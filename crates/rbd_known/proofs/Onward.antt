@@ -1,29 +1,39 @@
 -- Up to its next operation a request is lawful by what it knows there, and goes with its place.
-use Rattle.std.proofs.Common.{◌≡◌, inl, inr, ℕ, Bool, true, false, [], Option, Some, None, refl, sym, ◌∙◌, subst}
-use Rattle.rbd_course.specs.Course.{behind, waited, noted}
+use Rattle.std.proofs.Common.{◌≡◌, inl, inr, ℕ, ◌≤◌, Bool, true, false, [], Option, Some, None, refl, sym, ◌∙◌, subst}
+use Rattle.std.proofs.lemmas.Bool.{true≢false, and_parts, or_parts}
+use Rattle.rbd_course.specs.Course.{Place, behind, is_own_at, is_waiting, noted, waited}
 use Rattle.rbd_course.specs.Orderly.{BeginsWith, IsInLine, MayWait}
 use Rattle.rbd_kinds.specs.declared.id.SiteId.{SiteId}
 use Rattle.rbd_kinds.specs.declared.layout.Extent.{Extent}
 use Rattle.rbd_kinds.specs.declared.machine.Fed.{Fed}
 use Rattle.rbd_kinds.specs.declared.machine.Fed.TheVariants as fed
-use Rattle.rbd_line.specs.Line.{member_of}
+use Rattle.rbd_line.specs.Line.{may_pass, member_of}
 use Rattle.rbd_machine.specs.Answers.{CanBeFed}
-use Rattle.rbd_machine.specs.Knowledge.{Knowledge, learned, passed}
+use Rattle.rbd_machine.specs.Knowledge.{Knowledge, is_at, learned, passed}
 use Rattle.rbd_machine.specs.Label.{Label}
 use Rattle.rbd_machine.specs.Lawful.{IsLawful}
 use Rattle.rbd_machine.specs.Path.{at_operation}
 use Rattle.rbd_machine.specs.Plan.{Plan, Ask, Await, Note, Return, Goto, Standing, IsAsking, plan_after, settled}
+use Rattle.rbd_machine.specs.Standalone.{IsFedStandalone}
 use Rattle.rbd_machine.specs.Wait.{Wait}
 use Rattle.rbd_machine.specs.Wait as wait
+use Rattle.rbd_machine.proofs.Lawful.{told_alone}
 use Rattle.rbd_session.specs.Advance.{fed_by}
 use Rattle.rbd_session.specs.OnTrack.{IsOnTrack, IsSomewhere, IsNowhereElse, AreFair}
+use Rattle.rbd_session.specs.Waits.{awaits_line, awaits_turn, is_at_own, waits}
 use Rattle.rbd_session.specs.Track.{Track, course_in, course_of, line_in, run, waited_by, noted_by, answered_by}
+use Rattle.rbd_rely.specs.Turns.{KnowsInTurn}
+use Rattle.rbd_rely.proofs.Turns.{answered_in_turn, waited_in_turn}
+use Rattle.rbd_session.proofs.Fairness.{answered_by_fair}
 use Rattle.rbd_session.proofs.Sound.{no_some}
 use Rattle.rbd_session.proofs.Track.{course_held, course_turned, course_applied, course_noted, course_joined, course_left, course_answered}
 use Rattle.rbd_session.proofs.Way.{in_line_there, place_there, answered_on_track, waited_on_track, noted_on_track}
-use Rattle.rbd_known.specs.Knowing.{known_at_operation, known_behind}
+use Rattle.rbd_known.specs.Knowing.{HasItsTurns, KeepsTurns, known_at_operation, known_behind}
 use Rattle.rbd_known.specs.Tied.{IsTied}
 use Rattle.rbd_known.proofs.Along.{answered_tied, waited_tied, noted_tied}
+use Rattle.rbd_known.proofs.InTurn.{answered_has, noted_has, quiet_before, run_keeps_turns, waited_has}
+use Rattle.rbd_known.proofs.There.{may_of}
+use Rattle.rbd_known.proofs.Turning.{answered_keeps_turns, turn_of_goes}
 
 -- ---- what it may do
 
@@ -35,15 +45,15 @@ module _ (labels : Label → Plan) (at : Label → Knowledge) (lawful_there : (l
   way_lawful (Return reply) k lawful = lawful
   way_lawful (Goto label) k same = subst (λ known. IsLawful at known (labels label)) (sym same) (lawful_there label)
 
-  pub behind_lawful : (k : Knowledge) (plan : Plan) (f : Fed) → CanBeFed plan f → IsLawful at k plan → IsLawful at (known_behind k plan f) (at_operation labels (plan_after plan f))
-  behind_lawful k (Ask site why op next) (fed.Answer a) can lawful = way_lawful (next a) (learned k site op a) (lawful.1 a can)
-  behind_lawful k (Ask site why op next) fed.Passed can lawful = absurd can
-  behind_lawful k (Await w next) (fed.Answer a) can lawful = absurd can
-  behind_lawful k (Await w next) fed.Passed can lawful = way_lawful next (passed k w) lawful
-  behind_lawful k (Note site image event next) (fed.Answer a) can lawful = absurd can
-  behind_lawful k (Note site image event next) fed.Passed can lawful = way_lawful next k lawful
-  behind_lawful k (Return reply) f can lawful = absurd can
-  behind_lawful k (Goto label) f can lawful = absurd can
+  pub behind_lawful : (k : Knowledge) (plan : Plan) (f : Fed) → CanBeFed plan f → IsFedStandalone f → IsLawful at k plan → IsLawful at (known_behind k plan f) (at_operation labels (plan_after plan f))
+  behind_lawful k (Ask site why op next) (fed.Answer a) can alone lawful = way_lawful (next a) (learned k site op a) (lawful.1 a (told_alone can alone))
+  behind_lawful k (Ask site why op next) fed.Passed can alone lawful = absurd can
+  behind_lawful k (Await w next) (fed.Answer a) can alone lawful = absurd can
+  behind_lawful k (Await w next) fed.Passed can alone lawful = way_lawful next (passed k w) lawful
+  behind_lawful k (Note site image event next) (fed.Answer a) can alone lawful = absurd can
+  behind_lawful k (Note site image event next) fed.Passed can alone lawful = way_lawful next k lawful
+  behind_lawful k (Return reply) f can alone lawful = absurd can
+  behind_lawful k (Goto label) f can alone lawful = absurd can
 
 -- ---- where it is
 
@@ -94,13 +104,85 @@ module _ (slot : ℕ) (e : Option Extent) (labels : Label → Plan) where
   way_tied (Return reply) fresh t k on tied = tied
   way_tied (Goto label) fresh t k on tied = tied
 
+  -- so it has its turns
+  way_has : (plan : Plan) (fresh : Bool) (t : Track) (k : Knowledge) → IsOnTrack slot e fresh (standing (settled labels plan)) t → IsTied k (course_of slot t) → HasItsTurns slot k t.lines
+      → HasItsTurns slot (known_at_operation k plan) (run slot plan t).lines
+  way_has (Ask site why op next) fresh t k on tied has = has
+  way_has (Await w next) fresh t k on tied has =
+      let after = waited_on_track slot e labels fresh w next t on in
+      way_has next false (waited_by slot t w) (passed k w) after.1
+      (subst (IsTied (passed k w)) (sym (waited_course slot e fresh (standing (Await w next)) t on w after.0)) (waited_tied fresh k (course_of slot t) w after.0 tied))
+      (waited_has slot fresh t k w after.0 tied has)
+  way_has (Note site image event next) fresh t k on tied has =
+      let after = noted_on_track slot e labels fresh site image event next t on in
+      way_has next fresh (noted_by slot t) k after.1
+      (subst (IsTied k) (sym (noted_course slot e fresh (standing (Note site image event next)) t on site image after.0)) (noted_tied k (course_of slot t) tied))
+      (noted_has slot t k has)
+  way_has (Return reply) fresh t k on tied has = has
+  way_has (Goto label) fresh t k on tied has = has
+
   pub behind_tied : (plan : Plan) (f : Fed) (t : Track) (k : Knowledge) → IsAsking plan → CanBeFed plan f → AreFair t.lines → IsOnTrack slot e true (standing plan) t
       → IsTied k (course_of slot t) → IsTied (known_behind k plan f) (course_of slot (run slot (plan_after plan f) (fed_by slot e t plan f)))
   behind_tied (Ask site why o next) (fed.Answer a) t k asks can fair on tied =
       way_tied (next a) true (answered_by slot e t site o a) (learned k site o a) (answered_on_track slot e labels true site why o next a t can fair on)
-      (subst (IsTied (learned k site o a)) (sym (course_answered slot e t site o a on.somewhere)) (answered_tied e k (course_of slot t) tied site o a))
+      (subst (IsTied (learned k site o a)) (sym (course_answered slot e t site o a on.somewhere))
+      (answered_tied e k (course_of slot t) tied site o a (λ i own. quiet_before slot t on.somewhere fair on.turns site i own)))
   behind_tied (Ask site why o next) fed.Passed t k asks can fair on tied = absurd can
   behind_tied (Await w next) f t k asks can fair on tied = absurd asks
   behind_tied (Note site image event next) f t k asks can fair on tied = absurd asks
   behind_tied (Return reply) f t k asks can fair on tied = absurd asks
   behind_tied (Goto label) f t k asks can fair on tied = absurd asks
+
+  -- and by what it is fed, where it may go on
+  pub behind_has : (at : Label → Knowledge) (plan : Plan) (f : Fed) (t : Track) (k : Knowledge) → IsAsking plan → CanBeFed plan f → AreFair t.lines → IsOnTrack slot e true (standing plan) t
+      → waits slot t ≡ false → IsLawful at k plan → IsTied k (course_of slot t) → KnowsInTurn k
+      → HasItsTurns slot (known_behind k plan f) (run slot (plan_after plan f) (fed_by slot e t plan f)).lines
+  behind_has at (Ask site why o next) (fed.Answer a) t k asks can fair on goes lawful tied in_turn =
+      let after = answered_on_track slot e labels true site why o next a t can fair on in
+      let tied_after = subst (IsTied (learned k site o a)) (sym (course_answered slot e t site o a on.somewhere))
+          (answered_tied e k (course_of slot t) tied site o a (λ i own. quiet_before slot t on.somewhere fair on.turns site i own)) in
+      way_has (next a) true (answered_by slot e t site o a) (learned k site o a) after tied_after
+      (answered_has slot e t k site o a (turn_of_goes slot t goes) after.somewhere tied_after (answered_in_turn site k o a in_turn lawful.0))
+  behind_has at (Ask site why o next) fed.Passed t k asks can fair on goes lawful tied in_turn = absurd can
+  behind_has at (Await w next) f t k asks can fair on goes lawful tied in_turn = absurd asks
+  behind_has at (Note site image event next) f t k asks can fair on goes lawful tied in_turn = absurd asks
+  behind_has at (Return reply) f t k asks can fair on goes lawful tied in_turn = absurd asks
+  behind_has at (Goto label) f t k asks can fair on goes lawful tied in_turn = absurd asks
+
+-- ---- in its turn
+
+way_in_turn : (plan : Plan) (k : Knowledge) → KnowsInTurn k → KnowsInTurn (known_at_operation k plan)
+way_in_turn (Ask site why op next) k in_turn = in_turn
+way_in_turn (Await w next) k in_turn = way_in_turn next (passed k w) (waited_in_turn k w in_turn)
+way_in_turn (Note site image event next) k in_turn = way_in_turn next k in_turn
+way_in_turn (Return reply) k in_turn = in_turn
+way_in_turn (Goto label) k in_turn = in_turn
+
+pub behind_in_turn : (at : Label → Knowledge) (plan : Plan) (f : Fed) (k : Knowledge) → IsAsking plan → CanBeFed plan f → IsLawful at k plan → KnowsInTurn k → KnowsInTurn (known_behind k plan f)
+behind_in_turn at (Ask site why o next) (fed.Answer a) k asks can lawful in_turn = way_in_turn (next a) (learned k site o a) (answered_in_turn site k o a in_turn lawful.0)
+behind_in_turn at (Ask site why o next) fed.Passed k asks can lawful in_turn = absurd can
+behind_in_turn at (Await w next) f k asks can lawful in_turn = absurd asks
+behind_in_turn at (Note site image event next) f k asks can lawful in_turn = absurd asks
+behind_in_turn at (Return reply) f k asks can lawful in_turn = absurd asks
+behind_in_turn at (Goto label) f k asks can lawful in_turn = absurd asks
+
+-- ---- the turns of others
+
+pub fed_keeps_turns : (slot : ℕ) → 1 ≤ slot → slot ≤ 64 → (e : Option Extent) (labels : Label → Plan) (plan : Plan) (f : Fed) (t : Track) → IsAsking plan → CanBeFed plan f → AreFair t.lines
+    → waits slot t ≡ false → IsOnTrack slot e true (record { labels = labels; plan = plan }) t → KeepsTurns slot t.lines (run slot (plan_after plan f) (fed_by slot e t plan f)).lines
+fed_keeps_turns slot from to e labels (Ask site why o next) (fed.Answer a) t asks can fair goes on =
+    let rest = run_keeps_turns slot from to e labels (next a) true (answered_by slot e t site o a) (answered_on_track slot e labels true site why o next a t can fair on)
+        (answered_by_fair slot e t site o a fair (λ s i own. passes s i own)) in
+    λ other differ s i object is. rest other differ s i object (answered_keeps_turns slot e t site o a other differ s i object is)
+  where
+    at_own : (s : SiteId) (i : ℕ) (place : Option Place) → is_own_at s i place ≡ true → is_at_own place ≡ true
+    at_own s i None own = absurd (true≢false (sym own))
+    at_own s i (Some p) own = (and_parts (is_at s i p.site p.image) (is_waiting p.stage) own).1
+
+    passes : (s : SiteId) (i : ℕ) → is_own_at s i (course_of slot t).place ≡ true → may_pass slot (line_in t.place t.lines) ≡ true
+    passes s i own = may_of (is_at_own (course_of slot t).place) (may_pass slot (line_in t.place t.lines)) (at_own s i (course_of slot t).place own) (or_parts (awaits_line slot t) (awaits_turn slot t) goes).0
+fed_keeps_turns slot from to e labels (Ask site why o next) fed.Passed t asks can fair goes on = absurd can
+fed_keeps_turns slot from to e labels (Await w next) f t asks can fair goes on = absurd asks
+fed_keeps_turns slot from to e labels (Note site image event next) f t asks can fair goes on = absurd asks
+fed_keeps_turns slot from to e labels (Return reply) f t asks can fair goes on = absurd asks
+fed_keeps_turns slot from to e labels (Goto label) f t asks can fair goes on = absurd asks

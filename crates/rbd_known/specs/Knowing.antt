@@ -1,5 +1,5 @@
 -- What the requests of a session know.
-use Rattle.std.specs.Prelude.{◌≡◌, ℕ, ◌==◌, if◌then◌else◌, true, false, Option, Some, None, IsSome}
+use Rattle.std.specs.Prelude.{◌≡◌, ◌≢◌, ℕ, ◌==◌, if◌then◌else◌, true, false, Option, Some, None, IsSome}
 use Rattle.rbd_kinds.specs.declared.id.SiteId.{SiteId}
 use Rattle.rbd_kinds.specs.declared.machine.Fed.{Fed}
 use Rattle.rbd_kinds.specs.declared.reply.Reply.{Reply}
@@ -41,6 +41,10 @@ knows_after knows slot result plan f other = if other == slot then unless_ended 
 abbrev pub HasItsTurns : (slot : ℕ) → Knowledge → Lines → Type 0
 HasItsTurns slot k lines = (site : SiteId) (image object : ℕ)
     → IsSome (known_header k site image) → is_alone_on k site image ≡ false → KnowsOf k site image object → has_turn slot object (lines site image) ≡ true
+
+-- each other slot that has its turn at an object keeps it
+abbrev pub KeepsTurns : (slot : ℕ) → (old new : Lines) → Type 0
+KeepsTurns slot old new = (other : ℕ) → other ≢ slot → (site : SiteId) (image object : ℕ) → has_turn other object (old site image) ≡ true → has_turn other object (new site image) ≡ true
 
 module _ {R : Type 0} (stands : R → Standing) where
   -- A request knows this: by it, it asks for nothing but what it may, and it goes with where the
