@@ -160,7 +160,6 @@ module _ {R : Type 0} (stands : R → Standing) where
     free = λ slot none. ap (state_in slot) alike.slots ∙ sound.free slot (free_alike slot old.session new.session alike.session none);
     ways = λ slot. subst (λ slots. IsWellOnWay stands slot (state_in slot slots).way new.session new.locks) (sym alike.slots) (way_there slot (state_in slot old.slots).way (sound.ways slot));
     telling = subst IsTelling (sym alike.release) sound.telling;
-    owns = λ site image is. owned_alike site image old.locks new.locks alike.locks (sound.owns site image (sym (ap (λ (ls : Lines). any_past (ls site image)) alike.session.lines) ∙ is));
   }
     where
       way_there : (slot : ℕ) (w : Way) → IsWellOnWay stands slot w old.session old.locks → IsWellOnWay stands slot w new.session new.locks

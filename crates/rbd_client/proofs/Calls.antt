@@ -1,5 +1,5 @@
 -- What holds of a client at first, and is kept by the calls that feed nothing.
-use Rattle.std.proofs.Common.{◌≡◌, ◌≢◌, ◌⊎◌, inl, inr, ℕ, zero, suc, Bool, true, false, cond, [], length, replicate, Option, Some, None, refl, sym, ap, ◌∙◌, subst, true≢false}
+use Rattle.std.proofs.Common.{◌≡◌, ◌≢◌, ◌⊎◌, inl, inr, ℕ, zero, suc, Bool, true, false, cond, [], length, replicate, Option, Some, None, refl, sym, ap, ◌∙◌, subst}
 use Rattle.std.proofs.lemmas.Bool.{cases_eq}
 use Rattle.std.proofs.lemmas.List.{length-replicate}
 use Rattle.rbd_client.specs.declared.slot_state.SlotState.{SlotState}
@@ -12,7 +12,7 @@ use Rattle.rbd_kinds.specs.declared.layout.Extent.{Extent}
 use Rattle.rbd_kinds.specs.declared.notice.Notice.{Notice}
 use Rattle.rbd_kinds.specs.declared.notice.NoticeKind.{NoticeKind}
 use Rattle.rbd_kinds.specs.declared.notice.NoticeKind.TheVariants as notice
-use Rattle.rbd_line.specs.Line.{any_past, member_of}
+use Rattle.rbd_line.specs.Line.{member_of}
 use Rattle.rbd_locks.specs.declared.lock_state.LockState.{LockState}
 use Rattle.rbd_locks.specs.Locks.{LocksView, heard, state_at}
 use Rattle.rbd_kinds.specs.Images.{is_at}
@@ -39,7 +39,6 @@ module _ {R : Type 0} (stands : R → Standing) where
     free = λ slot none. ap (state_in slot) slots ∙ all_blank 65 slot;
     ways = λ slot. subst (λ (s : SlotState). IsWellOnWay stands slot s.way c.session c.locks) (sym (ap (state_in slot) slots ∙ all_blank 65 slot)) tt;
     telling = subst IsTelling (sym release) tt;
-    owns = λ site image any. absurd (true≢false (sym any ∙ ap any_past (lines site image)));
   }
 
   -- a slot is taken, or freed, and nothing else changes
@@ -53,7 +52,6 @@ module _ {R : Type 0} (stands : R → Standing) where
     free = free_at;
     ways = way_at;
     telling = subst IsTelling (sym release) sound.telling;
-    owns = λ site image any. subst (IsOwned site image) (sym locks) (sound.owns site image (ap (λ (ls : LinesView). any_past (lines_of ls site image)) (sym lines) ∙ any));
   }
     where
       free_at : (k : ℕ) → held_in k new.session.slots ≡ None → state_in k new.slots ≡ blank
@@ -89,7 +87,6 @@ module _ {R : Type 0} (stands : R → Standing) where
         (subst (λ s. IsWellOnWay stands slot (state_in slot old.slots).way s new.locks) (sym same)
         (way_kept stands slot (state_in slot old.slots).way old.session old.session old.locks new.locks (λ site image w. w) (λ p is. kept p.site p.image) (sound.ways slot)));
     telling = subst IsTelling (sym release) sound.telling;
-    owns = λ site image any. kept site image (sound.owns site image (ap (λ (s : SessionView R). any_past (lines_of s.lines site image)) (sym same) ∙ any));
   }
 
   told_owned : (kind : NoticeKind) (s : LockState) → (told kind s).owned ≡ s.owned

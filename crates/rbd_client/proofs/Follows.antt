@@ -1,19 +1,26 @@
 -- What follows for every client.
-use Rattle.std.proofs.Common.{◌≡◌, ℕ, ◌==◌, ◌||◌, not, cond, Bool, true, false, List, [], ◌∷◌, Option, Some, None, refl, sym, ap, ◌∙◌, subst, true≢false}
+use Rattle.std.proofs.Common.{◌≡◌, ℕ, ◌==◌, ◌&&◌, ◌||◌, not, cond, Bool, true, false, List, [], ◌∷◌, Option, Some, None, refl, sym, ap, ◌∙◌, subst, true≢false}
 use Rattle.std.proofs.lemmas.Bool.{and_parts, eqb-true}
 use Rattle.std.specs.List.{find}
 use Rattle.std.specs.Prelude.{IsTrue, IsFalse}
 use Rattle.rbd_client.specs.declared.actor.Actor.{Actor}
 use Rattle.rbd_client.specs.declared.actor.Actor.TheVariants as actor
 use Rattle.rbd_client.specs.declared.slot_state.Way.TheVariants as way
-use Rattle.rbd_client.specs.Actor.{actor_at, actor_on, due_release, is_at_rest, kind_by, kind_wanted, may_release, releasing}
+use Rattle.rbd_client.specs.Actor.{actor_at, actor_on, any_taken, due_release, is_at_rest, kind_by, kind_wanted, may_release, op_by, op_wanted, releasing}
+use Rattle.rbd_client.specs.declared.slot_state.Quiescing.TheVariants as quiescing
+use Rattle.rbd_client.specs.Feeding.{DropsAtRest, IsAtRest, IsFedBy}
+use Rattle.rbd_client.proofs.Owning.{ends_by, keeps_owned, relied_lasts, relies}
+use Rattle.rbd_kinds.specs.declared.machine.Fed.{Fed}
+use Rattle.rbd_kinds.specs.declared.operation.Op.{Op}
+use Rattle.rbd_kinds.specs.declared.reply.Reply.{Reply}
+use Rattle.rbd_line.specs.Line.{any_past}
+use Rattle.rbd_owner.specs.Acquire.{op_of}
+use Rattle.rbd_owner.specs.Release.{release_op}
 use Rattle.rbd_client.specs.Client.{ClientView, state_in}
-use Rattle.rbd_client.specs.Laws.{DropsALock, IsHeldBack}
+use Rattle.rbd_client.specs.Laws.{DropsALock, IsHeldBack, removes_header}
 use Rattle.rbd_client.specs.Sound.{IsOwned, IsSoundClient, IsTelling}
-use Rattle.rbd_client.proofs.OnWay.{found_may, is_telling}
-use Rattle.rbd_line.proofs.Past.{found_past}
+use Rattle.rbd_client.proofs.OnWay.{found_may, is_telling, release_rests, released_at_zero, way_rests}
 use Rattle.rbd_kinds.specs.declared.id.SiteId.{SiteId}
-use Rattle.rbd_line.specs.Line.{Member, is_past, member_of}
 use Rattle.rbd_kinds.specs.declared.image_at.ImageAt.{ImageAt}
 use Rattle.rbd_locks.specs.declared.lock_state.LockState.{LockState}
 use Rattle.rbd_locks.specs.Locks.{state_at}
@@ -29,9 +36,38 @@ use Rattle.rbd_session.proofs.OwnLooks.{at_own_look}
 use Rattle.rbd_session.proofs.Sound.{no_some, some_same}
 
 module _ {R : Type 0} (stands : R → Standing) where
-  pub past_owns : (c : ClientView R) (site : SiteId) (image : ℕ) (m : Member) → IsSoundClient stands c → member_of m.slot (lines_of c.session.lines site image) ≡ Some m → is_past m.stage ≡ true
-      → IsOwned site image c.locks
-  past_owns c site image m sound found past = sound.owns site image (found_past m.slot (lines_of c.session.lines site image) m found past)
+  -- ---- a lock lasts while somebody relies on it
+
+  not_at_rest : (c : ClientView R) (site : SiteId) (image : ℕ) → is_at_rest site image c ≡ false → relies c site image ≡ true
+  not_at_rest c site image is = go (any_past (lines_of c.session.lines site image)) (any_taken site image c.slots) is
+    where
+      go : (a b : Bool) → (not a && not b) ≡ false → (a || b) ≡ true
+      go true b is = refl
+      go false true is = refl
+      go false false is = absurd (true≢false is)
+
+  at_rest_where : (slot : ℕ) (c : ClientView R) (site : SiteId) (o : Op) → IsSoundClient stands c → (who : Actor) → actor_at stands slot c ≡ who → op_by stands slot c.session who ≡ Some (site, o)
+      → DropsAtRest who site o c → IsAtRest site o c
+  at_rest_where slot c site o sound actor.Nobody acts is rest = absurd (no_some (site, o) is)
+  at_rest_where slot c site o sound actor.Request acts is rest = rest
+  at_rest_where slot c site o sound (actor.Way a) acts is rest =
+      subst (λ (p : SiteId × Op). IsAtRest p.0 p.1 c) (some_same (a.site, op_of a) (site, o) is) (way_rests stands a.site a c)
+  at_rest_where slot c site o sound (actor.Release r) acts is rest =
+      subst (λ (p : SiteId × Op). IsAtRest p.0 p.1 c) (some_same (r.site, release_op r) (site, o) is) (release_rests stands c r sound (released_at_zero stands c slot r acts))
+
+  pub counted_by : (slot : ℕ) (site : SiteId) (o : Op) (f : Fed) (result : Option Reply) (c d : ClientView R) (there : SiteId) (image : ℕ) → (who : Actor) → IsFedBy stands slot site o f result c d who
+      → ends_by site o f there image ≡ false → IsOwned there image c.locks → IsOwned there image d.locks
+  counted_by slot site o f result c d there image actor.Nobody fed stays owned = absurd fed
+  counted_by slot site o f result c d there image actor.Request fed stays owned = keeps_owned _ _ site o f c.locks d.locks fed.counts there image stays owned
+  counted_by slot site o f result c d there image (actor.Way a) fed stays owned = keeps_owned quiescing.Leaves None site o f c.locks d.locks fed.counts there image stays owned
+  counted_by slot site o f result c d there image (actor.Release r) fed stays owned = keeps_owned quiescing.Leaves None site o f c.locks d.locks fed.counts there image stays owned
+
+  pub lock_lasts : (c d : ClientView R) (slot : ℕ) (site there : SiteId) (image : ℕ) (o : Op) (f : Fed) (result : Option Reply) → IsSoundClient stands c
+      → op_wanted stands slot c ≡ Some (site, o) → DropsAtRest (actor_at stands slot c) site o c → IsFedBy stands slot site o f result c d (actor_at stands slot c)
+      → is_at_rest there image c ≡ false → removes_header site o f there image ≡ false → IsOwned there image c.locks → IsOwned there image d.locks
+  lock_lasts c d slot site there image o f result sound is rest fed relied stays owned =
+      counted_by slot site o f result c d there image (actor_at stands slot c) fed
+      (relied_lasts c site o f there image (at_rest_where slot c site o sound (actor_at stands slot c) refl is rest) (not_at_rest c there image relied) stays) owned
 
   -- ---- held back
 

@@ -1,5 +1,5 @@
 -- What holds of each client is kept, whatever one slot does.
-use Rattle.std.proofs.Common.{◌≡◌, ◌≢◌, ◌⊎◌, inl, inr, ℕ, Bool, true, false, ◌||◌, length, Option, Some, None, refl, sym, ap, ◌∙◌, subst}
+use Rattle.std.proofs.Common.{◌≡◌, ◌≢◌, ◌⊎◌, inl, inr, ℕ, true, length, Option, Some, None, refl, sym, ap, ◌∙◌, subst}
 use Rattle.std.proofs.lemmas.Bool.{cases_eq}
 use Rattle.rbd_client.specs.declared.slot_state.Quiescing.{Quiescing}
 use Rattle.rbd_client.specs.declared.slot_state.SlotState.{SlotState}
@@ -9,11 +9,10 @@ use Rattle.rbd_client.specs.Actor.{any_taken}
 use Rattle.rbd_client.specs.Client.{ClientView, blank, state_in}
 use Rattle.rbd_client.specs.Feeding.{comings_of, CountsAll, IsAtRest}
 use Rattle.rbd_client.specs.Sound.{IsOwned, IsSoundClient, IsTelling, IsWellOnWay, WaitsForLook}
-use Rattle.rbd_client.proofs.Owning.{keeps_owned, not_dropped, relies, taken_at}
+use Rattle.rbd_client.proofs.Owning.{keeps_owned, taken_at, taken_lasts}
 use Rattle.rbd_kinds.specs.declared.id.SiteId.{SiteId}
 use Rattle.rbd_kinds.specs.declared.machine.Fed.{Fed}
 use Rattle.rbd_kinds.specs.declared.operation.Op.{Op}
-use Rattle.rbd_line.specs.Line.{any_past}
 use Rattle.rbd_kinds.specs.declared.image_at.ImageAt.{ImageAt}
 use Rattle.rbd_locks.specs.Locks.{LocksView}
 use Rattle.rbd_machine.specs.Plan.{Standing}
@@ -51,37 +50,24 @@ module _ {R : Type 0} (stands : R → Standing) where
   way_kept k (way.On a) s t before after waits owned well = waits a.site a.image well
   way_kept k (way.Taken p) s t before after waits owned well = (waits p.site p.image well.0, owned p refl well.1)
 
-  or_left : (a b : Bool) → a ≡ true → (a || b) ≡ true
-  or_left a b is = ap (λ c. c || b) is
-
-  or_right : (a b : Bool) → b ≡ true → (a || b) ≡ true
-  or_right true b is = refl
-  or_right false b is = is
-
   -- What one slot did: its operation was answered.
   pub sound_behind : (slot : ℕ) (site : SiteId) (o : Op) (f : Fed) (q : Quiescing) (look : Option ImageAt) (old new : ClientView R)
       → IsSoundClient stands old → IsSoundSession stands new.session → LeavesSlots slot old new → length new.slots ≡ 65 → IsTelling new.release
       → CountsAll (comings_of q look site o f) old.locks new.locks → IsAtRest site o old
       → (held_in slot new.session.slots ≡ None → state_in slot new.slots ≡ blank)
       → IsWellOnWay stands slot (state_in slot new.slots).way new.session new.locks
-      → ((there : SiteId) (image : ℕ) → any_past (lines_of new.session.lines there image) ≡ true → (any_past (lines_of old.session.lines there image) ≡ true) ⊎ IsOwned there image new.locks)
       → ((k : ℕ) → k ≢ slot → (p : ImageAt) → own_look_at stands k old.session ≡ Some p → own_look_at stands k new.session ≡ Some p)
       → IsSoundClient stands new
-  sound_behind slot site o f q look old new sound session leaves slots telling counts rest free way_there past looks = record {
+  sound_behind slot site o f q look old new sound session leaves slots telling counts rest free way_there looks = record {
     session = session;
     slots = slots;
     free = free_at;
     ways = way_at;
     telling = telling;
-    owns = λ there image is. owns_at there image (past there image is);
   }
     where
-      kept : (there : SiteId) (image : ℕ) → relies old there image ≡ true → IsOwned there image old.locks → IsOwned there image new.locks
-      kept there image relied owned = keeps_owned q look site o f old.locks new.locks counts there image (not_dropped old site o there image rest relied) owned
-
-      owns_at : (there : SiteId) (image : ℕ) → (any_past (lines_of old.session.lines there image) ≡ true) ⊎ IsOwned there image new.locks → IsOwned there image new.locks
-      owns_at there image (inl was) = kept there image (or_left (any_past (lines_of old.session.lines there image)) (any_taken there image old.slots) was) (sound.owns there image was)
-      owns_at there image (inr owned) = owned
+      kept : (there : SiteId) (image : ℕ) → any_taken there image old.slots ≡ true → IsOwned there image old.locks → IsOwned there image new.locks
+      kept there image taken owned = keeps_owned q look site o f old.locks new.locks counts there image (taken_lasts old site o f there image rest taken) owned
 
       free_at : (k : ℕ) → held_in k new.session.slots ≡ None → state_in k new.slots ≡ blank
       free_at k none = go (cases_eq k slot)
@@ -99,5 +85,5 @@ module _ {R : Type 0} (stands : R → Standing) where
               subst (λ (s : SlotState). IsWellOnWay stands k s.way new.session new.locks) (sym (leaves.states k differ))
               (way_kept k (state_in k old.slots).way old.session new.session old.locks new.locks
               (waits_kept k slot differ old.session new.session (leaves.held k differ) leaves.lines (looks k differ))
-              (λ p is. kept p.site p.image (or_right (any_past (lines_of old.session.lines p.site p.image)) (any_taken p.site p.image old.slots) (taken_at k old.slots p is)))
+              (λ p is. kept p.site p.image (taken_at k old.slots p is))
               (sound.ways k))

@@ -1,6 +1,6 @@
 -- What an answer on the way to a lock, or to a release, leaves of a client.
-use Rattle.std.proofs.Common.{◌≡◌, ◌≢◌, ◌⊎◌, inl, inr, ℕ, ◌==◌, ◌||◌, not, cond, Bool, true, false, List, [], ◌∷◌, length, Option, Some, None, IsSome, refl, sym, ap, ◌∙◌, subst, true≢false}
-use Rattle.std.proofs.lemmas.Bool.{cases_eq, and_parts}
+use Rattle.std.proofs.Common.{◌≡◌, ◌≢◌, ℕ, ◌==◌, ◌||◌, not, cond, Bool, true, false, List, [], ◌∷◌, length, Option, Some, None, IsSome, refl, sym, ap, ◌∙◌, subst, true≢false}
+use Rattle.std.proofs.lemmas.Bool.{and_parts}
 use Rattle.std.specs.List.{find}
 use Rattle.std.specs.Option.{is_some}
 use Rattle.rbd_client.specs.declared.actor.Actor.{Actor}
@@ -15,14 +15,13 @@ use Rattle.rbd_client.specs.Feeding.{comings_of, released_by, state_on_way, Coun
 use Rattle.rbd_client.specs.Sound.{IsOwned, IsSoundClient, IsTelling, IsWellOnWay, WaitsForLook}
 use Rattle.rbd_client.proofs.Kept.{sound_behind, LeavesSlots}
 use Rattle.rbd_client.proofs.Looks.{looks_there}
-use Rattle.rbd_line.proofs.Past.{found_past, past_found}
 use Rattle.rbd_kinds.specs.declared.answer.Answer.TheVariants as answer
 use Rattle.rbd_kinds.specs.declared.header_op.HeaderOp.TheVariants as header
 use Rattle.rbd_kinds.specs.declared.id.SiteId.{SiteId}
 use Rattle.rbd_kinds.specs.declared.machine.Fed.{Fed}
 use Rattle.rbd_kinds.specs.declared.machine.Fed.TheVariants as fed
 use Rattle.rbd_kinds.specs.declared.reply.Reply.{Reply}
-use Rattle.rbd_line.specs.Line.{Member, any_past, is_past, member_of}
+use Rattle.rbd_line.specs.Line.{member_of}
 use Rattle.rbd_kinds.specs.declared.image_at.ImageAt.{ImageAt}
 use Rattle.rbd_locks.specs.declared.lock_state.LockState.{LockState}
 use Rattle.rbd_locks.specs.Comings.{after_all}
@@ -41,7 +40,6 @@ use Rattle.rbd_owner.specs.declared.release.Stage.TheVariants as telling
 use Rattle.rbd_session.specs.declared.running.Running.{Running}
 use Rattle.rbd_session.specs.Advance.{track_of}
 use Rattle.rbd_session.specs.Lines.{lines_of}
-use Rattle.rbd_session.specs.OnTrack.{LeavesOthers}
 use Rattle.rbd_session.specs.Track.{ended_by}
 use Rattle.rbd_session.specs.Session.{SessionView, IsSoundSession, held_in, own_look_at, running_at, running_in}
 use Rattle.rbd_session.proofs.OwnLooks.{at_own_look}
@@ -87,6 +85,21 @@ releases_no_way : (r : Option Release) (due : Option ImageAt) → is_way (releas
 releases_no_way (Some r) due = refl
 releases_no_way None (Some p) = refl
 releases_no_way None None = refl
+
+-- a request's own acting, and its way, is no release
+look_no_release : (look : Option ImageAt) (locks : LocksView) → is_release (actor_at_look look locks) ≡ false
+look_no_release None locks = refl
+look_no_release (Some p) locks = go ((state_at p.site p.image locks).quiesced || (state_at p.site p.image locks).asked) (state_at p.site p.image locks).owned
+  where
+    go : (held owned : Bool) → is_release (cond held actor.Nobody (cond owned actor.Request (actor.Way (begun p.site p.image (state_at p.site p.image locks).watched)))) ≡ false
+    go true owned = refl
+    go false true = refl
+    go false false = refl
+
+on_way_no_release : (w : Way) (look : Option ImageAt) (locks : LocksView) → is_release (actor_on w look locks) ≡ false
+on_way_no_release way.Unbegun look locks = look_no_release look locks
+on_way_no_release (way.On a) look locks = refl
+on_way_no_release (way.Taken p) look locks = refl
 
 -- a way that begins is to the image looked at
 begins_there : (s : LockState) (p : ImageAt) (a : Acquire) → actor_by s p.site p.image ≡ actor.Way a → (p.site ≡ a.site) × (p.image ≡ a.image)
@@ -135,9 +148,9 @@ module _ {R : Type 0} (stands : R → Standing) where
       by true is = absurd (true≢false (sym (ap is_way is) ∙ releases_no_way c.release (due_release c)))
       by false is = on (state_in slot c.slots).way (sound.ways slot) is
 
-  -- ---- its operations drop no lock
+  -- ---- its operations end no lock
 
-  way_rests : (site : SiteId) (a : Acquire) (c : ClientView R) → IsAtRest site (op_of a) c
+  pub way_rests : (site : SiteId) (a : Acquire) (c : ClientView R) → IsAtRest site (op_of a) c
   way_rests site a c = go a.stage
     where
       go : (s : Stage) → IsAtRest site (op_at s a.image) c
@@ -165,18 +178,6 @@ module _ {R : Type 0} (stands : R → Standing) where
       taking (stage.Fencing owner) is = absurd (true≢false (sym (ap is_taking is)))
       taking (stage.Breaking owner) is = absurd (true≢false (sym (ap is_taking is)))
 
-  -- ---- a slot that was given up
-
-  -- whoever is past own behind it was past before
-  past_stays : (slot : ℕ) (old new : SessionView R) → IsSoundSession stands new → running_at slot new ≡ None → LeavesOthers slot (lines_of old.lines) (lines_of new.lines)
-      → (there : SiteId) (image : ℕ) → any_past (lines_of new.lines there image) ≡ true → any_past (lines_of old.lines there image) ≡ true
-  past_stays slot old new session gone leaves there image any =
-      let found = past_found (lines_of new.lines there image) (session.fair there image).apart any in go found.member found.found found.past (cases_eq found.member.slot slot)
-    where
-      go : (m : Member) → member_of m.slot (lines_of new.lines there image) ≡ Some m → is_past m.stage ≡ true → (m.slot ≡ slot) ⊎ (m.slot ≢ slot) → any_past (lines_of old.lines there image) ≡ true
-      go m found past (inl same) = absurd (no_some m (sym (session.others slot gone there image) ∙ ap (λ k. member_of k (lines_of new.lines there image)) (sym same) ∙ found))
-      go m found past (inr differ) = found_past m.slot (lines_of old.lines there image) m (sym (leaves m.slot differ there image) ∙ found) past
-
   -- ---- what is left of a client behind an answer on a way
 
   pub way_sound : (slot : ℕ) (a : Acquire) (f : Fed) (result : Option Reply) (old new : ClientView R)
@@ -190,7 +191,7 @@ module _ {R : Type 0} (stands : R → Standing) where
       → IsSoundClient stands new
   way_sound slot a f result old new sound session acts comes stays gone leaves slots release counts state left =
       sound_behind stands slot a.site (op_of a) f quiescing.Leaves None old new sound session leaves slots (subst IsTelling (sym release) sound.telling) counts (way_rests a.site a old)
-      (free result stays state) (on_way result (state_in slot new.slots).way comes stays) (past result stays gone) (looks result stays left)
+      (free result stays state) (on_way result (state_in slot new.slots).way comes stays) (looks result stays left)
     where
       waiting : WaitsForLook stands slot a.site a.image old.session
       waiting = way_waits slot old a sound acts
@@ -224,11 +225,6 @@ module _ {R : Type 0} (stands : R → Standing) where
       on_way None way.Unbegun goes stays = tt
       on_way (Some r) w goes stays = subst (λ w. IsWellOnWay stands slot w new.session new.locks) (sym goes.0) tt
 
-      past : (r : Option Reply) → (is_some r ≡ false → new.session ≡ old.session) → (is_some r ≡ true → IsSome (running_at slot old.session) → held_in slot new.session.slots ≡ None)
-          → (there : SiteId) (image : ℕ) → any_past (lines_of new.session.lines there image) ≡ true → (any_past (lines_of old.session.lines there image) ≡ true) ⊎ IsOwned there image new.locks
-      past None stays gone there image any = inl (ap (λ (s : SessionView R). any_past (lines_of s.lines there image)) (sym (stays refl)) ∙ any)
-      past (Some r) stays gone there image any = inl (past_stays slot old.session new.session session (ap running_in (gone refl (ap is_some waiting.runs))) leaves.lines there image any)
-
   -- ---- a release
 
   pub found_may : (f : ImageAt → Bool) (ps : List ImageAt) (p : ImageAt) → find f ps ≡ Some p → f p ≡ true
@@ -238,6 +234,15 @@ module _ {R : Type 0} (stands : R → Standing) where
       go : (b : Bool) → f q ≡ b → cond b (Some q) (find f ps) ≡ Some p → (find f ps ≡ Some p → f p ≡ true) → f p ≡ true
       go true may is rest = ap f (sym (some_same q p is)) ∙ may
       go false may is rest = rest is
+
+  -- a release acts at slot 0 alone
+  pub released_at_zero : (c : ClientView R) (slot : ℕ) (r : Release) → actor_at stands slot c ≡ actor.Release r → actor_at stands 0 c ≡ actor.Release r
+  released_at_zero c slot r acts = go (slot == 0) acts
+    where
+      go : (b : Bool) → cond b (releasing c.release (due_release c)) (actor_on (state_in slot c.slots).way (own_look_at stands slot c.session) c.locks) ≡ actor.Release r
+          → releasing c.release (due_release c) ≡ actor.Release r
+      go true is = is
+      go false is = absurd (true≢false (sym (ap is_release is) ∙ on_way_no_release (state_in slot c.slots).way (own_look_at stands slot c.session) c.locks))
 
   abbrev release_or : Release → Actor → Release
   release_or r (actor.Release q) = q
@@ -282,7 +287,6 @@ module _ {R : Type 0} (stands : R → Standing) where
       (ap length slots ∙ sound.slots) (subst IsTelling (sym release) (left_telling r f)) counts (release_rests old r sound acts)
       (λ none. ap (state_in 0) slots ∙ sound.free 0 (ap (λ (s : SessionView R). held_in 0 s.slots) (sym same) ∙ none))
       (subst (λ w. IsWellOnWay stands 0 w new.session new.locks) (sym (ap (λ xs. (state_in 0 xs).way) slots ∙ none_at_first)) tt)
-      (λ there image any. inl (ap (λ (s : SessionView R). any_past (lines_of s.lines there image)) (sym same) ∙ any))
       (λ k differ p at. ap (own_look_at stands k) same ∙ at)
     where
       none_at_first : (state_in 0 old.slots).way ≡ way.Unbegun

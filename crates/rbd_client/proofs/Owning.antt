@@ -8,6 +8,7 @@ use Rattle.rbd_client.specs.declared.slot_state.Way.TheVariants as way
 use Rattle.rbd_client.specs.Actor.{any_taken, has_taken, is_at_rest}
 use Rattle.rbd_client.specs.Client.{ClientView, state_in}
 use Rattle.rbd_client.specs.Feeding.{comings_of, quiesced_by, resumes, CountsAll, IsAtRest}
+use Rattle.rbd_client.specs.Laws.{removes_header}
 use Rattle.rbd_client.specs.Sound.{IsOwned}
 use Rattle.rbd_kinds.specs.declared.answer.Answer.{Answer}
 use Rattle.rbd_kinds.specs.declared.answer.Answer.TheVariants as answer
@@ -32,23 +33,30 @@ use Rattle.rbd_session.specs.Lines.{lines_of}
 
 -- ---- one image
 
-abbrev pub is_drop : HeaderOp → Bool
-is_drop header.LockDrop = true
-is_drop o = false
+abbrev pub is_end : HeaderOp → Answer → Bool
+is_end header.LockDrop a = true
+is_end header.Remove answer.Done = true
+is_end o a = false
 
--- an operation drops the lock of an image
-abbrev pub drops : SiteId → Op → SiteId → (image : ℕ) → Bool
-drops site (op.Header on o) there image = is_drop o && is_at site on there image
-drops site o there image = false
+-- an operation ends the lock of an image by this answer
+abbrev pub ends : SiteId → Op → Answer → SiteId → (image : ℕ) → Bool
+ends site (op.Header on o) a there image = is_end o a && is_at site on there image
+ends site o a there image = false
 
-owned_answered : (o : HeaderOp) (a : Answer) (s : LockState) → is_drop o ≡ false → s.owned ≡ true → (answered o a s).owned ≡ true
+-- by what it is fed
+abbrev pub ends_by : SiteId → Op → Fed → SiteId → (image : ℕ) → Bool
+ends_by site o (fed.Answer a) there image = ends site o a there image
+ends_by site o fed.Passed there image = false
+
+owned_answered : (o : HeaderOp) (a : Answer) (s : LockState) → is_end o a ≡ false → s.owned ≡ true → (answered o a s).owned ≡ true
 owned_answered header.LockTake answer.Done s stays owned = refl
 owned_answered header.LockDrop a s stays owned = absurd (true≢false stays)
+owned_answered header.Remove answer.Done s stays owned = absurd (true≢false stays)
 owned_answered header.Watch answer.Done s stays owned = owned
 owned_answered header.Unwatch a s stays owned = owned
 owned_answered o a s stays owned = owned
 
-owned_counted : (site : SiteId) (o : Op) (a : Answer) (there : SiteId) (image : ℕ) (s : LockState) → drops site o there image ≡ false → s.owned ≡ true
+owned_counted : (site : SiteId) (o : Op) (a : Answer) (there : SiteId) (image : ℕ) (s : LockState) → ends site o a there image ≡ false → s.owned ≡ true
     → (counted site o a there image s).owned ≡ true
 owned_counted site (op.Header on o) a there image s stays owned = go (is_at site on there image) refl
   where
@@ -57,7 +65,7 @@ owned_counted site (op.Header on o) a there image s stays owned = go (is_at site
     and_true false is = refl
 
     go : (b : Bool) → is_at site on there image ≡ b → (cond b (answered o a s) s).owned ≡ true
-    go true same = owned_answered o a s (and_true (is_drop o) (ap (λ b. is_drop o && b) (sym same) ∙ stays)) owned
+    go true same = owned_answered o a s (and_true (is_end o a) (ap (λ b. is_end o a && b) (sym same) ∙ stays)) owned
     go false other = owned
 owned_counted site o a there image s stays owned = owned
 
@@ -76,18 +84,18 @@ owned_quiesced quiescing.Begins (Some p) site o (answer.Header h) there image s 
 owned_quiesced quiescing.Ends look site o (answer.Id i) there image s owned = owned_resumed site o i there image s owned
 owned_quiesced q look site o a there image s owned = owned
 
-pub owned_behind : (q : Quiescing) (look : Option ImageAt) (site : SiteId) (o : Op) (f : Fed) (there : SiteId) (image : ℕ) (s : LockState) → drops site o there image ≡ false
+pub owned_behind : (q : Quiescing) (look : Option ImageAt) (site : SiteId) (o : Op) (f : Fed) (there : SiteId) (image : ℕ) (s : LockState) → ends_by site o f there image ≡ false
     → s.owned ≡ true → (after_all (comings_of q look site o f) there image s).owned ≡ true
 owned_behind q look site o (fed.Answer a) there image s stays owned =
     owned_quiesced q look site o a there image (counted site o a there image s) (owned_counted site o a there image s stays owned)
 owned_behind q look site o fed.Passed there image s stays owned = owned
 
 pub keeps_owned : (q : Quiescing) (look : Option ImageAt) (site : SiteId) (o : Op) (f : Fed) (old new : LocksView) → CountsAll (comings_of q look site o f) old new
-    → (there : SiteId) (image : ℕ) → drops site o there image ≡ false → IsOwned there image old → IsOwned there image new
+    → (there : SiteId) (image : ℕ) → ends_by site o f there image ≡ false → IsOwned there image old → IsOwned there image new
 keeps_owned q look site o f old new counts there image stays owned =
     ap (λ (s : LockState). s.owned) (counts there image) ∙ owned_behind q look site o f there image (state_at there image old) stays owned
 
--- ---- a lock on which somebody relies isn't dropped
+-- ---- a lock on which somebody relies lasts
 
 pub taken_at : (slot : ℕ) (slots : List SlotState) (p : ImageAt) → (state_in slot slots).way ≡ way.Taken p → any_taken p.site p.image slots ≡ true
 taken_at slot [] p is = absurd (true≢false (sym (ap is_taken is)))
@@ -116,11 +124,34 @@ module _ {R : Type 0} (c : ClientView R) where
       go false true is = absurd (true≢false (sym is))
       go false false is = refl
 
-  pub not_dropped : (site : SiteId) (o : Op) (there : SiteId) (image : ℕ) → IsAtRest site o c → relies there image ≡ true → drops site o there image ≡ false
-  not_dropped site (op.Header on header.LockDrop) there image rest relied = go (is_at site on there image) refl
+  not_there : (site : SiteId) (on : ℕ) (there : SiteId) (image : ℕ) (P : SiteId → (image : ℕ) → Bool) → P site on ≡ false → P there image ≡ true → is_at site on there image ≡ false
+  not_there site on there image P here yonder = go (is_at site on there image) refl
     where
       go : (b : Bool) → is_at site on there image ≡ b → b ≡ false
-      go true same = absurd (true≢false (sym relied ∙ where_same (λ s i. relies s i ≡ false) site on there image same (rests site on rest)))
+      go true same = absurd (true≢false (sym yonder ∙ where_same (λ s i. P s i ≡ false) site on there image same here))
       go false other = refl
-  not_dropped site (op.Header on o) there image rest relied = refl
-  not_dropped site o there image rest relied = refl
+
+  pub rests_taken : (site : SiteId) (image : ℕ) → is_at_rest site image c ≡ true → any_taken site image c.slots ≡ false
+  rests_taken site image is = go (any_past (lines_of c.session.lines site image)) (any_taken site image c.slots) is
+    where
+      go : (a b : Bool) → (not a && not b) ≡ true → b ≡ false
+      go true b is = absurd (true≢false (sym is))
+      go false true is = absurd (true≢false (sym is))
+      go false false is = refl
+
+  -- a lock that a request has taken itself doesn't end
+  pub taken_lasts : (site : SiteId) (o : Op) (f : Fed) (there : SiteId) (image : ℕ) → IsAtRest site o c → any_taken there image c.slots ≡ true → ends_by site o f there image ≡ false
+  taken_lasts site (op.Header on header.LockDrop) (fed.Answer a) there image rest taken = not_there site on there image (λ s i. any_taken s i c.slots) (rests_taken site on rest) taken
+  taken_lasts site (op.Header on header.Remove) (fed.Answer answer.Done) there image rest taken = not_there site on there image (λ s i. any_taken s i c.slots) rest taken
+  taken_lasts site (op.Header on o) (fed.Answer a) there image rest taken = refl
+  taken_lasts site o (fed.Answer a) there image rest taken = refl
+  taken_lasts site o fed.Passed there image rest taken = refl
+
+  -- nor does one on which a request relies, unless the header is removed
+  pub relied_lasts : (site : SiteId) (o : Op) (f : Fed) (there : SiteId) (image : ℕ) → IsAtRest site o c → relies there image ≡ true → removes_header site o f there image ≡ false
+      → ends_by site o f there image ≡ false
+  relied_lasts site (op.Header on header.LockDrop) (fed.Answer a) there image rest relied stays = not_there site on there image relies (rests site on rest) relied
+  relied_lasts site (op.Header on header.Remove) (fed.Answer answer.Done) there image rest relied stays = stays
+  relied_lasts site (op.Header on o) (fed.Answer a) there image rest relied stays = refl
+  relied_lasts site o (fed.Answer a) there image rest relied stays = refl
+  relied_lasts site o fed.Passed there image rest relied stays = refl

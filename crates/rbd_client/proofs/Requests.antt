@@ -1,5 +1,5 @@
 -- What an answer to a request leaves of a client.
-use Rattle.std.proofs.Common.{◌≡◌, ◌⊎◌, inl, inr, ℕ, ◌==◌, ◌&&◌, ◌||◌, cond, Bool, true, false, length, Option, Some, None, refl, sym, ap, ◌∙◌, subst, true≢false}
+use Rattle.std.proofs.Common.{◌≡◌, ℕ, ◌==◌, ◌&&◌, ◌||◌, cond, Bool, true, false, length, Option, Some, None, refl, sym, ap, ◌∙◌, subst, true≢false}
 use Rattle.std.specs.Option.{is_some, option_map}
 use Rattle.rbd_client.specs.declared.actor.Actor.{Actor}
 use Rattle.rbd_client.specs.declared.actor.Actor.TheVariants as actor
@@ -11,8 +11,8 @@ use Rattle.rbd_client.specs.Client.{ClientView, state_in}
 use Rattle.rbd_client.specs.Feeding.{comings_of, state_behind, CountsAll, IsAtRest}
 use Rattle.rbd_client.specs.Sound.{IsOwned, IsSoundClient, IsTelling, IsWellOnWay, WaitsForLook}
 use Rattle.rbd_client.proofs.Kept.{sound_behind, LeavesSlots}
-use Rattle.rbd_client.proofs.Owning.{drops, keeps_owned}
-use Rattle.rbd_line.proofs.Past.{found_past, past_found}
+use Rattle.rbd_client.proofs.Owning.{ends}
+use Rattle.rbd_kinds.specs.declared.answer.Answer.TheVariants as answer
 use Rattle.rbd_course.specs.declared.stage.Stage.{Stage}
 use Rattle.rbd_kinds.specs.declared.answer.Answer.{Answer}
 use Rattle.rbd_kinds.specs.declared.header_op.HeaderOp.TheVariants as header
@@ -22,7 +22,7 @@ use Rattle.rbd_kinds.specs.declared.operation.Op.{Op}
 use Rattle.rbd_kinds.specs.declared.operation.Op.TheVariants as op
 use Rattle.rbd_kinds.specs.declared.reply.Reply.{Reply}
 use Rattle.rbd_kinds.specs.OperationKind.{kind_of}
-use Rattle.rbd_line.specs.Line.{Member, any_past, is_past_in, member_of}
+use Rattle.rbd_line.specs.Line.{Member, member_of}
 use Rattle.rbd_kinds.specs.declared.image_at.ImageAt.{ImageAt}
 use Rattle.rbd_locks.specs.declared.lock_state.LockState.{LockState}
 use Rattle.rbd_locks.specs.Locks.{LocksView, state_at}
@@ -36,7 +36,7 @@ use Rattle.rbd_session.specs.Advance.{track_of, IsFedWell}
 use Rattle.rbd_session.specs.Lines.{lines_of}
 use Rattle.rbd_session.specs.Session.{SessionView, ComesToIn, IsAtOwnLook, IsFed, IsReadied, IsSoundSession, OfRunning, going_in, held_in, is_look_at, kind_asked, op_asked, op_at, of_going, own_look_at, own_look_in, own_look_of, running_in}
 use Rattle.rbd_session.specs.Waits.{waits, waits_at}
-use Rattle.rbd_session.proofs.OwnLooks.{at_own_look, passes_by_own_look}
+use Rattle.rbd_session.proofs.OwnLooks.{at_own_look}
 use Rattle.rbd_session.proofs.OwnLooksStay.{stays_behind_feeding}
 use Rattle.rbd_session.proofs.Sound.{no_some, some_same}
 
@@ -112,12 +112,13 @@ module _ {R : Type 0} (stands : R → Standing) where
           ∙ ap (λ (q : Running R). own_look_of slot (kind_asked (stands q.request).plan) q.place s.lines) (some_same r w.request is)
           ∙ placed
 
-  -- ---- the operation of an own look drops no lock
+  -- ---- the operation of an own look ends no lock
 
-  look_drops_none : (at site : SiteId) (o : Op) (there : SiteId) (image : ℕ) → is_look_at at (Some (site, kind_of o)) ≡ true → drops site o there image ≡ false
-  look_drops_none at site (op.Header on header.LockDrop) there image is = absurd (true≢false (sym is))
-  look_drops_none at site (op.Header on o) there image is = refl
-  look_drops_none at site o there image is = refl
+  look_ends_none : (at site : SiteId) (o : Op) (a : Answer) (there : SiteId) (image : ℕ) → is_look_at at (Some (site, kind_of o)) ≡ true → ends site o a there image ≡ false
+  look_ends_none at site (op.Header on header.LockDrop) a there image is = absurd (true≢false (sym is))
+  look_ends_none at site (op.Header on header.Remove) answer.Done there image is = absurd (true≢false (sym is))
+  look_ends_none at site (op.Header on o) a there image is = refl
+  look_ends_none at site o a there image is = refl
 
   asked_kind : (plan : Plan) (site : SiteId) (o : Op) → op_asked plan ≡ Some (site, o) → kind_asked plan ≡ Some (site, kind_of o)
   asked_kind (Ask s why w next) site o is = ap (option_map (λ (x : SiteId × Op). (x.0, kind_of x.1))) is
@@ -126,9 +127,9 @@ module _ {R : Type 0} (stands : R → Standing) where
   asked_kind (Return r) site o is = absurd (no_some (site, o) is)
   asked_kind (Goto l) site o is = absurd (no_some (site, o) is)
 
-  pub look_drops_nothing : (slot : ℕ) (site : SiteId) (o : Op) (s : SessionView R) (p : ImageAt) → own_look_at stands slot s ≡ Some p → op_at stands slot s ≡ Some (site, o)
-      → (there : SiteId) (image : ℕ) → drops site o there image ≡ false
-  look_drops_nothing slot site o s p at wanted there image = by (going_in slot (held_in slot s.slots) s.lines) at wanted
+  pub look_ends_nothing : (slot : ℕ) (site : SiteId) (o : Op) (s : SessionView R) (p : ImageAt) → own_look_at stands slot s ≡ Some p → op_at stands slot s ≡ Some (site, o)
+      → (a : Answer) (there : SiteId) (image : ℕ) → ends site o a there image ≡ false
+  look_ends_nothing slot site o s p at wanted a there image = by (going_in slot (held_in slot s.slots) s.lines) at wanted
     where
       placed : (k : Bool) (q : ImageAt) (kind : _) → cond (is_look_at q.site kind && k) (Some q) None ≡ Some p → is_look_at q.site kind ≡ true
       placed k q kind is = go (is_look_at q.site kind) is
@@ -137,14 +138,14 @@ module _ {R : Type 0} (stands : R → Standing) where
           go true is = refl
           go false is = absurd (no_some p is)
 
-      by : (g : Option (Running R)) → own_look_in stands slot s.lines g ≡ Some p → of_going stands op_asked g ≡ Some (site, o) → drops site o there image ≡ false
+      by : (g : Option (Running R)) → own_look_in stands slot s.lines g ≡ Some p → of_going stands op_asked g ≡ Some (site, o) → ends site o a there image ≡ false
       by None at wanted = absurd (no_some p at)
       by (Some r) at wanted = go r.place at
         where
-          go : (place : Option ImageAt) → own_look_of slot (kind_asked (stands r.request).plan) place s.lines ≡ Some p → drops site o there image ≡ false
+          go : (place : Option ImageAt) → own_look_of slot (kind_asked (stands r.request).plan) place s.lines ≡ Some p → ends site o a there image ≡ false
           go None at = absurd (no_some p at)
           go (Some q) at =
-              look_drops_none q.site site o there image
+              look_ends_none q.site site o a there image
               (sym (ap (is_look_at q.site) (asked_kind (stands r.request).plan site o wanted))
               ∙ placed (waits_at (option_map (λ (m : Member). m.stage) (member_of slot (lines_of s.lines q.site q.image)))) q (kind_asked (stands r.request).plan) at)
 
@@ -197,22 +198,4 @@ module _ {R : Type 0} (stands : R → Standing) where
         (subst IsTelling (sym release) sound.telling) counts rest
         (λ none. state ∙ ap (λ b. state_behind b (is_some (own_look_at stands slot old.session)) (state_in slot old.slots)) (fed_free slot f result old.session new.session is_fed none))
         (subst (λ (s : SlotState). IsWellOnWay stands slot s.way new.session new.locks) (sym state) (way_over slot f old sound acts ready new.session new.locks (is_some result)))
-        past
         (λ k differ p at. stays_behind_feeding stands old.session new.session k slot p sound.session differ (leaves.held k differ) at f result is_fed leaves.lines)
-      where
-        past : (there : SiteId) (image : ℕ) → any_past (lines_of new.session.lines there image) ≡ true → (any_past (lines_of old.session.lines there image) ≡ true) ⊎ IsOwned there image new.locks
-        past there image any =
-            let found = past_found (lines_of new.session.lines there image) (session.fair there image).apart any in
-            by (passes_by_own_look stands is_ready old.session new.session slot f result ready is_fed leaves.lines found.member.slot there image (ap is_past_in found.found ∙ found.past))
-          where
-            was : (o : Option Member) (slot : ℕ) → member_of slot (lines_of old.session.lines there image) ≡ o → is_past_in o ≡ true → any_past (lines_of old.session.lines there image) ≡ true
-            was None k at is = absurd (true≢false (sym is))
-            was (Some m) k at is = found_past k (lines_of old.session.lines there image) m at is
-
-            by : {k : ℕ} → (is_past_in (member_of k (lines_of old.session.lines there image)) ≡ true) ⊎ ((k ≡ slot) × (own_look_at stands slot old.session ≡ Some (record { site = there; image = image })))
-                → (any_past (lines_of old.session.lines there image) ≡ true) ⊎ IsOwned there image new.locks
-            by {k} (inl before) = inl (was (member_of k (lines_of old.session.lines there image)) k refl before)
-            by {k} (inr looked) =
-                inr (keeps_owned (state_in slot old.slots).quiescing (own_look_at stands slot old.session) site o f old.locks new.locks counts there image
-                (look_drops_nothing slot site o old.session (record { site = there; image = image }) looked.1 wanted there image)
-                (request_owns slot old sound acts (record { site = there; image = image }) looked.1))

@@ -18,7 +18,6 @@ use Rattle.rbd_owner.specs.Acquire.{op_at as way_op, rest_at as way_rest}
 use Rattle.rbd_owner.specs.declared.acquire.Stage.{Stage as WayStage}
 use Rattle.rbd_owner.specs.declared.acquire.Stage.TheVariants as way_stage
 use Rattle.rbd_kinds.specs.declared.reply.Reply.TheVariants as reply
-use Rattle.rbd_owner.specs.declared.release.Release.{Release}
 use Rattle.rbd_owner.specs.declared.release.Stage.{Stage as ReleaseStage}
 use Rattle.rbd_owner.specs.declared.release.Stage.TheVariants as release_stage
 use Rattle.rbd_owner.specs.Release.{release_op_at, rest_at as release_rest}
@@ -127,6 +126,7 @@ module _ {R : Type 0} (stands : R → Standing) where
 
   drop_alike : (site : SiteId) (o : Op) (old new : ClientView R) → IsClientAlike stands old new → IsAtRest site o old → IsAtRest site o new
   drop_alike site (op.Header image header.LockDrop) old new alike rests = rest_alike site image old new alike ∙ rests
+  drop_alike site (op.Header image header.Remove) old new alike rests = ap (any_taken site image) alike.slots ∙ rests
   drop_alike site _ old new alike rests = tt
 
   pub drops_alike : (slot : ℕ) (site : SiteId) (o : Op) (old new : ClientView R) → IsClientAlike stands old new → IsAtRest site o old → DropsAtRest (actor_at stands slot new) site o new

@@ -1,6 +1,6 @@
 -- What has to be ready before an operation is done, and what its answer comes to.
 use Rattle.std.specs.Option.{is_some}
-use Rattle.std.specs.Prelude.{◌≡◌, ℕ, ◌<◌, Bool, true, if◌then◌else◌, List, [], ◌∷◌, Option, Some, None, IsSome}
+use Rattle.std.specs.Prelude.{◌≡◌, ℕ, ◌<◌, Bool, true, false, if◌then◌else◌, List, [], ◌∷◌, Option, Some, None, IsSome}
 use Rattle.rbd_client.specs.declared.actor.Actor.{Actor}
 use Rattle.rbd_client.specs.declared.actor.Actor.TheVariants as actor
 use Rattle.rbd_client.specs.declared.slot_state.Quiescing.{Quiescing}
@@ -8,7 +8,7 @@ use Rattle.rbd_client.specs.declared.slot_state.Quiescing.TheVariants as quiesci
 use Rattle.rbd_client.specs.declared.slot_state.SlotState.{SlotState}
 use Rattle.rbd_client.specs.declared.slot_state.Way.{Way}
 use Rattle.rbd_client.specs.declared.slot_state.Way.TheVariants as way
-use Rattle.rbd_client.specs.Actor.{actor_at, is_at_rest}
+use Rattle.rbd_client.specs.Actor.{actor_at, any_taken, is_at_rest}
 use Rattle.rbd_client.specs.Client.{ClientView, blank, state_in}
 use Rattle.rbd_kinds.specs.declared.answer.Answer.{Answer}
 use Rattle.rbd_kinds.specs.declared.answer.Answer.TheVariants as answer
@@ -77,10 +77,12 @@ pub record IsClientAlike {R : Type 0} (stands : R → Standing) (old new : Clien
   pub release : new.release ≡ old.release
   pub heard : new.heard ≡ old.heard
 
--- A request of the client drops a lock only where no request of the image relies on it: a `close`
--- is alone, and waits for all before it. A release sees to that by itself.
+-- A request of the client ends a lock only where no other request of the image relies on it. A
+-- `close` is alone, and waits for all before it; who removes the header is past own itself, alone,
+-- and nobody has taken the lock beside. A release sees to that by itself.
 abbrev pub IsAtRest : {R : Type 0} → SiteId → Op → ClientView R → Type 0
 IsAtRest site (op.Header image header.LockDrop) c = is_at_rest site image c ≡ true
+IsAtRest site (op.Header image header.Remove) c = any_taken site image c.slots ≡ false
 IsAtRest site o c = Unit {0}
 
 abbrev pub DropsAtRest : {R : Type 0} → Actor → SiteId → Op → ClientView R → Type 0

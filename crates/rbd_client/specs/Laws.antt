@@ -1,6 +1,13 @@
 -- What the laws on clients speak of.
-use Rattle.std.specs.Prelude.{◌≡◌, ◌||◌, ℕ, IsTrue}
+use Rattle.std.specs.Prelude.{◌≡◌, ◌||◌, ℕ, Bool, false, IsTrue}
+use Rattle.rbd_kinds.specs.declared.answer.Answer.TheVariants as answer
+use Rattle.rbd_kinds.specs.declared.header_op.HeaderOp.TheVariants as header
 use Rattle.rbd_kinds.specs.declared.id.SiteId.{SiteId}
+use Rattle.rbd_kinds.specs.declared.machine.Fed.{Fed}
+use Rattle.rbd_kinds.specs.declared.machine.Fed.TheVariants as fed
+use Rattle.rbd_kinds.specs.declared.operation.Op.{Op}
+use Rattle.rbd_kinds.specs.declared.operation.Op.TheVariants as op
+use Rattle.rbd_kinds.specs.Images.{is_at}
 use Rattle.rbd_locks.specs.Locks.{LocksView, state_at}
 use Rattle.rbd_owner.specs.declared.release.Release.{Release}
 use Rattle.rbd_owner.specs.declared.release.Stage.TheVariants as stage
@@ -12,3 +19,8 @@ IsHeldBack site image locks = IsTrue ((state_at site image locks).quiesced || (s
 -- a release that has yet to drop its lock
 abbrev pub DropsALock : Release → Type 0
 DropsALock r = r.stage ≡ stage.Dropping
+
+-- the header of the image was removed, and the lock with it
+abbrev pub removes_header : SiteId → Op → Fed → SiteId → (image : ℕ) → Bool
+removes_header site (op.Header on header.Remove) (fed.Answer answer.Done) there image = is_at site on there image
+removes_header site o f there image = false

@@ -5,7 +5,7 @@ use Rattle.rbd_client.specs.declared.slot_state.Way.TheVariants as way
 use Rattle.rbd_client.specs.Client.{ClientView, blank, state_in}
 use Rattle.rbd_course.specs.declared.stage.Stage.TheVariants as stage
 use Rattle.rbd_kinds.specs.declared.id.SiteId.{SiteId}
-use Rattle.rbd_line.specs.Line.{Member, any_past, member_of}
+use Rattle.rbd_line.specs.Line.{Member, member_of}
 use Rattle.rbd_locks.specs.Locks.{LocksView, state_at}
 use Rattle.rbd_machine.specs.Plan.{Standing}
 use Rattle.rbd_owner.specs.declared.release.Release.{Release}
@@ -41,11 +41,11 @@ abbrev pub IsTelling : Option Release → Type 0
 IsTelling None = Unit {0}
 IsTelling (Some r) = r.stage ≡ releasing.Telling
 
--- No request of an image is past own but where the lock counts as the session's.
+-- Each request that is on its way to a lock waits for its own look, and one that has taken the lock
+-- itself has it.
 pub record IsSoundClient {R : Type 0} (stands : R → Standing) (c : ClientView R) : Type 0 where
   pub session : IsSoundSession stands c.session
   pub slots : length c.slots ≡ 65
   pub free : (slot : ℕ) → held_in slot c.session.slots ≡ None → state_in slot c.slots ≡ blank
   pub ways : (slot : ℕ) → IsWellOnWay stands slot (state_in slot c.slots).way c.session c.locks
   pub telling : IsTelling c.release
-  pub owns : (site : SiteId) (image : ℕ) → IsTrue (any_past (lines_of c.session.lines site image)) → IsOwned site image c.locks

@@ -1,35 +1,40 @@
 //! What follows for every client: each law is the contract of a function that does nothing.
-ghost use Rattle.std.specs.Prelude.{◌≡◌, ℕ, true, Some, None, IsTrue, IsFalse};
+ghost use Rattle.std.specs.Prelude.{◌≡◌, ℕ, true, false, Option, Some, None, IsTrue, IsFalse};
 ghost use Rattle.rbd_client.specs.declared.actor.Actor.TheVariants as actor;
 ghost use Rattle.rbd_client.specs.declared.slot_state.Way.TheVariants as way;
-ghost use Rattle.rbd_client.specs.Actor.{actor_at, is_at_rest, kind_wanted};
+ghost use Rattle.rbd_client.specs.Actor.{actor_at, is_at_rest, kind_wanted, op_wanted};
 ghost use Rattle.rbd_client.specs.Client.{ClientView, state_in};
-ghost use Rattle.rbd_client.specs.Laws.{DropsALock, IsHeldBack};
+ghost use Rattle.rbd_client.specs.Feeding.{DropsAtRest, IsFedBy};
+ghost use Rattle.rbd_client.specs.Laws.{DropsALock, IsHeldBack, removes_header};
 ghost use Rattle.rbd_client.specs.Sound.{IsOwned, IsSoundClient};
 ghost use Rattle.rbd_kinds.specs.declared.id.SiteId.{SiteId as Site};
-ghost use Rattle.rbd_line.specs.Line.{Member, is_past, member_of};
+ghost use Rattle.rbd_kinds.specs.declared.machine.Fed.{Fed};
+ghost use Rattle.rbd_kinds.specs.declared.operation.Op.{Op};
+ghost use Rattle.rbd_kinds.specs.declared.reply.Reply.{Reply};
 ghost use Rattle.rbd_locks.specs.Locks.{state_at};
 ghost use Rattle.rbd_locks.specs.Places.{is_among};
 ghost use Rattle.rbd_owner.specs.declared.release.Release.{Release};
 ghost use Rattle.rbd_kinds.specs.declared.image_at.ImageAt.{ImageAt};
-ghost use Rattle.rbd_session.specs.Lines.{lines_of};
 ghost use Rattle.rbd_session.specs.Session.{own_look_at};
 
 use rbd_course::Request;
-
-/// No request of an image is past its own look but where the lock counts as the client's: nothing
-/// is changed without the lock.
-pub fn who_is_past_own_owns<R: Request>()
-    ensures { (c : ClientView R) (site : Site) (image : ℕ) (m : Member)
-        → IsSoundClient R.stands c → member_of m.slot (lines_of c.session.lines site image) ≡ Some m → IsTrue (is_past m.stage)
-        → IsOwned site image c.locks }
-{}
 
 /// A request at its own look is asked for it only where the lock counts as the client's.
 pub fn own_looks_need_the_lock<R: Request>()
     ensures { (c : ClientView R) (slot : ℕ) (p : ImageAt)
         → IsSoundClient R.stands c → own_look_at R.stands slot c.session ≡ Some p → actor_at R.stands slot c ≡ actor.Request
         → IsOwned p.site p.image c.locks }
+{}
+
+/// A lock that counts as the client's does so as long as a request of the image is past its own look
+/// or has taken the lock itself, whatever the client is answered. Only a header that one of them
+/// removes takes the lock with it: until then nothing is changed without the lock.
+pub fn locks_last_while_requests_rely<R: Request>()
+    ensures { (c d : ClientView R) (slot : ℕ) (site there : Site) (image : ℕ) (op : Op) (f : Fed) (result : Option Reply)
+        → IsSoundClient R.stands c → op_wanted R.stands slot c ≡ Some (site, op) → DropsAtRest (actor_at R.stands slot c) site op c
+        → IsFedBy R.stands slot site op f result c d (actor_at R.stands slot c)
+        → is_at_rest there image c ≡ false → IsFalse (removes_header site op f there image)
+        → IsOwned there image c.locks → IsOwned there image d.locks }
 {}
 
 /// A quiesced image, and a lock that was asked for, hold back each request at its own look that has

@@ -46,10 +46,11 @@
 //! - A notice that another client wants a lock is noted where the lock counts as this client's, and
 //!   passed over for good where it doesn't. What it is told by others is kept (`heard`).
 //!
-//! So no request of an image is past own but where the lock counts as the client's: that is the
-//! invariant of a client (`IsSoundClient`). That the lock counts as owned doesn't say that it is:
-//! another client may have fenced this one and taken it, and then the fence refuses whatever is
-//! still sent.
+//! So a request comes past own only where the lock counts as the client's, and it counts so on, as
+//! long as a request of the image is past own or has taken it itself. Only the removal of the header
+//! ends it sooner (`rm`): the lock goes with the header, and who removed it, alone, changes nothing
+//! by the lock any more. That the lock counts as owned doesn't say that it is: another client may
+//! have fenced this one and taken it, and then the fence refuses whatever is still sent.
 //!
 //! # Contracts
 //!
@@ -64,8 +65,9 @@
 //! | `specs/Sound.antt` | what holds of each client |
 //! | `specs/Laws.antt` | what the laws speak of |
 //!
-//! [`laws`] says that nobody is past own without the lock, nor asked for an own look, that a
-//! quiesced image and a wanted lock hold requests back, and when a release begins.
+//! [`laws`] says that nobody is asked for an own look without the lock, that a lock lasts while a
+//! request relies on it, that a quiesced image and a wanted lock hold requests back, and when a
+//! release begins.
 //!
 //! # Cost
 //!

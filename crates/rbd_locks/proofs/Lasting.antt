@@ -14,7 +14,7 @@ use Rattle.rbd_kinds.specs.declared.notice.NoticeKind.{NoticeKind}
 use Rattle.rbd_kinds.specs.declared.notice.NoticeKind.TheVariants as notice
 use Rattle.rbd_kinds.specs.declared.operation.Op.TheVariants as op
 use Rattle.rbd_locks.specs.declared.lock_state.LockState.{LockState}
-use Rattle.rbd_locks.specs.Comings.{Coming, ByAnswer, ByNotice, ByQuiesce, ByResume, after_all, after_one, is_drop, is_of, is_take, owned_since, owns_after}
+use Rattle.rbd_locks.specs.Comings.{Coming, ByAnswer, ByNotice, ByQuiesce, ByResume, after_all, after_one, is_end, is_of, is_take, owned_since, owns_after}
 use Rattle.rbd_kinds.specs.Images.{is_at}
 use Rattle.rbd_locks.specs.States.{answered, quieted, resumed, told}
 
@@ -43,6 +43,7 @@ chosen_owned false x s = refl
 answered_owned : (on : ℕ) (o : HeaderOp) (a : Answer) (s : LockState) → (answered o a s).owned ≡ owns_after s.owned (op.Header on o) a
 answered_owned on header.LockTake answer.Done s = refl
 answered_owned on header.LockDrop a s = refl
+answered_owned on header.Remove answer.Done s = refl
 answered_owned on header.Watch answer.Done s = refl
 answered_owned on header.Unwatch a s = refl
 answered_owned on o a s = refl
@@ -75,17 +76,18 @@ module _ (site : SiteId) (image : ℕ) where
       owned_is comings (after_one (ByResume there on) site image s)
       ∙ ap (λ owned. owned_since site image owned comings) (left_alone (is_at there on site image) _ s refl)
 
-  keeps_owned : (there : SiteId) (on : ℕ) (o : HeaderOp) (a : Answer) → is_drop site image (ByAnswer there (op.Header on o) a) ≡ false
+  keeps_owned : (there : SiteId) (on : ℕ) (o : HeaderOp) (a : Answer) → is_end site image (ByAnswer there (op.Header on o) a) ≡ false
       → cond (is_at there on site image) (owns_after true (op.Header on o) a) true ≡ true
   keeps_owned there on header.LockDrop a none = ap (λ b. cond b false true) none
+  keeps_owned there on header.Remove answer.Done none = ap (λ b. cond b false true) none
   keeps_owned there on header.LockTake answer.Done none = either (is_at there on site image) true
   keeps_owned there on o a none = either (is_at there on site image) true
 
-  stays_owned : (comings : List Coming) → list_any (is_drop site image) comings ≡ false → owned_since site image true comings ≡ true
+  stays_owned : (comings : List Coming) → list_any (is_end site image) comings ≡ false → owned_since site image true comings ≡ true
   stays_owned [] none = refl
   stays_owned (ByAnswer there (op.Header on o) a ∷ comings) none =
-      let first = is_drop site image (ByAnswer there (op.Header on o) a) in
-      let rest = list_any (is_drop site image) comings in
+      let first = is_end site image (ByAnswer there (op.Header on o) a) in
+      let rest = list_any (is_end site image) comings in
       ap (λ owned. owned_since site image owned comings) (keeps_owned there on o a (not_first first rest none))
       ∙ stays_owned comings (not_second first rest none)
   stays_owned (ByAnswer there o a ∷ comings) none = stays_owned comings none
@@ -97,6 +99,7 @@ module _ (site : SiteId) (image : ℕ) where
       → cond (is_at there on site image) (owns_after false (op.Header on o) a) false ≡ false
   keeps_free there on header.LockTake answer.Done none = ap (λ b. cond b true false) none
   keeps_free there on header.LockDrop a none = either (is_at there on site image) false
+  keeps_free there on header.Remove answer.Done none = either (is_at there on site image) false
   keeps_free there on o a none = either (is_at there on site image) false
 
   stays_free : (comings : List Coming) → list_any (is_take site image) comings ≡ false → owned_since site image false comings ≡ false
@@ -111,7 +114,7 @@ module _ (site : SiteId) (image : ℕ) where
   stays_free (ByQuiesce there on ∷ comings) none = stays_free comings none
   stays_free (ByResume there on ∷ comings) none = stays_free comings none
 
-  pub taken_stays : (s : LockState) (between : List Coming) → list_any (is_drop site image) between ≡ false
+  pub taken_stays : (s : LockState) (between : List Coming) → list_any (is_end site image) between ≡ false
       → (after_all (ByAnswer site (op.Header image header.LockTake) answer.Done ∷ between) site image s).owned ≡ true
   taken_stays s between none =
       owned_is (ByAnswer site (op.Header image header.LockTake) answer.Done ∷ between) s
@@ -122,6 +125,13 @@ module _ (site : SiteId) (image : ℕ) where
       → (after_all (ByAnswer site (op.Header image header.LockDrop) a ∷ between) site image s).owned ≡ false
   dropped_stays s a between none =
       owned_is (ByAnswer site (op.Header image header.LockDrop) a ∷ between) s
+      ∙ ap (λ b. owned_since site image (cond b false s.owned) between) (same_itself site image)
+      ∙ stays_free between none
+
+  pub removed_stays : (s : LockState) (between : List Coming) → list_any (is_take site image) between ≡ false
+      → (after_all (ByAnswer site (op.Header image header.Remove) answer.Done ∷ between) site image s).owned ≡ false
+  removed_stays s between none =
+      owned_is (ByAnswer site (op.Header image header.Remove) answer.Done ∷ between) s
       ∙ ap (λ b. owned_since site image (cond b false s.owned) between) (same_itself site image)
       ∙ stays_free between none
 
@@ -137,6 +147,7 @@ chosen P false x s of_x of_s = of_s
 answered_asked : (o : HeaderOp) (a : Answer) (s : LockState) → IsAskedOwned s → IsAskedOwned (answered o a s)
 answered_asked header.LockTake answer.Done s holds = λ is. refl
 answered_asked header.LockDrop a s holds = λ is. absurd (true≢false (sym is))
+answered_asked header.Remove answer.Done s holds = λ is. absurd (true≢false (sym is))
 answered_asked header.Watch answer.Done s holds = holds
 answered_asked header.Unwatch a s holds = holds
 answered_asked o a s holds = holds
@@ -177,35 +188,36 @@ module _ (site : SiteId) (image : ℕ) where
   IsAsked s = IsTrue s.asked
 
   answer_keeps : (there : SiteId) (on : ℕ) (o : HeaderOp) (a : Answer) (s : LockState)
-      → is_take site image (ByAnswer there (op.Header on o) a) ≡ false → is_drop site image (ByAnswer there (op.Header on o) a) ≡ false
+      → is_take site image (ByAnswer there (op.Header on o) a) ≡ false → is_end site image (ByAnswer there (op.Header on o) a) ≡ false
       → IsTrue s.asked → IsTrue (cond (is_at there on site image) (answered o a s) s).asked
-  answer_keeps there on header.LockTake answer.Done s no_take no_drop is = subst (λ b. IsTrue (cond b (answered header.LockTake answer.Done s) s).asked) (sym no_take) is
-  answer_keeps there on header.LockDrop a s no_take no_drop is = subst (λ b. IsTrue (cond b (answered header.LockDrop a s) s).asked) (sym no_drop) is
-  answer_keeps there on header.Watch answer.Done s no_take no_drop is = chosen IsAsked (is_at there on site image) _ s is is
-  answer_keeps there on header.Unwatch a s no_take no_drop is = chosen IsAsked (is_at there on site image) _ s is is
-  answer_keeps there on o a s no_take no_drop is = chosen IsAsked (is_at there on site image) _ s is is
+  answer_keeps there on header.LockTake answer.Done s no_take no_end is = subst (λ b. IsTrue (cond b (answered header.LockTake answer.Done s) s).asked) (sym no_take) is
+  answer_keeps there on header.LockDrop a s no_take no_end is = subst (λ b. IsTrue (cond b (answered header.LockDrop a s) s).asked) (sym no_end) is
+  answer_keeps there on header.Remove answer.Done s no_take no_end is = subst (λ b. IsTrue (cond b (answered header.Remove answer.Done s) s).asked) (sym no_end) is
+  answer_keeps there on header.Watch answer.Done s no_take no_end is = chosen IsAsked (is_at there on site image) _ s is is
+  answer_keeps there on header.Unwatch a s no_take no_end is = chosen IsAsked (is_at there on site image) _ s is is
+  answer_keeps there on o a s no_take no_end is = chosen IsAsked (is_at there on site image) _ s is is
 
-  stays_asked_by : (c : Coming) (s : LockState) → is_take site image c ≡ false → is_drop site image c ≡ false → IsTrue s.asked → IsTrue (after_one c site image s).asked
-  stays_asked_by (ByAnswer there (op.Header on o) a) s no_take no_drop is = answer_keeps there on o a s no_take no_drop is
-  stays_asked_by (ByAnswer there o a) s no_take no_drop is = is
-  stays_asked_by (ByNotice n) s no_take no_drop is = chosen IsAsked (is_at n.site n.image site image) (told n.kind s) s (asked_if_told n.kind s is) is
-  stays_asked_by (ByQuiesce there on) s no_take no_drop is = chosen IsAsked (is_at there on site image) _ s is is
-  stays_asked_by (ByResume there on) s no_take no_drop is = chosen IsAsked (is_at there on site image) _ s is is
+  stays_asked_by : (c : Coming) (s : LockState) → is_take site image c ≡ false → is_end site image c ≡ false → IsTrue s.asked → IsTrue (after_one c site image s).asked
+  stays_asked_by (ByAnswer there (op.Header on o) a) s no_take no_end is = answer_keeps there on o a s no_take no_end is
+  stays_asked_by (ByAnswer there o a) s no_take no_end is = is
+  stays_asked_by (ByNotice n) s no_take no_end is = chosen IsAsked (is_at n.site n.image site image) (told n.kind s) s (asked_if_told n.kind s is) is
+  stays_asked_by (ByQuiesce there on) s no_take no_end is = chosen IsAsked (is_at there on site image) _ s is is
+  stays_asked_by (ByResume there on) s no_take no_end is = chosen IsAsked (is_at there on site image) _ s is is
 
-  pub stays_asked : (comings : List Coming) (s : LockState) → list_any (is_take site image) comings ≡ false → list_any (is_drop site image) comings ≡ false
+  pub stays_asked : (comings : List Coming) (s : LockState) → list_any (is_take site image) comings ≡ false → list_any (is_end site image) comings ≡ false
       → IsTrue s.asked → IsTrue (after_all comings site image s).asked
-  stays_asked [] s no_take no_drop is = is
-  stays_asked (c ∷ comings) s no_take no_drop is =
+  stays_asked [] s no_take no_end is = is
+  stays_asked (c ∷ comings) s no_take no_end is =
       let takes = list_any (is_take site image) comings in
-      let drops = list_any (is_drop site image) comings in
-      stays_asked comings (after_one c site image s) (not_second (is_take site image c) takes no_take) (not_second (is_drop site image c) drops no_drop)
-      (stays_asked_by c s (not_first (is_take site image c) takes no_take) (not_first (is_drop site image c) drops no_drop) is)
+      let ends = list_any (is_end site image) comings in
+      stays_asked comings (after_one c site image s) (not_second (is_take site image c) takes no_take) (not_second (is_end site image c) ends no_end)
+      (stays_asked_by c s (not_first (is_take site image c) takes no_take) (not_first (is_end site image c) ends no_end) is)
 
 pub heard_stays : (n : Notice) (s : LockState) (between : List Coming) → n.kind ≡ notice.RequestLock → IsTrue s.owned
-    → list_any (is_take n.site n.image) between ≡ false → list_any (is_drop n.site n.image) between ≡ false
+    → list_any (is_take n.site n.image) between ≡ false → list_any (is_end n.site n.image) between ≡ false
     → IsTrue (after_all (ByNotice n ∷ between) n.site n.image s).asked
-heard_stays n s between kind owned no_take no_drop =
-    stays_asked n.site n.image between (after_one (ByNotice n) n.site n.image s) no_take no_drop
+heard_stays n s between kind owned no_take no_end =
+    stays_asked n.site n.image between (after_one (ByNotice n) n.site n.image s) no_take no_end
     (ap (λ b. (cond b (told n.kind s) s).asked) (same_itself n.site n.image) ∙ ap (λ k. (told k s).asked) kind ∙ ap (λ b. cond b true s.asked) owned)
 
 -- ---- other images

@@ -35,6 +35,7 @@ pub stays_blank : (image : ℕ) (o : HeaderOp) (a : Answer) (s : LockState) → 
 stays_blank image header.LockTake answer.Done s none = absurd (true≢false none)
 stays_blank image header.Watch answer.Done s none = absurd (true≢false none)
 stays_blank image header.LockDrop a s none = λ is. blank_without (s.owned) (s.watched) (s.quiesced) is
+stays_blank image header.Remove answer.Done s none = λ is. blank_without (s.owned) (s.watched) (s.quiesced) is
 stays_blank image header.Unwatch a s none = λ is. blank_unwatched (s.owned) (s.watched) (s.quiesced) is
 stays_blank image o a s none = λ is. is
 

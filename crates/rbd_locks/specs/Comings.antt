@@ -44,10 +44,11 @@ abbrev pub is_take : SiteId → (image : ℕ) → Coming → Bool
 is_take site image (ByAnswer there (op.Header on header.LockTake) answer.Done) = is_at there on site image
 is_take site image c = false
 
--- a drop of its lock was answered, whatever the answer
-abbrev pub is_drop : SiteId → (image : ℕ) → Coming → Bool
-is_drop site image (ByAnswer there (op.Header on header.LockDrop) a) = is_at there on site image
-is_drop site image c = false
+-- its lock ended: a drop of it was answered, whatever the answer, or the header was removed
+abbrev pub is_end : SiteId → (image : ℕ) → Coming → Bool
+is_end site image (ByAnswer there (op.Header on header.LockDrop) a) = is_at there on site image
+is_end site image (ByAnswer there (op.Header on header.Remove) answer.Done) = is_at there on site image
+is_end site image c = false
 
 -- ---- whether its lock counts as owned
 
@@ -55,6 +56,7 @@ is_drop site image c = false
 abbrev pub owns_after : (owned : Bool) → Op → Answer → Bool
 owns_after owned (op.Header image header.LockTake) answer.Done = true
 owns_after owned (op.Header image header.LockDrop) a = false
+owns_after owned (op.Header image header.Remove) answer.Done = false
 owns_after owned o a = owned
 
 -- behind all that come, of which the operations on that image alone count

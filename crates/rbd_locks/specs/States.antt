@@ -15,12 +15,18 @@ blank = record { owned = false; watched = false; asked = false; quiesced = false
 abbrev pub watching : Bool → LockState → LockState
 watching watched s = record { owned = s.owned; watched = watched; asked = s.asked; quiesced = s.quiesced }
 
+-- the lock isn't its own, nobody has asked for it, and the image isn't quiesced
+abbrev pub let_go : LockState → LockState
+let_go s = record { owned = false; watched = s.watched; asked = false; quiesced = false }
+
 -- An operation of the session on the header was answered. A lock is its own from a take that is
--- done up to the answer of a drop, whatever that answer is. Nobody has asked for it behind either,
--- and behind a drop the image isn't quiesced. A watch lasts up to the answer of an unwatch.
+-- done up to the answer of a drop, whatever that answer is, or up to the removal of the header, with
+-- which the lock goes. Nobody has asked for it behind any of them. A watch lasts up to the answer of
+-- an unwatch.
 abbrev pub answered : HeaderOp → Answer → LockState → LockState
 answered header.LockTake answer.Done s = record { owned = true; watched = s.watched; asked = false; quiesced = s.quiesced }
-answered header.LockDrop a s = record { owned = false; watched = s.watched; asked = false; quiesced = false }
+answered header.LockDrop a s = let_go s
+answered header.Remove answer.Done s = let_go s
 answered header.Watch answer.Done s = watching true s
 answered header.Unwatch a s = watching false s
 answered o a s = s
@@ -29,6 +35,7 @@ answered o a s = s
 abbrev pub is_counted : HeaderOp → Bool
 is_counted header.LockTake = true
 is_counted header.LockDrop = true
+is_counted header.Remove = true
 is_counted header.Watch = true
 is_counted header.Unwatch = true
 is_counted o = false

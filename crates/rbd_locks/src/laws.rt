@@ -12,23 +12,27 @@ ghost use Rattle.rbd_kinds.specs.declared.notice.NoticeKind.TheVariants as notic
 ghost use Rattle.rbd_kinds.specs.declared.operation.Op.TheVariants as op;
 ghost use Rattle.rbd_kinds.specs.declared.image_at.ImageAt.{ImageAt};
 ghost use Rattle.rbd_locks.specs.declared.lock_state.LockState.{LockState};
-ghost use Rattle.rbd_locks.specs.Comings.{Coming, ByAnswer, ByNotice, after_all, after_one, is_drop, is_of, is_take, owned_since};
+ghost use Rattle.rbd_locks.specs.Comings.{Coming, ByAnswer, ByNotice, after_all, after_one, is_end, is_of, is_take, owned_since};
 ghost use Rattle.rbd_locks.specs.Locks.{AreInOrder};
 ghost use Rattle.rbd_kinds.specs.Images.{image_cmp};
 ghost use Rattle.rbd_locks.specs.Places.{is_among, is_behind, next_behind};
 
 /// A lock counts as owned by the operations of the session on that image alone: from a `lock-take`
-/// that is done up to the next answer of a `lock-drop`, whatever else comes in between, and from
-/// that answer on it doesn't count as owned until the next `lock-take` that is done.
-pub fn locks_are_owned_from_take_to_drop()
+/// that is done up to the next answer of a `lock-drop`, or the next `header-remove` that is done,
+/// whatever else comes in between, and from there on it doesn't count as owned until the next
+/// `lock-take` that is done.
+pub fn locks_are_owned_from_take_to_end()
     ensures by_operations { (site : SiteId) (image : ℕ) (s : LockState) (comings : List Coming)
         → (after_all comings site image s).owned ≡ owned_since site image s.owned comings }
     ensures taken { (site : SiteId) (image : ℕ) (s : LockState) (between : List Coming)
-        → IsFalse (list_any (is_drop site image) between)
+        → IsFalse (list_any (is_end site image) between)
         → IsTrue (after_all (ByAnswer site (op.Header image header.LockTake) answer.Done ∷ between) site image s).owned }
     ensures dropped { (site : SiteId) (image : ℕ) (s : LockState) (a : Answer) (between : List Coming)
         → IsFalse (list_any (is_take site image) between)
         → IsFalse (after_all (ByAnswer site (op.Header image header.LockDrop) a ∷ between) site image s).owned }
+    ensures removed { (site : SiteId) (image : ℕ) (s : LockState) (between : List Coming)
+        → IsFalse (list_any (is_take site image) between)
+        → IsFalse (after_all (ByAnswer site (op.Header image header.Remove) answer.Done ∷ between) site image s).owned }
 {}
 
 /// Only a lock that counts as owned is asked for, whatever comes.
@@ -38,12 +42,12 @@ pub fn asked_locks_are_owned()
         → IsTrue (after_all comings site image s).asked → IsTrue (after_all comings site image s).owned }
 {}
 
-/// Who asks for a lock that counts as owned has asked until the answer of a drop, unless the lock
-/// is taken anew before. Who asks for one that doesn't is passed over for good.
-pub fn askings_stay_until_the_drop()
+/// Who asks for a lock that counts as owned has asked until the lock ends, unless it is taken anew
+/// before. Who asks for one that doesn't is passed over for good.
+pub fn askings_stay_until_the_end()
     ensures heard { (n : Notice) (s : LockState) (between : List Coming)
         → n.kind ≡ notice.RequestLock → IsTrue s.owned
-        → IsFalse (list_any (is_take n.site n.image) between) → IsFalse (list_any (is_drop n.site n.image) between)
+        → IsFalse (list_any (is_take n.site n.image) between) → IsFalse (list_any (is_end n.site n.image) between)
         → IsTrue (after_all (ByNotice n ∷ between) n.site n.image s).asked }
     ensures missed { (n : Notice) (s : LockState) (site : SiteId) (image : ℕ)
         → IsFalse s.owned → after_one (ByNotice n) site image s ≡ s }

@@ -1,6 +1,6 @@
 //! What a session counts of the lock of one image.
 ghost use Rattle.std.specs.Prelude.{◌≡◌};
-ghost use Rattle.rbd_locks.specs.States.{answered, blank, is_counted as counts, quieted, resumed};
+ghost use Rattle.rbd_locks.specs.States.{answered, blank, is_counted as counts, let_go, quieted, resumed};
 
 use rbd_kinds::{Answer, HeaderOp};
 
@@ -24,6 +24,7 @@ pub fn is_counted(op: &HeaderOp) -> bool
     match op {
         HeaderOp::LockTake => true,
         HeaderOp::LockDrop => true,
+        HeaderOp::Remove => true,
         HeaderOp::Watch => true,
         HeaderOp::Unwatch => true,
         _ => false,
@@ -53,12 +54,8 @@ impl LockState {
                 asked: false,
                 ..*self
             },
-            (HeaderOp::LockDrop, _) => LockState {
-                owned: false,
-                asked: false,
-                quiesced: false,
-                ..*self
-            },
+            (HeaderOp::LockDrop, _) => self.let_go(),
+            (HeaderOp::Remove, Answer::Done) => self.let_go(),
             (HeaderOp::Watch, Answer::Done) => LockState {
                 watched: true,
                 ..*self
@@ -68,6 +65,18 @@ impl LockState {
                 ..*self
             },
             _ => *self,
+        }
+    }
+
+    /// Behind what ends its lock.
+    fn let_go(&self) -> Self
+        ensures { result ≡ let_go self.now }
+    {
+        LockState {
+            owned: false,
+            asked: false,
+            quiesced: false,
+            ..*self
         }
     }
 

@@ -116,8 +116,8 @@ pub fn wants_none<R: Request>(
 
 // ---- answers
 
-/// Whether an operation on a header drops no lock that a request relies on.
-#[tactic(auto, using(crate::proofs::Drops::other_drops_nothing))]
+/// Whether an operation on a header ends no lock that a request relies on.
+#[tactic(auto, using(crate::proofs::Drops::other_drops_nothing, crate::proofs::Drops::nobody_took))]
 fn header_at_rest<R: Request>(
     client: &Client<R>,
     site: SiteId,
@@ -128,6 +128,7 @@ fn header_at_rest<R: Request>(
 {
     match op {
         HeaderOp::LockDrop => client.is_at_rest(&ImageAt { site, image }),
+        HeaderOp::Remove => client.is_at_rest(&ImageAt { site, image }),
         _ => true,
     }
 }

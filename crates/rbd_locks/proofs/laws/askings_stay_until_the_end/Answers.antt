@@ -1,5 +1,5 @@
 use Rattle.rbd_locks.proofs.Lasting.{heard_stays, missed}
-use Rattle.rbd_locks.proofs.laws.askings_stay_until_the_drop.Goals as goal
+use Rattle.rbd_locks.proofs.laws.askings_stay_until_the_end.Goals as goal
 
 pub returns-clause-heard : goal.returns-clause-heard
 returns-clause-heard c = heard_stays

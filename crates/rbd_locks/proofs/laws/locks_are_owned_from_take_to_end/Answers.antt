@@ -1,5 +1,5 @@
-use Rattle.rbd_locks.proofs.Lasting.{dropped_stays, owned_is, taken_stays}
-use Rattle.rbd_locks.proofs.laws.locks_are_owned_from_take_to_drop.Goals as goal
+use Rattle.rbd_locks.proofs.Lasting.{dropped_stays, owned_is, removed_stays, taken_stays}
+use Rattle.rbd_locks.proofs.laws.locks_are_owned_from_take_to_end.Goals as goal
 
 pub returns-clause-by_operations : goal.returns-clause-by_operations
 returns-clause-by_operations c = λ site image s comings. owned_is site image comings s
@@ -9,3 +9,6 @@ returns-clause-taken c = taken_stays
 
 pub returns-clause-dropped : goal.returns-clause-dropped
 returns-clause-dropped c = dropped_stays
+
+pub returns-clause-removed : goal.returns-clause-removed
+returns-clause-removed c = removed_stays
