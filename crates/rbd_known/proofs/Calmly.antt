@@ -1,4 +1,5 @@
--- The plans of looks, of listings, of `create`, `resume` and `tell` wait for nothing, step by step.
+-- The plans of looks, of listings, of `create`, `rename`, `resume` and `tell` wait for nothing, step
+-- by step.
 use Rattle.std.proofs.Common.{◌≡◌, ◌⊎◌, inl, inr, ℕ, List, [], ◌∷◌, ◌++◌, replicate, Bool, true, false, cond, eqb, Option, Some, None, sym, ◌∙◌, subst}
 use Rattle.std.specs.Prelude.{◌||◌}
 use Rattle.std.proofs.lemmas.Bool.{true≢false, or_parts}
@@ -22,19 +23,25 @@ use Rattle.rbd_header.specs.Header.{new_header, view_of}
 use Rattle.rbd_header.specs.declared.view.View.{View}
 use Rattle.rbd_machine.specs.Label as label
 use Rattle.rbd_machine.specs.Plan.{Plan, Return, Goto, Standing, without_labels}
-use Rattle.rbd_machine.specs.Steps.{unless, not_there, on_id, on_header, on_done}
-use Rattle.rbd_meaning.specs.Listings.{shown_snaps}
+use Rattle.rbd_machine.specs.Steps.{unless, not_there, on_bits, on_id, on_header, on_done}
+use Rattle.rbd_machine.specs.declared.seat.Seat.{Seat}
+use Rattle.rbd_meaning.specs.Count.{object_count}
+use Rattle.rbd_meaning.specs.Listings.{shown_snaps, used_among}
 use Rattle.rbd_meaning.specs.Range.{out_of_range}
 use Rattle.rbd_piece.specs.Gather.{gather, on_bytes}
 use Rattle.rbd_request.specs.Read.{IsReadOf, pass, looking, reading, viewing, gathering, closing, on_closing}
 use Rattle.rbd_request.specs.Seen.{Seen, seen_at, shown}
 use Rattle.rbd_request.specs.Write.{is_write}
 use Rattle.rbd_admin.specs.Create.{IsCreate, IsCreatePlan, on_drawn, making, mapping, drawing}
-use Rattle.rbd_admin.specs.Listing.{on_names, showing, show_header, listing_plan}
+use Rattle.rbd_admin.specs.Listing.{counting, listing_plan, measuring, on_names, on_renamed, show_header, show_used, showing}
 use Rattle.rbd_admin.specs.Snap.{is_snap}
 use Rattle.rbd_admin.proofs.Decided.{limits_or_not}
 use Rattle.rbd_close.specs.Close.{done, resumed, saying, close_plan}
-use Rattle.rbd_requests.specs.Served.{IsPlanFor, Writes, Reads, Creates, Lists, Snaps, Closes}
+use Rattle.rbd_discard.specs.Discard.{is_discard}
+use Rattle.rbd_remove.specs.Remove.{is_remove}
+use Rattle.rbd_resize.specs.Resize.{is_resize}
+use Rattle.rbd_resize.specs.Rollback.{is_rollback}
+use Rattle.rbd_requests.specs.Served.{IsPlanFor, Writes, Discards, Reads, Creates, Lists, Snaps, Resizes, Rollbacks, Removes, Closes}
 use Rattle.rbd_known.specs.Calm.{IsCalm, IsCalmRequest, closes_in_line, is_change}
 
 -- ---- steps
@@ -58,6 +65,10 @@ calm_on_done next calm a = calm_not_there a
 calm_unless : (r : Option Refusal) (next : Plan) → IsCalm next → IsCalm (unless r next)
 calm_unless None next calm = calm
 calm_unless (Some r) next calm = tt
+
+calm_on_bits : (next : List ℕ → Plan) → ((bits : List ℕ) → IsCalm (next bits)) → (a : Answer) → IsCalm (on_bits next a)
+calm_on_bits next calm (answer.Bits bits) = calm bits
+calm_on_bits next calm a = calm_not_there a
 
 -- ---- read
 
@@ -123,7 +134,7 @@ calm_create : (site : SiteId) (c : Command) (plan : Plan) → IsCreatePlan site 
 calm_create site (command.Create image size shape) plan is = calm_is_create site image size shape plan is
 calm_create site _ plan is = absurd is
 
--- ---- ls, info, snap ls
+-- ---- ls, info, snap ls, du, rename
 
 calm_on_names : (next : List (List ℕ) → Plan) → ((names : List (List ℕ)) → IsCalm (next names)) → (a : Answer) → IsCalm (on_names next a)
 calm_on_names next calm (answer.Names names) = calm names
@@ -133,10 +144,21 @@ calm_show_header : (site : SiteId) (name : List ℕ) (shows : HeaderView → Rep
 calm_show_header site name shows = λ found.
     calm_on_id (showing site shows) (λ image. calm_on_header (λ h. Return (shows h)) (λ h. tt)) found
 
+calm_show_used : (site : SiteId) (name : List ℕ) → IsCalm (show_used site name)
+calm_show_used site name = λ found.
+    calm_on_id (measuring site) (λ image. calm_on_header (λ h. counting site image (object_count h.layout h.size)) (λ h told. calm_on_bits (λ bits. Return (reply.Used (used_among (object_count h.layout h.size) bits) (object_count h.layout h.size))) (λ bits. tt) told)) found
+
+calm_on_renamed : (a : Answer) → IsCalm (on_renamed a)
+calm_on_renamed answer.Done = tt
+calm_on_renamed answer.Exists = tt
+calm_on_renamed a = calm_not_there a
+
 calm_listing : (site : SiteId) (c : Command) → IsCalm (listing_plan site c)
 calm_listing site command.List = λ a. calm_on_names (λ names. Return (reply.Names names)) (λ names. tt) a
 calm_listing site (command.Info image) = calm_show_header site image reply.Info
 calm_listing site (command.SnapList image) = calm_show_header site image shown_snaps
+calm_listing site (command.Used image) = calm_show_used site image
+calm_listing site (command.Rename from to) = λ a. calm_on_renamed a
 calm_listing site _ = tt
 
 -- ---- resume, tell
@@ -150,21 +172,38 @@ calm_close site _ apart = tt
 
 -- ---- all of them
 
--- none of the three
-parts_of_none : (c : Command) → is_change c ≡ false → (is_write c ≡ false) × (is_snap c ≡ false) × (closes_in_line c ≡ false)
+-- none of them
+record IsNone (c : Command) : Type 0 where
+  write : is_write c ≡ false
+  discard : is_discard c ≡ false
+  snap : is_snap c ≡ false
+  resize : is_resize c ≡ false
+  rollback : is_rollback c ≡ false
+  removal : is_remove c ≡ false
+  close : closes_in_line c ≡ false
+
+parts_of_none : (c : Command) → is_change c ≡ false → IsNone c
 parts_of_none c none =
-    let later = or_parts (is_write c || is_snap c) (closes_in_line c) none in
-    let first = or_parts (is_write c) (is_snap c) later.0 in
-    (first.0, first.1, later.1)
+    let seventh = or_parts (is_write c || is_discard c || is_snap c || is_resize c || is_rollback c || is_remove c) (closes_in_line c) none in
+    let sixth = or_parts (is_write c || is_discard c || is_snap c || is_resize c || is_rollback c) (is_remove c) seventh.0 in
+    let fifth = or_parts (is_write c || is_discard c || is_snap c || is_resize c) (is_rollback c) sixth.0 in
+    let fourth = or_parts (is_write c || is_discard c || is_snap c) (is_resize c) fifth.0 in
+    let third = or_parts (is_write c || is_discard c) (is_snap c) fourth.0 in
+    let second = or_parts (is_write c) (is_discard c) third.0 in
+    record { write = second.0; discard = second.1; snap = third.1; resize = fourth.1; rollback = fifth.1; removal = sixth.1; close = seventh.1 }
 
 -- a request without labels waits for nothing where its plan doesn't
 from_plan : (plan : Plan) (s : Standing) → s ≡ without_labels plan → IsCalm plan → IsCalmRequest s
 from_plan plan s is calm = subst IsCalmRequest (sym is) (record { plan = calm; labels = λ label. tt })
 
-pub look_is_calm : (home : SiteId) (c : Command) (s : Standing) → is_change c ≡ false → IsPlanFor home c s → IsCalmRequest s
-look_is_calm home c s none (Writes is at_plan) = absurd (true≢false (sym is ∙ (parts_of_none c none).0))
-look_is_calm home c s none (Reads is) = calm_read home c s is
-look_is_calm home c s none (Creates is at_plan) = from_plan s.plan s at_plan (calm_create home c s.plan is)
-look_is_calm home c s none (Lists is at_plan) = from_plan (listing_plan home c) s at_plan (calm_listing home c)
-look_is_calm home c s none (Snaps is at_plan) = absurd (true≢false (sym is ∙ (parts_of_none c none).1))
-look_is_calm home c s none (Closes is at_plan) = from_plan (close_plan home c) s at_plan (calm_close home c (parts_of_none c none).2)
+pub look_is_calm : (seat : Seat) (c : Command) (s : Standing) → is_change c ≡ false → IsPlanFor seat c s → IsCalmRequest s
+look_is_calm seat c s none (Writes is at_plan) = absurd (true≢false (sym is ∙ (parts_of_none c none).write))
+look_is_calm seat c s none (Discards is at_plan) = absurd (true≢false (sym is ∙ (parts_of_none c none).discard))
+look_is_calm seat c s none (Reads is) = calm_read seat.home c s is
+look_is_calm seat c s none (Creates is at_plan) = from_plan s.plan s at_plan (calm_create seat.home c s.plan is)
+look_is_calm seat c s none (Lists is at_plan) = from_plan (listing_plan seat.home c) s at_plan (calm_listing seat.home c)
+look_is_calm seat c s none (Snaps is at_plan) = absurd (true≢false (sym is ∙ (parts_of_none c none).snap))
+look_is_calm seat c s none (Resizes is at_plan) = absurd (true≢false (sym is ∙ (parts_of_none c none).resize))
+look_is_calm seat c s none (Rollbacks is at_plan) = absurd (true≢false (sym is ∙ (parts_of_none c none).rollback))
+look_is_calm seat c s none (Removes is at_plan) = absurd (true≢false (sym is ∙ (parts_of_none c none).removal))
+look_is_calm seat c s none (Closes is at_plan) = from_plan (close_plan seat.home c) s at_plan (calm_close seat.home c (parts_of_none c none).close)

@@ -8,7 +8,11 @@ use Rattle.rbd_kinds.specs.declared.id.SiteId.{SiteId}
 use Rattle.rbd_machine.specs.Knowledge.{Knowledge, is_gone, own_of}
 use Rattle.rbd_machine.specs.Label.{Label}
 use Rattle.rbd_machine.specs.Plan.{Plan, Ask, Await, Note, Return, Goto, Standing}
+use Rattle.rbd_discard.specs.Discard.{is_discard}
+use Rattle.rbd_remove.specs.Remove.{is_remove}
 use Rattle.rbd_request.specs.Write.{is_write}
+use Rattle.rbd_resize.specs.Resize.{is_resize}
+use Rattle.rbd_resize.specs.Rollback.{is_rollback}
 
 abbrev pub IsCalm : Plan → Type 0
 IsCalm (Ask site why op next) = (answer : Answer) → IsCalm (next answer)
@@ -35,4 +39,4 @@ closes_in_line _ = false
 
 -- a command that waits in the line of an image
 abbrev pub is_change : Command → Bool
-is_change c = is_write c || is_snap c || closes_in_line c
+is_change c = is_write c || is_discard c || is_snap c || is_resize c || is_rollback c || is_remove c || closes_in_line c

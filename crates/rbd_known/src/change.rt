@@ -12,8 +12,12 @@ pub fn is_change(command: &Command) -> bool
     match command {
         Command::Write { .. } => true,
         Command::Fill { .. } => true,
+        Command::Discard { .. } => true,
+        Command::Resize { .. } => true,
+        Command::Remove { .. } => true,
         Command::SnapCreate { .. } => true,
         Command::SnapRemove { .. } => true,
+        Command::SnapRollback { .. } => true,
         Command::Close { .. } => true,
         Command::Quiesce { .. } => true,
         _ => false,

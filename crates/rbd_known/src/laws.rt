@@ -94,8 +94,9 @@ pub fn calm_requests_own_nothing()
     ensures acted_beside { (site : Site) (r : Records) (me you : Instance) (k j : Knowledge) (op : Op) → OwnsNothing j → MayAct site r me you k j op }
 {}
 
-/// Only a `write`, a `fill`, a `snap create`, a `snap rm`, a `close` and a `quiesce` wait for
-/// anything: those that wait in the line of an image.
+/// Only what changes an image or closes it waits for anything, and waits in the line of that image:
+/// a `write`, a `fill`, a `discard`, a `resize`, an `rm`, a `snap create`, a `snap rm`, a `snap
+/// rollback`, a `close` and a `quiesce`.
 pub fn looks_wait_for_nothing()
     ensures { (seat : Seat) (command : Command) (s : Standing) → is_change command ≡ false → IsPlanFor seat command s → IsCalmRequest s }
 {}

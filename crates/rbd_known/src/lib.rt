@@ -20,19 +20,24 @@
 //!   header of it only past its own look.
 //! - So a request that may go on to its own look finds nobody beside it that knows the header and
 //!   is alone, and is alone itself only where nobody knows it.
-//! - A request that waits for nothing (a look, a listing, a `create`, a `resume`, a `tell`) owns
-//!   nothing. A `close` and a `quiesce` wait in the line of their image, as a change does.
+//! - Where others change the image too, it knows of a single object only in its turn there: that it
+//!   raised the object's state, or removed the object. It has that turn in its line as long as it
+//!   knows so, whatever others do, since tickets are taken in the order of the line. So who may go on
+//!   in its turn finds nobody else that knows anything of the object.
+//! - A request that waits for nothing (a look, a listing, a `create`, a `rename`, a `resume`, a
+//!   `tell`) owns nothing, and removes no image. A `close` and a `quiesce` wait in the line of their
+//!   image, as a change does.
 //!
 //! # Contracts
 //!
 //! | file | what it says |
 //! |---|---|
 //! | `specs/Tied.antt` | how knowledge goes with the place in a line (`IsTied`) |
-//! | `specs/Knowing.antt` | what the slots know (`AllKnow`), and once one was fed (`knows_after`) |
+//! | `specs/Knowing.antt` | what the slots know (`AllKnow`), once one was fed (`knows_after`), and that turns are kept (`HasItsTurns`, `KeepsTurns`) |
 //! | `specs/Calm.antt` | requests that wait for nothing |
 //!
-//! [`laws`] says that a session's calls keep this, that who may go on may look (`MayAct` of
-//! `rbd_rely`), and which commands wait for nothing. [`is_change`] tells whether a
+//! [`laws`] says that a session's calls keep this, that who may go on may act beside the others
+//! (`MayAct` of `rbd_rely`), and which commands wait for nothing. [`is_change`] tells whether a
 //! command waits in the line of an image.
 #![tactic(auto)]
 
