@@ -340,7 +340,7 @@ module _ (site : SiteId) (r : Records) (me : Instance) (k : Knowledge) (most : �
       → finds_image (op.Map image (states.Set None object state)) (done_where (is_some map)) ≡ true
   finds_map image object state owns None is =
       let there = owned_there site r me k image _ t free owns in
-      absurd (true≢false (sym (mapped image there.view there.is).there.head ∙ ap is_some is))
+      absurd (true≢false (sym (mapped.images image there.view there.is).there.head ∙ ap is_some is))
   finds_map image object state owns (Some map) is = refl
 
   -- and that of an image whose header it removed, until it removes the map too

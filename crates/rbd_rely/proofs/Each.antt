@@ -10,7 +10,8 @@ use Rattle.rbd_object.specs.Mapped.{Mapped}
 use Rattle.rbd_machine.specs.Knowledge.{Knowledge, ObjectsKnown, is_drawn, is_fenced_by, is_gone, maps_of, objects_of, own_of}
 use Rattle.rbd_site.specs.Records.{Records, object_at}
 use Rattle.rbd_site.specs.Step.{is_fenced}
-use Rattle.rbd_rely.specs.Truth.{AreMapsTrue, AreObjectsTrue, AreZeros, IsCountTrue, IsGoneAt, IsStill, IsTrueAt, IsWaiting, KnowsNoHeader, header_of_own, is_alone_on, is_own_alone, known_header}
+use Rattle.rbd_stands.specs.Covering.{Maps}
+use Rattle.rbd_rely.specs.Truth.{AreMapsTrue, AreObjectsTrue, AreZeros, HasNoStates, IsCountTrue, IsGoneAt, IsStill, IsTrueAt, IsWaiting, KnowsNoHeader, header_of_own, is_alone_on, is_own_alone, known_header}
 use Rattle.rbd_rely.proofs.MapsBehind.{at_each}
 
 pub record IsTrueOfImage (site : SiteId) (r : Records) (me : Instance) (k : Knowledge) (image : ℕ) : Type 0 where
@@ -72,6 +73,7 @@ waits_as r new image like w = record {
   drawn = let before = w.drawn in let more = like.drawn in omega (arith, before, more);
   header = like.header ∙ w.header;
   blank = λ number. like.objects number ∙ w.blank number;
+  unraised = subst (λ (maps : Maps). HasNoStates (maps None)) (sym like.maps) w.unraised;
 }
 
 pub gone_as : (r new : Records) (image : ℕ) → IsThereAs r new image → IsGoneAt r image → IsGoneAt new image

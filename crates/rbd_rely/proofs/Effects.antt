@@ -151,7 +151,7 @@ module _ (site : SiteId) (r : Records) (f : Flat) (k : Knowledge) (me : Instance
         are = (t.mapped free image (ap is_some known)).states alone state.states state.told
 
         covers : Covers are.there (exists_at (object_at r image) None)
-        covers = subst (λ map. IsCovered map (exists_at (object_at r image) None)) are.is (mapped image there_is.view there_is.is).covered.head
+        covers = subst (λ map. IsCovered map (exists_at (object_at r image) None)) are.is (mapped.images image there_is.view there_is.is).covered.head
 
         missing : (head : Option (List ℕ)) → is_some head ≡ false → head ≡ None
         missing None absent = refl

@@ -12,11 +12,12 @@ use Rattle.rbd_kinds.specs.declared.header_op.HeaderOp.{HeaderOp}
 use Rattle.rbd_kinds.specs.declared.header_op.HeaderOp.TheVariants as header
 use Rattle.rbd_kinds.specs.declared.id.Instance.{Instance}
 use Rattle.rbd_kinds.specs.declared.id.SiteId.{SiteId}
+use Rattle.rbd_kinds.specs.declared.map_op.MapOp.{MapOp}
 use Rattle.rbd_kinds.specs.declared.operation.Op.{Op}
 use Rattle.rbd_kinds.specs.declared.operation.Op.TheVariants as op
 use Rattle.rbd_object.specs.Mapped.{Mapped, mapped_blank, mapped_trim}
 use Rattle.rbd_machine.specs.Knowledge.{Knowledge, is_drawn, is_gone, maps_of, objects_of}
-use Rattle.rbd_machine.specs.Permits.{Permits, PermitsOnHeader, PermitsOnObject, OwnsBy}
+use Rattle.rbd_machine.specs.Permits.{Permits, PermitsOnHeader, PermitsOnMap, PermitsOnObject, OwnsBy}
 use Rattle.rbd_site.specs.HeaderStep.{header_after, is_owner}
 use Rattle.rbd_site.specs.Laws.{is_look}
 use Rattle.rbd_site.specs.Log.{expired, live_in, trimmed}
@@ -31,11 +32,12 @@ use Rattle.rbd_stands.proofs.EditSteps.{untouched_served, drawn_served}
 use Rattle.rbd_stands.proofs.StoreSteps.{blank_trimmed}
 use Rattle.rbd_flat.specs.Flat.{no_images}
 use Rattle.rbd_rely.specs.Beside.{AreBeside, AreShared, MayAct}
-use Rattle.rbd_rely.specs.Truth.{AreMapsTrue, AreObjectsTrue, is_alone_on, is_own_alone, IsCountTrue, IsGoneAt, IsStill, IsTrueAt, IsWaiting, known_header}
+use Rattle.rbd_rely.specs.Truth.{AreMapsTrue, AreObjectsTrue, HasNoStates, is_alone_on, is_own_alone, IsCountTrue, IsGoneAt, IsStill, IsTrueAt, IsWaiting, known_header}
 use Rattle.rbd_rely.proofs.Each.{alike_true, objects_alike}
 use Rattle.rbd_rely.proofs.Fenced.{after_free, was_free}
 use Rattle.rbd_rely.proofs.Headers.{not_waiting, own_known, unknown_of_none}
 use Rattle.rbd_rely.proofs.MapsKept.{counted_kept, mapped_kept}
+use Rattle.rbd_rely.proofs.NoStates.{none_raised, none_there}
 use Rattle.rbd_rely.proofs.ObjectsKept.{objects_kept}
 
 -- where both know the header of an image, neither is alone on it
@@ -98,7 +100,7 @@ none_behind you o keeps = refl
 -- an id that waits still does
 waits_by : (r : Records) (you : Instance) (other : ℕ) (o : HeaderOp) → keeps_header o ≡ true → (image : ℕ) → IsWaiting r image → IsWaiting (after r you (op.Header other o)) image
 waits_by r you other o keeps image w =
-    where_fenced (λ s. IsWaiting s image) r you (op.Header other o) w (record { drawn = w.drawn; header = by (image == other) refl; blank = w.blank })
+    where_fenced (λ s. IsWaiting s image) r you (op.Header other o) w (record { drawn = w.drawn; header = by (image == other) refl; blank = w.blank; unraised = w.unraised })
   where
     by : (b : Bool) → (image == other) ≡ b → cond b (header_after you (r.headers other) o) (r.headers image) ≡ None
     by true same = ap (λ h. header_after you h o) (ap r.headers (sym (eqb-true image other same)) ∙ w.header) ∙ none_behind you o keeps
@@ -188,14 +190,16 @@ owned_kept site r k j me you o still u free beside permits image =
     (λ served. owned_served site r k j you still u (beside.shared (free, served)) o permits image)
 
 -- an id that waits still does, where the operation isn't about it
-pub waits_served : (r : Records) (you : Instance) (o : Op) (image : ℕ) → is_about image o ≡ false → IsWaiting r image → IsWaiting (after_served r you o) image
-waits_served r you o image other w =
+pub waits_served : (r : Records) (you : Instance) (o : Op) (image : ℕ) → is_about image o ≡ false → HasNoStates ((after_served r you o).maps image None) → IsWaiting r image
+    → IsWaiting (after_served r you o) image
+waits_served r you o image other unraised w =
     let untouched : IsUntouched r no_images image = record { header = w.header; flat = finmap.get-empty nat_cmp image; blank = w.blank } in
     let stays = untouched_served r no_images no_images you o image untouched other refl in
-    record { drawn = drawn_served r you o image w.drawn; header = stays.header; blank = stays.blank }
+    record { drawn = drawn_served r you o image w.drawn; header = stays.header; blank = stays.blank; unraised = unraised }
 
-waits_on : (r : Records) (you : Instance) (o : Op) (image : ℕ) → is_about image o ≡ false → IsWaiting r image → IsWaiting (after r you o) image
-waits_on r you o image other w = where_fenced (λ s. IsWaiting s image) r you o w (waits_served r you o image other w)
+waits_on : (r : Records) (you : Instance) (o : Op) (image : ℕ) → is_about image o ≡ false → HasNoStates ((after_served r you o).maps image None) → IsWaiting r image
+    → IsWaiting (after r you o) image
+waits_on r you o image other unraised w = where_fenced (λ s. IsWaiting s image) r you o w (waits_served r you o image other unraised w)
 
 waits_behind_look : (r : Records) (you : Instance) (o : Op) (image : ℕ) → is_look o ≡ true → IsWaiting r image → IsWaiting (after r you o) image
 waits_behind_look r you o image look w = subst (λ s. IsWaiting s image) (sym (looked_at r you o look)) w
@@ -212,19 +216,19 @@ owned_is_other site r me k other image condition t free owns w =
 
 module _ (site : SiteId) (r : Records) (j : Knowledge) (you : Instance) (u : IsTrueAt site r you j) (image : ℕ) (w : IsWaiting r image) where
   -- What an owner does: it owns the image where it isn't fenced, and else does nothing.
-  waits_owned : (o : Op) → (IsFalse (is_fenced r you) → is_about image o ≡ false) → IsWaiting (after r you o) image
-  waits_owned o other = after_free (λ s. IsWaiting s image) r you o w (λ free. waits_served r you o image (other free) w)
+  waits_owned : (o : Op) → (IsFalse (is_fenced r you) → is_about image o ≡ false) → HasNoStates ((after_served r you o).maps image None) → IsWaiting (after r you o) image
+  waits_owned o other unraised = after_free (λ s. IsWaiting s image) r you o w (λ free. waits_served r you o image (other free) unraised w)
 
   -- while nobody else makes its header
   waits_header : (other : ℕ) (o : HeaderOp) → PermitsOnHeader j site other o → (is_drawn j.drawn site image ≡ false) → IsWaiting (after r you (op.Header other o)) image
   waits_header other header.Get permits apart = waits_behind_look r you (op.Header other header.Get) image refl w
   waits_header other (header.Create view) permits apart =
       waits_on r you (op.Header other (header.Create view)) image
-      (other_than other image (λ same. true≢false (sym permits.drawn ∙ ap (λ i. is_drawn j.drawn site i) same ∙ apart))) w
-  waits_header other (header.SetSize to) permits apart = waits_owned (op.Header other (header.SetSize to)) (λ free. owned_is_other site r you j other image _ u free permits w)
-  waits_header other header.Remove permits apart = waits_owned (op.Header other header.Remove) (λ free. owned_is_other site r you j other image _ u free permits w)
-  waits_header other (header.SnapAdd name) permits apart = waits_owned (op.Header other (header.SnapAdd name)) (λ free. owned_is_other site r you j other image _ u free permits w)
-  waits_header other (header.SnapRemove snap) permits apart = waits_owned (op.Header other (header.SnapRemove snap)) (λ free. owned_is_other site r you j other image _ u free permits w)
+      (other_than other image (λ same. true≢false (sym permits.drawn ∙ ap (λ i. is_drawn j.drawn site i) same ∙ apart))) w.unraised w
+  waits_header other (header.SetSize to) permits apart = waits_owned (op.Header other (header.SetSize to)) (λ free. owned_is_other site r you j other image _ u free permits w) w.unraised
+  waits_header other header.Remove permits apart = waits_owned (op.Header other header.Remove) (λ free. owned_is_other site r you j other image _ u free permits w) w.unraised
+  waits_header other (header.SnapAdd name) permits apart = waits_owned (op.Header other (header.SnapAdd name)) (λ free. owned_is_other site r you j other image _ u free permits w) w.unraised
+  waits_header other (header.SnapRemove snap) permits apart = waits_owned (op.Header other (header.SnapRemove snap)) (λ free. owned_is_other site r you j other image _ u free permits w) w.unraised
   waits_header other header.LockTake permits apart = waits_by r you other header.LockTake refl image w
   waits_header other header.LockDrop permits apart = waits_by r you other header.LockDrop refl image w
   waits_header other (header.LockBreak owner) permits apart = waits_by r you other (header.LockBreak owner) refl image w
@@ -236,12 +240,12 @@ module _ (site : SiteId) (r : Records) (j : Knowledge) (you : Instance) (u : IsT
 
   -- nor removes what is left of it
   waits_owned_object : (other number : ℕ) (o : DataOp) (condition : (alone : Bool) → HeaderView → Type 0) → OwnsBy j site other condition → IsWaiting (after r you (op.Data other number o)) image
-  waits_owned_object other number o condition owns = waits_owned (op.Data other number o) (λ free. owned_is_other site r you j other image condition u free owns w)
+  waits_owned_object other number o condition owns = waits_owned (op.Data other number o) (λ free. owned_is_other site r you j other image condition u free owns w) w.unraised
 
   waits_removal : (other number : ℕ) (context : SnapContext) → PermitsOnObject j site other number (object.Remove context) → (is_gone j.gone site image ≡ false)
       → IsWaiting (after r you (op.Data other number (object.Remove context))) image
   waits_removal other number context (inl left) remains =
-      waits_on r you (op.Data other number (object.Remove context)) image (other_than other image (λ same. true≢false (sym left.gone ∙ ap (λ i. is_gone j.gone site i) same ∙ remains))) w
+      waits_on r you (op.Data other number (object.Remove context)) image (other_than other image (λ same. true≢false (sym left.gone ∙ ap (λ i. is_gone j.gone site i) same ∙ remains))) w.unraised w
   waits_removal other number context (inr owns) remains = waits_owned_object other number (object.Remove context) _ owns
 
   waits_object : (other number : ℕ) (o : DataOp) → PermitsOnObject j site other number o → (is_gone j.gone site image ≡ false) → IsWaiting (after r you (op.Data other number o)) image
@@ -253,12 +257,21 @@ module _ (site : SiteId) (r : Records) (j : Knowledge) (you : Instance) (u : IsT
   waits_object other number (object.Remove context) permits remains = waits_removal other number context permits remains
   waits_object other number _ permits remains = elim permits [ ]
 
+  -- nor raises a state
+  waits_map : (other : ℕ) (o : MapOp) → PermitsOnMap j site other o → IsWaiting (after r you (op.Map other o)) image
+  waits_map other o permits =
+      after_free (λ s. IsWaiting s image) r you (op.Map other o) w (λ free.
+      waits_served r you (op.Map other o) image refl
+      (none_there r you other o image w.unraised (λ same.
+      none_raised site r j you u free other o permits (ap r.headers (sym same) ∙ w.header) (subst (λ i. HasNoStates (r.maps i None)) same w.unraised)))
+      w)
+
   pub waits_still : (o : Op) → Permits j site o → is_drawn j.drawn site image ≡ false → is_gone j.gone site image ≡ false → IsWaiting (after r you o) image
-  waits_still (op.Directory o) permits apart remains = waits_on r you (op.Directory o) image refl w
-  waits_still (op.BlockAdd i) permits apart remains = waits_on r you (op.BlockAdd i) image refl w
+  waits_still (op.Directory o) permits apart remains = waits_on r you (op.Directory o) image refl w.unraised w
+  waits_still (op.BlockAdd i) permits apart remains = waits_on r you (op.BlockAdd i) image refl w.unraised w
   waits_still (op.Header other o) permits apart remains = waits_header other o permits apart
   waits_still (op.Data other number o) permits apart remains = waits_object other number o permits remains
-  waits_still (op.Map other o) permits apart remains = waits_on r you (op.Map other o) image refl w
+  waits_still (op.Map other o) permits apart remains = waits_map other o permits
   waits_still _ permits apart remains = elim permits [ ]
 
 -- an image that is gone gets no header, but by who drew its id
@@ -316,6 +329,7 @@ trim_waits r other number image w = record {
   drawn = w.drawn;
   header = w.header;
   blank = λ n. by n (image == other) refl (n == number) refl;
+  unraised = w.unraised;
 }
   where
     live : List ℕ

@@ -113,14 +113,14 @@ module _ (site : SiteId) (r new : Records) (me : Instance) (k : Knowledge) (t : 
 -- ---- the directory
 
 -- a fresh id waits for its header
-module _ (site : SiteId) (r : Records) (f : Flat) (me : Instance) (k : Knowledge) (stands : StandsFor [] r f) (t : IsTrueAt site r me k) where
+module _ (site : SiteId) (r : Records) (f : Flat) (me : Instance) (k : Knowledge) (stands : StandsFor [] r f) (mapped : AreMapped r) (t : IsTrueAt site r me k) where
   abbrev fresh : ℕ
   fresh = r.directory.drawn + 1
 
   fresh_waits : (name : List ℕ) → IsWaiting (with_directory (added name r.directory) r) fresh
   fresh_waits name =
       let untouched = stands.fresh fresh (omega arith) in
-      record { drawn = omega arith; header = untouched.header; blank = untouched.blank }
+      record { drawn = omega arith; header = untouched.header; blank = untouched.blank; unraised = mapped.fresh fresh (omega arith) }
 
   -- it is none whose header was removed
   not_gone : is_gone k.gone site fresh ≡ true → ⊥
@@ -502,7 +502,7 @@ module _ (site : SiteId) (r : Records) (f : Flat) (me : Instance) (k : Knowledge
   header_learned image header.Remove permits =
       where_free (HeaderTeaches image header.Remove) r me (op.Header image header.Remove) t (λ free.
       let there = owned_there site r me k image _ t free permits in
-      gone site r me k t free image (has_drawn image there.view there.is) (mapped image there.view there.is).there.head permits)
+      gone site r me k t free image (has_drawn image there.view there.is) (mapped.images image there.view there.is).there.head permits)
   header_learned image (header.LockBreak owner) permits =
       broken_true site (after r me (op.Header image (header.LockBreak owner))) me k image owner (answer_to r me (op.Header image (header.LockBreak owner)))
       (kept_by site r me me k image (header.LockBreak owner) refl t)
@@ -555,7 +555,7 @@ pub own_learned : (site : SiteId) (r : Records) (f : Flat) (k : Knowledge) (me :
     → IsTrueAt site (after r me o) me (learned k site o (answer_to r me o))
 own_learned site r f k me (op.Directory o) most stands form mapped t permits =
     where_either (λ a s. IsTrueAt site s me (learned k site (op.Directory o) a)) r me (op.Directory o)
-    (subst (IsTrueAt site r me) (sym (learned_of_fence k site (op.Directory o))) t) (directory_learned site r f me k stands t o)
+    (subst (IsTrueAt site r me) (sym (learned_of_fence k site (op.Directory o))) t) (directory_learned site r f me k stands mapped t o)
 own_learned site r f k me (op.BlockAdd i) most stands form mapped t permits =
     where_free (λ a s. IsTrueAt site s me (learned_of_listing k site i a)) r me (op.BlockAdd i) t (λ free. listed_true site r me k i t free)
 own_learned site r f k me (op.Header image o) most stands form mapped t permits = header_learned site r f me k stands mapped t image o permits

@@ -30,21 +30,24 @@ use Rattle.rbd_site.specs.Log.{expired, trimmed}
 use Rattle.rbd_site.specs.MapStep.{lengthened}
 use Rattle.rbd_site.specs.Records.{Records, no_records, object_at}
 use Rattle.rbd_site.specs.Step.{is_fenced, after, after_served}
+use Rattle.rbd_site.proofs.StepLemmas.{where_fenced}
 use Rattle.rbd_stands.specs.Condition.{IsContextOf}
 use Rattle.rbd_stands.specs.Covering.{IsCovered, IsRaised, KeepsCover, KeepsDataCover, KeepsHeaderCover, KeepsMapCover, Maps, MapsCover, exists_at}
 use Rattle.rbd_stands.specs.Shown.{links_of, snapshots_of}
 use Rattle.rbd_stands.specs.Site.{StandsFor}
 use Rattle.rbd_stands.specs.View.{EachView, Shape, shape_of, shape_of_snap}
 use Rattle.rbd_stands.proofs.Contexts.{reversed_context}
+use Rattle.rbd_stands.proofs.EditSteps.{drawn_served}
 use Rattle.rbd_stands.proofs.Lookups.{a_value}
 use Rattle.rbd_stands.proofs.MapSteps.{cover_after, cover_trimmed}
 use Rattle.rbd_stands.proofs.SiteSteps.{here}
 use Rattle.rbd_stands.proofs.Views.{each_added, each_removed}
-use Rattle.rbd_rely.specs.Truth.{AreMapped, HasAtLeast, IsCountTrue, IsPutAs, IsTrueAt, is_own_alone, map_len, state_in}
+use Rattle.rbd_rely.specs.Truth.{AreMapped, HasAtLeast, HasNoStates, IsCountTrue, IsPutAs, IsTrueAt, is_own_alone, map_len, state_in}
 use Rattle.rbd_rely.proofs.Done.{may_do}
 use Rattle.rbd_rely.proofs.Fenced.{after_free}
 use Rattle.rbd_rely.proofs.Headers.{own_known, owned_there}
 use Rattle.rbd_rely.proofs.MapsBehind.{each_image, maps_behind, same_again, with_view}
+use Rattle.rbd_rely.proofs.NoStates.{none_raised, none_there}
 
 -- ---- one map
 
@@ -126,10 +129,10 @@ views_set maps h object state all = record {
 
 module _ (site : SiteId) (r : Records) (f : Flat) (k : Knowledge) (you : Instance) (most : ℕ) (stands : StandsFor [] r f) (form : AreInForm r most) (mapped : AreMapped r) (t : IsTrueAt site r you k) where
   covers : MapsCover r
-  covers image h is = (mapped image h is).covered
+  covers image h is = (mapped.images image h is).covered
 
   views : (image : ℕ) (h : HeaderView) → r.headers image ≡ Some h → HasViews h (r.maps image)
-  views image h is = let all = mapped image h is in record { there = all.there; room = all.room }
+  views image h is = let all = mapped.images image h is in record { there = all.there; room = all.room }
 
   module _ (free : IsFalse (is_fenced r you)) (image : ℕ) where
     -- ---- and covers the objects
@@ -323,14 +326,33 @@ module _ (site : SiteId) (r : Records) (f : Flat) (k : Knowledge) (you : Instanc
       by i g false other at = views i g at
   served_views free _ permits = elim permits [ ]
 
+  -- what is kept of an id that wasn't drawn has no state
+  served_fresh : IsFalse (is_fenced r you) → (o : Op) → Permits k site o → (image : ℕ) → r.directory.drawn < image → HasNoStates ((after_served r you o).maps image None)
+  served_fresh free (op.Directory o) permits image past = mapped.fresh image past
+  served_fresh free (op.BlockAdd i) permits image past = mapped.fresh image past
+  served_fresh free (op.Header other o) permits image past = mapped.fresh image past
+  served_fresh free (op.Data other number o) permits image past = mapped.fresh image past
+  served_fresh free (op.Map other o) permits image past =
+      none_there r you other o image (mapped.fresh image past) (λ same.
+      none_raised site r k you t free other o permits (ap r.headers (sym same) ∙ (stands.fresh image past).header) (subst (λ i. HasNoStates (r.maps i None)) same (mapped.fresh image past)))
+  served_fresh free _ permits image past = elim permits [ ]
+
+  stays_fresh : (o : Op) → Permits k site o → (image : ℕ) → (after r you o).directory.drawn < image → HasNoStates ((after r you o).maps image None)
+  stays_fresh o permits image past =
+      let before : r.directory.drawn ≤ (after r you o).directory.drawn = where_fenced (λ s. r.directory.drawn ≤ s.directory.drawn) r you o (omega arith) (drawn_served r you o r.directory.drawn (omega arith)) in
+      after_free (λ s. HasNoStates (s.maps image None)) r you o (mapped.fresh image (omega (arith, past, before))) (λ free. served_fresh free o permits image (omega (arith, past, before)))
+
   stays_mapped : (o : Op) → Permits k site o → AreMapped (after r you o)
-  stays_mapped o permits = λ image h is.
-      let all = after_free AllHaveViews r you o views (λ free. served_views free o permits) image h is in
-      record {
-        covered = cover_after [] r f you o stands covers (may_do site r you k most form mapped t o permits) (keeps_cover o permits) image h is;
-        there = all.there;
-        room = all.room;
-      }
+  stays_mapped o permits = record {
+    images = λ image h is.
+        let all = after_free AllHaveViews r you o views (λ free. served_views free o permits) image h is in
+        record {
+          covered = cover_after [] r f you o stands covers (may_do site r you k most form mapped t o permits) (keeps_cover o permits) image h is;
+          there = all.there;
+          room = all.room;
+        };
+    fresh = λ image past. stays_fresh o permits image past;
+  }
 
 pub mapped_stays : (site : SiteId) (r : Records) (f : Flat) (k : Knowledge) (you : Instance) (o : Op) (most : ℕ) → StandsFor [] r f → AreInForm r most → AreMapped r → IsTrueAt site r you k
     → Permits k site o → AreMapped (after r you o)
@@ -339,14 +361,20 @@ mapped_stays site r f k you o most stands form mapped t permits = stays_mapped s
 -- ---- an empty site
 
 pub none_mapped : AreMapped no_records
-none_mapped image h is = cc
+none_mapped = record { images = λ image h is. cc; fresh = λ image past object. refl }
 
 -- ---- the store
 
 pub mapped_trimmed : (r : Records) (image number : ℕ) → AreMapped r → AreMapped (trimmed image number r)
-mapped_trimmed r image number mapped = λ i h is.
-    let all = mapped i h is in
-    record { covered = cover_trimmed r image number (λ n g at. (mapped n g at).covered) i h is; there = all.there; room = all.room }
+mapped_trimmed r image number mapped = record {
+  images = λ i h is.
+      let all = mapped.images i h is in
+      record { covered = cover_trimmed r image number (λ n g at. (mapped.images n g at).covered) i h is; there = all.there; room = all.room };
+  fresh = mapped.fresh;
+}
 
 pub mapped_expired : (r : Records) (image : ℕ) (i : Instance) → AreMapped r → AreMapped (expired image i r)
-mapped_expired r image i mapped = λ n h is. let all = mapped n h is in record { covered = all.covered; there = all.there; room = all.room }
+mapped_expired r image i mapped = record {
+  images = λ n h is. let all = mapped.images n h is in record { covered = all.covered; there = all.there; room = all.room };
+  fresh = mapped.fresh;
+}

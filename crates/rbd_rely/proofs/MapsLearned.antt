@@ -13,7 +13,7 @@ use Rattle.rbd_kinds.specs.declared.id.SiteId.TheVariants as sites
 use Rattle.rbd_kinds.specs.declared.map_op.MapOp.{MapOp}
 use Rattle.rbd_kinds.specs.declared.map_op.MapOp.TheVariants as states
 use Rattle.rbd_kinds.specs.declared.operation.Op.TheVariants as op
-use Rattle.rbd_machine.specs.Knowledge.{ImageMaps, Knowledge, MapsKnown, is_at, is_fenced_by, learned_of_map, maps_of, maps_told, marked, objects_of, states_set, unmapped}
+use Rattle.rbd_machine.specs.Knowledge.{ImageMaps, Knowledge, MapsKnown, is_at, is_drawn, is_fenced_by, learned_of_map, maps_of, maps_told, marked, objects_of, states_set, unmapped}
 use Rattle.rbd_machine.specs.Permits.{HasRoomFor, PermitsOnMap, OwnsBy, OwnsAlone, MayPut, MaySet}
 use Rattle.rbd_object.specs.Mapped.{Mapped}
 use Rattle.rbd_machine.proofs.Lawful.{at_itself}
@@ -25,10 +25,11 @@ use Rattle.rbd_site.specs.Found.{done_where}
 use Rattle.rbd_site.specs.Records.{Records, object_at}
 use Rattle.rbd_site.specs.Step.{is_fenced, after_served, answer_served}
 use Rattle.rbd_site.proofs.MapLemmas.{with_map_same}
-use Rattle.rbd_rely.specs.Truth.{AreMapped, AreMapsTrue, AreStatesOf, HasAtLeast, IsCountTrue, IsPutAs, IsStill, IsTrueAt, KnowsNoHeader, is_alone_on, known_header, map_len, state_in}
+use Rattle.rbd_rely.specs.Truth.{AreMapped, AreMapsTrue, AreStatesOf, HasAtLeast, HasNoStates, IsCountTrue, IsPutAs, IsStill, IsTrueAt, KnowsNoHeader, is_alone_on, known_header, map_len, state_in}
 use Rattle.rbd_rely.proofs.Each.{IsKnownAs, IsTrueOfImage, each_true, objects_alike}
 use Rattle.rbd_rely.proofs.Headers.{not_waiting, owned_there}
 use Rattle.rbd_rely.proofs.MapsBehind.{maps_behind, maps_here, maps_there, nothing_mapped, with_view}
+use Rattle.rbd_rely.proofs.NoStates.{none_raised, none_there}
 use Rattle.rbd_rely.proofs.States.{IsMarked, IsNew, WasThere, count_kept, lengthened_state, long_enough, raised_now, raised_still, set_elsewhere, states_changed, states_told, was_marked}
 
 -- ---- what is known of an image's maps from now on
@@ -53,8 +54,9 @@ pub maps_are_true : (site : SiteId) (r new : Records) (me : Instance) (k : Knowl
     → ((i : ℕ) → i ≢ image → new.maps i ≡ r.maps i)
     → (IsFalse (is_fenced r me) → IsSome (known_header k site image) → AreMapsTrue (is_alone_on k site image) (new.maps image) m)
     → (KnowsNoHeader k site image → IsCountTrue m.count (new.maps image None))
+    → (is_drawn k.drawn site image ≡ true → HasNoStates (new.maps image None))
     → IsTrueAt site new me (record k { maps = maps_told site image m k.maps })
-maps_are_true site r new me k image m t was fences headers objects drawn others here counts =
+maps_are_true site r new me k image m t was fences headers objects drawn others here counts unraised =
     each_true site r new me k learnt image t was fences it (maps_known site k image m) (λ i other. record { header = headers i; maps = others i other; objects = objects i; drawn = drawn })
   where
     learnt : Knowledge
@@ -66,7 +68,7 @@ maps_are_true site r new me k image m t was fences headers objects drawn others 
     it : IsTrueOfImage site new me learnt image
     it = record {
       owned = λ free. subst (IsStill (known_header k site image)) (sym (headers image)) (t.owned (was free) image);
-      drawn = λ d. let w = t.drawn image d in let before = w.drawn in record { drawn = omega (arith, before, drawn); header = headers image ∙ w.header; blank = λ n. objects image n ∙ w.blank n };
+      drawn = λ d. let w = t.drawn image d in let before = w.drawn in record { drawn = omega (arith, before, drawn); header = headers image ∙ w.header; blank = λ n. objects image n ∙ w.blank n; unraised = unraised d };
       mapped = λ free known. subst (AreMapsTrue (is_alone_on k site image) (new.maps image)) (sym told) (here (was free) known);
       objects = λ free h known.
           objects_alike (is_alone_on k site image) h.layout (object_at r image) (object_at new image) (objects_of k.objects site image) (λ n. ap (λ (o : Mapped). o.head) (objects image n))
@@ -81,20 +83,21 @@ module _ (site : SiteId) (r : Records) (me : Instance) (k : Knowledge) (most : �
   known_of_it = maps_of k.maps site image
 
   -- by an operation on one of them
-  told_true : (o : MapOp) (m : MapsKnown) → (IsSome (known_header k site image) → AreMapsTrue (is_alone_on k site image) (maps_behind (r.maps image) o) m)
+  told_true : (o : MapOp) (m : MapsKnown) → PermitsOnMap k site image o → (IsSome (known_header k site image) → AreMapsTrue (is_alone_on k site image) (maps_behind (r.maps image) o) m)
       → (KnowsNoHeader k site image → IsCountTrue m.count (maps_behind (r.maps image) o None))
       → IsTrueAt site (after_served r me (op.Map image o)) me (record k { maps = maps_told site image m k.maps })
-  told_true o m here counts =
+  told_true o m permits here counts =
       maps_are_true site r (after_served r me (op.Map image o)) me k image m t (λ f. f) t.fenced (λ i. refl) (λ i n. refl) (omega arith) (maps_there r me image o)
       (λ f known. subst (λ maps. AreMapsTrue (is_alone_on k site image) maps m) (sym (maps_here r me image o)) (here known))
       (λ without. subst (λ maps. IsCountTrue m.count (maps None)) (sym (maps_here r me image o)) (counts without))
+      (λ drawn. let w = t.drawn image drawn in none_there r me image o image w.unraised (λ same. none_raised site r k me t free image o permits w.header w.unraised))
 
   abbrev Teaches : MapOp → Answer → Type 0
   Teaches o a = IsTrueAt site (after_served r me (op.Map image o)) me (learned_of_map k site image o a)
 
-  resized : (count : ℕ) → Teaches (states.Resize count) answer.Done
-  resized count =
-      told_true (states.Resize count) (record { raised = known_of_it.raised; states = None; count = Some count; put = None })
+  resized : (count : ℕ) → PermitsOnMap k site image (states.Resize count) → Teaches (states.Resize count) answer.Done
+  resized count permits =
+      told_true (states.Resize count) (record { raised = known_of_it.raised; states = None; count = Some count; put = None }) permits
       (λ known. let was = t.mapped free image known in record {
         raised = λ n marked zeroed. was.raised n marked (sym (lengthened_state (r.maps image None) count n) ∙ zeroed);
         states = λ alone told e. absurd (none-some told e);
@@ -118,10 +121,11 @@ module _ (site : SiteId) (r : Records) (me : Instance) (k : Knowledge) (most : �
         put = was.put;
       })
       (t.counted image)
+      (λ drawn. (t.drawn image drawn).unraised)
 
   put_there : (snap : ℕ) (bits : List ℕ) → OwnsAlone k site image (MayPut known_of_it snap bits) → Teaches (states.Put (Some snap) bits) answer.Done
   put_there snap bits owns =
-      told_true (states.Put (Some snap) bits) (record known_of_it { put = Some snap })
+      told_true (states.Put (Some snap) bits) (record known_of_it { put = Some snap }) owns
       (λ known. let was = t.mapped free image known in record {
         raised = was.raised;
         states = was.states;
@@ -147,7 +151,7 @@ module _ (site : SiteId) (r : Records) (me : Instance) (k : Knowledge) (most : �
   within_map object state owns map is =
       let there = owned_there site r me k image _ t free owns in
       let (x, inside, at) = owns.meets.within in
-      let room : HasRoomFor there.view.layout there.view.size (map_len (r.maps image None)) = (mapped image there.view there.is).room in
+      let room : HasRoomFor there.view.layout there.view.size (map_len (r.maps image None)) = (mapped.images image there.view there.is).room in
       let room_of_own : HasRoomFor owns.header.layout owns.header.size (map_len (r.maps image None)) = subst (λ (h : HeaderView). HasRoomFor h.layout h.size (map_len (r.maps image None))) there.same room in
       subst (λ m. object < map_len m) is (subst (λ n. n < map_len (r.maps image None)) at (room_of_own x inside))
 
@@ -159,7 +163,7 @@ module _ (site : SiteId) (r : Records) (me : Instance) (k : Knowledge) (most : �
   set_there object state owns None is = absurd (let below = within_map object state owns None is in omega (arith, below))
   set_there object state owns (Some there) is =
       told_true (states.Set None object state)
-      (known_set object state)
+      (known_set object state) owns
       (λ known. let was = t.mapped free image known in subst (λ map. AreMapsTrue (is_alone_on k site image) (with_view (r.maps image) None (option_map (λ s. set s object state) map)) (known_set object state)) (sym is) (record {
         raised = λ n e. raised was n (was_marked object state n known_of_it.raised e);
         states = λ alone told e. changed was alone known_of_it.states refl told e;
@@ -189,10 +193,10 @@ module _ (site : SiteId) (r : Records) (me : Instance) (k : Knowledge) (most : �
 
   -- ---- a map is removed
 
-  removed : (view : Option ℕ) (map : Option (List ℕ)) → r.maps image view ≡ map → Teaches (states.Remove view) (done_where (is_some map))
-  removed view None is = subst (λ s. IsTrueAt site s me k) (sym (with_map_same image view None r (sym is))) t
-  removed view (Some there) is =
-      told_true (states.Remove view) unmapped (λ known. nothing_mapped (is_alone_on k site image) (maps_behind (r.maps image) (states.Remove view))) (λ without. tt)
+  removed : (view : Option ℕ) → PermitsOnMap k site image (states.Remove view) → (map : Option (List ℕ)) → r.maps image view ≡ map → Teaches (states.Remove view) (done_where (is_some map))
+  removed view permits None is = subst (λ s. IsTrueAt site s me k) (sym (with_map_same image view None r (sym is))) t
+  removed view permits (Some there) is =
+      told_true (states.Remove view) unmapped permits (λ known. nothing_mapped (is_alone_on k site image) (maps_behind (r.maps image) (states.Remove view))) (λ without. tt)
 
   -- ---- any of them
 
@@ -200,11 +204,11 @@ module _ (site : SiteId) (r : Records) (me : Instance) (k : Knowledge) (most : �
   looked view = with_map_same image view (r.maps image view) r refl
 
   pub map_taught : (o : MapOp) → PermitsOnMap k site image o → Teaches o (answer_served r me (op.Map image o))
-  map_taught (states.Resize count) permits = resized count
+  map_taught (states.Resize count) permits = resized count permits
   map_taught (states.Get None) permits = subst (λ s. IsTrueAt site s me (learned_of_map k site image (states.Get None) (step.states_told (r.maps image None)))) (sym (looked None)) (got (r.maps image None) refl)
   map_taught (states.Get (Some snap)) permits = subst (λ s. IsTrueAt site s me k) (sym (looked (Some snap))) t
   map_taught (states.Put (Some snap) bits) permits = put_there snap bits permits
   map_taught (states.Set None object state) permits = set_there object state permits (r.maps image None) refl
-  map_taught (states.Remove None) permits = removed None (r.maps image None) refl
-  map_taught (states.Remove (Some snap)) permits = removed (Some snap) (r.maps image (Some snap)) refl
+  map_taught (states.Remove None) permits = removed None permits (r.maps image None) refl
+  map_taught (states.Remove (Some snap)) permits = removed (Some snap) permits (r.maps image (Some snap)) refl
   map_taught _ permits = elim permits [ ]

@@ -1,5 +1,5 @@
 -- When what a request knows is true at a site, by the site's records.
-use Rattle.std.specs.Prelude.{◌≡◌, ◌≢◌, ◌⊎◌, ℕ, ◌≤◌, ◌^◌, Bool, true, false, List, [], All, Any, length, slice_index, unwrap_or, Option, Some, None, IsFalse, IsSome}
+use Rattle.std.specs.Prelude.{◌≡◌, ◌≢◌, ◌⊎◌, ℕ, ◌<◌, ◌≤◌, ◌^◌, Bool, true, false, List, [], All, Any, length, slice_index, unwrap_or, Option, Some, None, IsFalse, IsSome}
 use Rattle.rbd_kinds.specs.declared.layout.Layout.{Layout}
 use Rattle.rbd_kinds.specs.declared.layout.Part.{Part}
 use Rattle.rbd_kinds.specs.Striping.{offset_of}
@@ -51,6 +51,10 @@ is_alone_on k site image = is_own_alone (own_of k.owns site image)
 abbrev pub state_in : (map : Option (List ℕ)) → (object : ℕ) → ℕ
 state_in None object = 0
 state_in (Some states) object = slice_index states object
+
+-- the state of each object is 0
+abbrev pub HasNoStates : (map : Option (List ℕ)) → Type 0
+HasNoStates map = (object : ℕ) → state_in map object ≡ 0
 
 -- These are the states of a map that is there, with some zeros behind them.
 pub record AreStatesOf (states : List ℕ) (map : Option (List ℕ)) : Type 0 where
@@ -108,11 +112,13 @@ pub record IsGoneAt (r : Records) (image : ℕ) : Type 0 where
   pub drawn : IsDrawn r image
   pub header : HasNoHeader r image
 
--- an id that was drawn waits for its header: nothing was done to it yet
+-- An id that was drawn waits for its header: nothing was done to it yet, and its head's map, where
+-- there is one, has no state of an object.
 pub record IsWaiting (r : Records) (image : ℕ) : Type 0 where
   pub drawn : IsDrawn r image
   pub header : HasNoHeader r image
   pub blank : (number : ℕ) → object_at r image number ≡ mapped_blank
+  pub unraised : HasNoStates (r.maps image None)
 
 -- It knows that an image has no header: it made none yet, or removed it.
 abbrev pub KnowsNoHeader : Knowledge → SiteId → (image : ℕ) → Type 0
@@ -152,9 +158,10 @@ pub record HasMaps (h : HeaderView) (maps : Maps) (objects : ℕ → Mapped) : T
   pub there : EachView h (λ v shape. IsSome (maps v))
   pub room : HasRoomFor h.layout h.size (map_len (maps None))
 
--- each image has them
-abbrev pub AreMapped : Records → Type 0
-AreMapped r = (image : ℕ) (h : HeaderView) → r.headers image ≡ Some h → HasMaps h (r.maps image) (object_at r image)
+-- Each image has them. What is kept of an id that the directory hasn't drawn has no state.
+pub record AreMapped (r : Records) : Type 0 where
+  pub images : (image : ℕ) (h : HeaderView) → r.headers image ≡ Some h → HasMaps h (r.maps image) (object_at r image)
+  pub fresh : (image : ℕ) → r.directory.drawn < image → HasNoStates (r.maps image None)
 
 -- the flat site after an effect, or after none
 abbrev pub changed_by : Flat → Option Effect → Flat
