@@ -4,5 +4,8 @@ pub mod Bounded
 pub mod Turns
 pub mod Begun
 pub mod Given
+pub mod Told
 pub mod Looks
+pub mod LooksEnd
+pub mod LooksOf
 pub mod OnePlan

@@ -1,5 +1,5 @@
 -- A change of an extent takes its turns at the objects of the extent.
-use Rattle.std.proofs.Common.{◌≡◌, ℕ, List, replicate, true, Option, Some, refl, sym, subst, ap}
+use Rattle.std.proofs.Common.{◌≡◌, ◌⊎◌, inl, inr, ℕ, List, replicate, true, Option, Some, refl, sym, subst, ap}
 use Rattle.std.specs.Prelude.{unwrap_or}
 use Rattle.std.proofs.lemmas.List.{length-replicate}
 use Rattle.rbd_commands.specs.declared.command.Command.{Command}
@@ -9,12 +9,15 @@ use Rattle.rbd_kinds.specs.declared.layout.Extent.{Extent}
 use Rattle.rbd_layout.specs.Pieces.{pieces_of}
 use Rattle.rbd_machine.specs.Plan.{Standing}
 use Rattle.rbd_machine.specs.Turns.{AreTurns}
+use Rattle.rbd_machine.specs.declared.seat.Seat.{Seat}
 use Rattle.rbd_meaning.specs.Range.{extent_at}
 use Rattle.rbd_meaning.specs.Writes.{write_refuses}
 use Rattle.rbd_request.proofs.Turns.{turns_of_pieces}
 use Rattle.rbd_request.specs.Write.{is_write, put, write, write_plan}
-use Rattle.rbd_requests.proofs.OnePlan.{is_of_writes, only_writes}
-use Rattle.rbd_requests.specs.CommandsOrderly.{objects_are}
+use Rattle.rbd_discard.proofs.Turns as of_discard
+use Rattle.rbd_discard.specs.Discard.{is_discard, discard, discard_plan, zero}
+use Rattle.rbd_requests.proofs.OnePlan.{is_of_discards, is_of_writes, only_discards, only_writes}
+use Rattle.rbd_requests.specs.OrderlyWrites.{objects_are}
 use Rattle.rbd_requests.specs.Served.{IsPlanFor}
 use Rattle.rbd_requests.specs.Touched.{extent_of, TakesTurns}
 
@@ -43,13 +46,33 @@ write_plan_takes_turns site (command.Fill image from len byte) e is same =
     (write_takes_turns site image from (replicate len byte)))
 write_plan_takes_turns site _ e is same = cc
 
+discard_takes_turns : (site : SiteId) (name : List ℕ) (e : Extent) → TakesTurns e (discard site name e)
+discard_takes_turns site name e = record {
+  site = site;
+  name = name;
+  refuses = write_refuses e;
+  act = zero site e;
+  is = refl;
+  turns = λ image h may. subst (AreTurns (zero site e image h)) (sym (objects_are e h may)) (of_discard.turns_of_pieces (pieces_of h.layout e) site image h);
+}
+
+discard_plan_takes_turns : (site : SiteId) (c : Command) (e : Extent) → is_discard c ≡ true → extent_of c ≡ Some e → TakesTurns e (discard_plan site c)
+discard_plan_takes_turns site (command.Discard image at len) e is same =
+    subst (λ extent. TakesTurns extent (discard site image (record { at = at; len = len }))) (ap (extent_in e) same) (discard_takes_turns site image (record { at = at; len = len }))
+discard_plan_takes_turns site _ e is same = cc
+
 -- no other command has an extent
-none_other : (c : Command) (e : Extent) → extent_of c ≡ Some e → is_write c ≡ true
-none_other (command.Write image from bytes) e same = refl
-none_other (command.Fill image from len byte) e same = refl
+none_other : (c : Command) (e : Extent) → extent_of c ≡ Some e → (is_write c ≡ true) ⊎ (is_discard c ≡ true)
+none_other (command.Write image from bytes) e same = inl refl
+none_other (command.Fill image from len byte) e same = inl refl
+none_other (command.Discard image at len) e same = inr refl
 none_other _ e same = cc
 
-pub command_takes_turns : (home : SiteId) (c : Command) (s : Standing) (e : Extent) → IsPlanFor home c s → extent_of c ≡ Some e → TakesTurns e s.plan
-command_takes_turns home c s e is same =
-    let writes = none_other c e same in
-    subst (λ (at : Standing). TakesTurns e at.plan) (sym (only_writes home c s (is_of_writes c writes) is)) (write_plan_takes_turns home c e writes same)
+pub command_takes_turns : (seat : Seat) (c : Command) (s : Standing) (e : Extent) → IsPlanFor seat c s → extent_of c ≡ Some e → TakesTurns e s.plan
+command_takes_turns seat c s e is same = go (none_other c e same)
+  where
+    go : (is_write c ≡ true) ⊎ (is_discard c ≡ true) → TakesTurns e s.plan
+    go (inl writes) =
+        subst (λ (at : Standing). TakesTurns e at.plan) (sym (only_writes seat c s (is_of_writes c writes) is)) (write_plan_takes_turns seat.home c e writes same)
+    go (inr discards) =
+        subst (λ (at : Standing). TakesTurns e at.plan) (sym (only_discards seat c s (is_of_discards c discards) is)) (discard_plan_takes_turns seat.home c e discards same)

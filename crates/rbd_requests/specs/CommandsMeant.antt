@@ -1,13 +1,18 @@
 -- The replies to commands are meant: lemmas that the laws of an `impl` cite. They define nothing.
-use Rattle.std.proofs.Common.{◌≡◌, List, subst}
+use Rattle.std.proofs.Common.{◌≡◌, List, [], ◌∷◌, true, subst}
 use Rattle.rbd_commands.specs.declared.command.Command.{Command}
-use Rattle.rbd_kinds.specs.declared.id.SiteId.{SiteId}
+use Rattle.rbd_commands.specs.declared.command.Command.TheVariants as command
+use Rattle.rbd_kinds.specs.declared.answer.Answer.{Answer}
+use Rattle.rbd_kinds.specs.declared.answer.Answer.TheVariants as answer
 use Rattle.rbd_kinds.specs.declared.machine.Fed.{Fed}
 use Rattle.rbd_kinds.specs.declared.reply.Reply.{Reply}
 use Rattle.rbd_machine.specs.Path.{Answered, IsWalk}
 use Rattle.rbd_machine.specs.Plan.{Plan, Standing, Goto, Return, without_labels}
 use Rattle.rbd_machine.specs.Refused.{AreGiven}
+use Rattle.rbd_machine.specs.Standalone.{TellAllStandalone, TellsStandalone}
+use Rattle.rbd_machine.specs.declared.seat.Seat.{Seat}
 use Rattle.rbd_meaning.specs.Meant.{IsMeantBy}
+use Rattle.rbd_meaning.specs.Parentless.{AreParentless, TellsNoParent}
 use Rattle.rbd_request.proofs.Meant.{write_plan_means, read_plan_means}
 use Rattle.rbd_request.specs.Write.{write_plan}
 use Rattle.rbd_admin.proofs.Meant.{create_means, listing_means, snap_means}
@@ -15,17 +20,72 @@ use Rattle.rbd_admin.specs.Listing.{listing_plan}
 use Rattle.rbd_admin.specs.Snap.{snap_plan}
 use Rattle.rbd_close.proofs.Meant.{means as close_means}
 use Rattle.rbd_close.specs.Close.{close_plan}
-use Rattle.rbd_requests.specs.Served.{IsPlanFor, Writes, Reads, Creates, Lists, Snaps, Closes}
+use Rattle.rbd_discard.proofs.Meant.{discard_means}
+use Rattle.rbd_discard.specs.Discard.{is_discard, discard_plan}
+use Rattle.rbd_remove.proofs.Meant.{remove_means_without}
+use Rattle.rbd_remove.specs.Remove.{is_remove, remove_plan}
+use Rattle.rbd_remove.specs.Told.{AreJournalless, TellsNoJournal}
+use Rattle.rbd_resize.proofs.Means.{resize_means, rollback_means}
+use Rattle.rbd_resize.specs.Resize.{is_resize, resize_plan}
+use Rattle.rbd_resize.specs.Rollback.{is_rollback, rollback_plan}
+use Rattle.rbd_requests.specs.Served.{IsPlanFor, Writes, Discards, Reads, Creates, Lists, Snaps, Resizes, Rollbacks, Removes, Closes}
+
+-- ---- images that stand alone have no parent, and no journal
+
+no_parent : (a : Answer) → TellsStandalone a → TellsNoParent a
+no_parent (answer.Header h) is = is.no_parent
+no_parent _ is = tt
+
+parentless : (steps : List Answered) → TellAllStandalone steps → AreParentless steps
+parentless [] are = tt
+parentless (step ∷ steps) (is, are) = (no_parent step.answer is, parentless steps are)
+
+no_journal : (a : Answer) → TellsStandalone a → TellsNoJournal a
+no_journal (answer.Header h) is = is.no_journal
+no_journal _ is = tt
+
+journalless : (steps : List Answered) → TellAllStandalone steps → AreJournalless steps
+journalless [] are = tt
+journalless (step ∷ steps) (is, are) = (no_journal step.answer is, journalless steps are)
+
+-- ---- the commands whose replies are meant of such images
+
+module _ (seat : Seat) (feds : List Fed) (steps : List Answered) (r : Reply) (given : AreGiven steps) (standalone : TellAllStandalone steps) where
+  discard_plan_means : (c : Command) → is_discard c ≡ true → IsWalk Goto (discard_plan seat.home c) feds steps (Return r) → IsMeantBy seat c steps r
+  discard_plan_means (command.Discard image at len) is walk = discard_means seat.home image at len feds steps r given (parentless steps standalone) walk
+  discard_plan_means _ is walk = cc
+
+  resize_plan_means : (c : Command) → is_resize c ≡ true → IsWalk Goto (resize_plan seat.home c) feds steps (Return r) → IsMeantBy seat c steps r
+  resize_plan_means (command.Resize image size) is walk = resize_means seat.home image size feds steps r given (parentless steps standalone) walk
+  resize_plan_means _ is walk = cc
+
+  rollback_plan_means : (c : Command) → is_rollback c ≡ true → IsWalk Goto (rollback_plan seat.home c) feds steps (Return r) → IsMeantBy seat c steps r
+  rollback_plan_means (command.SnapRollback image snap) is walk = rollback_means seat.home image snap feds steps r given (parentless steps standalone) walk
+  rollback_plan_means _ is walk = cc
+
+  remove_plan_means : (c : Command) → is_remove c ≡ true → IsWalk Goto (remove_plan seat.home seat.session c) feds steps (Return r) → IsMeantBy seat c steps r
+  remove_plan_means (command.Remove image) is walk = remove_means_without seat.home seat.session image feds steps r given (journalless steps standalone) walk
+  remove_plan_means _ is walk = cc
+
+-- ---- all of them
 
 -- a walk of a request without labels is one of its plan
 walked : (plan : Plan) (s : Standing) (feds : List Fed) (steps : List Answered) (r : Reply) → s ≡ without_labels plan → IsWalk s.labels s.plan feds steps (Return r) → IsWalk Goto plan feds steps (Return r)
 walked plan s feds steps r is walk = subst (λ (at : Standing). IsWalk at.labels at.plan feds steps (Return r)) is walk
 
-pub command_is_meant : (home : SiteId) (c : Command) (s : Standing) (feds : List Fed) (steps : List Answered) (r : Reply)
-    → IsPlanFor home c s → AreGiven steps → IsWalk s.labels s.plan feds steps (Return r) → IsMeantBy home c steps r
-command_is_meant home c s feds steps r (Writes is at_plan) given walk = write_plan_means home c feds steps r is given (walked (write_plan home c) s feds steps r at_plan walk)
-command_is_meant home c s feds steps r (Reads is) given walk = read_plan_means home c s feds steps r is given walk
-command_is_meant home c s feds steps r (Creates is at_plan) given walk = create_means home c s.plan feds steps r is given (walked s.plan s feds steps r at_plan walk)
-command_is_meant home c s feds steps r (Lists is at_plan) given walk = listing_means home c feds steps r is given (walked (listing_plan home c) s feds steps r at_plan walk)
-command_is_meant home c s feds steps r (Snaps is at_plan) given walk = snap_means home c feds steps r is given (walked (snap_plan home c) s feds steps r at_plan walk)
-command_is_meant home c s feds steps r (Closes is at_plan) given walk = close_means home c feds steps r is given (walked (close_plan home c) s feds steps r at_plan walk)
+pub command_is_meant : (seat : Seat) (c : Command) (s : Standing) (feds : List Fed) (steps : List Answered) (r : Reply)
+    → IsPlanFor seat c s → AreGiven steps → TellAllStandalone steps → IsWalk s.labels s.plan feds steps (Return r) → IsMeantBy seat c steps r
+command_is_meant seat c s feds steps r (Writes is at_plan) given standalone walk = write_plan_means seat c feds steps r is given (walked (write_plan seat.home c) s feds steps r at_plan walk)
+command_is_meant seat c s feds steps r (Discards is at_plan) given standalone walk =
+    discard_plan_means seat feds steps r given standalone c is (walked (discard_plan seat.home c) s feds steps r at_plan walk)
+command_is_meant seat c s feds steps r (Reads is) given standalone walk = read_plan_means seat c s feds steps r is given walk
+command_is_meant seat c s feds steps r (Creates is at_plan) given standalone walk = create_means seat c s.plan feds steps r is given (walked s.plan s feds steps r at_plan walk)
+command_is_meant seat c s feds steps r (Lists is at_plan) given standalone walk = listing_means seat c feds steps r is given (walked (listing_plan seat.home c) s feds steps r at_plan walk)
+command_is_meant seat c s feds steps r (Snaps is at_plan) given standalone walk = snap_means seat c feds steps r is given (walked (snap_plan seat.home c) s feds steps r at_plan walk)
+command_is_meant seat c s feds steps r (Resizes is at_plan) given standalone walk =
+    resize_plan_means seat feds steps r given standalone c is (walked (resize_plan seat.home c) s feds steps r at_plan walk)
+command_is_meant seat c s feds steps r (Rollbacks is at_plan) given standalone walk =
+    rollback_plan_means seat feds steps r given standalone c is (walked (rollback_plan seat.home c) s feds steps r at_plan walk)
+command_is_meant seat c s feds steps r (Removes is at_plan) given standalone walk =
+    remove_plan_means seat feds steps r given standalone c is (walked (remove_plan seat.home seat.session c) s feds steps r at_plan walk)
+command_is_meant seat c s feds steps r (Closes is at_plan) given standalone walk = close_means seat c feds steps r is given (walked (close_plan seat.home c) s feds steps r at_plan walk)

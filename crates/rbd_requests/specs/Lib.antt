@@ -1,6 +1,11 @@
 pub mod Served
 pub mod Touched
 pub mod Session
+pub mod NoLooks
+pub mod OrderlyParts
+pub mod OrderlyWrites
+pub mod OrderlyLooks
+pub mod OrderlyAlone
 pub mod CommandsOrderly
 pub mod CommandsLawful
 pub mod CommandsMeant

@@ -9,14 +9,22 @@ use rbd_kinds::Command;
 pub enum Kind {
     /// `write`, `fill`
     Write,
+    /// `discard`
+    Discard,
     /// `read`
     Read,
     /// `create` of an image without a journal
     Create,
-    /// `ls`, `info`, `snap ls`
+    /// `ls`, `info`, `snap ls`, `du`, `rename`
     List,
     /// `snap create`, `snap rm`
     Snap,
+    /// `resize`
+    Resize,
+    /// `snap rollback`
+    Rollback,
+    /// `rm`
+    Remove,
     /// `close`, `quiesce`, `resume`, `tell`
     Close,
     /// None serves it.
@@ -30,6 +38,7 @@ pub fn kind_of(command: &Command) -> Kind
     match command {
         Command::Write { .. } => Kind::Write,
         Command::Fill { .. } => Kind::Write,
+        Command::Discard { .. } => Kind::Discard,
         Command::Read { .. } => Kind::Read,
         Command::Create { shape, .. } => if shape.journal {
             Kind::Unserved
@@ -39,8 +48,13 @@ pub fn kind_of(command: &Command) -> Kind
         Command::List => Kind::List,
         Command::Info { .. } => Kind::List,
         Command::SnapList { .. } => Kind::List,
+        Command::Used { .. } => Kind::List,
+        Command::Rename { .. } => Kind::List,
         Command::SnapCreate { .. } => Kind::Snap,
         Command::SnapRemove { .. } => Kind::Snap,
+        Command::Resize { .. } => Kind::Resize,
+        Command::SnapRollback { .. } => Kind::Rollback,
+        Command::Remove { .. } => Kind::Remove,
         Command::Close { .. } => Kind::Close,
         Command::Quiesce { .. } => Kind::Close,
         Command::Resume { .. } => Kind::Close,
@@ -49,8 +63,8 @@ pub fn kind_of(command: &Command) -> Kind
     }
 }
 
-/// Whether a command is served. An image with a journal isn't made, nor is a clone. A session asks
-/// this before it makes a request of a command.
+/// Whether a command is served. An image with a journal isn't made, nor a clone, and nothing is
+/// asked of clones or mirrors. A session asks this before it makes a request of a command.
 pub fn is_built(command: &Command) -> bool
     ensures { result ≡ is_one_built command.now }
 {

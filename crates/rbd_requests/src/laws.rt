@@ -14,65 +14,71 @@ ghost use Rattle.rbd_machine.specs.Passes.{jumps};
 ghost use Rattle.rbd_machine.specs.Path.{Answered, IsWalk};
 ghost use Rattle.rbd_machine.specs.Plan.{Plan, Ask, Return, Standing, IsClosed};
 ghost use Rattle.rbd_machine.specs.Refused.{AreGiven};
+ghost use Rattle.rbd_machine.specs.Standalone.{TellAllStandalone};
 ghost use Rattle.rbd_machine.specs.Steps.{EndsIt, not_there};
 ghost use Rattle.rbd_machine.specs.declared.reason.Reason.{Reason};
+ghost use Rattle.rbd_machine.specs.declared.seat.Seat.{Seat};
 ghost use Rattle.rbd_course.specs.Course.{beginning};
 ghost use Rattle.rbd_course.specs.Orderly.{IsOrderlyFrom};
 ghost use Rattle.rbd_meaning.specs.Meant.{IsMeantBy};
 ghost use Rattle.rbd_request.specs.Read.{is_read};
 ghost use Rattle.rbd_requests.specs.Served.{is_built, HasOnePlan, IsPlanFor};
-ghost use Rattle.rbd_requests.specs.Touched.{bound_of, extent_of, touched_by, AsksAtMost, HasAtMost, TakesTurns};
+ghost use Rattle.rbd_requests.specs.Touched.{bound_of, extent_of, is_bounded_by_extent, told_by, touched_by, AsksAtMost, HasAtMost, TakesTurns};
 
 /// A command that is served has one plan, and no other command has any.
 pub fn commands_have_one_plan()
-    ensures one { (home : SiteId) (command : Command) → is_built command ≡ true → HasOnePlan home command }
-    ensures served { (home : SiteId) (command : Command) (s : Standing) → IsPlanFor home command s → is_built command ≡ true }
+    ensures one { (seat : Seat) (command : Command) → is_built command ≡ true → HasOnePlan seat command }
+    ensures served { (seat : Seat) (command : Command) (s : Standing) → IsPlanFor seat command s → is_built command ≡ true }
 {}
 
 /// Each label that the request of a command goes to stands at an operation.
 pub fn commands_are_closed()
-    ensures { (home : SiteId) (command : Command) (s : Standing) → IsPlanFor home command s → IsClosed s.labels s.plan }
+    ensures { (seat : Seat) (command : Command) (s : Standing) → IsPlanFor seat command s → IsClosed s.labels s.plan }
 {}
 
 /// The request of a command does only what it may by what it knows, and begins with nothing known
 /// (`rbd_machine`).
 pub fn commands_are_lawful()
-    ensures { (home : SiteId) (command : Command) (s : Standing) → IsPlanFor home command s → IsLawfulRequest s }
+    ensures { (seat : Seat) (command : Command) (s : Standing) → IsPlanFor seat command s → IsLawfulRequest s }
 {}
 
 /// A reply is meant by its command, behind the operations that were done (`IsMeantBy` of
-/// `rbd_meaning`), where each answer is one that its operation can give. No other reply comes.
+/// `rbd_meaning`), where each answer is one that its operation can give, and no header that is told
+/// has a parent or a journal. No other reply comes.
 pub fn commands_are_meant()
-    ensures { (home : SiteId) (command : Command) (s : Standing) (feds : List Fed) (steps : List Answered) (reply : Reply)
-        → IsPlanFor home command s → AreGiven steps → IsWalk s.labels s.plan feds steps (Return reply) → IsMeantBy home command steps reply }
+    ensures { (seat : Seat) (command : Command) (s : Standing) (feds : List Fed) (steps : List Answered) (reply : Reply)
+        → IsPlanFor seat command s → AreGiven steps → TellAllStandalone steps → IsWalk s.labels s.plan feds steps (Return reply) → IsMeantBy seat command steps reply }
 {}
 
-/// The request of a command keeps to its line (`rbd_course`). A write and a fill take their turns
-/// at the objects that their own look tells of their extent, and no other command takes any.
+/// The request of a command keeps to its line (`rbd_course`). A write, a fill and a discard take
+/// their turns at the objects that their own look tells of their extent, and no other command takes
+/// any.
 pub fn commands_are_orderly()
-    ensures { (home : SiteId) (command : Command) (s : Standing) → IsPlanFor home command s → IsOrderlyFrom (extent_of command) true beginning s }
+    ensures { (seat : Seat) (command : Command) (s : Standing) → IsPlanFor seat command s → IsOrderlyFrom (extent_of command) true beginning s }
 {}
 
 /// The request of a command that changes an extent takes all the turns that its own look tells,
 /// each once, before it is done.
 pub fn turns_are_those_of_the_extent()
-    ensures { (home : SiteId) (command : Command) (s : Standing) (e : Extent) → IsPlanFor home command s → extent_of command ≡ Some e → TakesTurns e s.plan }
+    ensures { (seat : Seat) (command : Command) (s : Standing) (e : Extent) → IsPlanFor seat command s → extent_of command ≡ Some e → TakesTurns e s.plan }
 {}
 
 /// The request of a command has so many operations at most, by the number of pieces that its extent
 /// has at most by the header of any image. Each time that it begins again, as a read does, it has
-/// as many once more.
+/// as many once more. A resize, a rollback and an `rm` have beside these what they were told: a
+/// resize three for each object with bytes from the new size on, a rollback those too and four for
+/// each object of the snapshot, and an `rm` one for each object in use.
 pub fn commands_are_bounded()
-    ensures pass { (home : SiteId) (command : Command) (s : Standing) (most : ℕ)
-        → IsPlanFor home command s → HasAtMost most (touched_by command) → AsksAtMost s.plan (bound_of command most) }
-    ensures all { (home : SiteId) (command : Command) (s : Standing) (most : ℕ) (feds : List Fed) (steps : List Answered) (last : Plan)
-        → IsPlanFor home command s → HasAtMost most (touched_by command) → AreGiven steps → IsWalk s.labels s.plan feds steps last
-        → length steps ≤ (1 + jumps s.labels s.plan feds) * bound_of command most }
+    ensures pass { (seat : Seat) (command : Command) (s : Standing) (most : ℕ)
+        → IsPlanFor seat command s → is_bounded_by_extent command ≡ true → HasAtMost most (touched_by command) → AsksAtMost s.plan (bound_of command most) }
+    ensures all { (seat : Seat) (command : Command) (s : Standing) (most : ℕ) (feds : List Fed) (steps : List Answered) (last : Plan)
+        → IsPlanFor seat command s → HasAtMost most (touched_by command) → AreGiven steps → IsWalk s.labels s.plan feds steps last
+        → length steps ≤ (1 + jumps s.labels s.plan feds) * bound_of command most + told_by command steps }
 {}
 
 /// Where a request that isn't a read looks at a header, what isn't there and the fence end it.
 pub fn looks_refuse_what_isnt_there()
-    ensures { (home : SiteId) (command : Command) (s : Standing) (feds : List Fed) (steps : List Answered) (site : SiteId) (why : Reason) (image : ℕ) (next : Answer → Plan) (a : Answer)
-        → IsPlanFor home command s → is_read command ≡ false → IsWalk s.labels s.plan feds steps (Ask site why (Header image Get) next)
+    ensures { (seat : Seat) (command : Command) (s : Standing) (feds : List Fed) (steps : List Answered) (site : SiteId) (why : Reason) (image : ℕ) (next : Answer → Plan) (a : Answer)
+        → IsPlanFor seat command s → is_read command ≡ false → IsWalk s.labels s.plan feds steps (Ask site why (Header image Get) next)
         → EndsIt a → next a ≡ not_there a }
 {}

@@ -3,9 +3,12 @@ ghost use Rattle.rbd_requests.specs.Session.{stands_of, is_ready_of};
 
 use rbd_admin::{CreateRequest, ListRequest, SnapRequest};
 use rbd_close::CloseRequest;
+use rbd_discard::DiscardRequest;
 use rbd_kinds::{Event, Fed, NoMemory, Op, Turn, Want};
 use rbd_machine::{Machine, Reason};
+use rbd_remove::RemoveRequest;
 use rbd_request::{ReadRequest, WriteRequest};
+use rbd_resize::{ResizeRequest, RollbackRequest};
 use std::alloc::Global;
 
 /// A request of a session: of a command, or a machine that a layer above brings, as a mirror's. It
@@ -22,12 +25,20 @@ pub enum SessionRequest<E> {
     Read(ReadRequest),
     /// `write` or `fill`
     Write(WriteRequest),
+    /// `discard`
+    Discard(DiscardRequest),
     /// `create`
     Create(CreateRequest),
     /// `snap create` or `snap rm`
     Snap(SnapRequest),
-    /// `ls`, `info` or `snap ls`
+    /// `ls`, `info`, `snap ls`, `du` or `rename`
     List(ListRequest),
+    /// `resize`
+    Resize(ResizeRequest),
+    /// `snap rollback`
+    Rollback(RollbackRequest),
+    /// `rm`
+    Remove(RemoveRequest),
     /// `close`, `quiesce`, `resume` or `tell`
     Close(CloseRequest),
     /// A machine that a layer above brings.
@@ -43,9 +54,13 @@ impl<E: Machine + Drop> Machine for SessionRequest<E> {
         match self {
             SessionRequest::Read(request) => request.wants(),
             SessionRequest::Write(request) => request.wants(),
+            SessionRequest::Discard(request) => request.wants(),
             SessionRequest::Create(request) => request.wants(),
             SessionRequest::Snap(request) => request.wants(),
             SessionRequest::List(request) => request.wants(),
+            SessionRequest::Resize(request) => request.wants(),
+            SessionRequest::Rollback(request) => request.wants(),
+            SessionRequest::Remove(request) => request.wants(),
             SessionRequest::Close(request) => request.wants(),
             SessionRequest::Extra(request) => request.wants(),
         }
@@ -55,9 +70,13 @@ impl<E: Machine + Drop> Machine for SessionRequest<E> {
         match self {
             SessionRequest::Read(request) => request.next(alloc),
             SessionRequest::Write(request) => request.next(alloc),
+            SessionRequest::Discard(request) => request.next(alloc),
             SessionRequest::Create(request) => request.next(alloc),
             SessionRequest::Snap(request) => request.next(alloc),
             SessionRequest::List(request) => request.next(alloc),
+            SessionRequest::Resize(request) => request.next(alloc),
+            SessionRequest::Rollback(request) => request.next(alloc),
+            SessionRequest::Remove(request) => request.next(alloc),
             SessionRequest::Close(request) => request.next(alloc),
             SessionRequest::Extra(request) => request.next(alloc),
         }
@@ -67,9 +86,13 @@ impl<E: Machine + Drop> Machine for SessionRequest<E> {
         match self {
             SessionRequest::Read(request) => request.reason(),
             SessionRequest::Write(request) => request.reason(),
+            SessionRequest::Discard(request) => request.reason(),
             SessionRequest::Create(request) => request.reason(),
             SessionRequest::Snap(request) => request.reason(),
             SessionRequest::List(request) => request.reason(),
+            SessionRequest::Resize(request) => request.reason(),
+            SessionRequest::Rollback(request) => request.reason(),
+            SessionRequest::Remove(request) => request.reason(),
             SessionRequest::Close(request) => request.reason(),
             SessionRequest::Extra(request) => request.reason(),
         }
@@ -79,9 +102,13 @@ impl<E: Machine + Drop> Machine for SessionRequest<E> {
         match self {
             SessionRequest::Read(request) => request.event(alloc),
             SessionRequest::Write(request) => request.event(alloc),
+            SessionRequest::Discard(request) => request.event(alloc),
             SessionRequest::Create(request) => request.event(alloc),
             SessionRequest::Snap(request) => request.event(alloc),
             SessionRequest::List(request) => request.event(alloc),
+            SessionRequest::Resize(request) => request.event(alloc),
+            SessionRequest::Rollback(request) => request.event(alloc),
+            SessionRequest::Remove(request) => request.event(alloc),
             SessionRequest::Close(request) => request.event(alloc),
             SessionRequest::Extra(request) => request.event(alloc),
         }
@@ -91,9 +118,13 @@ impl<E: Machine + Drop> Machine for SessionRequest<E> {
         match self {
             SessionRequest::Read(request) => request.ready(alloc, fed),
             SessionRequest::Write(request) => request.ready(alloc, fed),
+            SessionRequest::Discard(request) => request.ready(alloc, fed),
             SessionRequest::Create(request) => request.ready(alloc, fed),
             SessionRequest::Snap(request) => request.ready(alloc, fed),
             SessionRequest::List(request) => request.ready(alloc, fed),
+            SessionRequest::Resize(request) => request.ready(alloc, fed),
+            SessionRequest::Rollback(request) => request.ready(alloc, fed),
+            SessionRequest::Remove(request) => request.ready(alloc, fed),
             SessionRequest::Close(request) => request.ready(alloc, fed),
             SessionRequest::Extra(request) => request.ready(alloc, fed),
         }
@@ -103,9 +134,13 @@ impl<E: Machine + Drop> Machine for SessionRequest<E> {
         match self {
             SessionRequest::Read(request) => request.feed(fed),
             SessionRequest::Write(request) => request.feed(fed),
+            SessionRequest::Discard(request) => request.feed(fed),
             SessionRequest::Create(request) => request.feed(fed),
             SessionRequest::Snap(request) => request.feed(fed),
             SessionRequest::List(request) => request.feed(fed),
+            SessionRequest::Resize(request) => request.feed(fed),
+            SessionRequest::Rollback(request) => request.feed(fed),
+            SessionRequest::Remove(request) => request.feed(fed),
             SessionRequest::Close(request) => request.feed(fed),
             SessionRequest::Extra(request) => request.feed(fed),
         }

@@ -12,9 +12,12 @@ use crate::request::SessionRequest;
 use rbd_admin::{CreateRequest, ListRequest, SnapRequest};
 use rbd_close::CloseRequest;
 use rbd_course::{Begun, Request};
+use rbd_discard::DiscardRequest;
 use rbd_kinds::{Command, Extent, NoMemory, SiteId};
-use rbd_machine::Machine;
+use rbd_machine::{Machine, Seat};
+use rbd_remove::RemoveRequest;
 use rbd_request::{ReadRequest, WriteRequest};
+use rbd_resize::{ResizeRequest, RollbackRequest};
 use std::alloc::Global;
 
 /// What a request of a session is made of.
@@ -38,9 +41,9 @@ impl<E: Machine + Drop> Request for SessionRequest<E> {
 
     ghost means = { Means };
 
-    fn begin(alloc: Global, home: SiteId, work: Work<E>) -> Result<Begun<Self>, NoMemory> {
+    fn begin(alloc: Global, seat: &Seat, work: Work<E>) -> Result<Begun<Self>, NoMemory> {
         match work {
-            Work::Plain(command) => begin_plain(alloc, home, command),
+            Work::Plain(command) => begin_plain(alloc, seat, command),
             Work::Extra(machine) => Ok(Begun::Asks(SessionRequest::Extra(machine))),
         }
     }
@@ -62,39 +65,43 @@ impl<E: Machine + Drop> Request for SessionRequest<E> {
 /// The request of a command. Only a `create` outside the limits is refused before any operation.
 fn begin_plain<E: Machine + Drop>(
     alloc: Global,
-    home: SiteId,
+    seat: &Seat,
     command: Command,
 ) -> Result<Begun<SessionRequest<E>>, NoMemory>
     requires { is_one_built command ≡ true }
-    ensures { IfOk result (IsBegun (IsPlanFor home command) (stands_of E.stands)) }
+    ensures { IfOk result (IsBegun (IsPlanFor seat.now command) (stands_of E.stands)) }
 {
-    match kind_of(&command) {
-        Kind::Write => {
-            let request = WriteRequest::new(alloc, home, command)?;
-            Ok(Begun::Asks(SessionRequest::Write(request)))
-        }
-        Kind::Read => Ok(Begun::Asks(SessionRequest::Read(ReadRequest::new(home, command)))),
-        Kind::Create => Ok(begin_create(home, command)),
-        Kind::List => Ok(Begun::Asks(SessionRequest::List(ListRequest::new(home, command)))),
-        Kind::Snap => Ok(Begun::Asks(SessionRequest::Snap(SnapRequest::new(home, command)))),
-        Kind::Close => Ok(Begun::Asks(SessionRequest::Close(CloseRequest::new(home, command)))),
+    let home = seat.home;
+    let request = match kind_of(&command) {
+        Kind::Write => SessionRequest::Write(WriteRequest::new(alloc, home, command)?),
+        Kind::Discard => SessionRequest::Discard(DiscardRequest::new(alloc, home, command)),
+        Kind::Read => SessionRequest::Read(ReadRequest::new(home, command)),
+        Kind::Create => return Ok(begin_create(seat, command)),
+        Kind::List => SessionRequest::List(ListRequest::new(home, command)),
+        Kind::Snap => SessionRequest::Snap(SnapRequest::new(home, command)),
+        Kind::Resize => SessionRequest::Resize(ResizeRequest::new(home, command)),
+        Kind::Rollback => SessionRequest::Rollback(RollbackRequest::new(home, command)),
+        Kind::Remove => SessionRequest::Remove(RemoveRequest::new(seat.session, home, command)),
+        Kind::Close => SessionRequest::Close(CloseRequest::new(home, command)),
         Kind::Unserved => unreachable!(),
-    }
+    };
+    Ok(Begun::Asks(request))
 }
 
 /// The request of a `create`, or BadShape where its shape is outside the limits.
-fn begin_create<E: Machine + Drop>(home: SiteId, command: Command) -> Begun<SessionRequest<E>>
+fn begin_create<E: Machine + Drop>(seat: &Seat, command: Command) -> Begun<SessionRequest<E>>
     requires { is_create command ≡ true }
-    ensures { IsBegun (IsPlanFor home command) (stands_of E.stands) result }
+    ensures { IsBegun (IsPlanFor seat.now command) (stands_of E.stands) result }
 {
-    let request = CreateRequest::new(home, command);
+    let request = CreateRequest::new(seat.home, command);
     match request.refusal() {
         Some(refusal) => Begun::Refused(refusal),
         None => Begun::Asks(SessionRequest::Create(request)),
     }
 }
 
-/// The extent that a command changes piece by piece, beside other requests: a write's and a fill's.
+/// The extent that a command changes piece by piece, beside other requests: a write's, a fill's and
+/// a discard's.
 pub fn extent_of(command: &Command) -> Option<Extent>
     ensures { result ≡ extent_changed command.now }
 {
@@ -104,6 +111,10 @@ pub fn extent_of(command: &Command) -> Option<Extent>
             len: bytes.as_bytes().len() as u64,
         }),
         Command::Fill { at, len, .. } => Some(Extent {
+            at: at.get(),
+            len: len.get(),
+        }),
+        Command::Discard { at, len, .. } => Some(Extent {
             at: at.get(),
             len: len.get(),
         }),

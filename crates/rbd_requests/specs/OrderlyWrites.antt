@@ -1,0 +1,109 @@
+-- Requests that change an extent keep to their line: lemmas that the laws of an `impl` cite. They
+-- define nothing.
+use Rattle.std.proofs.Common.{◌≡◌, ℕ, List, [], ◌∷◌, replicate, Bool, true, false, cond, Option, Some, None, refl, ap, sym, subst}
+use Rattle.std.proofs.lemmas.List.{length-replicate}
+use Rattle.rbd_commands.specs.declared.command.Command.{Command}
+use Rattle.rbd_commands.specs.declared.command.Command.TheVariants as command
+use Rattle.rbd_commands.specs.declared.refusal.Refusal.TheVariants as refusal
+use Rattle.rbd_kinds.specs.declared.header.HeaderView.{HeaderView}
+use Rattle.rbd_kinds.specs.declared.header.SnapContext.{SnapContext}
+use Rattle.rbd_kinds.specs.declared.id.SiteId.{SiteId}
+use Rattle.rbd_kinds.specs.declared.layout.Extent.{Extent}
+use Rattle.rbd_kinds.specs.Extents.{fits}
+use Rattle.rbd_layout.specs.Pieces.{pieces_of}
+use Rattle.rbd_layout.specs.declared.types.Piece.{Piece}
+use Rattle.rbd_header.specs.Header.{context_of}
+use Rattle.rbd_machine.specs.Plan.{Plan}
+use Rattle.rbd_machine.specs.Steps.{applied, non_primary}
+use Rattle.rbd_machine.proofs.Lawful.{at_itself, or_else_none}
+use Rattle.rbd_course.specs.Course.{Course, Place, behind, beginning, objects_of, objects_within}
+use Rattle.rbd_course.specs.Orderly.{BeginsWith, IsInLine, IsOrderly}
+use Rattle.rbd_course.specs.declared.stage.Stage.TheVariants as stage
+use Rattle.rbd_course.proofs.Steps.{own_course, place_at, orderly_on_done, orderly_change}
+use Rattle.rbd_meaning.specs.Range.{extent_at, out_of_range}
+use Rattle.rbd_meaning.specs.Writes.{write_refuses}
+use Rattle.rbd_piece.specs.Write.{raising, writing}
+use Rattle.rbd_request.specs.Write.{is_write, put, write, write_pieces, write_plan}
+use Rattle.rbd_discard.specs.Discard.{is_discard, discard, discard_plan, zero, zero_pieces}
+use Rattle.rbd_requests.specs.OrderlyParts.{never_none, never_true, orderly_zero, starts}
+use Rattle.rbd_requests.specs.Touched.{extent_of}
+
+-- ---- the objects of its turns
+
+-- the objects that its own look tells are those of its pieces, since that look refuses an extent
+-- that doesn't fit
+pub objects_are : (e : Extent) (h : HeaderView) → write_refuses e h ≡ None → objects_within h e ≡ objects_of (pieces_of h.layout e)
+objects_are e h may = go (fits e h.size) (or_else_none (non_primary h.role) (out_of_range e h.size) may)
+  where
+    go : (b : Bool) → cond b None (Some refusal.BadRange) ≡ None → cond b (objects_of (pieces_of h.layout e)) [] ≡ objects_of (pieces_of h.layout e)
+    go true none = refl
+    go false none = absurd (never_none none)
+
+-- ---- write, fill
+
+-- at its turn a piece keeps to the line
+orderly_raising : (e : Option Extent) (c : Course) → c.due ≡ [] → (site : SiteId) (image : ℕ) (context : SnapContext) (piece : Piece) (bytes : List ℕ) (next : Plan)
+    → IsOrderly e starts true c next → (fresh : Bool) → IsOrderly e starts fresh c (raising site image context piece bytes next)
+orderly_raising e c none site image context piece bytes next orderly fresh = (
+  none,
+  λ raised can. orderly_on_done e starts c (writing site image context piece bytes next) (none, λ written can. orderly_on_done e starts c next orderly written) raised,
+)
+
+-- it takes its turns in the order of its pieces, and has the tickets that are left
+orderly_pieces : (e : Option Extent) (pieces : List Piece) (site : SiteId) (image : ℕ) (h : HeaderView) (from : ℕ) (bytes : List ℕ) (fresh : Bool) (p : Place) (turn : Option ℕ) (objects : List ℕ)
+    → IsInLine site image (Some p) → behind turn objects ≡ objects_of pieces
+    → IsOrderly e starts fresh (record { place = Some p; turn = turn; due = []; objects = objects }) (write_pieces site image h from bytes pieces (applied site image))
+orderly_pieces e [] site image h from bytes fresh p turn objects in_line are = (in_line, tt)
+orderly_pieces e (piece ∷ pieces) site image h from bytes fresh p turn objects in_line are = (
+  subst (BeginsWith piece.object) (sym are) refl,
+  orderly_raising e (record { place = Some p; turn = Some piece.object; due = []; objects = behind turn objects }) refl site image (context_of h) piece _
+      (write_pieces site image h from bytes pieces (applied site image))
+      (orderly_pieces e pieces site image h from bytes true p (Some piece.object) (behind turn objects) in_line (ap (behind (Some piece.object)) are))
+      false,
+)
+
+orderly_put : (site : SiteId) (from : ℕ) (bytes : List ℕ) (image : ℕ) (h : HeaderView) → write_refuses (extent_at from bytes) h ≡ None
+    → IsOrderly (Some (extent_at from bytes)) starts true (own_course (Some (extent_at from bytes)) false site image h) (put site from bytes image h)
+orderly_put site from bytes image h may = (
+  at_itself site image,
+  orderly_pieces (Some (extent_at from bytes)) (pieces_of h.layout (extent_at from bytes)) site image h from bytes true (place_at false site image stage.Past) None
+      (objects_within h (extent_at from bytes)) (at_itself site image) (objects_are (extent_at from bytes) h may),
+)
+
+orderly_write : (site : SiteId) (name : List ℕ) (from : ℕ) (bytes : List ℕ) → IsOrderly (Some (extent_at from bytes)) starts true beginning (write site name from bytes)
+orderly_write site name from bytes =
+    orderly_change (Some (extent_at from bytes)) starts site name false (write_refuses (extent_at from bytes)) (put site from bytes)
+    (λ image h form may. orderly_put site from bytes image h may)
+
+pub orderly_write_plan : (site : SiteId) (c : Command) → is_write c ≡ true → IsOrderly (extent_of c) starts true beginning (write_plan site c)
+orderly_write_plan site (command.Write image from bytes) is = orderly_write site image from bytes
+orderly_write_plan site (command.Fill image from len byte) is =
+    subst (λ n. IsOrderly (Some (record { at = from; len = n })) starts true beginning (write site image from (replicate len byte)))
+    (length-replicate len byte) (orderly_write site image from (replicate len byte))
+orderly_write_plan site _ is = absurd (never_true is)
+
+-- ---- discard
+
+-- it takes its turns in the order of its pieces, as a write does
+orderly_zeros : (e : Option Extent) (pieces : List Piece) (site : SiteId) (image : ℕ) (h : HeaderView) (fresh : Bool) (p : Place) (turn : Option ℕ) (objects : List ℕ)
+    → IsInLine site image (Some p) → behind turn objects ≡ objects_of pieces
+    → IsOrderly e starts fresh (record { place = Some p; turn = turn; due = []; objects = objects }) (zero_pieces site image h pieces (applied site image))
+orderly_zeros e [] site image h fresh p turn objects in_line are = (in_line, tt)
+orderly_zeros e (piece ∷ pieces) site image h fresh p turn objects in_line are = (
+  subst (BeginsWith piece.object) (sym are) refl,
+  orderly_zero e (record { place = Some p; turn = Some piece.object; due = []; objects = behind turn objects }) refl site image h piece
+      (zero_pieces site image h pieces (applied site image))
+      (orderly_zeros e pieces site image h true p (Some piece.object) (behind turn objects) in_line (ap (behind (Some piece.object)) are))
+      false,
+)
+
+orderly_discard : (site : SiteId) (name : List ℕ) (e : Extent) → IsOrderly (Some e) starts true beginning (discard site name e)
+orderly_discard site name e =
+    orderly_change (Some e) starts site name false (write_refuses e) (zero site e) (λ image h form may. (
+      at_itself site image,
+      orderly_zeros (Some e) (pieces_of h.layout e) site image h true (place_at false site image stage.Past) None (objects_within h e) (at_itself site image) (objects_are e h may),
+    ))
+
+pub orderly_discard_plan : (site : SiteId) (c : Command) → is_discard c ≡ true → IsOrderly (extent_of c) starts true beginning (discard_plan site c)
+orderly_discard_plan site (command.Discard image at len) is = orderly_discard site image (record { at = at; len = len })
+orderly_discard_plan site _ is = absurd (never_true is)
