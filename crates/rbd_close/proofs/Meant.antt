@@ -18,6 +18,7 @@ use Rattle.rbd_machine.specs.Path.{Answered, IsWalk}
 use Rattle.rbd_machine.specs.Plan.{Plan, Return, Goto}
 use Rattle.rbd_machine.specs.Refused.{refuses_none, never, AreGiven, IsGiven, IsRefused, IsRefusedBy}
 use Rattle.rbd_machine.specs.Steps.{on_done}
+use Rattle.rbd_machine.specs.declared.seat.Seat.{Seat}
 use Rattle.rbd_machine.proofs.Refused.{IsRefusing, Answers, EndsBy, ends_by, refusing_find, refusing_change}
 use Rattle.rbd_meaning.specs.Closes.{gone_or_fenced, CloseMeans, QuiesceMeans, ResumeMeans, TellMeans}
 use Rattle.rbd_meaning.specs.Meant.{IsMeantBy}
@@ -114,14 +115,14 @@ module _ (site : SiteId) (name : List ℕ) (feds : List Fed) (steps : List Answe
   tell_means bytes _ (inl granted) walk = absurd granted
   tell_means bytes _ (inr (y, same, from)) walk = cc
 
-pub means : (site : SiteId) (c : Command) (feds : List Fed) (steps : List Answered) (r : Reply) → is_close c ≡ true → AreGiven steps
-    → IsWalk Goto (close_plan site c) feds steps (Return r) → IsMeantBy site c steps r
-means site (command.Close image) feds steps r is given walk =
-    close_means site image feds steps r (ends_by refuses_none gone_or_fenced IsDone feds false (close site image) steps r (refusing_close site image) given walk) walk
-means site (command.Quiesce image) feds steps r is given walk =
-    quiesce_means site image feds steps r (ends_by refuses_none never IsDone feds false (quiesce site image) steps r (refusing_quiesce site image) given walk) walk
-means site (command.Resume image) feds steps r is given walk =
-    resume_means site image feds steps r (ends_by refuses_none never IsDone feds false (resume site image) steps r (refusing_resume site image) given walk) walk
-means site (command.Tell image bytes) feds steps r is given walk =
-    tell_means site image feds steps bytes r (ends_by refuses_none never IsDone feds false (tell site image bytes) steps r (refusing_tell site image bytes) given walk) walk
-means site _ feds steps r is given walk = cc
+pub means : (seat : Seat) (c : Command) (feds : List Fed) (steps : List Answered) (r : Reply) → is_close c ≡ true → AreGiven steps
+    → IsWalk Goto (close_plan seat.home c) feds steps (Return r) → IsMeantBy seat c steps r
+means seat (command.Close image) feds steps r is given walk =
+    close_means seat.home image feds steps r (ends_by refuses_none gone_or_fenced IsDone feds false (close seat.home image) steps r (refusing_close seat.home image) given walk) walk
+means seat (command.Quiesce image) feds steps r is given walk =
+    quiesce_means seat.home image feds steps r (ends_by refuses_none never IsDone feds false (quiesce seat.home image) steps r (refusing_quiesce seat.home image) given walk) walk
+means seat (command.Resume image) feds steps r is given walk =
+    resume_means seat.home image feds steps r (ends_by refuses_none never IsDone feds false (resume seat.home image) steps r (refusing_resume seat.home image) given walk) walk
+means seat (command.Tell image bytes) feds steps r is given walk =
+    tell_means seat.home image feds steps bytes r (ends_by refuses_none never IsDone feds false (tell seat.home image bytes) steps r (refusing_tell seat.home image bytes) given walk) walk
+means seat _ feds steps r is given walk = cc

@@ -15,6 +15,7 @@ ghost use Rattle.rbd_machine.specs.Lawful.{IsLawfulRequest};
 ghost use Rattle.rbd_machine.specs.Path.{Answered, IsBounded, IsWalk};
 ghost use Rattle.rbd_machine.specs.Plan.{Plan, Return, Goto, IsClosed, without_labels};
 ghost use Rattle.rbd_machine.specs.Refused.{AreGiven};
+ghost use Rattle.rbd_machine.specs.declared.seat.Seat.{Seat};
 ghost use Rattle.rbd_meaning.specs.Meant.{IsMeantBy};
 ghost use Rattle.rbd_owner.specs.Order.{EndsWith};
 ghost use Rattle.rbd_owner.specs.Steps.{lock_drop};
@@ -96,6 +97,6 @@ pub fn others_leave_the_lock()
 /// refused, and when it is, the last answer refused it, and none before. A `close` may be refused
 /// behind its drop, the others only where they changed nothing. No other reply comes.
 pub fn replies_are_meant()
-    ensures { (site : SiteId) (command : Command) (feds : List Fed) (steps : List Answered) (reply : Reply) → is_close command ≡ true → AreGiven steps
-        → IsWalk Goto (close_plan site command) feds steps (Return reply) → IsMeantBy site command steps reply }
+    ensures { (seat : Seat) (command : Command) (feds : List Fed) (steps : List Answered) (reply : Reply) → is_close command ≡ true → AreGiven steps
+        → IsWalk Goto (close_plan seat.home command) feds steps (Return reply) → IsMeantBy seat command steps reply }
 {}

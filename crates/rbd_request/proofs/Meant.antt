@@ -29,6 +29,7 @@ use Rattle.rbd_machine.specs.Refused.{never, by_fence, IsGiven, AreGiven, IsRefu
 use Rattle.rbd_machine.specs.Steps.{on_done, applied}
 use Rattle.rbd_machine.proofs.Refused.{IsRefusing, Answers, EndsBy, ends_by, refusing_find, refusing_look, refusing_header, refusing_change}
 use Rattle.rbd_machine.specs.Objects.{data_read, data_write, map_exists}
+use Rattle.rbd_machine.specs.declared.seat.Seat.{Seat}
 use Rattle.rbd_meaning.specs.Meant.{IsMeantBy}
 use Rattle.rbd_meaning.specs.Range.{extent_at, out_of_range}
 use Rattle.rbd_meaning.specs.Reads.{ReadMeans, RefusedAtLast, view_refuses, read_refuses}
@@ -93,11 +94,11 @@ write_means site name at bytes feds steps r given walk = go r (ends_by (write_re
     go _ (inl granted) walk = absurd granted
     go _ (inr (y, same, from)) walk = cc
 
-pub write_plan_means : (site : SiteId) (c : Command) (feds : List Fed) (steps : List Answered) (r : Reply) → is_write c ≡ true → AreGiven steps
-    → IsWalk Goto (write_plan site c) feds steps (Return r) → IsMeantBy site c steps r
-write_plan_means site (command.Write image at bytes) feds steps r is given walk = write_means site image at bytes feds steps r given walk
-write_plan_means site (command.Fill image at len byte) feds steps r is given walk = write_means site image at (replicate len byte) feds steps r given walk
-write_plan_means site _ feds steps r is given walk = cc
+pub write_plan_means : (seat : Seat) (c : Command) (feds : List Fed) (steps : List Answered) (r : Reply) → is_write c ≡ true → AreGiven steps
+    → IsWalk Goto (write_plan seat.home c) feds steps (Return r) → IsMeantBy seat c steps r
+write_plan_means seat (command.Write image at bytes) feds steps r is given walk = write_means seat.home image at bytes feds steps r given walk
+write_plan_means seat (command.Fill image at len byte) feds steps r is given walk = write_means seat.home image at (replicate len byte) feds steps r given walk
+write_plan_means seat _ feds steps r is given walk = cc
 
 -- ---- reads
 
@@ -187,8 +188,8 @@ module _ (site : SiteId) (name : List ℕ) (snap : Option (List ℕ)) (e : Exten
       go _ walk l (inl granted) = absurd granted
       go _ walk l (inr (y, same)) = cc
 
-pub read_plan_means : (site : SiteId) (c : Command) (standing : Standing) (feds : List Fed) (steps : List Answered) (r : Reply) → IsReadOf site c standing → AreGiven steps
-    → IsWalk standing.labels standing.plan feds steps (Return r) → IsMeantBy site c steps r
-read_plan_means site (command.Read image snap at len) standing feds steps r is given walk =
-    read_means site image snap (record { at = at; len = len }) feds steps r given (subst (λ (s : Standing). IsWalk s.labels s.plan feds steps (Return r)) is walk)
-read_plan_means site _ standing feds steps r is given walk = absurd is
+pub read_plan_means : (seat : Seat) (c : Command) (standing : Standing) (feds : List Fed) (steps : List Answered) (r : Reply) → IsReadOf seat.home c standing → AreGiven steps
+    → IsWalk standing.labels standing.plan feds steps (Return r) → IsMeantBy seat c steps r
+read_plan_means seat (command.Read image snap at len) standing feds steps r is given walk =
+    read_means seat.home image snap (record { at = at; len = len }) feds steps r given (subst (λ (s : Standing). IsWalk s.labels s.plan feds steps (Return r)) is walk)
+read_plan_means seat _ standing feds steps r is given walk = absurd is

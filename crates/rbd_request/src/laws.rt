@@ -17,6 +17,7 @@ ghost use Rattle.rbd_machine.specs.Lawful.{IsLawfulRequest};
 ghost use Rattle.rbd_machine.specs.Plan.{Plan, Goto, Return, Standing, IsClosed, without_labels};
 ghost use Rattle.rbd_machine.specs.Refused.{AreGiven};
 ghost use Rattle.rbd_machine.specs.Turns.{AreTurns};
+ghost use Rattle.rbd_machine.specs.declared.seat.Seat.{Seat};
 ghost use Rattle.rbd_meaning.specs.Meant.{IsMeantBy};
 ghost use Rattle.rbd_meaning.specs.Range.{extent_at};
 ghost use Rattle.rbd_meaning.specs.Reads.{ShowsAtLast};
@@ -93,8 +94,8 @@ pub fn reads_are_lawful()
 /// changes: it was written or is shown when a request isn't refused, and when it is, the last
 /// answer refused it, and none before. No other reply comes.
 pub fn replies_are_meant()
-    ensures write { (home : SiteId) (command : Command) (feds : List Fed) (steps : List Answered) (reply : Reply) → is_write command ≡ true → AreGiven steps
-        → IsWalk Goto (write_plan home command) feds steps (Return reply) → IsMeantBy home command steps reply }
-    ensures read { (home : SiteId) (command : Command) (standing : Standing) (feds : List Fed) (steps : List Answered) (reply : Reply) → IsReadOf home command standing → AreGiven steps
-        → IsWalk standing.labels standing.plan feds steps (Return reply) → IsMeantBy home command steps reply }
+    ensures write { (seat : Seat) (command : Command) (feds : List Fed) (steps : List Answered) (reply : Reply) → is_write command ≡ true → AreGiven steps
+        → IsWalk Goto (write_plan seat.home command) feds steps (Return reply) → IsMeantBy seat command steps reply }
+    ensures read { (seat : Seat) (command : Command) (standing : Standing) (feds : List Fed) (steps : List Answered) (reply : Reply) → IsReadOf seat.home command standing → AreGiven steps
+        → IsWalk standing.labels standing.plan feds steps (Return reply) → IsMeantBy seat command steps reply }
 {}
