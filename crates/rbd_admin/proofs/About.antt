@@ -17,9 +17,11 @@ use Rattle.rbd_machine.specs.Path.{Answered, IsWalk}
 use Rattle.rbd_machine.specs.Plan.{Plan, Return, Goto}
 use Rattle.rbd_machine.specs.Steps.{on_id, joining, applied, on_bits}
 use Rattle.rbd_machine.proofs.About.{IsOfImage, GoesByImage, of_not_there, of_on_header, of_on_done, of_joining, by_on_id, are_own}
+use Rattle.rbd_meaning.specs.Count.{object_count}
+use Rattle.rbd_meaning.specs.Listings.{used_among}
 use Rattle.rbd_meaning.specs.Snaps.{create_refuses, remove_refuses}
 use Rattle.rbd_admin.specs.Create.{on_drawn, making, mapping, drawing}
-use Rattle.rbd_admin.specs.Listing.{on_names, list_names, showing, show_header}
+use Rattle.rbd_admin.specs.Listing.{counting, on_names, on_renamed, list_names, measuring, rename, showing, show_header, show_used}
 use Rattle.rbd_admin.specs.Snap.{on_snap, on_gone, taking, putting, take, unmapping, remove_listed, remove, snap_plan}
 
 module _ (site : SiteId) where
@@ -51,15 +53,36 @@ module _ (site : SiteId) where
   listing_is_own name shown feds steps last walk =
       are_own site (look_up name) (on_id (showing site shown)) (by_on_id site (showing site shown) (λ image. (refl, refl, of_on_header site image (λ h. Return (shown h)) (λ h. tt)))) feds steps last walk
 
+  -- ---- du, rename
+
+  of_on_bits : (image : ℕ) (next : List ℕ → Plan) → ((bits : List ℕ) → IsOfImage site image (next bits)) → (a : Answer) → IsOfImage site image (on_bits next a)
+  of_on_bits image next of (answer.Bits bits) = of bits
+  of_on_bits image next of a = of_not_there site image a
+
+  of_counting : (image objects : ℕ) → IsOfImage site image (counting site image objects)
+  of_counting image objects = (refl, refl, of_on_bits image (λ bits. Return (reply.Used (used_among objects bits) objects)) (λ bits. tt))
+
+  pub used_is_own : (name : List ℕ) (feds : List Fed) (steps : List Answered) (last : Plan) → IsWalk Goto (show_used site name) feds steps last → AreOwn site (look_up name) steps
+  used_is_own name feds steps last walk =
+      are_own site (look_up name) (on_id (measuring site))
+      (by_on_id site (measuring site) (λ image. (refl, refl, of_on_header site image (λ h. counting site image (object_count h.layout h.size)) (λ h. of_counting image (object_count h.layout h.size)))))
+      feds steps last walk
+
+  by_renamed : (a : Answer) → GoesByImage site a (on_renamed a)
+  by_renamed answer.Done = tt
+  by_renamed answer.Exists = tt
+  by_renamed (answer.Id image) = tt
+  by_renamed answer.Fenced = tt
+  by_renamed _ = tt
+
+  pub rename_is_own : (from to : List ℕ) (feds : List Fed) (steps : List Answered) (last : Plan) → IsWalk Goto (rename site from to) feds steps last → AreOwn site (op.Directory (directory.Rename from to)) steps
+  rename_is_own from to feds steps last walk = are_own site (op.Directory (directory.Rename from to)) on_renamed by_renamed feds steps last walk
+
   -- ---- snap create, snap rm
 
   of_on_snap : (image : ℕ) (a : Answer) → IsOfImage site image (on_snap (applied site image) a)
   of_on_snap image (answer.Snap snap) = tt
   of_on_snap image a = of_not_there site image a
-
-  of_on_bits : (image : ℕ) (next : List ℕ → Plan) → ((bits : List ℕ) → IsOfImage site image (next bits)) → (a : Answer) → IsOfImage site image (on_bits next a)
-  of_on_bits image next of (answer.Bits bits) = of bits
-  of_on_bits image next of a = of_not_there site image a
 
   of_on_gone : (image : ℕ) (next : Plan) → IsOfImage site image next → (a : Answer) → IsOfImage site image (on_gone next a)
   of_on_gone image next of answer.Done = of

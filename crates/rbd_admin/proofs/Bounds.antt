@@ -9,6 +9,7 @@ use Rattle.rbd_kinds.specs.declared.header.HeaderView.{HeaderView}
 use Rattle.rbd_kinds.specs.declared.header.SnapView.{SnapView}
 use Rattle.rbd_kinds.specs.declared.id.SiteId.{SiteId}
 use Rattle.rbd_kinds.specs.declared.reply.Reply.{Reply}
+use Rattle.rbd_kinds.specs.declared.reply.Reply.TheVariants as reply
 use Rattle.rbd_kinds.specs.Header.{snap_named}
 use Rattle.rbd_layout.specs.Asked.{layout_of, KeepsLimits}
 use Rattle.rbd_machine.specs.Plan.{Plan, Ask, Await, Note, Return, Goto}
@@ -16,8 +17,9 @@ use Rattle.rbd_machine.specs.Path.{IsBounded}
 use Rattle.rbd_machine.proofs.Bounds.{bounded_not_there, bounded_on_id, bounded_on_header, bounded_on_done, bounded_change, bounded_more}
 use Rattle.rbd_admin.specs.Create.{IsCreate, IsCreatePlan, on_drawn, making, mapping, drawing}
 use Rattle.rbd_header.specs.Header.{new_header}
-use Rattle.rbd_admin.specs.Listing.{on_names, list_names, showing, show_header, listing_plan}
+use Rattle.rbd_admin.specs.Listing.{counting, measuring, on_names, on_renamed, list_names, rename, showing, show_header, show_used, listing_plan}
 use Rattle.rbd_machine.specs.Steps.{applied, on_bits}
+use Rattle.rbd_meaning.specs.Count.{object_count}
 use Rattle.rbd_meaning.specs.Listings.{shown_snaps}
 use Rattle.rbd_meaning.specs.Snaps.{create_refuses, remove_refuses}
 use Rattle.rbd_admin.specs.Snap.{on_snap, on_gone, taking, putting, take, unmapping, remove_listed, remove, snap_plan}
@@ -73,13 +75,40 @@ bounded_names site n = bounded_on_names _ n (λ names. tt)
 bounded_showing : (site : SiteId) (shown : HeaderView → Reply) (image : ℕ) → IsBounded (showing site shown image) 1
 bounded_showing site shown image = bounded_on_header _ 0 (λ h. tt)
 
-bounded_show_header : (site : SiteId) (name : List ℕ) (shown : HeaderView → Reply) → IsBounded (show_header site name shown) 2
+pub bounded_show_header : (site : SiteId) (name : List ℕ) (shown : HeaderView → Reply) → IsBounded (show_header site name shown) 2
 bounded_show_header site name shown = bounded_on_id (showing site shown) 1 (bounded_showing site shown)
 
-pub bounded_listing : (site : SiteId) (c : Command) → IsBounded (listing_plan site c) 2
-bounded_listing site command.List = bounded_names site 1
-bounded_listing site (command.Info image) = bounded_show_header site image _
-bounded_listing site (command.SnapList image) = bounded_show_header site image shown_snaps
+-- ---- du, rename
+
+bounded_on_bits : (next : List ℕ → Plan) (n : ℕ) → ((bits : List ℕ) → IsBounded (next bits) n) → (a : Answer) → IsBounded (on_bits next a) n
+bounded_on_bits next n b (answer.Bits bits) = b bits
+bounded_on_bits next n b a = bounded_not_there a n
+
+bounded_counting : (site : SiteId) (image of : ℕ) → IsBounded (counting site image of) 1
+bounded_counting site image of = bounded_on_bits _ 0 (λ bits. tt)
+
+bounded_measuring : (site : SiteId) (image : ℕ) → IsBounded (measuring site image) 2
+bounded_measuring site image = bounded_on_header _ 1 (λ h. bounded_counting site image (object_count h.layout h.size))
+
+bounded_show_used : (site : SiteId) (name : List ℕ) → IsBounded (show_used site name) 3
+bounded_show_used site name = bounded_on_id (measuring site) 2 (bounded_measuring site)
+
+bounded_on_renamed : (n : ℕ) (a : Answer) → IsBounded (on_renamed a) n
+bounded_on_renamed n answer.Done = tt
+bounded_on_renamed n answer.Exists = tt
+bounded_on_renamed n a = bounded_not_there a n
+
+pub bounded_rename : (site : SiteId) (from to : List ℕ) (n : ℕ) → IsBounded (rename site from to) (suc n)
+bounded_rename site from to n = bounded_on_renamed n
+
+-- ---- all of these
+
+pub bounded_listing : (site : SiteId) (c : Command) → IsBounded (listing_plan site c) 3
+bounded_listing site command.List = bounded_names site 2
+bounded_listing site (command.Info image) = bounded_more (show_header site image reply.Info) 2 3 (omega arith) (bounded_show_header site image reply.Info)
+bounded_listing site (command.SnapList image) = bounded_more (show_header site image shown_snaps) 2 3 (omega arith) (bounded_show_header site image shown_snaps)
+bounded_listing site (command.Used image) = bounded_show_used site image
+bounded_listing site (command.Rename from to) = bounded_rename site from to 2
 bounded_listing site _ = tt
 
 -- ---- snap create, snap rm
@@ -88,10 +117,6 @@ bounded_on_snap : (next : Plan) (n : ℕ) → IsBounded next n → (a : Answer) 
 bounded_on_snap next n b (answer.Snap snap) = b
 bounded_on_snap next n b answer.Fenced = tt
 bounded_on_snap next n b _ = tt
-
-bounded_on_bits : (next : List ℕ → Plan) (n : ℕ) → ((bits : List ℕ) → IsBounded (next bits) n) → (a : Answer) → IsBounded (on_bits next a) n
-bounded_on_bits next n b (answer.Bits bits) = b bits
-bounded_on_bits next n b a = bounded_not_there a n
 
 bounded_on_gone : (next : Plan) (n : ℕ) → IsBounded next n → (a : Answer) → IsBounded (on_gone next a) n
 bounded_on_gone next n b answer.Done = b

@@ -21,7 +21,7 @@ use Rattle.rbd_machine.specs.Steps.{applied, on_done, on_bits}
 use Rattle.rbd_machine.proofs.Walked.{ended, went_on, awaited, noted, told_done, changed, refusal_ends_otherwise, nothing_ends_otherwise}
 use Rattle.rbd_meaning.specs.Snaps.{create_refuses, remove_refuses, snap_removed, map_removed, IsGone, TakesOne, RemovesOne}
 use Rattle.rbd_admin.specs.Snap.{on_snap, on_gone, taking, putting, copying, take, unmapping, removing, remove, remove_listed, snap_plan}
-use Rattle.rbd_admin.proofs.Shown.{answered_so}
+use Rattle.rbd_admin.proofs.Shown.{answered_so, told_bits}
 
 -- that it counts as applied is no operation
 applied_at_the_end : (site : SiteId) (image : ℕ) (feds : List Fed) (steps : List Answered) → IsWalk Goto (applied site image) feds steps (Return reply.Done) → steps ≡ []
@@ -38,15 +38,6 @@ told_snap : (next : Plan) (a : Answer) (feds : List Fed) (steps : List Answered)
 told_snap next (answer.Snap taken) feds steps walk = record { taken = taken; is = refl; walk = walk }
 told_snap next a feds steps walk = absurd (nothing_ends_otherwise (Return reply.Done) tt a feds steps walk)
 
-record ToldBits (next : List ℕ → Plan) (a : Answer) (feds : List Fed) (steps : List Answered) : Type 0 where
-  pub bits : List ℕ
-  pub is : a ≡ answer.Bits bits
-  pub walk : IsWalk Goto (next bits) feds steps (Return reply.Done)
-
-told_bits : (next : List ℕ → Plan) (a : Answer) (feds : List Fed) (steps : List Answered) → IsWalk Goto (on_bits next a) feds steps (Return reply.Done) → ToldBits next a feds steps
-told_bits next (answer.Bits bits) feds steps walk = record { bits = bits; is = refl; walk = walk }
-told_bits next a feds steps walk = absurd (nothing_ends_otherwise (Return reply.Done) tt a feds steps walk)
-
 record ToldGone (next : Plan) (a : Answer) (feds : List Fed) (steps : List Answered) : Type 0 where
   pub is : IsGone a
   pub walk : IsWalk Goto next feds steps (Return reply.Done)
@@ -62,7 +53,7 @@ takes_one site name snap feds steps walk =
     let next = c.own.snap_seq + 1 in
     let n = noted (Return reply.Done) tt site c.image (event.SnapCreate snap) (copying site snap c.image next) c.more c.rest c.walk in
     let g = went_on (Return reply.Done) tt site reason.Own (op.Map c.image (states.Get None)) (on_bits (putting site snap c.image next)) n.more c.rest n.walk in
-    let b = told_bits (putting site snap c.image next) g.answer g.more g.rest g.walk in
+    let b = told_bits (Return reply.Done) tt (putting site snap c.image next) g.answer g.more g.rest g.walk in
     let p = went_on (Return reply.Done) tt site reason.Own (op.Map c.image (states.Put (Some next) b.bits)) (on_done (taking site snap c.image)) g.more g.rest b.walk in
     let d = told_done (Return reply.Done) tt (taking site snap c.image) p.answer p.more p.rest p.walk in
     let w = went_on (Return reply.Done) tt site reason.Own (op.Header c.image (header.SnapAdd snap)) (on_snap (applied site c.image)) p.more p.rest d.walk in

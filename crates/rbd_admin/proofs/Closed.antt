@@ -19,7 +19,7 @@ use Rattle.rbd_machine.proofs.Closed.{closed_not_there, closed_on_id, closed_on_
 use Rattle.rbd_meaning.specs.Listings.{shown_snaps}
 use Rattle.rbd_meaning.specs.Snaps.{create_refuses, remove_refuses}
 use Rattle.rbd_admin.specs.Create.{IsCreate, IsCreatePlan, on_drawn, making, mapping, drawing}
-use Rattle.rbd_admin.specs.Listing.{on_names, showing, show_header, listing_plan}
+use Rattle.rbd_admin.specs.Listing.{measuring, on_names, on_renamed, showing, show_header, show_used, listing_plan}
 use Rattle.rbd_admin.specs.Snap.{on_snap, on_gone, taking, putting, take, unmapping, remove_listed, remove, snap_plan}
 
 -- ---- create
@@ -61,10 +61,28 @@ closed_on_names next closed a = closed_not_there Goto a
 closed_show_header : (site : SiteId) (name : List ℕ) (shown : HeaderView → Reply) → IsClosed Goto (show_header site name shown)
 closed_show_header site name shown = closed_on_id Goto (showing site shown) (λ image. closed_on_header Goto _ (λ h. tt))
 
+-- ---- du, rename
+
+closed_on_bits : (next : List ℕ → Plan) → ((bits : List ℕ) → IsClosed Goto (next bits)) → (a : Answer) → IsClosed Goto (on_bits next a)
+closed_on_bits next closed (answer.Bits bits) = closed bits
+closed_on_bits next closed a = closed_not_there Goto a
+
+closed_show_used : (site : SiteId) (name : List ℕ) → IsClosed Goto (show_used site name)
+closed_show_used site name = closed_on_id Goto (measuring site) (λ image. closed_on_header Goto _ (λ h. closed_on_bits _ (λ bits. tt)))
+
+closed_on_renamed : (a : Answer) → IsClosed Goto (on_renamed a)
+closed_on_renamed answer.Done = tt
+closed_on_renamed answer.Exists = tt
+closed_on_renamed a = closed_not_there Goto a
+
+-- ---- all of these
+
 pub closed_listing : (site : SiteId) (c : Command) → IsClosed Goto (listing_plan site c)
 closed_listing site command.List = closed_on_names _ (λ names. tt)
 closed_listing site (command.Info image) = closed_show_header site image _
 closed_listing site (command.SnapList image) = closed_show_header site image shown_snaps
+closed_listing site (command.Used image) = closed_show_used site image
+closed_listing site (command.Rename from to) = closed_on_renamed
 closed_listing site _ = tt
 
 -- ---- snap create, snap rm
@@ -72,10 +90,6 @@ closed_listing site _ = tt
 closed_on_snap : (next : Plan) → IsClosed Goto next → (a : Answer) → IsClosed Goto (on_snap next a)
 closed_on_snap next closed (answer.Snap snap) = closed
 closed_on_snap next closed a = closed_not_there Goto a
-
-closed_on_bits : (next : List ℕ → Plan) → ((bits : List ℕ) → IsClosed Goto (next bits)) → (a : Answer) → IsClosed Goto (on_bits next a)
-closed_on_bits next closed (answer.Bits bits) = closed bits
-closed_on_bits next closed a = closed_not_there Goto a
 
 closed_on_gone : (next : Plan) → IsClosed Goto next → (a : Answer) → IsClosed Goto (on_gone next a)
 closed_on_gone next closed answer.Done = closed

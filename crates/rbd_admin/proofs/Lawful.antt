@@ -30,13 +30,14 @@ use Rattle.rbd_machine.specs.Lawful.{CanTell, IsLawful, IsLawfulRequest}
 use Rattle.rbd_machine.specs.Plan.{Plan, Return, without_labels}
 use Rattle.rbd_machine.specs.Steps.{applied, non_primary, on_bits}
 use Rattle.rbd_machine.proofs.Lawful.{at_itself, or_else_none, own_at, owning_known, own_is_found, lawful_not_there, lawful_on_id, lawful_on_header, lawful_on_done, lawful_change}
-use Rattle.rbd_meaning.specs.Listings.{shown_snaps}
+use Rattle.rbd_meaning.specs.Count.{object_count}
+use Rattle.rbd_meaning.specs.Listings.{shown_snaps, used_among}
 use Rattle.rbd_meaning.specs.Snaps.{removal_refusal, create_refuses, remove_refuses}
 use Rattle.rbd_meaning.proofs.Allowed.{may_take, unprotected}
 use Rattle.rbd_zero.proofs.Resized.{few_objects}
 use Rattle.rbd_admin.proofs.Decided.{limits_or_not}
 use Rattle.rbd_admin.specs.Create.{IsCreate, IsCreatePlan, on_drawn, making, mapping, drawing}
-use Rattle.rbd_admin.specs.Listing.{on_names, showing, show_header, listing_plan}
+use Rattle.rbd_admin.specs.Listing.{counting, measuring, on_names, on_renamed, rename, showing, show_header, show_used, listing_plan}
 use Rattle.rbd_admin.specs.Snap.{on_snap, on_gone, taking, putting, take, unmapping, remove_listed, remove, snap_plan}
 
 -- ---- snapshots by name and by id
@@ -188,10 +189,43 @@ module _ (at : Label → Knowledge) where
         (tt, lawful_on_header at site image (learned nothing_known site (op.Header image header.Get)) (λ h. Return (shown h)) (λ h form standalone. tt))) found,
   )
 
+  -- ---- du, rename
+
+  lawful_on_bits : (known : Answer → Knowledge) (image : ℕ) (next : List ℕ → Plan) → ((bits : List ℕ) → HoldStates bits → IsLawful at (known (answer.Bits bits)) (next bits))
+      → (a : Answer) → CanTell (op.Map image (states.Get None)) a → IsLawful at (known a) (on_bits next a)
+  lawful_on_bits known image next lawful (answer.Bits bits) can = lawful bits can.form
+  lawful_on_bits known image next lawful a can = lawful_not_there at (known a) a
+
+  lawful_counting : (site : SiteId) (image : ℕ) (k : Knowledge) (objects : ℕ) → IsLawful at k (counting site image objects)
+  lawful_counting site image k objects =
+      (tt, lawful_on_bits (learned k site (op.Map image (states.Get None))) image (λ bits. Return (reply.Used (used_among objects bits) objects)) (λ bits hold. tt))
+
+  lawful_show_used : (site : SiteId) (name : List ℕ) → IsLawful at nothing_known (show_used site name)
+  lawful_show_used site name = (
+    tt,
+    λ found can. lawful_on_id at (learned nothing_known site (op.Directory (directory.Find name))) (measuring site) (λ image. (
+      tt,
+      lawful_on_header at site image (learned nothing_known site (op.Header image header.Get)) (λ h. counting site image (object_count h.layout h.size)) (λ h form standalone.
+          lawful_counting site image (learned nothing_known site (op.Header image header.Get) (answer.Header h)) (object_count h.layout h.size)),
+    )) found,
+  )
+
+  lawful_on_renamed : (k : Knowledge) (a : Answer) → IsLawful at k (on_renamed a)
+  lawful_on_renamed k answer.Done = tt
+  lawful_on_renamed k answer.Exists = tt
+  lawful_on_renamed k a = lawful_not_there at k a
+
+  lawful_rename : (site : SiteId) (from to : List ℕ) → IsLawful at nothing_known (rename site from to)
+  lawful_rename site from to = (tt, λ a can. lawful_on_renamed (learned nothing_known site (op.Directory (directory.Rename from to)) a) a)
+
+  -- ---- all of these
+
   pub lawful_listing : (site : SiteId) (c : Command) → IsLawful at nothing_known (listing_plan site c)
   lawful_listing site command.List = (tt, λ a can. lawful_on_names nothing_known _ (λ names. tt) a)
   lawful_listing site (command.Info image) = lawful_show_header site image reply.Info
   lawful_listing site (command.SnapList image) = lawful_show_header site image shown_snaps
+  lawful_listing site (command.Used image) = lawful_show_used site image
+  lawful_listing site (command.Rename from to) = lawful_rename site from to
   lawful_listing site _ = tt
 
   -- ---- snap create, snap rm
@@ -199,11 +233,6 @@ module _ (at : Label → Knowledge) where
   lawful_on_snap : (known : Answer → Knowledge) (site : SiteId) (image : ℕ) (a : Answer) → IsLawful at (known a) (on_snap (applied site image) a)
   lawful_on_snap known site image (answer.Snap snap) = tt
   lawful_on_snap known site image a = lawful_not_there at (known a) a
-
-  lawful_on_bits : (known : Answer → Knowledge) (image : ℕ) (next : List ℕ → Plan) → ((bits : List ℕ) → HoldStates bits → IsLawful at (known (answer.Bits bits)) (next bits))
-      → (a : Answer) → CanTell (op.Map image (states.Get None)) a → IsLawful at (known a) (on_bits next a)
-  lawful_on_bits known image next lawful (answer.Bits bits) can = lawful bits can.form
-  lawful_on_bits known image next lawful a can = lawful_not_there at (known a) a
 
   lawful_on_gone : (known : Answer → Knowledge) (site : SiteId) (image : ℕ) (a : Answer) → IsLawful at (known a) (on_gone (applied site image) a)
   lawful_on_gone known site image answer.Done = tt

@@ -9,3 +9,4 @@ pub mod Removed
 pub mod Shown
 pub mod Tells
 pub mod Changes
+pub mod Counting

@@ -21,6 +21,7 @@ use Rattle.rbd_kinds.specs.Header.{snap_named}
 use Rattle.rbd_header.specs.Header.{new_header}
 use Rattle.rbd_layout.specs.Asked.{layout_of, KeepsLimits}
 use Rattle.rbd_machine.specs.Path.{Answered, IsWalk}
+use Rattle.rbd_machine.specs.declared.seat.Seat.{Seat}
 use Rattle.rbd_machine.specs.Plan.{Plan, Return, Goto}
 use Rattle.rbd_machine.specs.Refused.{refuses_none, never, by_fence, AreGiven, IsGiven, IsRefusedBy}
 use Rattle.rbd_machine.specs.Steps.{on_done, applied, non_primary, on_bits}
@@ -28,17 +29,18 @@ use Rattle.rbd_machine.proofs.Lawful.{or_else_none}
 use Rattle.rbd_machine.proofs.Refused.{IsRefusing, Answers, EndsBy, ends_by, refusing_find, refusing_look, refusing_change}
 use Rattle.rbd_machine.proofs.Walked.{ended}
 use Rattle.rbd_meaning.specs.Creates.{CreateMeans}
-use Rattle.rbd_meaning.specs.Listings.{shown_snaps, InfoMeans, SnapListMeans, ListMeans}
+use Rattle.rbd_meaning.specs.Count.{object_count}
+use Rattle.rbd_meaning.specs.Listings.{shown_snaps, used_among, InfoMeans, RenameMeans, SnapListMeans, ListMeans, UsedMeans}
 use Rattle.rbd_meaning.specs.Meant.{IsMeantBy}
 use Rattle.rbd_meaning.specs.Snaps.{SnapCreateMeans, SnapRemoveMeans, removal_refusal, create_refuses, remove_refuses}
 use Rattle.rbd_admin.specs.Create.{IsCreate, IsCreatePlan, on_drawn, making, mapping, drawing}
-use Rattle.rbd_admin.specs.Listing.{is_listing, on_names, list_names, showing, show_header, listing_plan}
+use Rattle.rbd_admin.specs.Listing.{counting, is_listing, measuring, on_names, on_renamed, list_names, rename, showing, show_header, show_used, listing_plan}
 use Rattle.rbd_admin.specs.Snap.{is_snap, on_snap, on_gone, taking, putting, take, unmapping, remove_listed, remove, snap_plan}
-use Rattle.rbd_admin.proofs.About.{create_is_own, list_is_own, listing_is_own, taking_is_own, removing_is_own}
+use Rattle.rbd_admin.proofs.About.{create_is_own, list_is_own, listing_is_own, rename_is_own, used_is_own, taking_is_own, removing_is_own}
 use Rattle.rbd_admin.proofs.Decided.{limits_or_not}
 use Rattle.rbd_admin.proofs.Changes.{takes_one, removes_one}
 use Rattle.rbd_admin.proofs.Removed.{removal_stops, refuses_removal}
-use Rattle.rbd_admin.proofs.Shown.{create_makes_one, create_has_few, names_are_listed, header_is_shown}
+use Rattle.rbd_admin.proofs.Shown.{create_makes_one, create_has_few, names_are_listed, header_is_shown, name_is_changed, used_is_shown}
 
 -- ---- what is granted
 
@@ -57,6 +59,10 @@ TellsInfo _ = ⊥
 abbrev TellsSnaps : Reply → Type 0
 TellsSnaps (reply.Snaps snaps) = Unit {0}
 TellsSnaps _ = ⊥
+
+abbrev TellsUsed : Reply → Type 0
+TellsUsed (reply.Used used of) = Unit {0}
+TellsUsed _ = ⊥
 
 -- ---- create
 
@@ -107,14 +113,14 @@ module _ (site : SiteId) (name : List ℕ) (size : ℕ) (shape : Shape) (plan : 
       let same : Return r ≡ Return (reply.Refused refusal.BadShape) = end.1 in
       subst (CreateMeans site name size shape steps) (let e : reply.Refused refusal.BadShape ≡ r = cc in e) (inl (record { outside = outside; none = end.0; is = refl }))
 
-pub create_means : (site : SiteId) (c : Command) (plan : Plan) (feds : List Fed) (steps : List Answered) (r : Reply) → IsCreatePlan site c plan → AreGiven steps
-    → IsWalk Goto plan feds steps (Return r) → IsMeantBy site c steps r
-create_means site (command.Create name size shape) plan feds steps r is given walk = (is.plain, go (limits_or_not (layout_of shape) size))
+pub create_means : (seat : Seat) (c : Command) (plan : Plan) (feds : List Fed) (steps : List Answered) (r : Reply) → IsCreatePlan seat.home c plan → AreGiven steps
+    → IsWalk Goto plan feds steps (Return r) → IsMeantBy seat c steps r
+create_means seat (command.Create name size shape) plan feds steps r is given walk = (is.plain, go (limits_or_not (layout_of shape) size))
   where
-    go : KeepsLimits (layout_of shape) size ⊎ (KeepsLimits (layout_of shape) size → ⊥) → CreateMeans site name size shape steps r
-    go (inl keeps) = create_within site name size shape plan is feds steps r given keeps walk
-    go (inr passes) = create_outside site name size shape plan is feds steps r passes walk
-create_means site _ plan feds steps r is given walk = absurd is
+    go : KeepsLimits (layout_of shape) size ⊎ (KeepsLimits (layout_of shape) size → ⊥) → CreateMeans seat.home name size shape steps r
+    go (inl keeps) = create_within seat.home name size shape plan is feds steps r given keeps walk
+    go (inr passes) = create_outside seat.home name size shape plan is feds steps r passes walk
+create_means seat _ plan feds steps r is given walk = absurd is
 
 -- ---- ls, info, snap ls
 
@@ -160,15 +166,67 @@ snap_list_means site image feds steps (reply.Refused x) (inr (y, same, from)) wa
 snap_list_means site image feds steps _ (inl granted) walk = absurd granted
 snap_list_means site image feds steps _ (inr (y, same, from)) walk = cc
 
-pub listing_means : (site : SiteId) (c : Command) (feds : List Fed) (steps : List Answered) (r : Reply) → is_listing c ≡ true → AreGiven steps
-    → IsWalk Goto (listing_plan site c) feds steps (Return r) → IsMeantBy site c steps r
-listing_means site command.List feds steps r is given walk =
-    list_means site feds steps r (ends_by refuses_none never TellsNames feds false (list_names site) steps r (refusing_names site) given walk) walk
-listing_means site (command.Info image) feds steps r is given walk =
-    info_means site image feds steps r (ends_by refuses_none never TellsInfo feds false (show_header site image reply.Info) steps r (refusing_shown TellsInfo site image reply.Info (λ h. tt)) given walk) walk
-listing_means site (command.SnapList image) feds steps r is given walk =
-    snap_list_means site image feds steps r (ends_by refuses_none never TellsSnaps feds false (show_header site image shown_snaps) steps r (refusing_shown TellsSnaps site image shown_snaps (λ h. tt)) given walk) walk
-listing_means site _ feds steps r is given walk = cc
+-- ---- du
+
+refusing_counted : (image of : ℕ) (a : Answer) → IsGiven (op.Map image (states.Get None)) a
+    → Answers refuses_none never TellsUsed false (op.Map image (states.Get None)) a (on_bits (λ bits. Return (reply.Used (used_among of bits) of)) a)
+refusing_counted image of (answer.Bits bits) can = inr (λ live. refl, tt)
+refusing_counted image of answer.Absent can = inl (record { why = refusal.NoImage; is = refl; ends = refl; comes = λ was. cc })
+refusing_counted image of answer.Fenced can = inl (record { why = refusal.Fenced; is = refl; ends = refl; comes = λ was. cc })
+refusing_counted image of _ can = let no = can.can.word in cc
+
+refusing_used : (site : SiteId) (name : List ℕ) → IsRefusing refuses_none never TellsUsed false (show_used site name)
+refusing_used site name =
+    refusing_find refuses_none never TellsUsed name (measuring site) (λ image. refusing_look refuses_none never TellsUsed image (λ h. counting site image (object_count h.layout h.size))
+    (λ h. inr (λ live. refl, refusing_counted image (object_count h.layout h.size))))
+
+used_means : (site : SiteId) (image : List ℕ) (feds : List Fed) (steps : List Answered) (r : Reply) → AreGiven steps → EndsBy refuses_none never TellsUsed false steps r
+    → IsWalk Goto (show_used site image) feds steps (Return r) → UsedMeans site image steps r
+used_means site image feds steps (reply.Used used of) given ends walk = used_is_shown site image used of feds steps given walk
+used_means site image feds steps (reply.Refused x) given (inl granted) walk = absurd granted
+used_means site image feds steps (reply.Refused x) given (inr (y, same, from)) walk = record {
+  own = used_is_own site image feds steps (Return (reply.Refused x)) walk;
+  by = subst (IsRefusedBy refuses_none never steps) (same_refusal x y same) from.by;
+}
+used_means site image feds steps _ given (inl granted) walk = absurd granted
+used_means site image feds steps _ given (inr (y, same, from)) walk = cc
+
+-- ---- rename
+
+refusing_renamed : (from to : List ℕ) (a : Answer) → IsGiven (op.Directory (directory.Rename from to)) a
+    → Answers refuses_none never IsDone false (op.Directory (directory.Rename from to)) a (on_renamed a)
+refusing_renamed from to answer.Done can = inr (λ live. refl, tt)
+refusing_renamed from to answer.Exists can = inl (record { why = refusal.ImageExists; is = refl; ends = refl; comes = λ was. cc })
+refusing_renamed from to answer.Absent can = inl (record { why = refusal.NoImage; is = refl; ends = refl; comes = λ was. cc })
+refusing_renamed from to answer.Fenced can = inl (record { why = refusal.Fenced; is = refl; ends = refl; comes = λ was. cc })
+refusing_renamed from to _ can = let no = can.can.word in cc
+
+rename_means : (site : SiteId) (from to : List ℕ) (feds : List Fed) (steps : List Answered) (r : Reply) → EndsBy refuses_none never IsDone false steps r
+    → IsWalk Goto (rename site from to) feds steps (Return r) → RenameMeans site from to steps r
+rename_means site from to feds steps reply.Done ends walk = name_is_changed site from to feds steps walk
+rename_means site from to feds steps (reply.Refused x) (inl granted) walk = absurd granted
+rename_means site from to feds steps (reply.Refused x) (inr (y, same, from_there)) walk = record {
+  own = rename_is_own site from to feds steps (Return (reply.Refused x)) walk;
+  by = subst (IsRefusedBy refuses_none never steps) (same_refusal x y same) from_there.by;
+}
+rename_means site from to feds steps _ (inl granted) walk = absurd granted
+rename_means site from to feds steps _ (inr (y, same, from_there)) walk = cc
+
+-- ---- all of these
+
+pub listing_means : (seat : Seat) (c : Command) (feds : List Fed) (steps : List Answered) (r : Reply) → is_listing c ≡ true → AreGiven steps
+    → IsWalk Goto (listing_plan seat.home c) feds steps (Return r) → IsMeantBy seat c steps r
+listing_means seat command.List feds steps r is given walk =
+    list_means seat.home feds steps r (ends_by refuses_none never TellsNames feds false (list_names seat.home) steps r (refusing_names seat.home) given walk) walk
+listing_means seat (command.Info image) feds steps r is given walk =
+    info_means seat.home image feds steps r (ends_by refuses_none never TellsInfo feds false (show_header seat.home image reply.Info) steps r (refusing_shown TellsInfo seat.home image reply.Info (λ h. tt)) given walk) walk
+listing_means seat (command.SnapList image) feds steps r is given walk =
+    snap_list_means seat.home image feds steps r (ends_by refuses_none never TellsSnaps feds false (show_header seat.home image shown_snaps) steps r (refusing_shown TellsSnaps seat.home image shown_snaps (λ h. tt)) given walk) walk
+listing_means seat (command.Used image) feds steps r is given walk =
+    used_means seat.home image feds steps r given (ends_by refuses_none never TellsUsed feds false (show_used seat.home image) steps r (refusing_used seat.home image) given walk) walk
+listing_means seat (command.Rename from to) feds steps r is given walk =
+    rename_means seat.home from to feds steps r (ends_by refuses_none never IsDone feds false (rename seat.home from to) steps r (refusing_renamed from to) given walk) walk
+listing_means seat _ feds steps r is given walk = cc
 
 -- ---- snap create, snap rm
 
@@ -233,15 +291,15 @@ removing_means site image snap feds steps (reply.Refused x) (inr (y, same, from)
 removing_means site image snap feds steps _ (inl granted) walk = absurd granted
 removing_means site image snap feds steps _ (inr (y, same, from)) walk = cc
 
-pub snap_means : (site : SiteId) (c : Command) (feds : List Fed) (steps : List Answered) (r : Reply) → is_snap c ≡ true → AreGiven steps
-    → IsWalk Goto (snap_plan site c) feds steps (Return r) → IsMeantBy site c steps r
-snap_means site (command.SnapCreate image snap) feds steps r is given walk =
-    taking_means site image snap feds steps r
-    (ends_by (create_refuses snap) never IsDone feds false (snap_plan site (command.SnapCreate image snap)) steps r
-    (refusing_change (create_refuses snap) never IsDone site image true (take site snap) (λ i h may. refusing_copied site snap i (h.snap_seq + 1))) given walk) walk
-snap_means site (command.SnapRemove image snap) feds steps r is given walk =
-    removing_means site image snap feds steps r
-    (ends_by (remove_refuses snap) by_fence IsDone feds false (snap_plan site (command.SnapRemove image snap)) steps r
-    (refusing_change (remove_refuses snap) by_fence IsDone site image true (remove site snap) (λ i h may.
-    refusing_remove site snap i (snap_named h.snaps snap) (or_else_none (non_primary h.role) _ may))) given walk) walk
-snap_means site _ feds steps r is given walk = cc
+pub snap_means : (seat : Seat) (c : Command) (feds : List Fed) (steps : List Answered) (r : Reply) → is_snap c ≡ true → AreGiven steps
+    → IsWalk Goto (snap_plan seat.home c) feds steps (Return r) → IsMeantBy seat c steps r
+snap_means seat (command.SnapCreate image snap) feds steps r is given walk =
+    taking_means seat.home image snap feds steps r
+    (ends_by (create_refuses snap) never IsDone feds false (snap_plan seat.home (command.SnapCreate image snap)) steps r
+    (refusing_change (create_refuses snap) never IsDone seat.home image true (take seat.home snap) (λ i h may. refusing_copied seat.home snap i (h.snap_seq + 1))) given walk) walk
+snap_means seat (command.SnapRemove image snap) feds steps r is given walk =
+    removing_means seat.home image snap feds steps r
+    (ends_by (remove_refuses snap) by_fence IsDone feds false (snap_plan seat.home (command.SnapRemove image snap)) steps r
+    (refusing_change (remove_refuses snap) by_fence IsDone seat.home image true (remove seat.home snap) (λ i h may.
+    refusing_remove seat.home snap i (snap_named h.snaps snap) (or_else_none (non_primary h.role) _ may))) given walk) walk
+snap_means seat _ feds steps r is given walk = cc

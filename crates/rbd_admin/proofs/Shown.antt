@@ -1,5 +1,5 @@
--- Images that are made, and what listings show, step by step.
-use Rattle.std.proofs.Common.{◌≡◌, ◌≤◌, ℕ, suc, length, arith, List, [], ◌∷◌, refl, ap, ◌∙◌, subst}
+-- Images that are made, what listings show, and names that change, step by step.
+use Rattle.std.proofs.Common.{◌≡◌, ◌≤◌, ℕ, suc, length, arith, List, [], ◌∷◌, None, refl, ap, sym, ◌∙◌, subst}
 use Rattle.rbd_kinds.specs.declared.answer.Answer.{Answer}
 use Rattle.rbd_kinds.specs.declared.answer.Answer.TheVariants as answer
 use Rattle.rbd_commands.specs.declared.command.Shape.{Shape}
@@ -15,18 +15,23 @@ use Rattle.rbd_commands.specs.declared.refusal.Refusal.{Refusal}
 use Rattle.rbd_commands.specs.declared.refusal.Refusal.TheVariants as refusal
 use Rattle.rbd_kinds.specs.declared.reply.Reply.{Reply}
 use Rattle.rbd_kinds.specs.declared.reply.Reply.TheVariants as reply
+use Rattle.rbd_kinds.specs.Form.{IsHeaderInForm}
 use Rattle.rbd_kinds.specs.Striping.{IsObjectCount}
 use Rattle.rbd_header.specs.Header.{new_header}
 use Rattle.rbd_layout.specs.Asked.{layout_of, KeepsLimits}
 use Rattle.rbd_machine.specs.Path.{Answered, IsWalk, found, looked_at}
 use Rattle.rbd_machine.specs.Plan.{Plan, Return, Goto}
-use Rattle.rbd_machine.specs.Steps.{on_id, on_header, on_done}
+use Rattle.rbd_machine.specs.Refused.{AreGiven}
+use Rattle.rbd_machine.specs.Steps.{on_id, on_header, on_done, on_bits}
 use Rattle.rbd_machine.specs.declared.reason.Reason.TheVariants as reason
 use Rattle.rbd_machine.proofs.Walked.{EndsUnrefused, ended, absent_ends, asked_to, went_on, told_image, told_header, told_done, refusal_ends_otherwise, nothing_ends_otherwise}
 use Rattle.rbd_meaning.specs.Creates.{MakesOne}
-use Rattle.rbd_meaning.specs.Listings.{ShowsHeader, listed}
+use Rattle.rbd_meaning.specs.Count.{object_count}
+use Rattle.rbd_meaning.specs.Listings.{ShowsHeader, ShowsUsed, listed, renamed, used_among}
+use Rattle.rbd_meaning.specs.Snaps.{map_told}
+use Rattle.rbd_meaning.proofs.Counts.{counts}
 use Rattle.rbd_admin.specs.Create.{IsCreate, on_drawn, making, mapping, drawing}
-use Rattle.rbd_admin.specs.Listing.{on_names, list_names, showing, show_header}
+use Rattle.rbd_admin.specs.Listing.{counting, measuring, on_names, on_renamed, list_names, rename, showing, show_header, show_used}
 
 -- ---- create
 
@@ -145,3 +150,61 @@ header_is_shown site name shown r feds steps kind walk =
           ∙ ap (λ s. looked_at site i.image h.header ∷ s) none);
       shows = cc;
     }
+
+-- ---- du
+
+pub record ToldBits (last : Plan) (next : List ℕ → Plan) (a : Answer) (feds : List Fed) (steps : List Answered) : Type 0 where
+  pub bits : List ℕ
+  pub is : a ≡ answer.Bits bits
+  pub walk : IsWalk Goto (next bits) feds steps last
+
+pub told_bits : (last : Plan) → EndsUnrefused last → (next : List ℕ → Plan) (a : Answer) (feds : List Fed) (steps : List Answered) → IsWalk Goto (on_bits next a) feds steps last → ToldBits last next a feds steps
+told_bits last kind next (answer.Bits bits) feds steps walk = record { bits = bits; is = refl; walk = walk }
+told_bits last kind next a feds steps walk = absurd (nothing_ends_otherwise last kind a feds steps walk)
+
+same_used : (used of shown objects : ℕ) → Return (reply.Used used of) ≡ Return (reply.Used shown objects) → used ≡ shown
+same_used used of shown objects same = cc
+
+same_objects : (used of shown objects : ℕ) → Return (reply.Used used of) ≡ Return (reply.Used shown objects) → of ≡ objects
+same_objects used of shown objects same = cc
+
+pub used_is_shown : (site : SiteId) (name : List ℕ) (used of : ℕ) (feds : List Fed) (steps : List Answered)
+    → AreGiven steps → IsWalk Goto (show_used site name) feds steps (Return (reply.Used used of)) → ShowsUsed site name used of steps
+used_is_shown site name used of feds steps given walk =
+    let last = Return (reply.Used used of) in
+    let w = went_on last tt site reason.Own (op.Directory (directory.Find name)) (on_id (measuring site)) feds steps walk in
+    let i = told_image last tt (measuring site) w.answer w.more w.rest w.walk in
+    let v = went_on last tt site reason.Own (op.Header i.image header.Get) (on_header (λ h. counting site i.image (object_count h.layout h.size))) w.more w.rest i.walk in
+    let h = told_header last tt (λ h. counting site i.image (object_count h.layout h.size)) v.answer v.more v.rest v.walk in
+    let objects = object_count h.header.layout h.header.size in
+    let m = went_on last tt site reason.Own (op.Map i.image (states.Get None)) (on_bits (λ bits. Return (reply.Used (used_among objects bits) objects))) v.more v.rest h.walk in
+    let b = told_bits last tt (λ bits. Return (reply.Used (used_among objects bits) objects)) m.answer m.more m.rest m.walk in
+    let end = ended (reply.Used (used_among objects b.bits) objects) m.more m.rest last b.walk in
+    let are : steps ≡ found site name i.image ∷ looked_at site i.image h.header ∷ map_told site i.image b.bits ∷ [] =
+    answered_so site _ w.answer (answer.Id i.image) w.rest _ steps w.are i.is
+    (answered_so site _ v.answer (answer.Header h.header) v.rest _ w.rest v.are h.is
+    (answered_so site _ m.answer (answer.Bits b.bits) m.rest [] v.rest m.are b.is end.0)) in
+    let told = subst AreGiven are given in
+    let form : IsHeaderInForm h.header = told.1.0.can.form in
+    let same_of : of ≡ objects = same_objects used of (used_among objects b.bits) objects end.1 in
+    record {
+      image = i.image;
+      header = h.header;
+      bits = b.bits;
+      are = are;
+      of_is = subst (IsObjectCount h.header.layout h.header.size) (sym same_of) (counts h.header.layout h.header.size form.layout);
+      used_is = same_used used of (used_among objects b.bits) objects end.1 ∙ ap (λ n. used_among n b.bits) (sym same_of);
+    }
+
+-- ---- rename
+
+renamed_so : (site : SiteId) (from to : List ℕ) (a : Answer) (feds : List Fed) (rest : List Answered) → IsWalk Goto (on_renamed a) feds rest (Return reply.Done)
+    → record { site = site; op = op.Directory (directory.Rename from to); answer = a } ∷ rest ≡ renamed site from to ∷ []
+renamed_so site from to answer.Done feds rest walk = ap (λ r. renamed site from to ∷ r) (ended reply.Done feds rest (Return reply.Done) walk).0
+renamed_so site from to answer.Exists feds rest walk = absurd (refusal_ends_otherwise (Return reply.Done) tt refusal.ImageExists feds rest walk)
+renamed_so site from to a feds rest walk = absurd (nothing_ends_otherwise (Return reply.Done) tt a feds rest walk)
+
+pub name_is_changed : (site : SiteId) (from to : List ℕ) (feds : List Fed) (steps : List Answered) → IsWalk Goto (rename site from to) feds steps (Return reply.Done) → steps ≡ renamed site from to ∷ []
+name_is_changed site from to feds steps walk =
+    let w = went_on (Return reply.Done) tt site reason.Own (op.Directory (directory.Rename from to)) on_renamed feds steps walk in
+    w.are ∙ renamed_so site from to w.answer w.more w.rest w.walk

@@ -16,7 +16,7 @@ use Rattle.rbd_machine.specs.declared.approach.Stage.TheVariants as at
 use Rattle.rbd_machine.specs.Plan.{IsLive}
 use Rattle.rbd_machine.specs.Steps.{TellsDone, TellsBits}
 use Rattle.rbd_admin.specs.Create.{TellsDrawn}
-use Rattle.rbd_admin.specs.Listing.{TellsNames}
+use Rattle.rbd_admin.specs.Listing.{TellsNames, TellsRenamed}
 use Rattle.rbd_admin.specs.Snap.{does, refuses_of, rest_at, TellsAt, TellsGone, TellsSnap}
 use Rattle.rbd_admin.specs.declared.snap.SnapChange.{SnapChange}
 use Rattle.rbd_admin.specs.declared.snap.Stage.{Stage}
@@ -39,16 +39,23 @@ list_tells (answer.Names names) can = tt
 list_tells answer.Fenced can = tt
 list_tells _ can = let no = can.word in cc
 
+pub rename_tells : (from to : List ℕ) (a : Answer) → CanGive (op.Directory (directory.Rename from to)) a → TellsRenamed a
+rename_tells from to answer.Done can = tt
+rename_tells from to answer.Exists can = tt
+rename_tells from to answer.Absent can = tt
+rename_tells from to answer.Fenced can = tt
+rename_tells from to _ can = let no = can.word in cc
+
 pub map_tells : (image count : ℕ) (a : Answer) → CanGive (op.Map image (states.Resize count)) a → TellsDone a
 map_tells image count answer.Done can = tt
 map_tells image count answer.Fenced can = tt
 map_tells image count _ can = let no = can.word in cc
 
-copying_tells : (image : ℕ) (a : Answer) → CanGive (op.Map image (states.Get None)) a → TellsBits a
-copying_tells image (answer.Bits bits) can = tt
-copying_tells image answer.Absent can = tt
-copying_tells image answer.Fenced can = tt
-copying_tells image _ can = let no = can.word in cc
+pub states_tell : (image : ℕ) (a : Answer) → CanGive (op.Map image (states.Get None)) a → TellsBits a
+states_tell image (answer.Bits bits) can = tt
+states_tell image answer.Absent can = tt
+states_tell image answer.Fenced can = tt
+states_tell image _ can = let no = can.word in cc
 
 putting_tells : (image next : ℕ) (bits : List ℕ) (a : Answer) → CanGive (op.Map image (states.Put (Some next) bits)) a → TellsDone a
 putting_tells image next bits answer.Done can = tt
@@ -83,7 +90,7 @@ IsActing _ = Unit {0}
 pub stage_tells : (s : Stage) (site : SiteId) (change : SnapChange) (a : Answer) → IsActing s → CanBeFed (rest_at s site change) (fed.Answer a) → TellsAt s a
 stage_tells (stage.Approaching way) site change a acting can = absurd acting
 stage_tells (stage.Noting image x) site change a acting can = absurd acting
-stage_tells (stage.Copying image next) site change a acting can = copying_tells image a can
+stage_tells (stage.Copying image next) site change a acting can = states_tell image a can
 stage_tells (stage.Putting image next bits) site change a acting can = putting_tells image next bits a can
 stage_tells (stage.Taking image) site change a acting can = taking_tells image change.snap a can
 stage_tells (stage.Removing image listed) site change a acting can = removing_tells image listed a can

@@ -1,7 +1,7 @@
 //! What the plans of requests keep to: laws, each the contract of a function that does nothing.
 ghost use Rattle.std.specs.Prelude.{◌≡◌, ℕ, List, [], ◌∷◌, true};
 ghost use Rattle.rbd_commands.specs.declared.command.Command.{Command};
-ghost use Rattle.rbd_commands.specs.declared.command.Command.TheVariants.{List as ListAll, Info, SnapList};
+ghost use Rattle.rbd_commands.specs.declared.command.Command.TheVariants.{List as ListAll, Info, Rename, SnapList, Used};
 ghost use Rattle.rbd_commands.specs.declared.command.Shape.{Shape};
 ghost use Rattle.rbd_kinds.specs.declared.header.HeaderView.{HeaderView};
 ghost use Rattle.rbd_kinds.specs.declared.header.SnapView.{SnapView};
@@ -14,15 +14,16 @@ ghost use Rattle.rbd_machine.specs.Plan.{Plan, Return, Goto, IsClosed, without_l
 ghost use Rattle.rbd_commands.specs.declared.command.Command.TheVariants.{SnapCreate, SnapRemove};
 ghost use Rattle.rbd_kinds.specs.declared.machine.Fed.{Fed};
 ghost use Rattle.rbd_kinds.specs.declared.reply.Reply.{Reply};
-ghost use Rattle.rbd_kinds.specs.declared.reply.Reply.TheVariants.{Done, Info as ShownHeader, Names, Snaps};
+ghost use Rattle.rbd_kinds.specs.declared.reply.Reply.TheVariants.{Done, Info as ShownHeader, Names, Snaps, Used as ShownUsed};
 ghost use Rattle.rbd_machine.specs.Path.{Answered, IsBounded, IsWalk};
+ghost use Rattle.rbd_machine.specs.declared.seat.Seat.{Seat};
 ghost use Rattle.rbd_admin.specs.Create.{IsCreate, IsCreatePlan};
 ghost use Rattle.rbd_header.specs.Header.{new_header};
 ghost use Rattle.rbd_admin.specs.Listing.{is_listing, listing_plan};
 ghost use Rattle.rbd_admin.specs.Snap.{is_snap, snap_plan};
 ghost use Rattle.rbd_machine.specs.Refused.{AreGiven};
 ghost use Rattle.rbd_meaning.specs.Creates.{MakesOne};
-ghost use Rattle.rbd_meaning.specs.Listings.{ShowsHeader, listed, shown_snaps};
+ghost use Rattle.rbd_meaning.specs.Listings.{ShowsHeader, ShowsUsed, listed, renamed, shown_snaps};
 ghost use Rattle.rbd_meaning.specs.Meant.{IsMeantBy};
 ghost use Rattle.rbd_meaning.specs.Snaps.{TakesOne, RemovesOne};
 
@@ -37,10 +38,17 @@ pub fn names_are_listed_at_once()
     ensures { (home : SiteId) → IsBounded (listing_plan home ListAll) 1 }
 {}
 
-/// An `ls`, an `info` and a `snap ls` have two operations at most: an image is found, and its
-/// header is looked at.
+/// An `info` and a `snap ls` have two operations at most: an image is found, and its header is
+/// looked at. A `du` has one more, by which the states of the head's map are told.
 pub fn listings_look_once()
-    ensures { (home : SiteId) (command : Command) → IsBounded (listing_plan home command) 2 }
+    ensures info { (home : SiteId) (image : List ℕ) → IsBounded (listing_plan home (Info image)) 2 }
+    ensures snaps { (home : SiteId) (image : List ℕ) → IsBounded (listing_plan home (SnapList image)) 2 }
+    ensures any { (home : SiteId) (command : Command) → IsBounded (listing_plan home command) 3 }
+{}
+
+/// A `rename` has one operation.
+pub fn renames_ask_once()
+    ensures { (home : SiteId) (from to : List ℕ) → IsBounded (listing_plan home (Rename from to)) 1 }
 {}
 
 /// A `snap create` has six operations at most, and a `snap rm` five: three up to their own look,
@@ -63,7 +71,8 @@ pub fn creates_are_lawful()
     ensures { (home : SiteId) (command : Command) (plan : Plan) → IsCreatePlan home command plan → IsLawfulRequest (without_labels plan) }
 {}
 
-/// An `ls`, an `info` and a `snap ls` are lawful from nothing known: they only look.
+/// An `ls`, an `info`, a `snap ls`, a `du` and a `rename` are lawful from nothing known: all but the
+/// last only look, and whoever asks may change a name.
 pub fn listings_are_lawful()
     ensures { (home : SiteId) (command : Command) → IsLawfulRequest (without_labels (listing_plan home command)) }
 {}
@@ -92,7 +101,9 @@ pub fn creates_make_one()
 {}
 
 /// An `ls` shows the names that the site told, an `info` the header that the image of its name has,
-/// and a `snap ls` that header's snapshots. None of them has done anything else.
+/// and a `snap ls` that header's snapshots. A `du` shows how many objects the header's size has, and
+/// how many of them have another state than 0 in the head's map, where headers that are told are in
+/// form. None of them has done anything else.
 pub fn listings_show_what_was_told()
     ensures names { (site : SiteId) (feds : List Fed) (steps : List Answered) (names : List (List ℕ))
         → IsWalk Goto (listing_plan site ListAll) feds steps (Return (Names names)) → steps ≡ listed site names ∷ [] }
@@ -100,6 +111,14 @@ pub fn listings_show_what_was_told()
         → IsWalk Goto (listing_plan site (Info image)) feds steps (Return (ShownHeader header)) → ShowsHeader site image ShownHeader (ShownHeader header) steps }
     ensures snaps { (site : SiteId) (image : List ℕ) (feds : List Fed) (steps : List Answered) (snaps : List SnapView)
         → IsWalk Goto (listing_plan site (SnapList image)) feds steps (Return (Snaps snaps)) → ShowsHeader site image shown_snaps (Snaps snaps) steps }
+    ensures used { (site : SiteId) (image : List ℕ) (feds : List Fed) (steps : List Answered) (used of : ℕ) → AreGiven steps
+        → IsWalk Goto (listing_plan site (Used image)) feds steps (Return (ShownUsed used of)) → ShowsUsed site image used of steps }
+{}
+
+/// A `rename` is done only where the site did it, and it has done nothing else.
+pub fn renames_change_the_name()
+    ensures { (site : SiteId) (from to : List ℕ) (feds : List Fed) (steps : List Answered)
+        → IsWalk Goto (listing_plan site (Rename from to)) feds steps (Return Done) → steps ≡ renamed site from to ∷ [] }
 {}
 
 /// A `snap create` is done only by one snapshot that was taken behind two looks and behind its map,
@@ -117,10 +136,10 @@ pub fn snapshots_change_behind_two_looks()
 /// changes: it was done or told when a request isn't refused, and when it is, the last answer
 /// refused it, and none before. No other reply comes.
 pub fn replies_are_meant()
-    ensures create { (site : SiteId) (command : Command) (plan : Plan) (feds : List Fed) (steps : List Answered) (reply : Reply) → IsCreatePlan site command plan → AreGiven steps
-        → IsWalk Goto plan feds steps (Return reply) → IsMeantBy site command steps reply }
-    ensures listing { (site : SiteId) (command : Command) (feds : List Fed) (steps : List Answered) (reply : Reply) → is_listing command ≡ true → AreGiven steps
-        → IsWalk Goto (listing_plan site command) feds steps (Return reply) → IsMeantBy site command steps reply }
-    ensures snap { (site : SiteId) (command : Command) (feds : List Fed) (steps : List Answered) (reply : Reply) → is_snap command ≡ true → AreGiven steps
-        → IsWalk Goto (snap_plan site command) feds steps (Return reply) → IsMeantBy site command steps reply }
+    ensures create { (seat : Seat) (command : Command) (plan : Plan) (feds : List Fed) (steps : List Answered) (reply : Reply) → IsCreatePlan seat.home command plan → AreGiven steps
+        → IsWalk Goto plan feds steps (Return reply) → IsMeantBy seat command steps reply }
+    ensures listing { (seat : Seat) (command : Command) (feds : List Fed) (steps : List Answered) (reply : Reply) → is_listing command ≡ true → AreGiven steps
+        → IsWalk Goto (listing_plan seat.home command) feds steps (Return reply) → IsMeantBy seat command steps reply }
+    ensures snap { (seat : Seat) (command : Command) (feds : List Fed) (steps : List Answered) (reply : Reply) → is_snap command ≡ true → AreGiven steps
+        → IsWalk Goto (snap_plan seat.home command) feds steps (Return reply) → IsMeantBy seat command steps reply }
 {}

@@ -1,4 +1,4 @@
-//! Requests that make, show and snapshot images, as machines that want one thing at a time.
+//! Requests that make, show, rename and snapshot images, as machines that want one thing at a time.
 //!
 //! ```text
 //! let mut request = SnapRequest::new(SiteId::A, snap_create);     // of the image `disk`, named `first`
@@ -23,6 +23,8 @@
 //! | `create` | `dir-add`, `map-resize`, `header-create` | BadShape before any operation; then ImageExists, BadShape |
 //! | `ls` | `dir-list` | |
 //! | `info`, `snap ls` | `dir-find`, `header-get` | NoImage |
+//! | `du` | `dir-find`, `header-get`, `map-get` | NoImage |
+//! | `rename` | `dir-rename` | NoImage where there is no image of the name, ImageExists where the other is held |
 //! | `snap create` | to its own look, its event, `map-get`, `map-put`, `header-snap-add`, applied | NoImage, NonPrimary, SnapExists, BadShape |
 //! | `snap rm` | to its own look, its event, `header-snap-remove`, `map-remove`, applied | NoImage, NonPrimary, NoSnap, SnapProtected |
 //!
@@ -38,6 +40,11 @@
 //! look tells, and alone on the image nobody takes another. It is removed once the header doesn't
 //! list the snapshot, and one that isn't there is passed over.
 //!
+//! A `du` counts the objects of the size that the header tells, and among them those that the
+//! head's map has in another state than 0. A map may have more objects, since it never becomes
+//! shorter (own): those past the size don't count. It waits for nothing, so a request beside it may
+//! change the size between its two looks (own).
+//!
 //! A shape is outside the limits by its layout, or by more than 2^20 objects (own). `dir-add` is
 //! answered `full` where no more names or ids are left, which is BadShape too (own). Any operation
 //! may be answered `fenced`, which ends the request with Fenced.
@@ -45,7 +52,8 @@
 //! # Contracts
 //!
 //! `specs/Create.antt`, `specs/Listing.antt` and `specs/Snap.antt` have the plan of each command:
-//! what a request wants, and how it goes on after each answer. A request that is made has this plan
+//! what a request wants, and how it goes on after each answer. `specs/Used.antt` says which objects
+//! `du` counts, one by one. A request that is made has this plan
 //! left, and each of its calls keeps to it ([`Machine`](rbd_machine::Machine)). [`laws`] says how
 //! many operations each plan has at most, that none begins a part again, that the header of a new
 //! image is in form, that each plan is lawful from nothing known (`rbd_machine`), and that each
@@ -57,12 +65,14 @@
 //! A request holds the names of its command, without a copy. Each operation or event that names
 //! something copies that name once; the header of a new image is made when its operation is asked
 //! for. A reply of names, a header or snapshots is copied once, by `ready`, and handed out by
-//! `feed`. The bits of a map are owned once more by `ready`, and once more by their `map-put`:
-//! where they are shared no byte is copied. Nothing else takes memory.
+//! `feed`. Of a `snap create` the bits of a map are owned once more by `ready`, and once more by
+//! their `map-put`: where they are shared no byte is copied. A `du` counts them where they are, in
+//! one pass up to the last object of the size. Nothing else takes memory.
 //!
 //! # How it works
 //!
 //! Each request has the step at which it stands, and each of its calls is a `match` on the step.
+//! [`ListRequest`] also serves `rename`, which like an `ls` has one operation and holds nothing.
 //! `snap create` and `snap rm` are one machine, since they differ only in what they refuse, in
 //! their event and in their operations behind it.
 #![tactic(auto)]
