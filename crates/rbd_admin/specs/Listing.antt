@@ -1,4 +1,4 @@
--- `ls`, `info`, `snap ls` and `du`: plans that show what a site has, and change nothing. And the plan
+-- `ls`, `info`, `snap ls` and `du`: plans that show what a site has, and change nothing; and that
 -- of `rename`, which changes a name alone.
 use Rattle.std.specs.Prelude.{◌≡◌, ℕ, List, Bool, true, false, Option, Some, None}
 use Rattle.rbd_admin.specs.declared.listing.ListRequest.{ListRequest}

@@ -71,8 +71,8 @@ pub fn creates_are_lawful()
     ensures { (home : SiteId) (command : Command) (plan : Plan) → IsCreatePlan home command plan → IsLawfulRequest (without_labels plan) }
 {}
 
-/// An `ls`, an `info`, a `snap ls`, a `du` and a `rename` are lawful from nothing known: all but the
-/// last only look, and whoever asks may change a name.
+/// An `ls`, an `info`, a `snap ls`, a `du` and a `rename` are lawful from nothing known: all but
+/// the last only look, and whoever asks may change a name.
 pub fn listings_are_lawful()
     ensures { (home : SiteId) (command : Command) → IsLawfulRequest (without_labels (listing_plan home command)) }
 {}
@@ -101,9 +101,9 @@ pub fn creates_make_one()
 {}
 
 /// An `ls` shows the names that the site told, an `info` the header that the image of its name has,
-/// and a `snap ls` that header's snapshots. A `du` shows how many objects the header's size has, and
-/// how many of them have another state than 0 in the head's map, where headers that are told are in
-/// form. None of them has done anything else.
+/// and a `snap ls` that header's snapshots. A `du` shows how many objects the header's size has,
+/// and how many of them have another state than 0 in the head's map, where headers that are told
+/// are in form. None of them has done anything else.
 pub fn listings_show_what_was_told()
     ensures names { (site : SiteId) (feds : List Fed) (steps : List Answered) (names : List (List ℕ))
         → IsWalk Goto (listing_plan site ListAll) feds steps (Return (Names names)) → steps ≡ listed site names ∷ [] }
