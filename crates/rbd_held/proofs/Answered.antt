@@ -1,5 +1,6 @@
 -- What a client knows and counts is true again behind an operation of its own.
-use Rattle.std.proofs.Common.{◌≡◌, ◌≢◌, ◌⊎◌, inl, inr, ℕ, ◌==◌, cond, Bool, true, false, [], Option, Some, None, sym, ap, ◌∙◌, subst}
+use Rattle.std.proofs.Common.{◌≡◌, ◌≢◌, ◌⊎◌, inl, inr, ℕ, ◌==◌, cond, Bool, true, false, [], Option, Some, None, refl, sym, ap, ◌∙◌, subst, true≢false}
+use Rattle.std.specs.Prelude.{IsSome}
 use Rattle.std.proofs.lemmas.Bool.{cases_eq, eq-eqb, ne_eqb}
 use Rattle.rbd_client.specs.declared.actor.Actor.{Actor}
 use Rattle.rbd_client.specs.declared.actor.Actor.TheVariants as actor
@@ -10,12 +11,17 @@ use Rattle.rbd_client.specs.declared.slot_state.Way.TheVariants as way
 use Rattle.rbd_client.specs.Actor.{actor_at, op_by, op_wanted}
 use Rattle.rbd_client.specs.Client.{ClientView, state_in}
 use Rattle.rbd_client.specs.Feeding.{IsFedBy, WayComesTo, state_behind}
-use Rattle.rbd_client.specs.Sound.{IsOwned}
+use Rattle.rbd_client.specs.Sound.{IsOwned, IsSoundClient}
 use Rattle.rbd_flat.specs.Flat.{Flat}
 use Rattle.rbd_held.specs.Knowing.{known_on_way, known_to, known_to_release, knows_fed, knows_on_way, plan_of}
 use Rattle.rbd_held.specs.Truth.{IsTrueOf, IsWayTrue}
+use Rattle.rbd_client.proofs.Follows.{counted_by}
+use Rattle.rbd_held.proofs.Acts.{release_may_act, way_may_act}
+use Rattle.rbd_held.proofs.Counted.{counted_nothing, counted_others, counted_own, counted_unless, release_removes_none, way_removes_none}
 use Rattle.rbd_held.proofs.Fed.{less_known}
-use Rattle.rbd_held.proofs.LocksHeld.{held_behind, is_counted, owned_elsewhere, owned_then}
+use Rattle.rbd_held.proofs.LocksHeld.{ends_elsewhere, held_behind, is_counted, owned_elsewhere, owned_then}
+use Rattle.rbd_held.proofs.Owned.{acts_by_lock}
+use Rattle.rbd_held.proofs.Told.{known_before_waits, own_before}
 use Rattle.rbd_held.proofs.Permitted.{asked_at}
 use Rattle.rbd_held.proofs.Releases.{beside_release}
 use Rattle.rbd_held.proofs.Ways.{beside_way, next_is_true, true_elsewhere_on_way, way_stays_true}
@@ -25,7 +31,7 @@ use Rattle.rbd_kinds.specs.declared.id.SiteId.{SiteId}
 use Rattle.rbd_kinds.specs.declared.machine.Fed.TheVariants as fed
 use Rattle.rbd_kinds.specs.declared.operation.Op.{Op}
 use Rattle.rbd_kinds.specs.declared.reply.Reply.{Reply}
-use Rattle.rbd_known.specs.Knowing.{known_at_operation, known_behind, knows_after, unless_ended}
+use Rattle.rbd_known.specs.Knowing.{AllKnow, known_at_operation, known_behind, knows_after, unless_ended}
 use Rattle.rbd_known.proofs.Little.{still_beside, still_true}
 use Rattle.rbd_known.proofs.Wanting.{Wants, wants}
 use Rattle.rbd_locks.specs.Locks.{state_at}
@@ -36,8 +42,8 @@ use Rattle.rbd_owner.specs.Acquire.{op_of}
 use Rattle.rbd_owner.specs.declared.acquire.Acquire.{Acquire}
 use Rattle.rbd_rely.specs.Beside.{AreBeside, MayAct}
 use Rattle.rbd_rely.specs.Locks.{HasLockWhileFree}
-use Rattle.rbd_rely.specs.Truth.{AreMapped, IsTrueAt}
-use Rattle.rbd_rely.proofs.Elsewhere.{beside_elsewhere, true_elsewhere}
+use Rattle.rbd_rely.specs.Truth.{AreMapped, IsTrueAt, known_header}
+use Rattle.rbd_rely.proofs.Elsewhere.{beside_elsewhere, learned_same, true_elsewhere}
 use Rattle.rbd_rely.proofs.Kept.{others_keep}
 use Rattle.rbd_rely.proofs.Learned.{own_learned}
 use Rattle.rbd_rely.proofs.Nothing.{nothing_is_beside, nothing_is_true}
@@ -131,7 +137,7 @@ module _ {R : Type 0} (stands : R → Standing) (c d : ClientView R) (knows : �
 
   -- ---- at the site of the operation
 
-  module _ (f : Flat) (most : ℕ) (stood : StandsFor [] r f) (form : AreInForm r most) (mapped : AreMapped r) (t : IsTrueOf site r me knows c) (truly : IsTrueAt site r me (known_to (knows slot) (actor_at stands slot c)))
+  module _ (f : Flat) (most : ℕ) (stood : StandsFor [] r f) (form : AreInForm r most) (mapped : AreMapped r) (sound : IsSoundClient stands c) (all : AllKnow stands knows c.session) (t : IsTrueOf site r me knows c) (truly : IsTrueAt site r me (known_to (knows slot) (actor_at stands slot c)))
       (may : (other : ℕ) → slot ≢ other → MayAct site r me me (known_to (knows slot) (actor_at stands slot c)) (knows other) o) where
     abbrev now : Records
     now = after r me o
@@ -148,7 +154,7 @@ module _ {R : Type 0} (stands : R → Standing) (c d : ClientView R) (knows : �
       request_true =
           of_each knows slot (unless_ended result (known_behind (knows slot) plan (fed.Answer a))) (IsTrueAt site now me)
           (learns wanted (IsTrueAt site now me) (nothing_is_true site now me) (λ w. still_true site now me (w.next a) (learned (knows slot) site o a) (own_learned site r f (knows slot) me o most stood form mapped known allowed)))
-          (λ x differ. others_keep site r (knows x) (knows slot) me me o (t.requests x) known (t.beside x slot differ) allowed)
+          (λ x differ. others_keep site r (knows x) (knows slot) me me o (t.requests x) known (t.beside x slot differ) allowed (looks x (λ same. differ (sym same))))
 
       request_beside : OfTwo Beside (knows_after knows slot result plan (fed.Answer a))
       request_beside =
@@ -159,9 +165,9 @@ module _ {R : Type 0} (stands : R → Standing) (c d : ClientView R) (knows : �
           stay_beside
 
     -- where another acts, each knows what it knew, or nothing
-    module _ (j : Knowledge) (known : IsTrueAt site r me j) (allowed : Permits j site o) (apart : (k : Knowledge) → AreBeside site r me me k j) where
+    module _ (j : Knowledge) (known : IsTrueAt site r me j) (allowed : Permits j site o) (apart : (k : Knowledge) → AreBeside site r me me k j) (acts : (x : ℕ) → MayAct site r me me j (knows x) o) where
       others_true : (x : ℕ) → IsTrueAt site now me (knows x)
-      others_true x = others_keep site r (knows x) j me me o (t.requests x) known (apart (knows x)) allowed
+      others_true x = others_keep site r (knows x) j me me o (t.requests x) known (apart (knows x)) allowed (acts x)
 
       way_true : (x : ℕ) → IsTrueAt site now me (knows_on_way knows slot result x)
       way_true = less_each knows (knows_on_way knows slot result) (less_known knows slot result) (IsTrueAt site now me) (nothing_is_true site now me) others_true
@@ -210,7 +216,7 @@ module _ {R : Type 0} (stands : R → Standing) (c d : ClientView R) (knows : �
     -- ---- the locks
 
     locks_then : (who : Actor) → FedBy who → (image : ℕ) → IsOwned site image d.locks → HasLockWhileFree now me image
-    locks_then who fed image owned = held_behind site r me (known_to (knows slot) (actor_at stands slot c)) truly image (state_at site image c.locks).owned (t.locks image) o permits (counted who fed)
+    locks_then who fed image owned = held_behind site r me (known_to (knows slot) (actor_at stands slot c)) truly (acts_by_lock stands c knows site r me t slot) image (state_at site image c.locks).owned (t.locks image) o permits (counted who fed)
       where
         counted : (who : Actor) → FedBy who → owned_then site site image o a (state_at site image c.locks).owned ≡ true
         counted actor.Nobody fed = absurd fed
@@ -220,29 +226,44 @@ module _ {R : Type 0} (stands : R → Standing) (c d : ClientView R) (knows : �
 
     -- ---- all of it
 
+    abbrev Counted : Knowledge → Type 0
+    Counted k = (image : ℕ) → IsSome (known_header k site image) → IsOwned site image d.locks
+
     pub answers_are_true : FedBy (actor_at stands slot c) → IsTrueOf site now me (knows_then (actor_at stands slot c)) d
-    answers_are_true fed = by (actor_at stands slot c) is fed truly permits may
+    answers_are_true is_fed = by (actor_at stands slot c) refl is is_fed truly permits may
       where
-        by : (who : Actor) → op_by stands slot c.session who ≡ Some (site, o) → FedBy who → IsTrueAt site r me (known_to (knows slot) who) → Permits (known_to (knows slot) who) site o
+        counted_behind : actor_at stands slot c ≡ actor.Request → op_by stands slot c.session actor.Request ≡ Some (site, o) → (x : ℕ) → Counted (knows_after knows slot result plan (fed.Answer a) x)
+        counted_behind acts wanted =
+            of_each knows slot (unless_ended result (known_behind (knows slot) plan (fed.Answer a))) Counted
+            (learns wanted Counted (counted_nothing stands c d knows sound all slot site o a result r me t is permits is_fed)
+            (λ w. counted_own stands c d knows sound all slot site o a result r me t is permits is_fed acts (w.next a)))
+            (counted_others stands c d knows sound all slot site o a result r me t is permits is_fed acts)
+
+        by : (who : Actor) → actor_at stands slot c ≡ who → op_by stands slot c.session who ≡ Some (site, o) → FedBy who → IsTrueAt site r me (known_to (knows slot) who) → Permits (known_to (knows slot) who) site o
             → ((other : ℕ) → slot ≢ other → MayAct site r me me (known_to (knows slot) who) (knows other) o) → IsTrueOf site now me (knows_then who) d
-        by actor.Nobody wanted fed known allowed looks = absurd fed
-        by actor.Request wanted fed known allowed looks = record {
+        by actor.Nobody acts wanted goes known allowed looks = absurd goes
+        by actor.Request acts wanted goes known allowed looks = record {
           requests = request_true wanted known allowed looks;
           beside = request_beside wanted known allowed looks;
-          ways = ways_then actor.Request wanted fed;
-          locks = locks_then actor.Request fed;
+          counted = counted_behind acts wanted;
+          ways = ways_then actor.Request wanted goes;
+          locks = locks_then actor.Request goes;
         }
-        by (actor.Way b) wanted fed known allowed looks = record {
-          requests = way_true (known_on_way b) known allowed (λ k. beside_way site r me me k b);
-          beside = way_beside (known_on_way b) known allowed (λ k. beside_way site r me me k b);
-          ways = ways_then (actor.Way b) wanted fed;
-          locks = locks_then (actor.Way b) fed;
+        by (actor.Way b) acts wanted goes known allowed looks = record {
+          requests = way_true (known_on_way b) known allowed (λ k. beside_way site r me me k b) (λ x. way_may_act r me me site o b wanted (knows x));
+          beside = way_beside (known_on_way b) known allowed (λ k. beside_way site r me me k b) (λ x. way_may_act r me me site o b wanted (knows x));
+          counted =
+              less_each knows (knows_on_way knows slot result) (less_known knows slot result) Counted (counted_nothing stands c d knows sound all slot site o a result r me t is permits is_fed)
+              (counted_unless stands c d knows sound all slot site o a result r me t is permits is_fed (way_removes_none stands c d knows sound all slot site o a result r me t is permits is_fed b acts));
+          ways = ways_then (actor.Way b) wanted goes;
+          locks = locks_then (actor.Way b) goes;
         }
-        by (actor.Release x) wanted fed known allowed looks = record {
-          requests = others_true (known_to_release x) known allowed (λ k. beside_release site r me me k x);
+        by (actor.Release x) acts wanted goes known allowed looks = record {
+          requests = others_true (known_to_release x) known allowed (λ k. beside_release site r me me k x) (release_may_act stands c knows sound all r me me slot site o x acts wanted);
           beside = stay_beside;
-          ways = ways_then (actor.Release x) wanted fed;
-          locks = locks_then (actor.Release x) fed;
+          counted = counted_unless stands c d knows sound all slot site o a result r me t is permits is_fed (release_removes_none stands c d knows sound all slot site o a result r me t is permits is_fed x acts);
+          ways = ways_then (actor.Release x) wanted goes;
+          locks = locks_then (actor.Release x) goes;
         }
 
   -- ---- at the other site
@@ -300,27 +321,50 @@ module _ {R : Type 0} (stands : R → Standing) (c d : ClientView R) (knows : �
         counted (actor.Way b) fed = is_counted quiescing.Leaves None site there o a c.locks d.locks fed.counts image owned
         counted (actor.Release x) fed = is_counted quiescing.Leaves None site there o a c.locks d.locks fed.counts image owned
 
+    -- no lock ends there
+    abbrev Counts : Knowledge → Type 0
+    Counts k = (image : ℕ) → IsSome (known_header k there image) → IsOwned there image d.locks
+
+    counts_nothing : Counts nothing_known
+    counts_nothing image some = absurd (true≢false (sym some))
+
+    module _ (is_fed : FedBy (actor_at stands slot c)) where
+      counts_still : (x : ℕ) → Counts (knows x)
+      counts_still x image some =
+          counted_by stands slot site o (fed.Answer a) result c d there image (actor_at stands slot c) is_fed (ends_elsewhere site there image o a differ) (t.counted x image some)
+
+      counts_learned : op_by stands slot c.session actor.Request ≡ Some (site, o) → (x : ℕ) → Counts (knows_after knows slot result plan (fed.Answer a) x)
+      counts_learned wanted =
+          of_each knows slot (unless_ended result (known_behind (knows slot) plan (fed.Answer a))) Counts
+          (learns wanted Counts counts_nothing
+          (λ w image some. counts_still slot image (own_before there image (learned (knows slot) site o a) (knows slot) ((learned_same site there differ (knows slot) o a).owns image)
+          (known_before_waits there image (w.next a) (learned (knows slot) site o a) some))))
+          (λ x apart. counts_still x)
+
     pub answers_are_true_elsewhere : FedBy (actor_at stands slot c) → IsTrueOf there q me (knows_then (actor_at stands slot c)) d
-    answers_are_true_elsewhere fed = by (actor_at stands slot c) is fed
+    answers_are_true_elsewhere is_fed = by (actor_at stands slot c) is is_fed
       where
         by : (who : Actor) → op_by stands slot c.session who ≡ Some (site, o) → FedBy who → IsTrueOf there q me (knows_then who) d
-        by actor.Nobody wanted fed = absurd fed
-        by actor.Request wanted fed = record {
+        by actor.Nobody wanted goes = absurd goes
+        by actor.Request wanted goes = record {
           requests = learned_true wanted;
           beside = learned_beside_there wanted;
-          ways = ways_there actor.Request wanted fed;
-          locks = locks_there actor.Request fed;
+          counted = counts_learned is_fed wanted;
+          ways = ways_there actor.Request wanted goes;
+          locks = locks_there actor.Request goes;
         }
-        by (actor.Way b) wanted fed = record {
+        by (actor.Way b) wanted goes = record {
           requests = less_each knows (knows_on_way knows slot result) (less_known knows slot result) (IsTrueAt there q me) (nothing_is_true there q me) t.requests;
           beside =
               less_two knows (knows_on_way knows slot result) (less_known knows slot result) There (λ k j. beside_mutual there q me me k j) (nothing_is_beside there q me me) t.beside;
-          ways = ways_there (actor.Way b) wanted fed;
-          locks = locks_there (actor.Way b) fed;
+          counted = less_each knows (knows_on_way knows slot result) (less_known knows slot result) Counts counts_nothing (counts_still is_fed);
+          ways = ways_there (actor.Way b) wanted goes;
+          locks = locks_there (actor.Way b) goes;
         }
-        by (actor.Release x) wanted fed = record {
+        by (actor.Release x) wanted goes = record {
           requests = t.requests;
           beside = t.beside;
-          ways = ways_there (actor.Release x) wanted fed;
-          locks = locks_there (actor.Release x) fed;
+          counted = counts_still is_fed;
+          ways = ways_there (actor.Release x) wanted goes;
+          locks = locks_there (actor.Release x) goes;
         }

@@ -8,7 +8,7 @@ use Rattle.rbd_client.specs.declared.slot_state.Way.{Way}
 use Rattle.rbd_client.specs.declared.slot_state.Way.TheVariants as way
 use Rattle.rbd_client.specs.Client.{ClientView, newcomer, state_in}
 use Rattle.rbd_client.specs.Feeding.{AreStatesAlike}
-use Rattle.rbd_client.specs.Sound.{IsOwned, IsSoundClient}
+use Rattle.rbd_client.specs.Sound.{IsSoundClient}
 use Rattle.rbd_held.specs.Truth.{IsTrueOf, IsWayTrue}
 use Rattle.rbd_kinds.specs.declared.id.Instance.{Instance}
 use Rattle.rbd_kinds.specs.declared.id.SiteId.{SiteId}
@@ -34,18 +34,25 @@ module _ {R : Type 0} (site : SiteId) (r : Records) (me : Instance) where
   new_client_is_true stands c sound none locks = record {
     requests = λ slot. nothing_is_true site r me;
     beside = λ slot other differ. nothing_is_beside site r me me nothing_known;
+    counted = λ slot image known. absurd (true≢false (sym known));
     ways = λ slot. no_way site r me (state_in slot c.slots).way (ap (λ (s : SlotState). s.way) (sound.free slot (none slot)));
     locks = λ image owned. absurd (true≢false (sym owned ∙ ap (λ (s : LockState). s.owned) (locks image)));
   }
 
   module _ (knows : ℕ → Knowledge) (c d : ClientView R) (t : IsTrueOf site r me knows c) where
-    -- who counts no lock more, and begins no way
-    counts_no_more : ((slot : ℕ) → IsWayTrue site r me (state_in slot d.slots).way) → ((image : ℕ) → IsOwned site image d.locks → IsOwned site image c.locks) → IsTrueOf site r me knows d
-    counts_no_more ways owned = record { requests = t.requests; beside = t.beside; ways = ways; locks = λ image is. t.locks image (owned image is) }
+    -- who counts the same locks, and begins no way
+    counts_the_same : ((slot : ℕ) → IsWayTrue site r me (state_in slot d.slots).way) → ((image : ℕ) → (state_at site image d.locks).owned ≡ (state_at site image c.locks).owned) → IsTrueOf site r me knows d
+    counts_the_same ways owned = record {
+      requests = t.requests;
+      beside = t.beside;
+      counted = λ slot image known. owned image ∙ t.counted slot image known;
+      ways = ways;
+      locks = λ image is. t.locks image (sym (owned image) ∙ is);
+    }
 
     pub submitted_is_true : (slot : ℕ) (q : Quiescing) → state_in slot d.slots ≡ newcomer q → ((other : ℕ) → other ≢ slot → state_in other d.slots ≡ state_in other c.slots) → d.locks ≡ c.locks
         → IsTrueOf site r me knows d
-    submitted_is_true slot q new others locks = counts_no_more (λ x. by x (cases_eq x slot)) (λ image is. subst (λ l. IsOwned site image l) locks is)
+    submitted_is_true slot q new others locks = counts_the_same (λ x. by x (cases_eq x slot)) (λ image. ap (λ l. (state_at site image l).owned) locks)
       where
         by : (x : ℕ) → (x ≡ slot) ⊎ (x ≢ slot) → IsWayTrue site r me (state_in x d.slots).way
         by x (inl same) = no_way site r me (state_in x d.slots).way (ap (λ n. (state_in n d.slots).way) same ∙ ap (λ (s : SlotState). s.way) new)
@@ -58,10 +65,10 @@ module _ {R : Type 0} (site : SiteId) (r : Records) (me : Instance) where
 
     pub readied_is_true : d.slots ≡ c.slots → AreStatesAlike c.locks d.locks → IsTrueOf site r me knows d
     readied_is_true slots locks =
-        counts_no_more (λ x. subst (λ xs. IsWayTrue site r me (state_in x xs).way) (sym slots) (t.ways x))
-        (λ image is. sym (ap (λ (s : LockState). s.owned) (locks site image)) ∙ is)
+        counts_the_same (λ x. subst (λ xs. IsWayTrue site r me (state_in x xs).way) (sym slots) (t.ways x))
+        (λ image. ap (λ (s : LockState). s.owned) (locks site image))
 
     pub heard_is_true : (n : Notice) → d.slots ≡ c.slots → ((image : ℕ) → state_at site image d.locks ≡ heard n site image (state_at site image c.locks)) → IsTrueOf site r me knows d
     heard_is_true n slots locks =
-        counts_no_more (λ x. subst (λ xs. IsWayTrue site r me (state_in x xs).way) (sym slots) (t.ways x))
-        (λ image is. sym (ap (λ (s : LockState). s.owned) (locks image) ∙ owned_is site image (ByNotice n ∷ []) (state_at site image c.locks)) ∙ is)
+        counts_the_same (λ x. subst (λ xs. IsWayTrue site r me (state_in x xs).way) (sym slots) (t.ways x))
+        (λ image. ap (λ (s : LockState). s.owned) (locks image) ∙ owned_is site image (ByNotice n ∷ []) (state_at site image c.locks))

@@ -1,6 +1,8 @@
--- A request drops a lock only where its image is at rest: nobody of the client relies on the lock.
-use Rattle.std.proofs.Common.{◌≡◌, ◌≢◌, ◌⊎◌, inl, inr, ℕ, suc, ◌==◌, ◌&&◌, ◌||◌, not, cond, Bool, true, false, List, [], ◌∷◌, Some, refl, sym, ap, ◌∙◌, subst, true≢false}
+-- A request ends a lock only where nobody else of the client relies on it: it drops one where the
+-- image is at rest, and removes a header where it is past its own look, alone.
+use Rattle.std.proofs.Common.{◌≡◌, ◌≢◌, ◌⊎◌, inl, inr, ℕ, suc, ◌==◌, ◌&&◌, ◌||◌, not, cond, Bool, true, false, List, [], ◌∷◌, Option, Some, None, refl, sym, ap, ◌∙◌, subst, true≢false}
 use Rattle.std.specs.List.{list_all}
+use Rattle.std.specs.Prelude.{IsSome}
 use Rattle.std.proofs.lemmas.Bool.{and_parts, cases_eq, eqb-true, or_parts}
 use Rattle.rbd_client.specs.declared.actor.Actor.{Actor}
 use Rattle.rbd_client.specs.declared.actor.Actor.TheVariants as actor
@@ -11,32 +13,41 @@ use Rattle.rbd_client.specs.Actor.{actor_at, any_taken, has_taken, is_at_rest, o
 use Rattle.rbd_client.specs.Client.{ClientView, state_in}
 use Rattle.rbd_client.specs.Feeding.{DropsAtRest, IsAtRest}
 use Rattle.rbd_client.specs.Sound.{IsSoundClient, IsWellOnWay}
+use Rattle.rbd_line.proofs.Passing.{alone_past, found_at}
 use Rattle.rbd_line.proofs.Past.{IsPastIn, past_found}
-use Rattle.rbd_client.proofs.Requests.{look_drops_nothing}
+use Rattle.rbd_client.proofs.Owning.{ends, is_end}
+use Rattle.rbd_client.proofs.Requests.{look_ends_nothing}
 use Rattle.rbd_course.specs.Course.{has_just_joined, is_waiting}
 use Rattle.rbd_course.specs.declared.stage.Stage.{Stage}
 use Rattle.rbd_course.specs.declared.stage.Stage.TheVariants as stage
 use Rattle.rbd_held.specs.Knowing.{known_to, unlooked}
+use Rattle.rbd_kinds.specs.declared.answer.Answer.{Answer}
+use Rattle.rbd_kinds.specs.declared.answer.Answer.TheVariants as answer
+use Rattle.rbd_kinds.specs.declared.header.HeaderView.{HeaderView}
+use Rattle.rbd_kinds.specs.declared.header_op.HeaderOp.{HeaderOp}
 use Rattle.rbd_kinds.specs.declared.header_op.HeaderOp.TheVariants as header
 use Rattle.rbd_kinds.specs.declared.id.SiteId.{SiteId}
 use Rattle.rbd_kinds.specs.declared.operation.Op.{Op}
 use Rattle.rbd_kinds.specs.declared.operation.Op.TheVariants as op
 use Rattle.rbd_known.specs.Knowing.{AllKnow}
-use Rattle.rbd_known.proofs.Looking.{IsMemberFor, may_of, may_shared, owner_runs}
+use Rattle.rbd_known.proofs.Looking.{may_shared, owner_runs, runs_who_owns}
+use Rattle.rbd_known.proofs.There.{IsMemberFor, may_of}
 use Rattle.rbd_known.proofs.Wanting.{Wants, wants}
 use Rattle.rbd_line.specs.Line.{Member, ahead, any_past, is_let_pass, is_past, is_shared_past, lets_pass, may_pass, member_of}
 use Rattle.rbd_kinds.specs.declared.image_at.ImageAt.{ImageAt}
 use Rattle.rbd_kinds.specs.Images.{is_at}
 use Rattle.rbd_locks.proofs.Keys.{where_same}
 use Rattle.rbd_locks.proofs.Lasting.{same_itself}
-use Rattle.rbd_machine.specs.Knowledge.{Knowledge}
-use Rattle.rbd_machine.specs.Permits.{HoldsUnlooked, Permits}
+use Rattle.rbd_machine.specs.Knowledge.{Knowledge, Own, own_of}
+use Rattle.rbd_machine.specs.Permits.{HoldsUnlooked, OwnsAlone, Permits}
+use Rattle.rbd_rely.specs.Truth.{header_of_own, known_header}
 use Rattle.rbd_machine.specs.Plan.{Standing}
 use Rattle.rbd_session.specs.Advance.{track_of}
 use Rattle.rbd_session.specs.Lines.{lines_of}
 use Rattle.rbd_session.specs.Session.{held_in, own_look_at, running_in}
 use Rattle.rbd_session.specs.Track.{Track, course_of, line_in}
 use Rattle.rbd_session.specs.Waits.{awaits_line, awaits_turn, is_at_own, waits}
+use Rattle.rbd_session.proofs.Members.{at_own_slot}
 use Rattle.rbd_session.proofs.OwnLooks.{at_own_look}
 use Rattle.rbd_session.proofs.Sound.{no_some, some_same}
 
@@ -104,6 +115,42 @@ taken_found site image (s ∷ slots) any = by s.way refl any (taken_found site i
     by way.Unbegun at any rest = later (rest any)
     by (way.On a) at any rest = later (rest any)
 
+-- ---- nobody has taken a lock that ends
+
+module _ {R : Type 0} (stands : R → Standing) (c : ClientView R) (sound : IsSoundClient stands c) (slot : ℕ) (site : SiteId) (image : ℕ) (o : HeaderOp) (a : Answer) (ended : is_end o a ≡ true)
+    (wanted : op_by stands slot c.session actor.Request ≡ Some (site, op.Header image o))
+    (nobody : (other : ℕ) (n : Member) → slot ≢ other → member_of other (lines_of c.session.lines site image) ≡ Some n → may_pass other (lines_of c.session.lines site image) ≡ true → ⊥) where
+  nobody_taken : (b : Bool) → any_taken site image c.slots ≡ b → b ≡ false
+  nobody_taken false is = refl
+  nobody_taken true is = absurd (by (taken_found site image c.slots is))
+    where
+      by : HasTaken site image c.slots → ⊥
+      by t = go (cases_eq slot t.slot)
+        where
+          there : ImageAt
+          there = record { site = t.place.site; image = t.place.image }
+
+          well : IsWellOnWay stands t.slot (way.Taken t.place) c.session c.locks
+          well = subst (λ w. IsWellOnWay stands t.slot w c.session c.locks) t.way (sound.ways t.slot)
+
+          ends_it : ends site (op.Header image o) a site image ≡ true
+          ends_it = ap (λ b. b && is_at site image site image) ended ∙ same_itself site image
+
+          go : (slot ≡ t.slot) ⊎ (slot ≢ t.slot) → ⊥
+          go (inl same) =
+              true≢false (sym ends_it
+              ∙ look_ends_nothing stands slot site (op.Header image o) c.session there
+              (subst (λ n. own_look_at stands n c.session ≡ Some there) (sym same) well.0.at_look) wanted a site image)
+          go (inr differ) =
+              let look = at_own_look stands c.session t.slot there well.0.at_look in
+              where_same (λ s i. (n : Member) → member_of t.slot (lines_of c.session.lines s i) ≡ Some n → may_pass t.slot (lines_of c.session.lines s i) ≡ true → ⊥)
+              site image t.place.site t.place.image t.same
+              (λ n found may_also. nobody t.slot n differ found may_also)
+              look.member look.found look.may
+
+  pub none_taken : any_taken site image c.slots ≡ false
+  none_taken = nobody_taken (any_taken site image c.slots) refl
+
 -- ---- a drop
 
 module _ {R : Type 0} (stands : R → Standing) (c : ClientView R) (knows : ℕ → Knowledge) (sound : IsSoundClient stands c) (all : AllKnow stands knows c.session)
@@ -149,39 +196,60 @@ module _ {R : Type 0} (stands : R → Standing) (c : ClientView R) (knows : ℕ 
           go (inr differ) =
               true≢false (m.alone ∙ (may_shared line slot p.member.slot m.member p.member (sound.session.fair site image) (λ same. differ (sym same)) m.found p.found may p.past).0)
 
-  nobody_taken : (b : Bool) → any_taken site image c.slots ≡ b → b ≡ false
-  nobody_taken false is = refl
-  nobody_taken true is = absurd (by (taken_found site image c.slots is))
-    where
-      by : HasTaken site image c.slots → ⊥
-      by t = go (cases_eq slot t.slot)
-        where
-          there : ImageAt
-          there = record { site = t.place.site; image = t.place.image }
-
-          well : IsWellOnWay stands t.slot (way.Taken t.place) c.session c.locks
-          well = subst (λ w. IsWellOnWay stands t.slot w c.session c.locks) t.way (sound.ways t.slot)
-
-          go : (slot ≡ t.slot) ⊎ (slot ≢ t.slot) → ⊥
-          go (inl same) =
-              true≢false (sym (same_itself site image)
-              ∙ look_drops_nothing stands slot site (op.Header image header.LockDrop) c.session there
-              (subst (λ n. own_look_at stands n c.session ≡ Some there) (sym same) well.0.at_look) wanted site image)
-          go (inr differ) =
-              let look = at_own_look stands c.session t.slot there well.0.at_look in
-              where_same (λ s i. (n : Member) → member_of t.slot (lines_of c.session.lines s i) ≡ Some n → may_pass t.slot (lines_of c.session.lines s i) ≡ true → ⊥)
-              site image t.place.site t.place.image t.same
-              (λ n found may_also. alone_goes_first line slot t.slot m.member n differ m.found found (sym m.alone) (ap is_past waiting) may may_also)
-              look.member look.found look.may
-
   pub rests : is_at_rest site image c ≡ true
   rests =
       ap (λ a. not a && not (any_taken site image c.slots)) (nobody_past (any_past line) refl)
-      ∙ ap not (nobody_taken (any_taken site image c.slots) refl)
+      ∙ ap not (none_taken stands c sound slot site image header.LockDrop answer.Done refl wanted
+      (λ other n differ found may_also. alone_goes_first line slot other m.member n differ m.found found (sym m.alone) (ap is_past waiting) may may_also))
+
+-- ---- the removal of a header
+
+-- who owns an image alone, behind its own look, is past it in the image's line, alone
+module _ {R : Type 0} (stands : R → Standing) (c : ClientView R) (knows : ℕ → Knowledge) (sound : IsSoundClient stands c) (all : AllKnow stands knows c.session)
+    (slot : ℕ) (site : SiteId) (image : ℕ) (condition : HeaderView → Type 0) (owns : OwnsAlone (knows slot) site image condition) where
+  abbrev line_there : List Member
+  line_there = lines_of c.session.lines site image
+
+  record IsPastAlone : Type 0 where
+    pub member : Member
+    pub found : member_of slot line_there ≡ Some member
+    pub alone : member.alone ≡ true
+    pub past : is_past member.stage ≡ true
+
+  is_past_alone : IsPastAlone
+  is_past_alone =
+      let own : Own = record { site = site; image = image; alone = owns.alone; header = Some owns.header } in
+      let (r, runs) = runs_who_owns stands c.session knows sound.session all slot site image own owns.is in
+      let m = owner_runs stands c.session knows sound.session all slot r runs site image own owns.is in
+      record { member = m.member; found = m.found; alone = sym m.alone ∙ owns.meets.0; past = m.past refl }
+
+  -- so no other one may go past its own look
+  nobody_passes : (other : ℕ) (n : Member) → slot ≢ other → member_of other line_there ≡ Some n → may_pass other line_there ≡ true → ⊥
+  nobody_passes other n differ found may =
+      let m = is_past_alone in
+      true≢false (sym m.alone ∙ (may_shared line_there other slot n m.member (sound.session.fair site image) (λ same. differ (sym same)) found m.found may m.past).1)
+
+  -- nor knows the header
+  pub nobody_knows_beside : (other : ℕ) → slot ≢ other → IsSome (known_header (knows other) site image) → ⊥
+  nobody_knows_beside other differ some = by (own_of (knows other).owns site image) refl some
+    where
+      by : (o : Option Own) → own_of (knows other).owns site image ≡ o → IsSome (header_of_own o) → ⊥
+      by None is some = true≢false (sym some)
+      by (Some o) is some =
+          let (r, runs) = runs_who_owns stands c.session knows sound.session all other site image o is in
+          let n = owner_runs stands c.session knows sound.session all other r runs site image o is in
+          let m = is_past_alone in
+          true≢false (sym (n.past some)
+          ∙ alone_past line_there m.member n.member (sound.session.fair site image) (at_own_slot slot line_there m.member m.found) (at_own_slot other line_there n.member n.found)
+          (λ same. differ (sym (found_at line_there slot m.member m.found) ∙ same ∙ found_at line_there other n.member n.found)) m.alone m.past)
+
+  pub none_taken_beside : op_by stands slot c.session actor.Request ≡ Some (site, op.Header image header.Remove) → any_taken site image c.slots ≡ false
+  none_taken_beside wanted = none_taken stands c sound slot site image header.Remove answer.Done refl wanted nobody_passes
 
 module _ {R : Type 0} (stands : R → Standing) (c : ClientView R) (knows : ℕ → Knowledge) (sound : IsSoundClient stands c) (all : AllKnow stands knows c.session) where
   request_rests : (slot : ℕ) (site : SiteId) (o : Op) → op_by stands slot c.session actor.Request ≡ Some (site, o) → Permits (knows slot) site o → IsAtRest site o c
   request_rests slot site (op.Header image header.LockDrop) wanted permits = rests stands c knows sound all slot site image wanted permits
+  request_rests slot site (op.Header image header.Remove) wanted permits = none_taken_beside stands c knows sound all slot site image _ permits wanted
   request_rests slot site _ wanted permits = tt
 
   pub drops_rest : (slot : ℕ) (site : SiteId) (o : Op) → op_wanted stands slot c ≡ Some (site, o) → Permits (known_to (knows slot) (actor_at stands slot c)) site o

@@ -14,13 +14,16 @@ use Rattle.rbd_kinds.specs.declared.id.SiteId.{SiteId}
 use Rattle.rbd_kinds.specs.declared.machine.Fed.{Fed}
 use Rattle.rbd_kinds.specs.declared.operation.Op.{Op}
 use Rattle.rbd_kinds.specs.declared.reply.Reply.{Reply}
-use Rattle.rbd_known.specs.Knowing.{AllKnow, KnowsIn, knows_after}
+use Rattle.rbd_known.specs.Knowing.{AllKnow, KeepsTurns, KnowsIn, knows_after}
 use Rattle.rbd_known.proofs.Behind.{fed_know, others_know}
+use Rattle.rbd_known.proofs.Turning.{ended_keeps_turns}
 use Rattle.rbd_known.proofs.Wanting.{wants}
 use Rattle.rbd_machine.specs.Answers.{CanBeFed}
 use Rattle.rbd_machine.specs.Knowledge.{Knowledge, nothing_known}
+use Rattle.rbd_machine.specs.Standalone.{IsFedStandalone}
 use Rattle.rbd_machine.specs.Plan.{Plan, Standing}
 use Rattle.rbd_owner.specs.declared.acquire.Acquire.{Acquire}
+use Rattle.rbd_session.specs.Advance.{track_of}
 use Rattle.rbd_session.specs.Lines.{lines_of}
 use Rattle.rbd_session.specs.OnTrack.{LeavesOthers}
 use Rattle.rbd_session.specs.Session.{IsAnswered, IsSoundSession, OfRunning, held_in, running_at, running_in}
@@ -48,7 +51,7 @@ same_on_way knows slot x = by (x == slot)
     by false = refl
 
 module _ {R : Type 0} (stands : R → Standing) (c d : ClientView R) (knows : ℕ → Knowledge) (slot : ℕ) (site : SiteId) (o : Op) (f : Fed) (result : Option Reply)
-    (sound : IsSoundClient stands c) (session : IsSoundSession stands d.session) (all : AllKnow stands knows c.session)
+    (standalone : IsFedStandalone f) (sound : IsSoundClient stands c) (session : IsSoundSession stands d.session) (all : AllKnow stands knows c.session)
     (slots : (other : ℕ) → other ≢ slot → held_in other d.session.slots ≡ held_in other c.session.slots)
     (leaves : LeavesOthers slot (lines_of c.session.lines) (lines_of d.session.lines)) where
   abbrev plan : Plan
@@ -60,14 +63,14 @@ module _ {R : Type 0} (stands : R → Standing) (c d : ClientView R) (knows : �
       let w = wants stands slot c.session.lines site o (held_in slot c.session.slots) is in
       let runs = ap running_in w.is in
       subst (λ p. AllKnow stands (knows_after knows slot result p f) d.session) (sym (ap (plan_of stands) runs))
-      (fed_know stands c.session d.session slot w.request f result knows sound.session runs (can_of (subst (OfRunning (IsAnswered stands slot c.session.lines f)) w.is can)) fed.fed slots leaves all)
+      (fed_know stands c.session d.session slot w.request f result knows sound.session runs w.goes (can_of (subst (OfRunning (IsAnswered stands slot c.session.lines f)) w.is can)) standalone fed.fed slots leaves all)
     where
       can_of : {r : _} → IsAnswered stands slot c.session.lines f r → CanBeFed (stands r.request).plan f
       can_of answered = answered.can
 
   -- it is given up, and its line goes on without it
-  given_up : (reply : Reply) → running_at slot d.session ≡ None → AllKnow stands (knows_on_way knows slot (Some reply)) d.session
-  given_up reply none other = by (cases_eq other slot)
+  given_up : (reply : Reply) → running_at slot d.session ≡ None → KeepsTurns slot (lines_of c.session.lines) (lines_of d.session.lines) → AllKnow stands (knows_on_way knows slot (Some reply)) d.session
+  given_up reply none keeps other = by (cases_eq other slot)
     where
       by : (other ≡ slot) ⊎ (other ≢ slot) → KnowsIn stands other (running_at other d.session) d.session.lines (knows_on_way knows slot (Some reply) other)
       by (inl same) =
@@ -76,12 +79,15 @@ module _ {R : Type 0} (stands : R → Standing) (c d : ClientView R) (knows : �
       by (inr differ) =
           subst (KnowsIn stands other (running_at other d.session) d.session.lines) (sym (ap (λ b. cond b nothing_known (knows other)) (ne_eqb other slot differ)))
           (subst (λ h. KnowsIn stands other (running_in h) d.session.lines (knows other)) (sym (slots other differ))
-          (others_know stands other (running_at other c.session) c.session.lines d.session.lines (knows other) (leaves other differ) (all other)))
+          (others_know stands other (running_at other c.session) c.session.lines d.session.lines (knows other) (leaves other differ) (keeps other differ) (all other)))
 
   by_way : (a : Acquire) → actor_at stands slot c ≡ actor.Way a → (r : Option Reply) → GoesItsWay slot r c.session d.session → AllKnow stands (knows_on_way knows slot r) d.session
   by_way a acts None same =
       λ other. subst (KnowsIn stands other (running_at other d.session) d.session.lines) (sym (same_on_way knows slot other)) (subst (AllKnow stands knows) (sym same) all other)
-  by_way a acts (Some reply) gives = given_up reply (ap running_in (gives.free (ap is_some (way_waits stands slot c a sound acts).runs)))
+  by_way a acts (Some reply) gives =
+      let waiting = way_waits stands slot c a sound acts in
+      given_up reply (ap running_in (gives.free (ap is_some waiting.runs)))
+      (subst (KeepsTurns slot (lines_of c.session.lines)) (sym (gives.left waiting.request waiting.runs)) (ended_keeps_turns slot (track_of waiting.request c.session.lines)))
 
   pub feeding_is_known : op_wanted stands slot c ≡ Some (site, o) → CanGet stands slot c.session f (actor_at stands slot c) → IsFedBy stands slot site o f result c d (actor_at stands slot c)
       → AllKnow stands (knows_fed knows slot result plan f (actor_at stands slot c)) d.session

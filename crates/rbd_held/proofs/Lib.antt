@@ -2,7 +2,9 @@ pub mod Ways
 pub mod Releases
 pub mod Permitted
 pub mod Owned
-pub mod Looks
+pub mod Acts
+pub mod Told
+pub mod Counted
 pub mod Fed
 pub mod LocksHeld
 pub mod Answered

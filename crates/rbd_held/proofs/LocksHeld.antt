@@ -1,10 +1,11 @@
 -- A lock that counts as the client's behind an answer is the client's, unless it is fenced.
-use Rattle.std.proofs.Common.{◌≡◌, ℕ, ◌==◌, cond, Bool, true, false, Option, Some, None, refl, sym, ap, ◌∙◌, subst, true≢false}
+use Rattle.std.proofs.Common.{◌≡◌, ◌⊎◌, inl, inr, ℕ, ◌==◌, ◌&&◌, cond, Bool, true, false, Option, Some, None, refl, sym, ap, ◌∙◌, subst, true≢false}
 use Rattle.std.proofs.lemmas.Bool.{eqb-true}
 use Rattle.rbd_client.specs.declared.slot_state.Quiescing.{Quiescing}
 use Rattle.rbd_client.specs.declared.slot_state.Quiescing.TheVariants as quiescing
 use Rattle.rbd_client.specs.Feeding.{comings_of, quiesced_by, resumes, CountsAll}
 use Rattle.rbd_client.specs.Sound.{IsOwned}
+use Rattle.rbd_client.proofs.Owning.{ends_by, is_end}
 use Rattle.rbd_kinds.specs.declared.answer.Answer.{Answer}
 use Rattle.rbd_kinds.specs.declared.answer.Answer.TheVariants as answer
 use Rattle.rbd_kinds.specs.declared.directory_op.DirectoryOp.TheVariants as directory
@@ -23,9 +24,12 @@ use Rattle.rbd_kinds.specs.Images.{is_at}
 use Rattle.rbd_locks.proofs.Lasting.{owned_is}
 use Rattle.rbd_machine.specs.Knowledge.{Knowledge, same_site}
 use Rattle.rbd_machine.specs.Permits.{Permits}
-use Rattle.rbd_rely.specs.Locks.{HasLockWhileFree, gives_up}
+use Rattle.rbd_rely.specs.Locks.{HasLockWhileFree, KnowsByLock, gives_up}
 use Rattle.rbd_rely.specs.Truth.{IsTrueAt}
+use Rattle.rbd_rely.proofs.Fenced.{was_free}
 use Rattle.rbd_rely.proofs.Locks.{lock_is_taken, lock_lasts}
+use Rattle.rbd_stands.specs.Owned.{HasLock}
+use Rattle.rbd_stands.proofs.Locks.{EndsIt, operation_keeps}
 use Rattle.rbd_kinds.specs.declared.image_at.ImageAt.{ImageAt}
 use Rattle.rbd_site.specs.Records.{Records}
 use Rattle.rbd_site.specs.Step.{after, answer_to}
@@ -74,17 +78,39 @@ pub owned_elsewhere : (s t : SiteId) (image : ℕ) (o : Op) (a : Answer) (b : Bo
 owned_elsewhere s t image (op.Header on o) a b differ is = sym (ap (λ x. cond x (owns_after b (op.Header on o) a) b) (never_elsewhere s t on image differ)) ∙ is
 owned_elsewhere s t image _ a b differ is = is
 
+and_false : (b : Bool) → (b && false) ≡ false
+and_false true = refl
+and_false false = refl
+
+pub ends_elsewhere : (s t : SiteId) (image : ℕ) (o : Op) (a : Answer) → same_site s t ≡ false → ends_by s o (fed.Answer a) t image ≡ false
+ends_elsewhere s t image (op.Header on o) a differ = ap (λ b. is_end o a && b) (never_elsewhere s t on image differ) ∙ and_false (is_end o a)
+ends_elsewhere s t image _ a differ = refl
+
+abbrev is_done : Answer → Bool
+is_done answer.Done = true
+is_done a = false
+
 -- ---- at this one
 
-module _ (s : SiteId) (r : Records) (me : Instance) (k : Knowledge) (truth : IsTrueAt s r me k) (image : ℕ) (b : Bool) (held : b ≡ true → HasLockWhileFree r me image) where
+module _ (s : SiteId) (r : Records) (me : Instance) (k : Knowledge) (truth : IsTrueAt s r me k) (locks : KnowsByLock s r me k) (image : ℕ) (b : Bool) (held : b ≡ true → HasLockWhileFree r me image) where
   lasts : (o : Op) → Permits k s o → gives_up image o ≡ false → b ≡ true → HasLockWhileFree (after r me o) me image
-  lasts o permits keeps owned = lock_lasts s r me me k image o truth permits (λ same. keeps) (held owned)
+  lasts o permits keeps owned = lock_lasts s r me me k image o truth locks permits (λ same. keeps) (held owned)
+
+  -- what wasn't done ends no lock
+  undone : (o : Op) → (answer_to r me o ≡ answer.Done → ⊥) → HasLockWhileFree r me image → HasLockWhileFree (after r me o) me image
+  undone o fails lock free = by (operation_keeps r image me me (lock (was_free r me me o free)) o)
+    where
+      by : HasLock image me (after r me o) ⊎ ((answer_to r me o ≡ answer.Done) × EndsIt image me me o) → HasLock image me (after r me o)
+      by (inl kept) = kept
+      by (inr lost) = absurd (fails lost.0)
 
   answered_here : (o : HeaderOp) (a : Answer) → a ≡ answer_to r me (op.Header image o) → Permits k s (op.Header image o) → owns_after b (op.Header image o) a ≡ true
       → HasLockWhileFree (after r me (op.Header image o)) me image
   answered_here header.LockTake answer.Done is permits owned = lock_is_taken r me image (sym is)
   answered_here header.LockTake _ is permits owned = lasts (op.Header image header.LockTake) permits refl owned
   answered_here header.LockDrop a is permits owned = absurd (true≢false (sym owned))
+  answered_here header.Remove answer.Done is permits owned = absurd (true≢false (sym owned))
+  answered_here header.Remove a is permits owned = undone (op.Header image header.Remove) (λ done. true≢false (sym (ap is_done (is ∙ done)))) (held owned)
   answered_here o a is permits owned = lasts (op.Header image o) permits refl owned
 
   pub held_behind : (o : Op) → Permits k s o → owned_then s s image o (answer_to r me o) b ≡ true → HasLockWhileFree (after r me o) me image
@@ -92,6 +118,7 @@ module _ (s : SiteId) (r : Records) (me : Instance) (k : Knowledge) (truth : IsT
     where
       gives : (h : HeaderOp) → (image == on) ≡ false → gives_up image (op.Header on h) ≡ false
       gives header.LockDrop differ = differ
+      gives header.Remove differ = differ
       gives _ differ = refl
 
       by : (x : Bool) → (image == on) ≡ x → cond x (owns_after b (op.Header on o) (answer_to r me (op.Header on o))) b ≡ true → HasLockWhileFree (after r me (op.Header on o)) me image

@@ -1,10 +1,16 @@
 -- Who knows a header is past own, and has the lock.
-use Rattle.std.proofs.Common.{◌≡◌, ℕ, true, Option, Some, None, refl, sym, true≢false}
-use Rattle.std.specs.Prelude.{IsSome}
+use Rattle.std.proofs.Common.{◌≡◌, ℕ, true, Option, Some, None, refl, sym, ap, ◌∙◌, true≢false}
+use Rattle.std.specs.Prelude.{IsSome, is_some}
+use Rattle.rbd_client.specs.declared.actor.Actor.{Actor}
+use Rattle.rbd_client.specs.declared.actor.Actor.TheVariants as actor
+use Rattle.rbd_client.specs.Actor.{actor_at}
 use Rattle.rbd_client.specs.Client.{ClientView}
-use Rattle.rbd_client.specs.Sound.{IsOwned, IsSoundClient}
+use Rattle.rbd_client.specs.Sound.{IsSoundClient}
 use Rattle.rbd_line.proofs.Past.{found_past}
+use Rattle.rbd_held.specs.Knowing.{known_to}
 use Rattle.rbd_held.specs.Truth.{IsTrueOf}
+use Rattle.rbd_held.proofs.Releases.{release_knows_no_header}
+use Rattle.rbd_held.proofs.Ways.{way_knows_no_header}
 use Rattle.rbd_kinds.specs.declared.id.Instance.{Instance}
 use Rattle.rbd_kinds.specs.declared.id.SiteId.{SiteId}
 use Rattle.rbd_known.specs.Knowing.{AllKnow}
@@ -29,8 +35,17 @@ module _ {R : Type 0} (stands : R → Standing) (c : ClientView R) (knows : ℕ 
           let m = owner_runs stands c.session knows sound.session all slot r runs site image o is in
           found_past slot (lines_of c.session.lines site image) m.member m.found (m.past some)
 
-  pub known_is_owned : (slot : ℕ) (site : SiteId) (image : ℕ) → IsSome (known_header (knows slot) site image) → IsOwned site image c.locks
-  known_is_owned slot site image some = sound.owns site image (known_is_past slot site image some)
+-- so the lock of an image whose header is known is the client's
+pub knows_by_lock : {R : Type 0} (c : ClientView R) (knows : ℕ → Knowledge) (slot : ℕ) (site : SiteId) (r : Records) (me : Instance) → IsTrueOf site r me knows c → KnowsByLock site r me (knows slot)
+knows_by_lock c knows slot site r me t = λ image some. t.locks image (t.counted slot image some)
 
-  pub knows_by_lock : (slot : ℕ) (site : SiteId) (r : Records) (me : Instance) → IsTrueOf site r me knows c → KnowsByLock site r me (knows slot)
-  knows_by_lock slot site r me t = λ image some. t.locks image (known_is_owned slot site image some)
+-- and so it is with whoever acts
+pub acts_by_lock : {R : Type 0} (stands : R → Standing) (c : ClientView R) (knows : ℕ → Knowledge) (site : SiteId) (r : Records) (me : Instance) → IsTrueOf site r me knows c → (slot : ℕ)
+    → KnowsByLock site r me (known_to (knows slot) (actor_at stands slot c))
+acts_by_lock stands c knows site r me t slot = by (actor_at stands slot c)
+  where
+    by : (who : Actor) → KnowsByLock site r me (known_to (knows slot) who)
+    by actor.Nobody image some = absurd (true≢false (sym some))
+    by actor.Request image some = knows_by_lock c knows slot site r me t image some
+    by (actor.Way a) image some = absurd (true≢false (sym some ∙ ap is_some (way_knows_no_header a site image)))
+    by (actor.Release x) image some = absurd (true≢false (sym some ∙ ap is_some (release_knows_no_header x site image)))

@@ -1,5 +1,5 @@
 -- What a way to a lock knows: it may do what it does by that, it is true, and it goes beside all.
-use Rattle.std.proofs.Common.{◌≡◌, ℕ, ◌&&◌, cond, Bool, true, false, Option, Some, None, refl, sym, ap, ◌∙◌, subst, true≢false}
+use Rattle.std.proofs.Common.{◌≡◌, inl, inr, ℕ, ◌&&◌, cond, Bool, true, false, Option, Some, None, refl, sym, ap, ◌∙◌, subst, true≢false}
 use Rattle.std.specs.Prelude.{is_some}
 use Rattle.std.proofs.lemmas.Bool.{and_parts}
 use Rattle.std.proofs.lemmas.Option.{none-some, same_Some}
@@ -14,7 +14,7 @@ use Rattle.rbd_kinds.specs.declared.machine.Fed.TheVariants as fed
 use Rattle.rbd_kinds.specs.declared.operation.Op.{Op}
 use Rattle.rbd_kinds.specs.declared.operation.Op.TheVariants as op
 use Rattle.rbd_kinds.specs.declared.reply.Reply.TheVariants as reply
-use Rattle.rbd_machine.specs.Knowledge.{Knowledge, is_drawn, is_fenced_by, nothing_known, own_of, same_instance, same_site}
+use Rattle.rbd_machine.specs.Knowledge.{Knowledge, is_drawn, is_fenced_by, is_gone, nothing_known, own_of, same_instance, same_site}
 use Rattle.rbd_machine.specs.Permits.{Permits}
 use Rattle.rbd_machine.specs.Plan.{Plan, Ask, Return, plan_after, settled}
 use Rattle.rbd_machine.proofs.Fences.{fence_is_known}
@@ -24,7 +24,7 @@ use Rattle.rbd_owner.specs.declared.acquire.Acquire.{Acquire}
 use Rattle.rbd_owner.specs.declared.acquire.Stage.{Stage}
 use Rattle.rbd_owner.specs.declared.acquire.Stage.TheVariants as stage
 use Rattle.rbd_rely.specs.Beside.{AreBeside, MayAct}
-use Rattle.rbd_rely.specs.Truth.{IsStill, IsTrueAt, header_of_own, known_header}
+use Rattle.rbd_rely.specs.Truth.{IsStill, IsTrueAt, KnowsNoHeader, header_of_own, known_header}
 use Rattle.rbd_site.specs.Records.{Records}
 use Rattle.rbd_site.specs.Step.{after, answer_to, is_fenced}
 use Rattle.rbd_stands.proofs.Locks.{same_is}
@@ -43,16 +43,16 @@ permits_at (stage.Breaking owner) site image = fence_is_known nothing_known site
 pub way_permits : (a : Acquire) → Permits (known_on_way a) a.site (op_of a)
 way_permits a = permits_at a.stage a.site a.image
 
-looks_at : (site : SiteId) (r : Records) (me you : Instance) (k j : Knowledge) (s : Stage) (image : ℕ) → MayAct site r me you k j (op_at s image)
-looks_at site r me you k j stage.Watching image = tt
-looks_at site r me you k j stage.Taking image = tt
-looks_at site r me you k j (stage.Looking owner) image = tt
-looks_at site r me you k j stage.Asking image = tt
-looks_at site r me you k j (stage.Fencing owner) image = tt
-looks_at site r me you k j (stage.Breaking owner) image = tt
+acts_at : (site : SiteId) (r : Records) (me you : Instance) (k j : Knowledge) (s : Stage) (image : ℕ) → MayAct site r me you k j (op_at s image)
+acts_at site r me you k j stage.Watching image = tt
+acts_at site r me you k j stage.Taking image = tt
+acts_at site r me you k j (stage.Looking owner) image = tt
+acts_at site r me you k j stage.Asking image = tt
+acts_at site r me you k j (stage.Fencing owner) image = tt
+acts_at site r me you k j (stage.Breaking owner) image = tt
 
-pub way_looks : (site : SiteId) (r : Records) (me you : Instance) (k j : Knowledge) (a : Acquire) → MayAct site r me you k j (op_of a)
-way_looks site r me you k j a = looks_at site r me you k j a.stage a.image
+pub way_acts : (site : SiteId) (r : Records) (me you : Instance) (k j : Knowledge) (a : Acquire) → MayAct site r me you k j (op_of a)
+way_acts site r me you k j a = acts_at site r me you k j a.stage a.image
 
 -- ---- it owns nothing, and drew nothing
 
@@ -67,10 +67,22 @@ drew_nothing : (s : Stage) (site there : SiteId) (image : ℕ) → is_drawn (kno
 drew_nothing (stage.Breaking owner) site there image = refl
 drew_nothing _ site there image = refl
 
+removed_nothing : (s : Stage) (site there : SiteId) (image : ℕ) → is_gone (known_at s site).gone there image ≡ false
+removed_nothing (stage.Breaking owner) site there image = refl
+removed_nothing _ site there image = refl
+
+-- it knows of no image that has no header
+without_none : (s : Stage) (site there : SiteId) (image : ℕ) → KnowsNoHeader (known_at s site) there image → ⊥
+without_none s site there image (inl drawn) = true≢false (sym drawn ∙ drew_nothing s site there image)
+without_none s site there image (inr gone) = true≢false (sym gone ∙ removed_nothing s site there image)
+
 pub beside_way : (there : SiteId) (r : Records) (me you : Instance) (k : Knowledge) (a : Acquire) → AreBeside there r me you k (known_on_way a)
 beside_way there r me you k a = record {
   shared = λ free image mine others. absurd (true≢false (sym others ∙ ap (λ o. is_some (header_of_own o)) (owns_nothing a.stage a.site there image)));
   apart = λ image drawn. drew_nothing a.stage a.site there image;
+  gone = λ image gone. drew_nothing a.stage a.site there image;
+  gone_there = λ image gone. absurd (true≢false (sym gone ∙ removed_nothing a.stage a.site there image));
+  removed = λ image gone. removed_nothing a.stage a.site there image;
 }
 
 -- ---- it is true where its fence is up
@@ -82,7 +94,10 @@ fences_are_true there r me s site fences = record {
   drawn = λ image drawn. absurd (true≢false (sym drawn ∙ drew_nothing s site there image));
   fenced = fences;
   mapped = λ free image known. absurd (true≢false (sym known ∙ ap (λ o. is_some (header_of_own o)) (owns_nothing s site there image)));
-  counted = λ image drawn. absurd (true≢false (sym drawn ∙ drew_nothing s site there image));
+  objects = λ free image h known. absurd (none-some h (sym (ap header_of_own (owns_nothing s site there image)) ∙ known));
+  gone = λ image gone. absurd (true≢false (sym gone ∙ removed_nothing s site there image));
+  apart = λ image gone. drew_nothing s site there image;
+  counted = λ image without. absurd (without_none s site there image without);
 }
 
 pub way_stays_true : (there : SiteId) (r : Records) (me you : Instance) (a : Acquire) (o : Op) → IsTrueAt there r me (known_on_way a) → IsTrueAt there (after r you o) me (known_on_way a)

@@ -20,6 +20,7 @@ ghost use Rattle.rbd_locks.specs.Locks.{heard, state_at};
 ghost use Rattle.rbd_locks.specs.States.{blank as unknown};
 ghost use Rattle.rbd_machine.specs.Knowledge.{Knowledge, nothing_known, same_site};
 ghost use Rattle.rbd_machine.specs.Permits.{Permits};
+ghost use Rattle.rbd_machine.specs.Standalone.{IsFedStandalone};
 ghost use Rattle.rbd_owner.specs.Acquire.{op_of};
 ghost use Rattle.rbd_owner.specs.declared.acquire.Acquire.{Acquire};
 ghost use Rattle.rbd_rely.specs.Beside.{AreBeside, MayAct};
@@ -50,14 +51,14 @@ pub fn whoever_acts_does_what_it_may<R: Request>()
 /// the client is fenced.
 pub fn headers_are_known_by_locks<R: Request>()
     ensures { (c : ClientView R) (knows : ℕ → Knowledge) (slot : ℕ) (site : Site) (r : Records) (me : Instance)
-        → IsSoundClient R.stands c → AllKnow R.stands knows c.session → IsTrueOf site r me knows c
-        → KnowsByLock site r me (knows slot) }
+        → IsTrueOf site r me knows c → KnowsByLock site r me (knows slot) }
 {}
 
-/// Whoever acts may look at what it looks at, and may drop the lock that it drops: beside each
-/// other request of the client, by the lines of its session, and beside each of another client that
-/// knows headers by its locks, by the lock. A way looks at no header.
-pub fn whoever_acts_may_look<R: Request>()
+/// Whoever acts may look at what it looks at, drop the lock that it drops, and change the object that
+/// it changes: beside each other request of the client, by the lines of its session, and beside each
+/// of another client that knows headers by its locks, by the lock. A way looks at no header, and
+/// changes nothing.
+pub fn whoever_acts_may_act<R: Request>()
     ensures own { (c : ClientView R) (knows : ℕ → Knowledge) (slot other : ℕ) (site : Site) (op : Op) (r : Records) (me you : Instance)
         → IsSoundClient R.stands c → AllKnow R.stands knows c.session → slot ≢ other → op_wanted R.stands slot c ≡ Some (site, op)
         → MayAct site r me you (known_to (knows slot) (actor_at R.stands slot c)) (knows other) op }
@@ -69,7 +70,8 @@ pub fn whoever_acts_may_look<R: Request>()
 {}
 
 /// A request of a client drops the lock of an image only where no other one relies on it: none is
-/// past own, and none has taken the lock itself. So a client may be fed whatever is wanted of it.
+/// past own, and none has taken the lock itself. And it removes a header only where none has taken
+/// the lock itself. So a client may be fed whatever is wanted of it.
 pub fn locks_are_dropped_at_rest<R: Request>()
     ensures { (c : ClientView R) (knows : ℕ → Knowledge) (slot : ℕ) (site : Site) (op : Op)
         → IsSoundClient R.stands c → AllKnow R.stands knows c.session → op_wanted R.stands slot c ≡ Some (site, op)
@@ -78,13 +80,13 @@ pub fn locks_are_dropped_at_rest<R: Request>()
 
 /// Once who acts at a slot was answered, each request of the client knows what is said of it: a
 /// request what the answer taught it, one that was refused on its way nothing, and all others what
-/// they knew.
+/// they knew. No header that is told has a parent or a journal.
 pub fn answers_are_known<R: Request>()
     ensures { (c d : ClientView R) (knows : ℕ → Knowledge) (slot : ℕ) (site : Site) (op : Op) (f : Fed) (result : Option Reply)
         → IsSoundClient R.stands c → IsSoundSession R.stands d.session → AllKnow R.stands knows c.session
         → ((other : ℕ) → other ≢ slot → held_in other d.session.slots ≡ held_in other c.session.slots)
         → LeavesOthers slot (lines_of c.session.lines) (lines_of d.session.lines)
-        → op_wanted R.stands slot c ≡ Some (site, op) → CanGet R.stands slot c.session f (actor_at R.stands slot c)
+        → op_wanted R.stands slot c ≡ Some (site, op) → CanGet R.stands slot c.session f (actor_at R.stands slot c) → IsFedStandalone f
         → IsFedBy R.stands slot site op f result c d (actor_at R.stands slot c)
         → AllKnow R.stands (knows_fed knows slot result (plan_of R.stands (running_at slot c.session)) f (actor_at R.stands slot c)) d.session }
 {}
@@ -107,12 +109,13 @@ pub fn answers_leave_clients_true<R: Request>()
         → IsTrueOf there q me (knows_fed knows slot result (plan_of R.stands (running_at slot c.session)) (Answered (answer_to r me op)) (actor_at R.stands slot c)) d }
 {}
 
-/// Whatever another instance does that is permitted to it, and knows truly, leaves a client true,
-/// whose requests go beside it. So do the store's own steps.
+/// Whatever another instance does that is permitted to it leaves a client true, where it knows truly,
+/// headers by its locks, and goes beside the client's requests with what it does. So do the store's
+/// own steps.
 pub fn others_leave_clients_true<R: Request>()
     ensures operation { (c : ClientView R) (knows : ℕ → Knowledge) (site : Site) (r : Records) (me you : Instance) (j : Knowledge) (op : Op)
-        → IsTrueOf site r me knows c → you ≢ me → IsTrueAt site r you j → Permits j site op
-        → ((slot : ℕ) → AreBeside site r me you (knows slot) j)
+        → IsTrueOf site r me knows c → you ≢ me → IsTrueAt site r you j → KnowsByLock site r you j → Permits j site op
+        → ((slot : ℕ) → AreBeside site r me you (knows slot) j) → ((slot : ℕ) → MayAct site r you me j (knows slot) op)
         → IsTrueOf site (after r you op) me knows c }
     ensures trim { (c : ClientView R) (knows : ℕ → Knowledge) (site : Site) (r : Records) (me : Instance) (image number : ℕ)
         → IsTrueOf site r me knows c → IsTrueOf site (trimmed image number r) me knows c }

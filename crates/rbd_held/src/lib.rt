@@ -23,7 +23,11 @@
 //! - A release is as one that waited for the lock, alone, and looked at no header. It goes only
 //!   where the image is at rest, so nobody of the client knows the header.
 //! - A lock that counts as the client's is named as the client's by the header, from the answer of
-//!   the take up to that of the drop, unless the client is fenced: then the lock may be broken.
+//!   the take up to that of the drop or to the header's end, unless the client is fenced: then the
+//!   lock may be broken.
+//! - Where a request knows a header the lock counts as the client's: it came to know it by its own
+//!   look, under the lock, and the lock lasts while it does. Who removes a header is alone, and knows
+//!   it no more.
 //! - So a request that knows a header has the lock, and two clients never know the header of one
 //!   image at a time, but for one that is fenced and does nothing by it any more.
 //!
@@ -37,7 +41,8 @@
 //! [`laws`] says, of any client and any records:
 //!
 //! - whoever acts asks only for what it may by what it knows, knows it truly, and may look at what
-//!   it looks at, beside its own client's requests and beside those of others;
+//!   it looks at and change the object that it changes, beside its own client's requests and beside
+//!   those of others;
 //! - behind each answer, of whoever acts, the requests know what is said of them, and all of it is
 //!   true again, at both sites;
 //! - what others do leaves it true, and so do the store's own steps and the client's other calls.

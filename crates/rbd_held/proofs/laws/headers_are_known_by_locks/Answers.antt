@@ -2,4 +2,4 @@ use Rattle.rbd_held.proofs.Owned.{knows_by_lock}
 use Rattle.rbd_held.proofs.laws.headers_are_known_by_locks.Goals as goal
 
 pub returns : goal.returns
-returns g c = λ client knows slot site r me sound all t. knows_by_lock g.R.Machine.stands client knows sound all slot site r me t
+returns g c = λ client knows slot site r me t. knows_by_lock client knows slot site r me t

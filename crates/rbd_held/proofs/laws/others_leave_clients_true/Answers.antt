@@ -2,7 +2,7 @@ use Rattle.rbd_held.proofs.Others.{expiries_leave_it_true, others_leave_it_true,
 use Rattle.rbd_held.proofs.laws.others_leave_clients_true.Goals as goal
 
 pub returns-clause-operation : goal.returns-clause-operation
-returns-clause-operation g c = λ client knows site r me you j o t differ known permits beside. others_leave_it_true site r me knows client t you j o differ known permits beside
+returns-clause-operation g c = λ client knows site r me you j o t differ known by_lock permits beside may. others_leave_it_true site r me knows client t you j o differ known by_lock permits beside may
 
 pub returns-clause-trim : goal.returns-clause-trim
 returns-clause-trim g c = λ client knows site r me image number t. trims_leave_it_true site r me knows client t image number
