@@ -59,3 +59,12 @@ pub record RemovesSnap (name snap : List ℕ) (places : List Placed) : Type 0 wh
   pub gone : FlatSnap
   pub listed : flat_snap_named flat.snaps snap ≡ Some gone
   pub effects : effects_of places ≡ effect.Unsnap finds.image gone.id ∷ []
+
+-- The name of an image became another, which was free, and nothing else was done.
+pub record Renames (from to : List ℕ) (places : List Placed) : Type 0 where
+  pub at_place : Placed
+  pub are : places ≡ at_place ∷ []
+  pub image : ℕ
+  pub named : id_of (flat_at at_place) from ≡ Some image
+  pub free : id_of (flat_at at_place) to ≡ None
+  pub effects : effects_of places ≡ effect.Rename from to ∷ []

@@ -1,6 +1,7 @@
 -- What an operation of a fenced client does, which is nothing; and whose changes are.
-use Rattle.std.specs.Prelude.{◌≡◌, ◌⊎◌, ℕ, true, List, [], ◌∷◌, Option, None}
+use Rattle.std.specs.Prelude.{◌≡◌, ◌⊎◌, ℕ, ◌==◌, Bool, true, false, List, [], ◌∷◌, Option, None}
 use Rattle.rbd_kinds.specs.declared.answer.Answer.TheVariants as answer
+use Rattle.rbd_kinds.specs.declared.data_op.DataOp.TheVariants as object
 use Rattle.rbd_kinds.specs.declared.header_op.HeaderOp.TheVariants as header
 use Rattle.rbd_kinds.specs.declared.id.Instance.{Instance}
 use Rattle.rbd_kinds.specs.declared.id.SiteId.{SiteId}
@@ -32,11 +33,26 @@ pub record MakesMap (image : ℕ) (o : Op) (r : Records) : Type 0 where
   pub is : o ≡ op.Map image (states.Resize count)
   pub headless : r.headers image ≡ None
 
--- Who changes an image has its lock, by its header, or makes the map of one that has no header yet;
--- and a lock is broken only where its owner is fenced.
+-- whether it removes an object of an image, or an object map
+abbrev pub removes_part : (image : ℕ) → Op → Bool
+removes_part image (op.Data other number (object.Remove context)) = other == image
+removes_part image (op.Map other (states.Remove view)) = other == image
+removes_part image _ = false
+
+-- What is left of an image goes, whose header is gone: so nobody owns it any more.
+pub record RemovesRest (image : ℕ) (o : Op) (r : Records) : Type 0 where
+  pub is : removes_part image o ≡ true
+  pub headless : r.headers image ≡ None
+
+-- Who changes an image has its lock, by its header, or makes the map of one that has no header yet,
+-- or removes what is left of one that has none any more.
+abbrev pub OwnsOrNone : (image : ℕ) → Instance → Op → Records → Type 0
+OwnsOrNone image me o r = HasLock image me r ⊎ (MakesMap image o r ⊎ RemovesRest image o r)
+
+-- Whoever changes an image may do so; and a lock is broken only where its owner is fenced.
 pub record IsTheOwners (o : Operation) (reply : Option Reply) (before : List Happening) : Type 0 where
   pub change : (image : ℕ) → changes_image image o.op ≡ true → was_done o.answer ≡ true
-      → HasLock image o.instance (records_after o.site before) ⊎ MakesMap image o.op (records_after o.site before)
+      → OwnsOrNone image o.instance o.op (records_after o.site before)
   pub broken : (image : ℕ) (owner : Instance) → o.op ≡ op.Header image (header.LockBreak owner) → o.answer ≡ answer.Done
       → is_fenced (records_after o.site before) owner ≡ true
 

@@ -5,6 +5,9 @@ pub mod Home
 pub mod Listed
 pub mod Places
 pub mod Reads
+pub mod Removed
 pub mod Replies
+pub mod RolledBack
 pub mod Shown
 pub mod Worlds
+pub mod Zeroed

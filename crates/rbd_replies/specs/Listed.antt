@@ -1,10 +1,16 @@
--- What listings show: names, a header, snapshots, as the flat site has them at a place.
-use Rattle.std.specs.Prelude.{◌≡◌, ℕ, List, [], ◌∷◌, Some}
+-- What listings show: names, a header, snapshots, and how many objects are in use, as the flat site
+-- has them at a place.
+use Rattle.std.specs.Prelude.{◌≡◌, ℕ, List, [], ◌∷◌, length, Some, None}
 use Rattle.std.specs.FinMap as finmap
-use Rattle.rbd_flat.specs.Flat.{id_of, image_at}
+use Rattle.rbd_flat.specs.Flat.{FlatImage, id_of, image_at}
+use Rattle.rbd_kinds.specs.declared.answer.Answer.TheVariants as answer
 use Rattle.rbd_kinds.specs.declared.header.HeaderView.{HeaderView}
 use Rattle.rbd_kinds.specs.declared.header.SnapView.{SnapView}
-use Rattle.rbd_stands.specs.Reading.{Tells}
+use Rattle.rbd_kinds.specs.declared.map_op.MapOp.TheVariants as states
+use Rattle.rbd_kinds.specs.declared.operation.Op.TheVariants as op
+use Rattle.rbd_kinds.specs.Striping.{IsObjectCount}
+use Rattle.rbd_meaning.specs.Listings.{used_among}
+use Rattle.rbd_stands.specs.Reading.{IsToldBy, Tells}
 use Rattle.rbd_replies.specs.Places.{Placed, flat_at}
 
 -- all names of the flat site at one place
@@ -27,3 +33,22 @@ pub record ShowsSnaps (name : List ℕ) (snaps : List SnapView) (places : List P
   pub header : HeaderView
   pub shows : ShowsImage name header places
   pub snaps_are : snaps ≡ header.snaps
+
+-- The image that the name had at one place, and at the next the header tells it: so many objects the
+-- flat image's size has. So many of them are in use by the states that its head's map told behind.
+pub record ShowsUsed (name : List ℕ) (used of : ℕ) (places : List Placed) : Type 0 where
+  pub found : Placed
+  pub look : Placed
+  pub told : Placed
+  pub are : places ≡ found ∷ look ∷ told ∷ []
+  pub image : ℕ
+  pub named : id_of (flat_at found) name ≡ Some image
+  pub header : HeaderView
+  pub flat : FlatImage
+  pub is : image_at (flat_at look) image ≡ Some flat
+  pub tells : IsToldBy header flat
+  pub of_is : IsObjectCount header.layout (length flat.bytes) of
+  pub bits : List ℕ
+  pub asks : told.done.op ≡ op.Map image (states.Get None)
+  pub answered : told.done.answer ≡ answer.Bits bits
+  pub used_is : used ≡ used_among of bits

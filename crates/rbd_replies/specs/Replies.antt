@@ -5,10 +5,13 @@ use Rattle.rbd_commands.specs.declared.command.Command.TheVariants as command
 use Rattle.rbd_kinds.specs.declared.reply.Reply.{Reply}
 use Rattle.rbd_kinds.specs.declared.reply.Reply.TheVariants as reply
 use Rattle.rbd_meaning.specs.Undone.{ComesLate}
-use Rattle.rbd_replies.specs.Changed.{Creates, RemovesSnap, TakesSnap, Writes}
-use Rattle.rbd_replies.specs.Listed.{ListsNames, ShowsImage, ShowsSnaps}
+use Rattle.rbd_replies.specs.Changed.{Creates, RemovesSnap, Renames, TakesSnap, Writes}
+use Rattle.rbd_replies.specs.Listed.{ListsNames, ShowsImage, ShowsSnaps, ShowsUsed}
 use Rattle.rbd_replies.specs.Places.{Placed, effects_of}
 use Rattle.rbd_replies.specs.Reads.{ShowsBytes}
+use Rattle.rbd_replies.specs.Removed.{RemovesAll}
+use Rattle.rbd_replies.specs.RolledBack.{RollsBackTo}
+use Rattle.rbd_replies.specs.Zeroed.{Discards, Resizes}
 
 -- A command that is done, or shows something, did so by the flat-copy machine; what `close`,
 -- `quiesce`, `resume` and `tell` do is no part of that machine. One that is refused did nothing to
@@ -19,12 +22,18 @@ IsReplyOf c (reply.Refused x) places = (ComesLate c x → ⊥) → effects_of pl
 IsReplyOf (command.Create image size shape) reply.Done places = Creates image size places
 IsReplyOf (command.Write image at bytes) reply.Done places = Writes image at bytes places
 IsReplyOf (command.Fill image at len byte) reply.Done places = Writes image at (replicate len byte) places
+IsReplyOf (command.Discard image at len) reply.Done places = Discards image (record { at = at; len = len }) places
+IsReplyOf (command.Resize image size) reply.Done places = Resizes image size places
+IsReplyOf (command.Remove image) reply.Done places = RemovesAll image places
+IsReplyOf (command.Rename from to) reply.Done places = Renames from to places
 IsReplyOf (command.SnapCreate image snap) reply.Done places = TakesSnap image snap places
 IsReplyOf (command.SnapRemove image snap) reply.Done places = RemovesSnap image snap places
+IsReplyOf (command.SnapRollback image snap) reply.Done places = RollsBackTo image snap places
 IsReplyOf (command.Read image snap at len) (reply.Bytes bytes) places = ShowsBytes image snap (record { at = at; len = len }) bytes places
 IsReplyOf command.List (reply.Names names) places = ListsNames names places
 IsReplyOf (command.Info image) (reply.Info h) places = ShowsImage image h places
 IsReplyOf (command.SnapList image) (reply.Snaps snaps) places = ShowsSnaps image snaps places
+IsReplyOf (command.Used image) (reply.Used used of) places = ShowsUsed image used of places
 IsReplyOf (command.Close image) reply.Done places = effects_of places ≡ []
 IsReplyOf (command.Quiesce image) reply.Done places = effects_of places ≡ []
 IsReplyOf (command.Resume image) reply.Done places = effects_of places ≡ []
@@ -37,6 +46,7 @@ only_shows (command.Read image snap at len) = true
 only_shows command.List = true
 only_shows (command.Info image) = true
 only_shows (command.SnapList image) = true
+only_shows (command.Used image) = true
 only_shows _ = false
 
 -- what changes no image: it only shows, lets a lock go, holds the image's requests back, or tells

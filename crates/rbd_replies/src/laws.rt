@@ -1,6 +1,6 @@
 //! What replies say of the flat-copy machine, and what fenced clients can't do: each law is the
 //! contract of a function that does nothing.
-ghost use Rattle.std.specs.Prelude.{◌≡◌, ◌⊎◌, ℕ, true, [], ◌∷◌, ◌++◌, List, All, Option, Some, map};
+ghost use Rattle.std.specs.Prelude.{◌≡◌, ℕ, true, [], ◌∷◌, ◌++◌, List, All, Option, Some, map};
 ghost use Rattle.rbd_kinds.specs.declared.answer.Answer.TheVariants as answer;
 ghost use Rattle.rbd_kinds.specs.declared.header_op.HeaderOp.TheVariants as header;
 ghost use Rattle.rbd_kinds.specs.declared.id.Instance.{Instance as Who};
@@ -10,13 +10,13 @@ ghost use Rattle.rbd_kinds.specs.declared.operation.Op.TheVariants as op;
 ghost use Rattle.rbd_kinds.specs.declared.reply.Reply.{Reply};
 ghost use Rattle.rbd_requests.specs.Touched.{HasAtMost, bound_of, touched_by};
 ghost use Rattle.rbd_site.specs.Step.{is_fenced};
-ghost use Rattle.rbd_stands.specs.Owned.{HasLock, changes_image, was_done};
+ghost use Rattle.rbd_stands.specs.Owned.{changes_image, was_done};
 ghost use Rattle.rbd_world.specs.Run.{Asked, Happening, Operation, Did, Refused, Stopped, asked_by, fence_of, is_among, is_on_way, records_after, replies_to, step_of, steps_of};
 ghost use Rattle.rbd_world.specs.Sound.{IsRight, IsSoundWorld, has_ended, line_at};
 ghost use Rattle.rbd_world.specs.World.{WorldView};
 ghost use Rattle.rbd_world.specs.declared.event.Call.{Call};
 ghost use Rattle.rbd_replies.specs.Bounds.{KeepsBound};
-ghost use Rattle.rbd_replies.specs.Fenced.{AtEachOperation, ChangesNothing, IsStoppedByTheFence, IsTheOwners, MakesMap};
+ghost use Rattle.rbd_replies.specs.Fenced.{AtEachOperation, ChangesNothing, IsStoppedByTheFence, IsTheOwners, OwnsOrNone};
 ghost use Rattle.rbd_replies.specs.Home.{AreDoneAt};
 ghost use Rattle.rbd_replies.specs.Places.{Placed, effects_of, places_of};
 ghost use Rattle.rbd_replies.specs.Replies.{IsReplyOf, changes_no_image, only_shows};
@@ -45,8 +45,8 @@ pub fn replies_are_the_flat_machines()
         → IsReplyOf asked.command reply (places_of line (Refused s line reply ∷ run)) }
 {}
 
-/// A command that only shows, as `read`, `ls`, `info` and `snap ls` do, changes nothing of the flat
-/// site, whatever its reply is.
+/// A command that only shows, as `read`, `ls`, `info`, `snap ls` and `du` do, changes nothing of the
+/// flat site, whatever its reply is.
 pub fn what_only_shows_changes_nothing()
     ensures done { (homes : ℕ → Site) (run : List Happening) (o : Operation) (line : ℕ) (reply : Reply) (asked : Asked)
         → IsRight homes (Did o (Some reply) ∷ run) → replies_to line (Did o (Some reply)) ≡ true → asked_by line run ≡ Some asked → only_shows asked.command ≡ true
@@ -91,8 +91,10 @@ pub fn replies_are_of_their_home()
 /// `rbd_requests`), by the number of pieces that its extent has at most: in all when it has its
 /// reply, or is lost by a stop, and so far at any time before. A read has so many at most in each
 /// of its passes, and began again only where its closing look was told a header of another
-/// generation, or none. Who waits has none: each operation is a poll's whose outcome is `Step`.
-/// Operations on the way to a lock aren't counted: it asks as often as another one has the lock.
+/// generation, or none. A resize, a rollback and an `rm` have beside their bound as many as they
+/// were told of objects (`told_by` of `rbd_requests`). Who waits has none: each operation is a
+/// poll's whose outcome is `Step`. Operations on the way to a lock aren't counted: it asks as often
+/// as another one has the lock.
 pub fn lines_keep_their_bounds<R: Request>()
     ensures ended { (homes : ℕ → Site) (run : List Happening) (line : ℕ) (asked : Asked) (most : ℕ)
         → IsRight homes run → asked_by line run ≡ Some asked → has_ended line run ≡ true → HasAtMost most (touched_by asked.command)
@@ -151,12 +153,13 @@ pub fn fences_are_told()
 /// Who changed the data, the header, an object map or the journal of an image had the lock of the
 /// image there, by its header; and the lock of an instance was broken only once the instance was
 /// fenced at that site. A header is made before anybody can own it, and so is the first map of an
-/// image, before its header. What is done to a lock, to those that watch and to what they are told
-/// changes no image.
+/// image, before its header. What is left of an image whose header was removed, its objects and its
+/// maps, goes without a lock too, since there is none any more. What is done to a lock, to those that
+/// watch and to what they are told changes no image.
 pub fn changes_are_the_owners()
     ensures owned { (homes : ℕ → Site) (run : List Happening) (o : Operation) (reply : Option Reply) (image : ℕ)
         → IsRight homes (Did o reply ∷ run) → changes_image image o.op ≡ true → was_done o.answer ≡ true
-        → HasLock image o.instance (records_after o.site run) ⊎ MakesMap image o.op (records_after o.site run) }
+        → OwnsOrNone image o.instance o.op (records_after o.site run) }
     ensures broken { (homes : ℕ → Site) (run : List Happening) (o : Operation) (reply : Option Reply) (image : ℕ) (owner : Who)
         → IsRight homes (Did o reply ∷ run) → o.op ≡ op.Header image (header.LockBreak owner) → o.answer ≡ answer.Done
         → is_fenced (records_after o.site run) owner ≡ true }
