@@ -26,10 +26,11 @@ use Rattle.rbd_known.proofs.Calmly.{look_is_calm}
 use Rattle.rbd_locks.specs.declared.lock_state.LockState.{LockState}
 use Rattle.rbd_locks.specs.Locks.{state_at}
 use Rattle.rbd_machine.specs.Plan.{Standing}
+use Rattle.rbd_machine.specs.declared.seat.Seat.{Seat}
 use Rattle.rbd_owner.specs.Acquire.{begun}
 use Rattle.rbd_owner.specs.declared.acquire.Acquire.{Acquire}
 use Rattle.rbd_owner.specs.declared.release.Release.{Release}
-use Rattle.rbd_requests.specs.Served.{Closes, Creates, IsPlanFor, Lists, Reads, Snaps, Writes}
+use Rattle.rbd_requests.specs.Served.{Closes, Creates, Discards, IsPlanFor, Lists, Reads, Removes, Resizes, Rollbacks, Snaps, Writes}
 use Rattle.rbd_session.specs.Session.{BeginsAt, IsNewcomer, own_look_at, running_at, running_in}
 use Rattle.rbd_session.specs.declared.running.Occupant.{Occupant}
 use Rattle.rbd_session.specs.declared.running.Occupant.TheVariants as occupant
@@ -119,22 +120,26 @@ module _ {R : Type 0} (stands : R → Standing) (changes : Bool) (c : ClientView
 -- ---- a newcomer
 
 -- a command that neither takes a lock nor quiesces waits for nothing, or is a `close`
-close_plan_alone : (home : SiteId) (image : List ℕ) (s : Standing) → IsPlanFor home (command.Close image) s → DoesOnly IsNoLook s
-close_plan_alone home image s (Writes is at_plan) = absurd (false≢true is)
-close_plan_alone home image s (Reads is) = absurd is
-close_plan_alone home image s (Creates is at_plan) = absurd is
-close_plan_alone home image s (Lists is at_plan) = absurd (false≢true is)
-close_plan_alone home image s (Snaps is at_plan) = absurd (false≢true is)
-close_plan_alone home image s (Closes is at_plan) = subst (DoesOnly IsNoLook) (sym at_plan) (record { plan = close_looks_at_none home image; labels = λ label. tt })
+close_plan_alone : (seat : Seat) (image : List ℕ) (s : Standing) → IsPlanFor seat (command.Close image) s → DoesOnly IsNoLook s
+close_plan_alone seat image s (Writes is at_plan) = absurd (false≢true is)
+close_plan_alone seat image s (Discards is at_plan) = absurd (false≢true is)
+close_plan_alone seat image s (Reads is) = absurd is
+close_plan_alone seat image s (Creates is at_plan) = absurd is
+close_plan_alone seat image s (Lists is at_plan) = absurd (false≢true is)
+close_plan_alone seat image s (Snaps is at_plan) = absurd (false≢true is)
+close_plan_alone seat image s (Resizes is at_plan) = absurd (false≢true is)
+close_plan_alone seat image s (Rollbacks is at_plan) = absurd (false≢true is)
+close_plan_alone seat image s (Removes is at_plan) = absurd (false≢true is)
+close_plan_alone seat image s (Closes is at_plan) = subst (DoesOnly IsNoLook) (sym at_plan) (record { plan = close_looks_at_none seat.home image; labels = λ label. tt })
 
-is_calm_or_closes : (home : SiteId) (c : Command) (s : Standing) → takes_the_lock c ≡ false → holds_back c ≡ false → IsPlanFor home c s → IsCalmRequest s ⊎ DoesOnly IsNoLook s
-is_calm_or_closes home (command.Close image) s takes holds is = inr (close_plan_alone home image s is)
-is_calm_or_closes home (command.Quiesce image) s takes holds is = absurd (true≢false holds)
-is_calm_or_closes home c s takes holds is = inl (look_is_calm home c s (ap (λ b. b || closes_in_line c) takes) is)
+is_calm_or_closes : (seat : Seat) (c : Command) (s : Standing) → takes_the_lock c ≡ false → holds_back c ≡ false → IsPlanFor seat c s → IsCalmRequest s ⊎ DoesOnly IsNoLook s
+is_calm_or_closes seat (command.Close image) s takes holds is = inr (close_plan_alone seat image s is)
+is_calm_or_closes seat (command.Quiesce image) s takes holds is = absurd (true≢false holds)
+is_calm_or_closes seat c s takes holds is = inl (look_is_calm seat c s (ap (λ b. b || closes_in_line c) takes) is)
 
 module _ {R : Type 0} (stands : R → Standing) (changes : Bool) (c : Command) (takes : changes ≡ false → takes_the_lock c ≡ false) (holds : holds_back c ≡ false) where
-  newcomer_looks : (extent_of : Command → Option Extent) (home : SiteId) (line : ℕ) (r : Running R) → BeginsAt stands IsPlanFor extent_of home line c r → LooksUnlessItChanges stands changes r
-  newcomer_looks extent_of home line r begins = by changes refl
+  newcomer_looks : (extent_of : Command → Option Extent) (seat : Seat) (line : ℕ) (r : Running R) → BeginsAt stands IsPlanFor extent_of seat line c r → LooksUnlessItChanges stands changes r
+  newcomer_looks extent_of seat line r begins = by changes refl
     where
       of : IsCalmRequest (stands r.request) ⊎ DoesOnly IsNoLook (stands r.request) → ComesToNoLook stands r
       of (inl calm) = inl (calm, begins.place)
@@ -142,17 +147,17 @@ module _ {R : Type 0} (stands : R → Standing) (changes : Bool) (c : Command) (
 
       by : (b : Bool) → changes ≡ b → LooksUnlessItChanges stands b r
       by true is = tt
-      by false is = of (is_calm_or_closes home c (stands r.request) (takes is) holds begins.stands_there)
+      by false is = of (is_calm_or_closes seat c (stands r.request) (takes is) holds begins.stands_there)
 
-  pub newcomer_is_tame : (extent_of : Command → Option Extent) (home : SiteId) (line : ℕ) (o : Option (Occupant R)) (q : Quiescing) (s : SlotState) → IsNewcomer stands IsPlanFor extent_of home line c o
+  pub newcomer_is_tame : (extent_of : Command → Option Extent) (seat : Seat) (line : ℕ) (o : Option (Occupant R)) (q : Quiescing) (s : SlotState) → IsNewcomer stands IsPlanFor extent_of seat line c o
       → s ≡ newcomer q → IsNoQuiesce q → (r : Running R) → running_in o ≡ Some r → IsTameSlot stands changes r s
-  newcomer_is_tame extent_of home line None q s new state quiet r runs = absurd new
-  newcomer_is_tame extent_of home line (Some (occupant.Refused number refusal)) q s new state quiet r runs = absurd (none-some r runs)
-  newcomer_is_tame extent_of home line (Some (occupant.Running x)) q s new state quiet r runs =
-      let begins = subst (BeginsAt stands IsPlanFor extent_of home line c) (same_Some x r runs) new in
+  newcomer_is_tame extent_of seat line None q s new state quiet r runs = absurd new
+  newcomer_is_tame extent_of seat line (Some (occupant.Refused number refusal)) q s new state quiet r runs = absurd (none-some r runs)
+  newcomer_is_tame extent_of seat line (Some (occupant.Running x)) q s new state quiet r runs =
+      let begins = subst (BeginsAt stands IsPlanFor extent_of seat line c) (same_Some x r runs) new in
       record {
-        asks = requests_take_no_lock home c (stands r.request) begins.stands_there;
-        looks = newcomer_looks extent_of home line r begins;
+        asks = requests_take_no_lock seat c (stands r.request) begins.stands_there;
+        looks = newcomer_looks extent_of seat line r begins;
         way = subst (λ (t : SlotState). MayBeOnWay changes t.way) (sym state) (unbegun_may changes);
         quiescing = subst (λ (t : SlotState). IsNoQuiesce t.quiescing) (sym state) quiet;
       }

@@ -1,14 +1,16 @@
 -- The operations that a request asks for, whatever it is answered. None takes a lock: that is done
 -- on a way to it.
-use Rattle.std.proofs.Common.{◌≡◌, ◌⊎◌, inl, inr, ℕ, ◌+◌, List, [], ◌∷◌, ◌++◌, replicate, Bool, true, false, cond, eqb, Option, Some, None, refl, sym, subst}
+use Rattle.std.proofs.Common.{◌≡◌, ◌⊎◌, inl, inr, ℕ, ◌+◌, List, [], ◌∷◌, ◌++◌, map, replicate, Bool, true, false, cond, eqb, nat_le, Option, Some, None, refl, sym, subst}
 use Rattle.rbd_commands.specs.declared.command.Command.{Command}
 use Rattle.rbd_commands.specs.declared.command.Command.TheVariants as command
 use Rattle.rbd_commands.specs.declared.command.Shape.{Shape}
 use Rattle.rbd_commands.specs.declared.refusal.Refusal.{Refusal}
+use Rattle.rbd_commands.specs.declared.refusal.Refusal.TheVariants as refusal
 use Rattle.rbd_kinds.specs.Parts.{parts_len}
 use Rattle.rbd_kinds.specs.declared.answer.Answer.{Answer}
 use Rattle.rbd_kinds.specs.declared.answer.Answer.TheVariants as answer
 use Rattle.rbd_kinds.specs.declared.header.HeaderView.{HeaderView}
+use Rattle.rbd_kinds.specs.declared.header.ParentLink.{ParentLink}
 use Rattle.rbd_kinds.specs.declared.header.SnapContext.{SnapContext}
 use Rattle.rbd_kinds.specs.declared.header.SnapView.{SnapView}
 use Rattle.rbd_kinds.specs.declared.header_op.HeaderOp.TheVariants as header
@@ -16,6 +18,7 @@ use Rattle.rbd_kinds.specs.declared.id.SiteId.{SiteId}
 use Rattle.rbd_kinds.specs.declared.layout.Extent.{Extent}
 use Rattle.rbd_kinds.specs.declared.layout.Part.{Part}
 use Rattle.rbd_kinds.specs.declared.machine.Fed.TheVariants as fed
+use Rattle.rbd_kinds.specs.declared.map_op.MapOp.TheVariants as states
 use Rattle.rbd_kinds.specs.declared.notice.NoticeKind.TheVariants as notice
 use Rattle.rbd_kinds.specs.declared.operation.Op.{Op}
 use Rattle.rbd_kinds.specs.declared.operation.Op.TheVariants as op
@@ -32,9 +35,14 @@ use Rattle.rbd_machine.specs.Label as label
 use Rattle.rbd_machine.specs.Path.{at_operation}
 use Rattle.rbd_machine.specs.Plan.{Plan, Ask, Await, Note, Return, Goto, Standing, plan_after, without_labels}
 use Rattle.rbd_machine.specs.Refused.{refuses_none}
-use Rattle.rbd_machine.specs.Steps.{applied, change, holding, joining, looked, looking, not_there, on_done, on_header, on_id, owned, owning, unless, on_bits}
-use Rattle.rbd_meaning.specs.Listings.{shown_snaps}
+use Rattle.rbd_machine.specs.declared.seat.Seat.{Seat}
+use Rattle.rbd_machine.specs.Steps.{applied, change, holding, joining, looked, looking, not_there, on_done, on_header, on_id, owned, owning, refused, unless, on_bits}
+use Rattle.rbd_meaning.specs.Count.{object_count}
+use Rattle.rbd_meaning.specs.Listings.{shown_snaps, used_among}
 use Rattle.rbd_meaning.specs.Range.{extent_at, out_of_range}
+use Rattle.rbd_meaning.specs.Removals.{image_removal_refuses, link_of, may_be_gone, removal, removing_journal, removing_map_of, removing_object, unlinking, used_objects, watchers_refuse}
+use Rattle.rbd_meaning.specs.Resizes.{resize_refuses}
+use Rattle.rbd_meaning.specs.Rollbacks.{at_size, rollback_refuses}
 use Rattle.rbd_meaning.specs.Snaps.{create_refuses, remove_refuses}
 use Rattle.rbd_meaning.specs.Writes.{write_refuses}
 use Rattle.rbd_parts.specs.Parts.{bytes_for}
@@ -44,11 +52,19 @@ use Rattle.rbd_request.specs.Read.{IsReadOf, closing, gathering, looking as look
 use Rattle.rbd_request.specs.Seen.{Seen, seen_at, shown}
 use Rattle.rbd_request.specs.Write.{put, write_pieces, write_plan}
 use Rattle.rbd_admin.specs.Create.{IsCreate, IsCreatePlan, drawing, making, mapping, on_drawn}
-use Rattle.rbd_admin.specs.Listing.{listing_plan, on_names, show_header, showing}
+use Rattle.rbd_admin.specs.Listing.{counting, listing_plan, measuring, on_names, on_renamed, show_header, show_used, showing}
 use Rattle.rbd_admin.specs.Snap.{on_gone, on_snap, putting, remove, remove_listed, snap_plan, take, taking, unmapping}
 use Rattle.rbd_admin.proofs.Decided.{limits_or_not}
 use Rattle.rbd_close.specs.Close.{close_plan, done, joining as closing_alone, on_dropped, quiesced, resumed, saying, unwatching}
-use Rattle.rbd_requests.specs.Served.{IsPlanFor, Closes, Creates, Lists, Reads, Snaps, Writes}
+use Rattle.rbd_discard.specs.Discard.{discard_plan, zero, zero_pieces as zero_in_turn}
+use Rattle.rbd_remove.specs.Remove.{holding_it, joining_its_line, looked_at_it, on_gone as on_removed, on_watchers, remove as remove_by, remove_each, remove_owned, remove_plan, unless_watched}
+use Rattle.rbd_resize.specs.Resize.{resize_plan, set_size}
+use Rattle.rbd_resize.specs.Rollback.{restore_all, restore_pieces, roll_back, roll_back_listed, roll_back_to, rollback_plan}
+use Rattle.rbd_requests.specs.Served.{IsPlanFor, Closes, Creates, Discards, Lists, Reads, Removes, Resizes, Rollbacks, Snaps, Writes}
+use Rattle.rbd_zero.specs.Full.{cut_bytes, full_by, full_piece, writing_full}
+use Rattle.rbd_zero.specs.Size.{cutting, resize, resize_by, sizing, zero_pieces}
+use Rattle.rbd_zero.specs.Shrink.{pieces_from}
+use Rattle.rbd_zero.specs.Zero.{emptying, head_of, is_inside, is_whole, removing, setting, zero_by, zero_piece, zeroing}
 
 -- ---- all that is asked for, to the end
 
@@ -226,6 +242,153 @@ only_read site (command.Read image snap from len) s is =
     subst (DoesOnly TakesNoLock) (sym is) (record { plan = only; labels = λ label. only })
 only_read site _ s is = absurd is
 
+-- ---- discard
+
+module _ (site : SiteId) (image : ℕ) (context : SnapContext) (piece : Piece) (next : Plan) (only : AsksOnly TakesNoLock next) where
+  only_zero_by : (whole inside : Bool) → AsksOnly TakesNoLock (zero_by site image context piece whole inside next)
+  only_zero_by false false = (tt, λ a. only_on_done TakesNoLock next only a)
+  only_zero_by false true =
+      (tt, λ a. only_on_done TakesNoLock (zeroing site image context piece true next) (tt, λ b. only_on_done TakesNoLock next only b) a)
+  only_zero_by true false = (
+    tt,
+    λ a. only_on_done TakesNoLock (removing site image context piece (setting site image context piece 0 next))
+        (tt, λ b. only_on_done TakesNoLock (setting site image context piece 0 next) (tt, λ d. only_on_done TakesNoLock next only d) b) a,
+  )
+  only_zero_by true true = (tt, λ a. only_on_done TakesNoLock (emptying site image context piece next) (tt, λ b. only_on_done TakesNoLock next only b) a)
+
+only_zero_piece : (site : SiteId) (image : ℕ) (h : HeaderView) (piece : Piece) (next : Plan) → AsksOnly TakesNoLock next → AsksOnly TakesNoLock (zero_piece site image h piece next)
+only_zero_piece site image h piece next only = only_zero_by site image (context_of h) piece next only (is_whole h piece) (is_inside h piece.object)
+
+only_zero_in_turn : (site : SiteId) (image : ℕ) (h : HeaderView) (pieces : List Piece) (next : Plan) → AsksOnly TakesNoLock next → AsksOnly TakesNoLock (zero_in_turn site image h pieces next)
+only_zero_in_turn site image h [] next only = only
+only_zero_in_turn site image h (p ∷ pieces) next only =
+    only_zero_piece site image h p (zero_in_turn site image h pieces next) (only_zero_in_turn site image h pieces next only)
+
+only_discards : (site : SiteId) (c : Command) → AsksOnly TakesNoLock (discard_plan site c)
+only_discards site (command.Discard image at len) =
+    let e : Extent = record { at = at; len = len } in
+    only_change site (write_refuses e) (zero site e)
+    (λ i h. only_zero_in_turn site i h (pieces_of h.layout e) (applied site i) tt) image false
+only_discards site _ = tt
+
+-- ---- resize
+
+only_zero_pieces : (site : SiteId) (image : ℕ) (h : HeaderView) (pieces : List Piece) (next : Plan) → AsksOnly TakesNoLock next → AsksOnly TakesNoLock (zero_pieces site image h pieces next)
+only_zero_pieces site image h [] next only = only
+only_zero_pieces site image h (p ∷ pieces) next only =
+    only_zero_piece site image h p (zero_pieces site image h pieces next) (only_zero_pieces site image h pieces next only)
+
+only_sizing : (site : SiteId) (image to : ℕ) (next : Plan) → AsksOnly TakesNoLock next → AsksOnly TakesNoLock (sizing site image to next)
+only_sizing site image to next only = (tt, λ a. only_on_done TakesNoLock next only a)
+
+only_resize_by : (grows : Bool) (site : SiteId) (image : ℕ) (h : HeaderView) (to objects : ℕ) (next : Plan) → AsksOnly TakesNoLock next → AsksOnly TakesNoLock (resize_by grows site image h to objects next)
+only_resize_by true site image h to objects next only = (tt, λ a. only_on_done TakesNoLock (sizing site image to next) (only_sizing site image to next only) a)
+only_resize_by false site image h to objects next only = (
+  tt,
+  λ a. only_on_bits (cutting site image h to next)
+      (λ bits. only_zero_pieces site image h (pieces_from h to bits) (sizing site image to next) (only_sizing site image to next only)) a,
+)
+
+only_resize : (site : SiteId) (image : ℕ) (h : HeaderView) (to objects : ℕ) (next : Plan) → AsksOnly TakesNoLock next → AsksOnly TakesNoLock (resize site image h to objects next)
+only_resize site image h to objects next only = only_resize_by (nat_le h.size to) site image h to objects next only
+
+only_resizes : (site : SiteId) (c : Command) → AsksOnly TakesNoLock (resize_plan site c)
+only_resizes site (command.Resize image size) =
+    only_change site (resize_refuses size) (set_size site size)
+    (λ i h. only_resize site i h size (object_count h.layout size) (applied site i) tt) image true
+only_resizes site _ = tt
+
+-- ---- snap rollback
+
+only_full : (site : SiteId) (image : ℕ) (h : HeaderView) (piece : Piece) (left : List ℕ) (next : Plan) → AsksOnly TakesNoLock next → AsksOnly TakesNoLock (full_by site image h piece left next)
+only_full site image h piece [] next only = only_zero_by site image (context_of h) piece next only true (is_inside h piece.object)
+only_full site image h piece (byte ∷ left) next only =
+    (tt, λ a. only_on_done TakesNoLock (writing_full site image (context_of h) piece.object (byte ∷ left) next) (tt, λ b. only_on_done TakesNoLock next only b) a)
+
+only_restore : (site : SiteId) (image : ℕ) (h : HeaderView) (snap : ℕ) (pieces : List Piece) (next : Plan) → AsksOnly TakesNoLock next → AsksOnly TakesNoLock (restore_pieces site image h snap pieces next)
+only_restore site image h snap [] next only = only
+only_restore site image h snap (p ∷ pieces) next only =
+    only_gather (p ∷ []) site image (Some snap) [] (λ bytes. full_piece site image h p bytes (restore_pieces site image h snap pieces next))
+    (λ bytes. only_full site image h p (cut_bytes bytes) (restore_pieces site image h snap pieces next) (only_restore site image h snap pieces next only))
+
+only_roll_back : (site : SiteId) (snap : List ℕ) (image : ℕ) (h : HeaderView) (listed : Option SnapView) → AsksOnly TakesNoLock (roll_back_listed site snap image h listed)
+only_roll_back site snap image h None = tt
+only_roll_back site snap image h (Some listed) =
+    let sized = at_size listed.size h in
+    only_resize site image h listed.size (object_count h.layout listed.size) (restore_all site image sized listed.id (applied site image))
+    (only_restore site image sized listed.id (pieces_of sized.layout (head_of sized)) (applied site image) tt)
+
+only_rollbacks : (site : SiteId) (c : Command) → AsksOnly TakesNoLock (rollback_plan site c)
+only_rollbacks site (command.SnapRollback image snap) =
+    only_change site (rollback_refuses snap) (roll_back_to site snap) (λ i h. only_roll_back site snap i h (snap_named h.snaps snap)) image true
+only_rollbacks site _ = tt
+
+-- ---- rm
+
+-- none of the operations takes a lock
+abbrev pub TakeNoLocks : List Op → Type 0
+TakeNoLocks [] = Unit {0}
+TakeNoLocks (o ∷ ops) = TakesNoLock o × TakeNoLocks ops
+
+both_take_none : (ops more : List Op) → TakeNoLocks ops → TakeNoLocks more → TakeNoLocks (ops ++ more)
+both_take_none [] more first second = second
+both_take_none (o ∷ ops) more first second = (first.0, both_take_none ops more first.1 second)
+
+all_take_none : {X : Type 0} (op_for : X → Op) → ((x : X) → TakesNoLock (op_for x)) → (xs : List X) → TakeNoLocks (map op_for xs)
+all_take_none op_for none [] = tt
+all_take_none op_for none (x ∷ xs) = (none x, all_take_none op_for none xs)
+
+unlinking_takes_none : (image : ℕ) (link : Option ParentLink) → TakeNoLocks (unlinking image link)
+unlinking_takes_none image None = tt
+unlinking_takes_none image (Some link) = (tt, tt)
+
+journal_takes_none : (image : ℕ) (has : Bool) → TakeNoLocks (removing_journal image has)
+journal_takes_none image false = tt
+journal_takes_none image true = (tt, tt)
+
+removal_takes_none : (image : ℕ) (h : HeaderView) (bits : List ℕ) → TakeNoLocks (removal image h bits)
+removal_takes_none image h bits =
+    let objects = all_take_none (removing_object image) (λ object. tt) (used_objects bits) in
+    let maps = all_take_none (removing_map_of image) (λ snap. tt) h.snaps in
+    let rest = both_take_none (map (removing_map_of image) h.snaps) (removing_journal image h.journal) maps (journal_takes_none image h.journal) in
+    let contents = both_take_none (map (removing_object image) (used_objects bits)) (op.Map image (states.Remove None) ∷ (map (removing_map_of image) h.snaps ++ removing_journal image h.journal)) objects (tt, rest) in
+    (tt, (tt, both_take_none (unlinking image (link_of h)) _ (unlinking_takes_none image (link_of h)) contents))
+
+only_on_removed : (o : Op) (next : Plan) → AsksOnly TakesNoLock next → (a : Answer) → AsksOnly TakesNoLock (on_removed o next a)
+only_on_removed o next only answer.Done = only
+only_on_removed o next only answer.Absent = by (may_be_gone o)
+  where
+    by : (b : Bool) → AsksOnly TakesNoLock (cond b next (refused refusal.NoImage))
+    by true = only
+    by false = tt
+only_on_removed o next only a = only_not_there TakesNoLock a
+
+only_remove_each : (site : SiteId) (ops : List Op) (next : Plan) → TakeNoLocks ops → AsksOnly TakesNoLock next → AsksOnly TakesNoLock (remove_each site ops next)
+only_remove_each site [] next none only = only
+only_remove_each site (o ∷ ops) next none only = (none.0, λ a. only_on_removed o (remove_each site ops next) (only_remove_each site ops next none.1 only) a)
+
+module _ (site : SiteId) (session : ℕ) where
+  only_on_watchers : (next : Plan) → AsksOnly TakesNoLock next → (a : Answer) → AsksOnly TakesNoLock (on_watchers session next a)
+  only_on_watchers next only (answer.Instances watchers) = only_unless TakesNoLock (watchers_refuse session watchers) next only
+  only_on_watchers next only a = only_not_there TakesNoLock a
+
+  only_remove_owned : (image : ℕ) (h : HeaderView) → AsksOnly TakesNoLock (remove_owned site session image h)
+  only_remove_owned image h = (
+    tt,
+    λ a. only_on_watchers (remove_by site image h (Return reply.Done))
+        (tt, λ b. only_on_bits (λ bits. remove_each site (removal image h bits) (Return reply.Done)) (λ bits. only_remove_each site (removal image h bits) (Return reply.Done) (removal_takes_none image h bits) tt) b) a,
+  )
+
+  only_looked_at_it : (image : ℕ) (h : HeaderView) → AsksOnly TakesNoLock (looked_at_it site session image h)
+  only_looked_at_it image h =
+      only_unless TakesNoLock (image_removal_refuses h) (unless_watched site session image (holding_it site session image))
+      (tt, λ a. only_on_watchers (holding_it site session image) (only_owning site image_removal_refuses (remove_owned site session) only_remove_owned image) a)
+
+  only_removes : (c : Command) → AsksOnly TakesNoLock (remove_plan site session c)
+  only_removes (command.Remove image) =
+      (tt, λ found. only_on_id TakesNoLock (joining_its_line site session) (λ i. (tt, λ a. only_on_header TakesNoLock (looked_at_it site session i) (only_looked_at_it i) a)) found)
+  only_removes _ = tt
+
 -- ---- create
 
 only_on_drawn : (next : ℕ → Plan) → ((image : ℕ) → AsksOnly TakesNoLock (next image)) → (a : Answer) → AsksOnly TakesNoLock (on_drawn next a)
@@ -252,7 +415,7 @@ only_create : (site : SiteId) (c : Command) (plan : Plan) → IsCreatePlan site 
 only_create site (command.Create image size shape) plan is = only_is_create site image size shape plan is
 only_create site _ plan is = absurd is
 
--- ---- ls, info, snap ls
+-- ---- ls, info, snap ls, du, rename
 
 only_on_names : (next : List (List ℕ) → Plan) → ((names : List (List ℕ)) → AsksOnly TakesNoLock (next names)) → (a : Answer) → AsksOnly TakesNoLock (on_names next a)
 only_on_names next only (answer.Names names) = only names
@@ -262,10 +425,27 @@ only_show_header : (site : SiteId) (name : List ℕ) (shows : HeaderView → Rep
 only_show_header site name shows =
     (tt, λ found. only_on_id TakesNoLock (showing site shows) (λ image. (tt, λ a. only_on_header TakesNoLock (λ h. Return (shows h)) (λ h. tt) a)) found)
 
+only_show_used : (site : SiteId) (name : List ℕ) → AsksOnly TakesNoLock (show_used site name)
+only_show_used site name = (
+  tt,
+  λ found. only_on_id TakesNoLock (measuring site)
+      (λ image. (tt, λ a. only_on_header TakesNoLock (λ h. counting site image (object_count h.layout h.size)) (λ h. only_counting image (object_count h.layout h.size)) a)) found,
+)
+  where
+    only_counting : (image of : ℕ) → AsksOnly TakesNoLock (counting site image of)
+    only_counting image of = (tt, λ a. only_on_bits (λ bits. Return (reply.Used (used_among of bits) of)) (λ bits. tt) a)
+
+only_on_renamed : (a : Answer) → AsksOnly TakesNoLock (on_renamed a)
+only_on_renamed answer.Done = tt
+only_on_renamed answer.Exists = tt
+only_on_renamed a = only_not_there TakesNoLock a
+
 only_listing : (site : SiteId) (c : Command) → AsksOnly TakesNoLock (listing_plan site c)
 only_listing site command.List = (tt, λ a. only_on_names (λ names. Return (reply.Names names)) (λ names. tt) a)
 only_listing site (command.Info image) = only_show_header site image reply.Info
 only_listing site (command.SnapList image) = only_show_header site image shown_snaps
+only_listing site (command.Used image) = only_show_used site image
+only_listing site (command.Rename from to) = (tt, λ a. only_on_renamed a)
 only_listing site _ = tt
 
 -- ---- close, quiesce, resume, tell
@@ -299,10 +479,14 @@ close_looks_at_none site image = (tt, λ found. only_on_id IsNoLook (closing_alo
 only_plan : (plan : Plan) (s : Standing) → s ≡ without_labels plan → AsksOnly TakesNoLock plan → DoesOnly TakesNoLock s
 only_plan plan s is only = subst (DoesOnly TakesNoLock) (sym is) (record { plan = only; labels = λ label. tt })
 
-pub requests_take_no_lock : (home : SiteId) (c : Command) (s : Standing) → IsPlanFor home c s → DoesOnly TakesNoLock s
-requests_take_no_lock home c s (Writes is at_plan) = only_plan (write_plan home c) s at_plan (only_writes home c)
-requests_take_no_lock home c s (Reads is) = only_read home c s is
-requests_take_no_lock home c s (Creates is at_plan) = only_plan s.plan s at_plan (only_create home c s.plan is)
-requests_take_no_lock home c s (Lists is at_plan) = only_plan (listing_plan home c) s at_plan (only_listing home c)
-requests_take_no_lock home c s (Snaps is at_plan) = only_plan (snap_plan home c) s at_plan (only_snaps home c)
-requests_take_no_lock home c s (Closes is at_plan) = only_plan (close_plan home c) s at_plan (only_closes home c)
+pub requests_take_no_lock : (seat : Seat) (c : Command) (s : Standing) → IsPlanFor seat c s → DoesOnly TakesNoLock s
+requests_take_no_lock seat c s (Writes is at_plan) = only_plan (write_plan seat.home c) s at_plan (only_writes seat.home c)
+requests_take_no_lock seat c s (Discards is at_plan) = only_plan (discard_plan seat.home c) s at_plan (only_discards seat.home c)
+requests_take_no_lock seat c s (Reads is) = only_read seat.home c s is
+requests_take_no_lock seat c s (Creates is at_plan) = only_plan s.plan s at_plan (only_create seat.home c s.plan is)
+requests_take_no_lock seat c s (Lists is at_plan) = only_plan (listing_plan seat.home c) s at_plan (only_listing seat.home c)
+requests_take_no_lock seat c s (Snaps is at_plan) = only_plan (snap_plan seat.home c) s at_plan (only_snaps seat.home c)
+requests_take_no_lock seat c s (Resizes is at_plan) = only_plan (resize_plan seat.home c) s at_plan (only_resizes seat.home c)
+requests_take_no_lock seat c s (Rollbacks is at_plan) = only_plan (rollback_plan seat.home c) s at_plan (only_rollbacks seat.home c)
+requests_take_no_lock seat c s (Removes is at_plan) = only_plan (remove_plan seat.home seat.session c) s at_plan (only_removes seat.home seat.session c)
+requests_take_no_lock seat c s (Closes is at_plan) = only_plan (close_plan seat.home c) s at_plan (only_closes seat.home c)

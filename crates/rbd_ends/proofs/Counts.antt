@@ -23,7 +23,7 @@ use Rattle.rbd_locks.specs.declared.lock_state.LockState.{LockState}
 use Rattle.rbd_locks.specs.Comings.{ByAnswer, ByResume, after_all, after_one}
 use Rattle.rbd_locks.specs.Locks.{heard}
 use Rattle.rbd_locks.specs.States.{answered, resumed, told}
-use Rattle.rbd_ends.proofs.Owners.{asks_for_lock, gives_up, is_drop}
+use Rattle.rbd_ends.proofs.Owners.{asks_for_lock, ends_lock, gives_up}
 
 -- neither quiesced nor asked for
 pub record IsFree (s : LockState) : Type 0 where
@@ -40,6 +40,8 @@ answered_free : (o : HeaderOp) (a : Answer) (s : LockState) → IsFree s → IsF
 answered_free header.LockTake answer.Done s free = record { quiesced = free.quiesced; asked = refl }
 answered_free header.LockTake a s free = free
 answered_free header.LockDrop a s free = record { quiesced = refl; asked = refl }
+answered_free header.Remove answer.Done s free = record { quiesced = refl; asked = refl }
+answered_free header.Remove a s free = free
 answered_free header.Watch answer.Done s free = record { quiesced = free.quiesced; asked = free.asked }
 answered_free header.Watch a s free = free
 answered_free header.Unwatch a s free = record { quiesced = free.quiesced; asked = free.asked }
@@ -95,10 +97,11 @@ heard_owned n there image s is = either (λ x. x.owned ≡ true) (is_at n.site n
 abbrev pub gives_up_at : (site : SiteId) → Op → (there : SiteId) → (image : ℕ) → Bool
 gives_up_at site o there image = same_site there site && gives_up image o
 
-answered_owned : (o : HeaderOp) (a : Answer) (s : LockState) → is_drop o ≡ false → s.owned ≡ true → (answered o a s).owned ≡ true
+answered_owned : (o : HeaderOp) (a : Answer) (s : LockState) → ends_lock o ≡ false → s.owned ≡ true → (answered o a s).owned ≡ true
 answered_owned header.LockTake answer.Done s keeps is = refl
 answered_owned header.LockTake a s keeps is = is
 answered_owned header.LockDrop a s keeps is = absurd (true≢false keeps)
+answered_owned header.Remove a s keeps is = absurd (true≢false keeps)
 answered_owned header.Watch answer.Done s keeps is = is
 answered_owned header.Watch a s keeps is = is
 answered_owned header.Unwatch a s keeps is = is
@@ -106,7 +109,7 @@ answered_owned o a s keeps is = is
 
 header_owned : (site : SiteId) (on : ℕ) (o : HeaderOp) (a : Answer) (there : SiteId) (image : ℕ) (s : LockState) → gives_up_at site (op.Header on o) there image ≡ false → s.owned ≡ true
     → (after_one (ByAnswer site (op.Header on o) a) there image s).owned ≡ true
-header_owned site on o a there image s keeps is = by (same_site there site) (image == on) (is_drop o) (answered_owned o a s) keeps
+header_owned site on o a there image s keeps is = by (same_site there site) (image == on) (ends_lock o) (answered_owned o a s) keeps
   where
     by : (x y d : Bool) → (d ≡ false → s.owned ≡ true → (answered o a s).owned ≡ true) → (x && (d && y)) ≡ false → (cond (x && y) (answered o a s) s).owned ≡ true
     by false y d owned keeps = is

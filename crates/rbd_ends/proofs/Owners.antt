@@ -33,13 +33,15 @@ owner_of (Some h) = h.owner
 abbrev pub owner_at : Records → (image : ℕ) → Option Instance
 owner_at r image = owner_of (r.headers image)
 
-abbrev pub is_drop : HeaderOp → Bool
-is_drop header.LockDrop = true
-is_drop o = false
+-- a drop, and the removal of the header, with which the lock goes
+abbrev pub ends_lock : HeaderOp → Bool
+ends_lock header.LockDrop = true
+ends_lock header.Remove = true
+ends_lock o = false
 
 -- the operation gives up the lock of the image, where it is the doer's own
 abbrev pub gives_up : (image : ℕ) → Op → Bool
-gives_up image (op.Header other o) = is_drop o && (image == other)
+gives_up image (op.Header other o) = ends_lock o && (image == other)
 gives_up image o = false
 
 -- who has the lock had it before, and didn't give it up
@@ -51,7 +53,7 @@ kept : {me : Instance} {before : Option Instance} {who : Instance} → before �
 kept had = record { had = had; kept = λ gives. absurd (false≢true gives) }
 
 header_keeps : (me : Instance) (h : Option HeaderView) (image : ℕ) (o : HeaderOp) (who : Instance) → TakesNoLock (op.Header image o) → owner_of (header_after me h o) ≡ Some who
-    → Keeps me (is_drop o) (owner_of h) who
+    → Keeps me (ends_lock o) (owner_of h) who
 header_keeps me None image (header.Create view) who may is = absurd (none-some who (sym may ∙ is))
 header_keeps me None image o who may is = absurd (none-some who is)
 header_keeps me (Some h) image (header.Create view) who may is = kept is
@@ -99,23 +101,23 @@ header_keeps_at : (r : Records) (me : Instance) (on image : ℕ) (o : HeaderOp) 
     → Keeps me (gives_up image (op.Header on o)) (owner_at r image) who
 header_keeps_at r me on image o who may is = by (image == on) refl is
   where
-    here : is_drop o && true ≡ is_drop o
-    here = go (is_drop o)
+    here : ends_lock o && true ≡ ends_lock o
+    here = go (ends_lock o)
       where
         go : (b : Bool) → (b && true) ≡ b
         go true = refl
         go false = refl
 
-    there : (is_drop o && false) ≡ false
-    there = go (is_drop o)
+    there : (ends_lock o && false) ≡ false
+    there = go (ends_lock o)
       where
         go : (b : Bool) → (b && false) ≡ false
         go true = refl
         go false = refl
 
-    by : (b : Bool) → (image == on) ≡ b → owner_of (cond b (header_after me (r.headers on) o) (r.headers image)) ≡ Some who → Keeps me (is_drop o && b) (owner_at r image) who
+    by : (b : Bool) → (image == on) ≡ b → owner_of (cond b (header_after me (r.headers on) o) (r.headers image)) ≡ Some who → Keeps me (ends_lock o && b) (owner_at r image) who
     by true at is =
-        subst (λ n. Keeps me (is_drop o && true) (owner_at r n) who) (sym (eqb-true image on at))
+        subst (λ n. Keeps me (ends_lock o && true) (owner_at r n) who) (sym (eqb-true image on at))
         (subst (λ g. Keeps me g (owner_at r on) who) (sym here) (header_keeps me (r.headers on) on o who may is))
     by false at is = subst (λ g. Keeps me g (owner_at r image) who) (sym there) (kept is)
 

@@ -39,7 +39,7 @@ use Rattle.rbd_owner.specs.declared.release.Stage.{Stage as ReleaseStage}
 use Rattle.rbd_owner.specs.declared.release.Stage.TheVariants as releasing
 use Rattle.rbd_requests.specs.Touched.{extent_of}
 use Rattle.rbd_session.specs.Advance.{track_of}
-use Rattle.rbd_session.specs.Session.{SessionView, held_in, running_at, running_in}
+use Rattle.rbd_session.specs.Session.{SessionView, held_in, running_at, running_in, seat_of}
 use Rattle.rbd_session.specs.Waits.{waits}
 use Rattle.rbd_session.specs.declared.running.Occupant.{Occupant}
 use Rattle.rbd_session.specs.declared.running.Occupant.TheVariants as occupant
@@ -311,7 +311,7 @@ module _ {R : Type 0} (stands : R → Standing) (changer : ℕ) where
           owned = λ s image is. subst (λ l. IsTrue (state_at s image l).owned) (sym begins.house.locks) is;
           tame = λ tame.
               tame_begun stands (n == changer) x.session.lowest x d begins.begins.slots begins.states
-              (newcomer_is_tame stands (n == changer) command (takes n named) may.1 extent_of x.session.home line (held_in x.session.lowest d.session.slots) (quiescing_of command) (state_in x.session.lowest d.slots)
+              (newcomer_is_tame stands (n == changer) command (takes n named) may.1 extent_of (seat_of x.session) line (held_in x.session.lowest d.session.slots) (quiescing_of command) (state_in x.session.lowest d.slots)
               begins.begins.held begins.state (quiets command may.1))
               begins.house.locks tame;
         }

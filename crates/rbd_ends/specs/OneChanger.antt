@@ -4,9 +4,13 @@ use Rattle.std.specs.List.{list_any}
 use Rattle.rbd_admin.specs.Snap.{is_snap}
 use Rattle.rbd_commands.specs.declared.command.Command.{Command}
 use Rattle.rbd_commands.specs.declared.command.Command.TheVariants as command
+use Rattle.rbd_discard.specs.Discard.{is_discard}
 use Rattle.rbd_flat.specs.declared.entry.Entry.{Entry}
 use Rattle.rbd_flat.specs.declared.entry.Entry.TheVariants as entry
+use Rattle.rbd_remove.specs.Remove.{is_remove}
 use Rattle.rbd_request.specs.Write.{is_write}
+use Rattle.rbd_resize.specs.Resize.{is_resize}
+use Rattle.rbd_resize.specs.Rollback.{is_rollback}
 use Rattle.rbd_schedule.specs.Given.{commands_of}
 use Rattle.rbd_schedule.specs.declared.given.Given.{Given}
 use Rattle.rbd_script.specs.declared.script.Line.{Line}
@@ -17,9 +21,10 @@ use Rattle.rbd_world.specs.World.{WorldView}
 
 -- ---- the scripts
 
--- A `write`, a `fill`, a `snap create` and a `snap rm` take the lock of their image.
+-- A `write`, a `fill`, a `discard`, a `snap create`, a `snap rm`, a `resize`, a `snap rollback` and an
+-- `rm` take the lock of their image.
 abbrev pub takes_the_lock : Command → Bool
-takes_the_lock c = is_write c || is_snap c
+takes_the_lock c = is_write c || is_discard c || is_snap c || is_resize c || is_rollback c || is_remove c
 
 -- A `quiesce` holds the changes of its image back.
 abbrev pub holds_back : Command → Bool
