@@ -59,7 +59,7 @@ use Rattle.rbd_close.specs.Close.{close_plan, done, joining as closing_alone, on
 use Rattle.rbd_discard.specs.Discard.{discard_plan, zero, zero_pieces as zero_in_turn}
 use Rattle.rbd_remove.specs.Remove.{holding_it, joining_its_line, looked_at_it, on_gone as on_removed, on_watchers, remove as remove_by, remove_each, remove_owned, remove_plan, unless_watched}
 use Rattle.rbd_resize.specs.Resize.{resize_plan, set_size}
-use Rattle.rbd_resize.specs.Rollback.{restore_all, restore_pieces, roll_back, roll_back_listed, roll_back_to, rollback_plan}
+use Rattle.rbd_resize.specs.Rollback.{restore_all, restore_pieces, roll_back_listed, roll_back_to, rollback_plan}
 use Rattle.rbd_requests.specs.Served.{IsPlanFor, Closes, Creates, Discards, Lists, Reads, Removes, Resizes, Rollbacks, Snaps, Writes}
 use Rattle.rbd_zero.specs.Full.{cut_bytes, full_by, full_piece, writing_full}
 use Rattle.rbd_zero.specs.Size.{cutting, resize, resize_by, sizing, zero_pieces}

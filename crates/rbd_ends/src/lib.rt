@@ -11,9 +11,9 @@
 //! client c2 a
 //! c1 create d 8192 object 4096
 //! @settle 8
-//! & c1 write d 0 1111          c1 alone has commands that take locks:
-//! & c1 snap create d@s         `write`, `fill`, `snap create`, `snap rm`
-//! & c2 read d 0 2              others may read, and list,
+//! & c1 write d 0 1111          c1 alone has commands that take locks: `write`, `fill`, `discard`,
+//! & c1 snap create d@s         `snap create`, `snap rm`, `snap rollback`, `resize`, `rm`
+//! & c2 read d 0 2              others may read, and list, and rename,
 //! & c2 close d                 and close
 //! @expire c1 a 1               a watch may end, and a notice may be lost
 //! ```
