@@ -1,10 +1,11 @@
 -- Maps that are exact but for what is owed stay so, by what is permitted.
-use Rattle.std.proofs.Common.{◌≡◌, ◌≢◌, ◌⊎◌, inl, inr, ℕ, ◌+◌, ◌*◌, ◌==◌, ◌&&◌, cond, Bool, true, false, List, [], length, Option, Some, None, option_map, is_some, refl, sym, ap, ◌∙◌, subst, arith, true≢false}
+use Rattle.std.proofs.Common.{◌≡◌, ◌≢◌, ◌⊎◌, inl, inr, ℕ, ◌+◌, ◌*◌, ◌≤◌, ◌==◌, ◌&&◌, cond, Bool, true, false, List, [], length, Option, Some, None, option_map, is_some, refl, sym, ap, ◌∙◌, subst, arith, true≢false}
 use Rattle.std.specs.Prelude.{IsFalse}
-use Rattle.std.proofs.lemmas.Bool.{and_from, eq-eqb, eqb-true}
+use Rattle.std.proofs.lemmas.Bool.{and_from, eq-eqb, eqb-true, ne_eqb}
 use Rattle.std.proofs.lemmas.Option.{none-some, same_Some}
 use Rattle.rbd_kinds.specs.declared.answer.Answer.{Answer}
 use Rattle.rbd_kinds.specs.declared.answer.Answer.TheVariants as answer
+use Rattle.rbd_kinds.specs.declared.data_op.DataOp.{DataOp}
 use Rattle.rbd_kinds.specs.declared.data_op.DataOp.TheVariants as object
 use Rattle.rbd_kinds.specs.declared.header.HeaderView.{HeaderView}
 use Rattle.rbd_kinds.specs.declared.header.SnapContext.{SnapContext}
@@ -13,21 +14,20 @@ use Rattle.rbd_kinds.specs.declared.header_op.HeaderOp.{HeaderOp}
 use Rattle.rbd_kinds.specs.declared.header_op.HeaderOp.TheVariants as header
 use Rattle.rbd_kinds.specs.declared.id.Instance.{Instance}
 use Rattle.rbd_kinds.specs.declared.id.SiteId.{SiteId}
-use Rattle.rbd_kinds.specs.declared.layout.Part.{Part}
 use Rattle.rbd_kinds.specs.declared.map_op.MapOp.{MapOp}
 use Rattle.rbd_kinds.specs.declared.map_op.MapOp.TheVariants as states
 use Rattle.rbd_kinds.specs.declared.operation.Op.{Op}
 use Rattle.rbd_kinds.specs.declared.operation.Op.TheVariants as op
 use Rattle.rbd_kinds.specs.Header.{snap_named}
-use Rattle.rbd_header.specs.Header.{context_of, is_full, snap_in, with_snap, without_snap}
-use Rattle.rbd_machine.specs.Knowledge.{Knowledge, maps_of}
-use Rattle.rbd_machine.specs.Permits.{Permits, PermitsOnHeader, PermitsOnMap, OwnsAlone, OwnsBy, MayPut, MayTake, MayWrite}
+use Rattle.rbd_header.specs.Header.{context_of, is_full, snap_in, with_size, with_snap, without_snap}
+use Rattle.rbd_machine.specs.Knowledge.{Knowledge, is_gone, maps_of, objects_of}
+use Rattle.rbd_machine.specs.Permits.{HasState, Permits, PermitsOnHeader, PermitsOnMap, PermitsOnObject, OwnsAlone, OwnsBy, MayPut, MaySet, MayTake}
 use Rattle.rbd_map.specs.States.{states_of}
 use Rattle.rbd_object.specs.Mapped.{Mapped, looked, mapped_change, mapped_trim}
 use Rattle.rbd_object.specs.Kept.{is_listed}
 use Rattle.rbd_object.specs.Versioned.{view}
 use Rattle.rbd_flat.specs.Flat.{Flat, image_at}
-use Rattle.rbd_site.specs.DataStep.{data_after, parts_read, where_object_done}
+use Rattle.rbd_site.specs.DataStep.{data_after, data_change, finds, parts_read, where_object_done}
 use Rattle.rbd_site.specs.Found.{done_where}
 use Rattle.rbd_site.specs.HeaderStep.{header_after, is_owner}
 use Rattle.rbd_site.specs.InForm.{AreInForm}
@@ -35,6 +35,7 @@ use Rattle.rbd_site.specs.Log.{expired, live_in, trimmed}
 use Rattle.rbd_site.specs.Records.{Records, no_records, object_at, or_blank, put, with_object}
 use Rattle.rbd_site.specs.Step.{is_fenced, after, after_served}
 use Rattle.rbd_stands.specs.Condition.{IsContextOf}
+use Rattle.rbd_stands.specs.Covering.{exists_at}
 use Rattle.rbd_stands.specs.Shown.{links_of, snapshots_of}
 use Rattle.rbd_stands.specs.Site.{StandsFor}
 use Rattle.rbd_stands.proofs.Contexts.{reversed_context}
@@ -42,42 +43,45 @@ use Rattle.rbd_stands.proofs.ObjectSteps.{put_both}
 use Rattle.rbd_stands.proofs.SiteSteps.{Here, here}
 use Rattle.rbd_stands.proofs.StoreSteps.{listed_by_id, view_trimmed}
 use Rattle.rbd_rely.specs.Truth.{AreMapped, IsPutAs, IsTrueAt, is_own_alone, state_in}
-use Rattle.rbd_rely.proofs.Headers.{not_waiting, own_known, owned_there}
-use Rattle.rbd_rely.proofs.MapsBehind.{each_image, maps_behind, same_again}
+use Rattle.rbd_rely.proofs.Headers.{own_known, owned_there}
+use Rattle.rbd_rely.proofs.MapsBehind.{at_each, maps_behind, maps_here, maps_there, same_again}
 use Rattle.rbd_rely.proofs.MapsLearned.{within_map}
-use Rattle.rbd_exact.specs.Exact.{AreExactBut, GoesWith, IsExactBut, writes_bytes}
-use Rattle.rbd_exact.specs.Owed.{sets_one}
-use Rattle.rbd_exact.proofs.Exactly.{exact_added, exact_again, exact_either, exact_head, exact_made, exact_more, exact_next, exact_owned, exact_removed, exact_set, exact_shown, exact_told, exact_unlisted, exact_written, lengthened_blank}
+use Rattle.rbd_rely.proofs.States.{lengthened_state}
+use Rattle.rbd_exact.specs.Exact.{AreExactBut, GoesWith, IsExactBut, makes_object, sets_state}
+use Rattle.rbd_exact.specs.Owed.{makes}
+use Rattle.rbd_exact.proofs.Exactly.{AreMore, exact_added, exact_again, exact_changed, exact_either, exact_head, exact_made, exact_more, exact_next, exact_owned, exact_removed, exact_set, exact_shown, exact_sized, exact_still, exact_told, exact_unlisted, exact_written}
 
 -- ---- an empty site
 
-pub none_exact : (owed : (image number : ℕ) → Bool) → IsExactBut owed no_records
-none_exact owed = record { images = λ image h is. cc; blank = λ image none n. refl }
+pub none_exact : (owed : (image number state : ℕ) → Type 0) → IsExactBut owed no_records
+none_exact owed = record { images = λ image h is. cc }
 
 -- ---- an object is changed
 
+pub same_owed : (owed : ℕ → Type 0) → AreMore owed owed
+same_owed owed = record { made = λ is. is; lowered = λ is. is }
+
 -- What is owed of the other images stays so.
-one_object : (r : Records) (owed later : (image number : ℕ) → Bool) (image number : ℕ) (object : Option Mapped)
-    → ((i n : ℕ) → i ≢ image → owed i n ≡ true → later i n ≡ true)
+one_object : (r : Records) (owed later : (image number state : ℕ) → Type 0) (image number : ℕ) (object : Option Mapped)
+    → ((i n : ℕ) → i ≢ image → AreMore (owed i n) (later i n))
     → ((h : HeaderView) → r.headers image ≡ Some h → AreExactBut (later image) h (r.maps image) (λ n. or_blank (put (r.objects image) number object n)))
     → IsExactBut owed r → IsExactBut later (with_object image number object r)
 one_object r owed later image number object more here exact = record {
   images = put_both (λ i (objects : ℕ → Option Mapped). (h : HeaderView) → r.headers i ≡ Some h → AreExactBut (later i) h (r.maps i) (λ n. or_blank (objects n)))
       r.objects image (put (r.objects image) number object) here
       (λ i other h is. exact_more (owed i) (later i) h (r.maps i) (object_at r i) (λ n. more i n other) (exact.images i h is));
-  blank = exact.blank;
 }
 
 -- ---- the store
 
-pub exact_trimmed : (r : Records) (image number : ℕ) (owed : (image number : ℕ) → Bool) → IsExactBut owed r → IsExactBut owed (trimmed image number r)
+pub exact_trimmed : (r : Records) (image number : ℕ) (owed : (image number state : ℕ) → Type 0) → IsExactBut owed r → IsExactBut owed (trimmed image number r)
 exact_trimmed r image number owed exact =
-    one_object r owed owed image number (option_map (mapped_trim (live_in (r.headers image))) (r.objects image number)) (λ i n other is. is)
+    one_object r owed owed image number (option_map (mapped_trim (live_in (r.headers image))) (r.objects image number)) (λ i n other. same_owed (owed i n))
     (λ h is. exact_shown (owed image) (owed image) h (r.maps image) (r.objects image) number (option_map (mapped_trim (live_in (r.headers image))) (r.objects image number))
-    (same_head (r.objects image number)) (λ t s at. same_view h is t s at (r.objects image number)) (λ n owes. owes) (exact.images image h is))
+    (same_head (r.objects image number)) (λ t s at. same_view h is t s at (r.objects image number)) (λ n. same_owed (owed image n)) (exact.images image h is))
     exact
   where
-    same_head : (o : Option Mapped) → (or_blank (option_map (mapped_trim (live_in (r.headers image))) o)).head ≡ (or_blank o).head
+    same_head : (o : Option Mapped) → is_some (or_blank (option_map (mapped_trim (live_in (r.headers image))) o)).head ≡ is_some (or_blank o).head
     same_head None = refl
     same_head (Some o) = refl
 
@@ -86,29 +90,54 @@ exact_trimmed r image number owed exact =
     same_view h is t s at None = refl
     same_view h is t s at (Some o) = view_trimmed (live_in (r.headers image)) t o (ap (λ header. is_listed (live_in header) t) is ∙ listed_by_id h.snaps t s at)
 
-pub exact_expired : (r : Records) (image : ℕ) (i : Instance) (owed : (image number : ℕ) → Bool) → IsExactBut owed r → IsExactBut owed (expired image i r)
-exact_expired r image i owed exact = record { images = exact.images; blank = exact.blank }
+pub exact_expired : (r : Records) (image : ℕ) (i : Instance) (owed : (image number state : ℕ) → Type 0) → IsExactBut owed r → IsExactBut owed (expired image i r)
+exact_expired r image i owed exact = record { images = exact.images }
+
+-- ---- what an operation doesn't do
+
+and_right : (a b : Bool) → b ≡ false → (a && b) ≡ false
+and_right true b is = is
+and_right false b is = refl
+
+-- it is another number
+differs : (n other : ℕ) → other ≢ n → (n == other) ≡ false
+differs n other apart = ne_eqb n other (λ same. apart (sym same))
+
+-- an object is made of one image, and is one object
+unmade_there : (image number i n : ℕ) (o : DataOp) → i ≢ image → makes_object i n (op.Data image number o) ≡ false
+unmade_there image number i n o apart = and_right (makes o) ((image == i) && (number == n)) (ap (λ b. b && (number == n)) (differs image i apart))
+
+unmade_beside : (image number n : ℕ) (o : DataOp) → n ≢ number → makes_object image n (op.Data image number o) ≡ false
+unmade_beside image number n o apart = and_right (makes o) ((image == image) && (number == n)) (and_right (image == image) (number == n) (differs number n apart))
+
+-- and so with a state
+unset_there : (image i n : ℕ) (o : MapOp) → i ≢ image → sets_state i n 0 (op.Map image o) ≡ false
+unset_there image i n (states.Set None object state) apart = ap (λ b. b && ((object == n) && (state == 0))) (differs image i apart)
+unset_there image i n (states.Set (Some snap) object state) apart = refl
+unset_there image i n o apart = refl
+
+unset_beside : (image object state n : ℕ) → n ≢ object → sets_state image n 0 (op.Map image (states.Set None object state)) ≡ false
+unset_beside image object state n apart = and_right (image == image) ((object == n) && (state == 0)) (ap (λ b. b && (state == 0)) (differs object n apart))
+
+itself : (n : ℕ) → (n == n) ≡ true
+itself n = eq-eqb n n refl
 
 -- ---- what is permitted
 
-both_true : (a b : Bool) → (a && b) ≡ true → (a ≡ true) × (b ≡ true)
-both_true true b is = (refl, is)
-both_true false b is = absurd (true≢false (sym is))
-
-module _ (site : SiteId) (r : Records) (f : Flat) (k : Knowledge) (you : Instance) (most : ℕ) (owed later : (image number : ℕ) → Bool)
+module _ (site : SiteId) (r : Records) (f : Flat) (k : Knowledge) (you : Instance) (most : ℕ) (owed later : (image number state : ℕ) → Type 0)
     (stands : StandsFor [] r f) (form : AreInForm r most) (mapped : AreMapped r) (t : IsTrueAt site r you k) (free : IsFalse (is_fenced r you)) (exact : IsExactBut owed r) where
-  -- where nothing is written, what is owed stays so
-  still_owed : (o : Op) → GoesWith o owed later → ((image number : ℕ) → writes_bytes image number o ≡ false) → (image number : ℕ) → owed image number ≡ true → later image number ≡ true
-  still_owed o goes unwritten image number is = by (goes.kept image number is)
+  -- what is owed of an object stays so, where it isn't made and its state isn't set to 0
+  still_owed : (o : Op) → GoesWith r.headers o owed later → (image number : ℕ) → makes_object image number o ≡ false → sets_state image number 0 o ≡ false
+      → AreMore (owed image number) (later image number)
+  still_owed o goes image number unmade unset = record { made = λ was. by (makes_object image number o) unmade (goes.made image number was); lowered = λ was. by (sets_state image number 0 o) unset (goes.lowered image number was) }
     where
-      by : (later image number ≡ true) ⊎ (writes_bytes image number o ≡ true) → later image number ≡ true
-      by (inl stays) = stays
-      by (inr writes) = absurd (true≢false (sym writes ∙ unwritten image number))
+      by : {A : Type 0} (b : Bool) → b ≡ false → A ⊎ (b ≡ true) → A
+      by b other (inl stays) = stays
+      by b other (inr does) = absurd (true≢false (sym does ∙ other))
 
-  still : (o : Op) → GoesWith o owed later → ((image number : ℕ) → writes_bytes image number o ≡ false) → IsExactBut later r
-  still o goes unwritten = record {
-    images = λ i h is. exact_more (owed i) (later i) h (r.maps i) (object_at r i) (still_owed o goes unwritten i) (exact.images i h is);
-    blank = exact.blank;
+  still : (o : Op) → GoesWith r.headers o owed later → ((image number : ℕ) → makes_object image number o ≡ false) → ((image number : ℕ) → sets_state image number 0 o ≡ false) → IsExactBut later r
+  still o goes unmade unset = record {
+    images = λ i h is. exact_more (owed i) (later i) h (r.maps i) (object_at r i) (λ n. still_owed o goes i n (unmade i n) (unset i n)) (exact.images i h is);
   }
 
   module _ (image : ℕ) where
@@ -129,7 +158,7 @@ module _ (site : SiteId) (r : Records) (f : Flat) (k : Knowledge) (you : Instanc
         subst (λ n. IsPutAs (r.maps image (Some (n + 1))) (r.maps image None)) (sym (ap (λ (v : HeaderView). v.snap_seq) (own_header _ owns h is)))
         ((t.mapped free image (ap is_some (own_known k site image _ owns))).put (ap is_own_alone owns.is ∙ owns.meets.0) (owns.header.snap_seq + 1) owns.meets.1.put)
 
-    next_taken : (name : List ℕ) → OwnsAlone k site image (MayTake (maps_of k.maps site image) name) → ((n : ℕ) → owed image n ≡ false) → IsExactBut later r
+    next_taken : (name : List ℕ) → OwnsAlone k site image (MayTake (maps_of k.maps site image) name) → ((n state : ℕ) → owed image n state → ⊥) → IsExactBut later r
         → (h : HeaderView) → r.headers image ≡ Some h → AreExactBut (later image) (with_snap name h) (r.maps image) (object_at r image)
     next_taken name owns unowed s h is =
         exact_added (later image) (r.maps image) (object_at r image) name h
@@ -147,23 +176,26 @@ module _ (site : SiteId) (r : Records) (f : Flat) (k : Knowledge) (you : Instanc
           exact_told (later image) (r.maps image) (object_at r image) (cond left (record h { owner = None }) h) g at
           (exact_either (later image) (r.maps image) (object_at r image) left (record h { owner = None }) h (exact_owned (later image) (r.maps image) (object_at r image) h None all) all)
 
-    header_exact : (o : HeaderOp) → PermitsOnHeader k site image o → GoesWith (op.Header image o) owed later → IsExactBut later r
+    header_exact : (o : HeaderOp) → PermitsOnHeader k site image o → GoesWith r.headers (op.Header image o) owed later → IsExactBut later r
         → (there : Option HeaderView) → r.headers image ≡ there → (g : HeaderView) → header_after you there o ≡ Some g → AreExactBut (later image) g (r.maps image) (object_at r image)
     header_exact (header.Create made) permits goes s None is g at =
         exact_told (later image) (r.maps image) (object_at r image) made g at
-        (exact_made (later image) (r.maps image) (object_at r image) made permits.new.snaps (t.drawn image permits.drawn).blank (exact.blank image is))
+        (exact_made (later image) (r.maps image) (object_at r image) made permits.new.snaps (t.drawn image permits.drawn).blank (t.drawn image permits.drawn).unraised)
     header_exact o permits goes s None is g at = absurd (none-some g at)
     header_exact (header.SnapAdd name) permits goes s (Some h) is g at =
         let all = s.images image h is in
         exact_told (later image) (r.maps image) (object_at r image) (cond (is_some (snap_named h.snaps name)) h (cond (is_full h) h (with_snap name h))) g at
         (exact_either (later image) (r.maps image) (object_at r image) (is_some (snap_named h.snaps name)) h (cond (is_full h) h (with_snap name h)) all
         (exact_either (later image) (r.maps image) (object_at r image) (is_full h) h (with_snap name h) all
-        (next_taken name permits (λ n. goes.free image n (eq-eqb image image refl)) s h is)))
+        (next_taken name permits (λ n state. goes.free image n state (itself image)) s h is)))
     header_exact (header.SnapRemove snap) permits goes s (Some h) is g at =
         let all = s.images image h is in
         exact_told (later image) (r.maps image) (object_at r image) (cond (is_some (snap_in h.snaps snap)) (without_snap snap h) h) g at
         (exact_either (later image) (r.maps image) (object_at r image) (is_some (snap_in h.snaps snap)) (without_snap snap h) h
         (exact_removed (later image) (r.maps image) (object_at r image) snap h all) all)
+    header_exact (header.SetSize to) permits goes s (Some h) is g at =
+        exact_told (later image) (r.maps image) (object_at r image) (with_size to h) g at (exact_sized (later image) (r.maps image) (object_at r image) to h (s.images image h is))
+    header_exact header.Remove permits goes s (Some h) is g at = absurd (none-some g at)
     header_exact header.LockTake permits goes s (Some h) is g at =
         exact_told (later image) (r.maps image) (object_at r image) (record h { owner = cond (is_some h.owner) h.owner (Some you) }) g at
         (exact_owned (later image) (r.maps image) (object_at r image) h (cond (is_some h.owner) h.owner (Some you)) (s.images image h is))
@@ -177,58 +209,110 @@ module _ (site : SiteId) (r : Records) (f : Flat) (k : Knowledge) (you : Instanc
     header_exact (header.Notify kind) permits goes s (Some h) is g at = unchanged s h is g at
     header_exact _ permits goes s (Some h) is g at = elim permits [ ]
 
-    -- a header that is there stays
-    header_stays : (o : HeaderOp) → PermitsOnHeader k site image o → (there : Option HeaderView) → header_after you there o ≡ None → there ≡ None
-    header_stays o permits None none = refl
-    header_stays header.Remove permits (Some h) none = elim permits [ ]
-    header_stays o permits (Some h) none = absurd (none-some _ (sym none))
-
     -- ---- an object is changed
+
+    -- whoever removed the header of an image knows that it has none
+    unheaded : {A : Type 0} → is_gone k.gone site image ≡ true → (h : HeaderView) → r.headers image ≡ Some h → A
+    unheaded gone h is = absurd (none-some h (sym (t.gone image gone).header ∙ is))
 
     module _ (number : ℕ) where
       unread : (a : Answer) (o : Option Mapped) → or_blank (where_object_done a (or_blank o) o) ≡ or_blank o
       unread answer.Done o = refl
       unread a o = refl
 
-      -- where a write has to find the object
-      found_exact : (context : SnapContext) (bytes : List ℕ) → ((n : ℕ) → owed image n ≡ true → later image n ≡ true) → (h : HeaderView) → r.headers image ≡ Some h
-          → AreExactBut (later image) h (r.maps image) (λ n. or_blank (put (r.objects image) number (Some (mapped_change context (Some bytes) (object_at r image number))) n))
-          → (found : Bool)
-          → AreExactBut (later image) h (r.maps image) (λ n. or_blank (put (r.objects image) number
-          (where_object_done (done_where found) (mapped_change context (Some bytes) (object_at r image number)) (r.objects image number)) n))
-      found_exact context bytes more h is written true = written
-      found_exact context bytes more h is written false =
-          exact_shown (owed image) (later image) h (r.maps image) (r.objects image) number (r.objects image number) refl (λ t s at. refl) more (exact.images image h is)
+      -- of the other images it stays as it is
+      elsewhere : (o : DataOp) → GoesWith r.headers (op.Data image number o) owed later → (i n : ℕ) → i ≢ image → AreMore (owed i n) (later i n)
+      elsewhere o goes i n apart = still_owed (op.Data image number o) goes i n (unmade_there image number i n o apart) refl
 
-      written_exact : (context : SnapContext) (parts : List Part) (bytes written : List ℕ) → OwnsBy k site image (MayWrite (maps_of k.maps site image) k.turn number context parts bytes)
-          → ((n : ℕ) → n ≢ number → owed image n ≡ true → later image n ≡ true)
-          → (h : HeaderView) → r.headers image ≡ Some h
-          → AreExactBut (later image) h (r.maps image) (λ n. or_blank (put (r.objects image) number (Some (mapped_change context (Some written) (object_at r image number))) n))
-      written_exact context parts bytes written owns more h is =
-          let stands_here = (there h is).stands in
-          let under : context_of h ≡ context = ap context_of (own_header _ owns h is) ∙ sym owns.meets.under in
-          exact_written (owed image) (later image) h (r.maps image) (r.objects image) number context written
-          (stands_here.tidy number) (λ n s at. (stands_here.numbered.snap n s at).1) (subst (IsContextOf h) under (reversed_context h))
-          ((t.mapped free image (ap is_some (own_known k site image _ owns))).raised number owns.meets.raised)
-          more (exact.images image h is)
+      -- and of the other objects
+      beside : (o : DataOp) → GoesWith r.headers (op.Data image number o) owed later → (n : ℕ) → n ≢ number → AreMore (owed image n) (later image n)
+      beside o goes n apart = still_owed (op.Data image number o) goes image n (unmade_beside image number n o apart) refl
 
-      write_exact : (context : SnapContext) (must : Bool) (parts : List Part) (bytes : List ℕ) → OwnsBy k site image (MayWrite (maps_of k.maps site image) k.turn number context parts bytes)
-          → GoesWith (op.Data image number (object.Write context must parts bytes)) owed later
-          → IsExactBut later (with_object image number (data_after (r.objects image number) (object.Write context must parts bytes)) r)
-      write_exact context true parts bytes owns goes =
-          let more = still_owed (op.Data image number (object.Write context true parts bytes)) goes (λ i n. refl) in
-          one_object r owed later image number (data_after (r.objects image number) (object.Write context true parts bytes)) (λ i n other. more i n)
-          (λ h is. found_exact context _ (more image) h is (written_exact context parts bytes _ owns (λ n other. more image n) h is) (is_some (object_at r image number).head))
-          exact
-      write_exact context false parts bytes owns goes =
-          one_object r owed later image number (data_after (r.objects image number) (object.Write context false parts bytes))
-          (λ i n other owes. stays i n (λ a b. other (sym (eqb-true image i a))) (goes.kept i n owes))
-          (written_exact context parts bytes _ owns (λ n other owes. stays image n (λ a b. other (sym (eqb-true number n b))) (goes.kept image n owes)))
-          exact
+      -- where it makes none, of all
+      unmade : (o : DataOp) → makes o ≡ false → GoesWith r.headers (op.Data image number o) owed later → (n : ℕ) → AreMore (owed image n) (later image n)
+      unmade o none goes n = still_owed (op.Data image number o) goes image n (ap (λ b. b && ((image == image) && (number == n))) none) refl
+
+      goes_still : (o : DataOp) → GoesWith r.headers (op.Data image number o) owed later → owed image number 2 → later image number 2
+      goes_still o goes was = by (goes.lowered image number was)
         where
-          stays : (i n : ℕ) → ((image == i) ≡ true → (number == n) ≡ true → ⊥) → (later i n ≡ true) ⊎ (((image == i) && (number == n)) ≡ true) → later i n ≡ true
-          stays i n other (inl is) = is
-          stays i n other (inr writes) = let both = both_true (image == i) (number == n) writes in absurd (other both.0 both.1)
+          by : later image number 2 ⊎ (false ≡ true) → later image number 2
+          by (inl stays) = stays
+          by (inr does) = absurd (true≢false (sym does))
+
+      -- what an owner changes under its own header
+      module _ (condition : (alone : Bool) → HeaderView → Type 0) (owns : OwnsBy k site image condition) (context : SnapContext) (under : context ≡ context_of owns.header)
+          (h : HeaderView) (is : r.headers image ≡ Some h) where
+        context_is : IsContextOf h context
+        context_is = subst (IsContextOf h) (ap context_of (own_header condition owns h is) ∙ sym under) (reversed_context h)
+
+        raised_is : HasState (maps_of k.maps site image) number → state_in (r.maps image None) number ≢ 0
+        raised_is has = (t.mapped free image (ap is_some (own_known k site image condition owns))).raised number has
+
+        numbered_is : (n : ℕ) (s : SnapView) → snap_in h.snaps n ≡ Some s → n ≤ h.snap_seq
+        numbered_is n s at = ((there h is).stands.numbered.snap n s at).1
+
+        abbrev behind : Option (List ℕ) → Type 0
+        behind new = AreExactBut (later image) h (r.maps image) (λ n. or_blank (put (r.objects image) number (Some (mapped_change context new (object_at r image number))) n))
+
+        made_exact : (o : DataOp) (bytes : List ℕ) → GoesWith r.headers (op.Data image number o) owed later → HasState (maps_of k.maps site image) number → behind (Some bytes)
+        made_exact o bytes goes has =
+            exact_written (owed image) (later image) h (r.maps image) (r.objects image) number context bytes
+            ((there h is).stands.tidy number) numbered_is context_is (raised_is has) (goes_still o goes) (beside o goes) (exact.images image h is)
+
+        still_exact : (o : DataOp) (new : Option (List ℕ)) → makes o ≡ false → GoesWith r.headers (op.Data image number o) owed later → is_some new ≡ is_some (object_at r image number).head → behind new
+        still_exact o new none goes same =
+            exact_still (owed image) (later image) h (r.maps image) (r.objects image) number context new
+            ((there h is).stands.tidy number) numbered_is context_is (exact.images image h is) same (unmade o none goes)
+
+        gone_exact : GoesWith r.headers (op.Data image number (object.Remove context)) owed later → behind None
+        gone_exact goes =
+            exact_changed (owed image) (later image) h (r.maps image) (r.objects image) number context None
+            ((there h is).stands.tidy number) numbered_is context_is (exact.images image h is)
+            (inr (inr (goes.gone image number h (and_from (image == image) (number == number) (itself image) (itself number)) is))) (beside (object.Remove context) goes)
+
+      -- where a change has to find the object
+      found_exact : (o : DataOp) → makes o ≡ false → GoesWith r.headers (op.Data image number o) owed later → (changed : Mapped) (h : HeaderView) → r.headers image ≡ Some h
+          → AreExactBut (later image) h (r.maps image) (λ n. or_blank (put (r.objects image) number (Some changed) n)) → (found : Bool)
+          → AreExactBut (later image) h (r.maps image) (λ n. or_blank (put (r.objects image) number (where_object_done (done_where found) changed (r.objects image number)) n))
+      found_exact o none goes changed h is done true = done
+      found_exact o none goes changed h is done false =
+          exact_shown (owed image) (later image) h (r.maps image) (r.objects image) number (r.objects image number) refl (λ t s at. refl) (unmade o none goes) (exact.images image h is)
+
+      same_there : (change : List ℕ → List ℕ) (head : Option (List ℕ)) → is_some (option_map change head) ≡ is_some head
+      same_there change None = refl
+      same_there change (Some bytes) = refl
+
+      object_exact : (o : DataOp) → PermitsOnObject k site image number o → GoesWith r.headers (op.Data image number o) owed later → (h : HeaderView) → r.headers image ≡ Some h
+          → AreExactBut (later image) h (r.maps image) (λ n. or_blank (put (r.objects image) number (data_after (r.objects image number) o) n))
+      object_exact (object.Read snap parts) permits goes h is =
+          let same = unread (parts_read parts (view (looked (object_at r image number)) snap)) (r.objects image number) in
+          exact_shown (owed image) (later image) h (r.maps image) (r.objects image) number (data_after (r.objects image number) (object.Read snap parts))
+          (ap (λ (o : Mapped). is_some o.head) same) (λ t s at. ap (λ o. view (looked o) (Some t)) same) (unmade (object.Read snap parts) refl goes) (exact.images image h is)
+      object_exact (object.Write context false parts bytes) permits goes h is =
+          made_exact _ permits context permits.meets.under h is (object.Write context false parts bytes) _ goes permits.meets.raised
+      object_exact (object.Write context true parts bytes) permits goes h is =
+          by (object_at r image number).head refl
+        where
+          o : DataOp
+          o = object.Write context true parts bytes
+
+          changed : Mapped
+          changed = data_change (object_at r image number) o
+
+          by : (head : Option (List ℕ)) → (object_at r image number).head ≡ head
+              → AreExactBut (later image) h (r.maps image) (λ n. or_blank (put (r.objects image) number (where_object_done (done_where (is_some head)) changed (r.objects image number)) n))
+          by (Some there) at = still_exact _ permits context permits.meets.under h is o _ refl goes (sym (ap is_some at))
+          by None at =
+              exact_shown (owed image) (later image) h (r.maps image) (r.objects image) number (r.objects image number) refl (λ t s at. refl) (unmade o refl goes) (exact.images image h is)
+      object_exact (object.WriteFull context bytes) permits goes h is = made_exact _ permits context permits.meets.under h is (object.WriteFull context bytes) bytes goes permits.meets.raised
+      object_exact (object.Zero context must parts) permits goes h is =
+          found_exact (object.Zero context must parts) refl goes (data_change (object_at r image number) (object.Zero context must parts)) h is
+          (still_exact _ permits context permits.meets.under h is (object.Zero context must parts) _ refl goes (same_there _ (object_at r image number).head))
+          (finds must (object_at r image number))
+      object_exact (object.Empty context) permits goes h is = made_exact _ permits context permits.meets.under h is (object.Empty context) [] goes permits.meets.raised
+      object_exact (object.Remove context) (inl left) goes h is = unheaded left.gone h is
+      object_exact (object.Remove context) (inr owns) goes h is = gone_exact _ owns context owns.meets.under h is goes
+      object_exact _ permits goes h is = elim permits [ ]
 
     -- ---- a map is changed
 
@@ -241,66 +325,76 @@ module _ (site : SiteId) (r : Records) (f : Flat) (k : Knowledge) (you : Instanc
         let next = owns.meets.1.next in
         omega (arith, numbered, next, seq)
 
-    map_exact : (o : MapOp) → PermitsOnMap k site image o → sets_one (op.Map image o) ≡ true → GoesWith (op.Map image o) owed later → IsExactBut later r
-        → (h : HeaderView) → r.headers image ≡ Some h → AreExactBut (later image) h (maps_behind (r.maps image) o) (object_at r image)
-    map_exact (states.Resize count) permits one goes s h is = absurd (none-some h (sym (t.drawn image permits.drawn).header ∙ is))
-    map_exact (states.Get view) permits one goes s h is =
-        exact_again (later image) (r.maps image) (object_at r image) h (maps_behind (r.maps image) (states.Get view)) (same_again (r.maps image) view) (s.images image h is)
-    map_exact (states.Put (Some snap) bits) permits one goes s h is =
-        exact_unlisted (later image) (r.maps image) (object_at r image) h snap (Some (states_of bits (4 * length bits))) (put_unlisted snap bits permits h is) (s.images image h is)
-    map_exact (states.Set None object state) permits one goes s h is =
-        exact_set (later image) h (r.maps image) (object_at r image) object state (within_map site r you k most form mapped t free image object state permits (r.maps image None) refl)
-        (eqb-true state 1 one) (goes.new image object (and_from (image == image) (object == object) (eq-eqb image image refl) (eq-eqb object object refl))) (s.images image h is)
-    map_exact (states.Remove (Some snap)) permits one goes s h is =
-        exact_unlisted (later image) (r.maps image) (object_at r image) h snap None
-        (λ v at. none-some v (sym (ap (λ (w : HeaderView). snap_in w.snaps snap) (own_header _ permits h is) ∙ permits.meets.1) ∙ at)) (s.images image h is)
-    map_exact _ permits one goes s h is = elim permits [ ]
+    -- what is set to 0 isn't there
+    absent_is : (number state : ℕ) → OwnsBy k site image (MaySet (objects_of k.objects site image) k.turn number state) → state ≡ 0 → exists_at (object_at r image) None number ≡ false
+    absent_is number state owns zeroed =
+        ap is_some ((t.objects free image owns.header (own_known k site image _ owns)).absent number (owns.meets.lowers zeroed))
 
-    -- without a header the head's map has no state
-    map_blank : (o : MapOp) → PermitsOnMap k site image o → r.headers image ≡ None → (n : ℕ) → state_in (maps_behind (r.maps image) o None) n ≡ 0
-    map_blank (states.Resize count) permits none n = lengthened_blank count (r.maps image None) (exact.blank image none) n
-    map_blank (states.Get view) permits none n = ap (λ map. state_in map n) (same_again (r.maps image) view None) ∙ exact.blank image none n
-    map_blank (states.Put (Some snap) bits) permits none n = absurd (not_waiting site r you k image _ t free permits none)
-    map_blank (states.Set None object state) permits none n = absurd (not_waiting site r you k image _ t free permits none)
-    map_blank (states.Remove (Some snap)) permits none n = absurd (not_waiting site r you k image _ t free permits none)
-    map_blank _ permits none n = elim permits [ ]
+    set_exact : (number state : ℕ) → OwnsBy k site image (MaySet (objects_of k.objects site image) k.turn number state) → GoesWith r.headers (op.Map image (states.Set None number state)) owed later
+        → (h : HeaderView) → r.headers image ≡ Some h → AreExactBut (later image) h (maps_behind (r.maps image) (states.Set None number state)) (object_at r image)
+    set_exact number state owns goes h is =
+        exact_set (owed image) (later image) h (r.maps image) (object_at r image) number state
+        (within_map site r you k most form mapped t free image number state owns (r.maps image None) refl) owns.meets.is_state (absent_is number state owns)
+        (λ some. goes.new image number state
+        (and_from (image == image) ((number == number) && (state == state)) (itself image) (and_from (number == number) (state == state) (itself number) (itself state))) some)
+        (λ n apart. still_owed (op.Map image (states.Set None number state)) goes image n refl (unset_beside image number state n apart))
+        (exact.images image h is)
+
+    -- where no state is set
+    unset_exact : (o : MapOp) → GoesWith r.headers (op.Map image o) owed later → ((n : ℕ) → sets_state image n 0 (op.Map image o) ≡ false) → (h : HeaderView) → r.headers image ≡ Some h
+        → AreExactBut (later image) h (r.maps image) (object_at r image)
+    unset_exact o goes unset h is =
+        exact_more (owed image) (later image) h (r.maps image) (object_at r image) (λ n. still_owed (op.Map image o) goes image n refl (unset n)) (exact.images image h is)
+
+    lengthened_alike : (count : ℕ) (v : Option ℕ) (n : ℕ) → state_in (maps_behind (r.maps image) (states.Resize count) v) n ≡ state_in (r.maps image v) n
+    lengthened_alike count None n = lengthened_state (r.maps image None) count n
+    lengthened_alike count (Some t) n = refl
+
+    map_exact : (o : MapOp) → PermitsOnMap k site image o → GoesWith r.headers (op.Map image o) owed later → (h : HeaderView) → r.headers image ≡ Some h
+        → AreExactBut (later image) h (maps_behind (r.maps image) o) (object_at r image)
+    map_exact (states.Resize count) permits goes h is =
+        exact_again (later image) (r.maps image) (object_at r image) h (maps_behind (r.maps image) (states.Resize count)) (lengthened_alike count) (unset_exact (states.Resize count) goes (λ n. refl) h is)
+    map_exact (states.Get view) permits goes h is =
+        exact_again (later image) (r.maps image) (object_at r image) h (maps_behind (r.maps image) (states.Get view)) (λ v n. ap (λ map. state_in map n) (same_again (r.maps image) view v))
+        (unset_exact (states.Get view) goes (λ n. refl) h is)
+    map_exact (states.Put (Some snap) bits) permits goes h is =
+        exact_unlisted (later image) (r.maps image) (object_at r image) h snap (Some (states_of bits (4 * length bits))) (put_unlisted snap bits permits h is)
+        (unset_exact (states.Put (Some snap) bits) goes (λ n. refl) h is)
+    map_exact (states.Set None object state) permits goes h is = set_exact object state permits goes h is
+    map_exact (states.Remove None) permits goes h is = unheaded permits.0.gone h is
+    map_exact (states.Remove (Some snap)) (inl left) goes h is = unheaded left.gone h is
+    map_exact (states.Remove (Some snap)) (inr owns) goes h is =
+        exact_unlisted (later image) (r.maps image) (object_at r image) h snap None
+        (λ v at. none-some v (sym (ap (λ (w : HeaderView). snap_in w.snaps snap) (own_header _ owns h is) ∙ owns.meets.1) ∙ at))
+        (unset_exact (states.Remove (Some snap)) goes (λ n. refl) h is)
+    map_exact _ permits goes h is = elim permits [ ]
 
   -- ---- any operation
 
-  served_exact : (o : Op) → Permits k site o → sets_one o ≡ true → GoesWith o owed later → IsExactBut later (after_served r you o)
-  served_exact (op.Directory o) permits one goes = let s = still (op.Directory o) goes (λ i n. refl) in record { images = s.images; blank = s.blank }
-  served_exact (op.BlockAdd i) permits one goes = let s = still (op.BlockAdd i) goes (λ i n. refl) in record { images = s.images; blank = s.blank }
-  served_exact (op.Header image o) permits one goes = record { images = λ i g at. by i g (i == image) refl at; blank = λ i none. s.blank i (gone i (i == image) refl none) }
+  served_exact : (o : Op) → Permits k site o → GoesWith r.headers o owed later → IsExactBut later (after_served r you o)
+  served_exact (op.Directory o) permits goes = let s = still (op.Directory o) goes (λ i n. refl) (λ i n. refl) in record { images = s.images }
+  served_exact (op.BlockAdd i) permits goes = let s = still (op.BlockAdd i) goes (λ i n. refl) (λ i n. refl) in record { images = s.images }
+  served_exact (op.Header image o) permits goes = record { images = λ i g at. by i g (i == image) refl at }
     where
       s : IsExactBut later r
-      s = still (op.Header image o) goes (λ i n. refl)
+      s = still (op.Header image o) goes (λ i n. refl) (λ i n. refl)
 
       by : (i : ℕ) (g : HeaderView) (b : Bool) → (i == image) ≡ b → cond b (header_after you (r.headers image) o) (r.headers i) ≡ Some g → AreExactBut (later i) g (r.maps i) (object_at r i)
       by i g true same at = subst (λ n. AreExactBut (later n) g (r.maps n) (object_at r n)) (sym (eqb-true i image same)) (header_exact image o permits goes s (r.headers image) refl g at)
       by i g false other at = s.images i g at
+  served_exact (op.Data image number o) permits goes =
+      one_object r owed later image number (data_after (r.objects image number) o) (elsewhere image number o goes) (object_exact image number o permits goes) exact
+  served_exact (op.Map image o) permits goes = record {
+    images = at_each (λ i. (h : HeaderView) → r.headers i ≡ Some h → AreExactBut (later i) h ((after_served r you (op.Map image o)).maps i) (object_at r i)) image
+        (λ h is. subst (λ maps. AreExactBut (later image) h maps (object_at r image)) (sym (maps_here r you image o)) (map_exact image o permits goes h is))
+        (λ i apart h is.
+        subst (λ maps. AreExactBut (later i) h maps (object_at r i)) (sym (maps_there r you image o i apart))
+        (exact_more (owed i) (later i) h (r.maps i) (object_at r i) (λ n. still_owed (op.Map image o) goes i n refl (unset_there image i n o apart)) (exact.images i h is)));
+  }
+  served_exact _ permits goes = elim permits [ ]
 
-      gone : (i : ℕ) (b : Bool) → (i == image) ≡ b → cond b (header_after you (r.headers image) o) (r.headers i) ≡ None → r.headers i ≡ None
-      gone i true same none = ap r.headers (eqb-true i image same) ∙ header_stays image o permits (r.headers image) none
-      gone i false other none = none
-  served_exact (op.Data image number (object.Read snap parts)) permits one goes =
-      let more = still_owed (op.Data image number (object.Read snap parts)) goes (λ i n. refl) in
-      let same = unread image number (parts_read parts (view (looked (object_at r image number)) snap)) (r.objects image number) in
-      one_object r owed later image number (data_after (r.objects image number) (object.Read snap parts)) (λ i n other. more i n)
-      (λ h is. exact_shown (owed image) (later image) h (r.maps image) (r.objects image) number (data_after (r.objects image number) (object.Read snap parts))
-      (ap (λ (o : Mapped). o.head) same) (λ t s at. ap (λ o. view (looked o) (Some t)) same) (more image) (exact.images image h is))
-      exact
-  served_exact (op.Data image number (object.Write context must parts bytes)) permits one goes = write_exact image number context must parts bytes permits goes
-  served_exact (op.Data image number _) permits one goes = elim permits [ ]
-  served_exact (op.Map image o) permits one goes =
-      let s = still (op.Map image o) goes (λ i n. refl) in
-      record {
-        images = each_image (λ i maps. (h : HeaderView) → r.headers i ≡ Some h → AreExactBut (later i) h maps (object_at r i)) r you image o (map_exact image o permits one goes s) s.images;
-        blank = each_image (λ i maps. r.headers i ≡ None → (n : ℕ) → state_in (maps None) n ≡ 0) r you image o (map_blank image o permits) exact.blank;
-      }
-  served_exact _ permits one goes = elim permits [ ]
-
-pub exact_stays : (site : SiteId) (r : Records) (f : Flat) (k : Knowledge) (you : Instance) (o : Op) (most : ℕ) (owed later : (image number : ℕ) → Bool)
+pub exact_stays : (site : SiteId) (r : Records) (f : Flat) (k : Knowledge) (you : Instance) (o : Op) (most : ℕ) (owed later : (image number state : ℕ) → Type 0)
     → StandsFor [] r f → AreInForm r most → AreMapped r → IsTrueAt site r you k → Permits k site o → IsFalse (is_fenced r you)
-    → sets_one o ≡ true → GoesWith o owed later → IsExactBut owed r → IsExactBut later (after r you o)
-exact_stays site r f k you o most owed later stands form mapped t permits free one goes exact =
-    subst (λ b. IsExactBut later (cond b r (after_served r you o))) (sym free) (served_exact site r f k you most owed later stands form mapped t free exact o permits one goes)
+    → GoesWith r.headers o owed later → IsExactBut owed r → IsExactBut later (after r you o)
+exact_stays site r f k you o most owed later stands form mapped t permits free goes exact =
+    subst (λ b. IsExactBut later (cond b r (after_served r you o))) (sym free) (served_exact site r f k you most owed later stands form mapped t free exact o permits goes)

@@ -1,3 +1,6 @@
+pub mod PaysSteps
+pub mod PaysChanges
+pub mod PaysRemoval
 pub mod Pays
 pub mod Walks
 pub mod Exactly

@@ -1,20 +1,17 @@
--- The plans of all commands pay the states that they raise, step by step.
-use Rattle.std.proofs.Common.{◌≡◌, ◌⊎◌, inl, inr, ℕ, ◌+◌, List, [], ◌∷◌, ◌++◌, replicate, Bool, true, false, cond, eqb, Option, Some, None, refl, sym, subst}
+-- The plans of all commands pay the states that they set, step by step.
+use Rattle.std.proofs.Common.{◌≡◌, ◌⊎◌, inl, inr, ℕ, ◌+◌, List, [], ◌∷◌, replicate, Bool, true, false, cond, eqb, Option, Some, None, refl, sym, subst}
 use Rattle.rbd_kinds.specs.declared.answer.Answer.{Answer}
 use Rattle.rbd_kinds.specs.declared.answer.Answer.TheVariants as answer
 use Rattle.rbd_commands.specs.declared.command.Command.{Command}
 use Rattle.rbd_commands.specs.declared.command.Command.TheVariants as command
 use Rattle.rbd_commands.specs.declared.command.Shape.{Shape}
-use Rattle.rbd_commands.specs.declared.refusal.Refusal.{Refusal}
 use Rattle.rbd_kinds.specs.declared.header.HeaderView.{HeaderView}
 use Rattle.rbd_kinds.specs.declared.header.SnapView.{SnapView}
 use Rattle.rbd_kinds.specs.declared.id.SiteId.{SiteId}
 use Rattle.rbd_kinds.specs.declared.layout.Extent.{Extent}
-use Rattle.rbd_kinds.specs.declared.layout.Part.{Part}
 use Rattle.rbd_kinds.specs.declared.reply.Reply.{Reply}
 use Rattle.rbd_kinds.specs.declared.reply.Reply.TheVariants as reply
 use Rattle.rbd_kinds.specs.Header.{snap_named}
-use Rattle.rbd_kinds.specs.Parts.{parts_len}
 use Rattle.rbd_layout.specs.Asked.{layout_of, KeepsLimits}
 use Rattle.rbd_layout.specs.Pieces.{pieces_of}
 use Rattle.rbd_layout.specs.declared.types.Piece.{Piece}
@@ -22,73 +19,46 @@ use Rattle.rbd_header.specs.Header.{context_of, new_header, view_of}
 use Rattle.rbd_header.specs.declared.view.View.{View}
 use Rattle.rbd_parts.specs.Parts.{bytes_for}
 use Rattle.rbd_machine.specs.Label as label
-use Rattle.rbd_machine.specs.Objects.{map_exists}
+use Rattle.rbd_machine.specs.Objects.{data_write, map_exists}
 use Rattle.rbd_machine.specs.Plan.{Plan, Return, Goto, Standing, without_labels}
 use Rattle.rbd_machine.specs.Refused.{refuses_none}
-use Rattle.rbd_machine.specs.Steps.{unless, not_there, on_id, on_header, on_done, find, look, change, looked, holding, owned, joining, applied, on_bits}
-use Rattle.rbd_meaning.specs.Listings.{shown_snaps}
+use Rattle.rbd_machine.specs.Steps.{on_done, applied}
+use Rattle.rbd_machine.specs.declared.seat.Seat.{Seat}
+use Rattle.rbd_meaning.specs.Count.{object_count}
+use Rattle.rbd_meaning.specs.Listings.{shown_snaps, used_among}
 use Rattle.rbd_meaning.specs.Range.{out_of_range, extent_at}
 use Rattle.rbd_meaning.specs.Snaps.{create_refuses, remove_refuses}
 use Rattle.rbd_meaning.specs.Writes.{write_refuses}
-use Rattle.rbd_piece.specs.Gather.{gather, on_bytes}
 use Rattle.rbd_piece.specs.Write.{writing, write_piece}
 use Rattle.rbd_request.specs.Read.{IsReadOf, pass, looking, reading, viewing, gathering, closing, on_closing}
 use Rattle.rbd_request.specs.Seen.{Seen, seen_at, shown}
 use Rattle.rbd_request.specs.Write.{write_pieces, put, write, write_plan}
 use Rattle.rbd_admin.specs.Create.{IsCreate, IsCreatePlan, on_drawn, making, mapping, drawing}
-use Rattle.rbd_admin.specs.Listing.{on_names, showing, show_header, listing_plan}
+use Rattle.rbd_admin.specs.Listing.{counting, listing_plan, measuring, on_names, on_renamed, showing, show_header, show_used}
 use Rattle.rbd_admin.specs.Snap.{on_snap, on_gone, putting, take, unmapping, remove, remove_listed, snap_plan, taking}
 use Rattle.rbd_admin.proofs.Decided.{limits_or_not}
 use Rattle.rbd_close.specs.Close.{done, unwatching, on_dropped, joining as joining_to_close, quiesced, resumed, saying, close_plan}
-use Rattle.rbd_requests.specs.Served.{IsPlanFor, Writes, Reads, Creates, Lists, Snaps, Closes}
-use Rattle.rbd_exact.specs.Owed.{PaysItsStates, PaysFrom, owed_by}
-
-abbrev Pays : Plan → Type 0
-Pays plan = PaysItsStates None plan
-
--- ---- steps
-
-pays_not_there : (a : Answer) → Pays (not_there a)
-pays_not_there answer.Fenced = tt
-pays_not_there _ = tt
-
-pays_on_id : (next : ℕ → Plan) → ((image : ℕ) → Pays (next image)) → (a : Answer) → Pays (on_id next a)
-pays_on_id next pays (answer.Id image) = pays image
-pays_on_id next pays a = pays_not_there a
-
-pays_on_header : (next : HeaderView → Plan) → ((h : HeaderView) → Pays (next h)) → (a : Answer) → Pays (on_header next a)
-pays_on_header next pays (answer.Header h) = pays h
-pays_on_header next pays a = pays_not_there a
-
-pays_on_done : (next : Plan) → Pays next → (a : Answer) → Pays (on_done next a)
-pays_on_done next pays answer.Done = pays
-pays_on_done next pays a = pays_not_there a
-
-pays_unless : (r : Option Refusal) (next : Plan) → Pays next → Pays (unless r next)
-pays_unless None next pays = pays
-pays_unless (Some r) next pays = tt
-
-pays_find : (site : SiteId) (name : List ℕ) (next : ℕ → Plan) → ((image : ℕ) → Pays (next image)) → Pays (find site name next)
-pays_find site name next pays = (refl, λ a given. pays_on_id next pays a)
-
-pays_look : (site : SiteId) (image : ℕ) (next : HeaderView → Plan) → ((h : HeaderView) → Pays (next h)) → Pays (look site image next)
-pays_look site image next pays = (refl, λ a given. pays_on_header next pays a)
-
-pays_change : (site : SiteId) (name : List ℕ) (alone : Bool) (refuses : HeaderView → Option Refusal) (act : ℕ → HeaderView → Plan)
-    → ((image : ℕ) (h : HeaderView) → Pays (act image h)) → Pays (change site name alone refuses act)
-pays_change site name alone refuses act acts =
-    pays_find site name (joining site alone refuses act) (λ image.
-    pays_look site image (looked site refuses act image) (λ h.
-    pays_unless (refuses h) (holding site refuses act image)
-    (pays_look site image (owned refuses act image) (λ own. pays_unless (refuses own) (act image own) (acts image own)))))
+use Rattle.rbd_discard.specs.Discard.{discard_plan}
+use Rattle.rbd_remove.specs.Remove.{remove_plan}
+use Rattle.rbd_resize.specs.Resize.{resize_plan}
+use Rattle.rbd_resize.specs.Rollback.{rollback_plan}
+use Rattle.rbd_requests.specs.Served.{IsPlanFor, Writes, Discards, Reads, Creates, Lists, Snaps, Resizes, Rollbacks, Removes, Closes}
+use Rattle.rbd_exact.specs.Owed.{Made, PaysItsStates, PaysFrom, owed_by}
+use Rattle.rbd_exact.proofs.PaysChanges.{pays_discard, pays_resize_plan, pays_rollback}
+use Rattle.rbd_exact.proofs.PaysRemoval.{pays_removal}
+use Rattle.rbd_exact.proofs.PaysSteps.{Pays, pays_change, pays_find, pays_gather, pays_look, pays_not_there, pays_on_bits, pays_on_done, pays_unless}
 
 -- ---- write: an object is written directly behind its state
 
 pays_piece : (site : SiteId) (image : ℕ) (h : HeaderView) (p : Piece) (bytes : List ℕ) (next : Plan) → Pays next → Pays (write_piece site image h p bytes next)
-pays_piece site image h p bytes next pays = (refl, λ a given. raised a)
+pays_piece site image h p bytes next pays = (tt, λ a given told. raised a)
   where
-    raised : (a : Answer) → PaysItsStates (owed_by site (map_exists image p.object) a) (on_done (writing site image (context_of h) p bytes next) a)
-    raised answer.Done = ((refl, refl, refl), λ a given. pays_on_done next pays a)
+    written : (a : Answer) → PaysItsStates (owed_by (Some (record { site = site; image = image; object = p.object; due = Made })) site (data_write image (context_of h) p bytes) a) (on_done next a)
+    written answer.Done = pays
+    written a = pays_not_there a
+
+    raised : (a : Answer) → PaysItsStates (owed_by None site (map_exists image p.object) a) (on_done (writing site image (context_of h) p bytes next) a)
+    raised answer.Done = ((refl, (refl, refl, refl)), λ a given told. written a)
     raised a = pays_not_there a
 
 pays_pieces : (pieces : List Piece) (site : SiteId) (image : ℕ) (h : HeaderView) (from : ℕ) (bytes : List ℕ) (next : Plan) → Pays next
@@ -100,7 +70,7 @@ pays_pieces (p ∷ pieces) site image h from bytes next pays =
 pays_write : (site : SiteId) (name : List ℕ) (from : ℕ) (bytes : List ℕ) → Pays (write site name from bytes)
 pays_write site name from bytes =
     pays_change site name false (write_refuses (extent_at from bytes)) (put site from bytes)
-    (λ image h. pays_pieces (pieces_of h.layout (extent_at from bytes)) site image h from bytes (applied site image) tt)
+    (λ image h standalone. pays_pieces (pieces_of h.layout (extent_at from bytes)) site image h from bytes (applied site image) tt)
 
 pays_write_plan : (site : SiteId) (c : Command) → Pays (write_plan site c)
 pays_write_plan site (command.Write image from bytes) = pays_write site image from bytes
@@ -108,20 +78,6 @@ pays_write_plan site (command.Fill image from len byte) = pays_write site image 
 pays_write_plan site _ = tt
 
 -- ---- read
-
-pays_on_bytes : (parts : List Part) (next : List ℕ → Plan) → ((bytes : List ℕ) → Pays (next bytes)) → (a : Answer) → Pays (on_bytes parts next a)
-pays_on_bytes parts next pays (answer.Bytes bytes) = pays bytes
-pays_on_bytes parts next pays answer.Absent = pays (replicate (parts_len parts) 0)
-pays_on_bytes parts next pays a = pays_not_there a
-
-pays_gather : (pieces : List Piece) (site : SiteId) (image : ℕ) (snap : Option ℕ) (read : List ℕ) (next : List ℕ → Plan) → ((bytes : List ℕ) → Pays (next bytes))
-    → Pays (gather site image snap pieces read next)
-pays_gather [] site image snap read next pays = pays read
-pays_gather (p ∷ pieces) site image snap read next pays = (
-  refl,
-  λ a given.
-      pays_on_bytes p.parts (λ bytes. gather site image snap pieces (read ++ bytes) next) (λ bytes. pays_gather pieces site image snap (read ++ bytes) next pays) a,
-)
 
 pays_on_closing : (seen : Seen) (read : List ℕ) (a : Answer) → Pays (on_closing seen read a)
 pays_on_closing seen read (answer.Header h) = go (eqb h.generation seen.generation)
@@ -137,12 +93,12 @@ pays_viewing site image h extent None = tt
 pays_viewing site image h extent (Some view) =
     pays_unless (out_of_range extent view.size) (gathering site image h extent view)
     (pays_gather (pieces_of h.layout extent) site image view.snap [] (closing site image (seen_at h extent))
-    (λ read. (refl, λ a given. pays_on_closing (seen_at h extent) read a)))
+    (λ read. (tt, λ a given told. pays_on_closing (seen_at h extent) read a)))
 
 pays_pass : (site : SiteId) (name : List ℕ) (snap : Option (List ℕ)) (extent : Extent) → Pays (pass site name snap extent)
 pays_pass site name snap extent =
     pays_find site name (looking site snap extent) (λ image.
-    pays_look site image (reading site snap extent image) (λ h. pays_viewing site image h extent (view_of h snap)))
+    pays_look site image (reading site snap extent image) (λ h standalone. pays_viewing site image h extent (view_of h snap)))
 
 pays_read : (site : SiteId) (c : Command) (s : Standing) → IsReadOf site c s → PaysFrom None s
 pays_read site (command.Read image snap from len) s is =
@@ -159,13 +115,13 @@ pays_on_drawn next pays answer.Full = tt
 pays_on_drawn next pays a = pays_not_there a
 
 pays_making : (site : SiteId) (h : HeaderView) (image : ℕ) → Pays (making site h image)
-pays_making site h image = (refl, λ a given. pays_on_done (Return reply.Done) tt a)
+pays_making site h image = (tt, λ a given told. pays_on_done (Return reply.Done) tt a)
 
 pays_mapping : (site : SiteId) (objects : ℕ) (h : HeaderView) (image : ℕ) → Pays (mapping site objects h image)
-pays_mapping site objects h image = (refl, λ a given. pays_on_done (making site h image) (pays_making site h image) a)
+pays_mapping site objects h image = (tt, λ a given told. pays_on_done (making site h image) (pays_making site h image) a)
 
 pays_drawing : (site : SiteId) (name : List ℕ) (objects : ℕ) (h : HeaderView) → Pays (drawing site name objects h)
-pays_drawing site name objects h = (refl, λ a given. pays_on_drawn (mapping site objects h) (pays_mapping site objects h) a)
+pays_drawing site name objects h = (tt, λ a given told. pays_on_drawn (mapping site objects h) (pays_mapping site objects h) a)
 
 pays_is_create : (site : SiteId) (name : List ℕ) (size : ℕ) (shape : Shape) (plan : Plan) → IsCreate site name size shape plan → Pays plan
 pays_is_create site name size shape plan is = go (limits_or_not (layout_of shape) size)
@@ -178,7 +134,7 @@ pays_create : (site : SiteId) (c : Command) (plan : Plan) → IsCreatePlan site 
 pays_create site (command.Create image size shape) plan is = pays_is_create site image size shape plan is
 pays_create site _ plan is = absurd is
 
--- ---- ls, info, snap ls
+-- ---- ls, info, snap ls, du, rename
 
 pays_on_names : (next : List (List ℕ) → Plan) → ((names : List (List ℕ)) → Pays (next names)) → (a : Answer) → Pays (on_names next a)
 pays_on_names next pays (answer.Names names) = pays names
@@ -186,12 +142,25 @@ pays_on_names next pays a = pays_not_there a
 
 pays_show_header : (site : SiteId) (name : List ℕ) (shows : HeaderView → Reply) → Pays (show_header site name shows)
 pays_show_header site name shows =
-    pays_find site name (showing site shows) (λ image. pays_look site image (λ h. Return (shows h)) (λ h. tt))
+    pays_find site name (showing site shows) (λ image. pays_look site image (λ h. Return (shows h)) (λ h standalone. tt))
+
+pays_used : (site : SiteId) (name : List ℕ) → Pays (show_used site name)
+pays_used site name =
+    pays_find site name (measuring site) (λ image.
+    pays_look site image (λ h. counting site image (object_count h.layout h.size)) (λ h standalone.
+    (tt, λ a given told. pays_on_bits (λ bits. Return (reply.Used (used_among (object_count h.layout h.size) bits) (object_count h.layout h.size))) (λ bits. tt) a)))
+
+pays_on_renamed : (a : Answer) → Pays (on_renamed a)
+pays_on_renamed answer.Done = tt
+pays_on_renamed answer.Exists = tt
+pays_on_renamed a = pays_not_there a
 
 pays_listing : (site : SiteId) (c : Command) → Pays (listing_plan site c)
-pays_listing site command.List = (refl, λ a given. pays_on_names (λ names. Return (reply.Names names)) (λ names. tt) a)
+pays_listing site command.List = (tt, λ a given told. pays_on_names (λ names. Return (reply.Names names)) (λ names. tt) a)
 pays_listing site (command.Info image) = pays_show_header site image reply.Info
 pays_listing site (command.SnapList image) = pays_show_header site image shown_snaps
+pays_listing site (command.Used image) = pays_used site image
+pays_listing site (command.Rename from to) = (tt, λ a given told. pays_on_renamed a)
 pays_listing site _ = tt
 
 -- ---- snap create, snap rm
@@ -200,55 +169,51 @@ pays_on_snap : (next : Plan) → Pays next → (a : Answer) → Pays (on_snap ne
 pays_on_snap next pays (answer.Snap snap) = pays
 pays_on_snap next pays a = pays_not_there a
 
-pays_on_bits : (next : List ℕ → Plan) → ((bits : List ℕ) → Pays (next bits)) → (a : Answer) → Pays (on_bits next a)
-pays_on_bits next pays (answer.Bits bits) = pays bits
-pays_on_bits next pays a = pays_not_there a
-
 pays_on_gone : (next : Plan) → Pays next → (a : Answer) → Pays (on_gone next a)
 pays_on_gone next pays answer.Done = pays
 pays_on_gone next pays answer.Absent = pays
 pays_on_gone next pays a = pays_not_there a
 
 pays_taking : (site : SiteId) (snap : List ℕ) (image : ℕ) → Pays (taking site snap image)
-pays_taking site snap image = (refl, λ a given. pays_on_snap (applied site image) tt a)
+pays_taking site snap image = (tt, λ a given told. pays_on_snap (applied site image) tt a)
 
 pays_putting : (site : SiteId) (snap : List ℕ) (image next : ℕ) (bits : List ℕ) → Pays (putting site snap image next bits)
-pays_putting site snap image next bits = (refl, λ a given. pays_on_done (taking site snap image) (pays_taking site snap image) a)
+pays_putting site snap image next bits = (tt, λ a given told. pays_on_done (taking site snap image) (pays_taking site snap image) a)
 
 pays_take : (site : SiteId) (snap : List ℕ) (image : ℕ) (h : HeaderView) → Pays (take site snap image h)
 pays_take site snap image h =
     let next = h.snap_seq + 1 in
-    (refl, λ a given. pays_on_bits (putting site snap image next) (pays_putting site snap image next) a)
+    (tt, λ a given told. pays_on_bits (putting site snap image next) (pays_putting site snap image next) a)
 
 pays_unmapping : (site : SiteId) (image snap : ℕ) → Pays (unmapping site image snap)
-pays_unmapping site image snap = (refl, λ a given. pays_on_gone (applied site image) tt a)
+pays_unmapping site image snap = (tt, λ a given told. pays_on_gone (applied site image) tt a)
 
 pays_remove_listed : (site : SiteId) (snap : List ℕ) (image : ℕ) (listed : Option SnapView) → Pays (remove_listed site snap image listed)
 pays_remove_listed site snap image None = tt
 pays_remove_listed site snap image (Some listed) =
-    (refl, λ a given. pays_on_done (unmapping site image listed.id) (pays_unmapping site image listed.id) a)
+    (tt, λ a given told. pays_on_done (unmapping site image listed.id) (pays_unmapping site image listed.id) a)
 
 pays_snap : (site : SiteId) (c : Command) → Pays (snap_plan site c)
-pays_snap site (command.SnapCreate image snap) = pays_change site image true (create_refuses snap) (take site snap) (pays_take site snap)
+pays_snap site (command.SnapCreate image snap) = pays_change site image true (create_refuses snap) (take site snap) (λ i h standalone. pays_take site snap i h)
 pays_snap site (command.SnapRemove image snap) =
-    pays_change site image true (remove_refuses snap) (remove site snap) (λ i h. pays_remove_listed site snap i (snap_named h.snaps snap))
+    pays_change site image true (remove_refuses snap) (remove site snap) (λ i h standalone. pays_remove_listed site snap i (snap_named h.snaps snap))
 pays_snap site _ = tt
 
 -- ---- close, quiesce, resume, tell
 
 pays_unwatching : (site : SiteId) (image : ℕ) → Pays (unwatching site image)
-pays_unwatching site image = (refl, λ a given. pays_on_done done tt a)
+pays_unwatching site image = (tt, λ a given told. pays_on_done done tt a)
 
 pays_on_dropped : (site : SiteId) (image : ℕ) (a : Answer) → Pays (on_dropped site image a)
-pays_on_dropped site image answer.Done = (refl, λ told given. pays_on_done (unwatching site image) (pays_unwatching site image) told)
+pays_on_dropped site image answer.Done = (tt, λ told given also. pays_on_done (unwatching site image) (pays_unwatching site image) told)
 pays_on_dropped site image answer.Changed = pays_unwatching site image
 pays_on_dropped site image a = pays_not_there a
 
 pays_close : (site : SiteId) (c : Command) → Pays (close_plan site c)
-pays_close site (command.Close image) = pays_find site image (joining_to_close site) (λ i. (refl, λ dropped given. pays_on_dropped site i dropped))
-pays_close site (command.Quiesce image) = pays_change site image true refuses_none quiesced (λ i h. tt)
+pays_close site (command.Close image) = pays_find site image (joining_to_close site) (λ i. (tt, λ dropped given also. pays_on_dropped site i dropped))
+pays_close site (command.Quiesce image) = pays_change site image true refuses_none quiesced (λ i h standalone. tt)
 pays_close site (command.Resume image) = pays_find site image resumed (λ i. tt)
-pays_close site (command.Tell image bytes) = pays_find site image (saying site bytes) (λ i. (refl, λ told given. pays_on_done done tt told))
+pays_close site (command.Tell image bytes) = pays_find site image (saying site bytes) (λ i. (tt, λ told given also. pays_on_done done tt told))
 pays_close site _ = tt
 
 -- ---- all of them
@@ -257,10 +222,14 @@ pays_close site _ = tt
 from_plan : (plan : Plan) (s : Standing) → s ≡ without_labels plan → Pays plan → PaysFrom None s
 from_plan plan s is pays = subst (PaysFrom None) (sym is) (record { plan = pays; labels = λ label. tt })
 
-pub request_pays : (home : SiteId) (c : Command) (s : Standing) → IsPlanFor home c s → PaysFrom None s
-request_pays home c s (Writes is at_plan) = from_plan (write_plan home c) s at_plan (pays_write_plan home c)
-request_pays home c s (Reads is) = pays_read home c s is
-request_pays home c s (Creates is at_plan) = from_plan s.plan s at_plan (pays_create home c s.plan is)
-request_pays home c s (Lists is at_plan) = from_plan (listing_plan home c) s at_plan (pays_listing home c)
-request_pays home c s (Snaps is at_plan) = from_plan (snap_plan home c) s at_plan (pays_snap home c)
-request_pays home c s (Closes is at_plan) = from_plan (close_plan home c) s at_plan (pays_close home c)
+pub request_pays : (seat : Seat) (c : Command) (s : Standing) → IsPlanFor seat c s → PaysFrom None s
+request_pays seat c s (Writes is at_plan) = from_plan (write_plan seat.home c) s at_plan (pays_write_plan seat.home c)
+request_pays seat c s (Discards is at_plan) = from_plan (discard_plan seat.home c) s at_plan (pays_discard seat.home c)
+request_pays seat c s (Reads is) = pays_read seat.home c s is
+request_pays seat c s (Creates is at_plan) = from_plan s.plan s at_plan (pays_create seat.home c s.plan is)
+request_pays seat c s (Lists is at_plan) = from_plan (listing_plan seat.home c) s at_plan (pays_listing seat.home c)
+request_pays seat c s (Snaps is at_plan) = from_plan (snap_plan seat.home c) s at_plan (pays_snap seat.home c)
+request_pays seat c s (Resizes is at_plan) = from_plan (resize_plan seat.home c) s at_plan (pays_resize_plan seat.home c)
+request_pays seat c s (Rollbacks is at_plan) = from_plan (rollback_plan seat.home c) s at_plan (pays_rollback seat.home c)
+request_pays seat c s (Removes is at_plan) = from_plan (remove_plan seat.home seat.session c) s at_plan (pays_removal seat.home seat.session c)
+request_pays seat c s (Closes is at_plan) = from_plan (close_plan seat.home c) s at_plan (pays_close seat.home c)

@@ -2,14 +2,16 @@
 //!
 //! State 0 of an object map means that the object is absent, whatever happens (`rbd_rely`). The
 //! other direction needs that everybody ends what he began: a request raises an object's state
-//! before it makes the object, and who is stopped between leaves a state without its object.
+//! before it makes the object, or sets it to 2 before it removes it and then to 0. Who is stopped
+//! between leaves a state without its object.
 //!
 //! # Contracts
 //!
-//! `specs/Owed.antt`: a request *owes* the object whose state it raised last, and writes it next
-//! (`PaysItsStates`). `specs/Exact.antt`: maps are exact but for what is owed (`IsExactBut`).
-//! [`laws`] says that the plans of all commands pay what they owe, and that what is permitted by
-//! true knowledge leaves maps exact but for what is owed then.
+//! `specs/Owed.antt`: a request *owes* the object whose state it set last, and makes or removes it
+//! next, or sets the state of one that it removed (`PaysItsStates`). `specs/Exact.antt`: maps are
+//! exact but for what anybody owes (`IsExactBut`). [`laws`] says that the plans of all commands pay
+//! what they owe, and that what is permitted by true knowledge leaves maps exact but for what is
+//! owed then.
 #![tactic(auto)]
 
 pub mod laws;

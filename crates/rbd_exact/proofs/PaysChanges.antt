@@ -1,0 +1,167 @@
+-- Discards, resizes and rollbacks pay the states that they set: each object is changed directly
+-- behind its state, and one that goes has its state set to 0 then.
+use Rattle.std.proofs.Common.{◌≡◌, ℕ, nat_le, List, [], ◌∷◌, Bool, true, false, Option, Some, None, refl, sym, ap, subst}
+use Rattle.rbd_commands.specs.declared.command.Command.{Command}
+use Rattle.rbd_commands.specs.declared.command.Command.TheVariants as command
+use Rattle.rbd_kinds.specs.declared.answer.Answer.{Answer}
+use Rattle.rbd_kinds.specs.declared.answer.Answer.TheVariants as answer
+use Rattle.rbd_kinds.specs.declared.header.HeaderView.{HeaderView}
+use Rattle.rbd_kinds.specs.declared.header.SnapContext.{SnapContext}
+use Rattle.rbd_kinds.specs.declared.header.SnapView.{SnapView}
+use Rattle.rbd_kinds.specs.declared.id.SiteId.{SiteId}
+use Rattle.rbd_kinds.specs.declared.layout.Extent.{Extent}
+use Rattle.rbd_kinds.specs.Header.{snap_named}
+use Rattle.rbd_kinds.specs.Striping.{byte_at}
+use Rattle.rbd_layout.specs.Pieces.{pieces_of}
+use Rattle.rbd_layout.specs.declared.types.Piece.{Piece}
+use Rattle.rbd_header.specs.Header.{context_of}
+use Rattle.rbd_machine.specs.Plan.{Plan}
+use Rattle.rbd_machine.specs.Standalone.{IsStandalone}
+use Rattle.rbd_machine.specs.Steps.{on_done, applied}
+use Rattle.rbd_meaning.specs.Resizes.{resize_refuses}
+use Rattle.rbd_meaning.specs.Rollbacks.{at_size, rollback_refuses}
+use Rattle.rbd_meaning.specs.Writes.{write_refuses}
+use Rattle.rbd_zero.specs.Full.{cut_bytes, full_by, full_piece, replacing, writing_full}
+use Rattle.rbd_zero.specs.Operations.{data_empty, data_remove, data_write_full, map_set}
+use Rattle.rbd_zero.specs.Shrink.{pieces_from}
+use Rattle.rbd_zero.specs.Size.{cutting, growing, resize, resize_by, shrinking, sizing}
+use Rattle.rbd_zero.specs.Size as of_size
+use Rattle.rbd_zero.specs.Zero.{emptying, head_of, is_below, is_inside, is_whole, removing, setting, zero_all, zero_by, zero_piece}
+use Rattle.rbd_discard.specs.Discard.{discard_plan, zero, zero_pieces}
+use Rattle.rbd_meaning.specs.Count.{object_count}
+use Rattle.rbd_resize.specs.Resize.{resize_plan, set_size}
+use Rattle.rbd_resize.specs.Rollback.{restore_all, restore_pieces, roll_back_listed, roll_back_to, rollback_plan}
+use Rattle.rbd_exact.specs.Owed.{Due, Made, Gone, Lowered, PaysItsStates, Spot, owed_by}
+use Rattle.rbd_exact.proofs.PaysSteps.{Pays, pays_change, pays_gather, pays_not_there, pays_on_bits, pays_on_done}
+
+-- ---- one object
+
+module _ (site : SiteId) (image : ℕ) (context : SnapContext) (p : Piece) (next : Plan) (pays : Pays next) where
+  abbrev spot : Due → Spot
+  spot due = record { site = site; image = image; object = p.object; due = due }
+
+  -- it went, and its state is set to 0
+  pays_lowering : PaysItsStates (Some (spot Lowered)) (setting site image context p 0 next)
+  pays_lowering = ((refl, (refl, refl, refl)), λ a given told. by a)
+    where
+      by : (a : Answer) → PaysItsStates (owed_by (Some (spot Lowered)) site (map_set image p.object 0) a) (on_done next a)
+      by answer.Done = pays
+      by a = pays_not_there a
+
+  pays_removing : PaysItsStates (Some (spot Gone)) (removing site image context p (setting site image context p 0 next))
+  pays_removing = ((refl, (refl, refl, refl)), λ a given told. by a)
+    where
+      by : (a : Answer) → PaysItsStates (owed_by (Some (spot Gone)) site (data_remove image context p.object) a) (on_done (setting site image context p 0 next) a)
+      by answer.Done = pays_lowering
+      by a = pays_not_there a
+
+  pays_emptying : PaysItsStates (Some (spot Made)) (emptying site image context p next)
+  pays_emptying = ((refl, (refl, refl, refl)), λ a given told. by a)
+    where
+      by : (a : Answer) → PaysItsStates (owed_by (Some (spot Made)) site (data_empty image context p.object) a) (on_done next a)
+      by answer.Done = pays
+      by a = pays_not_there a
+
+  -- all bytes of it
+  pub pays_zero_all : (inside : Bool) → Pays (zero_all site image context p inside next)
+  pays_zero_all false = (tt, λ a given told. by a)
+    where
+      by : (a : Answer) → PaysItsStates (owed_by None site (map_set image p.object 2) a) (on_done (removing site image context p (setting site image context p 0 next)) a)
+      by answer.Done = pays_removing
+      by a = pays_not_there a
+  pays_zero_all true = (tt, λ a given told. by a)
+    where
+      by : (a : Answer) → PaysItsStates (owed_by None site (map_set image p.object 1) a) (on_done (emptying site image context p next) a)
+      by answer.Done = pays_emptying
+      by a = pays_not_there a
+
+  -- of an image without a parent
+  pays_zero_by : (whole : Bool) → Pays (zero_by site image context p whole false next)
+  pays_zero_by false = (tt, λ a given told. pays_on_done next pays a)
+  pays_zero_by true = pays_zero_all false
+
+  pays_full : (bytes : List ℕ) → Pays (replacing site image context p.object bytes next)
+  pays_full bytes = (tt, λ a given told. by a)
+    where
+      written : (a : Answer) → PaysItsStates (owed_by (Some (spot Made)) site (data_write_full image context p.object bytes) a) (on_done next a)
+      written answer.Done = pays
+      written a = pays_not_there a
+
+      by : (a : Answer) → PaysItsStates (owed_by None site (map_set image p.object 1) a) (on_done (writing_full site image context p.object bytes next) a)
+      by answer.Done = ((refl, (refl, refl, refl)), λ a given told. written a)
+      by a = pays_not_there a
+
+outside : (h : HeaderView) (number : ℕ) → IsStandalone h → is_inside h number ≡ false
+outside h number standalone = ap (λ parent. is_below parent (byte_at h.layout number 0)) standalone.no_parent
+
+pays_zero_piece : (site : SiteId) (image : ℕ) (h : HeaderView) (p : Piece) (next : Plan) → IsStandalone h → Pays next → Pays (zero_piece site image h p next)
+pays_zero_piece site image h p next standalone pays =
+    subst (λ inside. Pays (zero_by site image (context_of h) p (is_whole h p) inside next)) (sym (outside h p.object standalone))
+    (pays_zero_by site image (context_of h) p next pays (is_whole h p))
+
+pays_full_piece : (site : SiteId) (image : ℕ) (h : HeaderView) (p : Piece) (bytes : List ℕ) (next : Plan) → Pays next → Pays (full_piece site image h p bytes next)
+pays_full_piece site image h p bytes next pays = by (cut_bytes bytes)
+  where
+    by : (left : List ℕ) → Pays (full_by site image h p left next)
+    by [] = pays_zero_all site image (context_of h) p next pays (is_inside h p.object)
+    by (byte ∷ left) = pays_full site image (context_of h) p next pays (byte ∷ left)
+
+-- ---- discard
+
+pays_pieces : (pieces : List Piece) (site : SiteId) (image : ℕ) (h : HeaderView) (next : Plan) → IsStandalone h → Pays next → Pays (zero_pieces site image h pieces next)
+pays_pieces [] site image h next standalone pays = pays
+pays_pieces (p ∷ pieces) site image h next standalone pays =
+    pays_zero_piece site image h p (zero_pieces site image h pieces next) standalone (pays_pieces pieces site image h next standalone pays)
+
+pub pays_discard : (site : SiteId) (c : Command) → Pays (discard_plan site c)
+pays_discard site (command.Discard image at len) =
+    let e : Extent = record { at = at; len = len } in
+    pays_change site image false (write_refuses e) (zero site e) (λ i h standalone. pays_pieces (pieces_of h.layout e) site i h (applied site i) standalone tt)
+pays_discard site _ = tt
+
+-- ---- resize
+
+pays_sizing : (site : SiteId) (image to : ℕ) (next : Plan) → Pays next → Pays (sizing site image to next)
+pays_sizing site image to next pays = (tt, λ a given told. pays_on_done next pays a)
+
+pays_zeros : (pieces : List Piece) (site : SiteId) (image : ℕ) (h : HeaderView) (next : Plan) → IsStandalone h → Pays next → Pays (of_size.zero_pieces site image h pieces next)
+pays_zeros [] site image h next standalone pays = pays
+pays_zeros (p ∷ pieces) site image h next standalone pays =
+    pays_zero_piece site image h p (of_size.zero_pieces site image h pieces next) standalone (pays_zeros pieces site image h next standalone pays)
+
+pays_resize : (site : SiteId) (image : ℕ) (h : HeaderView) (to objects : ℕ) (next : Plan) → IsStandalone h → Pays next → Pays (resize site image h to objects next)
+pays_resize site image h to objects next standalone pays = by (nat_le h.size to)
+  where
+    by : (grows : Bool) → Pays (resize_by grows site image h to objects next)
+    by true = (tt, λ a given told. pays_on_done (sizing site image to next) (pays_sizing site image to next pays) a)
+    by false = (
+      tt,
+      λ a given told.
+          pays_on_bits (cutting site image h to next)
+          (λ bits. pays_zeros (pieces_from h to bits) site image h (sizing site image to next) standalone (pays_sizing site image to next pays)) a,
+    )
+
+pub pays_resize_plan : (site : SiteId) (c : Command) → Pays (resize_plan site c)
+pays_resize_plan site (command.Resize image size) =
+    pays_change site image true (resize_refuses size) (set_size site size) (λ i h standalone. pays_resize site i h size (object_count h.layout size) (applied site i) standalone tt)
+pays_resize_plan site _ = tt
+
+-- ---- snap rollback
+
+pays_restore : (pieces : List Piece) (site : SiteId) (image : ℕ) (h : HeaderView) (snap : ℕ) (next : Plan) → Pays next → Pays (restore_pieces site image h snap pieces next)
+pays_restore [] site image h snap next pays = pays
+pays_restore (p ∷ pieces) site image h snap next pays =
+    pays_gather (p ∷ []) site image (Some snap) [] (λ bytes. full_piece site image h p bytes (restore_pieces site image h snap pieces next))
+    (λ bytes. pays_full_piece site image h p bytes (restore_pieces site image h snap pieces next) (pays_restore pieces site image h snap next pays))
+
+pays_listed : (site : SiteId) (snap : List ℕ) (image : ℕ) (h : HeaderView) (listed : Option SnapView) → IsStandalone h → Pays (roll_back_listed site snap image h listed)
+pays_listed site snap image h None standalone = tt
+pays_listed site snap image h (Some listed) standalone =
+    let sized = at_size listed.size h in
+    pays_resize site image h listed.size (object_count h.layout listed.size) (restore_all site image sized listed.id (applied site image)) standalone
+    (pays_restore (pieces_of sized.layout (head_of sized)) site image sized listed.id (applied site image) tt)
+
+pub pays_rollback : (site : SiteId) (c : Command) → Pays (rollback_plan site c)
+pays_rollback site (command.SnapRollback image snap) =
+    pays_change site image true (rollback_refuses snap) (roll_back_to site snap) (λ i h standalone. pays_listed site snap i h (snap_named h.snaps snap) standalone)
+pays_rollback site _ = tt
