@@ -1,5 +1,5 @@
-//! Tests of the requests that zero, resize, roll back or remove, through their public calls: tables
-//! of images against all that a request wants, in order, and its reply.
+//! Tests of the requests that zero, resize, roll back, remove or rename, and of `du`, through their
+//! public calls: tables of images against all that a request wants, in order, and its reply.
 //!
 //! They stand apart from the crates that they test, since a crate that has tests is proved twice.
 //! The tables were worked out by hand, from the rules in words. A row has a command, what the two

@@ -1,6 +1,7 @@
 //! What operations are answered, by what the looks of a row tell.
-ghost use Rattle.std.specs.Prelude.{◌≡◌, ℕ, Option, IfOk, IfSome};
+ghost use Rattle.std.specs.Prelude.{◌≡◌, ℕ, List, Option, IfOk, IfSome};
 ghost use Rattle.rbd_kinds.specs.declared.data_op.DataOp.TheVariants as object;
+ghost use Rattle.rbd_kinds.specs.declared.directory_op.DirectoryOp.TheVariants as directory;
 ghost use Rattle.rbd_kinds.specs.declared.header_op.HeaderOp.TheVariants as header;
 ghost use Rattle.rbd_kinds.specs.declared.operation.Op.TheVariants as of_op;
 ghost use Rattle.rbd_kinds.specs.Parts.{parts_len};
@@ -90,12 +91,24 @@ fn bytes_told(alloc: Global, parts: &[Part], text: Option<&str>) -> Result<Optio
     Ok(Some(Answer::Bytes(Bytes::from_vec(bytes))))
 }
 
+/// What a change of a name is answered: that the other is held, or that it is done.
+fn name_told(look: &str) -> Answer
+    ensures { (from to : List ℕ) → CanGive (of_op.Directory (directory.Rename from to)) result }
+{
+    if has(look, "exists") {
+        Answer::Exists
+    } else {
+        Answer::Done
+    }
+}
+
 /// What an operation is answered where nothing is in its way, by a look.
 fn plain(rt: &impl Abort, alloc: Global, op: &Op, look: &str) -> Result<Option<Answer>, NoMemory>
     ensures { IfOk result (λ told. IfSome told (CanGive op.now)) }
 {
     match op {
         Op::Directory(DirectoryOp::Find { name: _ }) => Ok(Some(Answer::Id(IMAGE))),
+        Op::Directory(DirectoryOp::Rename { from: _, to: _ }) => Ok(Some(name_told(look))),
         Op::Header {
             image: _,
             op: HeaderOp::Get,

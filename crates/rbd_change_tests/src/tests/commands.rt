@@ -1,7 +1,11 @@
 //! The requests of the commands that a row spells.
+ghost use Rattle.std.specs.Prelude.{◌≡◌, true};
+ghost use Rattle.rbd_admin.specs.Listing.{is_listing};
+
 use super::drive::{Log, Scene, play};
 use super::looks::number;
 use super::removal::removing;
+use rbd_admin::ListRequest;
 use rbd_discard::DiscardRequest;
 use rbd_kinds::{AskedName, Bytes, Command, NoMemory, Number, SessionNo, SiteId};
 use rbd_remove::RemoveRequest;
@@ -82,6 +86,45 @@ fn play_remove(
     played
 }
 
+/// A `du`, or a `rename` from a name to another.
+fn play_listing(
+    rt: &impl Abort,
+    alloc: Global,
+    command: Command,
+    scene: &Scene<'_>,
+    log: &mut Log,
+) -> Result<(), NoMemory>
+    requires { is_listing command ≡ true }
+{
+    let mut request = ListRequest::new(SiteId::A, command);
+    let played = play(rt, alloc, &mut request, scene, log);
+    drop(request);
+    played
+}
+
+fn play_used(
+    rt: &impl Abort,
+    alloc: Global,
+    scene: &Scene<'_>,
+    log: &mut Log,
+) -> Result<(), NoMemory> {
+    let image = name(rt, alloc, "disk")?;
+    play_listing(rt, alloc, Command::Used { image }, scene, log)
+}
+
+fn play_rename(
+    rt: &impl Abort,
+    alloc: Global,
+    names: &str,
+    scene: &Scene<'_>,
+    log: &mut Log,
+) -> Result<(), NoMemory> {
+    let (from, to) = names.split_once(' ').unwrap_or((names, ""));
+    let from = name(rt, alloc, from)?;
+    let to = name(rt, alloc, to)?;
+    play_listing(rt, alloc, Command::Rename { from, to }, scene, log)
+}
+
 /// The part alone, by the header of the first look.
 fn play_removal(
     rt: &impl Abort,
@@ -115,6 +158,12 @@ pub fn play_command(
     }
     if word == "rm" {
         return play_remove(rt, alloc, scene, log);
+    }
+    if word == "du" {
+        return play_used(rt, alloc, scene, log);
+    }
+    if word == "rename" {
+        return play_rename(rt, alloc, rest, scene, log);
     }
     play_removal(rt, alloc, scene, log)
 }

@@ -129,10 +129,18 @@ fn passes<M: Machine>(alloc: Global, request: &M, log: &mut Log) -> Result<bool,
 
 // ---- feeding
 
+/// `2 of 3`
+fn used_into(log: &mut String, used: u64, of: u64) -> Result<(), NoMemory> {
+    let text = format!(in *log.allocator(); "{used} of {of}")?;
+    log.push_str(text.as_str())?;
+    Ok(())
+}
+
 fn reply_into(log: &mut String, reply: Reply) -> Result<(), NoMemory> {
     let word = match &reply {
         Reply::Done => "done",
         Reply::Refused(refusal) => refusal.word(),
+        Reply::Used { used, of } => return used_into(log, *used, *of),
         _ => "another reply",
     };
     drop(reply);

@@ -12,6 +12,7 @@
 //! | `states 021` | the states of the head's map, a digit an object |
 //! | `held ab,-,c` | the objects at the snapshot, from 0 on: a dot for a zero, `-` for none |
 //! | `watch 0.1,3.0` | who watches: lives of sessions |
+//! | `exists` | the name that an image is to get is held |
 //! | `none WORD` | operations of this word are answered `none`; `map-remove-snap` for a snapshot's map |
 ghost use Rattle.std.specs.Prelude.{◌≡◌, [], ◌∷◌, IfOk};
 ghost use Rattle.rbd_kinds.specs.Form.{IsHeaderInForm, IsOverlapWithin, IsSnapInForm};

@@ -128,6 +128,28 @@ removal|size 0 snap 0 none map-remove||map-get, dir-remove, header-remove, map-r
 removal|size 4096 secondary states 1||map-get, dir-remove, header-remove, data-remove 0, \
     map-remove|done";
 
+/// What is in use of an image: another state than 0 counts, of the objects of its size alone. The
+/// map may have more objects, or fewer, and the size may be 0. Stripings count by their objects.
+pub const IN_USE: &str = "\
+du|size 12288 states 102||dir-find disk, header-get, map-get|2 of 3
+du|size 12289 states 1020||dir-find disk, header-get, map-get|2 of 4
+du|size 4096 states 11120211||dir-find disk, header-get, map-get|1 of 1
+du|size 8192 states 00120211||dir-find disk, header-get, map-get|0 of 2
+du|size 20480 states 11120211||dir-find disk, header-get, map-get|4 of 5
+du|size 28672 states 11102021||dir-find disk, header-get, map-get|5 of 7
+du|size 40960 states 1112||dir-find disk, header-get, map-get|4 of 10
+du|size 0 states 11||dir-find disk, header-get, map-get|0 of 0
+du|size 8192||dir-find disk, header-get, map-get|0 of 2
+du|size 16384 object 8192 count 2 states 11||dir-find disk, header-get, map-get|2 of 2
+du|size 20480 object 8192 count 2 states 1011||dir-find disk, header-get, map-get|2 of 3
+du|size 4096 snap 8192 secondary states 11||dir-find disk, header-get, map-get|1 of 1";
+
+/// Names that change, and those that don't.
+pub const RENAMES: &str = "\
+rename disk one|||dir-rename disk one|done
+rename disk one|none dir-rename||dir-rename disk one|NoImage
+rename disk one|exists||dir-rename disk one|ImageExists";
+
 /// All that is wanted before a request is refused: at the first look, and at its own.
 pub const REFUSALS: &str = "\
 discard 0 1|none dir-find||dir-find disk|NoImage
@@ -167,6 +189,9 @@ rollback one|size 4096 snap 1|size 4096 snap 1 secondary|dir-find disk, join alo
     hold, header-get|NonPrimary
 rollback one|size 4096 snap 1|size 4096|dir-find disk, join alone, header-get, hold, header-get|\
     NoSnap
+du|none dir-find||dir-find disk|NoImage
+du|gone||dir-find disk, header-get|NoImage
+du|size 4096 none map-get||dir-find disk, header-get, map-get|NoImage
 rm|none dir-find||dir-find disk|NoImage
 rm|gone||dir-find disk, join alone, header-get|NoImage
 rm|size 4096 secondary||dir-find disk, join alone, header-get|NonPrimary

@@ -2,7 +2,8 @@
 use super::commands::play_command;
 use super::drive::{Log, Scene};
 use super::rows::{
-    ALONE, BESIDE, DISCARDS, PARTS, REFUSALS, REMOVALS, REMOVING, RESIZES, ROLLBACKS,
+    ALONE, BESIDE, DISCARDS, IN_USE, PARTS, REFUSALS, REMOVALS, REMOVING, RENAMES, RESIZES,
+    ROLLBACKS,
 };
 use rbd_kinds::NoMemory;
 use std::alloc::Global;
@@ -126,6 +127,8 @@ fn requests_want_these_one_after_another(rt: HostRuntime) -> Result<(), Fail> {
     table_holds(&rt, rt.alloc(), ALONE, ROLLBACKS);
     table_holds(&rt, rt.alloc(), REMOVING, REMOVALS);
     table_holds(&rt, rt.alloc(), "", PARTS);
+    table_holds(&rt, rt.alloc(), "", IN_USE);
+    table_holds(&rt, rt.alloc(), "", RENAMES);
     Ok(())
 }
 
@@ -142,5 +145,6 @@ fn the_fence_ends_a_request_at_each_operation(rt: HostRuntime) -> Result<(), Fai
     table_is_fenced(&rt, rt.alloc(), ROLLBACKS);
     table_is_fenced(&rt, rt.alloc(), REMOVALS);
     table_is_fenced(&rt, rt.alloc(), PARTS);
+    table_is_fenced(&rt, rt.alloc(), IN_USE);
     Ok(())
 }

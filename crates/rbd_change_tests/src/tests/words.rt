@@ -132,6 +132,12 @@ fn directory_into(log: &mut String, op: &DirectoryOp) -> Result<(), NoMemory> {
             bytes_into(log, name.as_slice())
         }
         DirectoryOp::Remove { image } => image_into(log, *image),
+        DirectoryOp::Rename { from, to } => {
+            log.push_str(" ")?;
+            bytes_into(log, from.as_slice())?;
+            log.push_str(" ")?;
+            bytes_into(log, to.as_slice())
+        }
         _ => Ok(()),
     }
 }
