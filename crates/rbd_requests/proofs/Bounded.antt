@@ -7,6 +7,7 @@ use Rattle.rbd_kinds.specs.declared.header.HeaderView.{HeaderView}
 use Rattle.rbd_kinds.specs.declared.id.SiteId.{SiteId}
 use Rattle.rbd_kinds.specs.declared.layout.Extent.{Extent}
 use Rattle.rbd_kinds.specs.declared.machine.Fed.{Fed}
+use Rattle.rbd_kinds.specs.declared.reply.Reply.TheVariants as reply
 use Rattle.rbd_layout.specs.Pieces.{pieces_of}
 use Rattle.rbd_header.specs.Header.{view_of}
 use Rattle.rbd_header.specs.declared.view.View.{View}
@@ -16,6 +17,7 @@ use Rattle.rbd_machine.specs.Path.{Answered, IsBounded, IsWalk}
 use Rattle.rbd_machine.specs.Plan.{Plan, Goto, Standing, without_labels}
 use Rattle.rbd_machine.specs.Refused.{AreGiven}
 use Rattle.rbd_machine.specs.declared.seat.Seat.{Seat}
+use Rattle.rbd_meaning.specs.Listings.{shown_snaps}
 use Rattle.rbd_meaning.specs.Range.{extent_at, out_of_range}
 use Rattle.rbd_meaning.specs.Writes.{write_refuses}
 use Rattle.rbd_piece.proofs.Bounded.{bounded_gather}
@@ -23,7 +25,7 @@ use Rattle.rbd_request.proofs.Bounded.{bounded_closing, bounded_put}
 use Rattle.rbd_request.specs.Read.{IsReadOf, pass, looking, reading, viewing, gathering, closing}
 use Rattle.rbd_request.specs.Seen.{seen_at}
 use Rattle.rbd_request.specs.Write.{is_write, put, write, write_plan}
-use Rattle.rbd_admin.proofs.Bounds.{bounded_create, bounded_listing, bounded_names, bounded_removal, bounded_snap}
+use Rattle.rbd_admin.proofs.Bounds.{bounded_create, bounded_listing, bounded_names, bounded_removal, bounded_rename, bounded_show_header, bounded_snap}
 use Rattle.rbd_admin.specs.Create.{IsCreatePlan}
 use Rattle.rbd_admin.specs.Listing.{is_listing, listing_plan}
 use Rattle.rbd_admin.specs.Snap.{is_snap, snap_plan}
@@ -111,9 +113,9 @@ create_asks_few site _ plan most is = absurd is
 
 listing_asks_few : (site : SiteId) (c : Command) (most : ℕ) → is_listing c ≡ true → IsBounded (listing_plan site c) (bound_of c most)
 listing_asks_few site command.List most is = bounded_names site 0
-listing_asks_few site (command.Info image) most is = bounded_listing site (command.Info image)
-listing_asks_few site (command.SnapList image) most is = bounded_listing site (command.SnapList image)
-listing_asks_few site (command.Used image) most is = bounded_used site image
+listing_asks_few site (command.Info image) most is = bounded_show_header site image reply.Info
+listing_asks_few site (command.SnapList image) most is = bounded_show_header site image shown_snaps
+listing_asks_few site (command.Used image) most is = bounded_listing site (command.Used image)
 listing_asks_few site (command.Rename from to) most is = bounded_rename site from to 0
 listing_asks_few site _ most is = cc
 

@@ -168,8 +168,7 @@ at_show_header site name shows = (tt, at_id (showing site shows) (λ image. (hea
 
 at_show_used : (site : SiteId) (name : List ℕ) → LooksEnd (show_used site name)
 at_show_used site name =
-    let counted : (i : ℕ) → HeaderView → Plan = λ i h. counting site i (object_count h.layout h.size) in
-    (
+    let counted : (i : ℕ) → HeaderView → Plan = λ i h. counting site i (object_count h.layout h.size) in (
       tt,
       at_id (measuring site) (λ i. (
         header_ends (counted i),
@@ -234,8 +233,7 @@ at_bytes parts next ends a = at_not_there a
 at_restored : (pieces : List Piece) (site : SiteId) (image : ℕ) (h : HeaderView) (snap : ℕ) → LooksEnd (restore_pieces site image h snap pieces (applied site image))
 at_restored [] site image h snap = tt
 at_restored (p ∷ pieces) site image h snap =
-    let later = restore_pieces site image h snap pieces (applied site image) in
-    (
+    let later = restore_pieces site image h snap pieces (applied site image) in (
       tt,
       at_bytes p.parts (λ bytes. gather site image (Some snap) [] bytes (λ read. full_piece site image h p read later)) (λ bytes.
           at_full_by site image h (cut_bytes bytes) p later (at_restored pieces site image h snap)),

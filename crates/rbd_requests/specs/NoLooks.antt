@@ -49,8 +49,7 @@ module _ (image : ℕ) where
   pub removal_has_none : (h : HeaderView) (bits : List ℕ) → AreNoLooks (removal image h bits)
   removal_has_none h bits =
       let journals = removing_journal image h.journal in
-      let maps = op.Map image (states.Remove None) ∷ (map (removing_map_of image) h.snaps ++ journals) in
-      (
+      let maps = op.Map image (states.Remove None) ∷ (map (removing_map_of image) h.snaps ++ journals) in (
         tt,
         (
           tt,

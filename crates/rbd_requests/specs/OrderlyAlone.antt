@@ -107,8 +107,7 @@ module _ (site : SiteId) (image : ℕ) where
   orderly_listed : (snap : List ℕ) (h : HeaderView) (listed : Option SnapView) → IsOrderly None starts true (own_course None true site image h) (roll_back_listed site snap image h listed)
   orderly_listed snap h None = tt
   orderly_listed snap h (Some listed) =
-      let head = at_size listed.size h in
-      (
+      let head = at_size listed.size h in (
         at_itself site image,
         orderly_resize None (past_note site image) refl site image h listed.size (restore_all site image head listed.id (applied site image))
             (orderly_pieces (pieces_of h.layout (head_of head)) head listed.id) (object_count h.layout listed.size),

@@ -148,4 +148,3 @@ module _ (e : Option Extent) where
 pub orderly_create : (site : SiteId) (c : Command) (plan : Plan) → IsCreatePlan site c plan → IsOrderly (extent_of c) starts true beginning plan
 orderly_create site (command.Create image size shape) plan is = orderly_is_create None site image size shape plan is
 orderly_create site _ plan is = absurd is
-

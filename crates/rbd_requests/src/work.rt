@@ -72,20 +72,31 @@ fn begin_plain<E: Machine + Drop>(
     ensures { IfOk result (IsBegun (IsPlanFor seat.now command) (stands_of E.stands)) }
 {
     let home = seat.home;
-    let request = match kind_of(&command) {
-        Kind::Write => SessionRequest::Write(WriteRequest::new(alloc, home, command)?),
-        Kind::Discard => SessionRequest::Discard(DiscardRequest::new(alloc, home, command)),
-        Kind::Read => SessionRequest::Read(ReadRequest::new(home, command)),
-        Kind::Create => return Ok(begin_create(seat, command)),
-        Kind::List => SessionRequest::List(ListRequest::new(home, command)),
-        Kind::Snap => SessionRequest::Snap(SnapRequest::new(home, command)),
-        Kind::Resize => SessionRequest::Resize(ResizeRequest::new(home, command)),
-        Kind::Rollback => SessionRequest::Rollback(RollbackRequest::new(home, command)),
-        Kind::Remove => SessionRequest::Remove(RemoveRequest::new(seat.session, home, command)),
-        Kind::Close => SessionRequest::Close(CloseRequest::new(home, command)),
+    match kind_of(&command) {
+        Kind::Write => {
+            let request = WriteRequest::new(alloc, home, command)?;
+            Ok(Begun::Asks(SessionRequest::Write(request)))
+        }
+        Kind::Discard => {
+            let request = DiscardRequest::new(alloc, home, command);
+            Ok(Begun::Asks(SessionRequest::Discard(request)))
+        }
+        Kind::Read => Ok(Begun::Asks(SessionRequest::Read(ReadRequest::new(home, command)))),
+        Kind::Create => Ok(begin_create(seat, command)),
+        Kind::List => Ok(Begun::Asks(SessionRequest::List(ListRequest::new(home, command)))),
+        Kind::Snap => Ok(Begun::Asks(SessionRequest::Snap(SnapRequest::new(home, command)))),
+        Kind::Resize => Ok(Begun::Asks(SessionRequest::Resize(ResizeRequest::new(home, command)))),
+        Kind::Rollback => {
+            let request = RollbackRequest::new(home, command);
+            Ok(Begun::Asks(SessionRequest::Rollback(request)))
+        }
+        Kind::Remove => {
+            let request = RemoveRequest::new(seat.session, home, command);
+            Ok(Begun::Asks(SessionRequest::Remove(request)))
+        }
+        Kind::Close => Ok(Begun::Asks(SessionRequest::Close(CloseRequest::new(home, command)))),
         Kind::Unserved => unreachable!(),
-    };
-    Ok(Begun::Asks(request))
+    }
 }
 
 /// The request of a `create`, or BadShape where its shape is outside the limits.

@@ -7,4 +7,4 @@ use Rattle.rbd_requests.proofs.work.SessionRequestRequest.begin.Goals as goal
 pub returns-in-Plain : goal.returns-in-Plain
 returns-in-Plain g c =
     let stands = g.E.Machine.stands in
-    subst (λ w. IfOk c.begin_plain.result (IsBegun (StandsFor stands c.args.home w) (stands_of stands))) (sym c.in-Plain.is) c.begin_plain.ensures
+    subst (λ w. IfOk c.begin_plain.result (IsBegun (StandsFor stands c.args.seat.now w) (stands_of stands))) (sym c.in-Plain.is) c.begin_plain.ensures
