@@ -18,7 +18,7 @@ use Rattle.rbd_kinds.specs.Header.{snap_named}
 use Rattle.rbd_layout.specs.Pieces.{pieces_of}
 use Rattle.rbd_layout.specs.declared.types.Piece.{Piece}
 use Rattle.rbd_machine.specs.Plan.{Plan, Return}
-use Rattle.rbd_machine.specs.Steps.{applied, on_bits, owned, refused}
+use Rattle.rbd_machine.specs.Steps.{applied, owned, refused}
 use Rattle.rbd_machine.proofs.Lawful.{at_itself}
 use Rattle.rbd_course.specs.Course.{Course, answered, beginning, looked}
 use Rattle.rbd_course.specs.Orderly.{IsOrderly}

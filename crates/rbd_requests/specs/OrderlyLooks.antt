@@ -1,5 +1,5 @@
 -- Requests that are in no line: lemmas that the laws of an `impl` cite. They define nothing.
-use Rattle.std.proofs.Common.{◌≡◌, ◌⊎◌, inl, inr, ℕ, ◌+◌, List, [], Bool, true, false, cond, eqb, Option, Some, None, refl, sym, subst}
+use Rattle.std.proofs.Common.{◌⊎◌, inl, inr, ℕ, List, [], Bool, true, false, cond, eqb, Option, Some, None, refl, sym, subst}
 use Rattle.rbd_commands.specs.declared.command.Command.{Command}
 use Rattle.rbd_commands.specs.declared.command.Command.TheVariants as command
 use Rattle.rbd_commands.specs.declared.command.Shape.{Shape}
