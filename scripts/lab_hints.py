@@ -3,7 +3,7 @@ import re
 from typing import NamedTuple, Optional
 
 from lab_marks import COMMANDS, LIMIT, Token
-from lab_marks import changer_of, declared_in, fault_of_line, is_session_name, unbuilt_token
+from lab_marks import declared_in, fault_of_line, is_session_name, unbuilt_token
 
 SUFFIXED = re.compile(r"([0-9]+)([kmgt])i?b?", re.I)
 POWERS = {"k": 10, "m": 20, "g": 30, "t": 40}
@@ -134,13 +134,8 @@ def of_fault(fault, lines, number, sessions):
     return of_new_session(text, sessions) if part[0] == "new session" else of_word(text, part)
 
 
-def of_unbuilt(line, before):
+def of_unbuilt(line):
     """Returns what helps where a line of the grammar isn't built."""
-    changers = [it for it in map(changer_of, before) if it]
-    changer = changer_of(line)
-    if changer and changers and changers[0] != changer:
-        first = changers[0].decode("latin-1")
-        return f"there are no locks yet, so one session makes all changes: here that is {first}"
     if line.split()[0] == b"@until":
         return f"wanted here: {WANTED['kind']}"
     return UNBUILT
@@ -161,7 +156,7 @@ def explained(script, number, cause):
         token = fault.token or Token(len(line.rstrip(b" ")) + 1, b" ")
         return Shown(line, token, of_fault(fault, lines, number, sessions))
     if not fault and cause == "unknown word" and line.split():
-        return Shown(line, unbuilt_token(line), of_unbuilt(line, lines[: number - 1]))
+        return Shown(line, unbuilt_token(line), of_unbuilt(line))
     return Shown(line, None, "")
 
 

@@ -169,13 +169,6 @@ def words_of_command(line):
     return tokens[1:] if tokens and tokens[0].text == b"&" else tokens
 
 
-def changer_of(line):
-    """Returns the session that changes an image by this line, or None."""
-    words = [it.text for it in words_of_command(line)]
-    snaps = [b"snap", b"create"], [b"snap", b"rm"]
-    return words[0] if words[1:2] in ([b"write"], [b"fill"]) or words[1:3] in snaps else None
-
-
 def unbuilt_token(line):
     """Returns the token by which a line of the grammar is one that isn't built."""
     tokens = words_of_command(line)

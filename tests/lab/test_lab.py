@@ -36,7 +36,7 @@ c1 create d 8192 count 2 object 4096 | object | in the order
 c1 create d 8192 journal | journal | isn't built
 c1 clone d@s e | clone | isn't built
 c1 snap protect d@s | protect | isn't built
-@stop c1 | @stop | isn't built
+c1 flatten d | flatten | isn't built
 @until c1 1 write | write | of an operation
 c2 ls | c2 | declare it: `client c2 a`
 create d 8192 | create | begins with its session's name

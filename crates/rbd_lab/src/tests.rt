@@ -216,7 +216,10 @@ fn the_first_fault_is_told(rt: HostRuntime) -> Result<(), Fail> {
 #[test]
 fn a_form_that_isnt_built_is_an_unknown_word(rt: HostRuntime) -> Result<(), Fail> {
     let rows = [
-        ("client c1 a\nc1 rm disk\n", "line 2: unknown word\n"),
+        (
+            "client c1 a\nc1 children disk@s\n",
+            "line 2: unknown word\n",
+        ),
         (
             "client c1 a\n@late c1 1\nc1 flatten disk\n",
             "line 3: unknown word\n",
@@ -226,7 +229,7 @@ fn a_form_that_isnt_built_is_an_unknown_word(rt: HostRuntime) -> Result<(), Fail
             "line 2: unknown word\n",
         ),
         (
-            "client c1 a\nc1 rm disk\nc1 read disk 00 1\n",
+            "client c1 a\nc1 flatten disk\nc1 read disk 00 1\n",
             "line 3: bad number\n",
         ),
     ];
