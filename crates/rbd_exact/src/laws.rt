@@ -24,9 +24,9 @@ ghost use Rattle.rbd_stands.specs.Site.{StandsFor};
 ghost use Rattle.rbd_exact.specs.Exact.{GoesWith, IsExactBut, IsOwed};
 ghost use Rattle.rbd_exact.specs.Owed.{PaysFrom, PaysItsStates, Spot, owed_behind};
 
-/// The plan of each command pays for each state that it sets, before it does anything else: it makes
-/// the object behind state 1, and behind another state than 0 it removes the object and sets its
-/// state to 0. It removes no other object, but with all of its image.
+/// The plan of each command pays for each state that it sets, before it does anything else: it
+/// makes the object behind state 1, and behind another state than 0 it removes the object and sets
+/// its state to 0. It removes no other object, but with all of its image.
 pub fn requests_pay_their_states()
     ensures { (seat : Seat) (command : Command) (s : Standing) → IsPlanFor seat command s → PaysFrom None s }
 {}
@@ -39,8 +39,8 @@ pub fn walks_owe_by_their_last_operation()
 {}
 
 /// Maps that are exact, but for what anybody owes, stay so: what is permitted by true knowledge to
-/// an instance that isn't fenced, and goes with what is owed, leaves them exact but for what is owed
-/// then.
+/// an instance that isn't fenced, and goes with what is owed, leaves them exact but for what is
+/// owed then.
 pub fn exact_maps_stay_exact()
     ensures first { (site : Site) (debts : (who : ℕ) → Option Spot) → IsExactBut (IsOwed debts site) no_records }
     ensures operation { (site : Site) (r : Records) (f : Flat) (k : Knowledge) (me : Instance) (op : Op) (most : ℕ) (debts later : (who : ℕ) → Option Spot)

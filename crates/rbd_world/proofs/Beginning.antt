@@ -1,7 +1,7 @@
 -- A world in which nothing happened is sound.
 use Rattle.std.proofs.Common.{◌≡◌, ℕ, true, List, [], length, is_some, Option, Some, None, refl, sym, ap, ◌∙◌, subst}
 use Rattle.rbd_client.specs.Client.{ClientView, state_in}
-use Rattle.rbd_exact.specs.Exact.{IsExactBut}
+use Rattle.rbd_exact.specs.Exact.{IsExactBut, IsOwed}
 use Rattle.rbd_exact.proofs.ExactlyKept.{none_exact}
 use Rattle.rbd_held.specs.Truth.{IsTrueOf}
 use Rattle.rbd_held.proofs.Calls.{new_client_is_true}
@@ -21,7 +21,7 @@ use Rattle.rbd_site.specs.Log.{after_all}
 use Rattle.rbd_site.specs.Records.{Records, no_records}
 use Rattle.rbd_site.proofs.FormLemmas.{form_at_first}
 use Rattle.rbd_stands.proofs.Nothing.{nothing_stands}
-use Rattle.rbd_world.specs.Owing.{is_owed}
+use Rattle.rbd_world.specs.Owing.{owed_in}
 use Rattle.rbd_world.specs.Run.{Happening}
 use Rattle.rbd_world.specs.Sound.{AreLivesOf, Holder, InSlot, Sending, IsFirst, IsHeldRightly, IsLiving, IsNewWorld, IsRunning, IsSoundWorld, KeepsToItsWay, first_life, held_of, line_at}
 use Rattle.rbd_world.specs.Step.{IsFresh}
@@ -126,7 +126,7 @@ module _ {R : Type 0} (stands : R → Standing) where
     form = λ s. subst (λ log. AreInForm (after_all no_records log) (length log)) (sym (new.sites s)) form_at_first;
     standalone = λ s. subst (λ log. AreStandalone (after_all no_records log)) (sym (new.sites s)) none_standalone;
     mapped = λ s. subst (λ log. AreMapped (after_all no_records log)) (sym (new.sites s)) none_mapped;
-    exact = λ calm s. subst (λ log. IsExactBut (is_owed s []) (after_all no_records log)) (sym (new.sites s)) (none_exact (is_owed s []));
+    exact = λ calm s. subst (λ log. IsExactBut (IsOwed (owed_in []) s) (after_all no_records log)) (sym (new.sites s)) (none_exact (IsOwed (owed_in []) s));
     lives = first_lives w new;
     clients = first_living w new;
     in_slots = λ session slot c is. sym (has_first w new session c is).fresh.instance;

@@ -1,17 +1,17 @@
--- What lines owe: each debt is what the last operation of its line left, and its line goes on.
-use Rattle.std.proofs.Common.{◌≡◌, ◌⊎◌, inl, inr, ℕ, ◌==◌, ◌&&◌, ◌||◌, not, cond, Bool, true, false, List, [], ◌∷◌, ◌++◌, Option, Some, None, is_some, refl, sym, ap, ◌∙◌, subst}
+-- What lines owe: what their own operations left; and who owes goes on.
+use Rattle.std.proofs.Common.{◌≡◌, ℕ, zero, ◌==◌, ◌&&◌, ◌||◌, cond, Bool, true, false, List, [], ◌∷◌, ◌++◌, Option, Some, None, is_some, refl, sym, ap, ◌∙◌, subst}
 use Rattle.std.specs.FinSet.{contains-empty}
 use Rattle.std.specs.FinSet as finset
-use Rattle.std.specs.List.{filter, list_any}
-use Rattle.std.proofs.lemmas.Bool.{and_parts, eq-eqb, eqb-true, or_right, true≢false}
+use Rattle.std.proofs.lemmas.Bool.{and_from, eq-eqb, eqb-true, or_right, true≢false}
 use Rattle.std.proofs.lemmas.List.{append-nil}
 use Rattle.rbd_commands.specs.declared.command.Command.{Command}
-use Rattle.rbd_exact.specs.Owed.{PaysItsStates, Spot, owed_behind, owed_by}
+use Rattle.rbd_exact.specs.Owed.{Due, PaysItsStates, Spot, due_behind, due_by, owed_after, owed_at, owed_behind, owed_by}
 use Rattle.rbd_exact.proofs.Pays.{request_pays}
 use Rattle.rbd_exact.proofs.Walks.{walk_pays}
 use Rattle.rbd_flat.specs.declared.effect.Effect.{Effect}
 use Rattle.rbd_kinds.specs.declared.answer.Answer.{Answer}
 use Rattle.rbd_kinds.specs.declared.answer.Answer.TheVariants as answer
+use Rattle.rbd_kinds.specs.declared.data_op.DataOp.{DataOp}
 use Rattle.rbd_kinds.specs.declared.data_op.DataOp.TheVariants as object
 use Rattle.rbd_kinds.specs.declared.id.Instance.{Instance}
 use Rattle.rbd_kinds.specs.declared.id.SiteId.{SiteId}
@@ -20,153 +20,77 @@ use Rattle.rbd_kinds.specs.declared.map_op.MapOp.TheVariants as states
 use Rattle.rbd_kinds.specs.declared.operation.Op.{Op}
 use Rattle.rbd_kinds.specs.declared.operation.Op.TheVariants as op
 use Rattle.rbd_kinds.specs.declared.reply.Reply.{Reply}
+use Rattle.rbd_kinds.specs.OperationKind.{kind_of}
 use Rattle.rbd_machine.specs.Knowledge.{same_site}
 use Rattle.rbd_machine.specs.Path.{Answered}
 use Rattle.rbd_machine.specs.Plan.{Plan, Ask, Await, Note, Return, Goto}
+use Rattle.rbd_machine.specs.declared.seat.Seat.{Seat}
 use Rattle.rbd_session.specs.Session.{is_look_at, kind_asked}
 use Rattle.rbd_session.proofs.Sound.{no_some, some_same}
 use Rattle.rbd_site.specs.Records.{Records}
 use Rattle.rbd_site.specs.Step.{after, answer_to, is_fenced}
 use Rattle.rbd_site.proofs.StepLemmas.{other_blocklist}
-use Rattle.rbd_world.specs.Owing.{Debt, IsUnhindered, debts_by, debts_of, has_worked, is_hindrance, is_of, owed_then}
+use Rattle.rbd_world.specs.Owing.{IsUnhindered, has_worked, is_hindrance, is_of, owed_in}
 use Rattle.rbd_world.specs.Run.{Doer, Itself, OnWay, House, AfterStop, Happening, Nothing, Waited, Began, Did, Refused, Trimmed, Expired, Heard, Stopped, Restarted, Asked, Operation, asked_by, comes_of, fence_of, is_for, is_own, records_after, sent_after, step_of, steps_in, steps_of}
+use Rattle.rbd_world.specs.Seats.{seat_at}
 use Rattle.rbd_world.specs.Sound.{EndsWith, GoesOnBehind, IsDone, IsDue, IsLedTo, IsOpen, IsRight}
 use Rattle.rbd_world.proofs.BothSites.{same_site_itself}
 use Rattle.rbd_world.proofs.Quiet.{IsQuiet, open_on, quiet_began, quiet_did, quiet_expired, quiet_heard, quiet_nothing, quiet_refused, quiet_restarted, quiet_trimmed, quiet_waited}
 
--- ---- debts that pass a test
+-- ---- what an operation leaves
 
-or_more : (b c d : Bool) → (c ≡ true → d ≡ true) → (b || c) ≡ true → (b || d) ≡ true
-or_more true c d more is = refl
-or_more false c d more is = more is
+last_owes : (owed : Option Spot) (steps : List Answered) (step : Answered) → owed_after owed (steps ++ step ∷ []) ≡ owed_by (owed_after owed steps) step.site step.op step.answer
+last_owes owed [] step = refl
+last_owes owed (one ∷ steps) step = last_owes (owed_by owed one.site one.op one.answer) steps step
 
-filtered : (P Q : Debt → Bool) (xs : List Debt) → list_any P (filter Q xs) ≡ true → list_any (λ d. Q d && P d) xs ≡ true
-filtered P Q [] is = is
-filtered P Q (x ∷ xs) is = by (Q x) (filtered P Q xs) is
-  where
-    by : (q : Bool) → (list_any P (filter Q xs) ≡ true → list_any (λ d. Q d && P d) xs ≡ true) → list_any P (cond q (x ∷ filter Q xs) (filter Q xs)) ≡ true
-        → ((q && P x) || list_any (λ d. Q d && P d) xs) ≡ true
-    by true rest is = or_more (P x) (list_any P (filter Q xs)) (list_any (λ d. Q d && P d) xs) rest is
-    by false rest is = rest is
-
--- it is another line's, or the line's own
-pub parted : (line : ℕ) (P : Debt → Bool) (xs : List Debt) → list_any P xs ≡ true
-    → (list_any P (filter (λ d. not (d.line == line)) xs) ≡ true) ⊎ (list_any (λ d. (d.line == line) && P d) xs ≡ true)
-parted line P [] is = absurd (true≢false (sym is))
-parted line P (x ∷ xs) is = by (x.line == line) (P x) refl (parted line P xs) is
-  where
-    by : (b p : Bool) → P x ≡ p → (list_any P xs ≡ true → (list_any P (filter (λ d. not (d.line == line)) xs) ≡ true) ⊎ (list_any (λ d. (d.line == line) && P d) xs ≡ true)) → (P x || list_any P xs) ≡ true
-        → (list_any P (cond (not b) (x ∷ filter (λ d. not (d.line == line)) xs) (filter (λ d. not (d.line == line)) xs)) ≡ true) ⊎ (((b && P x) || list_any (λ d. (d.line == line) && P d) xs) ≡ true)
-    by true true passes rest is = inr (ap (λ p. p || list_any (λ d. (d.line == line) && P d) xs) passes)
-    by false true passes rest is = inl (ap (λ p. p || list_any P (filter (λ d. not (d.line == line)) xs)) passes)
-    by true false fails rest is = go (rest (sym (ap (λ p. p || list_any P xs) fails) ∙ is))
-      where
-        go : (list_any P (filter (λ d. not (d.line == line)) xs) ≡ true) ⊎ (list_any (λ d. (d.line == line) && P d) xs ≡ true)
-            → (list_any P (filter (λ d. not (d.line == line)) xs) ≡ true) ⊎ ((P x || list_any (λ d. (d.line == line) && P d) xs) ≡ true)
-        go (inl one) = inl one
-        go (inr two) = inr (or_right (P x) (list_any (λ d. (d.line == line) && P d) xs) two)
-    by false false fails rest is = go (rest (sym (ap (λ p. p || list_any P xs) fails) ∙ is))
-      where
-        go : (list_any P (filter (λ d. not (d.line == line)) xs) ≡ true) ⊎ (list_any (λ d. (d.line == line) && P d) xs ≡ true)
-            → ((P x || list_any P (filter (λ d. not (d.line == line)) xs)) ≡ true) ⊎ (list_any (λ d. (d.line == line) && P d) xs ≡ true)
-        go (inl one) = inl (or_right (P x) (list_any P (filter (λ d. not (d.line == line)) xs)) one)
-        go (inr two) = inr two
-
--- what a line owes then is added to what others owe
-pub owed_more : (line : ℕ) (spot : Option Spot) (P : Debt → Bool) (xs : List Debt) → list_any P (filter (λ d. not (d.line == line)) xs) ≡ true → list_any P (owed_then line spot xs) ≡ true
-owed_more line None P xs is = is
-owed_more line (Some p) P xs is = or_right (P (record { line = line; spot = p })) (list_any P (filter (λ d. not (d.line == line)) xs)) is
-
--- ---- a debt is what the last operation of its line left
-
-last_owes : (steps : List Answered) (step : Answered) → owed_behind (steps ++ step ∷ []) ≡ owed_by step.site step.op step.answer
-last_owes [] step = refl
-last_owes (one ∷ []) step = refl
-last_owes (one ∷ two ∷ steps) step = last_owes (two ∷ steps) step
-
-pub record HasDebt (P : Debt → Bool) (run : List Happening) : Type 0 where
-  pub debt : Debt
-  pub passes : P debt ≡ true
-  pub owes : owed_behind (steps_of debt.line run) ≡ Some debt.spot
-
-still_owes : (P Q : Debt → Bool) (h : Happening) (run : List Happening) → (found : HasDebt Q run) → P found.debt ≡ true → steps_in found.debt.line h ≡ [] → HasDebt P (h ∷ run)
-still_owes P Q h run found passes none = record {
-  debt = found.debt;
-  passes = passes;
-  owes = ap (λ xs. owed_behind (steps_of found.debt.line run ++ xs)) none ∙ ap owed_behind (append-nil (steps_of found.debt.line run)) ∙ found.owes;
-}
-
-not_same : (line other : ℕ) → not (other == line) ≡ true → (line == other) ≡ false
-not_same line other apart = by (line == other) refl
-  where
-    by : (b : Bool) → (line == other) ≡ b → (line == other) ≡ false
-    by false is = is
-    by true is = absurd (true≢false (sym apart ∙ ap not (eq-eqb other line (sym (eqb-true line other is)))))
-
-own_steps : (line : ℕ) (o : Operation) (reply : Option Reply) (run : List Happening) → is_own line o.by ≡ true → owed_behind (steps_of line (Did o reply ∷ run)) ≡ owed_by o.site o.op o.answer
-own_steps line o reply run own = ap (λ b. owed_behind (steps_of line run ++ cond b (step_of o ∷ []) [])) own ∙ last_owes (steps_of line run) (step_of o)
+-- to the line of which it is
+pub own_steps : (line : ℕ) (o : Operation) (reply : Option Reply) (run : List Happening) → is_own line o.by ≡ true
+    → owed_in (Did o reply ∷ run) line ≡ owed_by (owed_in run line) o.site o.op o.answer
+own_steps line o reply run own = ap (λ b. owed_behind (steps_of line run ++ cond b (step_of o ∷ []) [])) own ∙ last_owes None (steps_of line run) (step_of o)
 
 no_own_steps : (line : ℕ) (o : Operation) (reply : Option Reply) → is_own line o.by ≡ false → steps_in line (Did o reply) ≡ []
 no_own_steps line o reply other = ap (λ b. cond b (step_of o ∷ []) []) other
 
-did_owes : (P : Debt → Bool) (o : Operation) (reply : Option Reply) (run : List Happening) → ((Q : Debt → Bool) → list_any Q (debts_of run) ≡ true → HasDebt Q run)
-    → (by : Doer) → o.by ≡ by → list_any P (debts_by o by (debts_of run)) ≡ true → HasDebt P (Did o reply ∷ run)
-did_owes P o reply run before House is any =
-    let found = before P any in still_owes P P (Did o reply) run found found.passes (no_own_steps found.debt.line o reply (ap (is_own found.debt.line) is))
-did_owes P o reply run before (OnWay line) is any =
-    let found = before P any in still_owes P P (Did o reply) run found found.passes (no_own_steps found.debt.line o reply (ap (is_own found.debt.line) is))
-did_owes P o reply run before (AfterStop slot) is any =
-    let found = before P any in still_owes P P (Did o reply) run found found.passes (no_own_steps found.debt.line o reply (ap (is_own found.debt.line) is))
-did_owes P o reply run before (Itself line) is any = own (owed_by o.site o.op o.answer) refl any
-  where
-    others : list_any P (filter (λ d. not (d.line == line)) (debts_of run)) ≡ true → HasDebt P (Did o reply ∷ run)
-    others any =
-        let found = before (λ d. not (d.line == line) && P d) (filtered P (λ d. not (d.line == line)) (debts_of run) any) in
-        let both = and_parts (not (found.debt.line == line)) (P found.debt) found.passes in
-        still_owes P (λ d. not (d.line == line) && P d) (Did o reply) run found both.1
-        (no_own_steps found.debt.line o reply (ap (is_own found.debt.line) is ∙ not_same line found.debt.line both.0))
+-- and to the others
+pub no_steps_owe : (line : ℕ) (h : Happening) (run : List Happening) → steps_in line h ≡ [] → owed_in (h ∷ run) line ≡ owed_in run line
+no_steps_owe line h run none = ap (λ xs. owed_behind (steps_of line run ++ xs)) none ∙ ap owed_behind (append-nil (steps_of line run))
 
-    own : (spot : Option Spot) → owed_by o.site o.op o.answer ≡ spot → list_any P (owed_then line spot (debts_of run)) ≡ true → HasDebt P (Did o reply ∷ run)
-    own None owes any = others any
-    own (Some p) owes any = go (P (record { line = line; spot = p })) refl any
-      where
-        go : (b : Bool) → P (record { line = line; spot = p }) ≡ b → (b || list_any P (filter (λ d. not (d.line == line)) (debts_of run))) ≡ true → HasDebt P (Did o reply ∷ run)
-        go true passes any = record {
-          debt = record { line = line; spot = p };
-          passes = passes;
-          owes = own_steps line o reply run (ap (is_own line) is ∙ eq-eqb line line refl) ∙ owes;
-        }
-        go false fails any = others any
-
-pub has_debt : (run : List Happening) (P : Debt → Bool) → list_any P (debts_of run) ≡ true → HasDebt P run
-has_debt [] P is = absurd (true≢false (sym is))
-has_debt (Did o reply ∷ run) P is = did_owes P o reply run (has_debt run) o.by refl is
-has_debt (h ∷ run) P is = let found = has_debt run P is in still_owes P P h run found found.passes refl
+pub others_owe : (line : ℕ) (o : Operation) (reply : Option Reply) (run : List Happening) → is_own line o.by ≡ false → owed_in (Did o reply ∷ run) line ≡ owed_in run line
+others_owe line o reply run other = no_steps_owe line (Did o reply) run (no_own_steps line o reply other)
 
 -- ---- a line that owes goes on
 
-pub led_pays : (home : SiteId) (c : Command) (steps : List Answered) (last : Plan) → IsLedTo home c steps last → PaysItsStates (owed_behind steps) last
-led_pays home c steps last led = walk_pays led.start led.feds steps last (request_pays home c led.start led.plan) led.given led.walk
+pub led_pays : (seat : Seat) (c : Command) (steps : List Answered) (last : Plan) → IsLedTo seat c steps last → PaysItsStates (owed_behind steps) last
+led_pays seat c steps last led = walk_pays led.start led.feds steps last (request_pays seat c led.start led.plan) led.given led.standalone led.walk
 
 -- who stands at a look owes nothing
+no_look : (s site : SiteId) (image number : ℕ) (o : DataOp) → is_look_at s (Some (site, kind_of (op.Data image number o))) ≡ true → ⊥
+no_look s site image number (object.Read snap parts) looks = true≢false (sym looks)
+no_look s site image number (object.Write context must parts bytes) looks = true≢false (sym looks)
+no_look s site image number (object.WriteFull context bytes) looks = true≢false (sym looks)
+no_look s site image number (object.Zero context must parts) looks = true≢false (sym looks)
+no_look s site image number (object.Empty context) looks = true≢false (sym looks)
+no_look s site image number (object.Remove context) looks = true≢false (sym looks)
+no_look s site image number (object.CopyUp bytes) looks = true≢false (sym looks)
+
 looks_unowing : (p : Spot) (s : SiteId) (plan : Plan) → is_look_at s (kind_asked plan) ≡ true → PaysItsStates (Some p) plan → ⊥
-looks_unowing p s (Ask site why (op.Data image number (object.Write context must parts bytes)) next) looks pays = true≢false (sym looks)
-looks_unowing p s (Ask site why (op.Data image number o) next) looks pays = absurd pays.0
+looks_unowing p s (Ask site why (op.Data image number o) next) looks pays = no_look s site image number o looks
+looks_unowing p s (Ask site why (op.Map image (states.Set None number zero)) next) looks pays = true≢false (sym looks)
 looks_unowing p s (Ask site why o next) looks pays = absurd pays.0
 looks_unowing p s (Await wait next) looks pays = pays
 looks_unowing p s (Note site image event next) looks pays = pays
 looks_unowing p s (Return reply) looks pays = pays
 looks_unowing p s (Goto label) looks pays = pays
 
-module _ (homes : ℕ → SiteId) (line : ℕ) (p : Spot) (run : List Happening) (before : owed_behind (steps_of line run) ≡ Some p → IsOpen line run) where
-  no_steps : (h : Happening) → steps_in line h ≡ [] → owed_behind (steps_of line (h ∷ run)) ≡ Some p → owed_behind (steps_of line run) ≡ Some p
-  no_steps h none owes = sym (ap (λ xs. owed_behind (steps_of line run ++ xs)) none ∙ ap owed_behind (append-nil (steps_of line run))) ∙ owes
+module _ (homes : ℕ → SiteId) (line : ℕ) (p : Spot) (run : List Happening) (before : owed_in run line ≡ Some p → IsOpen line run) where
+  no_steps : (h : Happening) → steps_in line h ≡ [] → owed_in (h ∷ run) line ≡ Some p → owed_in run line ≡ Some p
+  no_steps h none owes = sym (no_steps_owe line h run none) ∙ owes
 
-  open_quiet : (h : Happening) → IsQuiet line h → owed_behind (steps_of line (h ∷ run)) ≡ Some p → IsOpen line (h ∷ run)
+  open_quiet : (h : Happening) → IsQuiet line h → owed_in (h ∷ run) line ≡ Some p → IsOpen line (h ∷ run)
   open_quiet h quiet owes = open_on line h run quiet (before (no_steps h quiet.steps owes))
 
   -- it isn't begun anew
-  open_began : (asked : Asked) (slot : ℕ) → asked_by asked.line run ≡ None → owed_behind (steps_of line (Began asked slot ∷ run)) ≡ Some p → IsOpen line (Began asked slot ∷ run)
+  open_began : (asked : Asked) (slot : ℕ) → asked_by asked.line run ≡ None → owed_in (Began asked slot ∷ run) line ≡ Some p → IsOpen line (Began asked slot ∷ run)
   open_began asked slot new owes = by (asked.line == line) refl
     where
       by : (b : Bool) → (asked.line == line) ≡ b → IsOpen line (Began asked slot ∷ run)
@@ -179,7 +103,7 @@ module _ (homes : ℕ → SiteId) (line : ℕ) (p : Spot) (run : List Happening)
   abbrev goes_on : (o : Operation) → IsOpen line run → IsOpen line (Did o None ∷ run)
   goes_on o begun = record { asked = begun.asked; is = begun.is; unended = begun.unended }
 
-  open_did : (o : Operation) (by : Doer) → o.by ≡ by → GoesOnBehind homes o.site by run → owed_behind (steps_of line (Did o None ∷ run)) ≡ Some p → IsOpen line (Did o None ∷ run)
+  open_did : (o : Operation) (by : Doer) → o.by ≡ by → GoesOnBehind homes o.site by run → owed_in (Did o None ∷ run) line ≡ Some p → IsOpen line (Did o None ∷ run)
   open_did o (Itself other) is begun owes = go (other == line) refl
     where
       go : (b : Bool) → (other == line) ≡ b → IsOpen line (Did o None ∷ run)
@@ -190,17 +114,17 @@ module _ (homes : ℕ → SiteId) (line : ℕ) (p : Spot) (run : List Happening)
   open_did o (AfterStop slot) is begun owes = goes_on o (before (no_steps (Did o None) (no_own_steps line o None (ap (is_own line) is)) owes))
 
   -- its reply leaves nothing owed
-  ended_owes : (h : Happening) (reply : Reply) (session : ℕ) (c : Command) → IsLedTo (homes session) c (steps_of line (h ∷ run)) (Return reply) → owed_behind (steps_of line (h ∷ run)) ≡ Some p → ⊥
-  ended_owes h reply session c led owes = subst (λ owed. PaysItsStates owed (Return reply)) owes (led_pays (homes session) c (steps_of line (h ∷ run)) (Return reply) led)
+  ended_owes : (h : Happening) (reply : Reply) (session : ℕ) (c : Command) → IsLedTo (seat_at homes session) c (steps_of line (h ∷ run)) (Return reply) → owed_in (h ∷ run) line ≡ Some p → ⊥
+  ended_owes h reply session c led owes = subst (λ owed. PaysItsStates owed (Return reply)) owes (led_pays (seat_at homes session) c (steps_of line (h ∷ run)) (Return reply) led)
 
-  open_ended : (o : Operation) (reply : Reply) (by : Doer) → o.by ≡ by → EndsWith homes o reply run by → owed_behind (steps_of line (Did o (Some reply) ∷ run)) ≡ Some p → IsOpen line (Did o (Some reply) ∷ run)
+  open_ended : (o : Operation) (reply : Reply) (by : Doer) → o.by ≡ by → EndsWith homes o reply run by → owed_in (Did o (Some reply) ∷ run) line ≡ Some p → IsOpen line (Did o (Some reply) ∷ run)
   open_ended o reply (Itself other) is ends owes = go (other == line) refl
     where
       go : (b : Bool) → (other == line) ≡ b → IsOpen line (Did o (Some reply) ∷ run)
       go true same =
           absurd
           (ended_owes (Did o (Some reply)) reply ends.begun.asked.who.session ends.begun.asked.command
-          (subst (λ l. IsLedTo (homes ends.begun.asked.who.session) ends.begun.asked.command (steps_of l (Did o (Some reply) ∷ run)) (Return reply)) (eqb-true other line same) ends.ended) owes)
+          (subst (λ l. IsLedTo (seat_at homes ends.begun.asked.who.session) ends.begun.asked.command (steps_of l (Did o (Some reply) ∷ run)) (Return reply)) (eqb-true other line same) ends.ended) owes)
       go false differ = open_quiet (Did o (Some reply)) (quiet_did line o (Some reply) (ap (is_for line) is ∙ ap (λ b. b || false) differ)) owes
   open_ended o reply (OnWay other) is ends owes = go (other == line) refl
     where
@@ -209,13 +133,13 @@ module _ (homes : ℕ → SiteId) (line : ℕ) (p : Spot) (run : List Happening)
           absurd
           (looks_unowing p o.site ends.plan ends.wants
           (subst (λ owed. PaysItsStates owed ends.plan) (no_steps (Did o (Some reply)) (no_own_steps line o (Some reply) (ap (is_own line) is)) owes)
-          (led_pays (homes ends.begun.asked.who.session) ends.begun.asked.command (steps_of line run) ends.plan
-          (subst (λ l. IsLedTo (homes ends.begun.asked.who.session) ends.begun.asked.command (steps_of l run) ends.plan) (eqb-true other line same) ends.led))))
+          (led_pays (seat_at homes ends.begun.asked.who.session) ends.begun.asked.command (steps_of line run) ends.plan
+          (subst (λ l. IsLedTo (seat_at homes ends.begun.asked.who.session) ends.begun.asked.command (steps_of l run) ends.plan) (eqb-true other line same) ends.led))))
       go false differ = open_quiet (Did o (Some reply)) (quiet_did line o (Some reply) (ap (is_for line) is ∙ differ)) owes
   open_ended o reply House is ends owes = absurd ends
   open_ended o reply (AfterStop slot) is ends owes = absurd ends
 
-  open_behind : (h : Happening) → IsDue homes h run → IsUnhindered (h ∷ run) → owed_behind (steps_of line (h ∷ run)) ≡ Some p → IsOpen line (h ∷ run)
+  open_behind : (h : Happening) → IsDue homes h run → IsUnhindered (h ∷ run) → owed_in (h ∷ run) line ≡ Some p → IsOpen line (h ∷ run)
   open_behind Nothing due calm owes = open_quiet Nothing (quiet_nothing line) owes
   open_behind Waited due calm owes = open_quiet Waited (quiet_waited line) owes
   open_behind (Began asked slot) due calm owes = open_began asked slot due.new owes
@@ -227,7 +151,7 @@ module _ (homes : ℕ → SiteId) (line : ℕ) (p : Spot) (run : List Happening)
       go true same =
           absurd
           (ended_owes (Refused s other reply) reply due.begun.asked.who.session due.begun.asked.command
-          (subst (λ l. IsLedTo (homes due.begun.asked.who.session) due.begun.asked.command (steps_of l (Refused s other reply ∷ run)) (Return reply)) (eqb-true other line same) due.ended) owes)
+          (subst (λ l. IsLedTo (seat_at homes due.begun.asked.who.session) due.begun.asked.command (steps_of l (Refused s other reply ∷ run)) (Return reply)) (eqb-true other line same) due.ended) owes)
       go false differ = open_quiet (Refused s other reply) (quiet_refused line s other reply differ) owes
   open_behind (Trimmed s number image object) due calm owes = open_quiet (Trimmed s number image object) (quiet_trimmed line s number image object) owes
   open_behind (Expired s number image who) due calm owes = open_quiet (Expired s number image who) (quiet_expired line s number image who) owes
@@ -235,36 +159,48 @@ module _ (homes : ℕ → SiteId) (line : ℕ) (p : Spot) (run : List Happening)
   open_behind (Stopped who wanted lost) due calm owes = absurd (true≢false calm.0)
   open_behind (Restarted who) due calm owes = open_quiet (Restarted who) (quiet_restarted line who) owes
 
-pub debt_open : (homes : ℕ → SiteId) (run : List Happening) → IsRight homes run → IsUnhindered run → (line : ℕ) (p : Spot) → owed_behind (steps_of line run) ≡ Some p → IsOpen line run
+pub debt_open : (homes : ℕ → SiteId) (run : List Happening) → IsRight homes run → IsUnhindered run → (line : ℕ) (p : Spot) → owed_in run line ≡ Some p → IsOpen line run
 debt_open homes [] right calm line p owes = absurd (no_some p owes)
 debt_open homes (h ∷ run) (standing, due, right) calm line p owes = open_behind homes line p run (debt_open homes run right calm.1 line p) h due calm owes
 
 -- ---- it has worked on the image
 
-owes_there : (b : Doer) (i : Instance) (s : SiteId) (n : ℕ) (o : Op) (a : Answer) (e : Option Effect) (p : Spot) → owed_by s o a ≡ Some p
-    → is_of p.site p.image (record { by = b; instance = i; site = s; number = n; op = o; answer = a; effect = e }) ≡ true
-owes_there b i s n (op.Map image (states.Set None object state)) answer.Done e p is =
-    subst (λ (q : Spot). is_of q.site q.image (record { by = b; instance = i; site = s; number = n; op = op.Map image (states.Set None object state); answer = answer.Done; effect = e }) ≡ true)
-    (some_same (record { site = s; image = image; object = object }) p is)
-    (ap (λ c. c && (image == image)) (same_site_itself s) ∙ eq-eqb image image refl)
-owes_there b i s n (op.Map image (states.Set None object state)) a e p is = absurd (no_some p is)
-owes_there b i s n (op.Map image (states.Set (Some v) object state)) a e p is = absurd (no_some p is)
-owes_there b i s n (op.Map image o) a e p is = absurd (no_some p is)
-owes_there b i s n o a e p is = absurd (no_some p is)
+-- what is owed is owed at the operation's image
+owes_at : (s : SiteId) (image number : ℕ) (due : Option Due) (p : Spot) → owed_at s image number due ≡ Some p → (s ≡ p.site) × (image ≡ p.image)
+owes_at s image number None p is = absurd (no_some p is)
+owes_at s image number (Some due) p is =
+    let same = some_same (record { site = s; image = image; object = number; due = due }) p is in (ap (λ (q : Spot). q.site) same, ap (λ (q : Spot). q.image) same)
 
-pub worked : (run : List Happening) (line : ℕ) (p : Spot) → owed_behind (steps_of line run) ≡ Some p → has_worked line p.site p.image run ≡ true
+owes_there : (owed : Option Spot) (b : Doer) (i : Instance) (s : SiteId) (n : ℕ) (o : Op) (a : Answer) (e : Option Effect) (p : Spot) → owed_by owed s o a ≡ Some p
+    → is_of p.site p.image (record { by = b; instance = i; site = s; number = n; op = o; answer = a; effect = e }) ≡ true
+owes_there owed b i s n (op.Map image (states.Set None number state)) answer.Done e p is = here (owes_at s image number (due_by state) p is)
+  where
+    here : (s ≡ p.site) × (image ≡ p.image) → (same_site s p.site && (image == p.image)) ≡ true
+    here same = and_from (same_site s p.site) (image == p.image) (ap (same_site s) (sym same.0) ∙ same_site_itself s) (eq-eqb image p.image same.1)
+owes_there owed b i s n (op.Map image (states.Set None number state)) a e p is = absurd (no_some p is)
+owes_there owed b i s n (op.Map image (states.Set (Some v) number state)) a e p is = absurd (no_some p is)
+owes_there owed b i s n (op.Map image o) a e p is = absurd (no_some p is)
+owes_there (Some q) b i s n (op.Data image number (object.Remove context)) answer.Done e p is = here (owes_at s image number (due_behind q.due) p is)
+  where
+    here : (s ≡ p.site) × (image ≡ p.image) → (same_site s p.site && (image == p.image)) ≡ true
+    here same = and_from (same_site s p.site) (image == p.image) (ap (same_site s) (sym same.0) ∙ same_site_itself s) (eq-eqb image p.image same.1)
+owes_there (Some q) b i s n (op.Data image number (object.Remove context)) a e p is = absurd (no_some p is)
+owes_there owed b i s n (op.Data image number o) a e p is = absurd (no_some p is)
+owes_there owed b i s n o a e p is = absurd (no_some p is)
+
+pub worked : (run : List Happening) (line : ℕ) (p : Spot) → owed_in run line ≡ Some p → has_worked line p.site p.image run ≡ true
 worked [] line p owes = absurd (no_some p owes)
 worked (Did o reply ∷ run) line p owes = by (is_own line o.by) refl (worked run line p)
   where
-    by : (b : Bool) → is_own line o.by ≡ b → (owed_behind (steps_of line run) ≡ Some p → has_worked line p.site p.image run ≡ true)
+    by : (b : Bool) → is_own line o.by ≡ b → (owed_in run line ≡ Some p → has_worked line p.site p.image run ≡ true)
         → ((is_own line o.by && is_of p.site p.image o) || has_worked line p.site p.image run) ≡ true
     by true own before =
         ap (λ b. (b && is_of p.site p.image o) || has_worked line p.site p.image run) own
         ∙ ap (λ b. b || has_worked line p.site p.image run)
-        (owes_there o.by o.instance o.site o.number o.op o.answer o.effect p (sym (own_steps line o reply run own) ∙ owes))
+        (owes_there (owed_in run line) o.by o.instance o.site o.number o.op o.answer o.effect p (sym (own_steps line o reply run own) ∙ owes))
     by false other before =
         or_right (is_own line o.by && is_of p.site p.image o) (has_worked line p.site p.image run)
-        (before (sym (ap (λ xs. owed_behind (steps_of line run ++ xs)) (no_own_steps line o reply other) ∙ ap owed_behind (append-nil (steps_of line run))) ∙ owes))
+        (before (sym (others_owe line o reply run other) ∙ owes))
 worked (h ∷ run) line p owes = worked run line p (sym (ap owed_behind (append-nil (steps_of line run))) ∙ owes)
 
 -- ---- where nobody is stopped or fenced

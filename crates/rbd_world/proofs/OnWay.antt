@@ -206,7 +206,7 @@ module _ {R : Type 0} (stands : R → Standing) (old new : WorldView R) (w : IsS
         (truth_now stands old new w session slot c there a.site (op_of a) wanted (OnWay r.line) result d became at_sites sound_then)
         (truth_of_others stands old new w session slot c there a.site (op_of a) wanted (OnWay r.line) result d became at_sites sound_then)
         (sending_now stands old new w session slot c there a.site (op_of a) wanted (OnWay r.line) result d became at_sites sound_then)
-        (λ calm. plain_owes operation result w.run refl (way_plain a)) (no_turn operation result w.run (λ line. refl)) (λ m q apart is other writer. refl) (order result is_fed.session)
+        (λ calm. plain_owes operation result w.run (λ line. refl) (way_plain a)) (no_turn operation result w.run (λ line. refl)) (λ m q apart is other writer. refl) (order result is_fed.session)
 
   pub way_keeps : Does stands (event.Poll session slot) does_it old new → DoesAtSites does_it old.sites new.sites → ((m : ℕ) → IsSoundIf stands (client_in m new.lives)) → IsCarried stands old new w does_it
   way_keeps does at_sites sound =

@@ -92,7 +92,7 @@ module _ {R : Type 0} (stands : R → Standing) (old new : WorldView R) (w : IsS
         (truth_now stands old new w session slot c there x.site (release_op x) wanted House None d became at_sites sound_then)
         (truth_of_others stands old new w session slot c there x.site (release_op x) wanted House None d became at_sites sound_then)
         (sending_now stands old new w session slot c there x.site (release_op x) wanted House None d became at_sites sound_then)
-        (λ calm. plain_owes operation None w.run refl (release_plain x)) (no_turn operation None w.run (λ line. refl)) (λ m q apart is other writer. refl)
+        (λ calm. plain_owes operation None w.run (λ line. refl) (release_plain x)) (no_turn operation None w.run (λ line. refl)) (λ m q apart is other writer. refl)
         (still_in_order stands old new w does_it due session c d there is_fed.session (λ line before. refl) (λ other writer. refl))
 
   pub release_keeps : Does stands (event.Poll session slot) does_it old new → DoesAtSites does_it old.sites new.sites → ((m : ℕ) → IsSoundIf stands (client_in m new.lives)) → IsCarried stands old new w does_it

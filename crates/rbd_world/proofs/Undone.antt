@@ -4,7 +4,7 @@ use Rattle.rbd_client.specs.declared.slot_state.Way.{Way}
 use Rattle.rbd_client.specs.Client.{ClientView, state_in}
 use Rattle.rbd_client.specs.Feeding.{IsClientAlike}
 use Rattle.rbd_client.specs.Sound.{IsSoundClient}
-use Rattle.rbd_exact.specs.Exact.{IsExactBut}
+use Rattle.rbd_exact.specs.Exact.{IsExactBut, IsOwed}
 use Rattle.rbd_held.specs.Truth.{IsTrueOf}
 use Rattle.rbd_held.proofs.Calls.{readied_is_true}
 use Rattle.rbd_kinds.specs.declared.id.Instance.{Instance}
@@ -25,7 +25,7 @@ use Rattle.rbd_session.specs.Session.{IsAlikeIn, held_in, running_at, running_in
 use Rattle.rbd_session.proofs.Sound.{no_some, some_same}
 use Rattle.rbd_site.specs.InForm.{AreInForm}
 use Rattle.rbd_world.specs.declared.sites.Sites.{Sites}
-use Rattle.rbd_world.specs.Owing.{IsUnhindered, is_owed}
+use Rattle.rbd_world.specs.Owing.{IsUnhindered, owed_in}
 use Rattle.rbd_world.specs.Run.{Happening, AreCalls, asked_by, log_of, records_after, steps_of, way_of}
 use Rattle.rbd_world.specs.Sound.{AreLivesOf, AreStrangers, Holder, InSlot, Sending, IsHeldRightly, IsLiving, IsRunning, IsSoundWorld, IsUnderWay, KeepsToItsWay, MayStillCome, has_ended, held_of, known_in, line_at}
 use Rattle.rbd_world.specs.Step.{AreLivesAlike, IsAlikeOf, IsClientAlikeIf, IsSoundIf, IsUndone}
@@ -180,7 +180,7 @@ module _ {R : Type 0} (stands : R → Standing) where
     form = subst (λ (sites : Sites). (s : SiteId) → AreInForm (records_in s sites) (length (site_in s sites).log)) (sym undone.sites) w.form;
     standalone = subst (λ (sites : Sites). (s : SiteId) → AreStandalone (records_in s sites)) (sym undone.sites) w.standalone;
     mapped = subst (λ (sites : Sites). (s : SiteId) → AreMapped (records_in s sites)) (sym undone.sites) w.mapped;
-    exact = subst (λ (sites : Sites). IsUnhindered w.run → (s : SiteId) → IsExactBut (is_owed s w.run) (records_in s sites)) (sym undone.sites) w.exact;
+    exact = subst (λ (sites : Sites). IsUnhindered w.run → (s : SiteId) → IsExactBut (IsOwed (owed_in w.run) s) (records_in s sites)) (sym undone.sites) w.exact;
     lives = λ session. lives_if w.run (w.homes session) session (lives_in session old.lives) (lives_in session new.lives) (undone.lives session) (w.lives session);
     clients = λ session.
         alike_if (IsLiving stands (w.homes session) session w.run (known_in w.knows session)) (client_in session old.lives) (client_in session new.lives) (same session) (sound session)

@@ -7,7 +7,7 @@ use Rattle.rbd_client.specs.Client.{ClientView, state_in}
 use Rattle.rbd_client.specs.Sound.{IsSoundClient}
 use Rattle.rbd_commands.specs.declared.command.Command.{Command}
 use Rattle.rbd_commands.specs.declared.refusal.Refusal.{Refusal}
-use Rattle.rbd_exact.specs.Exact.{IsExactBut}
+use Rattle.rbd_exact.specs.Exact.{IsExactBut, IsOwed}
 use Rattle.rbd_held.specs.Truth.{IsTrueOf}
 use Rattle.rbd_kinds.specs.declared.answer.Answer.{Answer}
 use Rattle.rbd_kinds.specs.declared.header_op.HeaderOp.TheVariants as header
@@ -46,7 +46,7 @@ use Rattle.rbd_watch.specs.Posting.{numbered}
 use Rattle.rbd_watch.specs.Watching.{oldest_of}
 use Rattle.rbd_world.specs.Begun.{LinesBegun, has_line}
 use Rattle.rbd_world.specs.Order.{IsInOrder, KeepsOrder}
-use Rattle.rbd_world.specs.Owing.{IsUnhindered, is_owed}
+use Rattle.rbd_world.specs.Owing.{IsUnhindered, owed_in}
 use Rattle.rbd_world.specs.Run.{Asked, Doer, Itself, OnWay, House, AfterStop, Happening, Began, Did, Refused, Trimmed, Expired, Heard, Stopped, Restarted, Operation, Sent, AreCalls, asked_by, ends, flat_after, history_of, is_among, life_after, log_of, mail_of, records_after, sent_after, step_of, steps_of, way_of}
 use Rattle.rbd_world.specs.Step.{IsFresh, is_begun}
 use Rattle.rbd_world.specs.Ways.{AsksNext, GoesWith, IsOfRelease, IsOver, WasRefused}
@@ -354,7 +354,7 @@ pub record IsSoundWorld {R : Type 0} (stands : R → Standing) (w : WorldView R)
   pub standalone : (s : SiteId) → AreStandalone (records_in s w.sites)
   pub mapped : (s : SiteId) → AreMapped (records_in s w.sites)
   -- where nobody was stopped or fenced, maps tell exactly what exists, but for what lines owe
-  pub exact : IsUnhindered run → (s : SiteId) → IsExactBut (is_owed s run) (records_in s w.sites)
+  pub exact : IsUnhindered run → (s : SiteId) → IsExactBut (IsOwed (owed_in run) s) (records_in s w.sites)
   -- each session's lives are those of the run, and the requests of the one that runs are under way
   -- by what they know
   pub lives : (session : ℕ) (l : LivesView R) → lives_in session w.lives ≡ Some l → AreLivesOf run (homes session) session l
