@@ -1,10 +1,10 @@
 -- Who is first at an object in a line stays so, whatever becomes of another member.
-use Rattle.std.proofs.Common.{◌≡◌, ◌≢◌, ℕ, cond, not, ◌&&◌, ◌||◌, eqb, Bool, true, false, List, [], ◌∷◌, ◌++◌, drop, refl, sym, ap, ◌∙◌, subst}
+use Rattle.std.proofs.Common.{◌≡◌, ◌≢◌, ℕ, cond, not, ◌||◌, eqb, Bool, true, false, List, [], ◌∷◌, ◌++◌, drop, refl, sym, ap, ◌∙◌, subst}
 use Rattle.std.specs.List.{filter, list_all}
-use Rattle.std.proofs.lemmas.Bool.{true≢false, and_parts, eqb-true, or_parts, or_right}
+use Rattle.std.proofs.lemmas.Bool.{true≢false, and_parts, eqb-true, or_parts}
 use Rattle.std.proofs.lemmas.List.Folds.{list_any-append}
 use Rattle.rbd_guard.specs.Order.{is_in}
-use Rattle.rbd_line.specs.Line.{Member, behind, changed, entered, has_turn, holds, is_past, none_past_behind, slots, without, Each, IsFairMember}
+use Rattle.rbd_line.specs.Line.{Member, behind, changed, has_turn, holds, is_past, none_past_behind, slots, without, Each, IsFairMember}
 use Rattle.rbd_line.specs.Turns.{begins_with}
 
 -- a list begins with one number

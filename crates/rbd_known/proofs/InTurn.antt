@@ -1,6 +1,6 @@
 -- What a request knows of single objects it knows in its turn, up to its next operation, and others
 -- keep their turns.
-use Rattle.std.proofs.Common.{◌≡◌, ◌≢◌, inl, inr, ℕ, ◌≤◌, Bool, true, false, [], Option, Some, None, is_some, refl, sym, ap, ◌∙◌, subst}
+use Rattle.std.proofs.Common.{◌≡◌, inl, inr, ℕ, ◌≤◌, Bool, true, false, [], Option, Some, None, is_some, refl, sym, ap, ◌∙◌, subst}
 use Rattle.std.specs.Prelude.{IsSome}
 use Rattle.std.proofs.lemmas.Bool.{true≢false, and_parts}
 use Rattle.rbd_course.specs.Course.{is_own_at, is_waiting}
@@ -12,7 +12,7 @@ use Rattle.rbd_kinds.specs.declared.id.SiteId.{SiteId}
 use Rattle.rbd_kinds.specs.declared.layout.Extent.{Extent}
 use Rattle.rbd_kinds.specs.declared.machine.Want.TheVariants as want
 use Rattle.rbd_kinds.specs.declared.operation.Op.{Op}
-use Rattle.rbd_line.specs.Line.{Member, has_turn, is_past, member_of, objects_in}
+use Rattle.rbd_line.specs.Line.{has_turn, is_past, member_of, objects_in}
 use Rattle.rbd_line.specs.Turns.{begins_with}
 use Rattle.rbd_machine.specs.Knowledge.{Knowledge, Own, learned, own_of, passed}
 use Rattle.rbd_machine.specs.Label.{Label}
@@ -29,7 +29,7 @@ use Rattle.rbd_session.proofs.Behind.{holds_none}
 use Rattle.rbd_session.proofs.Fairness.{passed_by_fair}
 use Rattle.rbd_session.proofs.Sound.{no_some}
 use Rattle.rbd_session.proofs.Way.{noted_on_track, nowhere_course, place_there, waited_on_track}
-use Rattle.rbd_known.specs.Knowing.{HasItsTurns, KeepsTurns, known_at_operation}
+use Rattle.rbd_known.specs.Knowing.{HasItsTurns, KeepsTurns}
 use Rattle.rbd_known.specs.Tied.{IsTied}
 use Rattle.rbd_known.proofs.Along.{left_knows_none}
 use Rattle.rbd_known.proofs.There.{owner_there}

@@ -140,7 +140,7 @@ module _ (slot : ℕ) (e : Option Extent) (labels : Label → Plan) where
   behind_has at (Ask site why o next) (fed.Answer a) t k asks can fair on goes lawful tied in_turn =
       let after = answered_on_track slot e labels true site why o next a t can fair on in
       let tied_after = subst (IsTied (learned k site o a)) (sym (course_answered slot e t site o a on.somewhere))
-          (answered_tied e k (course_of slot t) tied site o a (λ i own. quiet_before slot t on.somewhere fair on.turns site i own)) in
+      (answered_tied e k (course_of slot t) tied site o a (λ i own. quiet_before slot t on.somewhere fair on.turns site i own)) in
       way_has (next a) true (answered_by slot e t site o a) (learned k site o a) after tied_after
       (answered_has slot e t k site o a (turn_of_goes slot t goes) after.somewhere tied_after (answered_in_turn site k o a in_turn lawful.0))
   behind_has at (Ask site why o next) fed.Passed t k asks can fair on goes lawful tied in_turn = absurd can
@@ -172,7 +172,7 @@ pub fed_keeps_turns : (slot : ℕ) → 1 ≤ slot → slot ≤ 64 → (e : Optio
     → waits slot t ≡ false → IsOnTrack slot e true (record { labels = labels; plan = plan }) t → KeepsTurns slot t.lines (run slot (plan_after plan f) (fed_by slot e t plan f)).lines
 fed_keeps_turns slot from to e labels (Ask site why o next) (fed.Answer a) t asks can fair goes on =
     let rest = run_keeps_turns slot from to e labels (next a) true (answered_by slot e t site o a) (answered_on_track slot e labels true site why o next a t can fair on)
-        (answered_by_fair slot e t site o a fair (λ s i own. passes s i own)) in
+    (answered_by_fair slot e t site o a fair (λ s i own. passes s i own)) in
     λ other differ s i object is. rest other differ s i object (answered_keeps_turns slot e t site o a other differ s i object is)
   where
     at_own : (s : SiteId) (i : ℕ) (place : Option Place) → is_own_at s i place ≡ true → is_at_own place ≡ true

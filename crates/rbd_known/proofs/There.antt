@@ -8,7 +8,7 @@ use Rattle.rbd_line.specs.Line.{Member, is_past, member_of}
 use Rattle.rbd_machine.specs.Knowledge.{Own}
 use Rattle.rbd_rely.proofs.Less.{place_of}
 use Rattle.rbd_session.specs.OnTrack.{IsSomewhere}
-use Rattle.rbd_session.specs.Track.{Track, Lines, line_in, course_of}
+use Rattle.rbd_session.specs.Track.{Track, line_in, course_of}
 use Rattle.rbd_session.proofs.Way.{nowhere_course, place_there}
 use Rattle.rbd_known.specs.Tied.{OwnsIn}
 
