@@ -1,6 +1,6 @@
 //! What requests do to their end, and by how many operations: laws, each the contract of a function
 //! that does nothing.
-ghost use Rattle.std.specs.Prelude.{◌≡◌, ℕ, ◌+◌, ◌*◌, ◌<◌, ◌≤◌, List, length};
+ghost use Rattle.std.specs.Prelude.{ℕ, ◌+◌, ◌*◌, ◌<◌, ◌≤◌, List, length};
 ghost use Rattle.rbd_commands.specs.declared.command.Command.{Command};
 ghost use Rattle.rbd_kinds.specs.declared.header.HeaderView.{HeaderView};
 ghost use Rattle.rbd_kinds.specs.declared.header.SnapView.{SnapView};
