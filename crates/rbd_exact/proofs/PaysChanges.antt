@@ -24,7 +24,7 @@ use Rattle.rbd_meaning.specs.Writes.{write_refuses}
 use Rattle.rbd_zero.specs.Full.{cut_bytes, full_by, full_piece, replacing, writing_full}
 use Rattle.rbd_zero.specs.Operations.{data_empty, data_remove, data_write_full, map_set}
 use Rattle.rbd_zero.specs.Shrink.{pieces_from}
-use Rattle.rbd_zero.specs.Size.{cutting, growing, resize, resize_by, shrinking, sizing}
+use Rattle.rbd_zero.specs.Size.{cutting, resize, resize_by, sizing}
 use Rattle.rbd_zero.specs.Size as of_size
 use Rattle.rbd_zero.specs.Zero.{emptying, head_of, is_below, is_inside, is_whole, removing, setting, zero_all, zero_by, zero_piece}
 use Rattle.rbd_discard.specs.Discard.{discard_plan, zero, zero_pieces}

@@ -1,6 +1,6 @@
 //! What requests owe to object maps, and what is exact: laws, each the contract of a function that
 //! does nothing.
-ghost use Rattle.std.specs.Prelude.{◌≡◌, ℕ, List, [], IsFalse, Option, None};
+ghost use Rattle.std.specs.Prelude.{ℕ, List, [], IsFalse, Option, None};
 ghost use Rattle.rbd_commands.specs.declared.command.Command.{Command};
 ghost use Rattle.rbd_flat.specs.Flat.{Flat};
 ghost use Rattle.rbd_kinds.specs.declared.id.Instance.{Instance};
