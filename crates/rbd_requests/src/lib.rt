@@ -5,7 +5,8 @@
 //! is_built(&command)                                    // true: `write disk 4094 hello` is served
 //! let work: Work<Follower> = Work::Plain(command);
 //! SessionRequest::extent(&work)                         // bytes 4094 to 4098, which it changes piece by piece
-//! match SessionRequest::begin(alloc, SiteId::A, work)? {
+//! let seat = Seat { session: SessionNo(0), home: SiteId::A };
+//! match SessionRequest::begin(alloc, &seat, work)? {
 //!     Begun::Refused(refusal) => refusal,               // only a `create`, whose shape is outside the limits
 //!     Begun::Asks(mut request) => {
 //!         request.wants()                               // an operation at site A, of the kind dir-find
@@ -21,12 +22,17 @@
 //! | command | request | operations at most | its extent |
 //! |---|---|---|---|
 //! | `write`, `fill` | [`WriteRequest`](rbd_request::WriteRequest) | 3, and two for each piece | the bytes that it puts |
+//! | `discard` | [`DiscardRequest`](rbd_discard::DiscardRequest) | 3, and three for each piece | the bytes that it zeros |
 //! | `read` | [`ReadRequest`](rbd_request::ReadRequest) | 3, and one for each piece; as many again each time that it begins again | none |
 //! | `create` without a journal | [`CreateRequest`](rbd_admin::CreateRequest) | 3 | none |
-//! | `ls` | [`ListRequest`](rbd_admin::ListRequest) | 1 | none |
+//! | `ls`, `rename` | [`ListRequest`](rbd_admin::ListRequest) | 1 | none |
 //! | `info`, `snap ls` | [`ListRequest`](rbd_admin::ListRequest) | 2 | none |
+//! | `du` | [`ListRequest`](rbd_admin::ListRequest) | 3 | none |
 //! | `snap create` | [`SnapRequest`](rbd_admin::SnapRequest) | 6 | none |
 //! | `snap rm` | [`SnapRequest`](rbd_admin::SnapRequest) | 5 | none |
+//! | `resize` | [`ResizeRequest`](rbd_resize::ResizeRequest) | 5, and three for each object with bytes from the new size on | none |
+//! | `snap rollback` | [`RollbackRequest`](rbd_resize::RollbackRequest) | 5, three for each object with bytes from the snapshot's size on, and four for each of the snapshot's | none |
+//! | `rm` | [`RemoveRequest`](rbd_remove::RemoveRequest) | 11, and one for each object in use | none |
 //! | `close` | [`CloseRequest`](rbd_close::CloseRequest) | 4 | none |
 //! | `quiesce` | [`CloseRequest`](rbd_close::CloseRequest) | 3, beside those of a way to the lock | none |
 //! | `resume` | [`CloseRequest`](rbd_close::CloseRequest) | 1 | none |
@@ -37,8 +43,10 @@
 //! - A `create` outside the limits is refused with BadShape, before any operation. All else begins
 //!   at an operation.
 //! - The extent of a work is what it changes piece by piece beside other requests of its image: it
-//!   takes its turn at each object of it. A read changes nothing, and a snapshot is taken or
-//!   removed alone on the image. A `close` and a `quiesce` are alone there, too.
+//!   takes its turn at each object of it. A read changes nothing, and `snap create`, `snap rm`,
+//!   `snap rollback`, `resize`, `rm`, `close` and `quiesce` are alone on their image.
+//! - What a resize, a rollback and an `rm` do is bounded only by what they are told: how many
+//!   objects there are, the image's header says, and which of them are in use, the head's map.
 //! - A machine that a layer above brings ([`Work::Extra`]) stands at an operation, keeps to its
 //!   line without a turn, and does only what it may by what it knows (`rbd_machine`). Whoever
 //!   brings it says what its reply means.
@@ -46,11 +54,13 @@
 //! # Contracts
 //!
 //! `specs/Served.antt`: which commands are served (`is_built`), and where the request of one stands
-//! at first (`IsPlanFor`). `specs/Touched.antt`: the extent that a command changes (`extent_of`) or
-//! is about (`touched_by`), what its turns are (`TakesTurns`), and how many operations it has
-//! (`bound_of`). `specs/Session.antt`: where a [`SessionRequest`] stands (`stands_of`), and what a
-//! session asks of a work (`Serves`). [`SessionRequest`] meets [`Machine`](rbd_machine::Machine)
-//! and [`Request`](rbd_course::Request), the laws of the latter among it.
+//! at first (`IsPlanFor`), of a session at its home site (`Seat` of `rbd_machine`).
+//! `specs/Touched.antt`: the extent that a command changes (`extent_of`) or is about (`touched_by`),
+//! what its turns are (`TakesTurns`), and how many operations it has (`bound_of`), beside those by
+//! what it is told (`told_by`). `specs/Session.antt`: where a [`SessionRequest`] stands
+//! (`stands_of`), and what a session asks of a work (`Serves`). [`SessionRequest`] meets
+//! [`Machine`](rbd_machine::Machine) and [`Request`](rbd_course::Request), the laws of the latter
+//! among it.
 //!
 //! [`laws`] joins the laws of the commands' requests, one over all commands for each: their labels
 //! stand at operations, they are lawful from nothing known, they keep to their line, they take the
@@ -58,7 +68,7 @@
 //! that but for a read each look at a header is ended by what isn't there and by the fence.
 //!
 //! The other files of `specs/` are lemmas that the laws of [`Request`](rbd_course::Request) cite.
-//! They define nothing.
+//! They define no word of a contract.
 //!
 //! # Cost
 //!
