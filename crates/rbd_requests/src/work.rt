@@ -13,7 +13,7 @@ use rbd_admin::{CreateRequest, ListRequest, SnapRequest};
 use rbd_close::CloseRequest;
 use rbd_course::{Begun, Request};
 use rbd_discard::DiscardRequest;
-use rbd_kinds::{Command, Extent, NoMemory, SiteId};
+use rbd_kinds::{Command, Extent, NoMemory};
 use rbd_machine::{Machine, Seat};
 use rbd_remove::RemoveRequest;
 use rbd_request::{ReadRequest, WriteRequest};
