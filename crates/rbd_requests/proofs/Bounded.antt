@@ -186,17 +186,17 @@ module _ (seat : Seat) (s : Standing) (feds : List Fed) (steps : List Answered) 
   walked : (plan : Plan) → s ≡ without_labels plan → IsWalk Goto plan feds steps last
   walked plan is = subst (λ (at : Standing). IsWalk at.labels at.plan feds steps last) is walk
 
-  by_told : (c : Command) (most : ℕ) → is_bounded_by_extent c ≡ false → IsPlanFor seat c s → length steps ≤ bound_of c most + told_by c steps
-  by_told (command.Resize image size) most unbounded plan =
+  pub bounded_by_told : (c : Command) (most : ℕ) → is_bounded_by_extent c ≡ false → IsPlanFor seat c s → length steps ≤ bound_of c most + told_by c steps
+  bounded_by_told (command.Resize image size) most unbounded plan =
       let c = command.Resize image size in
       resize_within seat.home image size feds steps last (walked (resize_plan seat.home c) (stands_by seat c s plan))
-  by_told (command.SnapRollback image snap) most unbounded plan =
+  bounded_by_told (command.SnapRollback image snap) most unbounded plan =
       let c = command.SnapRollback image snap in
       rollback_within seat.home image snap feds steps last (walked (rollback_plan seat.home c) (stands_by seat c s plan))
-  by_told (command.Remove image) most unbounded plan =
+  bounded_by_told (command.Remove image) most unbounded plan =
       let c = command.Remove image in
       request_is_short seat.home seat.session image feds steps last (walked (remove_plan seat.home seat.session c) (stands_by seat c s plan))
-  by_told _ most unbounded plan = cc
+  bounded_by_told _ most unbounded plan = cc
 
 pub walk_of_command_is_bounded : (seat : Seat) (c : Command) (s : Standing) (most : ℕ) (feds : List Fed) (steps : List Answered) (last : Plan)
     → IsPlanFor seat c s → HasAtMost most (touched_by c) → AreGiven steps → IsWalk s.labels s.plan feds steps last
@@ -205,4 +205,4 @@ walk_of_command_is_bounded seat c s most feds steps last plan few given walk = g
   where
     go : (b : Bool) → is_bounded_by_extent c ≡ b → length steps ≤ (1 + jumps s.labels s.plan feds) * bound_of c most + told_by c steps
     go true is = let less = walk_is_bounded seat c s most feds steps last plan is few given walk in omega arith
-    go false is = once_at_least (jumps s.labels s.plan feds) (bound_of c most) (told_by c steps) (length steps) (by_told seat s feds steps last walk c most is plan)
+    go false is = once_at_least (jumps s.labels s.plan feds) (bound_of c most) (told_by c steps) (length steps) (bounded_by_told seat s feds steps last walk c most is plan)
