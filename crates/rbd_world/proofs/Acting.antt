@@ -12,8 +12,8 @@ use Rattle.rbd_held.specs.Knowing.{known_on_way, known_to, known_to_release, kno
 use Rattle.rbd_held.specs.Truth.{IsTrueOf}
 use Rattle.rbd_held.proofs.Answered.{answers_are_true, answers_are_true_elsewhere}
 use Rattle.rbd_held.proofs.Fed.{feeding_is_known}
-use Rattle.rbd_held.proofs.Looks.{looks_beside_others, looks_beside_own}
-use Rattle.rbd_held.proofs.Owned.{knows_by_lock}
+use Rattle.rbd_held.proofs.Acts.{acts_beside_others, acts_beside_own}
+use Rattle.rbd_held.proofs.Owned.{acts_by_lock, knows_by_lock}
 use Rattle.rbd_held.proofs.Permitted.{does_what_it_may, knows_truly}
 use Rattle.rbd_held.proofs.Releases.{beside_release, release_knows_no_header}
 use Rattle.rbd_held.proofs.Ways.{beside_way, way_knows_no_header}
@@ -30,6 +30,7 @@ use Rattle.rbd_machine.specs.Knowledge.{Knowledge, learned, nothing_known, same_
 use Rattle.rbd_machine.specs.Permits.{Permits}
 use Rattle.rbd_machine.specs.Plan.{Ask, Standing}
 use Rattle.rbd_machine.specs.Refused.{IsGiven}
+use Rattle.rbd_machine.specs.Standalone.{TellsStandalone}
 use Rattle.rbd_owner.specs.declared.release.Release.{Release}
 use Rattle.rbd_rely.specs.Beside.{AreBeside, MayAct}
 use Rattle.rbd_rely.specs.Locks.{KnowsByLock}
@@ -45,7 +46,7 @@ use Rattle.rbd_world.specs.Run.{Doer, Happening, Did, Sent, flat_after, sent_of}
 use Rattle.rbd_world.specs.Sound.{AreStrangers, Holder, InSlot, Sending, IsDone, IsLiving, IsNextOf, IsOf, IsSoundWorld, MayStillCome, known_in}
 use Rattle.rbd_world.specs.Step.{DoesAtSites, Goes, operation_at}
 use Rattle.rbd_world.specs.World.{LateView, LivesView, WorldView, client_in, late_at, late_of, lives_in, records_in, sent_in, site_in}
-use Rattle.rbd_world.proofs.AtSites.{at_either, beside_then, can_give, elsewhere_now, here_now, is_done, others_true, sending_then, stands_in, stands_then, unless_over, whole_then}
+use Rattle.rbd_world.proofs.AtSites.{at_either, beside_then, can_give, elsewhere_now, here_now, is_done, others_true, sending_then, stands_in, stands_then, tells_alone, unless_over, whole_then}
 use Rattle.rbd_world.proofs.Carried.{HasWholeImages, StandFlat}
 use Rattle.rbd_world.proofs.Changed.{lives_there, same_or_other}
 use Rattle.rbd_world.proofs.Quiet.{lines_differ}
@@ -86,11 +87,8 @@ module _ {R : Type 0} (stands : R → Standing) (old new : WorldView R) (w : IsS
 
   -- ---- by its locks
 
-  pub knows_locks : (t : SiteId) (m : Actor) → m ≡ acts → KnowsByLock t (records_in t old.sites) me (known_to (knew slot) m)
-  knows_locks t actor.Nobody is = by_no_lock t (records_in t old.sites) me nothing_known (λ image. refl)
-  knows_locks t actor.Request is = knows_by_lock stands c knew living.sound living.know slot t (records_in t old.sites) me (was_true t)
-  knows_locks t (actor.Way a) is = by_no_lock t (records_in t old.sites) me (known_on_way a) (λ image. way_knows_no_header a t image)
-  knows_locks t (actor.Release r) is = by_no_lock t (records_in t old.sites) me (known_to_release r) (λ image. release_knows_no_header r t image)
+  pub locked : (t : SiteId) → KnowsByLock t (records_in t old.sites) me goes_by
+  locked t = acts_by_lock stands c knew t (records_in t old.sites) me (was_true t) slot
 
   -- ---- the others
 
@@ -112,7 +110,7 @@ module _ {R : Type 0} (stands : R → Standing) (old new : WorldView R) (w : IsS
         truth = λ t. subst (λ i. IsTrueAt t (records_in t old.sites) i (w.knows (InSlot m x))) (sym who_is) ((w.truth m q is t).requests x);
         locks = λ t.
             subst (λ i. KnowsByLock t (records_in t old.sites) i (w.knows (InSlot m x))) (sym who_is)
-            (knows_by_lock stands q (known_in w.knows m) theirs.sound theirs.know x t (records_in t old.sites) q.session.instance (w.truth m q is t));
+            (knows_by_lock q (known_in w.knows m) x t (records_in t old.sites) q.session.instance (w.truth m q is t));
         other = λ same. session_differs q.session.instance m theirs.whose differ (same ∙ who_is);
       })
 
@@ -178,6 +176,10 @@ module _ {R : Type 0} (stands : R → Standing) (old new : WorldView R) (w : IsS
   acts_beside g differ t =
       acting_beside t (records_in t old.sites) (w.who g) (w.knows g) (beside_mutual t (records_in t old.sites) me (w.who g) (knew slot) (w.knows g) (was_beside slot g differ t)) acts
 
+  -- and it may do what it does beside each of another instance
+  pub acts_apart : (you : Instance) (j : Knowledge) → me ≢ you → KnowsByLock s (records_in s old.sites) you j → MayAct s (records_in s old.sites) me you goes_by j o
+  acts_apart you j differ theirs = acts_beside_others stands c knew living.sound living.know (records_in s old.sites) me you j s (was_true s) differ theirs slot o wanted
+
   -- ---- it is done
 
   module _ (doer : Doer) (result : Option Reply) (d : ClientView R) (became : Goes stands slot (operation_at (site_in s old.sites) me doer s o) result c d)
@@ -192,60 +194,67 @@ module _ {R : Type 0} (stands : R → Standing) (old new : WorldView R) (w : IsS
     knows_now = knows_fed knew slot result (plan_of stands (running_at slot c.session)) (fed.Answer a) acts
 
     pub standing : StandFlat (does_it ∷ w.run)
-    standing = stands_then stands old new w me doer s o result goes_by known permits at_sites
+    standing = stands_then stands old new w me doer s o result goes_by known permits (locked s) at_sites
 
     pub whole : (t : SiteId) → HasWholeImages (records_in t new.sites)
-    whole = whole_then stands old new w me doer s o result goes_by known permits at_sites
+    whole = whole_then stands old new w me doer s o result goes_by known permits (locked s) at_sites
 
     pub can : IsGiven o a
-    can = can_give stands old new w me doer s o result goes_by known permits at_sites
+    can = can_give stands old new w me doer s o result goes_by known permits (locked s) at_sites
+
+    pub alone : TellsStandalone a
+    alone = tells_alone stands old new w me doer s o result goes_by known permits (locked s) at_sites
 
     pub done_so : IsOf doer me s o w.run → IsNextOf doer s o w.run → IsDone (operation_at (site_in s old.sites) me doer s o) w.run
-    done_so whose next = is_done stands old new w me doer s o result goes_by known permits at_sites (knows_locks s acts refl) whose next
+    done_so whose next = is_done stands old new w me doer s o result goes_by known permits (locked s) at_sites whose next
 
     pub all_know : AllKnow stands knows_now d.session
-    all_know = feeding_is_known stands c d knew slot s o (fed.Answer a) result living.sound sound.session living.know became.slots became.others wanted (can_get stands slot c s o a wanted can.can) became.fed
+    all_know = feeding_is_known stands c d knew slot s o (fed.Answer a) result alone living.sound sound.session living.know became.slots became.others wanted (can_get stands slot c s o a wanted can.can) became.fed
 
     pub truth_now : (t : SiteId) → IsTrueOf t (records_in t new.sites) d.session.instance knows_now d
     truth_now t = subst (λ i. IsTrueOf t (records_in t new.sites) i knows_now d) (sym became.client.instance) (at_either s (λ q. IsTrueOf q (records_in q new.sites) me knows_now d) here elsewhere t)
       where
         here : IsTrueOf s (records_in s new.sites) me knows_now d
         here =
-            subst (λ r. IsTrueOf s r me knows_now d) (sym (here_now stands old new w me doer s o result goes_by known permits at_sites))
+            subst (λ r. IsTrueOf s r me knows_now d) (sym (here_now stands old new w me doer s o result goes_by known permits (locked s) at_sites))
             (answers_are_true stands c d knew slot s (records_in s old.sites) me o result wanted became.states permits (flat_after s w.run) (length (site_in s old.sites).log)
-            (stands_in stands old new w me doer s o result goes_by known permits at_sites s) (w.form s) (w.mapped s) (was_true s) (known s)
-            (λ other differ. looks_beside_own stands c knew living.sound living.know (records_in s old.sites) me me slot other s o differ wanted) became.fed)
+            (stands_in stands old new w me doer s o result goes_by known permits (locked s) at_sites s) (w.form s) (w.mapped s) living.sound living.know (was_true s) (known s)
+            (λ other differ. acts_beside_own stands c knew living.sound living.know (records_in s old.sites) me me slot other s o differ wanted) became.fed)
 
         elsewhere : (q : SiteId) → same_site s q ≡ false → IsTrueOf q (records_in q new.sites) me knows_now d
         elsewhere q differ =
-            subst (λ r. IsTrueOf q r me knows_now d) (sym (elsewhere_now stands old new w me doer s o result goes_by known permits at_sites q differ))
+            subst (λ r. IsTrueOf q r me knows_now d) (sym (elsewhere_now stands old new w me doer s o result goes_by known permits (locked s) at_sites q differ))
             (answers_are_true_elsewhere stands c d knew slot s (records_in s old.sites) me o result wanted became.states permits q (records_in q old.sites) differ (was_true q) became.fed)
 
     pub truth_of_others : (m : ℕ) (q : ClientView R) → m ≢ session → client_in m old.lives ≡ Some q → (t : SiteId) → IsTrueOf t (records_in t new.sites) q.session.instance (known_in w.knows m) q
     truth_of_others m q differ is =
-        others_true stands old new w me doer s o result goes_by known permits at_sites q.session.instance (known_in w.knows m) q
+        others_true stands old new w me doer s o result goes_by known permits (locked s) at_sites q.session.instance (known_in w.knows m) q
         (session_differs q.session.instance m (w.clients m q is).whose differ) (w.truth m q is)
         (λ x t.
         subst (λ i. AreBeside t (records_in t old.sites) i me (w.knows (InSlot m x)) goes_by) (w.in_slots m x q is)
         (acts_beside (InSlot m x) (λ same. differ (sym same)) t))
+        (λ x.
+        acts_apart q.session.instance (known_in w.knows m x) (session_differs q.session.instance m (w.clients m q is).whose differ)
+        (knows_by_lock q (known_in w.knows m) x s (records_in s old.sites) q.session.instance (w.truth m q is s)))
 
     pub sending_now : (m x : ℕ) (y : Sent) → late_at m x old.lives ≡ Some y → MayStillCome m (λ t. records_in t new.sites) y (w.knows (Sending m x))
     sending_now m x y is =
         let sends = w.sending m x y is in
-        sending_then stands old new w me doer s o result goes_by known permits at_sites m y (w.knows (Sending m x)) (sent_differs m x y is)
-        (λ t. subst (λ i. AreBeside t (records_in t old.sites) i me (w.knows (Sending m x)) goes_by) sends.0 (acts_beside (Sending m x) tt t)) sends.1
+        sending_then stands old new w me doer s o result goes_by known permits (locked s) at_sites m y (w.knows (Sending m x)) (sent_differs m x y is)
+        (λ t. subst (λ i. AreBeside t (records_in t old.sites) i me (w.knows (Sending m x)) goes_by) sends.0 (acts_beside (Sending m x) tt t))
+        (acts_apart y.instance (w.knows (Sending m x)) (sent_differs m x y is) (sends.1.locks s)) sends.1
 
     -- ---- who is beside whom, then
 
     pub beside_of_others : (h g : Holder) → AreStrangers h g → (t : SiteId) → AreBeside t (records_in t new.sites) (w.who h) (w.who g) (w.knows h) (w.knows g)
-    beside_of_others h g differ = beside_then stands old new w me doer s o result goes_by known permits at_sites (w.who h) (w.who g) (w.knows h) (w.knows g) (w.beside h g differ)
+    beside_of_others h g differ = beside_then stands old new w me doer s o result goes_by known permits (locked s) at_sites (w.who h) (w.who g) (w.knows h) (w.knows g) (w.beside h g differ)
 
     module _ (g : Holder) (x : ℕ) (differ : AreStrangers (InSlot session x) g) where
       abbrev Beside : SiteId → Knowledge → Type 0
       Beside t k = AreBeside t (records_in t new.sites) me (w.who g) k (w.knows g)
 
       still : (t : SiteId) → Beside t (knew x)
-      still = beside_then stands old new w me doer s o result goes_by known permits at_sites me (w.who g) (knew x) (w.knows g) (was_beside x g differ)
+      still = beside_then stands old new w me doer s o result goes_by known permits (locked s) at_sites me (w.who g) (knew x) (w.knows g) (was_beside x g differ)
 
       nothing : (t : SiteId) → Beside t nothing_known
       nothing t = nothing_is_beside t (records_in t new.sites) me (w.who g) (w.knows g)
@@ -264,12 +273,12 @@ module _ {R : Type 0} (stands : R → Standing) (old new : WorldView R) (w : IsS
         learns : HoldsTruly g → (t : SiteId) → Beside t (learned (knew slot) s o a)
         learns holds =
             at_either s (λ t. Beside t (learned (knew slot) s o a))
-            (subst (λ r. AreBeside s r me (w.who g) (learned (knew slot) s o a) (w.knows g)) (sym (here_now stands old new w me doer s o result goes_by known permits at_sites))
+            (subst (λ r. AreBeside s r me (w.who g) (learned (knew slot) s o a) (w.knows g)) (sym (here_now stands old new w me doer s o result goes_by known permits (locked s) at_sites))
             (learned_beside s (records_in s old.sites) me (w.who g) (knew slot) (w.knows g) (beside_slot s) o (holds.truth s) permits_it
             (subst (λ m. MayAct s (records_in s old.sites) me (w.who g) (known_to (knew slot) m) (w.knows g) o) (sym requests)
-            (looks_beside_others stands c knew living.sound living.know (records_in s old.sites) me (w.who g) (w.knows g) s (was_true s) holds.other (holds.locks s) slot o wanted))))
+            (acts_beside_others stands c knew living.sound living.know (records_in s old.sites) me (w.who g) (w.knows g) s (was_true s) holds.other (holds.locks s) slot o wanted))))
             (λ t apart.
-            subst (λ r. AreBeside t r me (w.who g) (learned (knew slot) s o a) (w.knows g)) (sym (elsewhere_now stands old new w me doer s o result goes_by known permits at_sites t apart))
+            subst (λ r. AreBeside t r me (w.who g) (learned (knew slot) s o a) (w.knows g)) (sym (elsewhere_now stands old new w me doer s o result goes_by known permits (locked s) at_sites t apart))
             (beside_elsewhere s t apart (records_in t old.sites) me (w.who g) (knew slot) (w.knows g) o a (beside_slot t)))
 
         learned_now : (t : SiteId) → Beside t (learned (knew slot) s o a)

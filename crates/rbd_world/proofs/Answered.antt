@@ -32,9 +32,11 @@ use Rattle.rbd_session.specs.Session.{ComesToIn, script_line}
 use Rattle.rbd_session.specs.Track.{Track, answered_by, course_of, looked_by, run as run_on}
 use Rattle.rbd_session.proofs.Sound.{no_some, some_same}
 use Rattle.rbd_world.specs.Run.{Itself, Happening, Did, Operation, asked_by, steps_of}
+use Rattle.rbd_machine.specs.Standalone.{TellAllStandalone, TellsStandalone}
+use Rattle.rbd_world.specs.Seats.{seat_at}
 use Rattle.rbd_world.specs.Sound.{IsDone, IsDue, IsHeldRightly, IsLedTo, IsReplyMeant, IsUnderWay, has_ended}
 use Rattle.rbd_world.specs.Step.{reply_at}
-use Rattle.rbd_world.proofs.Walks.{IsLed, given_more, led_on}
+use Rattle.rbd_world.proofs.Walks.{IsLed, given_more, standalone_more, led_on}
 
 -- ---- who waits for nothing stays in no line
 
@@ -71,8 +73,8 @@ module _ {R : Type 0} (stands : R → Standing) where
   went_on slot labels (Note s image event next) t result r q lines none comes = record { line = comes.line; stand = comes.request; place = ap (λ (x : Track). x.place) comes.track }
   went_on slot labels (Goto label) t result r q lines none comes = record { line = comes.line; stand = comes.request; place = ap (λ (x : Track). x.place) comes.track }
 
-  module _ (homes : ℕ → SiteId) (session slot : ℕ) (run : List Happening) (me : Instance) (whose : me.session ≡ session) (r : Running R) (way : IsUnderWay stands (homes session) me run r)
-      (s : SiteId) (why : Reason) (o : Op) (next : Answer → Plan) (asks : (stands r.request).plan ≡ Ask s why o next) (a : Answer) (can : IsGiven o a)
+  module _ (homes : ℕ → SiteId) (session slot : ℕ) (run : List Happening) (me : Instance) (whose : me.session ≡ session) (r : Running R) (way : IsUnderWay stands (seat_at homes session) me run r)
+      (s : SiteId) (why : Reason) (o : Op) (next : Answer → Plan) (asks : (stands r.request).plan ≡ Ask s why o next) (a : Answer) (can : IsGiven o a) (alone : TellsStandalone a)
       (number : ℕ) (effect : Option Effect) where
     abbrev done : Operation
     done = record { by = Itself r.line; instance = me; site = s; number = number; op = o; answer = a; effect = effect }
@@ -95,6 +97,9 @@ module _ {R : Type 0} (stands : R → Standing) where
     given : AreGiven (steps_of r.line run ++ step ∷ [])
     given = given_more (steps_of r.line run) s o a way.given can
 
+    standalone : TellAllStandalone (steps_of r.line run ++ step ∷ [])
+    standalone = standalone_more (steps_of r.line run) s o a way.standalone alone
+
     -- ---- it has ended
 
     meant : (reply : Reply) → at_operation (stands r.request).labels (next a) ≡ Return reply → IsReplyMeant homes r.line reply run (Did done (Some reply) ∷ run)
@@ -104,13 +109,13 @@ module _ {R : Type 0} (stands : R → Standing) where
         record {
           begun = way.begun;
           ended =
-              subst (λ i. IsLedTo (homes i) way.begun.asked.command (steps_of r.line (Did done (Some reply) ∷ run)) (Return reply)) (sym session_is)
-              (subst (λ steps. IsLedTo (homes session) way.begun.asked.command steps (Return reply)) (sym (steps_now (Some reply)))
-              (record { start = way.start; plan = way.plan; feds = led.feds; walk = walk; given = given }));
+              subst (λ i. IsLedTo (seat_at homes i) way.begun.asked.command (steps_of r.line (Did done (Some reply) ∷ run)) (Return reply)) (sym session_is)
+              (subst (λ steps. IsLedTo (seat_at homes session) way.begun.asked.command steps (Return reply)) (sym (steps_now (Some reply)))
+              (record { start = way.start; plan = way.plan; feds = led.feds; walk = walk; given = given; standalone = standalone }));
           meant =
-              subst (λ i. IsMeantBy (homes i) way.begun.asked.command (steps_of r.line (Did done (Some reply) ∷ run)) reply) (sym session_is)
-              (subst (λ steps. IsMeantBy (homes session) way.begun.asked.command steps reply) (sym (steps_now (Some reply)))
-              (command_is_meant (homes session) way.begun.asked.command way.start led.feds (steps_of r.line run ++ step ∷ []) reply way.plan given walk));
+              subst (λ i. IsMeantBy (seat_at homes i) way.begun.asked.command (steps_of r.line (Did done (Some reply) ∷ run)) reply) (sym session_is)
+              (subst (λ steps. IsMeantBy (seat_at homes session) way.begun.asked.command steps reply) (sym (steps_now (Some reply)))
+              (command_is_meant (seat_at homes session) way.begun.asked.command way.start led.feds (steps_of r.line run ++ step ∷ []) reply way.plan given standalone walk));
         }
 
     due_at : IsDone done run → (p : Plan) → at_operation (stands r.request).labels (next a) ≡ p → IsDue homes (Did done (reply_at p)) run
@@ -134,7 +139,7 @@ module _ {R : Type 0} (stands : R → Standing) where
     abbrev went : LinesView → Track
     went lines = run_on slot (next a) (answered_by slot r.extent (track_of r lines) s o a)
 
-    further : (lines : LinesView) (q : Running R) → WentOn (stands r.request).labels to (went lines) r q → IsUnderWay stands (homes session) me (Did done None ∷ run) q
+    further : (lines : LinesView) (q : Running R) → WentOn (stands r.request).labels to (went lines) r q → IsUnderWay stands (seat_at homes session) me (Did done None ∷ run) q
     further lines q on = record {
       begun = record {
         asked = way.begun.asked;
@@ -150,6 +155,7 @@ module _ {R : Type 0} (stands : R → Standing) where
           subst (λ steps. IsWalk way.start.labels way.start.plan led.feds steps (stands q.request).plan) (sym steps_there)
           (subst (IsWalk way.start.labels way.start.plan led.feds (steps_of r.line run ++ step ∷ [])) plan_there led.walk);
       given = subst AreGiven (sym steps_there) given;
+      standalone = subst TellAllStandalone (sym steps_there) standalone;
       calm = λ looks.
           let calm = way.calm looks in (
             subst IsCalmRequest (sym on.stand)
@@ -169,7 +175,7 @@ module _ {R : Type 0} (stands : R → Standing) where
             ∙ sym (ap (λ (st : Standing). st.plan) on.stand)
 
     pub answer_held : (result : Option Reply) (before after : LinesView) (p : Option (Occupant R)) → ComesToIn stands slot before (fed.Answer a) result r p after
-        → IsHeldRightly stands (homes session) me (Did done result ∷ run) p
+        → IsHeldRightly stands (seat_at homes session) me (Did done result ∷ run) p
     answer_held result before after None comes = tt
     answer_held result before after (Some (occupant.Refused line refusal)) comes = absurd comes
     answer_held (Some reply) before after (Some (occupant.Running q)) comes = absurd (no_some reply (sym comes.0))

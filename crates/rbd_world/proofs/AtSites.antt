@@ -16,7 +16,8 @@ use Rattle.rbd_machine.specs.Knowledge.{Knowledge, nothing_known, same_site}
 use Rattle.rbd_machine.specs.Permits.{Permits}
 use Rattle.rbd_machine.specs.Plan.{Standing}
 use Rattle.rbd_machine.specs.Refused.{IsGiven}
-use Rattle.rbd_rely.specs.Beside.{AreBeside}
+use Rattle.rbd_machine.specs.Standalone.{TellsStandalone}
+use Rattle.rbd_rely.specs.Beside.{AreBeside, MayAct}
 use Rattle.rbd_rely.specs.Locks.{KnowsByLock, gives_up}
 use Rattle.rbd_rely.specs.Truth.{IsTrueAt, changed_by, known_header}
 use Rattle.rbd_rely.proofs.Fenced.{was_free}
@@ -25,7 +26,7 @@ use Rattle.rbd_rely.proofs.Effects.{has_its_effect}
 use Rattle.rbd_rely.proofs.Kept.{others_keep}
 use Rattle.rbd_rely.proofs.Locks.{lock_lasts}
 use Rattle.rbd_rely.proofs.Maps.{mapped_stays}
-use Rattle.rbd_rely.proofs.Standalone.{standalone_stays}
+use Rattle.rbd_rely.proofs.Standalone.{standalone_stays, told_standalone}
 use Rattle.rbd_rely.proofs.Together.{beside_stays}
 use Rattle.rbd_site.specs.Records.{Records}
 use Rattle.rbd_site.specs.Step.{after, answer_to, is_fenced}
@@ -56,7 +57,7 @@ unless_over P (Some reply) k nothing goes = nothing
 
 -- `who` does the operation `o` at the site `s` for `by`, by what it knows: `k`
 module _ {R : Type 0} (stands : R → Standing) (old new : WorldView R) (w : IsSoundWorld stands old) (who : Instance) (by : Doer) (s : SiteId) (o : Op) (result : Option Reply) (k : Knowledge)
-    (known : (t : SiteId) → IsTrueAt t (records_in t old.sites) who k) (permits : Permits k s o)
+    (known : (t : SiteId) → IsTrueAt t (records_in t old.sites) who k) (permits : Permits k s o) (locked : KnowsByLock s (records_in s old.sites) who k)
     (at_sites : DoesAtSites (Did (operation_at (site_in s old.sites) who by s o) result) old.sites new.sites) where
   abbrev pub operation : Operation
   operation = operation_at (site_in s old.sites) who by s o
@@ -85,7 +86,7 @@ module _ {R : Type 0} (stands : R → Standing) (old new : WorldView R) (w : IsS
   stands_then = at_either s (λ t. StandsFor [] (records_after t (does_it ∷ w.run)) (flat_after t (does_it ∷ w.run))) here elsewhere
     where
       effected : StandsFor [] (after (records_in s old.sites) who o) (changed_by (flat_after s w.run) operation.effect)
-      effected = has_its_effect s (records_in s old.sites) (flat_after s w.run) k who (length (site_in s old.sites).log) (stands_in s) (w.form s) (w.standalone s) (known s) o permits
+      effected = has_its_effect s (records_in s old.sites) (flat_after s w.run) k who (length (site_in s old.sites).log) (stands_in s) (w.form s) (w.standalone s) (w.mapped s) (known s) o permits
 
       here : StandsFor [] (records_after s (does_it ∷ w.run)) (flat_after s (does_it ∷ w.run))
       here =
@@ -110,9 +111,13 @@ module _ {R : Type 0} (stands : R → Standing) (old new : WorldView R) (w : IsS
   pub can_give : IsGiven o answered
   can_give = gives_it s (records_in s old.sites) who k (length (site_in s old.sites).log) (w.form s) (w.mapped s) (known s) o permits
 
+  -- no header that is told has a parent or a journal
+  pub tells_alone : TellsStandalone answered
+  tells_alone = told_standalone (records_in s old.sites) who (w.standalone s) o can_give
+
   -- it is the one that its site does there
-  pub is_done : KnowsByLock s (records_in s old.sites) who k → IsOf by who s o w.run → IsNextOf by s o w.run → IsDone operation w.run
-  is_done locks whose next = record {
+  pub is_done : IsOf by who s o w.run → IsNextOf by s o w.run → IsDone operation w.run
+  is_done whose next = record {
     whose = whose;
     next = next;
     number = ap (λ ds. length ds + 1) (w.logs s);
@@ -121,25 +126,26 @@ module _ {R : Type 0} (stands : R → Standing) (old new : WorldView R) (w : IsS
     knows = k;
     truth = subst (λ r. IsTrueAt s r who k) (w.records s) (known s);
     permits = permits;
-    owned = subst (λ r. IsOwnedStep r who o answered) (w.records s) (is_owned s (records_in s old.sites) who k (known s) locks o permits);
+    owned = subst (λ r. IsOwnedStep r who o answered) (w.records s) (is_owned s (records_in s old.sites) who k (known s) locked o permits);
   }
 
   -- ---- what others know
 
   -- a client of another instance, whose requests go beside it
   pub others_true : (me : Instance) (knows : ℕ → Knowledge) (c : ClientView R) → who ≢ me → ((t : SiteId) → IsTrueOf t (records_in t old.sites) me knows c)
-      → ((slot : ℕ) (t : SiteId) → AreBeside t (records_in t old.sites) me who (knows slot) k) → (t : SiteId) → IsTrueOf t (records_in t new.sites) me knows c
-  others_true me knows c differ is_true beside =
+      → ((slot : ℕ) (t : SiteId) → AreBeside t (records_in t old.sites) me who (knows slot) k) → ((slot : ℕ) → MayAct s (records_in s old.sites) who me k (knows slot) o)
+      → (t : SiteId) → IsTrueOf t (records_in t new.sites) me knows c
+  others_true me knows c differ is_true beside may =
       at_either s (λ t. IsTrueOf t (records_in t new.sites) me knows c)
-      (subst (λ r. IsTrueOf s r me knows c) (sym here_now) (others_leave_it_true s (records_in s old.sites) me knows c (is_true s) who k o differ (known s) permits (λ slot. beside slot s)))
+      (subst (λ r. IsTrueOf s r me knows c) (sym here_now) (others_leave_it_true s (records_in s old.sites) me knows c (is_true s) who k o differ (known s) locked permits (λ slot. beside slot s) may))
       (λ t apart. subst (λ r. IsTrueOf t r me knows c) (sym (elsewhere_now t apart)) (is_true t))
 
   -- what any instance knows
   pub known_then : (me : Instance) (j : Knowledge) → ((t : SiteId) → IsTrueAt t (records_in t old.sites) me j) → ((t : SiteId) → AreBeside t (records_in t old.sites) me who j k)
-      → (t : SiteId) → IsTrueAt t (records_in t new.sites) me j
-  known_then me j is_true beside =
+      → MayAct s (records_in s old.sites) who me k j o → (t : SiteId) → IsTrueAt t (records_in t new.sites) me j
+  known_then me j is_true beside may =
       at_either s (λ t. IsTrueAt t (records_in t new.sites) me j)
-      (subst (λ r. IsTrueAt s r me j) (sym here_now) (others_keep s (records_in s old.sites) j k me who o (is_true s) (known s) (beside s) permits))
+      (subst (λ r. IsTrueAt s r me j) (sym here_now) (others_keep s (records_in s old.sites) j k me who o (is_true s) (known s) (beside s) permits may))
       (λ t apart. subst (λ r. IsTrueAt t r me j) (sym (elsewhere_now t apart)) (is_true t))
 
   -- who knows headers by its locks goes on to, unless it gives such a lock up itself
@@ -150,7 +156,7 @@ module _ {R : Type 0} (stands : R → Standing) (old new : WorldView R) (w : IsS
       (subst (λ r. KnowsByLock s r me j) (sym here_now)
       (λ image is free.
       let was : IsFalse (is_fenced (records_in s old.sites) me) = was_free (records_in s old.sites) who me o free in
-      lock_lasts s (records_in s old.sites) me who k image o (known s) permits (λ same. keeps image same is was) (locks s image is) free))
+      lock_lasts s (records_in s old.sites) me who k image o (known s) locked permits (λ same. keeps image same is was) (locks s image is) free))
       (λ t apart. subst (λ r. KnowsByLock t r me j) (sym (elsewhere_now t apart)) (locks t))
 
   -- two others stay beside each other
@@ -162,10 +168,10 @@ module _ {R : Type 0} (stands : R → Standing) (old new : WorldView R) (w : IsS
 
   -- what a stopped life of another instance may still send
   pub sending_then : (m : ℕ) (x : Sent) (j : Knowledge) → who ≢ x.instance → ((t : SiteId) → AreBeside t (records_in t old.sites) x.instance who j k)
-      → MayStillCome m (λ t. records_in t old.sites) x j → MayStillCome m (λ t. records_in t new.sites) x j
-  sending_then m x j differ beside may = record {
+      → MayAct s (records_in s old.sites) who x.instance k j o → MayStillCome m (λ t. records_in t old.sites) x j → MayStillCome m (λ t. records_in t new.sites) x j
+  sending_then m x j differ beside acts may = record {
     whose = may.whose;
     permits = may.permits;
-    truth = known_then x.instance j may.truth beside;
+    truth = known_then x.instance j may.truth beside acts;
     locks = locks_then x.instance j may.locks (λ image same. absurd (differ same));
   }

@@ -23,6 +23,7 @@ use Rattle.rbd_site.proofs.FormLemmas.{form_at_first}
 use Rattle.rbd_stands.proofs.Nothing.{nothing_stands}
 use Rattle.rbd_world.specs.Owing.{owed_in}
 use Rattle.rbd_world.specs.Run.{Happening}
+use Rattle.rbd_world.specs.Seats.{seat_of_home}
 use Rattle.rbd_world.specs.Sound.{AreLivesOf, Holder, InSlot, Sending, IsFirst, IsHeldRightly, IsLiving, IsNewWorld, IsRunning, IsSoundWorld, KeepsToItsWay, first_life, held_of, line_at}
 use Rattle.rbd_world.specs.Step.{IsFresh}
 use Rattle.rbd_world.specs.World.{LivesView, WorldView, client_in, late_at, late_of, lives_in, sent_in, session_of}
@@ -40,7 +41,7 @@ module _ {R : Type 0} (stands : R → Standing) where
       at_home = fresh.at_home ∙ same;
       sound = fresh.sound;
       know = λ slot. subst (λ o. KnowsIn stands slot (running_in o) c.session.lines nothing_known) (sym (fresh.slots slot)) refl;
-      held = λ slot. subst (IsHeldRightly stands there c.session.instance run) (sym (fresh.slots slot)) tt;
+      held = λ slot. subst (IsHeldRightly stands (seat_of_home session there) c.session.instance run) (sym (fresh.slots slot)) tt;
       ways = λ slot. subst (λ o. KeepsToItsWay stands run (state_in slot c.slots).way (running_in o)) (sym (fresh.slots slot)) tt;
     }
 

@@ -15,6 +15,8 @@ use Rattle.rbd_session.specs.Session.{SessionView, held_in, running_at, running_
 use Rattle.rbd_session.proofs.Sound.{no_some, some_same}
 use Rattle.rbd_world.specs.declared.event.Event.{Event}
 use Rattle.rbd_world.specs.Run.{Happening, Life, Sent, life_after, life_behind, sent_behind}
+use Rattle.rbd_world.specs.Seats.{seat_at, seat_of_home}
+use Rattle.rbd_machine.specs.declared.seat.Seat.{Seat}
 use Rattle.rbd_world.specs.Sound.{AreApart, AreLivesOf, IsHeldRightly, IsLiving, IsOpen, IsRunning, IsSoundWorld, KeepsToItsWay, held_of, line_at}
 use Rattle.rbd_world.specs.Step.{AreSlotsBut, AreStatesBut, Becomes, BecomesOf, Does, IsSameClient, LivesOnIf, RunsOn, late_behind, latest_behind, names_session}
 use Rattle.rbd_world.specs.World.{LateView, LivesView, WorldView, client_in, late_at, late_of, lives_in, running_of, sent_in, session_of}
@@ -226,17 +228,17 @@ module _ {R : Type 0} (old new : WorldView R) (session : ℕ) (c d : ClientView 
 -- ---- what is held is open
 
 module _ {R : Type 0} (stands : R → Standing) where
-  held_open : (home : SiteId) (who : Instance) (run : List Happening) (o : Option (Occupant R)) (line : ℕ) → script_line o ≡ Some line → IsHeldRightly stands home who run o → IsOpen line run
-  held_open home who run None line is held = absurd (no_some line is)
-  held_open home who run (Some (occupant.Refused number refusal)) line is held = subst (λ l. IsOpen l run) (some_same number line is) held.begun
-  held_open home who run (Some (occupant.Running r)) line is held = subst (λ l. IsOpen l run) (some_same r.line line is) held.begun
+  held_open : (seat : Seat) (who : Instance) (run : List Happening) (o : Option (Occupant R)) (line : ℕ) → script_line o ≡ Some line → IsHeldRightly stands seat who run o → IsOpen line run
+  held_open seat who run None line is held = absurd (no_some line is)
+  held_open seat who run (Some (occupant.Refused number refusal)) line is held = subst (λ l. IsOpen l run) (some_same number line is) held.begun
+  held_open seat who run (Some (occupant.Running r)) line is held = subst (λ l. IsOpen l run) (some_same r.line line is) held.begun
 
   pub open_there : (old : WorldView R) (w : IsSoundWorld stands old) (m x line : ℕ) → line_at m x old.lives ≡ Some line → IsOpen line w.run
   open_there old w m x line = by (client_in m old.lives) refl
     where
       by : (o : Option (ClientView R)) → client_in m old.lives ≡ o → script_line (held_of x (session_of o)) ≡ Some line → IsOpen line w.run
       by None there is = absurd (no_some line is)
-      by (Some c) there is = let living = w.clients m c there in held_open (w.homes m) c.session.instance w.run (held_in x c.session.slots) line is (living.held x)
+      by (Some c) there is = let living = w.clients m c there in held_open (seat_at w.homes m) c.session.instance w.run (held_in x c.session.slots) line is (living.held x)
 
   -- ---- a client that goes on
 
@@ -261,7 +263,7 @@ module _ {R : Type 0} (stands : R → Standing) where
       at_home = living.at_home;
       sound = living.sound;
       know = living.know;
-      held = λ x. held_on stands home c.session.instance h run (held_in x c.session.slots) (quiet x) (living.held x);
+      held = λ x. held_on stands (seat_of_home session home) c.session.instance h run (held_in x c.session.slots) (quiet x) (living.held x);
       ways = λ x. ways_on stands h run (state_in x c.slots).way (held_in x c.session.slots) (quiet x) (living.ways x);
     }
 
@@ -269,7 +271,7 @@ module _ {R : Type 0} (stands : R → Standing) where
     pub living_of : (knows knows' : (x : ℕ) → Knowledge) (slot : ℕ) (c d : ClientView R) → IsLiving stands home session run knows c
         → AreSlotsBut slot c.session d.session → AreStatesBut slot c d → IsSameClient c.session d.session
         → ((x line : ℕ) → x ≢ slot → script_line (held_in x c.session.slots) ≡ Some line → IsQuiet line h)
-        → IsSoundClient stands d → AllKnow stands knows' d.session → IsHeldRightly stands home c.session.instance (h ∷ run) (held_in slot d.session.slots)
+        → IsSoundClient stands d → AllKnow stands knows' d.session → IsHeldRightly stands (seat_of_home session home) c.session.instance (h ∷ run) (held_in slot d.session.slots)
         → KeepsToItsWay stands (h ∷ run) (state_in slot d.slots).way (running_at slot d.session)
         → IsLiving stands home session (h ∷ run) knows' d
     living_of knows knows' slot c d living slots states client quiet sound know own keeps = record {
@@ -278,7 +280,7 @@ module _ {R : Type 0} (stands : R → Standing) where
       at_home = client.home ∙ living.at_home;
       sound = sound;
       know = know;
-      held = λ x. subst (λ i. IsHeldRightly stands home i (h ∷ run) (held_in x d.session.slots)) (sym client.instance) (by x (same_or_other x slot));
+      held = λ x. subst (λ i. IsHeldRightly stands (seat_of_home session home) i (h ∷ run) (held_in x d.session.slots)) (sym client.instance) (by x (same_or_other x slot));
       ways = λ x. way_by x (same_or_other x slot);
     }
       where
@@ -289,8 +291,8 @@ module _ {R : Type 0} (stands : R → Standing) where
             (subst (λ (s : SlotState). KeepsToItsWay stands (h ∷ run) s.way (running_at x c.session)) (sym (states x differ))
             (ways_on stands h run (state_in x c.slots).way (held_in x c.session.slots) (λ line is. quiet x line differ is) (living.ways x)))
 
-        by : (x : ℕ) → (x ≡ slot) ⊎ (x ≢ slot) → IsHeldRightly stands home c.session.instance (h ∷ run) (held_in x d.session.slots)
-        by x (inl here) = subst (λ i. IsHeldRightly stands home c.session.instance (h ∷ run) (held_in i d.session.slots)) (sym here) own
+        by : (x : ℕ) → (x ≡ slot) ⊎ (x ≢ slot) → IsHeldRightly stands (seat_of_home session home) c.session.instance (h ∷ run) (held_in x d.session.slots)
+        by x (inl here) = subst (λ i. IsHeldRightly stands (seat_of_home session home) c.session.instance (h ∷ run) (held_in i d.session.slots)) (sym here) own
         by x (inr differ) =
-            subst (IsHeldRightly stands home c.session.instance (h ∷ run)) (sym (slots x differ))
-            (held_on stands home c.session.instance h run (held_in x c.session.slots) (λ line is. quiet x line differ is) (living.held x))
+            subst (IsHeldRightly stands (seat_of_home session home) c.session.instance (h ∷ run)) (sym (slots x differ))
+            (held_on stands (seat_of_home session home) c.session.instance h run (held_in x c.session.slots) (λ line is. quiet x line differ is) (living.held x))

@@ -6,7 +6,10 @@ use Rattle.std.proofs.lemmas.Bool.{true≢false, cases_lt, eq-eqb, eqb-true}
 use Rattle.std.proofs.lemmas.List.{length-set, get_or-set_same, get_or-set_other, get_or_past}
 use Rattle.rbd_client.specs.Client.{ClientView}
 use Rattle.rbd_held.specs.Truth.{IsTrueOf}
+use Rattle.rbd_held.proofs.Owned.{knows_by_lock}
+use Rattle.rbd_kinds.specs.declared.data_op.DataOp.TheVariants as object
 use Rattle.rbd_kinds.specs.declared.header_op.HeaderOp.TheVariants as header
+use Rattle.rbd_kinds.specs.declared.map_op.MapOp.TheVariants as states
 use Rattle.rbd_kinds.specs.declared.id.Instance.{Instance}
 use Rattle.rbd_kinds.specs.declared.id.SiteId.{SiteId}
 use Rattle.rbd_kinds.specs.declared.operation.Op.{Op}
@@ -16,8 +19,10 @@ use Rattle.rbd_machine.specs.Permits.{Permits}
 use Rattle.rbd_machine.specs.Plan.{Standing}
 use Rattle.rbd_rely.specs.Beside.{AreBeside, MayAct}
 use Rattle.rbd_rely.specs.Locks.{KnowsByLock, gives_up}
-use Rattle.rbd_rely.specs.Truth.{known_header}
-use Rattle.rbd_rely.proofs.Together.{nobody_knows}
+use Rattle.rbd_rely.specs.Truth.{IsTrueAt, known_header}
+use Rattle.rbd_rely.proofs.Locks.{changes_by_lock, shares_by_lock}
+use Rattle.rbd_rely.proofs.Nothing.{nothing_is_beside, nothing_is_true}
+use Rattle.rbd_rely.proofs.Together.{alone_knows, beside_mutual, nobody_knows}
 use Rattle.rbd_session.specs.Session.{held_in, script_line}
 use Rattle.rbd_session.proofs.Sound.{no_some, some_same}
 use Rattle.rbd_site.specs.Records.{Records}
@@ -112,18 +117,54 @@ module _ {R : Type 0} (stands : R → Standing) (old : WorldView R) (w : IsSound
 
 -- ---- a lock that is dropped
 
--- Whoever knows a header keeps its lock where another of its instance drops one.
-keeps_lock : (s : SiteId) (r : Records) (me : Instance) (k j : Knowledge) (o : Op) → Permits k s o → MayAct s r me me k j o → KnowsByLock s r me j
+-- Whoever knows a header keeps its lock where another of its instance drops one, or removes a header.
+keeps_lock : (s : SiteId) (r : Records) (me : Instance) (k j : Knowledge) (o : Op) → Permits k s o → MayAct s r me me k j o → AreBeside s r me me k j → KnowsByLock s r me j
     → (image : ℕ) → IsSome (known_header j s image) → IsFalse (is_fenced r me) → gives_up image o ≡ false
-keeps_lock s r me k j (op.Header other header.LockDrop) permits may locks image known free = by (image == other) refl
+keeps_lock s r me k j (op.Header other header.LockDrop) permits may beside locks image known free = by (image == other) refl
   where
     by : (b : Bool) → (image == other) ≡ b → b ≡ false
     by false differ = refl
     by true same =
         let told : IsSome (known_header j s other) = subst (λ n. IsSome (known_header j s n)) (eqb-true image other same) known in
         absurd (true≢false (sym told ∙ ap is_some (nobody_knows s r me me k j other (free, free) permits (may (locks other told free)))))
-keeps_lock s r me k j (op.Header other _) permits may locks image known free = refl
-keeps_lock s r me k j _ permits may locks image known free = refl
+keeps_lock s r me k j (op.Header other header.Remove) permits may beside locks image known free = by (image == other) refl
+  where
+    by : (b : Bool) → (image == other) ≡ b → b ≡ false
+    by false differ = refl
+    by true same =
+        let told : IsSome (known_header j s other) = subst (λ n. IsSome (known_header j s n)) (eqb-true image other same) known in
+        absurd (true≢false (sym told ∙ ap is_some (alone_knows s r me me k j other _ (free, free) beside permits)))
+keeps_lock s r me k j (op.Header other _) permits may beside locks image known free = refl
+keeps_lock s r me k j _ permits may beside locks image known free = refl
+
+-- ---- what it goes by
+
+-- a look at a header goes by nothing, since nobody hears what it is told
+abbrev unless_look : Op → Knowledge → Knowledge
+unless_look (op.Header image header.Get) k = nothing_known
+unless_look o k = k
+
+less_by : (P : Knowledge → Type 0) (o : Op) (k : Knowledge) → P nothing_known → P k → P (unless_look o k)
+less_by P (op.Header image header.Get) k nothing known = nothing
+less_by P o k nothing known = known
+
+less_permits : (s : SiteId) (o : Op) (k : Knowledge) → Permits k s o → Permits (unless_look o k) s o
+less_permits s (op.Header image header.Get) k permits = tt
+less_permits s o k permits = permits
+
+-- it may do what it does beside whoever is another instance and knows headers by its locks
+less_acts_by_locks : (s : SiteId) (r : Records) (me you : Instance) (k j : Knowledge) (o : Op) → me ≢ you → KnowsByLock s r me k → KnowsByLock s r you j → MayAct s r me you (unless_look o k) j o
+less_acts_by_locks s r me you k j (op.Header image header.Get) differ mine yours = λ free some told. absurd (true≢false (sym some))
+less_acts_by_locks s r me you k j (op.Header image header.LockDrop) differ mine yours = λ lock. shares_by_lock s r me you k j image differ (λ free. lock) yours
+less_acts_by_locks s r me you k j (op.Data image number (object.Read snap parts)) differ mine yours = tt
+less_acts_by_locks s r me you k j (op.Data image number o) differ mine yours = changes_by_lock s r me you k j image number differ mine yours
+less_acts_by_locks s r me you k j (op.Map image (states.Set None number state)) differ mine yours = changes_by_lock s r me you k j image number differ mine yours
+less_acts_by_locks s r me you k j _ differ mine yours = tt
+
+-- and beside whom it may act as it stands
+less_acts : (s : SiteId) (r : Records) (me you : Instance) (k j : Knowledge) (o : Op) → MayAct s r me you k j o → MayAct s r me you (unless_look o k) j o
+less_acts s r me you k j (op.Header image header.Get) may = λ free some told. absurd (true≢false (sym some))
+less_acts s r me you k j o may = may
 
 -- the life of its session that goes on without it
 pub record GoesWithout {R : Type 0} (new : WorldView R) (session slot : ℕ) (l : LivesView R) : Type 0 where
@@ -146,6 +187,18 @@ module _ {R : Type 0} (stands : R → Standing) (old new : WorldView R) (w : IsS
   may : MayStillCome session (λ s. records_in s old.sites) x k
   may = (w.sending session slot x sent).1
 
+  abbrev goes_by : Knowledge
+  goes_by = unless_look x.op k
+
+  known : (s : SiteId) → IsTrueAt s (records_in s old.sites) x.instance goes_by
+  known s = less_by (IsTrueAt s (records_in s old.sites) x.instance) x.op k (nothing_is_true s (records_in s old.sites) x.instance) (may.truth s)
+
+  permits : Permits goes_by x.site x.op
+  permits = less_permits x.site x.op k may.permits
+
+  locked : KnowsByLock x.site (records_in x.site old.sites) x.instance goes_by
+  locked = less_by (KnowsByLock x.site (records_in x.site old.sites) x.instance) x.op k (λ image some. absurd (true≢false (sym some))) (may.locks x.site)
+
   who_is : w.who (Sending session slot) ≡ x.instance
   who_is = (w.sending session slot x sent).0
 
@@ -154,7 +207,7 @@ module _ {R : Type 0} (stands : R → Standing) (old new : WorldView R) (w : IsS
 
   due : IsDone (operation_at (site_in x.site old.sites) x.instance (AfterStop slot) x.site x.op) w.run
   due =
-      is_done stands old new w x.instance (AfterStop slot) x.site x.op None k may.truth may.permits at_sites (may.locks x.site)
+      is_done stands old new w x.instance (AfterStop slot) x.site x.op None goes_by known permits locked at_sites
       (ap (λ i. sent_after i slot w.run) may.whose ∙ sym (w.late session slot) ∙ sent) tt
 
   -- ---- who is where
@@ -253,10 +306,22 @@ module _ {R : Type 0} (stands : R → Standing) (old new : WorldView R) (w : IsS
       subst (λ i. AreBeside s (records_in s old.sites) i x.instance (w.knows g) k) is
       (subst (λ i. AreBeside s (records_in s old.sites) (w.who g) i (w.knows g) k) who_is (w.beside g (Sending session slot) apart s))
 
+  beside_goes : (g : Holder) (you : Instance) → AreStrangers g (Sending session slot) → w.who g ≡ you → (s : SiteId) → AreBeside s (records_in s old.sites) you x.instance (w.knows g) goes_by
+  beside_goes g you apart is s =
+      less_by (AreBeside s (records_in s old.sites) you x.instance (w.knows g)) x.op k
+      (beside_mutual s (records_in s old.sites) x.instance you nothing_known (w.knows g) (nothing_is_beside s (records_in s old.sites) x.instance you (w.knows g)))
+      (beside_it g you apart is s)
+
+  acts_apart : (you : Instance) (j : Knowledge) → x.instance ≢ you → KnowsByLock x.site (records_in x.site old.sites) you j → MayAct x.site (records_in x.site old.sites) x.instance you goes_by j x.op
+  acts_apart you j differ theirs = less_acts_by_locks x.site (records_in x.site old.sites) x.instance you k j x.op differ (may.locks x.site) theirs
+
   truth_now : (m : ℕ) (q : ClientView R) → client_in m old.lives ≡ Some q → (s : SiteId) → IsTrueOf s (records_in s new.sites) q.session.instance (known_in w.knows m) q
   truth_now m q is =
-      others_true stands old new w x.instance (AfterStop slot) x.site x.op None k may.truth may.permits at_sites q.session.instance (known_in w.knows m) q
-      (sent_by_another stands old w session slot x sent m q is) (w.truth m q is) (λ y s. beside_it (InSlot m y) q.session.instance tt (w.in_slots m y q is) s)
+      others_true stands old new w x.instance (AfterStop slot) x.site x.op None goes_by known permits locked at_sites q.session.instance (known_in w.knows m) q
+      (sent_by_another stands old w session slot x sent m q is) (w.truth m q is) (λ y s. beside_goes (InSlot m y) q.session.instance tt (w.in_slots m y q is) s)
+      (λ y.
+      acts_apart q.session.instance (known_in w.knows m y) (sent_by_another stands old w session slot x sent m q is)
+      (knows_by_lock q (known_in w.knows m) y x.site (records_in x.site old.sites) q.session.instance (w.truth m q is x.site)))
 
   -- ---- what may still come
 
@@ -273,19 +338,26 @@ module _ {R : Type 0} (stands : R → Standing) (old new : WorldView R) (w : IsS
   beside_own y z differ is same = record {
     whose = theirs.whose;
     permits = theirs.permits;
-    truth = known_then stands old new w x.instance (AfterStop slot) x.site x.op None k may.truth may.permits at_sites z.instance (w.knows (Sending session y)) theirs.truth (beside_it (Sending session y) z.instance (inr differ) (w.sending session y z is).0);
-    locks = locks_then stands old new w x.instance (AfterStop slot) x.site x.op None k may.truth may.permits at_sites z.instance (w.knows (Sending session y)) theirs.locks
-        (λ image me known free. keeps_lock x.site (records_in x.site old.sites) z.instance k (w.knows (Sending session y)) x.op may.permits looks (theirs.locks x.site) image known free);
+    truth = known_then stands old new w x.instance (AfterStop slot) x.site x.op None goes_by known permits locked at_sites z.instance (w.knows (Sending session y)) theirs.truth (beside_goes (Sending session y) z.instance (inr differ) (w.sending session y z is).0)
+        (less_acts x.site (records_in x.site old.sites) x.instance z.instance k (w.knows (Sending session y)) x.op acts);
+    locks = locks_then stands old new w x.instance (AfterStop slot) x.site x.op None goes_by known permits locked at_sites z.instance (w.knows (Sending session y)) theirs.locks
+        (λ image me known free. keeps_lock x.site (records_in x.site old.sites) z.instance k (w.knows (Sending session y)) x.op may.permits (subst (λ i. MayAct x.site (records_in x.site old.sites) i z.instance k (w.knows (Sending session y)) x.op) same acts) beside (theirs.locks x.site) image known free);
   }
     where
       theirs : MayStillCome session (λ s. records_in s old.sites) z (w.knows (Sending session y))
       theirs = (w.sending session y z is).1
 
-      looks : MayAct x.site (records_in x.site old.sites) z.instance z.instance k (w.knows (Sending session y)) x.op
-      looks =
-          subst (λ i. MayAct x.site (records_in x.site old.sites) i z.instance k (w.knows (Sending session y)) x.op) (who_is ∙ same)
+      acts : MayAct x.site (records_in x.site old.sites) x.instance z.instance k (w.knows (Sending session y)) x.op
+      acts =
+          subst (λ i. MayAct x.site (records_in x.site old.sites) i z.instance k (w.knows (Sending session y)) x.op) who_is
           (subst (λ i. MayAct x.site (records_in x.site old.sites) (w.who (Sending session slot)) i k (w.knows (Sending session y)) x.op) (w.sending session y z is).0
           (w.drops session slot y x (λ e. differ (sym e)) sent (records_in x.site old.sites)))
+
+      beside : AreBeside x.site (records_in x.site old.sites) z.instance z.instance k (w.knows (Sending session y))
+      beside =
+          subst (λ i. AreBeside x.site (records_in x.site old.sites) i z.instance k (w.knows (Sending session y))) same
+          (beside_mutual x.site (records_in x.site old.sites) z.instance x.instance (w.knows (Sending session y)) k
+          (beside_it (Sending session y) z.instance (inr differ) (w.sending session y z is).0 x.site))
 
   same_life : (y : ℕ) (z : Sent) → late_at session y old.lives ≡ Some z → x.instance ≡ z.instance
   same_life y z is =
@@ -303,8 +375,9 @@ module _ {R : Type 0} (stands : R → Standing) (old new : WorldView R) (w : IsS
           let here = ap (λ i. late_at i y old.lives) (sym same) ∙ is in
           subst (λ i. MayStillCome i (λ s. records_in s new.sites) z (w.knows (Sending i y))) (sym same) (beside_own y z differ here (same_life y z here))
       by (inr differ) apart =
-          sending_then stands old new w x.instance (AfterStop slot) x.site x.op None k may.truth may.permits at_sites m z (w.knows (Sending m y))
-          (sent_by_other stands old w session slot x sent m y z differ is) (beside_it (Sending m y) z.instance (inl differ) (w.sending m y z is).0) (w.sending m y z is).1
+          sending_then stands old new w x.instance (AfterStop slot) x.site x.op None goes_by known permits locked at_sites m z (w.knows (Sending m y))
+          (sent_by_other stands old w session slot x sent m y z differ is) (beside_goes (Sending m y) z.instance (inl differ) (w.sending m y z is).0)
+          (acts_apart z.instance (w.knows (Sending m y)) (sent_by_other stands old w session slot x sent m y z differ is) ((w.sending m y z is).1.locks x.site)) (w.sending m y z is).1
 
   sending_now : (m y : ℕ) (z : Sent) → late_at m y new.lives ≡ Some z → (w.who (Sending m y) ≡ z.instance) × MayStillCome m (λ s. records_in s new.sites) z (knows_then (Sending m y))
   sending_now m y z is =
@@ -365,9 +438,9 @@ module _ {R : Type 0} (stands : R → Standing) (old new : WorldView R) (w : IsS
     who = w.who;
     knows = knows_then;
     carries = record {
-      standing = stands_then stands old new w x.instance (AfterStop slot) x.site x.op None k may.truth may.permits at_sites;
+      standing = stands_then stands old new w x.instance (AfterStop slot) x.site x.op None goes_by known permits locked at_sites;
       due = (due, tt);
-      whole = whole_then stands old new w x.instance (AfterStop slot) x.site x.op None k may.truth may.permits at_sites;
+      whole = whole_then stands old new w x.instance (AfterStop slot) x.site x.op None goes_by known permits locked at_sites;
       lives = lives_now;
       clients = λ m q is. living_on stands (w.homes m) m h w.run (λ n life. refl) (known_in w.knows m) q (λ y line at. quiet line) (w.clients m q (was m q is));
       in_slots = λ m y q is. w.in_slots m y q (was m q is);
@@ -381,7 +454,7 @@ module _ {R : Type 0} (stands : R → Standing) (old new : WorldView R) (w : IsS
       drops = drops_now;
       beside = beside_still w.who w.who w.knows knows_then (λ s. records_in s new.sites)
           (λ a g apart s.
-          beside_then stands old new w x.instance (AfterStop slot) x.site x.op None k may.truth may.permits at_sites (w.who a) (w.who g) (w.knows a) (w.knows g) (w.beside a g apart) s)
+          beside_then stands old new w x.instance (AfterStop slot) x.site x.op None goes_by known permits locked at_sites (w.who a) (w.who g) (w.knows a) (w.knows g) (w.beside a g apart) s)
           each_is;
       owes = λ calm. absurd (no_some x (sym (none_sent session slot w.run calm.1) ∙ sym (w.late session slot) ∙ sent));
       turn = no_turn (operation_at (site_in x.site old.sites) x.instance (AfterStop slot) x.site x.op) None w.run (λ line. refl);

@@ -2,7 +2,9 @@
 use Rattle.std.proofs.Common.{◌≡◌, ◌≢◌, ℕ, ◌==◌, cond, List, ◌∷◌, is_some, None, Some, refl, sym, ap, ◌∙◌, subst}
 use Rattle.std.proofs.lemmas.Bool.{true≢false, eq-eqb}
 use Rattle.rbd_client.specs.Client.{ClientView, state_in}
+use Rattle.rbd_kinds.specs.declared.data_op.DataOp.TheVariants as object
 use Rattle.rbd_kinds.specs.declared.header_op.HeaderOp.TheVariants as header
+use Rattle.rbd_kinds.specs.declared.map_op.MapOp.TheVariants as states
 use Rattle.rbd_kinds.specs.declared.id.Instance.{Instance}
 use Rattle.rbd_kinds.specs.declared.id.SiteId.{SiteId}
 use Rattle.rbd_kinds.specs.declared.operation.Op.{Op}
@@ -16,6 +18,7 @@ use Rattle.rbd_rely.proofs.Together.{beside_mutual}
 use Rattle.rbd_session.specs.Session.{held_in, script_line}
 use Rattle.rbd_site.specs.Records.{Records}
 use Rattle.rbd_world.specs.Run.{Happening, Life, life_after, life_behind}
+use Rattle.rbd_world.specs.Seats.{seat_of_home}
 use Rattle.rbd_world.specs.Sound.{AreLivesOf, AreStrangers, Holder, InSlot, IsLiving, known_in}
 use Rattle.rbd_world.specs.World.{LivesView}
 use Rattle.rbd_world.proofs.Quiet.{IsQuiet, held_on, lines_differ}
@@ -34,7 +37,7 @@ module _ {R : Type 0} (stands : R → Standing) (home : SiteId) (session : ℕ) 
     at_home = living.at_home;
     sound = living.sound;
     know = living.know;
-    held = λ x. held_on stands home c.session.instance h run (held_in x c.session.slots) (quiet x) (living.held x);
+    held = λ x. held_on stands (seat_of_home session home) c.session.instance h run (held_in x c.session.slots) (quiet x) (living.held x);
     ways = λ x. ways_on stands h run (state_in x c.slots).way (held_in x c.session.slots) (quiet x) (living.ways x);
   }
 
@@ -69,10 +72,13 @@ beside_as s r me i you y k q j p one two three four beside =
 pub nothing_beside : (s : SiteId) (r : Records) (me you : Instance) (k : Knowledge) → AreBeside s r me you k nothing_known
 nothing_beside s r me you k = beside_mutual s r you me nothing_known k (nothing_is_beside s r you me k)
 
--- beside one who knows no header anybody may look, and drop a lock
+-- beside one who knows no header anybody may look, drop a lock, and change an object
 pub unknown_looks : (s : SiteId) (r : Records) (me you : Instance) (k j : Knowledge) → ((image : ℕ) → known_header j s image ≡ None) → (o : Op) → MayAct s r me you k j o
 unknown_looks s r me you k j none (op.Header image header.Get) = λ free some told. absurd (true≢false (sym told ∙ ap is_some (none image)))
 unknown_looks s r me you k j none (op.Header image header.LockDrop) = λ lock free some told. absurd (true≢false (sym told ∙ ap is_some (none image)))
+unknown_looks s r me you k j none (op.Data image number (object.Read snap parts)) = tt
+unknown_looks s r me you k j none (op.Data image number o) = λ free mine told knows. absurd (true≢false (sym told ∙ ap is_some (none image)))
+unknown_looks s r me you k j none (op.Map image (states.Set None number state)) = λ free mine told knows. absurd (true≢false (sym told ∙ ap is_some (none image)))
 unknown_looks s r me you k j none _ = tt
 
 module _ (who who_now : Holder → Instance) (knows knows_now : Holder → Knowledge) where

@@ -16,6 +16,7 @@ use Rattle.rbd_stands.proofs.Locks.{same_is}
 use Rattle.rbd_watch.specs.Posting.{numbered}
 use Rattle.rbd_world.specs.declared.event.Event.TheVariants as event
 use Rattle.rbd_world.specs.Run.{Heard, mail_of}
+use Rattle.rbd_world.specs.Seats.{seat_at}
 use Rattle.rbd_world.specs.Sound.{AreStrangers, Holder, InSlot, IsDelivered, IsHeldRightly, IsLiving, IsRunning, IsSoundWorld, KeepsToItsWay, held_of, known_in, line_at}
 use Rattle.rbd_world.specs.Step.{Does, DoesAtSites, Hears, IsSoundIf}
 use Rattle.rbd_world.specs.World.{WorldView, client_in, records_in, session_of}
@@ -68,7 +69,7 @@ module _ {R : Type 0} (stands : R → Standing) (old new : WorldView R) (w : IsS
     at_home = ap (λ (v : SessionView R). v.home) hears.session ∙ still.at_home;
     sound = sound;
     know = subst (AllKnow stands knew) (sym hears.session) still.know;
-    held = subst (λ (v : SessionView R). (x : ℕ) → IsHeldRightly stands (w.homes session) v.instance (Heard notice ∷ w.run) (held_in x v.slots)) (sym hears.session) still.held;
+    held = subst (λ (v : SessionView R). (x : ℕ) → IsHeldRightly stands (seat_at w.homes session) v.instance (Heard notice ∷ w.run) (held_in x v.slots)) (sym hears.session) still.held;
     ways = λ x.
         subst (λ ss. KeepsToItsWay stands (Heard notice ∷ w.run) (state_in x ss).way (running_at x d.session)) (sym hears.slots)
         (subst (λ (v : SessionView R). KeepsToItsWay stands (Heard notice ∷ w.run) (state_in x c.slots).way (running_at x v)) (sym hears.session) (still.ways x));

@@ -4,8 +4,8 @@ use Rattle.std.proofs.lemmas.Bool.{true≢false, eqb-true, and_parts}
 use Rattle.std.specs.Prelude.{IsSome}
 use Rattle.rbd_kinds.specs.declared.answer.Answer.{Answer}
 use Rattle.rbd_kinds.specs.declared.answer.Answer.TheVariants as answer
-use Rattle.rbd_commands.specs.declared.command.Command.{Command}
-use Rattle.rbd_commands.specs.declared.command.Command.TheVariants as command
+use Rattle.rbd_commands.specs.declared.refusal.Refusal.{Refusal}
+use Rattle.rbd_kinds.specs.declared.header.HeaderView.{HeaderView}
 use Rattle.rbd_kinds.specs.declared.data_op.DataOp.TheVariants as data_op
 use Rattle.rbd_kinds.specs.declared.directory_op.DirectoryOp.TheVariants as directory
 use Rattle.rbd_kinds.specs.declared.header_op.HeaderOp.TheVariants as header
@@ -21,9 +21,6 @@ use Rattle.rbd_machine.specs.Path.{at_operation}
 use Rattle.rbd_machine.specs.Plan.{Plan, Ask, Await, Note, Return, Goto, IsAsking, Standing, plan_after}
 use Rattle.rbd_machine.specs.Steps.{find, joining, looking, on_id}
 use Rattle.rbd_machine.specs.declared.reason.Reason.{Reason}
-use Rattle.rbd_meaning.specs.Range.{extent_at}
-use Rattle.rbd_meaning.specs.Writes.{write_refuses}
-use Rattle.rbd_request.specs.Write.{is_write, put, write_plan}
 use Rattle.rbd_session.specs.declared.running.Occupant.{Occupant}
 use Rattle.rbd_session.specs.declared.running.Occupant.TheVariants as occupant
 use Rattle.rbd_session.specs.declared.running.Running.{Running}
@@ -32,8 +29,8 @@ use Rattle.rbd_session.specs.Lines.{LinesView, lines_of}
 use Rattle.rbd_session.specs.Session.{SessionView, ComesToIn, held_in, running_at, running_in, script_line}
 use Rattle.rbd_session.specs.Track.{Track, answered_by, ended_by, run}
 use Rattle.rbd_session.proofs.Sound.{no_some}
-use Rattle.rbd_world.specs.InLine.{IsAtTurn}
-use Rattle.rbd_world.specs.Order.{tells_image, writes_object}
+use Rattle.rbd_world.specs.InLine.{IsAtTurn, KeepsTo}
+use Rattle.rbd_world.specs.Order.{ChangesInLine, tells_image, writes_object}
 use Rattle.rbd_world.proofs.KeptAhead.{KeepsAhead, answer_keeps, end_keeps}
 
 -- ---- what is fed
@@ -106,7 +103,7 @@ and_false false = refl
 pub turn_tells_none : (site : SiteId) (image : ℕ) (turn : Option ℕ) (s : SiteId) (o : Op) (a : Answer) → IsAtTurn site image turn s o → (i : ℕ) → tells_image i o a ≡ false
 turn_tells_none site image turn s (op.Header j header.Get) a at i = refl
 turn_tells_none site image turn s (op.Map j (states.Set None n state)) a at i = refl
-turn_tells_none site image turn s (op.Data j n (data_op.Write context must parts bytes)) a at i = refl
+turn_tells_none site image turn s (op.Data j n o) a at i = refl
 turn_tells_none site image turn s o a at i = absurd at
 
 -- it writes the object of its turn
@@ -119,9 +116,10 @@ pub writes_at_turn : (site : SiteId) (image : ℕ) (turn : Option ℕ) (s : Site
     → WritesAtTurn site image turn s i number
 writes_at_turn site image turn s (op.Header j header.Get) at i number is = absurd (true≢false (sym is))
 writes_at_turn site image turn s (op.Map j (states.Set None n state)) at i number is = absurd (true≢false (sym is))
-writes_at_turn site image turn s (op.Data j n (data_op.Write context must parts bytes)) (one, two, three) i number is =
+writes_at_turn site image turn s (op.Data j n (data_op.Read snap parts)) at i number is = absurd at
+writes_at_turn site image turn s (op.Data j n o) at i number is =
     let parts = and_parts (j == i) (n == number) is in
-    record { site_is = one; image_is = sym (eqb-true j i parts.0) ∙ two; turn_is = three ∙ ap Some (eqb-true n number parts.1) }
+    record { site_is = at.0; image_is = sym (eqb-true j i parts.0) ∙ at.1; turn_is = at.2 ∙ ap Some (eqb-true n number parts.1) }
 writes_at_turn site image turn s o at i number is = absurd at
 
 -- ---- it is the look-up of a write
@@ -139,34 +137,35 @@ next_asked other (Ask s why o next) = next
 next_asked other plan = other
 
 -- how it goes on behind the look-up
-abbrev pub joins : SiteId → (at : ℕ) → (bytes : List ℕ) → (image : ℕ) → Plan
-joins home at bytes = joining home false (write_refuses (extent_at at bytes)) (put home at bytes)
+abbrev pub joins : SiteId → (refuses : HeaderView → Option Refusal) → (act : (image : ℕ) → HeaderView → Plan) → (image : ℕ) → Plan
+joins home refuses act = joining home false refuses act
 
-abbrev pub looks : SiteId → (at : ℕ) → (bytes : List ℕ) → (image : ℕ) → Plan
-looks home at bytes = looking home (write_refuses (extent_at at bytes)) (put home at bytes)
+abbrev pub looks : SiteId → (refuses : HeaderView → Option Refusal) → (act : (image : ℕ) → HeaderView → Plan) → (image : ℕ) → Plan
+looks home refuses act = looking home refuses act
 
 pub record LooksUp (home s : SiteId) (o : Op) (next : Answer → Plan) : Type 0 where
   pub name : List ℕ
-  pub at : ℕ
-  pub bytes : List ℕ
+  pub refuses : HeaderView → Option Refusal
+  pub act : (image : ℕ) → HeaderView → Plan
   pub site_is : s ≡ home
   pub op_is : o ≡ op.Directory (directory.Find name)
-  pub next_is : next ≡ on_id (joins home at bytes)
+  pub next_is : next ≡ on_id (joins home refuses act)
+  pub keeps : (image : ℕ) (h : HeaderView) (turn : Option ℕ) → KeepsTo home image turn (act image h)
 
-looks_up_so : (home s : SiteId) (why : Reason) (o : Op) (next : Answer → Plan) (name : List ℕ) (at : ℕ) (bytes : List ℕ) → Ask s why o next ≡ find home name (joins home at bytes) → LooksUp home s o next
-looks_up_so home s why o next name at bytes is = record {
-  name = name;
-  at = at;
-  bytes = bytes;
+looks_up_so : (home s : SiteId) (why : Reason) (o : Op) (next : Answer → Plan) (st : Standing) (changes : ChangesInLine home st) → Ask s why o next ≡ find home changes.name (joins home changes.refuses changes.act)
+    → LooksUp home s o next
+looks_up_so home s why o next st changes is = record {
+  name = changes.name;
+  refuses = changes.refuses;
+  act = changes.act;
   site_is = ap (site_asked s) is;
   op_is = ap (operation_asked o) is;
   next_is = ap (next_asked next) is;
+  keeps = changes.keeps;
 }
 
-pub looks_up : (home s : SiteId) (why : Reason) (o : Op) (next : Answer → Plan) (c : Command) → is_write c ≡ true → Ask s why o next ≡ write_plan home c → LooksUp home s o next
-looks_up home s why o next (command.Write name at bytes) writes is = looks_up_so home s why o next name at bytes is
-looks_up home s why o next (command.Fill name at len byte) writes is = looks_up_so home s why o next name at _ is
-looks_up home s why o next _ writes is = cc
+pub looks_up : (home s : SiteId) (why : Reason) (o : Op) (next : Answer → Plan) (st : Standing) → st.plan ≡ Ask s why o next → ChangesInLine home st → LooksUp home s o next
+looks_up home s why o next st asks changes = looks_up_so home s why o next st changes (sym asks ∙ ap (λ (x : Standing). x.plan) changes.stand)
 
 pub record Told (a : Answer) : Type 0 where
   pub image : ℕ

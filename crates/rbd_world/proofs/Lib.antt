@@ -20,6 +20,7 @@ pub mod InLine
 pub mod InOrder
 pub mod KeptAhead
 pub mod Latest
+pub mod LooksNone
 pub mod LooksOnce
 pub mod Lost
 pub mod LostLines

@@ -29,25 +29,40 @@ use Rattle.rbd_machine.specs.Refused.{refuses_none}
 use Rattle.rbd_machine.specs.Steps.{not_there, unless, on_id, on_header, on_done, change, joining as change_joining, looked, holding, owned, applied, on_bits}
 use Rattle.rbd_machine.specs.Wait as wait
 use Rattle.rbd_machine.proofs.Settled.{settled_goto}
-use Rattle.rbd_meaning.specs.Listings.{shown_snaps}
+use Rattle.rbd_meaning.specs.Listings.{shown_snaps, used_among}
 use Rattle.rbd_meaning.specs.Range.{extent_at}
 use Rattle.rbd_meaning.specs.Snaps.{create_refuses, remove_refuses}
 use Rattle.rbd_meaning.specs.Writes.{write_refuses}
 use Rattle.rbd_request.specs.Read.{is_read, IsReadOf}
 use Rattle.rbd_request.specs.Write.{put, write, write_pieces, write_plan}
 use Rattle.rbd_admin.specs.Create.{IsCreate, IsCreatePlan, on_drawn, mapping, making, drawing}
-use Rattle.rbd_admin.specs.Listing.{list_names, on_names, showing, show_header, listing_plan}
+use Rattle.rbd_admin.specs.Listing.{counting, list_names, listing_plan, measuring, on_names, on_renamed, rename, show_header, show_used, showing}
 use Rattle.rbd_admin.specs.Snap.{on_snap, on_gone, taking, unmapping, take, remove_listed, remove, snap_plan}
 use Rattle.rbd_admin.proofs.Decided.{limits_or_not}
 use Rattle.rbd_close.specs.Close.{done, unwatching, on_dropped, joining, close, quiesced, resumed, resume, saying, tell, close_plan}
-use Rattle.rbd_requests.specs.Served.{IsPlanFor, Writes, Reads, Creates, Lists, Snaps, Closes}
-use Rattle.rbd_world.specs.Ways.{IsNoLook, LooksNoMore}
+use Rattle.rbd_discard.specs.Discard.{discard_plan, zero}
+use Rattle.rbd_kinds.specs.declared.layout.Extent.{Extent}
+use Rattle.rbd_machine.specs.Answers.{CanGive}
+use Rattle.rbd_machine.specs.declared.seat.Seat.{Seat}
+use Rattle.rbd_meaning.specs.Count.{object_count}
+use Rattle.rbd_meaning.specs.Removals.{image_removal_refuses, removal, watchers_refuse}
+use Rattle.rbd_meaning.specs.Resizes.{resize_refuses}
+use Rattle.rbd_meaning.specs.Rollbacks.{rollback_refuses}
+use Rattle.rbd_remove.specs.Remove as of_remove
+use Rattle.rbd_remove.specs.Remove.{holding_it, joining_its_line, looked_at_it, on_watchers, remove_each, remove_owned, remove_plan, unless_watched}
+use Rattle.rbd_resize.specs.Resize.{resize_plan, set_size}
+use Rattle.rbd_resize.specs.Rollback.{roll_back_to, rollback_plan}
+use Rattle.rbd_requests.specs.NoLooks.{IsNoLook, removal_has_none}
+use Rattle.rbd_requests.specs.Served.{IsPlanFor, Writes, Discards, Reads, Creates, Lists, Snaps, Resizes, Rollbacks, Removes, Closes}
+use Rattle.rbd_world.specs.Ways.{LooksNoMore}
+use Rattle.rbd_world.proofs.LooksNone.{none_bits, none_done, none_each, none_header, none_id, none_listed, none_resize, none_there, none_unless, none_zeroed}
 
 -- ---- looks
 
--- it waits for the lock of its image next
+-- It waits for the lock of its image next, or behind an operation that can be answered so.
 abbrev pub HoldsNext : Plan → Type 0
 HoldsNext (Await (wait.Hold site image) next) = Unit {0}
+HoldsNext (Ask site why o next) = (a : Answer) × (CanGive o a × HoldsNext (next a))
 HoldsNext _ = ⊥
 
 pub data Looked (p : Plan) : Type 0 where
@@ -84,28 +99,6 @@ none_at_operation labels (Await w next) none = none_at_operation labels next non
 none_at_operation labels (Note site image event next) none = none_at_operation labels next none
 none_at_operation labels (Return r) none = tt
 none_at_operation labels (Goto label) none = absurd none
-
--- ---- steps that look at none
-
-none_there : (a : Answer) → LooksNoMore (not_there a)
-none_there answer.Fenced = tt
-none_there _ = tt
-
-none_done : (next : Plan) → LooksNoMore next → (a : Answer) → LooksNoMore (on_done next a)
-none_done next none answer.Done = none
-none_done next none a = none_there a
-
-none_unless : (r : Option Refusal) (next : Plan) → LooksNoMore next → LooksNoMore (unless r next)
-none_unless None next none = none
-none_unless (Some r) next none = tt
-
-none_header : (next : HeaderView → Plan) → ((h : HeaderView) → LooksNoMore (next h)) → (a : Answer) → LooksNoMore (on_header next a)
-none_header next none (answer.Header h) = none h
-none_header next none a = none_there a
-
-none_id : (next : ℕ → Plan) → ((image : ℕ) → LooksNoMore (next image)) → (a : Answer) → LooksNoMore (on_id next a)
-none_id next none (answer.Id image) = none image
-none_id next none a = none_there a
 
 -- ---- steps
 
@@ -162,6 +155,14 @@ at_write_plan site (command.Write image from bytes) = at_write site image from b
 at_write_plan site (command.Fill image from len byte) = at_write site image from (replicate len byte)
 at_write_plan site _ = tt
 
+-- ---- discard
+
+at_discard_plan : (site : SiteId) (c : Command) → LooksOnce (discard_plan site c)
+at_discard_plan site (command.Discard image at len) =
+    let e : Extent = record { at = at; len = len } in
+    at_change site image false (write_refuses e) (zero site e) (λ i h. none_zeroed (pieces_of h.layout e) site i h)
+at_discard_plan site _ = tt
+
 -- ---- create
 
 none_drawn : (next : ℕ → Plan) → ((image : ℕ) → LooksNoMore (next image)) → (a : Answer) → LooksNoMore (on_drawn next a)
@@ -185,7 +186,7 @@ at_create : (site : SiteId) (c : Command) (plan : Plan) → IsCreatePlan site c 
 at_create site (command.Create image size shape) plan is = at_is_create site image size shape plan is
 at_create site _ plan is = absurd is
 
--- ---- ls, info, snap ls
+-- ---- ls, info, snap ls, du, rename
 
 none_names : (next : List (List ℕ) → Plan) → ((names : List (List ℕ)) → LooksNoMore (next names)) → (a : Answer) → LooksNoMore (on_names next a)
 none_names next none (answer.Names names) = none names
@@ -201,10 +202,29 @@ at_show_header site name shows = λ a. (
       )) a,
 )
 
+at_show_used : (site : SiteId) (name : List ℕ) → LooksOnce (show_used site name)
+at_show_used site name = λ a. (
+  tt,
+  at_id (measuring site)
+      (λ i b.
+      let none = none_header (λ h. counting site i (object_count h.layout h.size)) (λ h. (
+        tt,
+        none_bits (λ bits. Return (reply.Used (used_among (object_count h.layout h.size) bits) (object_count h.layout h.size))) (λ bits. tt),
+      )) b in
+      (IsLast none, at_none (on_header (λ h. counting site i (object_count h.layout h.size)) b) none)) a,
+)
+
+none_renamed : (a : Answer) → LooksNoMore (on_renamed a)
+none_renamed answer.Done = tt
+none_renamed answer.Exists = tt
+none_renamed a = none_there a
+
 at_listing : (site : SiteId) (c : Command) → LooksOnce (listing_plan site c)
 at_listing site command.List = at_none (list_names site) (tt, none_names (λ names. Return (reply.Names names)) (λ names. tt))
 at_listing site (command.Info image) = at_show_header site image reply.Info
 at_listing site (command.SnapList image) = at_show_header site image shown_snaps
+at_listing site (command.Used image) = at_show_used site image
+at_listing site (command.Rename from to) = at_none (rename site from to) (tt, none_renamed)
 at_listing site _ = tt
 
 -- ---- snap create, snap rm
@@ -212,10 +232,6 @@ at_listing site _ = tt
 none_snap : (next : Plan) → LooksNoMore next → (a : Answer) → LooksNoMore (on_snap next a)
 none_snap next none (answer.Snap snap) = none
 none_snap next none a = none_there a
-
-none_bits : (next : List ℕ → Plan) → ((bits : List ℕ) → LooksNoMore (next bits)) → (a : Answer) → LooksNoMore (on_bits next a)
-none_bits next none (answer.Bits bits) = none bits
-none_bits next none a = none_there a
 
 none_gone : (next : Plan) → LooksNoMore next → (a : Answer) → LooksNoMore (on_gone next a)
 none_gone next none answer.Done = none
@@ -233,6 +249,73 @@ at_snap_plan site (command.SnapCreate image snap) =
 at_snap_plan site (command.SnapRemove image snap) =
     at_change site image true (remove_refuses snap) (remove site snap) (λ i h. none_removal site snap i (snap_named h.snaps snap))
 at_snap_plan site _ = tt
+
+-- ---- resize, snap rollback
+
+at_resize_plan : (site : SiteId) (c : Command) → LooksOnce (resize_plan site c)
+at_resize_plan site (command.Resize image size) =
+    at_change site image true (resize_refuses size) (set_size site size) (λ i h. none_resize site i h size (object_count h.layout size) (applied site i) tt)
+at_resize_plan site _ = tt
+
+at_rollback_plan : (site : SiteId) (c : Command) → LooksOnce (rollback_plan site c)
+at_rollback_plan site (command.SnapRollback image snap) =
+    at_change site image true (rollback_refuses snap) (roll_back_to site snap) (λ i h. none_listed site snap i h (snap_named h.snaps snap))
+at_rollback_plan site _ = tt
+
+-- ---- rm
+
+none_unwatched : (site : SiteId) (session image : ℕ) (next : Plan) → LooksNoMore next → LooksNoMore (unless_watched site session image next)
+none_unwatched site session image next none = (tt, on)
+  where
+    on : (a : Answer) → LooksNoMore (on_watchers session next a)
+    on (answer.Instances watchers) = none_unless (watchers_refuse session watchers) next none
+    on a = none_there a
+
+module _ (site : SiteId) (session image : ℕ) where
+  none_removing : (h : HeaderView) → LooksNoMore (remove_owned site session image h)
+  none_removing h =
+      none_unwatched site session image (of_remove.remove site image h (Return reply.Done))
+      (tt, none_bits (λ bits. remove_each site (removal image h bits) (Return reply.Done)) (λ bits. none_each site (removal image h bits) (removal_has_none image h bits)))
+
+  none_removed_owned : (a : Answer) → LooksNoMore (on_header (owned image_removal_refuses (remove_owned site session) image) a)
+  none_removed_owned = none_header (owned image_removal_refuses (remove_owned site session) image) (λ h. none_unless (image_removal_refuses h) (remove_owned site session image h) (none_removing h))
+
+  once_removing : LooksOnce (holding_it site session image)
+  once_removing = λ a. (IsLast (none_removed_owned a), at_none (on_header (owned image_removal_refuses (remove_owned site session) image) a) (none_removed_owned a))
+
+  -- whoever watches, it isn't refused where nobody does
+  holds_unwatched : HoldsNext (unless_watched site session image (holding_it site session image))
+  holds_unwatched = (answer.Instances [], (record { word = refl; form = tt }, tt))
+
+  once_unwatched : LooksOnce (unless_watched site session image (holding_it site session image))
+  once_unwatched = λ a. (tt, on a)
+    where
+      of : (r : Option Refusal) → LooksOnce (unless r (holding_it site session image))
+      of None = once_removing
+      of (Some r) = tt
+
+      on : (a : Answer) → LooksOnce (on_watchers session (holding_it site session image) a)
+      on (answer.Instances watchers) = of (watchers_refuse session watchers)
+      on a = at_none (not_there a) (none_there a)
+
+  removal_looked : (a : Answer) → Looked (on_header (looked_at_it site session image) a)
+  removal_looked (answer.Header h) = by (image_removal_refuses h)
+    where
+      by : (r : Option Refusal) → Looked (unless r (unless_watched site session image (holding_it site session image)))
+      by None = Holds holds_unwatched
+      by (Some r) = IsLast tt
+  removal_looked a = IsLast (none_there a)
+
+  once_joined : LooksOnce (joining_its_line site session image)
+  once_joined = λ a. (removal_looked a, at_header (looked_at_it site session image) (λ h. by (image_removal_refuses h)) a)
+    where
+      by : (r : Option Refusal) → LooksOnce (unless r (unless_watched site session image (holding_it site session image)))
+      by None = once_unwatched
+      by (Some r) = tt
+
+at_remove_plan : (site : SiteId) (session : ℕ) (c : Command) → LooksOnce (remove_plan site session c)
+at_remove_plan site session (command.Remove image) = λ a. (tt, at_id (joining_its_line site session) (λ i. once_joined site session i) a)
+at_remove_plan site session _ = tt
 
 -- ---- close, quiesce, resume, tell
 
@@ -267,15 +350,20 @@ at_end (f ∷ more) (Goto label) steps last once walk = absurd walk
 from_plan : (plan : Plan) (s : Standing) (feds : List Fed) (steps : List Answered) (last : Plan) → s ≡ without_labels plan → LooksOnce plan → IsWalk s.labels s.plan feds steps last → LooksOnce last
 from_plan plan s feds steps last is once walk = at_end feds plan steps last once (subst (λ (at : Standing). IsWalk at.labels at.plan feds steps last) is walk)
 
-is_one_read : (home : SiteId) (c : Command) (s : Standing) → IsReadOf home c s → is_read c ≡ true
-is_one_read home (command.Read image snap at len) s is = refl
-is_one_read home _ s is = absurd is
+is_one_read : (site : SiteId) (c : Command) (s : Standing) → IsReadOf site c s → is_read c ≡ true
+is_one_read site (command.Read image snap at len) s is = refl
+is_one_read site _ s is = absurd is
 
-pub looks_once : (home : SiteId) (c : Command) (s : Standing) (feds : List Fed) (steps : List Answered) (last : Plan)
-    → IsPlanFor home c s → is_read c ≡ false → IsWalk s.labels s.plan feds steps last → LooksOnce last
-looks_once home c s feds steps last (Writes is at_plan) other walk = from_plan (write_plan home c) s feds steps last at_plan (at_write_plan home c) walk
-looks_once home c s feds steps last (Reads is) other walk = let no : false ≡ true = sym other ∙ is_one_read home c s is in cc
-looks_once home c s feds steps last (Creates is at_plan) other walk = from_plan s.plan s feds steps last at_plan (at_create home c s.plan is) walk
-looks_once home c s feds steps last (Lists is at_plan) other walk = from_plan (listing_plan home c) s feds steps last at_plan (at_listing home c) walk
-looks_once home c s feds steps last (Snaps is at_plan) other walk = from_plan (snap_plan home c) s feds steps last at_plan (at_snap_plan home c) walk
-looks_once home c s feds steps last (Closes is at_plan) other walk = from_plan (close_plan home c) s feds steps last at_plan (at_close_plan home c) walk
+pub looks_once : (seat : Seat) (c : Command) (s : Standing) (feds : List Fed) (steps : List Answered) (last : Plan)
+    → IsPlanFor seat c s → is_read c ≡ false → IsWalk s.labels s.plan feds steps last → LooksOnce last
+looks_once seat c s feds steps last (Writes is at_plan) other walk = from_plan (write_plan seat.home c) s feds steps last at_plan (at_write_plan seat.home c) walk
+looks_once seat c s feds steps last (Discards is at_plan) other walk = from_plan (discard_plan seat.home c) s feds steps last at_plan (at_discard_plan seat.home c) walk
+looks_once seat c s feds steps last (Reads is) other walk = let no : false ≡ true = sym other ∙ is_one_read seat.home c s is in cc
+looks_once seat c s feds steps last (Creates is at_plan) other walk = from_plan s.plan s feds steps last at_plan (at_create seat.home c s.plan is) walk
+looks_once seat c s feds steps last (Lists is at_plan) other walk = from_plan (listing_plan seat.home c) s feds steps last at_plan (at_listing seat.home c) walk
+looks_once seat c s feds steps last (Snaps is at_plan) other walk = from_plan (snap_plan seat.home c) s feds steps last at_plan (at_snap_plan seat.home c) walk
+looks_once seat c s feds steps last (Resizes is at_plan) other walk = from_plan (resize_plan seat.home c) s feds steps last at_plan (at_resize_plan seat.home c) walk
+looks_once seat c s feds steps last (Rollbacks is at_plan) other walk = from_plan (rollback_plan seat.home c) s feds steps last at_plan (at_rollback_plan seat.home c) walk
+looks_once seat c s feds steps last (Removes is at_plan) other walk =
+    from_plan (remove_plan seat.home seat.session c) s feds steps last at_plan (at_remove_plan seat.home seat.session c) walk
+looks_once seat c s feds steps last (Closes is at_plan) other walk = from_plan (close_plan seat.home c) s feds steps last at_plan (at_close_plan seat.home c) walk

@@ -28,6 +28,9 @@ use Rattle.rbd_session.proofs.Sound.{no_some, some_same}
 use Rattle.rbd_world.specs.declared.event.Event.TheVariants as event
 use Rattle.rbd_world.specs.Order.{IsInOrder}
 use Rattle.rbd_world.specs.Run.{Asked, Happening, Began, asked_by, steps_of, way_of}
+use Rattle.rbd_machine.specs.Standalone.{TellAllStandalone}
+use Rattle.rbd_machine.specs.declared.seat.Seat.{Seat}
+use Rattle.rbd_world.specs.Seats.{seat_at, seat_of_home}
 use Rattle.rbd_world.specs.Sound.{AreApart, InSlot, Sending, IsBegin, IsHeldRightly, IsInSlot, IsLiving, IsOpen, IsSoundWorld, KeepsToItsWay, has_ended, held_of, known_in, line_at}
 use Rattle.rbd_world.specs.Step.{Begins, BeginsIn, Does, DoesAtSites, IsSoundIf, begins_of, is_begun, quiescing_of}
 use Rattle.rbd_world.specs.World.{WorldView, client_in, records_in, session_of}
@@ -62,6 +65,9 @@ module _ {R : Type 0} (stands : R → Standing) (old new : WorldView R) (w : IsS
   abbrev home : SiteId
   home = w.homes session
 
+  abbrev seat : Seat
+  seat = seat_at w.homes session
+
   abbrev knew : ℕ → Knowledge
   knew = known_in w.knows session
 
@@ -92,7 +98,7 @@ module _ {R : Type 0} (stands : R → Standing) (old new : WorldView R) (w : IsS
   -- ---- what its slot holds
 
   abbrev IsNew : Option (Occupant R) → Type 0
-  IsNew = IsNewcomer stands IsPlanFor extent_of home line command
+  IsNew = IsNewcomer stands IsPlanFor extent_of seat line command
 
   abbrev opened : (l : ℕ) → l ≡ line → IsOpen l (does_begin ∷ w.run)
   opened l same = record {
@@ -101,10 +107,10 @@ module _ {R : Type 0} (stands : R → Standing) (old new : WorldView R) (w : IsS
     unended = ap (λ n. has_ended n w.run) same ∙ unknown.unended;
   }
 
-  holds_rightly : (o : Option (Occupant R)) → IsNew o → IsHeldRightly stands home me (does_begin ∷ w.run) o
+  holds_rightly : (o : Option (Occupant R)) → IsNew o → IsHeldRightly stands seat me (does_begin ∷ w.run) o
   holds_rightly None is = absurd is
   holds_rightly (Some (occupant.Refused number refusal)) (same, ends) =
-      let one = has_one_plan home command built in
+      let one = has_one_plan seat command built in
       record {
         begun = opened number same;
         mine = refl;
@@ -124,7 +130,8 @@ module _ {R : Type 0} (stands : R → Standing) (old new : WorldView R) (w : IsS
         feds = [];
         walk = (none, refl);
         given = subst AreGiven (sym none) tt;
-        calm = λ looks. (look_is_calm home command (stands r.request) looks begins.stands_there, begins.place);
+        standalone = subst TellAllStandalone (sym none) tt;
+        calm = λ looks. (look_is_calm seat command (stands r.request) looks begins.stands_there, begins.place);
       }
 
   -- its way isn't begun
@@ -138,7 +145,7 @@ module _ {R : Type 0} (stands : R → Standing) (old new : WorldView R) (w : IsS
   knows_in lines (Some (occupant.Refused number refusal)) is = knows_nothing
   knows_in lines (Some (occupant.Running r)) begins =
       subst (KnowsIn stands lowest (Some r) lines) (sym knows_nothing)
-      (newcomer_knows stands IsPlanFor extent_of (λ work. Unit {0}) (λ at work s served is. command_is_lawful at work s is) home line lowest command r lines tt begins)
+      (newcomer_knows stands IsPlanFor extent_of (λ work. Unit {0}) (λ at work s served is. command_is_lawful at work s is) seat line lowest command r lines tt begins)
 
   line_of_new : (o : Option (Occupant R)) (other : ℕ) → IsNew o → script_line o ≡ Some other → line ≡ other
   line_of_new None other is at_line = absurd is
@@ -157,7 +164,9 @@ module _ {R : Type 0} (stands : R → Standing) (old new : WorldView R) (w : IsS
     begins = became.begins
 
     is_new : IsNew (held_in lowest d.session.slots)
-    is_new = subst (λ s. IsNewcomer stands IsPlanFor extent_of s line command (held_in lowest d.session.slots)) living.at_home begins.held
+    is_new =
+        subst (λ n. IsNewcomer stands IsPlanFor extent_of (seat_of_home n home) line command (held_in lowest d.session.slots)) living.whose
+        (subst (λ s. IsNewcomer stands IsPlanFor extent_of (seat_of_home c.session.instance.session s) line command (held_in lowest d.session.slots)) living.at_home begins.held)
 
     abbrev Where : (m x : ℕ) → Type 0
     Where m x = ((m ≡ session) × (x ≡ lowest)) ⊎ IsElsewhere session lowest m x
@@ -198,7 +207,7 @@ module _ {R : Type 0} (stands : R → Standing) (old new : WorldView R) (w : IsS
     order_then (Some (occupant.Refused number refusal)) at is keeps =
         freed_order stands home me (does_begin ∷ w.run) lowest c.session d.session begins.slots begins.lines (ap running_in at) keeps
     order_then (Some (occupant.Running r)) at is keeps =
-        begun_order stands home me lowest line command (does_begin ∷ w.run) c.session d.session r living.sound.session (ap running_in living.sound.session.lowest.free) (ap running_in at) is
+        begun_order stands seat me lowest line command (does_begin ∷ w.run) c.session d.session r living.sound.session (ap running_in living.sound.session.lowest.free) (ap running_in at) is
         begins.slots begins.lines no_steps is_asked asked_now refl keeps
 
     begun_carries : DoesAtSites does_begin old.sites new.sites → ((m : ℕ) → IsSoundIf stands (client_in m new.lives)) → IsCarried stands old new w does_begin

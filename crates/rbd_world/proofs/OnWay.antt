@@ -27,6 +27,7 @@ use Rattle.rbd_site.specs.Step.{answer_to}
 use Rattle.rbd_world.specs.declared.event.Event.TheVariants as event
 use Rattle.rbd_world.specs.Order.{IsInOrder}
 use Rattle.rbd_world.specs.Run.{Asked, OnWay, Happening, Did, Operation, asked_by, ends, step_of, steps_of, way_of}
+use Rattle.rbd_world.specs.Seats.{seat_at}
 use Rattle.rbd_world.specs.Sound.{IsDone, IsDue, IsHeldRightly, IsInSlot, IsLedTo, IsLiving, IsOpen, IsSoundWorld, IsUnderWay, KeepsToItsWay, StandsAtLook, has_ended, held_of, known_in}
 use Rattle.rbd_world.specs.Step.{Does, DoesAtSites, Goes, IsSoundIf, operation_at, reply_on_way}
 use Rattle.rbd_world.specs.Ways.{GoesWith, IsWayThere}
@@ -71,8 +72,8 @@ module _ {R : Type 0} (stands : R → Standing) (old new : WorldView R) (w : IsS
   runs : running_at slot c.session ≡ Some r
   runs = ap running_in holds
 
-  way : IsUnderWay stands home me w.run r
-  way = subst (IsHeldRightly stands home me w.run) holds (living.held slot)
+  way : IsUnderWay stands (seat_at w.homes session) me w.run r
+  way = subst (IsHeldRightly stands (seat_at w.homes session) me w.run) holds (living.held slot)
 
   -- its way stands where it acts
   stands_there : IsWayThere a.site a.image (way_of r.line w.run) (rest_of_acquire a (Return reply.Done))
@@ -113,8 +114,8 @@ module _ {R : Type 0} (stands : R → Standing) (old new : WorldView R) (w : IsS
       begun = way.begun;
       plan = (stands r.request).plan;
       led =
-          subst (λ i. IsLedTo (w.homes i) way.begun.asked.command (steps_of r.line w.run) (stands r.request).plan) (sym (ap (λ (i : Instance). i.session) way.mine ∙ living.whose))
-          (record { start = way.start; plan = way.plan; feds = way.feds; walk = way.walk; given = way.given });
+          subst (λ i. IsLedTo (seat_at w.homes i) way.begun.asked.command (steps_of r.line w.run) (stands r.request).plan) (sym (ap (λ (i : Instance). i.session) way.mine ∙ living.whose))
+          (record { start = way.start; plan = way.plan; feds = way.feds; walk = way.walk; given = way.given; standalone = way.standalone });
       wants = subst (λ (q : Running R). is_look_at a.site (kind_asked (stands q.request).plan) ≡ true) (some_same waiting.request r (sym waiting.runs ∙ runs)) waiting.wants;
     }
       where
@@ -138,11 +139,11 @@ module _ {R : Type 0} (stands : R → Standing) (old new : WorldView R) (w : IsS
 
     -- ---- what its slot holds
 
-    still_held : (x : Option Reply) → result ≡ x → GoesItsWay slot x c.session d.session → IsHeldRightly stands home me (does_it ∷ w.run) (held_in slot d.session.slots)
-    still_held (Some reply) is gives_up = subst (IsHeldRightly stands home me (does_it ∷ w.run)) (sym (gives_up.free (subst IsSome (sym runs) refl))) tt
+    still_held : (x : Option Reply) → result ≡ x → GoesItsWay slot x c.session d.session → IsHeldRightly stands (seat_at w.homes session) me (does_it ∷ w.run) (held_in slot d.session.slots)
+    still_held (Some reply) is gives_up = subst (IsHeldRightly stands (seat_at w.homes session) me (does_it ∷ w.run)) (sym (gives_up.free (subst IsSome (sym runs) refl))) tt
     still_held None is same =
-        subst (IsHeldRightly stands home me (does_it ∷ w.run)) (sym (ap (λ (s : SessionView R). held_in slot s.slots) same ∙ holds))
-        (underway_still stands home me does_it w.run r
+        subst (IsHeldRightly stands (seat_at w.homes session) me (does_it ∷ w.run)) (sym (ap (λ (s : SessionView R). held_in slot s.slots) same ∙ holds))
+        (underway_still stands (seat_at w.homes session) me does_it w.run r
         (record { asked = way.begun.asked; is = way.begun.is; unended = ap (λ x. ends r.line (Did operation x) || has_ended r.line w.run) is ∙ way.begun.unended })
         (append-nil (steps_of r.line w.run)) way refl)
 

@@ -1,19 +1,19 @@
 -- A session that begins a command keeps its writes in order: the new one stands in no line.
-use Rattle.std.proofs.Common.{◌≡◌, ◌≢◌, ◌⊎◌, inl, inr, ℕ, Bool, true, false, List, [], Some, None, refl, sym, ap, ◌∙◌, subst}
+use Rattle.std.proofs.Common.{◌≡◌, ◌≢◌, ◌⊎◌, inl, inr, ℕ, Bool, true, false, List, [], replicate, Some, None, refl, sym, ap, ◌∙◌, subst}
 use Rattle.std.proofs.lemmas.Bool.{true≢false}
 use Rattle.std.specs.Prelude.{IsSome}
-use Rattle.rbd_admin.specs.Create.{IsCreatePlan}
-use Rattle.rbd_admin.specs.Listing.{is_listing}
-use Rattle.rbd_admin.specs.Snap.{is_snap}
 use Rattle.rbd_commands.specs.declared.command.Command.{Command}
 use Rattle.rbd_commands.specs.declared.command.Command.TheVariants as command
 use Rattle.rbd_kinds.specs.declared.id.Instance.{Instance}
 use Rattle.rbd_kinds.specs.declared.id.SiteId.{SiteId}
 use Rattle.rbd_line.specs.Line.{ahead, is_member}
 use Rattle.rbd_machine.specs.Plan.{Standing, without_labels}
-use Rattle.rbd_request.specs.Read.{IsReadOf}
-use Rattle.rbd_request.specs.Write.{is_write, write_plan}
-use Rattle.rbd_requests.specs.Served.{IsPlanFor, Writes, Reads, Creates, Lists, Snaps, Closes}
+use Rattle.rbd_kinds.specs.declared.layout.Extent.{Extent}
+use Rattle.rbd_machine.specs.declared.seat.Seat.{Seat}
+use Rattle.rbd_discard.specs.Discard.{discard, zero}
+use Rattle.rbd_request.specs.Write.{extent_at, put, write, write_refuses}
+use Rattle.rbd_requests.specs.Served.{IsPlanFor}
+use Rattle.rbd_requests.proofs.OnePlan.{only_discards, only_writes}
 use Rattle.rbd_requests.specs.Touched.{extent_of}
 use Rattle.rbd_session.specs.declared.running.Running.{Running}
 use Rattle.rbd_session.specs.Lines.{LinesView, lines_of}
@@ -21,45 +21,43 @@ use Rattle.rbd_session.specs.Session.{SessionView, BeginsAt, IsSoundSession, run
 use Rattle.rbd_session.proofs.Members.{not_found}
 use Rattle.rbd_session.proofs.Sound.{some_same}
 use Rattle.rbd_world.specs.InLine.{IsPastWithout}
-use Rattle.rbd_world.specs.Order.{IsBeforeFinding, IsBehindFinding, IsInOrder, IsWriterOf, found_before, has_found, has_written}
+use Rattle.rbd_world.specs.Order.{ChangesInLine, IsBeforeFinding, IsBehindFinding, IsInOrder, IsWriterOf, found_before, has_found, has_written}
 use Rattle.rbd_world.specs.Run.{Asked, Happening, asked_by, steps_of}
 use Rattle.rbd_world.specs.Step.{AreSlotsBut}
 use Rattle.rbd_world.proofs.Changed.{same_or_other}
 use Rattle.rbd_world.proofs.FoundFirst.{found_has, never_found}
+use Rattle.rbd_world.proofs.Writing.{put_keeps, zero_keeps}
 
--- the request of a write or a fill stands at its plan
-pub record IsWriteAt (home : SiteId) (c : Command) (s : Standing) : Type 0 where
-  pub is : is_write c ≡ true
-  pub stand : s ≡ without_labels (write_plan home c)
+-- ---- a command that changes an extent goes beside others
 
--- A command that writes an extent is a write or a fill: what holds of neither doesn't hold of it.
-of_no_other : (P : Command → Type 0) → ((name : List ℕ) (at : ℕ) (bytes : List ℕ) → P (command.Write name at bytes) → ⊥) → ((name : List ℕ) (at len byte : ℕ) → P (command.Fill name at len byte) → ⊥)
-    → (c : Command) → IsSome (extent_of c) → P c → ⊥
-of_no_other P write fill (command.Write name at bytes) writes is = write name at bytes is
-of_no_other P write fill (command.Fill name at len byte) writes is = fill name at len byte is
-of_no_other P write fill _ writes is = true≢false (sym writes)
+write_changes : (home : SiteId) (name : List ℕ) (at : ℕ) (bytes : List ℕ) (s : Standing) → s ≡ without_labels (write home name at bytes) → ChangesInLine home s
+write_changes home name at bytes s is = record {
+  name = name;
+  refuses = write_refuses (extent_at at bytes);
+  act = put home at bytes;
+  stand = is;
+  keeps = λ image h turn. put_keeps home image turn at bytes h;
+}
 
--- so it is with a test that both fail
-untested : (test : Command → Bool) → ((name : List ℕ) (at : ℕ) (bytes : List ℕ) → test (command.Write name at bytes) ≡ false) → ((name : List ℕ) (at len byte : ℕ) → test (command.Fill name at len byte) ≡ false)
-    → (c : Command) → IsSome (extent_of c) → test c ≡ true → ⊥
-untested test write fill =
-    of_no_other (λ c. test c ≡ true) (λ name at bytes is. true≢false (sym is ∙ write name at bytes)) (λ name at len byte is. true≢false (sym is ∙ fill name at len byte))
+discard_changes : (home : SiteId) (name : List ℕ) (e : Extent) (s : Standing) → s ≡ without_labels (discard home name e) → ChangesInLine home s
+discard_changes home name e s is = record {
+  name = name;
+  refuses = write_refuses e;
+  act = zero home e;
+  stand = is;
+  keeps = λ image h turn. zero_keeps home image turn e h;
+}
 
--- (That a command closes is tested by a crate that this one doesn't name, so that case is split.)
-pub write_at : (home : SiteId) (c : Command) (s : Standing) → IsPlanFor home c s → IsSome (extent_of c) → IsWriteAt home c s
-write_at home c s (Writes is at_plan) writes = record { is = is; stand = at_plan }
-write_at home c s (Reads is) writes = absurd (of_no_other (λ k. IsReadOf home k s) (λ name at bytes none. none) (λ name at len byte none. none) c writes is)
-write_at home c s (Creates is at_plan) writes = absurd (of_no_other (λ k. IsCreatePlan home k s.plan) (λ name at bytes none. none) (λ name at len byte none. none) c writes is)
-write_at home c s (Lists is at_plan) writes = absurd (untested is_listing (λ name at bytes. refl) (λ name at len byte. refl) c writes is)
-write_at home c s (Snaps is at_plan) writes = absurd (untested is_snap (λ name at bytes. refl) (λ name at len byte. refl) c writes is)
-write_at home (command.Write name at bytes) s (Closes is at_plan) writes = absurd (true≢false (sym is))
-write_at home (command.Fill name at len byte) s (Closes is at_plan) writes = absurd (true≢false (sym is))
-write_at home _ s (Closes is at_plan) writes = absurd (true≢false (sym writes))
+pub changes_in_line : (seat : Seat) (c : Command) (s : Standing) → IsPlanFor seat c s → IsSome (extent_of c) → ChangesInLine seat.home s
+changes_in_line seat (command.Write name at bytes) s is writes = write_changes seat.home name at bytes s (only_writes seat (command.Write name at bytes) s refl is)
+changes_in_line seat (command.Fill name at len byte) s is writes = write_changes seat.home name at (replicate len byte) s (only_writes seat (command.Fill name at len byte) s refl is)
+changes_in_line seat (command.Discard name at len) s is writes = discard_changes seat.home name (record { at = at; len = len }) s (only_discards seat (command.Discard name at len) s refl is)
+changes_in_line seat _ s is writes = absurd (true≢false (sym writes))
 
-module _ {R : Type 0} (stands : R → Standing) (home : SiteId) (who : Instance) (slot line : ℕ) (command : Command) (run : List Happening) (c d : SessionView R) (r : Running R)
-    (sound : IsSoundSession stands c) (free : running_at slot c ≡ None) (runs : running_at slot d ≡ Some r) (begins : BeginsAt stands IsPlanFor extent_of home line command r)
+module _ {R : Type 0} (stands : R → Standing) (seat : Seat) (who : Instance) (slot line : ℕ) (command : Command) (run : List Happening) (c d : SessionView R) (r : Running R)
+    (sound : IsSoundSession stands c) (free : running_at slot c ≡ None) (runs : running_at slot d ≡ Some r) (begins : BeginsAt stands IsPlanFor extent_of seat line command r)
     (slots : AreSlotsBut slot c d) (lines : d.lines ≡ c.lines) (none : steps_of line run ≡ []) (asked : Asked) (asks : asked_by line run ≡ Some asked) (its : asked.command ≡ command)
-    (old : IsInOrder stands home who run c) where
+    (old : IsInOrder stands seat.home who run c) where
   data Where (x : ℕ) (q : Running R) : Type 0 where
     Other : running_at x c ≡ Some q → Where x q
     Here : x ≡ slot → q ≡ r → Where x q
@@ -83,12 +81,11 @@ module _ {R : Type 0} (stands : R → Standing) (home : SiteId) (who : Instance)
   not_first q other s image same earlier =
       true≢false (sym (found_has q.line other s image run earlier) ∙ ap (λ (p : Running R). has_found p.line s image run) same ∙ unfound s image)
 
-  newly : IsSome r.extent → IsBeforeFinding stands home run r
+  newly : IsSome r.extent → IsBeforeFinding stands seat.home run r
   newly writes =
-      let at = write_at home command (stands r.request) begins.stands_there (subst IsSome begins.extent writes) in
-      record { command = command; is = at.is; stand = at.stand; place = begins.place; unfound = unfound }
+      record { changes = changes_in_line seat command (stands r.request) begins.stands_there (subst IsSome begins.extent writes); place = begins.place; unfound = unfound }
 
-  pub begun_order : IsInOrder stands home who run d
+  pub begun_order : IsInOrder stands seat.home who run d
   begun_order = record {
     extents = λ x q is asked_then asks_then. extents_of x q asked_then asks_then (where_is x q is);
     comes = λ x q is writes. comes_of x q writes (where_is x q is);
@@ -103,10 +100,10 @@ module _ {R : Type 0} (stands : R → Standing) (home : SiteId) (who : Instance)
           some_same asked asked_then (sym asks ∙ sym (ap (λ (p : Running R). asked_by p.line run) same ∙ ap (λ l. asked_by l run) begins.is_line) ∙ asks_then) in
           ap (λ (p : Running R). p.extent) same ∙ begins.extent ∙ ap extent_of (sym its ∙ ap (λ (a : Asked). a.command) same_asked)
 
-      comes_of : (x : ℕ) (q : Running R) → IsSome q.extent → Where x q → (IsBeforeFinding stands home run q) ⊎ (IsBehindFinding stands run q)
+      comes_of : (x : ℕ) (q : Running R) → IsSome q.extent → Where x q → (IsBeforeFinding stands seat.home run q) ⊎ (IsBehindFinding stands run q)
       comes_of x q writes (Other there) = old.comes x q there writes
       comes_of x q writes (Here at same) =
-          inl (subst (IsBeforeFinding stands home run) (sym same) (newly (subst (λ (p : Running R). IsSome p.extent) same writes)))
+          inl (subst (IsBeforeFinding stands seat.home run) (sym same) (newly (subst (λ (p : Running R). IsSome p.extent) same writes)))
 
       line_of : (x y : ℕ) (q p : Running R) → IsSome q.extent → IsSome p.extent → (s : SiteId) (image : ℕ) → found_before q.line p.line s image run ≡ true
           → is_member y (lines_of d.lines s image) ≡ true → Where x q → Where y p → is_member x (ahead y (lines_of d.lines s image)) ≡ true

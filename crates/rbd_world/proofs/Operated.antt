@@ -17,6 +17,7 @@ use Rattle.rbd_machine.specs.Answers.{CanBeFed}
 use Rattle.rbd_machine.specs.Path.{Answered, at_operation}
 use Rattle.rbd_machine.specs.Plan.{Plan, Ask, Standing, plan_after}
 use Rattle.rbd_machine.specs.Refused.{IsGiven}
+use Rattle.rbd_machine.specs.Standalone.{TellsStandalone}
 use Rattle.rbd_machine.specs.declared.reason.Reason.{Reason}
 use Rattle.rbd_session.specs.declared.running.Occupant.{Occupant}
 use Rattle.rbd_session.specs.declared.running.Occupant.TheVariants as occupant
@@ -31,11 +32,12 @@ use Rattle.rbd_stands.specs.Effect.{effect_of}
 use Rattle.rbd_world.specs.declared.event.Event.TheVariants as event
 use Rattle.rbd_world.specs.Order.{IsInOrder, IsWriterOf}
 use Rattle.rbd_world.specs.Run.{Asked, Itself, Happening, Did, Operation, asked_by, replies_to, step_of, steps_in, way_of}
+use Rattle.rbd_world.specs.Seats.{seat_at}
 use Rattle.rbd_world.specs.Sound.{IsDue, IsHeldRightly, IsInSlot, IsLiving, IsOpen, IsSoundWorld, IsUnderWay, KeepsToItsWay, held_of, known_in}
 use Rattle.rbd_world.specs.Step.{Does, DoesAtSites, Goes, IsSoundIf, next_number, operation_at, reply_at}
 use Rattle.rbd_world.specs.Ways.{GoesWith}
 use Rattle.rbd_world.specs.World.{WorldView, client_in, records_in, session_of, site_in}
-use Rattle.rbd_world.proofs.Acting.{all_know, beside_now, beside_of_others, can, done_so, knows_now, sending_now, standing, truth_now, truth_of_others, whole}
+use Rattle.rbd_world.proofs.Acting.{alone, all_know, beside_now, beside_of_others, can, done_so, knows_now, sending_now, standing, truth_now, truth_of_others, whole}
 use Rattle.rbd_world.proofs.Answered.{answer_due, answer_held, answer_line, went_on}
 use Rattle.rbd_world.proofs.Carried.{IsCarried}
 use Rattle.rbd_world.proofs.Changed.{GoesOnAs, apart_of, client_is, has_become, line_apart, living_of}
@@ -80,8 +82,8 @@ module _ {R : Type 0} (stands : R → Standing) (old new : WorldView R) (w : IsS
   runs : running_at slot c.session ≡ Some r
   runs = ap running_in holds
 
-  way : IsUnderWay stands home me w.run r
-  way = subst (IsHeldRightly stands home me w.run) holds (living.held slot)
+  way : IsUnderWay stands (seat_at w.homes session) me w.run r
+  way = subst (IsHeldRightly stands (seat_at w.homes session) me w.run) holds (living.held slot)
 
   -- its way goes with its slot's state
   keeps : GoesWith (stands r.request).plan (state_in slot c.slots).way (way_of r.line w.run)
@@ -115,9 +117,12 @@ module _ {R : Type 0} (stands : R → Standing) (old new : WorldView R) (w : IsS
     can_give : IsGiven o a
     can_give = can stands old new w session slot c there s o wanted (Itself r.line) result d became at_sites sound_then
 
+    tells_alone : TellsStandalone a
+    tells_alone = alone stands old new w session slot c there s o wanted (Itself r.line) result d became at_sites sound_then
+
     due : IsDue w.homes does_it w.run
     due =
-        answer_due stands w.homes session slot w.run me living.whose r way s why o next asks a can_give (next_number (site_in s old.sites)) (effect_of (records_in s old.sites) (done.Op o) a)
+        answer_due stands w.homes session slot w.run me living.whose r way s why o next asks a can_give tells_alone (next_number (site_in s old.sites)) (effect_of (records_in s old.sites) (done.Op o) a)
         (done_so stands old new w session slot c there s o wanted (Itself r.line) result d became at_sites sound_then (λ asked is. sym (is_mine asked is))
         (way_is_over stands slot c living.sound r runs (way_of r.line w.run) keeps acts))
 
@@ -134,7 +139,7 @@ module _ {R : Type 0} (stands : R → Standing) (old new : WorldView R) (w : IsS
         (sym (append-nil (way_of r.line w.run)) ∙ ap (λ l. way_of l w.run ++ []) (sym on.line))
         (subst (λ (s : SlotState). GoesWith (at_operation (stands r.request).labels (next a)) s.way (way_of r.line w.run))
         (sym (is_fed.state ∙ ap (λ x. state_behind (is_some x) (is_some (own_look_at stands slot c.session)) (state_in slot c.slots)) behind.0))
-        (goes_on_itself stands slot c living.sound r runs home me w.run way a (subst (λ p. CanBeFed p (fed.Answer a)) (sym asks) can_give.can) (way_of r.line w.run) keeps acts
+        (goes_on_itself stands slot c living.sound r runs (seat_at w.homes session) me w.run way a (subst (λ p. CanBeFed p (fed.Answer a)) (sym asks) can_give.can) (way_of r.line w.run) keeps acts
         (subst (OfRunning (λ q. waits slot (track_of q c.session.lines) ≡ false)) (sym holds) goes) s why o next asks (stands r.request).labels)))
 
     living_then : IsLiving stands home session (does_it ∷ w.run) (knows_now stands old new w session slot c there s o wanted (Itself r.line) result d became at_sites sound_then) d
@@ -142,7 +147,7 @@ module _ {R : Type 0} (stands : R → Standing) (old new : WorldView R) (w : IsS
         living_of stands home session does_it w.run (λ m l. refl) (known_in w.knows session)
         (knows_now stands old new w session slot c there s o wanted (Itself r.line) result d became at_sites sound_then) slot c d living became.slots became.states became.client quiet
         sound_then (all_know stands old new w session slot c there s o wanted (Itself r.line) result d became at_sites sound_then)
-        (answer_held stands w.homes session slot w.run me living.whose r way s why o next asks a can_give (next_number (site_in s old.sites)) (effect_of (records_in s old.sites) (done.Op o) a)
+        (answer_held stands w.homes session slot w.run me living.whose r way s why o next asks a can_give tells_alone (next_number (site_in s old.sites)) (effect_of (records_in s old.sites) (done.Op o) a)
         result c.session.lines d.session.lines (held_in slot d.session.slots) comes)
         (still_over (held_in slot d.session.slots) comes)
 
@@ -191,7 +196,7 @@ module _ {R : Type 0} (stands : R → Standing) (old new : WorldView R) (w : IsS
         living_then quiet_others
         (apart_of old new session c d goes_on slot became.slots w.apart
         (λ line is. ap script_line holds ∙ ap Some
-        (answer_line stands w.homes session slot w.run me living.whose r way s why o next asks a can_give (next_number (site_in s old.sites)) (effect_of (records_in s old.sites) (done.Op o) a)
+        (answer_line stands w.homes session slot w.run me living.whose r way s why o next asks a can_give tells_alone (next_number (site_in s old.sites)) (effect_of (records_in s old.sites) (done.Op o) a)
         result c.session.lines d.session.lines (held_in slot d.session.slots) comes line is)))
         (λ l now. slots_then l now (r.line == l) refl)
         (truth_now stands old new w session slot c there s o wanted (Itself r.line) result d became at_sites sound_then)

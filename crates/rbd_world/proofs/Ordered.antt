@@ -96,7 +96,7 @@ module _ {R : Type 0} (stands : R → Standing) (homes : ℕ → SiteId) (home :
   -- ---- a write that hasn't found its image looks it up
 
   up : IsBeforeFinding stands home rn r → LooksUp home s o next
-  up b = looks_up home s why o next b.command b.is (sym asks ∙ ap (λ (x : Standing). x.plan) b.stand)
+  up b = looks_up home s why o next (stands r.request) asks b.changes
 
   -- ---- one that has found it writes at its turn
 
@@ -220,19 +220,19 @@ module _ {R : Type 0} (stands : R → Standing) (homes : ℕ → SiteId) (home :
 
       module _ (b : IsBeforeFinding stands home rn r) where
         told : Told a
-        told = told_it labels (joins home (up b).at (up b).bytes) a (subst (λ n. IsAsking (at_operation labels (n a))) (up b).next_is further.asks)
+        told = told_it labels (joins home (up b).refuses (up b).act) a (subst (λ n. IsAsking (at_operation labels (n a))) (up b).next_is further.asks)
 
         abbrev image : ℕ
         image = told.image
 
-        plan_then : at_operation labels (next a) ≡ looks home (up b).at (up b).bytes image
-        plan_then = ap (λ n. at_operation labels (n a)) (up b).next_is ∙ ap (λ x. at_operation labels (on_id (joins home (up b).at (up b).bytes) x)) told.is
+        plan_then : at_operation labels (next a) ≡ looks home (up b).refuses (up b).act image
+        plan_then = ap (λ n. at_operation labels (n a)) (up b).next_is ∙ ap (λ x. at_operation labels (on_id (joins home (up b).refuses (up b).act) x)) told.is
 
         track_then : there ≡ waited_by slot (track_of r c.lines) (wait.Join home image false)
         track_then =
             ap (λ w. run slot (next a) (answered_by slot r.extent (track_of r c.lines) s w a)) (up b).op_is
             ∙ ap (λ n. run slot (n a) (track_of r c.lines)) (up b).next_is
-            ∙ ap (λ x. run slot (on_id (joins home (up b).at (up b).bytes) x) (track_of r c.lines)) told.is
+            ∙ ap (λ x. run slot (on_id (joins home (up b).refuses (up b).act) x) (track_of r c.lines)) told.is
 
         tells : (i : ℕ) → tells_image i o a ≡ (image == i)
         tells i = ap (λ w. tells_image i w a) (up b).op_is ∙ ap (λ x. tells_image i (op.Directory (directory.Find (up b).name)) x) told.is
@@ -260,10 +260,10 @@ module _ {R : Type 0} (stands : R → Standing) (homes : ℕ → SiteId) (home :
           place = track_place (image_at home image) (ap (λ (t : Track). t.place) track_then);
           found = ap (λ l. has_found l home image (does ∷ rn)) further.line ∙ ap (λ f. f || has_found r.line home image rn) finds_it;
           only = λ t i is. found_only t i (sym (ap (λ l. has_found l t i (does ∷ rn)) further.line) ∙ is);
-          labels = ap (λ (x : Standing). x.labels) further.request ∙ ap (λ (x : Standing). x.labels) b.stand;
+          labels = ap (λ (x : Standing). x.labels) further.request ∙ ap (λ (x : Standing). x.labels) b.changes.stand;
           keeps =
               subst (λ (x : Standing). KeepsTo home image q.turn x.plan) (sym further.request)
-              (subst (KeepsTo home image q.turn) (sym plan_then) (look_keeps home image q.turn (write_refuses (extent_at (up b).at (up b).bytes)) (up b).at (up b).bytes));
+              (subst (KeepsTo home image q.turn) (sym plan_then) (look_keeps home image q.turn (up b).refuses (up b).act (up b).keeps));
         }
 
       come_then : (IsBeforeFinding stands home rn r) ⊎ (IsBehindFinding stands rn r) → (IsBeforeFinding stands home (does ∷ rn) q) ⊎ (IsBehindFinding stands (does ∷ rn) q)

@@ -21,6 +21,8 @@ use Rattle.rbd_session.proofs.Others.{ended_leaves}
 use Rattle.rbd_session.proofs.Sound.{no_some, some_same}
 use Rattle.rbd_world.specs.Order.{IsInOrder, IsInTurn, IsWriterOf}
 use Rattle.rbd_world.specs.Run.{Asked, Did, Happening, Operation, asked_by, is_own, or_asked, steps_in}
+use Rattle.rbd_world.specs.Seats.{seat_at}
+use Rattle.rbd_machine.specs.declared.seat.Seat.{Seat}
 use Rattle.rbd_world.specs.Sound.{IsDue, IsHeldRightly, IsSoundWorld, IsUnderWay}
 use Rattle.rbd_world.specs.Step.{AreSlotsBut, IsClientAlikeIf}
 use Rattle.rbd_world.specs.World.{WorldView, client_in}
@@ -134,11 +136,11 @@ module _ {R : Type 0} (stands : R → Standing) where
       (alike_order home c.session.instance run c.session e.session alike.session (old c refl)))
 
   -- the request that a slot holds is under way
-  held_under_way : (home : SiteId) (who : Instance) (run : List Happening) (o : Option (Occupant R)) (r : Running R) → running_in o ≡ Some r → IsHeldRightly stands home who run o
-      → IsUnderWay stands home who run r
-  held_under_way home who run None r is held = absurd (no_some r is)
-  held_under_way home who run (Some (occupant.Refused line refusal)) r is held = absurd (no_some r is)
-  held_under_way home who run (Some (occupant.Running q)) r is held = subst (IsUnderWay stands home who run) (some_same q r is) held
+  held_under_way : (seat : Seat) (who : Instance) (run : List Happening) (o : Option (Occupant R)) (r : Running R) → running_in o ≡ Some r → IsHeldRightly stands seat who run o
+      → IsUnderWay stands seat who run r
+  held_under_way seat who run None r is held = absurd (no_some r is)
+  held_under_way seat who run (Some (occupant.Refused line refusal)) r is held = absurd (no_some r is)
+  held_under_way seat who run (Some (occupant.Running q)) r is held = subst (IsUnderWay stands seat who run) (some_same q r is) held
 
   -- ---- a world where something happened
 
@@ -164,7 +166,7 @@ module _ {R : Type 0} (stands : R → Standing) where
 
         writer : (x : ℕ) (r : Running R) → running_at x c.session ≡ Some r → IsSome r.extent → IsWriterOf c.session.instance r.line (h ∷ w.run)
         writer x r runs writes =
-            let way = held_under_way (w.homes m) c.session.instance w.run (held_in x c.session.slots) r runs ((w.clients m c there).held x) in
+            let way = held_under_way (seat_at w.homes m) c.session.instance w.run (held_in x c.session.slots) r runs ((w.clients m c there).held x) in
             record {
               asked = way.begun.asked;
               is = asks r.line (asked_by r.line w.run) ∙ way.begun.is;

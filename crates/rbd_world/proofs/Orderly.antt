@@ -10,7 +10,7 @@ use Rattle.rbd_session.specs.Advance.{IsSameStand}
 use Rattle.rbd_session.specs.Lines.{lines_of}
 use Rattle.rbd_session.specs.Session.{SessionView, running_at}
 use Rattle.rbd_world.specs.InLine.{IsPastWithout, KeepsTo}
-use Rattle.rbd_world.specs.Order.{IsBeforeFinding, IsBehindFinding, IsInOrder, IsWriterOf, found_before, has_found, has_written, writes_in}
+use Rattle.rbd_world.specs.Order.{ChangesInLine, IsBeforeFinding, IsBehindFinding, IsInOrder, IsWriterOf, found_before, has_found, has_written, writes_in}
 use Rattle.rbd_world.specs.Run.{Happening, asked_by, or_asked, steps_in}
 use Rattle.rbd_world.specs.Sound.{IsDue, IsRight}
 use Rattle.rbd_world.proofs.FoundFirst.{finds_nothing, found_earlier, writes_nothing, wrote_was}
@@ -24,9 +24,7 @@ found_still line h run none s image = ap (λ b. b || has_found line s image run)
 module _ {R : Type 0} (stands : R → Standing) (home : SiteId) (h : Happening) (run : List Happening) (r : Running R) (none : steps_in r.line h ≡ []) where
   before_still : IsBeforeFinding stands home run r → IsBeforeFinding stands home (h ∷ run) r
   before_still b = record {
-    command = b.command;
-    is = b.is;
-    stand = b.stand;
+    changes = b.changes;
     place = b.place;
     unfound = λ s image. found_still r.line h run none s image ∙ b.unfound s image;
   }
@@ -76,9 +74,7 @@ module _ {R : Type 0} (stands : R → Standing) (homes : ℕ → SiteId) (home :
 module _ {R : Type 0} (stands : R → Standing) (home : SiteId) (who : Instance) (run : List Happening) where
   before_same : (r q : Running R) → IsSameStand stands r q → IsBeforeFinding stands home run r → IsBeforeFinding stands home run q
   before_same r q same b = record {
-    command = b.command;
-    is = b.is;
-    stand = same.same ∙ b.stand;
+    changes = subst (ChangesInLine home) (sym same.same) b.changes;
     place = same.place ∙ b.place;
     unfound = λ s image. ap (λ l. has_found l s image run) same.line ∙ b.unfound s image;
   }

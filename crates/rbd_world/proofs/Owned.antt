@@ -1,6 +1,6 @@
 -- What is permitted by true knowledge is the owner's, and breaks no lock but that of a fenced
 -- owner.
-use Rattle.std.proofs.Common.{◌≡◌, ℕ, ◌==◌, ◌&&◌, cond, Bool, true, false, Some, None, refl, sym, ap, subst}
+use Rattle.std.proofs.Common.{◌≡◌, inl, inr, ℕ, ◌==◌, ◌&&◌, cond, Bool, true, false, Some, None, refl, sym, ap, subst}
 use Rattle.std.specs.Prelude.{IsSome, IsTrue, IsFalse}
 use Rattle.std.proofs.lemmas.Bool.{true≢false, and_parts, eqb-true}
 use Rattle.rbd_kinds.specs.declared.answer.Answer.TheVariants as answer
@@ -16,7 +16,7 @@ use Rattle.rbd_kinds.specs.declared.map_op.MapOp.TheVariants as states
 use Rattle.rbd_kinds.specs.declared.operation.Op.{Op}
 use Rattle.rbd_kinds.specs.declared.operation.Op.TheVariants as op
 use Rattle.rbd_machine.specs.Knowledge.{Knowledge}
-use Rattle.rbd_machine.specs.Permits.{OwnsBy, Permits, PermitsOnHeader, PermitsOnMap, PermitsOnObject}
+use Rattle.rbd_machine.specs.Permits.{IsLeftOver, OwnsBy, Permits, PermitsOnHeader, PermitsOnMap, PermitsOnObject}
 use Rattle.rbd_rely.specs.Locks.{KnowsByLock}
 use Rattle.rbd_rely.specs.Truth.{IsTrueAt, header_of_own}
 use Rattle.rbd_site.specs.Records.{Records}
@@ -46,6 +46,8 @@ module _ (site : SiteId) (r : Records) (me : Instance) (k : Knowledge) (t : IsTr
   of_header : (i image : ℕ) (o : HeaderOp) → PermitsOnHeader k site i o → IsTrue ((image == i) && changes_header o) → IsFalse (is_fenced r me) → IsOwner (r.headers image) me
   of_header i image (header.SnapAdd name) permits is free = subst (λ n. IsOwner (r.headers n) me) (same_image i image true is) (owns i _ permits free)
   of_header i image (header.SnapRemove snap) permits is free = subst (λ n. IsOwner (r.headers n) me) (same_image i image true is) (owns i _ permits free)
+  of_header i image (header.SetSize to) permits is free = subst (λ n. IsOwner (r.headers n) me) (same_image i image true is) (owns i _ permits free)
+  of_header i image header.Remove permits is free = subst (λ n. IsOwner (r.headers n) me) (same_image i image true is) (owns i _ permits free)
   of_header i image header.Get permits is free = absurd (true≢false (sym (and_parts (image == i) false is).1))
   of_header i image (header.Create view) permits is free = absurd (true≢false (sym (and_parts (image == i) false is).1))
   of_header i image header.LockTake permits is free = absurd (true≢false (sym (and_parts (image == i) false is).1))
@@ -57,19 +59,31 @@ module _ (site : SiteId) (r : Records) (me : Instance) (k : Knowledge) (t : IsTr
   of_header i image (header.Notify kind) permits is free = absurd (true≢false (sym (and_parts (image == i) false is).1))
   of_header i image _ permits is free = absurd permits
 
+  -- An image whose header was removed has no owner.
+  left_over : (i image : ℕ) → IsLeftOver k site i → IsTrue ((image == i) && true) → IsOwner (r.headers image) me
+  left_over i image over is = subst (λ n. IsOwner (r.headers n) me) (same_image i image true is) (subst (λ h. IsOwner h me) (sym (t.gone i over.gone).header) tt)
+
   of_object : (i number image : ℕ) (o : DataOp) → PermitsOnObject k site i number o → IsTrue ((image == i) && changes_data o) → IsFalse (is_fenced r me) → IsOwner (r.headers image) me
   of_object i number image (object.Write context must parts bytes) permits is free = subst (λ n. IsOwner (r.headers n) me) (same_image i image true is) (owns i _ permits free)
+  of_object i number image (object.Zero context must parts) permits is free = subst (λ n. IsOwner (r.headers n) me) (same_image i image true is) (owns i _ permits free)
+  of_object i number image (object.Empty context) permits is free = subst (λ n. IsOwner (r.headers n) me) (same_image i image true is) (owns i _ permits free)
+  of_object i number image (object.Remove context) (inl over) is free = left_over i image over is
+  of_object i number image (object.Remove context) (inr permits) is free = subst (λ n. IsOwner (r.headers n) me) (same_image i image true is) (owns i _ permits free)
+  of_object i number image (object.WriteFull context bytes) permits is free = subst (λ n. IsOwner (r.headers n) me) (same_image i image true is) (owns i _ permits free)
   of_object i number image (object.Read snap parts) permits is free = absurd (true≢false (sym (and_parts (image == i) false is).1))
-  of_object i number image _ permits is free = absurd permits
+  of_object i number image (object.CopyUp bytes) permits is free = absurd permits
 
   -- A map is made of an image that has no header yet, and so no owner.
   of_map : (i image : ℕ) (o : MapOp) → PermitsOnMap k site i o → IsTrue ((image == i) && changes_map o) → IsFalse (is_fenced r me) → IsOwner (r.headers image) me
-  of_map i image (states.Resize count) permits is free =
-      subst (λ n. IsOwner (r.headers n) me) (same_image i image true is) (subst (λ h. IsOwner h me) (sym (t.drawn i permits.drawn).header) tt)
+  of_map i image (states.Resize count) (inl makes) is free =
+      subst (λ n. IsOwner (r.headers n) me) (same_image i image true is) (subst (λ h. IsOwner h me) (sym (t.drawn i makes.drawn).header) tt)
+  of_map i image (states.Resize count) (inr permits) is free = subst (λ n. IsOwner (r.headers n) me) (same_image i image true is) (owns i _ permits free)
   of_map i image (states.Get view) permits is free = absurd (true≢false (sym (and_parts (image == i) false is).1))
   of_map i image (states.Put (Some snap) bits) permits is free = subst (λ n. IsOwner (r.headers n) me) (same_image i image true is) (owns i _ permits free)
   of_map i image (states.Set None number state) permits is free = subst (λ n. IsOwner (r.headers n) me) (same_image i image true is) (owns i _ permits free)
-  of_map i image (states.Remove (Some snap)) permits is free = subst (λ n. IsOwner (r.headers n) me) (same_image i image true is) (owns i _ permits free)
+  of_map i image (states.Remove None) permits is free = left_over i image permits.0 is
+  of_map i image (states.Remove (Some snap)) (inl over) is free = left_over i image over is
+  of_map i image (states.Remove (Some snap)) (inr permits) is free = subst (λ n. IsOwner (r.headers n) me) (same_image i image true is) (owns i _ permits free)
   of_map i image _ permits is free = absurd permits
 
   of_change : (image : ℕ) (o : Op) → Permits k site o → IsTrue (changes_image image o) → IsFalse (is_fenced r me) → IsOwner (r.headers image) me

@@ -12,6 +12,8 @@ use Rattle.rbd_known.specs.Calm.{is_change}
 use Rattle.rbd_machine.specs.Path.{IsWalk}
 use Rattle.rbd_machine.specs.Plan.{Standing}
 use Rattle.rbd_machine.specs.Refused.{AreGiven}
+use Rattle.rbd_machine.specs.Standalone.{TellAllStandalone}
+use Rattle.rbd_machine.specs.declared.seat.Seat.{Seat}
 use Rattle.rbd_requests.specs.Served.{IsPlanFor}
 use Rattle.rbd_session.specs.declared.running.Occupant.{Occupant}
 use Rattle.rbd_session.specs.declared.running.Occupant.TheVariants as occupant
@@ -104,26 +106,27 @@ steps_on line h run quiet = ap (λ xs. steps_of line run ++ xs) quiet.steps ∙ 
 pub way_on : (line : ℕ) (h : Happening) (run : List Happening) → IsQuiet line h → way_of line (h ∷ run) ≡ way_of line run
 way_on line h run quiet = ap (λ xs. way_of line run ++ xs) quiet.way ∙ append-nil (way_of line run)
 
-module _ {R : Type 0} (stands : R → Standing) (home : SiteId) (who : Instance) (h : Happening) (run : List Happening) where
+module _ {R : Type 0} (stands : R → Standing) (seat : Seat) (who : Instance) (h : Happening) (run : List Happening) where
   -- the request of a line that goes on with no step of its own
-  pub underway_still : (r : Running R) (begun : IsOpen r.line (h ∷ run)) → steps_of r.line (h ∷ run) ≡ steps_of r.line run → (way : IsUnderWay stands home who run r) → begun.asked ≡ way.begun.asked
-      → IsUnderWay stands home who (h ∷ run) r
+  pub underway_still : (r : Running R) (begun : IsOpen r.line (h ∷ run)) → steps_of r.line (h ∷ run) ≡ steps_of r.line run → (way : IsUnderWay stands seat who run r) → begun.asked ≡ way.begun.asked
+      → IsUnderWay stands seat who (h ∷ run) r
   underway_still r begun steps way same = record {
     begun = begun;
     mine = ap (λ (a : Asked). a.who) same ∙ way.mine;
     start = way.start;
-    plan = subst (λ (a : Asked). IsPlanFor home a.command way.start) (sym same) way.plan;
+    plan = subst (λ (a : Asked). IsPlanFor seat a.command way.start) (sym same) way.plan;
     labels = way.labels;
     feds = way.feds;
     walk = subst (λ xs. IsWalk way.start.labels way.start.plan way.feds xs (stands r.request).plan) (sym steps) way.walk;
     given = subst AreGiven (sym steps) way.given;
+    standalone = subst TellAllStandalone (sym steps) way.standalone;
     calm = λ looks. way.calm (sym (ap (λ (a : Asked). is_change a.command) same) ∙ looks);
   }
 
-  pub underway_on : (r : Running R) → IsQuiet r.line h → IsUnderWay stands home who run r → IsUnderWay stands home who (h ∷ run) r
+  pub underway_on : (r : Running R) → IsQuiet r.line h → IsUnderWay stands seat who run r → IsUnderWay stands seat who (h ∷ run) r
   underway_on r quiet way = underway_still r (open_on r.line h run quiet way.begun) (steps_on r.line h run quiet) way refl
 
-  refused_on : (line : ℕ) (refusal : Refusal) → IsQuiet line h → IsRefusedAtOnce home who run line refusal → IsRefusedAtOnce home who (h ∷ run) line refusal
+  refused_on : (line : ℕ) (refusal : Refusal) → IsQuiet line h → IsRefusedAtOnce seat who run line refusal → IsRefusedAtOnce seat who (h ∷ run) line refusal
   refused_on line refusal quiet held = record {
     begun = open_on line h run quiet held.begun;
     mine = held.mine;
@@ -134,7 +137,7 @@ module _ {R : Type 0} (stands : R → Standing) (home : SiteId) (who : Instance)
   }
 
   pub held_on : (o : Option (Occupant R)) → ((line : ℕ) → script_line o ≡ Some line → IsQuiet line h)
-      → IsHeldRightly stands home who run o → IsHeldRightly stands home who (h ∷ run) o
+      → IsHeldRightly stands seat who run o → IsHeldRightly stands seat who (h ∷ run) o
   held_on None quiet held = tt
   held_on (Some (occupant.Refused line refusal)) quiet held = refused_on line refusal (quiet line refl) held
   held_on (Some (occupant.Running r)) quiet held = underway_on r (quiet r.line refl) held

@@ -20,6 +20,7 @@ use Rattle.rbd_session.proofs.Sound.{no_some, some_same}
 use Rattle.rbd_world.specs.declared.event.Event.TheVariants as event
 use Rattle.rbd_world.specs.Order.{IsInOrder}
 use Rattle.rbd_world.specs.Run.{Happening, Refused, steps_of}
+use Rattle.rbd_world.specs.Seats.{seat_at}
 use Rattle.rbd_world.specs.Sound.{InSlot, Sending, IsHeldRightly, IsInSlot, IsLedTo, IsLiving, IsOpen, IsRefusedAtOnce, IsReplyMeant, IsSoundWorld, KeepsToItsWay, held_of, known_in}
 use Rattle.rbd_world.specs.Step.{Does, DoesAtSites, IsSoundIf, Serves}
 use Rattle.rbd_world.specs.World.{WorldView, client_in, records_in, session_of}
@@ -48,8 +49,8 @@ module _ {R : Type 0} (stands : R → Standing) (old new : WorldView R) (w : IsS
   living : IsLiving stands home session w.run knew c
   living = w.clients session c there
 
-  refused_there : IsRefusedAtOnce home me w.run line refusal
-  refused_there = subst (IsHeldRightly stands home me w.run) holds (living.held slot)
+  refused_there : IsRefusedAtOnce (seat_at w.homes session) me w.run line refusal
+  refused_there = subst (IsHeldRightly stands (seat_at w.homes session) me w.run) holds (living.held slot)
 
   knows_nothing : knew slot ≡ nothing_known
   knows_nothing = subst (λ o. KnowsIn stands slot (running_in o) c.session.lines (knew slot)) holds (living.know slot)
@@ -58,13 +59,13 @@ module _ {R : Type 0} (stands : R → Standing) (old new : WorldView R) (w : IsS
   refusal_meant = let at = refused_there in record {
     begun = at.begun;
     ended =
-        subst (λ i. IsLedTo (w.homes i) at.begun.asked.command (steps_of line (does_refuse ∷ w.run)) (Return (reply.Refused refusal))) (sym (whose at.begun.asked.who at.mine))
-        (subst (λ steps. IsLedTo home at.begun.asked.command steps (Return (reply.Refused refusal))) (sym (ap (λ xs. xs ++ []) at.none))
-        (record { start = at.start; plan = at.plan; feds = []; walk = (refl, sym at.ends); given = tt }));
+        subst (λ i. IsLedTo (seat_at w.homes i) at.begun.asked.command (steps_of line (does_refuse ∷ w.run)) (Return (reply.Refused refusal))) (sym (whose at.begun.asked.who at.mine))
+        (subst (λ steps. IsLedTo (seat_at w.homes session) at.begun.asked.command steps (Return (reply.Refused refusal))) (sym (ap (λ xs. xs ++ []) at.none))
+        (record { start = at.start; plan = at.plan; feds = []; walk = (refl, sym at.ends); given = tt; standalone = tt }));
     meant =
-        subst (λ i. IsMeantBy (w.homes i) at.begun.asked.command (steps_of line (does_refuse ∷ w.run)) (reply.Refused refusal)) (sym (whose at.begun.asked.who at.mine))
-        (subst (λ steps. IsMeantBy home at.begun.asked.command steps (reply.Refused refusal)) (sym (ap (λ xs. xs ++ []) at.none))
-        (command_is_meant home at.begun.asked.command at.start [] [] (reply.Refused refusal) at.plan tt (refl, sym at.ends)));
+        subst (λ i. IsMeantBy (seat_at w.homes i) at.begun.asked.command (steps_of line (does_refuse ∷ w.run)) (reply.Refused refusal)) (sym (whose at.begun.asked.who at.mine))
+        (subst (λ steps. IsMeantBy (seat_at w.homes session) at.begun.asked.command steps (reply.Refused refusal)) (sym (ap (λ xs. xs ++ []) at.none))
+        (command_is_meant (seat_at w.homes session) at.begun.asked.command at.start [] [] (reply.Refused refusal) at.plan tt tt (refl, sym at.ends)));
   }
     where
       whose : (i : Instance) → i ≡ me → i.session ≡ session
@@ -100,7 +101,7 @@ module _ {R : Type 0} (stands : R → Standing) (old new : WorldView R) (w : IsS
         (λ a g apart s. (stays s).beside (w.who a) (w.who g) (w.knows a) (w.knows g) (w.beside a g apart s))
         (where_standing w.homes w.run w.right) refusal_meant (λ s. (stays s).whole (whole_in stands old w s))
         (living_of stands home session does_refuse w.run (λ m l. refl) knew knew slot c d living serves.slots serves.states serves.client quiet
-        (subst (IsSoundIf stands) (client_is old new session c d goes) (sound session)) all (subst (IsHeldRightly stands home me (does_refuse ∷ w.run)) (sym serves.held) tt)
+        (subst (IsSoundIf stands) (client_is old new session c d goes) (sound session)) all (subst (IsHeldRightly stands (seat_at w.homes session) me (does_refuse ∷ w.run)) (sym serves.held) tt)
         (subst (λ o. KeepsToItsWay stands (does_refuse ∷ w.run) (state_in slot d.slots).way (running_in o)) (sym serves.held) tt))
         quiet_others (apart_of old new session c d goes slot serves.slots w.apart (λ l is. absurd (no_some l (sym (ap script_line serves.held) ∙ is))))
         (λ l now. slots_then l now (line == l) refl)

@@ -39,11 +39,13 @@ use Rattle.rbd_session.specs.declared.running.Running.{Running}
 use Rattle.rbd_session.specs.Session.{SessionView, is_look_at, kind_asked, running_at}
 use Rattle.rbd_session.proofs.Sound.{no_some, some_same}
 use Rattle.rbd_world.specs.Run.{Happening, Operation, step_of, steps_of, way_of}
+use Rattle.rbd_world.specs.Seats.{seat_at}
 use Rattle.rbd_world.specs.Sound.{IsLedTo, IsRefusedOnWay, IsUnderWay, look_answered}
 use Rattle.rbd_world.specs.Step.{reply_at, reply_on_way}
 use Rattle.rbd_world.specs.Ways.{WasRefused}
 use Rattle.rbd_world.proofs.BothSites.{this_or_other}
-use Rattle.rbd_world.proofs.Walks.{IsLed, given_more, led_on}
+use Rattle.rbd_machine.specs.Standalone.{TellsStandalone}
+use Rattle.rbd_world.proofs.Walks.{IsLed, given_more, led_on, standalone_more}
 
 -- ---- what ends a way
 
@@ -133,8 +135,14 @@ pub no_read : (c : Command) → is_change c ≡ true → is_read c ≡ false
 no_read (command.Read image snap at len) is = absurd (true≢false (sym is))
 no_read _ is = refl
 
+-- what isn't there, or is fenced, tells no header
+ends_alone : (a : Answer) → EndsIt a → TellsStandalone a
+ends_alone answer.Absent ends = tt
+ends_alone answer.Fenced ends = tt
+ends_alone _ ends = absurd ends
+
 module _ {R : Type 0} (stands : R → Standing) (homes : ℕ → SiteId) (session slot : ℕ) (run : List Happening) (me : Instance) (whose : me.session ≡ session) (c : SessionView R) (r : Running R)
-    (runs : running_at slot c ≡ Some r) (way : IsUnderWay stands (homes session) me run r) (a : Acquire) (waiting : WaitsForLook stands slot a.site a.image c)
+    (runs : running_at slot c ≡ Some r) (way : IsUnderWay stands (seat_at homes session) me run r) (a : Acquire) (waiting : WaitsForLook stands slot a.site a.image c)
     (o : Operation) (site_is : o.site ≡ a.site) (can : CanGive (op_of a) o.answer) (reply : Reply) (ends : reply_on_way a o.answer ≡ Some reply) where
   abbrev command_is : Command
   command_is = way.begun.asked.command
@@ -170,12 +178,13 @@ module _ {R : Type 0} (stands : R → Standing) (homes : ℕ → SiteId) (sessio
   ends_look : at_operation way.start.labels (look.next o.answer) ≡ Return reply
   ends_look =
       ends_there way.start.labels (look.next o.answer) reply
-      (looks_refuse (homes session) command_is way.start way.feds (steps_of r.line run) a.site look.why look.image look.next o.answer way.plan reads_not walks_there ended.tells ∙ ended.refuses)
+      (looks_refuse (seat_at homes session) command_is way.start way.feds (steps_of r.line run) a.site look.why look.image look.next o.answer way.plan reads_not walks_there ended.tells ∙ ended.refuses)
 
-  meant_there : IsMeantBy (homes session) command_is (steps_of r.line run ++ look_answered a.site look.image o.answer ∷ []) reply
+  meant_there : IsMeantBy (seat_at homes session) command_is (steps_of r.line run ++ look_answered a.site look.image o.answer ∷ []) reply
   meant_there =
-      command_is_meant (homes session) command_is way.start led.feds (steps_of r.line run ++ look_answered a.site look.image o.answer ∷ []) reply way.plan
+      command_is_meant (seat_at homes session) command_is way.start led.feds (steps_of r.line run ++ look_answered a.site look.image o.answer ∷ []) reply way.plan
       (given_more (steps_of r.line run) a.site (op.Header look.image header.Get) o.answer way.given (look_can look.image o.answer ended.tells))
+      (standalone_more (steps_of r.line run) a.site (op.Header look.image header.Get) o.answer way.standalone (ends_alone o.answer ended.tells))
       (subst (IsWalk way.start.labels way.start.plan led.feds (steps_of r.line run ++ look_answered a.site look.image o.answer ∷ [])) ends_look led.walk)
 
   pub refused_on_way : WasRefused o.site reply (way_of r.line run ++ step_of o ∷ []) → IsRefusedOnWay homes r.line reply o run
@@ -185,12 +194,12 @@ module _ {R : Type 0} (stands : R → Standing) (homes : ℕ → SiteId) (sessio
     refuses = ended.refuses;
     plan = (stands r.request).plan;
     led =
-        subst (λ i. IsLedTo (homes i) command_is (steps_of r.line run) (stands r.request).plan) (sym session_is)
-        (record { start = way.start; plan = way.plan; feds = way.feds; walk = way.walk; given = way.given });
+        subst (λ i. IsLedTo (seat_at homes i) command_is (steps_of r.line run) (stands r.request).plan) (sym session_is)
+        (record { start = way.start; plan = way.plan; feds = way.feds; walk = way.walk; given = way.given; standalone = way.standalone });
     wants = subst (λ s. is_look_at s (kind_asked (stands r.request).plan) ≡ true) (sym site_is) wants_look;
     image = look.image;
     meant =
-        subst (λ i. IsMeantBy (homes i) command_is (steps_of r.line run ++ look_answered o.site look.image o.answer ∷ []) reply) (sym session_is)
-        (subst (λ s. IsMeantBy (homes session) command_is (steps_of r.line run ++ look_answered s look.image o.answer ∷ []) reply) (sym site_is) meant_there);
+        subst (λ i. IsMeantBy (seat_at homes i) command_is (steps_of r.line run ++ look_answered o.site look.image o.answer ∷ []) reply) (sym session_is)
+        (subst (λ s. IsMeantBy (seat_at homes session) command_is (steps_of r.line run ++ look_answered s look.image o.answer ∷ []) reply) (sym site_is) meant_there);
     over = over;
   }

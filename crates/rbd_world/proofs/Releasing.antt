@@ -16,6 +16,7 @@ use Rattle.rbd_session.proofs.Sound.{no_some}
 use Rattle.rbd_site.specs.Step.{answer_to}
 use Rattle.rbd_world.specs.declared.event.Event.TheVariants as event
 use Rattle.rbd_world.specs.Run.{House, Happening, Did, Operation}
+use Rattle.rbd_world.specs.Seats.{seat_at}
 use Rattle.rbd_world.specs.Sound.{IsDue, IsHeldRightly, IsLiving, IsSoundWorld, KeepsToItsWay, known_in}
 use Rattle.rbd_world.specs.Step.{Does, DoesAtSites, Goes, IsSoundIf, operation_at}
 use Rattle.rbd_world.specs.World.{WorldView, client_in, records_in, site_in}
@@ -75,7 +76,7 @@ module _ {R : Type 0} (stands : R → Standing) (old new : WorldView R) (w : IsS
         living_of stands home session does_it w.run (λ m l. refl) (known_in w.knows session)
         (knows_now stands old new w session slot c there x.site (release_op x) wanted House None d became at_sites sound_then) slot c d living became.slots became.states became.client (λ y line apart is. quiet line)
         sound_then (all_know stands old new w session slot c there x.site (release_op x) wanted House None d became at_sites sound_then)
-        (subst (IsHeldRightly stands home me (does_it ∷ w.run)) (sym still_free) tt)
+        (subst (IsHeldRightly stands (seat_at w.homes session) me (does_it ∷ w.run)) (sym still_free) tt)
         (subst (λ o. KeepsToItsWay stands (does_it ∷ w.run) (state_in slot d.slots).way (running_in o)) (sym still_free) tt)
 
     release_carries : IsCarried stands old new w does_it

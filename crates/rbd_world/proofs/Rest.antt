@@ -9,6 +9,7 @@ use Rattle.rbd_machine.specs.Knowledge.{Knowledge, same_site}
 use Rattle.rbd_machine.specs.Plan.{Standing}
 use Rattle.rbd_rely.specs.Beside.{AreBeside}
 use Rattle.rbd_rely.specs.Locks.{KnowsByLock}
+use Rattle.rbd_rely.proofs.Together.{still_beside}
 use Rattle.rbd_rely.specs.Truth.{IsTrueAt}
 use Rattle.rbd_rely.proofs.Kept.{expiries_keep, trims_keep}
 use Rattle.rbd_rely.proofs.Maps.{mapped_expired, mapped_trimmed}
@@ -61,7 +62,7 @@ module _ {R : Type 0} (stands : R → Standing) (old new : WorldView R) (w : IsS
     clients = λ me knows c t. trims_leave_it_true s (records_in s old.sites) me knows c t image number;
     known = λ me k t. trims_keep s (records_in s old.sites) me k image number t;
     locks = λ me k t i known free. let lock = t i known free in record { header = lock.header; there = lock.there; owner = lock.owner };
-    beside = λ me you k j t. record { shared = t.shared; apart = t.apart };
+    beside = λ me you k j t. still_beside s (records_in s old.sites) (trimmed image number (records_in s old.sites)) me you k j (λ free. free) t;
     whole = λ t. record { standalone = t.standalone; mapped = mapped_trimmed (records_in s old.sites) image number t.mapped };
   }
 
@@ -70,7 +71,7 @@ module _ {R : Type 0} (stands : R → Standing) (old new : WorldView R) (w : IsS
     clients = λ me knows c t. expiries_leave_it_true s (records_in s old.sites) me knows c t image who;
     known = λ me k t. expiries_keep s (records_in s old.sites) me k image who t;
     locks = λ me k t i known free. let lock = t i known free in record { header = lock.header; there = lock.there; owner = lock.owner };
-    beside = λ me you k j t. record { shared = t.shared; apart = t.apart };
+    beside = λ me you k j t. still_beside s (records_in s old.sites) (expired image who (records_in s old.sites)) me you k j (λ free. free) t;
     whole = λ t. record { standalone = t.standalone; mapped = mapped_expired (records_in s old.sites) image who t.mapped };
   }
 

@@ -11,7 +11,7 @@ use Rattle.rbd_client.specs.Actor.{actor_at, op_wanted}
 use Rattle.rbd_client.specs.Client.{ClientView}
 use Rattle.rbd_held.specs.Knowing.{known_on_way, known_to, known_to_release}
 use Rattle.rbd_held.specs.Truth.{IsTrueOf}
-use Rattle.rbd_held.proofs.Looks.{looks_beside_own}
+use Rattle.rbd_held.proofs.Acts.{acts_beside_own}
 use Rattle.rbd_held.proofs.Owned.{knows_by_lock}
 use Rattle.rbd_held.proofs.Permitted.{does_what_it_may, knows_truly}
 use Rattle.rbd_held.proofs.Releases.{beside_release, release_knows_no_header}
@@ -34,6 +34,9 @@ use Rattle.rbd_site.specs.Records.{Records}
 use Rattle.rbd_world.specs.declared.event.Event.TheVariants as event
 use Rattle.rbd_world.specs.Order.{IsInOrder}
 use Rattle.rbd_world.specs.Run.{Asked, Happening, Life, Sent, Stopped, asked_by, is_among, life_after, life_behind, sent_after, sent_of, steps_of}
+use Rattle.rbd_machine.specs.Standalone.{TellAllStandalone}
+use Rattle.rbd_machine.specs.declared.seat.Seat.{Seat}
+use Rattle.rbd_world.specs.Seats.{seat_at}
 use Rattle.rbd_world.specs.Sound.{AreLivesOf, AreStrangers, Holder, InSlot, Sending, IsHeldRightly, IsInSlot, IsLedTo, IsLiving, IsLostOf, IsOpen, IsSoundWorld, IsStop, MayStillCome, held_of, known_in, line_at}
 use Rattle.rbd_world.specs.Step.{Does, DoesAtSites, LivesOnIf, lost_by, stopped, wanted_by}
 use Rattle.rbd_world.specs.World.{LateView, LivesView, WorldView, client_in, late_at, late_of, lives_in, records_in, running_of, sent_in, session_of}
@@ -77,30 +80,30 @@ acting_beside s r me you k j beside (actor.Release x) = beside_mutual s r you me
 -- ---- a line in a slot
 
 module _ {R : Type 0} (stands : R → Standing) where
-  lost_of : (homes : ℕ → SiteId) (home : SiteId) (who : Instance) (run : List Happening) (o : Option (Occupant R)) (line : ℕ) → homes who.session ≡ home → script_line o ≡ Some line
-      → IsHeldRightly stands home who run o → IsLostOf homes who line run
-  lost_of homes home who run None line same is held = absurd (no_some line is)
-  lost_of homes home who run (Some (occupant.Refused number refusal)) line same is held =
+  lost_of : (homes : ℕ → SiteId) (seat : Seat) (who : Instance) (run : List Happening) (o : Option (Occupant R)) (line : ℕ) → seat_at homes who.session ≡ seat → script_line o ≡ Some line
+      → IsHeldRightly stands seat who run o → IsLostOf homes who line run
+  lost_of homes seat who run None line same is held = absurd (no_some line is)
+  lost_of homes seat who run (Some (occupant.Refused number refusal)) line same is held =
       subst (λ n. IsLostOf homes who n run) (some_same number line is)
       (record {
         begun = held.begun;
         mine = held.mine;
         plan = held.start.plan;
         led =
-            subst (λ (i : Instance). IsLedTo (homes i.session) held.begun.asked.command (steps_of number run) held.start.plan) (sym held.mine)
+            subst (λ (i : Instance). IsLedTo (seat_at homes i.session) held.begun.asked.command (steps_of number run) held.start.plan) (sym held.mine)
             (subst (λ h. IsLedTo h held.begun.asked.command (steps_of number run) held.start.plan) (sym same)
-            (record { start = held.start; plan = held.plan; feds = []; walk = (held.none, refl); given = subst AreGiven (sym held.none) tt }));
+            (record { start = held.start; plan = held.plan; feds = []; walk = (held.none, refl); given = subst AreGiven (sym held.none) tt; standalone = subst TellAllStandalone (sym held.none) tt }));
       })
-  lost_of homes home who run (Some (occupant.Running r)) line same is held =
+  lost_of homes seat who run (Some (occupant.Running r)) line same is held =
       subst (λ n. IsLostOf homes who n run) (some_same r.line line is)
       (record {
         begun = held.begun;
         mine = held.mine;
         plan = (stands r.request).plan;
         led =
-            subst (λ (i : Instance). IsLedTo (homes i.session) held.begun.asked.command (steps_of r.line run) (stands r.request).plan) (sym held.mine)
+            subst (λ (i : Instance). IsLedTo (seat_at homes i.session) held.begun.asked.command (steps_of r.line run) (stands r.request).plan) (sym held.mine)
             (subst (λ h. IsLedTo h held.begun.asked.command (steps_of r.line run) (stands r.request).plan) (sym same)
-            (record { start = held.start; plan = held.plan; feds = held.feds; walk = held.walk; given = held.given }));
+            (record { start = held.start; plan = held.plan; feds = held.feds; walk = held.walk; given = held.given; standalone = held.standalone }));
       })
 
 -- the life of the session that was stopped
@@ -160,7 +163,7 @@ module _ {R : Type 0} (stands : R → Standing) (old new : WorldView R) (w : IsS
   lost_in : (m x line : ℕ) (q : ClientView R) → client_in m old.lives ≡ Some q → script_line (held_in x q.session.slots) ≡ Some line → IsLostOf w.homes q.session.instance line w.run
   lost_in m x line q is at =
       let lives = w.clients m q is in
-      lost_of stands w.homes (w.homes m) q.session.instance w.run (held_in x q.session.slots) line (ap w.homes lives.whose) at (lives.held x)
+      lost_of stands w.homes (seat_at w.homes m) q.session.instance w.run (held_in x q.session.slots) line (ap (seat_at w.homes) lives.whose) at (lives.held x)
 
   -- whoever began a line is in its slot's session
   whose_line : (m x line : ℕ) (asked : Asked) → line_at m x old.lives ≡ Some line → asked_by line w.run ≡ Some asked → asked.who.session ≡ m
@@ -321,7 +324,7 @@ module _ {R : Type 0} (stands : R → Standing) (old new : WorldView R) (w : IsS
   -- who goes by a header has its lock
   locks_by : (x : ℕ) (s : SiteId) (a : Actor) → KnowsByLock s (records_in s old.sites) who (known_to (knew x) a)
   locks_by x s actor.Nobody = by_no_lock s (records_in s old.sites) who nothing_known (λ image. refl)
-  locks_by x s actor.Request = knows_by_lock stands c knew living.sound living.know x s (records_in s old.sites) who (w.truth session c there s)
+  locks_by x s actor.Request = knows_by_lock c knew x s (records_in s old.sites) who (w.truth session c there s)
   locks_by x s (actor.Way a) = by_no_lock s (records_in s old.sites) who (known_on_way a) (λ image. way_knows_no_header a s image)
   locks_by x s (actor.Release r) = by_no_lock s (records_in s old.sites) who (known_to_release r) (λ image. release_knows_no_header r s image)
 
@@ -369,7 +372,7 @@ module _ {R : Type 0} (stands : R → Standing) (old new : WorldView R) (w : IsS
 
   looks_by : (x y : ℕ) (s : SiteId) (o : Op) → x ≢ y → op_wanted stands x c ≡ Some (s, o) → (r : Records) (a : Actor) → MayAct s r who who (knew_at x) (known_to (knew y) a) o
   looks_by x y s o differ is r actor.Nobody = unknown_looks s r who who (knew_at x) nothing_known (λ image. refl) o
-  looks_by x y s o differ is r actor.Request = looks_beside_own stands c knew living.sound living.know r who who x y s o differ is
+  looks_by x y s o differ is r actor.Request = acts_beside_own stands c knew living.sound living.know r who who x y s o differ is
   looks_by x y s o differ is r (actor.Way a) = unknown_looks s r who who (knew_at x) (known_on_way a) (λ image. way_knows_no_header a s image) o
   looks_by x y s o differ is r (actor.Release z) = unknown_looks s r who who (knew_at x) (known_to_release z) (λ image. release_knows_no_header z s image) o
 

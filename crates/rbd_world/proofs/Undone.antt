@@ -27,6 +27,9 @@ use Rattle.rbd_site.specs.InForm.{AreInForm}
 use Rattle.rbd_world.specs.declared.sites.Sites.{Sites}
 use Rattle.rbd_world.specs.Owing.{IsUnhindered, owed_in}
 use Rattle.rbd_world.specs.Run.{Happening, AreCalls, asked_by, log_of, records_after, steps_of, way_of}
+use Rattle.rbd_machine.specs.Standalone.{TellAllStandalone}
+use Rattle.rbd_machine.specs.declared.seat.Seat.{Seat}
+use Rattle.rbd_world.specs.Seats.{seat_of_home}
 use Rattle.rbd_world.specs.Sound.{AreLivesOf, AreStrangers, Holder, InSlot, Sending, IsHeldRightly, IsLiving, IsRunning, IsSoundWorld, IsUnderWay, KeepsToItsWay, MayStillCome, has_ended, held_of, known_in, line_at}
 use Rattle.rbd_world.specs.Step.{AreLivesAlike, IsAlikeOf, IsClientAlikeIf, IsSoundIf, IsUndone}
 use Rattle.rbd_world.specs.Ways.{GoesWith}
@@ -44,9 +47,9 @@ module _ {R : Type 0} (stands : R → Standing) where
   alike_line (Some (occupant.Refused line refusal)) p alike = ap script_line alike
   alike_line None p alike = ap script_line alike
 
-  module _ (home : SiteId) (who : Instance) (run : List Happening) where
+  module _ (seat : Seat) (who : Instance) (run : List Happening) where
     -- its request is under way as it was, whatever it is ready for
-    same_way : (r q : Running R) → IsSameStand stands r q → IsUnderWay stands home who run r → IsUnderWay stands home who run q
+    same_way : (r q : Running R) → IsSameStand stands r q → IsUnderWay stands seat who run r → IsUnderWay stands seat who run q
     same_way r q same way = record {
       begun = record {
         asked = way.begun.asked;
@@ -62,15 +65,16 @@ module _ {R : Type 0} (stands : R → Standing) where
           subst (λ line. IsWalk way.start.labels way.start.plan way.feds (steps_of line run) (stands q.request).plan) (sym same.line)
           (subst (λ (s : Standing). IsWalk way.start.labels way.start.plan way.feds (steps_of r.line run) s.plan) (sym same.same) way.walk);
       given = subst (λ line. AreGiven (steps_of line run)) (sym same.line) way.given;
+      standalone = subst (λ line. TellAllStandalone (steps_of line run)) (sym same.line) way.standalone;
       calm = λ looks. let calm = way.calm looks in (subst IsCalmRequest (sym same.same) calm.0, same.place ∙ calm.1);
     }
 
-    alike_held : (o p : Option (Occupant R)) → IsAlikeIn stands o p → IsHeldRightly stands home who run o → IsHeldRightly stands home who run p
+    alike_held : (o p : Option (Occupant R)) → IsAlikeIn stands o p → IsHeldRightly stands seat who run o → IsHeldRightly stands seat who run p
     alike_held (Some (occupant.Running r)) (Some (occupant.Running q)) alike held = same_way r q alike held
-    alike_held (Some (occupant.Running r)) (Some (occupant.Refused line refusal)) alike held = subst (IsHeldRightly stands home who run) (sym alike) held
-    alike_held (Some (occupant.Running r)) None alike held = subst (IsHeldRightly stands home who run) (sym alike) held
-    alike_held (Some (occupant.Refused line refusal)) p alike held = subst (IsHeldRightly stands home who run) (sym alike) held
-    alike_held None p alike held = subst (IsHeldRightly stands home who run) (sym alike) held
+    alike_held (Some (occupant.Running r)) (Some (occupant.Refused line refusal)) alike held = subst (IsHeldRightly stands seat who run) (sym alike) held
+    alike_held (Some (occupant.Running r)) None alike held = subst (IsHeldRightly stands seat who run) (sym alike) held
+    alike_held (Some (occupant.Refused line refusal)) p alike held = subst (IsHeldRightly stands seat who run) (sym alike) held
+    alike_held None p alike held = subst (IsHeldRightly stands seat who run) (sym alike) held
 
   -- and its way stands where it did
   alike_ways : (run : List Happening) (w : Way) (o p : Option (Occupant R)) → IsAlikeIn stands o p → KeepsToItsWay stands run w (running_in o) → KeepsToItsWay stands run w (running_in p)
@@ -92,8 +96,8 @@ module _ {R : Type 0} (stands : R → Standing) where
     sound = sound;
     know = alike_know stands c.session d.session knows alike.session living.know;
     held = λ slot.
-        subst (λ i. IsHeldRightly stands home i run (held_in slot d.session.slots)) (sym alike.session.instance)
-        (alike_held home c.session.instance run (held_in slot c.session.slots) (held_in slot d.session.slots) (alike.session.slots slot) (living.held slot));
+        subst (λ i. IsHeldRightly stands (seat_of_home session home) i run (held_in slot d.session.slots)) (sym alike.session.instance)
+        (alike_held (seat_of_home session home) c.session.instance run (held_in slot c.session.slots) (held_in slot d.session.slots) (alike.session.slots slot) (living.held slot));
     ways = λ slot.
         subst (λ ss. KeepsToItsWay stands run (state_in slot ss).way (running_at slot d.session)) (sym alike.slots)
         (alike_ways run (state_in slot c.slots).way (held_in slot c.session.slots) (held_in slot d.session.slots) (alike.session.slots slot) (living.ways slot));

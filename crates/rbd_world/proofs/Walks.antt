@@ -9,6 +9,7 @@ use Rattle.rbd_machine.specs.Label.{Label}
 use Rattle.rbd_machine.specs.Path.{Answered, IsWalk, at_operation}
 use Rattle.rbd_machine.specs.Plan.{Plan, Ask, Await, Note, Return, Goto, settled}
 use Rattle.rbd_machine.specs.Refused.{AreGiven, IsGiven}
+use Rattle.rbd_machine.specs.Standalone.{TellAllStandalone, TellsStandalone}
 use Rattle.rbd_machine.specs.declared.reason.Reason.{Reason}
 
 pub walk_append : (labels : Label → Plan) (feds : List Fed) (plan mid last : Plan) (more : List Fed) (steps rest : List Answered)
@@ -57,3 +58,7 @@ led_on labels plan steps s why o next a led =
 pub given_more : (steps : List Answered) (s : SiteId) (o : Op) (a : Answer) → AreGiven steps → IsGiven o a → AreGiven (steps ++ record { site = s; op = o; answer = a } ∷ [])
 given_more [] s o a given can = (can, tt)
 given_more (step ∷ steps) s o a given can = (given.0, given_more steps s o a given.1 can)
+
+pub standalone_more : (steps : List Answered) (s : SiteId) (o : Op) (a : Answer) → TellAllStandalone steps → TellsStandalone a → TellAllStandalone (steps ++ record { site = s; op = o; answer = a } ∷ [])
+standalone_more [] s o a told tells = (tells, tt)
+standalone_more (step ∷ steps) s o a told tells = (told.0, standalone_more steps s o a told.1 tells)

@@ -35,6 +35,7 @@ use Rattle.rbd_machine.specs.Answers.{CanBeFed}
 use Rattle.rbd_machine.specs.Label.{Label}
 use Rattle.rbd_machine.specs.Path.{Answered, IsWalk, at_operation}
 use Rattle.rbd_machine.specs.Plan.{Plan, Ask, Await, Return, Standing, plan_after, settled}
+use Rattle.rbd_machine.specs.declared.seat.Seat.{Seat}
 use Rattle.rbd_machine.specs.Wait as wait
 use Rattle.rbd_machine.specs.declared.reason.Reason.{Reason}
 use Rattle.rbd_machine.specs.declared.reason.Reason.TheVariants as reason
@@ -237,10 +238,11 @@ newcomer_behind e k site o a none = none
 
 holds_no_more : (e : Option Extent) (at : Label → Course) (k : Course) (p : Plan) → is_newcomer_at k.place ≡ false → IsOrderly e at true k p → HoldsNext p → ⊥
 holds_no_more e at k (Await (wait.Hold site image) next) none orderly holds = true≢false (sym orderly.0.1 ∙ none)
+holds_no_more e at k (Ask site why o next) none orderly (a, (can, holds)) = holds_no_more e at (answered e k site o a) (next a) (newcomer_behind e k site o a none) (orderly.1 a can) holds
 holds_no_more e at k p none orderly holds = holds
 
 module _ {R : Type 0} (stands : R → Standing) (slot : ℕ) (c : ClientView R) (sound : IsSoundClient stands c) (r : Running R) (runs : running_at slot c.session ≡ Some r)
-    (home : SiteId) (who : Instance) (run : List Happening) (under : IsUnderWay stands home who run r) (a : Answer) (can : CanBeFed (stands r.request).plan (fed.Answer a)) where
+    (seat : Seat) (who : Instance) (run : List Happening) (under : IsUnderWay stands seat who run r) (a : Answer) (can : CanBeFed (stands r.request).plan (fed.Answer a)) where
   -- at its own look it is answered, and looks at no header any more
   module _ (site : SiteId) (image : ℕ) (waiting : WaitsForLook stands slot site image c.session) where
     same : waiting.request ≡ r
@@ -269,7 +271,7 @@ module _ {R : Type 0} (stands : R → Standing) (slot : ℕ) (c : ClientView R) 
         ∙ ap has_just_joined waiting.waits
 
     looks_no_more : LooksNoMore (look.next a)
-    looks_no_more = by ((looks_once home under.begun.asked.command under.start under.feds (steps_of r.line run) (Ask site look.why (op.Header look.image header.Get) look.next) under.plan
+    looks_no_more = by ((looks_once seat under.begun.asked.command under.start under.feds (steps_of r.line run) (Ask site look.why (op.Header look.image header.Get) look.next) under.plan
         reads_not walks_there a).0)
       where
         on : IsOnTrack slot r.extent true (stands r.request) (track_of r c.session.lines)

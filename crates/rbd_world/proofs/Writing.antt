@@ -1,6 +1,6 @@
--- Behind its look-up a write stays in its line, and raises the state of each object, and writes it,
--- at its turn.
-use Rattle.std.proofs.Common.{ℕ, List, [], ◌∷◌, Option, Some, None, refl}
+-- Behind its look-up a write stays in its line, and sets the state of each object, and changes it, at
+-- its turn.
+use Rattle.std.proofs.Common.{ℕ, Bool, true, false, List, [], ◌∷◌, Option, Some, None, refl}
 use Rattle.rbd_kinds.specs.declared.answer.Answer.{Answer}
 use Rattle.rbd_kinds.specs.declared.answer.Answer.TheVariants as answer
 use Rattle.rbd_kinds.specs.declared.header.HeaderView.{HeaderView}
@@ -11,7 +11,12 @@ use Rattle.rbd_layout.specs.declared.types.Piece.{Piece}
 use Rattle.rbd_machine.specs.Plan.{Plan}
 use Rattle.rbd_machine.specs.Steps.{applied, holding, looked, looking, on_done, on_header, owned, unless}
 use Rattle.rbd_meaning.specs.Range.{extent_at}
+use Rattle.rbd_discard.specs.Discard.{zero, zero_pieces}
+use Rattle.rbd_header.specs.Header.{context_of}
+use Rattle.rbd_kinds.specs.declared.header.SnapContext.{SnapContext}
+use Rattle.rbd_kinds.specs.declared.layout.Extent.{Extent}
 use Rattle.rbd_request.specs.Write.{put, write_pieces}
+use Rattle.rbd_zero.specs.Zero.{emptying, is_inside, is_whole, removing, setting, zero_all, zero_by, zeroing}
 use Rattle.rbd_world.specs.InLine.{KeepsTo}
 
 module _ (site : SiteId) (image : ℕ) where
@@ -29,22 +34,50 @@ module _ (site : SiteId) (image : ℕ) where
   unless_keeps turn None next keeps = keeps
   unless_keeps turn (Some r) next keeps = tt
 
-  pieces_keep : (turn : Option ℕ) (h : HeaderView) (at : ℕ) (bytes : List ℕ) (pieces : List Piece) → KeepsTo site image turn (write_pieces site image h at bytes pieces (applied site image))
-  pieces_keep turn h at bytes [] = tt
-  pieces_keep turn h at bytes (p ∷ pieces) =
+  -- ---- pieces
+
+  write_pieces_keep : (turn : Option ℕ) (h : HeaderView) (at : ℕ) (bytes : List ℕ) (pieces : List Piece) → KeepsTo site image turn (write_pieces site image h at bytes pieces (applied site image))
+  write_pieces_keep turn h at bytes [] = tt
+  write_pieces_keep turn h at bytes (p ∷ pieces) =
       let rest = write_pieces site image h at bytes pieces (applied site image) in
-      ((refl, refl, refl), done_keeps (Some p.object) _ ((refl, refl, refl), done_keeps (Some p.object) rest (pieces_keep (Some p.object) h at bytes pieces)))
+      ((refl, refl, refl), done_keeps (Some p.object) _ ((refl, refl, refl), done_keeps (Some p.object) rest (write_pieces_keep (Some p.object) h at bytes pieces)))
 
-  put_keeps : (turn : Option ℕ) (at : ℕ) (bytes : List ℕ) (h : HeaderView) → KeepsTo site image turn (put site at bytes image h)
-  put_keeps turn at bytes h = pieces_keep turn h at bytes (pieces_of h.layout (extent_at at bytes))
+  pub put_keeps : (turn : Option ℕ) (at : ℕ) (bytes : List ℕ) (h : HeaderView) → KeepsTo site image turn (put site at bytes image h)
+  put_keeps turn at bytes h = write_pieces_keep turn h at bytes (pieces_of h.layout (extent_at at bytes))
 
-  -- from the first look on
-  pub look_keeps : (turn : Option ℕ) (refuses : HeaderView → Option Refusal) (at : ℕ) (bytes : List ℕ) → KeepsTo site image turn (looking site refuses (put site at bytes) image)
-  look_keeps turn refuses at bytes = (
+  module _ (context : SnapContext) (p : Piece) (next : Plan) (keeps : KeepsTo site image (Some p.object) next) where
+    zero_all_keeps : (inside : Bool) → KeepsTo site image (Some p.object) (zero_all site image context p inside next)
+    zero_all_keeps true = ((refl, refl, refl), done_keeps (Some p.object) (emptying site image context p next) ((refl, refl, refl), done_keeps (Some p.object) next keeps))
+    zero_all_keeps false = (
+      (refl, refl, refl),
+      done_keeps (Some p.object) (removing site image context p (setting site image context p 0 next)) (
+        (refl, refl, refl),
+        done_keeps (Some p.object) (setting site image context p 0 next) ((refl, refl, refl), done_keeps (Some p.object) next keeps),
+      ),
+    )
+
+    zero_by_keeps : (whole inside : Bool) → KeepsTo site image (Some p.object) (zero_by site image context p whole inside next)
+    zero_by_keeps true inside = zero_all_keeps inside
+    zero_by_keeps false true = ((refl, refl, refl), done_keeps (Some p.object) (zeroing site image context p true next) ((refl, refl, refl), done_keeps (Some p.object) next keeps))
+    zero_by_keeps false false = ((refl, refl, refl), done_keeps (Some p.object) next keeps)
+
+  zero_pieces_keep : (turn : Option ℕ) (h : HeaderView) (pieces : List Piece) → KeepsTo site image turn (zero_pieces site image h pieces (applied site image))
+  zero_pieces_keep turn h [] = tt
+  zero_pieces_keep turn h (p ∷ pieces) =
+      zero_by_keeps (context_of h) p (zero_pieces site image h pieces (applied site image)) (zero_pieces_keep (Some p.object) h pieces) (is_whole h p) (is_inside h p.object)
+
+  pub zero_keeps : (turn : Option ℕ) (e : Extent) (h : HeaderView) → KeepsTo site image turn (zero site e image h)
+  zero_keeps turn e h = zero_pieces_keep turn h (pieces_of h.layout e)
+
+  -- ---- from the first look on
+
+  pub look_keeps : (turn : Option ℕ) (refuses : HeaderView → Option Refusal) (act : (image : ℕ) → HeaderView → Plan) → ((i : ℕ) (h : HeaderView) (t : Option ℕ) → KeepsTo site i t (act i h))
+      → KeepsTo site image turn (looking site refuses act image)
+  look_keeps turn refuses act acts = (
     tt,
-    header_keeps turn (looked site refuses (put site at bytes) image)
-        (λ h. unless_keeps turn (refuses h) (holding site refuses (put site at bytes) image) (
+    header_keeps turn (looked site refuses act image)
+        (λ h. unless_keeps turn (refuses h) (holding site refuses act image) (
           tt,
-          header_keeps turn (owned refuses (put site at bytes) image) (λ own. unless_keeps turn (refuses own) (put site at bytes image own) (put_keeps turn at bytes own)),
+          header_keeps turn (owned refuses act image) (λ own. unless_keeps turn (refuses own) (act image own) (acts image own turn)),
         )),
   )

@@ -1,5 +1,5 @@
 -- How a write goes through the line of its image: behind its look-up it stays there, and sets the
--- state of each object, and writes it, at its turn.
+-- state of each object, and changes it, at its turn.
 use Rattle.std.specs.Prelude.{◌≡◌, ℕ, true, false, List, Option, Some, None}
 use Rattle.rbd_kinds.specs.declared.answer.Answer.{Answer}
 use Rattle.rbd_kinds.specs.declared.data_op.DataOp.TheVariants as object
@@ -12,14 +12,15 @@ use Rattle.rbd_line.specs.Line.{Member, member_of, holds, is_past}
 use Rattle.rbd_machine.specs.Plan.{Plan, Ask, Await, Note, Return, Goto}
 use Rattle.rbd_machine.specs.Wait as wait
 
--- a look at a header, or a write of the object whose turn it has, or of its state in the head's map
+-- a look at a header, or a change of the object whose turn it has, or of its state in the head's map
 abbrev pub IsAtTurn : SiteId → (image : ℕ) → (turn : Option ℕ) → SiteId → Op → Type 0
 IsAtTurn site image turn s (op.Header i header.Get) = Unit {0}
 IsAtTurn site image turn s (op.Map i (states.Set None number state)) = (s ≡ site) × (i ≡ image) × (turn ≡ Some number)
-IsAtTurn site image turn s (op.Data i number (object.Write context must parts bytes)) = (s ≡ site) × (i ≡ image) × (turn ≡ Some number)
+IsAtTurn site image turn s (op.Data i number (object.Read snap parts)) = ⊥
+IsAtTurn site image turn s (op.Data i number o) = (s ≡ site) × (i ≡ image) × (turn ≡ Some number)
 IsAtTurn site image turn s o = ⊥
 
--- Whatever it is answered, the plan looks at headers, and sets states and writes objects of the
+-- Whatever it is answered, the plan looks at headers, and sets states and changes objects of the
 -- image at their turns; it joins no line, and leaves none before it ends.
 abbrev pub KeepsTo : SiteId → (image : ℕ) → (turn : Option ℕ) → Plan → Type 0
 KeepsTo site image turn (Ask s why o next) = IsAtTurn site image turn s o × ((answer : Answer) → KeepsTo site image turn (next answer))

@@ -11,3 +11,4 @@ pub mod Sound
 pub mod Step
 pub mod Ways
 pub mod World
+pub mod Seats

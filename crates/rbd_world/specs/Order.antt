@@ -1,19 +1,21 @@
 -- The order in which the writes of one instance change an image: of two, the one that found the
--- image first writes each of its objects first.
-use Rattle.std.specs.Prelude.{◌≡◌, ◌⊎◌, ℕ, ◌==◌, ◌&&◌, ◌||◌, not, Bool, true, false, List, [], ◌∷◌, Some, None, IsSome}
+-- image first writes each of its objects first. A write is here whatever changes an extent piece by
+-- piece: a `write`, a `fill` or a `discard`.
+use Rattle.std.specs.Prelude.{◌≡◌, ◌⊎◌, ℕ, ◌==◌, ◌&&◌, ◌||◌, not, Bool, true, false, List, [], ◌∷◌, Option, Some, None, IsSome}
 use Rattle.rbd_kinds.specs.declared.answer.Answer.{Answer}
 use Rattle.rbd_kinds.specs.declared.answer.Answer.TheVariants as answer
-use Rattle.rbd_commands.specs.declared.command.Command.{Command}
+use Rattle.rbd_commands.specs.declared.refusal.Refusal.{Refusal}
 use Rattle.rbd_kinds.specs.declared.data_op.DataOp.TheVariants as data_op
 use Rattle.rbd_kinds.specs.declared.directory_op.DirectoryOp.TheVariants as directory
+use Rattle.rbd_kinds.specs.declared.header.HeaderView.{HeaderView}
 use Rattle.rbd_kinds.specs.declared.id.Instance.{Instance}
 use Rattle.rbd_kinds.specs.declared.id.SiteId.{SiteId}
 use Rattle.rbd_kinds.specs.declared.operation.Op.{Op}
 use Rattle.rbd_kinds.specs.declared.operation.Op.TheVariants as op
 use Rattle.rbd_line.specs.Line.{ahead, is_member}
 use Rattle.rbd_machine.specs.Knowledge.{same_site}
-use Rattle.rbd_machine.specs.Plan.{Goto, Standing, without_labels}
-use Rattle.rbd_request.specs.Write.{is_write, write_plan}
+use Rattle.rbd_machine.specs.Plan.{Plan, Goto, Standing, without_labels}
+use Rattle.rbd_machine.specs.Steps.{change}
 use Rattle.rbd_requests.specs.Touched.{extent_of}
 use Rattle.rbd_session.specs.declared.running.Running.{Running}
 use Rattle.rbd_session.specs.Lines.{lines_of}
@@ -29,9 +31,10 @@ abbrev pub tells_image : (image : ℕ) → Op → Answer → Bool
 tells_image image (op.Directory (directory.Find name)) (answer.Id found) = found == image
 tells_image image o a = false
 
--- bytes are written to an object of an image
+-- an object of an image is changed: bytes are written to it, or become zeros, or it goes
 abbrev pub writes_object : (image number : ℕ) → Op → Bool
-writes_object image number (op.Data i n (data_op.Write context must parts bytes)) = i == image && n == number
+writes_object image number (op.Data i n (data_op.Read snap parts)) = false
+writes_object image number (op.Data i n o) = i == image && n == number
 writes_object image number o = false
 
 abbrev pub finds_in : (line : ℕ) → SiteId → (image : ℕ) → Happening → Bool
@@ -59,7 +62,7 @@ found_before one other s image (h ∷ run) = (has_found one s image (h ∷ run) 
 
 -- ---- the order
 
--- the line is a write or a fill of the instance
+-- the line is a write of the instance: it changes an extent
 pub record IsWriterOf (who : Instance) (line : ℕ) (run : List Happening) : Type 0 where
   pub asked : Asked
   pub is : asked_by line run ≡ Some asked
@@ -72,7 +75,7 @@ pub record IsFirstToWrite (who : Instance) (line : ℕ) (s : SiteId) (image numb
   pub found : has_found line s image run ≡ true
   pub first : (other : ℕ) → IsWriterOf who other run → found_before line other s image run ≡ true → has_written other s image number run ≡ false
 
--- so it is where a write or a fill writes an object
+-- so it is where a write writes an object
 abbrev pub IsInTurn : Happening → (before : List Happening) → Type 0
 IsInTurn (Did o reply) before =
     (who : Instance) (line image number : ℕ) → is_own line o.by ≡ true → IsWriterOf who line before → writes_object image number o.op ≡ true
@@ -93,11 +96,18 @@ WritesFirst one other s image number (h ∷ run) =
 
 -- ---- where the writes of an instance stand
 
+-- A change that goes beside others: it looks its image up first, joins the image's line, and behind
+-- that keeps to it, whatever header it is told.
+pub record ChangesInLine (home : SiteId) (s : Standing) : Type 0 where
+  pub name : List ℕ
+  pub refuses : HeaderView → Option Refusal
+  pub act : (image : ℕ) → HeaderView → Plan
+  pub stand : s ≡ without_labels (change home name false refuses act)
+  pub keeps : (image : ℕ) (h : HeaderView) (turn : Option ℕ) → KeepsTo home image turn (act image h)
+
 -- It has found no image yet, and is in no line.
 pub record IsBeforeFinding {R : Type 0} (stands : R → Standing) (home : SiteId) (run : List Happening) (r : Running R) : Type 0 where
-  pub command : Command
-  pub is : is_write command ≡ true
-  pub stand : stands r.request ≡ without_labels (write_plan home command)
+  pub changes : ChangesInLine home (stands r.request)
   pub place : r.place ≡ None
   pub unfound : (s : SiteId) (image : ℕ) → has_found r.line s image run ≡ false
 

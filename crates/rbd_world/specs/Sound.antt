@@ -25,7 +25,9 @@ use Rattle.rbd_machine.specs.Path.{Answered, IsWalk}
 use Rattle.rbd_machine.specs.Permits.{Permits}
 use Rattle.rbd_machine.specs.Plan.{Plan, Return, Standing}
 use Rattle.rbd_machine.specs.Refused.{AreGiven}
+use Rattle.rbd_machine.specs.Standalone.{TellAllStandalone}
 use Rattle.rbd_machine.specs.Steps.{EndsIt, not_there, refused}
+use Rattle.rbd_machine.specs.declared.seat.Seat.{Seat}
 use Rattle.rbd_meaning.specs.Meant.{IsMeantBy}
 use Rattle.rbd_rely.specs.Beside.{AreBeside, MayAct}
 use Rattle.rbd_rely.specs.Locks.{KnowsByLock}
@@ -48,6 +50,7 @@ use Rattle.rbd_world.specs.Begun.{LinesBegun, has_line}
 use Rattle.rbd_world.specs.Order.{IsInOrder, KeepsOrder}
 use Rattle.rbd_world.specs.Owing.{IsUnhindered, owed_in}
 use Rattle.rbd_world.specs.Run.{Asked, Doer, Itself, OnWay, House, AfterStop, Happening, Began, Did, Refused, Trimmed, Expired, Heard, Stopped, Restarted, Operation, Sent, AreCalls, asked_by, ends, flat_after, history_of, is_among, life_after, log_of, mail_of, records_after, sent_after, step_of, steps_of, way_of}
+use Rattle.rbd_world.specs.Seats.{seat_at, seat_of_home}
 use Rattle.rbd_world.specs.Step.{IsFresh, is_begun}
 use Rattle.rbd_world.specs.Ways.{AsksNext, GoesWith, IsOfRelease, IsOver, WasRefused}
 use Rattle.rbd_world.specs.World.{LateView, LivesView, WorldView, client_in, late_at, lives_in, records_in, session_in, site_in}
@@ -65,20 +68,22 @@ pub record IsOpen (line : ℕ) (run : List Happening) : Type 0 where
   pub is : asked_by line run ≡ Some asked
   pub unended : has_ended line run ≡ false
 
--- A walk of the command's plan leads there, by these operations.
-pub record IsLedTo (home : SiteId) (c : Command) (steps : List Answered) (last : Plan) : Type 0 where
+-- A walk of the command's plan leads there, by these operations. No header that they told has a
+-- parent or a journal.
+pub record IsLedTo (seat : Seat) (c : Command) (steps : List Answered) (last : Plan) : Type 0 where
   pub start : Standing
-  pub plan : IsPlanFor home c start
+  pub plan : IsPlanFor seat c start
   pub feds : List Fed
   pub walk : IsWalk start.labels start.plan feds steps last
   pub given : AreGiven steps
+  pub standalone : TellAllStandalone steps
 
 -- A walk of the command's plan ends with the reply, by all operations that were done for its line,
--- of a session with this home; and the reply is the command's behind them.
+-- of a session at this seat; and the reply is the command's behind them.
 pub record IsReplyMeant (homes : ℕ → SiteId) (line : ℕ) (reply : Reply) (before run : List Happening) : Type 0 where
   pub begun : IsOpen line before
-  pub ended : IsLedTo (homes begun.asked.who.session) begun.asked.command (steps_of line run) (Return reply)
-  pub meant : IsMeantBy (homes begun.asked.who.session) begun.asked.command (steps_of line run) reply
+  pub ended : IsLedTo (seat_at homes begun.asked.who.session) begun.asked.command (steps_of line run) (Return reply)
+  pub meant : IsMeantBy (seat_at homes begun.asked.who.session) begun.asked.command (steps_of line run) reply
 
 -- a look at a header that is answered so
 abbrev pub look_answered : SiteId → (image : ℕ) → Answer → Answered
@@ -92,10 +97,10 @@ pub record IsRefusedOnWay (homes : ℕ → SiteId) (line : ℕ) (reply : Reply) 
   pub tells : EndsIt o.answer
   pub refuses : not_there o.answer ≡ Return reply
   pub plan : Plan
-  pub led : IsLedTo (homes begun.asked.who.session) begun.asked.command (steps_of line before) plan
+  pub led : IsLedTo (seat_at homes begun.asked.who.session) begun.asked.command (steps_of line before) plan
   pub wants : is_look_at o.site (kind_asked plan) ≡ true
   pub image : ℕ
-  pub meant : IsMeantBy (homes begun.asked.who.session) begun.asked.command (steps_of line before ++ look_answered o.site image o.answer ∷ []) reply
+  pub meant : IsMeantBy (seat_at homes begun.asked.who.session) begun.asked.command (steps_of line before ++ look_answered o.site image o.answer ∷ []) reply
   pub over : WasRefused o.site reply (way_of line before ++ step_of o ∷ [])
 
 -- ---- whose an operation is
@@ -140,7 +145,7 @@ pub record IsDone (o : Operation) (before : List Happening) : Type 0 where
 pub record StandsAtLook (homes : ℕ → SiteId) (line : ℕ) (s : SiteId) (before : List Happening) : Type 0 where
   pub begun : IsOpen line before
   pub plan : Plan
-  pub led : IsLedTo (homes begun.asked.who.session) begun.asked.command (steps_of line before) plan
+  pub led : IsLedTo (seat_at homes begun.asked.who.session) begun.asked.command (steps_of line before) plan
   pub wants : is_look_at s (kind_asked plan) ≡ true
 
 -- behind it its line goes on
@@ -178,7 +183,7 @@ pub record IsLostOf (homes : ℕ → SiteId) (who : Instance) (line : ℕ) (befo
   pub begun : IsOpen line before
   pub mine : begun.asked.who ≡ who
   pub plan : Plan
-  pub led : IsLedTo (homes begun.asked.who.session) begun.asked.command (steps_of line before) plan
+  pub led : IsLedTo (seat_at homes begun.asked.who.session) begun.asked.command (steps_of line before) plan
 
 -- Just the lines of an instance that runs are lost that have no reply, in their order.
 pub record IsStop (homes : ℕ → SiteId) (who : Instance) (lost : List ℕ) (before : List Happening) : Type 0 where
@@ -234,30 +239,31 @@ IsRight homes (h ∷ run) = AreStanding (h ∷ run) × IsDue homes h run × IsRi
 -- The request of a command is where a walk of the command's plan led it, by the operations that
 -- were done for its line; and where the command changes no image that is there, it waits for
 -- nothing and is in no line.
-pub record IsUnderWay {R : Type 0} (stands : R → Standing) (home : SiteId) (who : Instance) (run : List Happening) (r : Running R) : Type 0 where
+pub record IsUnderWay {R : Type 0} (stands : R → Standing) (seat : Seat) (who : Instance) (run : List Happening) (r : Running R) : Type 0 where
   pub begun : IsOpen r.line run
   pub mine : begun.asked.who ≡ who
   pub start : Standing
-  pub plan : IsPlanFor home begun.asked.command start
+  pub plan : IsPlanFor seat begun.asked.command start
   pub labels : (stands r.request).labels ≡ start.labels
   pub feds : List Fed
   pub walk : IsWalk start.labels start.plan feds (steps_of r.line run) (stands r.request).plan
   pub given : AreGiven (steps_of r.line run)
+  pub standalone : TellAllStandalone (steps_of r.line run)
   pub calm : is_change begun.asked.command ≡ false → IsCalmRequest (stands r.request) × (r.place ≡ None)
 
 -- a command that is refused before any operation
-pub record IsRefusedAtOnce (home : SiteId) (who : Instance) (run : List Happening) (line : ℕ) (refusal : Refusal) : Type 0 where
+pub record IsRefusedAtOnce (seat : Seat) (who : Instance) (run : List Happening) (line : ℕ) (refusal : Refusal) : Type 0 where
   pub begun : IsOpen line run
   pub mine : begun.asked.who ≡ who
   pub start : Standing
-  pub plan : IsPlanFor home begun.asked.command start
+  pub plan : IsPlanFor seat begun.asked.command start
   pub ends : start.plan ≡ refused refusal
   pub none : steps_of line run ≡ []
 
-abbrev pub IsHeldRightly : {R : Type 0} → (stands : R → Standing) → SiteId → Instance → List Happening → Option (Occupant R) → Type 0
-IsHeldRightly stands home who run None = Unit {0}
-IsHeldRightly stands home who run (Some (occupant.Refused line refusal)) = IsRefusedAtOnce home who run line refusal
-IsHeldRightly stands home who run (Some (occupant.Running r)) = IsUnderWay stands home who run r
+abbrev pub IsHeldRightly : {R : Type 0} → (stands : R → Standing) → Seat → Instance → List Happening → Option (Occupant R) → Type 0
+IsHeldRightly stands seat who run None = Unit {0}
+IsHeldRightly stands seat who run (Some (occupant.Refused line refusal)) = IsRefusedAtOnce seat who run line refusal
+IsHeldRightly stands seat who run (Some (occupant.Running r)) = IsUnderWay stands seat who run r
 
 -- the state of its slot goes with the operations on its way
 abbrev pub KeepsToItsWay : {R : Type 0} → (stands : R → Standing) → List Happening → Way → Option (Running R) → Type 0
@@ -271,7 +277,7 @@ pub record IsLiving {R : Type 0} (stands : R → Standing) (home : SiteId) (sess
   pub at_home : c.session.home ≡ home
   pub sound : IsSoundClient stands c
   pub know : AllKnow stands knows c.session
-  pub held : (slot : ℕ) → IsHeldRightly stands home c.session.instance run (held_in slot c.session.slots)
+  pub held : (slot : ℕ) → IsHeldRightly stands (seat_of_home session home) c.session.instance run (held_in slot c.session.slots)
   pub ways : (slot : ℕ) → KeepsToItsWay stands run (state_in slot c.slots).way (running_at slot c.session)
 
 -- ---- what a stopped life may still send

@@ -40,7 +40,7 @@ use Rattle.rbd_session.specs.declared.running.Running.{Running}
 use Rattle.rbd_session.specs.Advance.{track_of}
 use Rattle.rbd_session.specs.Lines.{lines_of}
 use Rattle.rbd_session.specs.OnTrack.{LeavesOthers}
-use Rattle.rbd_session.specs.Session.{SessionView, IsNewcomer, held_in, script_line}
+use Rattle.rbd_session.specs.Session.{SessionView, IsNewcomer, held_in, script_line, seat_of}
 use Rattle.rbd_session.specs.Waits.{waits}
 use Rattle.rbd_site.specs.InForm.{AreInForm}
 use Rattle.rbd_site.specs.Log.{SiteLog, records_of}
@@ -281,7 +281,7 @@ pub record IsFresh {R : Type 0} (stands : R → Standing) (who : Instance) (home
 module _ {R : Type 0} (stands : R → Standing) where
   -- the lowest free slot has the command's request, at its beginning
   pub record Begins (line : ℕ) (c : Command) (old new : SessionView R) : Type 0 where
-    pub held : IsNewcomer stands IsPlanFor extent_of old.home line c (held_in old.lowest new.slots)
+    pub held : IsNewcomer stands IsPlanFor extent_of (seat_of old) line c (held_in old.lowest new.slots)
     pub slots : AreSlotsBut old.lowest old new
     pub lines : new.lines ≡ old.lines
     pub client : IsSameClient old new

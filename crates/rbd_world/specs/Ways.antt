@@ -16,6 +16,7 @@ use Rattle.rbd_machine.specs.Plan.{Plan, Ask, Await, Note, Return, Goto}
 use Rattle.rbd_machine.specs.declared.reason.Reason.{Reason}
 use Rattle.rbd_owner.specs.Acquire.{IsWay, rest_of_acquire}
 use Rattle.rbd_owner.specs.Steps.{lock_drop, released_lock}
+use Rattle.rbd_requests.specs.NoLooks.{IsNoLook}
 
 -- ---- operations that are a way
 
@@ -62,10 +63,6 @@ pub record IsOfRelease (o : Op) : Type 0 where
   pub is : (o ≡ lock_drop image) ⊎ (o ≡ released_lock image)
 
 -- ---- what the state of a slot says
-
-abbrev pub IsNoLook : Op → Type 0
-IsNoLook (op.Header image header.Get) = ⊥
-IsNoLook o = Unit {0}
 
 -- Whatever it is answered, it looks at no header any more: it is past its own look.
 abbrev pub LooksNoMore : Plan → Type 0

@@ -56,8 +56,9 @@ pub fn what_is_wanted_may_be_done<R: Request>()
         → IsSoundWorld R.stands w → client_in session w.lives ≡ Some c → DropsWhatItMay R.stands slot c }
 {}
 
-/// Of two writes or fills of one instance, the one that found an image first writes each of its
-/// objects first: at whichever place of the run it writes one, the other hasn't written it yet.
+/// Of two `write`, `fill` or `discard` requests of one instance, the one that found an image first
+/// changes each of its objects first: at whichever place of the run it changes one, the other hasn't
+/// changed it yet.
 pub fn writes_keep_their_order<R: Request>()
     ensures { (w : WorldView R) (sound : IsSoundWorld R.stands w) (who : Who) (one other : ℕ) (s : Which) (image number : ℕ)
         → IsWriterOf who one sound.run → IsWriterOf who other sound.run → found_before one other s image sound.run ≡ true
