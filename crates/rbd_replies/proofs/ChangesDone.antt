@@ -1,4 +1,4 @@
--- What `create`, `snap create` and `snap rm` did, and that they did nothing else.
+-- What `create`, `rename`, `snap create` and `snap rm` did, and that they did nothing else.
 use Rattle.std.proofs.Common.{◌≡◌, ℕ, ◌+◌, List, [], ◌∷◌, Option, Some, None, option_map, map, refl, sym, ap, ◌∙◌}
 use Rattle.rbd_flat.specs.Flat.{FlatImage, FlatSnap, image_at}
 use Rattle.rbd_flat.specs.declared.effect.Effect.{Effect}
@@ -21,14 +21,15 @@ use Rattle.rbd_layout.specs.Asked.{layout_of}
 use Rattle.rbd_machine.specs.Path.{Answered, found, looked_at}
 use Rattle.rbd_meaning.proofs.Allowed.{takes_one_more}
 use Rattle.rbd_meaning.specs.Creates.{Makes}
+use Rattle.rbd_meaning.specs.Listings.{renamed}
 use Rattle.rbd_meaning.specs.Snaps.{RemovesOne, TakesOne, map_put, map_removed, map_told, snap_removed}
 use Rattle.rbd_stands.specs.Image.{SnapLine, line_of_flat, line_of_snap}
 use Rattle.rbd_stands.specs.Reading.{Tells, flat_snap_named}
 use Rattle.rbd_replies.proofs.PlacedRight.{ArePlacedRight}
 use Rattle.rbd_replies.proofs.Places.{step_at}
 use Rattle.rbd_replies.proofs.PlacesTaken.{change_first, none_taken, silent_first}
-use Rattle.rbd_replies.proofs.PlacesTold.{effect_there, finding_is_silent, found_there, free_there, header_there, looking_is_silent}
-use Rattle.rbd_replies.specs.Changed.{Creates, FindsImage, RemovesSnap, TakesSnap}
+use Rattle.rbd_replies.proofs.PlacesTold.{effect_there, finding_is_silent, found_there, free_there, header_there, looking_is_silent, renamed_there}
+use Rattle.rbd_replies.specs.Changed.{Creates, FindsImage, RemovesSnap, Renames, TakesSnap}
 use Rattle.rbd_replies.specs.Places.{Placed, effects_of, flat_at}
 
 -- an operation on a header, with its answer
@@ -41,12 +42,12 @@ map_made site image objects = record { site = site; op = op.Map image (states.Re
 
 -- ---- the snapshot that a header lists is the flat image's
 
-record IsListedThere (flat : Option FlatImage) (snap : List ℕ) (id : ℕ) : Type 0 where
-  i : FlatImage
-  is : flat ≡ Some i
-  gone : FlatSnap
-  listed : flat_snap_named i.snaps snap ≡ Some gone
-  same : id ≡ gone.id
+pub record IsListedThere (flat : Option FlatImage) (snap : List ℕ) (id : ℕ) : Type 0 where
+  pub i : FlatImage
+  pub is : flat ≡ Some i
+  pub gone : FlatSnap
+  pub listed : flat_snap_named i.snaps snap ≡ Some gone
+  pub same : id ≡ gone.id
 
 listed_among : (o : Option FlatSnap) (p : Option SnapView) (listed : SnapView) → option_map line_of_flat o ≡ option_map line_of_snap p → p ≡ Some listed
     → (gone : FlatSnap) × (o ≡ Some gone) × (listed.id ≡ gone.id)
@@ -58,7 +59,7 @@ listed_among (Some gone) (Some s) listed same is =
     let line : line_of_flat gone ≡ line_of_snap s = cc in
     (gone, refl, ap (λ (v : SnapView). v.id) (sym that) ∙ ap (λ (l : SnapLine). l.id) (sym line))
 
-listed_flat : (flat : Option FlatImage) (h : HeaderView) (snap : List ℕ) (listed : SnapView) → Tells h flat → snap_named h.snaps snap ≡ Some listed
+pub listed_flat : (flat : Option FlatImage) (h : HeaderView) (snap : List ℕ) (listed : SnapView) → Tells h flat → snap_named h.snaps snap ≡ Some listed
     → IsListedThere flat snap listed.id
 listed_flat None h snap listed tells is = absurd tells
 listed_flat (Some i) h snap listed tells is =
@@ -115,6 +116,21 @@ module _ (homes : ℕ → SiteId) where
   pub create_creates : (places : List Placed) → ArePlacedRight homes places → (site : SiteId) (name : List ℕ) (size : ℕ) (shape : Shape)
       → Makes site name size shape (map step_at places) → Creates name size places
   create_creates places right site name size shape makes = creates_at places right site name size makes.made.image makes.made.objects shape makes.made.are
+
+  pub rename_renames : (places : List Placed) → ArePlacedRight homes places → (site : SiteId) (from to : List ℕ) → map step_at places ≡ renamed site from to ∷ [] → Renames from to places
+  rename_renames [] right site from to are = absurd (cc)
+  rename_renames (p ∷ places) right site from to are =
+      let is : step_at p ≡ renamed site from to = cc in
+      let none : places ≡ [] = none_taken places cc in
+      let there = renamed_there homes p right.0 site from to is in
+      record {
+        at_place = p;
+        are = ap (λ rest. p ∷ rest) none;
+        image = there.image;
+        named = there.named;
+        free = there.free;
+        effects = change_first p places (effect.Rename from to) (effect_there homes p right.0 (renamed site from to) is) ∙ ap (λ rest. effect.Rename from to ∷ effects_of rest) none;
+      }
 
   -- one change behind two looks
   record ChangesOne (site : SiteId) (name : List ℕ) (image : ℕ) (h : HeaderView) (e : Effect) (places : List Placed) : Type 0 where

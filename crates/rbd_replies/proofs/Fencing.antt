@@ -28,7 +28,7 @@ use Rattle.rbd_replies.specs.Fenced.{ChangesNothing}
 
 -- ---- what a fenced instance does
 
-one_site : (s t : SiteId) → same_site s t ≡ true → s ≡ t
+pub one_site : (s t : SiteId) → same_site s t ≡ true → s ≡ t
 one_site site.A site.A same = refl
 one_site site.A site.B same = cc
 one_site site.B site.A same = cc

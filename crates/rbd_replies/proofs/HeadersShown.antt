@@ -17,9 +17,10 @@ use Rattle.rbd_layout.proofs.Bounds.{few_bytes}
 use Rattle.rbd_machine.specs.Path.{Answered}
 use Rattle.rbd_machine.specs.Plan.{Standing}
 use Rattle.rbd_machine.specs.Refused.{AreGiven}
+use Rattle.rbd_machine.specs.declared.seat.Seat.{Seat}
 use Rattle.rbd_meaning.specs.Meant.{IsMeantBy}
 use Rattle.rbd_world.specs.Run.{Doer, Itself, OnWay, House, AfterStop, Happening, Nothing, Waited, Began, Did, Refused, Trimmed, Expired, Heard, Stopped, Restarted, Operation, cause_of, ending_entries, entries_of, entry_by, entry_of, entry_unfenced, fence_of, history_of, reply_entries}
-use Rattle.rbd_world.specs.Sound.{EndsWith, IsDue, IsRefusedOnWay, IsReplyMeant, IsRight, IsSoundWorld}
+use Rattle.rbd_world.specs.Sound.{EndsWith, IsDue, IsRefusedOnWay, IsReplyMeant, IsRight, IsSoundWorld, seat_at}
 use Rattle.rbd_world.specs.World.{WorldView}
 use Rattle.rbd_replies.proofs.OnWay.{refused_there}
 use Rattle.rbd_replies.specs.Shown.{AreHeadersInForm, IsEntryInForm, IsShownInForm, ShowsInForm}
@@ -33,20 +34,20 @@ shown_in_form h form =
     let below : h.size < 9223372036854775808 = omega arith in
     record { form = form; size = below }
 
-info_in_form : (home : SiteId) (c : Command) (steps : List Answered) (h : HeaderView) → AreGiven steps → IsMeantBy home c steps (reply.Info h) → IsShownInForm h
-info_in_form home (command.Info name) steps h given shows =
+info_in_form : (seat : Seat) (c : Command) (steps : List Answered) (h : HeaderView) → AreGiven steps → IsMeantBy seat c steps (reply.Info h) → IsShownInForm h
+info_in_form seat (command.Info name) steps h given shows =
     let same : h ≡ shows.header = let e = shows.shows in cc in
     let looks = subst AreGiven shows.are given in
     subst IsShownInForm (sym same) (shown_in_form shows.header looks.1.0.can.form)
-info_in_form home (command.Create name size shape) steps h given (plain, meant) = absurd meant
-info_in_form home _ steps h given meant = absurd meant
+info_in_form seat (command.Create name size shape) steps h given (plain, meant) = absurd meant
+info_in_form seat _ steps h given meant = absurd meant
 
-meant_in_form : (home : SiteId) (c : Command) (steps : List Answered) (r : Reply) → AreGiven steps → IsMeantBy home c steps r → ShowsInForm r
-meant_in_form home c steps (reply.Info h) given meant = info_in_form home c steps h given meant
-meant_in_form home c steps _ given meant = tt
+meant_in_form : (seat : Seat) (c : Command) (steps : List Answered) (r : Reply) → AreGiven steps → IsMeantBy seat c steps r → ShowsInForm r
+meant_in_form seat c steps (reply.Info h) given meant = info_in_form seat c steps h given meant
+meant_in_form seat c steps _ given meant = tt
 
 reply_in_form : (homes : ℕ → SiteId) (line : ℕ) (r : Reply) (before run : List Happening) → IsReplyMeant homes line r before run → ShowsInForm r
-reply_in_form homes line r before run is = meant_in_form (homes is.begun.asked.who.session) is.begun.asked.command _ r is.ended.given is.meant
+reply_in_form homes line r before run is = meant_in_form (seat_at homes is.begun.asked.who) is.begun.asked.command _ r is.ended.given is.meant
 
 -- on its way to a lock a line is refused
 refusal_in_form : (homes : ℕ → SiteId) (line : ℕ) (r : Reply) (o : Operation) (run : List Happening) → IsRefusedOnWay homes line r o run → ShowsInForm r

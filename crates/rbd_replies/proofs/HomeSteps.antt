@@ -1,8 +1,11 @@
 -- Each operation behind a reply that is meant was done at the session's home.
-use Rattle.std.proofs.Common.{◌≡◌, inl, inr, ℕ, List, [], ◌∷◌, ◌++◌, Option, map, refl, sym, ap, subst}
+use Rattle.std.proofs.Common.{◌≡◌, inl, inr, ℕ, Bool, true, false, List, [], ◌∷◌, ◌++◌, Option, map, refl, sym, ap, subst}
+use Rattle.std.specs.Prelude.{nat_le}
 use Rattle.rbd_commands.specs.declared.command.Command.{Command}
 use Rattle.rbd_commands.specs.declared.command.Command.TheVariants as command
 use Rattle.rbd_kinds.specs.declared.header.HeaderView.{HeaderView}
+use Rattle.rbd_header.specs.Header.{context_of}
+use Rattle.rbd_kinds.specs.declared.header.SnapContext.{SnapContext}
 use Rattle.rbd_kinds.specs.declared.id.SiteId.{SiteId}
 use Rattle.rbd_kinds.specs.declared.layout.Extent.{Extent}
 use Rattle.rbd_kinds.specs.declared.operation.Op.{Op}
@@ -10,14 +13,22 @@ use Rattle.rbd_kinds.specs.declared.answer.Answer.{Answer}
 use Rattle.rbd_kinds.specs.declared.answer.Answer.TheVariants as answer
 use Rattle.rbd_kinds.specs.declared.reply.Reply.{Reply}
 use Rattle.rbd_kinds.specs.declared.reply.Reply.TheVariants as reply
+use Rattle.rbd_layout.specs.Pieces.{pieces_of}
 use Rattle.rbd_layout.specs.declared.types.Piece.{Piece}
 use Rattle.rbd_machine.specs.About.{AreOfImage, AreOwn}
 use Rattle.rbd_machine.specs.Passes.{joined}
 use Rattle.rbd_machine.specs.Path.{Answered}
+use Rattle.rbd_machine.specs.declared.seat.Seat.{Seat}
 use Rattle.rbd_meaning.specs.Closes.{ClosesBy}
 use Rattle.rbd_meaning.specs.Meant.{IsMeantBy}
 use Rattle.rbd_meaning.specs.Reads.{AreRead, IsPassTo, SeeOthers}
+use Rattle.rbd_meaning.specs.Removals.{AreRemovals, removal}
+use Rattle.rbd_meaning.specs.Rollbacks.{AreRestored, at_size}
 use Rattle.rbd_meaning.specs.Writes.{WritesWhole, pieces_written}
+use Rattle.rbd_zero.specs.Full.{cut_bytes, replaced_by}
+use Rattle.rbd_zero.specs.Shrink.{pieces_from}
+use Rattle.rbd_zero.specs.Size.{IsResizedBy, pieces_zeroed}
+use Rattle.rbd_zero.specs.Zero.{all_zeroed, head_of, is_inside, is_whole, zeroed, zeroed_by}
 use Rattle.rbd_replies.proofs.Places.{step_at}
 use Rattle.rbd_replies.specs.Home.{AreDoneAt}
 use Rattle.rbd_replies.specs.Places.{Placed}
@@ -65,45 +76,52 @@ module _ (site : SiteId) where
     passes_at [] see = tt
     passes_at (pass ∷ passes) (sees, see) = at_both pass (joined passes) (pass_at pass sees.closing sees.pass) (passes_at passes see)
 
+  -- pieces that become zeros
+  all_zeroed_at : (image : ℕ) (context : SnapContext) (piece : Piece) (inside : Bool) → AreAt site (all_zeroed site image context piece inside)
+  all_zeroed_at image context piece false = (refl, (refl, (refl, tt)))
+  all_zeroed_at image context piece true = (refl, (refl, tt))
+
+  zeroed_by_at : (image : ℕ) (context : SnapContext) (piece : Piece) (whole inside : Bool) → AreAt site (zeroed_by site image context piece whole inside)
+  zeroed_by_at image context piece false false = (refl, tt)
+  zeroed_by_at image context piece false true = (refl, (refl, tt))
+  zeroed_by_at image context piece true inside = all_zeroed_at image context piece inside
+
+  zeroed_at : (image : ℕ) (h : HeaderView) (pieces : List Piece) → AreAt site (pieces_zeroed site image h pieces)
+  zeroed_at image h [] = tt
+  zeroed_at image h (p ∷ pieces) =
+      at_both (zeroed site image h p) (pieces_zeroed site image h pieces) (zeroed_by_at image (context_of h) p (is_whole h p) (is_inside h p.object)) (zeroed_at image h pieces)
+
+  -- a size that is set
+  resized_at : (grows : Bool) (image : ℕ) (h : HeaderView) (to objects : ℕ) (steps : List Answered) → IsResizedBy grows site image h to objects steps → AreAt site steps
+  resized_at true image h to objects steps are = subst (AreAt site) (sym are) (refl, (refl, tt))
+  resized_at false image h to objects steps shrunk =
+      subst (AreAt site) (sym shrunk.are) (refl, at_both (pieces_zeroed site image h (pieces_from h to shrunk.bits)) (_ ∷ []) (zeroed_at image h (pieces_from h to shrunk.bits)) (refl, tt))
+
+  -- objects that become what they were
+  replaced_at : (image : ℕ) (h : HeaderView) (p : Piece) (left : List ℕ) → AreAt site (replaced_by site image h p left)
+  replaced_at image h p [] = all_zeroed_at image (context_of h) p (is_inside h p.object)
+  replaced_at image h p (byte ∷ left) = (refl, (refl, tt))
+
+  restored_at : (image : ℕ) (h : HeaderView) (snap : ℕ) (pieces : List Piece) (steps : List Answered) → AreRestored site image h snap pieces steps → AreAt site steps
+  restored_at image h snap [] steps none = subst (AreAt site) (sym none) tt
+  restored_at image h snap (p ∷ pieces) steps restored =
+      let first = restored.is_first in
+      subst (AreAt site) (sym restored.are)
+      (at_both restored.first restored.others (subst (AreAt site) (sym first.are) (refl, replaced_at image h p (cut_bytes first.bytes)))
+      (restored_at image h snap pieces restored.others restored.are_others))
+
+  -- what is removed
+  removals_at : (ops : List Op) (steps : List Answered) → AreRemovals site ops steps → AreAt site steps
+  removals_at [] [] are = tt
+  removals_at [] (step ∷ steps) are = absurd are
+  removals_at (o ∷ ops) [] are = absurd are
+  removals_at (o ∷ ops) (step ∷ steps) (first, is, gone, are) = (first, removals_at ops steps are)
+
   -- what a close does behind the drop of the lock
   closing_at : (image : ℕ) (dropped : Answer) (behind : List Answered) → ClosesBy site image dropped behind → AreAt site behind
   closing_at image answer.Done behind are = subst (AreAt site) (sym are) (refl, (refl, tt))
   closing_at image answer.Changed behind are = subst (AreAt site) (sym are) (refl, tt)
   closing_at image _ behind are = absurd are
-
-  -- all commands
-  meant_at : (c : Command) (steps : List Answered) (r : Reply) → IsMeantBy site c steps r → AreAt site steps
-  meant_at (command.Create name size shape) steps reply.Done (plain, makes) = subst (AreAt site) (sym makes.made.are) (refl, (refl, (refl, tt)))
-  meant_at (command.Create name size shape) steps (reply.Refused x) (plain, inl outside) = subst (AreAt site) (sym outside.none) tt
-  meant_at (command.Create name size shape) steps (reply.Refused x) (plain, inr unmade) = own_at _ steps unmade.by.own
-  meant_at (command.Create name size shape) steps _ (plain, meant) = absurd meant
-  meant_at (command.Write name at bytes) steps reply.Done whole = whole_at name at _ steps whole
-  meant_at (command.Write name at bytes) steps (reply.Refused x) refuses = own_at _ steps refuses.refused.own
-  meant_at (command.Fill name at len byte) steps reply.Done whole = whole_at name at _ steps whole
-  meant_at (command.Fill name at len byte) steps (reply.Refused x) refuses = own_at _ steps refuses.refused.own
-  meant_at (command.Read name snap at len) steps (reply.Bytes bytes) shows =
-      subst (AreAt site) (sym shows.are) (at_both (joined shows.passes) shows.pass (passes_at name snap _ shows.passes shows.before) (pass_at name snap _ shows.pass _ shows.shows.pass))
-  meant_at (command.Read name snap at len) steps (reply.Refused x) refused =
-      subst (AreAt site) (sym refused.are) (at_both (joined refused.passes) refused.pass (passes_at name snap _ refused.passes refused.before) (own_at _ refused.pass refused.by.own))
-  meant_at command.List steps (reply.Names names) are = subst (AreAt site) (sym are) (refl, tt)
-  meant_at command.List steps (reply.Refused x) refused = own_at _ steps refused.own
-  meant_at (command.Info name) steps (reply.Info h) shows = subst (AreAt site) (sym shows.are) (refl, (refl, tt))
-  meant_at (command.Info name) steps (reply.Refused x) refused = own_at _ steps refused.own
-  meant_at (command.SnapList name) steps (reply.Snaps snaps) shows = subst (AreAt site) (sym shows.are) (refl, (refl, tt))
-  meant_at (command.SnapList name) steps (reply.Refused x) refused = own_at _ steps refused.own
-  meant_at (command.SnapCreate name snap) steps reply.Done takes = subst (AreAt site) (sym takes.are) (refl, (refl, (refl, (refl, (refl, (refl, tt))))))
-  meant_at (command.SnapCreate name snap) steps (reply.Refused x) refused = own_at _ steps refused.own
-  meant_at (command.SnapRemove name snap) steps reply.Done removes = subst (AreAt site) (sym removes.are) (refl, (refl, (refl, (refl, (refl, tt)))))
-  meant_at (command.SnapRemove name snap) steps (reply.Refused x) refuses = own_at _ steps refuses.refused.own
-  meant_at (command.Close name) steps reply.Done closes = subst (AreAt site) (sym closes.are) (refl, (refl, closing_at closes.image closes.dropped closes.behind closes.closes))
-  meant_at (command.Close name) steps (reply.Refused x) refused = own_at _ steps refused.own
-  meant_at (command.Quiesce name) steps reply.Done looks = subst (AreAt site) (sym looks.are) (refl, (refl, (refl, tt)))
-  meant_at (command.Quiesce name) steps (reply.Refused x) refused = own_at _ steps refused.own
-  meant_at (command.Resume name) steps reply.Done finds = subst (AreAt site) (sym finds.are) (refl, tt)
-  meant_at (command.Resume name) steps (reply.Refused x) refused = own_at _ steps refused.own
-  meant_at (command.Tell name bytes) steps reply.Done says = subst (AreAt site) (sym says.are) (refl, (refl, tt))
-  meant_at (command.Tell name bytes) steps (reply.Refused x) refused = own_at _ steps refused.own
-  meant_at _ steps _ meant = absurd meant
 
   front_at : (one two : List Answered) → AreAt site (one ++ two) → AreAt site one
   front_at [] two are = tt
@@ -113,9 +131,74 @@ module _ (site : SiteId) where
   places_at [] are = tt
   places_at (p ∷ places) (first, are) = (first, places_at places are)
 
-  pub meant_at_places : (c : Command) (places : List Placed) (r : Reply) → IsMeantBy site c (map step_at places) r → AreDoneAt site places
-  meant_at_places c places r meant = places_at places (meant_at c (map step_at places) r meant)
+-- all commands
+module _ (seat : Seat) where
+  meant_at : (c : Command) (steps : List Answered) (r : Reply) → IsMeantBy seat c steps r → AreAt seat.home steps
+  meant_at (command.Create name size shape) steps reply.Done (plain, makes) = subst (AreAt seat.home) (sym makes.made.are) (refl, (refl, (refl, tt)))
+  meant_at (command.Create name size shape) steps (reply.Refused x) (plain, inl outside) = subst (AreAt seat.home) (sym outside.none) tt
+  meant_at (command.Create name size shape) steps (reply.Refused x) (plain, inr unmade) = own_at seat.home _ steps unmade.by.own
+  meant_at (command.Create name size shape) steps _ (plain, meant) = absurd meant
+  meant_at (command.Write name at bytes) steps reply.Done whole = whole_at seat.home name at _ steps whole
+  meant_at (command.Write name at bytes) steps (reply.Refused x) refuses = own_at seat.home _ steps refuses.refused.own
+  meant_at (command.Fill name at len byte) steps reply.Done whole = whole_at seat.home name at _ steps whole
+  meant_at (command.Fill name at len byte) steps (reply.Refused x) refuses = own_at seat.home _ steps refuses.refused.own
+  meant_at (command.Discard name at len) steps reply.Done whole =
+      subst (AreAt seat.home) (sym whole.are) (refl, (refl, (refl, zeroed_at seat.home whole.image whole.own (pieces_of whole.own.layout (record { at = at; len = len })))))
+  meant_at (command.Discard name at len) steps (reply.Refused x) refuses = own_at seat.home _ steps refuses.refused.own
+  meant_at (command.Resize name to) steps reply.Done whole =
+      subst (AreAt seat.home) (sym whole.are)
+      (refl, (refl, (refl, resized_at seat.home (nat_le whole.own.size to) whole.image whole.own to whole.objects whole.resized whole.is_resized)))
+  meant_at (command.Resize name to) steps (reply.Refused x) refuses = own_at seat.home _ steps refuses.refused.own
+  meant_at (command.Rename from to) steps reply.Done are = subst (AreAt seat.home) (sym are) (refl, tt)
+  meant_at (command.Rename from to) steps (reply.Refused x) refused = own_at seat.home _ steps refused.own
+  meant_at (command.Remove name) steps reply.Done removes =
+      subst (AreAt seat.home) (sym removes.are)
+      (refl, (refl, (refl, (refl, (refl, (refl, removals_at seat.home (removal removes.image removes.own removes.bits) removes.removed removes.are_removed))))))
+  meant_at (command.Remove name) steps (reply.Refused x) refuses = own_at seat.home _ steps refuses.own
+  meant_at (command.SnapRollback name snap) steps reply.Done rolls =
+      let sized = at_size rolls.listed.size rolls.own in
+      subst (AreAt seat.home) (sym rolls.are) (
+        refl,
+        (
+          refl,
+          (
+            refl,
+            at_both seat.home rolls.resized rolls.restored
+                (resized_at seat.home (nat_le rolls.own.size rolls.listed.size) rolls.image rolls.own rolls.listed.size rolls.objects rolls.resized rolls.is_resized)
+                (restored_at seat.home rolls.image sized rolls.listed.id (pieces_of rolls.own.layout (head_of sized)) rolls.restored rolls.are_restored),
+          ),
+        ),
+      )
+  meant_at (command.SnapRollback name snap) steps (reply.Refused x) refuses = own_at seat.home _ steps refuses.refused.own
+  meant_at (command.Used name) steps (reply.Used used of) shows = subst (AreAt seat.home) (sym shows.are) (refl, (refl, (refl, tt)))
+  meant_at (command.Used name) steps (reply.Refused x) refused = own_at seat.home _ steps refused.own
+  meant_at (command.Read name snap at len) steps (reply.Bytes bytes) shows =
+      subst (AreAt seat.home) (sym shows.are) (at_both seat.home (joined shows.passes) shows.pass (passes_at seat.home name snap _ shows.passes shows.before) (pass_at seat.home name snap _ shows.pass _ shows.shows.pass))
+  meant_at (command.Read name snap at len) steps (reply.Refused x) refused =
+      subst (AreAt seat.home) (sym refused.are) (at_both seat.home (joined refused.passes) refused.pass (passes_at seat.home name snap _ refused.passes refused.before) (own_at seat.home _ refused.pass refused.by.own))
+  meant_at command.List steps (reply.Names names) are = subst (AreAt seat.home) (sym are) (refl, tt)
+  meant_at command.List steps (reply.Refused x) refused = own_at seat.home _ steps refused.own
+  meant_at (command.Info name) steps (reply.Info h) shows = subst (AreAt seat.home) (sym shows.are) (refl, (refl, tt))
+  meant_at (command.Info name) steps (reply.Refused x) refused = own_at seat.home _ steps refused.own
+  meant_at (command.SnapList name) steps (reply.Snaps snaps) shows = subst (AreAt seat.home) (sym shows.are) (refl, (refl, tt))
+  meant_at (command.SnapList name) steps (reply.Refused x) refused = own_at seat.home _ steps refused.own
+  meant_at (command.SnapCreate name snap) steps reply.Done takes = subst (AreAt seat.home) (sym takes.are) (refl, (refl, (refl, (refl, (refl, (refl, tt))))))
+  meant_at (command.SnapCreate name snap) steps (reply.Refused x) refused = own_at seat.home _ steps refused.own
+  meant_at (command.SnapRemove name snap) steps reply.Done removes = subst (AreAt seat.home) (sym removes.are) (refl, (refl, (refl, (refl, (refl, tt)))))
+  meant_at (command.SnapRemove name snap) steps (reply.Refused x) refuses = own_at seat.home _ steps refuses.refused.own
+  meant_at (command.Close name) steps reply.Done closes = subst (AreAt seat.home) (sym closes.are) (refl, (refl, closing_at seat.home closes.image closes.dropped closes.behind closes.closes))
+  meant_at (command.Close name) steps (reply.Refused x) refused = own_at seat.home _ steps refused.own
+  meant_at (command.Quiesce name) steps reply.Done looks = subst (AreAt seat.home) (sym looks.are) (refl, (refl, (refl, tt)))
+  meant_at (command.Quiesce name) steps (reply.Refused x) refused = own_at seat.home _ steps refused.own
+  meant_at (command.Resume name) steps reply.Done finds = subst (AreAt seat.home) (sym finds.are) (refl, tt)
+  meant_at (command.Resume name) steps (reply.Refused x) refused = own_at seat.home _ steps refused.own
+  meant_at (command.Tell name bytes) steps reply.Done says = subst (AreAt seat.home) (sym says.are) (refl, (refl, tt))
+  meant_at (command.Tell name bytes) steps (reply.Refused x) refused = own_at seat.home _ steps refused.own
+  meant_at _ steps _ meant = absurd meant
+
+  pub meant_at_places : (c : Command) (places : List Placed) (r : Reply) → IsMeantBy seat c (map step_at places) r → AreDoneAt seat.home places
+  meant_at_places c places r meant = places_at seat.home places (meant_at c (map step_at places) r meant)
 
   -- also where it is meant by these and others behind them
-  pub meant_before_places : (c : Command) (places : List Placed) (more : List Answered) (r : Reply) → IsMeantBy site c (map step_at places ++ more) r → AreDoneAt site places
-  meant_before_places c places more r meant = places_at places (front_at (map step_at places) more (meant_at c (map step_at places ++ more) r meant))
+  pub meant_before_places : (c : Command) (places : List Placed) (more : List Answered) (r : Reply) → IsMeantBy seat c (map step_at places ++ more) r → AreDoneAt seat.home places
+  meant_before_places c places more r meant = places_at seat.home places (front_at seat.home (map step_at places) more (meant_at c (map step_at places ++ more) r meant))

@@ -1,6 +1,8 @@
 pub mod AtPlaces
 pub mod ChangesDone
+pub mod ChangesWhole
 pub mod Fencing
+pub mod FlatSnaps
 pub mod HeadersShown
 pub mod HomeReplies
 pub mod HomeSteps
@@ -8,7 +10,10 @@ pub mod Led
 pub mod LineBounds
 pub mod ListingsTold
 pub mod LookFirst
+pub mod LooksFirst
+pub mod Measured
 pub mod NoEffects
+pub mod NoLooks
 pub mod OnWay
 pub mod Owners
 pub mod PassBounds
@@ -25,10 +30,13 @@ pub mod ReadPass
 pub mod ReadPiece
 pub mod ReadShown
 pub mod RefusalsNothing
+pub mod Removing
 pub mod RepliesOf
+pub mod Restoring
 pub mod ShownNothing
 pub mod Silent
 pub mod SilentPlans
 pub mod Worlds
 pub mod WritePieces
 pub mod WriteWhole
+pub mod Zeroing

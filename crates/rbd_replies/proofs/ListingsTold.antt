@@ -1,17 +1,27 @@
--- What `ls`, `info` and `snap ls` show is the flat site's at their places.
-use Rattle.std.proofs.Common.{◌≡◌, ℕ, List, [], ◌∷◌, map, sym, ap, subst}
+-- What `ls`, `info`, `snap ls` and `du` show is the flat site's at their places.
+use Rattle.std.proofs.Common.{◌≡◌, ℕ, List, [], ◌∷◌, map, Option, Some, None, refl, sym, ap, subst}
+use Rattle.rbd_flat.specs.Flat.{FlatImage, image_at}
 use Rattle.rbd_kinds.specs.declared.header.HeaderView.{HeaderView}
 use Rattle.rbd_kinds.specs.declared.header.SnapView.{SnapView}
 use Rattle.rbd_kinds.specs.declared.id.SiteId.{SiteId}
 use Rattle.rbd_kinds.specs.declared.reply.Reply.TheVariants as reply
-use Rattle.rbd_machine.specs.Path.{found, looked_at}
-use Rattle.rbd_meaning.specs.Listings.{ShowsHeader, listed, shown_snaps}
+use Rattle.rbd_kinds.specs.Striping.{IsObjectCount}
+use Rattle.rbd_machine.specs.Path.{Answered, found, looked_at}
+use Rattle.rbd_meaning.specs.Listings.{ShowsHeader, ShowsUsed as ShowsUsedBy, listed, shown_snaps}
+use Rattle.rbd_meaning.specs.Snaps.{map_told}
+use Rattle.rbd_stands.specs.Reading.{IsToldBy, Tells}
 use Rattle.rbd_replies.proofs.PlacedRight.{ArePlacedRight}
 use Rattle.rbd_replies.proofs.Places.{step_at}
 use Rattle.rbd_replies.proofs.PlacesTaken.{none_taken}
 use Rattle.rbd_replies.proofs.PlacesTold.{found_there, header_there, listed_there}
-use Rattle.rbd_replies.specs.Listed.{ListsNames, ShowsImage, ShowsSnaps}
-use Rattle.rbd_replies.specs.Places.{Placed}
+use Rattle.rbd_replies.specs.Listed.{ListsNames, ShowsImage, ShowsSnaps, ShowsUsed}
+use Rattle.rbd_replies.specs.Places.{Placed, flat_at}
+
+-- a flat image that a header tells
+record IsToldThere (h : HeaderView) (flat : Option FlatImage) : Type 0 where
+  i : FlatImage
+  is : flat ≡ Some i
+  told : IsToldBy h i
 
 module _ (homes : ℕ → SiteId) where
   pub lists_names : (places : List Placed) → ArePlacedRight homes places → (site : SiteId) (names : List (List ℕ)) → map step_at places ≡ listed site names ∷ []
@@ -49,3 +59,41 @@ module _ (homes : ℕ → SiteId) where
     shows = shows_image places right site name shows.image shows.header shows.are;
     snaps_are = let e = shows.shows in cc;
   }
+
+  -- ---- du
+
+  told_flat : (flat : Option FlatImage) (h : HeaderView) → Tells h flat → IsToldThere h flat
+  told_flat None h tells = absurd tells
+  told_flat (Some i) h tells = record { i = i; is = refl; told = tells }
+
+  pub used_shows : (places : List Placed) → ArePlacedRight homes places → (site : SiteId) (name : List ℕ) (used of : ℕ) → ShowsUsedBy site name used of (map step_at places) → ShowsUsed name used of places
+  used_shows places right site name used of shows = told_at places right shows.are
+    where
+      told_at : (places : List Placed) → ArePlacedRight homes places
+          → map step_at places ≡ found site name shows.image ∷ looked_at site shows.image shows.header ∷ map_told site shows.image shows.bits ∷ [] → ShowsUsed name used of places
+      told_at [] right are = absurd (cc)
+      told_at (p ∷ []) right are = absurd (cc)
+      told_at (p ∷ q ∷ []) right are = absurd (cc)
+      told_at (p ∷ q ∷ t ∷ places) (here, (there, (told, right))) are =
+          let one : step_at p ≡ found site name shows.image = cc in
+          let two : step_at q ≡ looked_at site shows.image shows.header = cc in
+          let three : step_at t ≡ map_told site shows.image shows.bits = cc in
+          let none : places ≡ [] = none_taken places cc in
+          let flat = told_flat (image_at (flat_at q) shows.image) shows.header (header_there homes q there site shows.image shows.header two) in
+          record {
+            found = p;
+            look = q;
+            told = t;
+            are = ap (λ rest. p ∷ q ∷ t ∷ rest) none;
+            image = shows.image;
+            named = found_there homes p here site name shows.image one;
+            header = shows.header;
+            flat = flat.i;
+            is = flat.is;
+            tells = flat.told;
+            of_is = subst (λ size. IsObjectCount shows.header.layout size of) (sym flat.told.size) shows.of_is;
+            bits = shows.bits;
+            asks = ap (λ (s : Answered). s.op) three;
+            answered = ap (λ (s : Answered). s.answer) three;
+            used_is = shows.used_is;
+          }

@@ -1,10 +1,9 @@
 -- A request that wants a look at a header has only looked before: so has one that waits for its
 -- look under the lock, and is refused on its way there.
 use Rattle.std.proofs.Common.{◌≡◌, ◌⊎◌, inl, inr, ℕ, ◌+◌, ◌==◌, Bool, true, false, List, [], ◌∷◌, ◌++◌, replicate, Option, Some, None, refl, sym, ◌∙◌, subst}
-use Rattle.std.proofs.lemmas.Bool.{true≢false}
 use Rattle.rbd_admin.proofs.Decided.{limits_or_not}
 use Rattle.rbd_admin.specs.Create.{IsCreate, IsCreatePlan, drawing, making, mapping}
-use Rattle.rbd_admin.specs.Listing.{listing_plan, showing, show_header}
+use Rattle.rbd_admin.specs.Listing.{counting, listing_plan, measuring, showing, show_header}
 use Rattle.rbd_admin.specs.Snap.{copying, putting, remove, remove_listed, snap_plan, take, taking, unmapping}
 use Rattle.rbd_close.specs.Close.{close_plan, done, joining, on_dropped, quiesced, resumed, saying, unwatching}
 use Rattle.rbd_commands.specs.declared.command.Command.{Command}
@@ -13,15 +12,12 @@ use Rattle.rbd_commands.specs.declared.command.Shape.{Shape}
 use Rattle.rbd_commands.specs.declared.refusal.Refusal.{Refusal}
 use Rattle.rbd_header.specs.Header.{context_of, new_header, view_of}
 use Rattle.rbd_header.specs.declared.view.View.{View}
-use Rattle.rbd_kinds.specs.OperationKind.{kind_of}
 use Rattle.rbd_kinds.specs.declared.answer.Answer.{Answer}
 use Rattle.rbd_kinds.specs.declared.answer.Answer.TheVariants as answer
 use Rattle.rbd_kinds.specs.declared.header.HeaderView.{HeaderView}
 use Rattle.rbd_kinds.specs.declared.header.SnapView.{SnapView}
 use Rattle.rbd_kinds.specs.declared.id.SiteId.{SiteId}
 use Rattle.rbd_kinds.specs.declared.layout.Extent.{Extent}
-use Rattle.rbd_kinds.specs.declared.machine.Fed.{Fed}
-use Rattle.rbd_kinds.specs.declared.machine.Fed.TheVariants as fed
 use Rattle.rbd_kinds.specs.declared.reply.Reply.{Reply}
 use Rattle.rbd_kinds.specs.declared.reply.Reply.TheVariants as reply
 use Rattle.rbd_kinds.specs.Header.{snap_named}
@@ -29,106 +25,35 @@ use Rattle.rbd_layout.specs.Asked.{KeepsLimits, layout_of}
 use Rattle.rbd_layout.specs.Pieces.{pieces_of}
 use Rattle.rbd_layout.specs.declared.types.Piece.{Piece}
 use Rattle.rbd_machine.specs.Label.{Label}
-use Rattle.rbd_machine.specs.Path.{Answered, IsWalk}
-use Rattle.rbd_machine.specs.Plan.{Plan, Ask, Await, Note, Return, Goto, Standing, settled, without_labels}
-use Rattle.rbd_machine.specs.Refused.{AreLooks, only_looks, refuses_none}
+use Rattle.rbd_machine.specs.Path.{Answered}
+use Rattle.rbd_machine.specs.Plan.{Plan, Return, Standing, without_labels}
+use Rattle.rbd_machine.specs.Refused.{AreLooks, refuses_none}
 use Rattle.rbd_machine.specs.Steps.{applied, change, holding, joining as change_joining, looked, owned}
-use Rattle.rbd_meaning.specs.Listings.{shown_snaps}
+use Rattle.rbd_machine.specs.declared.seat.Seat.{Seat}
+use Rattle.rbd_meaning.specs.Count.{object_count}
+use Rattle.rbd_meaning.specs.Listings.{shown_snaps, used_among}
 use Rattle.rbd_meaning.specs.Range.{extent_at, out_of_range}
+use Rattle.rbd_meaning.specs.Removals.{image_removal_refuses}
+use Rattle.rbd_meaning.specs.Resizes.{resize_refuses}
+use Rattle.rbd_meaning.specs.Rollbacks.{rollback_refuses}
 use Rattle.rbd_meaning.specs.Snaps.{create_refuses, remove_refuses}
 use Rattle.rbd_meaning.specs.Writes.{write_refuses}
 use Rattle.rbd_parts.specs.Parts.{bytes_for}
 use Rattle.rbd_piece.specs.Gather.{gather}
 use Rattle.rbd_piece.specs.Write.{writing}
+use Rattle.rbd_discard.specs.Discard.{discard_plan, zero}
+use Rattle.rbd_remove.specs.Remove.{holding_it, joining_its_line, looked_at_it, remove as remove_all, remove_image, remove_owned, remove_plan, unless_watched}
 use Rattle.rbd_request.specs.Read.{IsReadOf, closing, gathering, looking, on_closing, pass, reading, viewing}
 use Rattle.rbd_request.specs.Seen.{Seen, seen_at}
 use Rattle.rbd_request.specs.Write.{put, write, write_pieces, write_plan}
-use Rattle.rbd_requests.specs.Served.{IsPlanFor, Writes, Reads, Creates, Lists, Snaps, Closes}
+use Rattle.rbd_resize.specs.Resize.{resize_plan, set_size}
+use Rattle.rbd_resize.specs.Rollback.{roll_back_to, rollback_plan}
+use Rattle.rbd_requests.specs.Served.{IsPlanFor, Writes, Discards, Reads, Creates, Lists, Snaps, Resizes, Rollbacks, Removes, Closes}
 use Rattle.rbd_session.specs.Session.{is_look_at, kind_asked}
 use Rattle.rbd_world.specs.Sound.{IsLedTo}
-use Rattle.rbd_replies.proofs.PlanSteps.{at_bits, at_bytes, at_done, at_drawn, at_either, at_gone, at_header, at_id, at_names, at_not_there, at_snap, at_unless}
-
--- ---- looks come first
-
--- it looks at no header any more
-abbrev NoLook : Plan → Type 0
-NoLook (Ask site why o next) = ((s : SiteId) → is_look_at s (Some (site, kind_of o)) ≡ false) × ((a : Answer) → NoLook (next a))
-NoLook (Await wait next) = NoLook next
-NoLook (Note site image event next) = NoLook next
-NoLook (Return r) = Unit {0}
-NoLook (Goto label) = ⊥
-
-abbrev OneOf : Bool → (one other : Type 0) → Type 0
-OneOf true one other = one
-OneOf false one other = other
-
--- behind an operation that doesn't only look
-abbrev LooksFirst : Plan → Type 0
-LooksFirst (Ask site why o next) = OneOf (only_looks o) ((a : Answer) → LooksFirst (next a)) ((a : Answer) → NoLook (next a))
-LooksFirst (Await wait next) = LooksFirst next
-LooksFirst (Note site image event next) = LooksFirst next
-LooksFirst (Return r) = Unit {0}
-LooksFirst (Goto label) = Unit {0}
-
-no_more : (r : Reply) → NoLook (Return r)
-no_more r = tt
-
-ends : (r : Reply) → LooksFirst (Return r)
-ends r = tt
-
--- ---- along a walk
-
-wants_none : (s : SiteId) (plan : Plan) → NoLook plan → is_look_at s (kind_asked plan) ≡ true → ⊥
-wants_none s (Ask site why o next) none wants = true≢false (sym wants ∙ none.0 s)
-wants_none s (Await wait next) none wants = cc
-wants_none s (Note site image event next) none wants = cc
-wants_none s (Return r) none wants = cc
-wants_none s (Goto label) none wants = none
-
-module _ (labels : Label → Plan) (each : (label : Label) → LooksFirst (labels label)) (s : SiteId) where
-  settled_none : (plan : Plan) → NoLook plan → NoLook (settled labels plan)
-  settled_none (Ask site why o next) none = none
-  settled_none (Await wait next) none = none
-  settled_none (Note site image event next) none = none
-  settled_none (Return r) none = none
-  settled_none (Goto label) none = absurd none
-
-  settled_first : (plan : Plan) → LooksFirst plan → LooksFirst (settled labels plan)
-  settled_first (Ask site why o next) first = first
-  settled_first (Await wait next) first = first
-  settled_first (Note site image event next) first = first
-  settled_first (Return r) first = first
-  settled_first (Goto label) first = each label
-
-  never_again : (feds : List Fed) (plan : Plan) (steps : List Answered) (last : Plan) → NoLook plan → IsWalk labels plan feds steps last → is_look_at s (kind_asked last) ≡ true → ⊥
-  never_again [] plan steps last none (nothing, same) wants = wants_none s plan none (subst (λ p. is_look_at s (kind_asked p) ≡ true) same wants)
-  never_again (fed.Answer a ∷ more) (Ask site why o next) steps last none (first, walk) wants = never_again more (settled labels (next a)) first.rest last (settled_none (next a) (none.1 a)) walk wants
-  never_again (fed.Passed ∷ more) (Ask site why o next) steps last none walk wants = walk
-  never_again (fed.Passed ∷ more) (Await wait next) steps last none walk wants = never_again more (settled labels next) steps last (settled_none next none) walk wants
-  never_again (fed.Answer a ∷ more) (Await wait next) steps last none walk wants = walk
-  never_again (fed.Passed ∷ more) (Note site image event next) steps last none walk wants = never_again more (settled labels next) steps last (settled_none next none) walk wants
-  never_again (fed.Answer a ∷ more) (Note site image event next) steps last none walk wants = walk
-  never_again (f ∷ more) (Return r) steps last none walk wants = walk
-  never_again (f ∷ more) (Goto label) steps last none walk wants = walk
-
-  looks_before : (feds : List Fed) (plan : Plan) (steps : List Answered) (last : Plan) → LooksFirst plan → IsWalk labels plan feds steps last → is_look_at s (kind_asked last) ≡ true → AreLooks steps
-  looks_before [] plan steps last firsts (nothing, same) wants = subst AreLooks (sym nothing) tt
-  looks_before (fed.Answer a ∷ more) (Ask site why o next) steps last firsts (first, walk) wants =
-      by (only_looks o) refl firsts
-      (λ then. looks_before more (settled labels (next a)) first.rest last (settled_first (next a) then) walk wants)
-      (λ none. never_again more (settled labels (next a)) first.rest last (settled_none (next a) none) walk wants)
-    where
-      by : (b : Bool) → only_looks o ≡ b → OneOf b ((t : Answer) → LooksFirst (next t)) ((t : Answer) → NoLook (next t))
-          → (LooksFirst (next a) → AreLooks first.rest) → (NoLook (next a) → ⊥) → AreLooks steps
-      by true look then rest never = subst AreLooks (sym first.is) (look, rest (then a))
-      by false look none rest never = absurd (never (none a))
-  looks_before (fed.Passed ∷ more) (Ask site why o next) steps last firsts walk wants = absurd walk
-  looks_before (fed.Passed ∷ more) (Await wait next) steps last firsts walk wants = looks_before more (settled labels next) steps last (settled_first next firsts) walk wants
-  looks_before (fed.Answer a ∷ more) (Await wait next) steps last firsts walk wants = absurd walk
-  looks_before (fed.Passed ∷ more) (Note site image event next) steps last firsts walk wants = looks_before more (settled labels next) steps last (settled_first next firsts) walk wants
-  looks_before (fed.Answer a ∷ more) (Note site image event next) steps last firsts walk wants = absurd walk
-  looks_before (f ∷ more) (Return r) steps last firsts walk wants = absurd walk
-  looks_before (f ∷ more) (Goto label) steps last firsts walk wants = absurd walk
+use Rattle.rbd_replies.proofs.LooksFirst.{LooksFirst, NoLook, ends, looks_before, no_more, none_first}
+use Rattle.rbd_replies.proofs.NoLooks.{no_look_remove, no_look_rollback, no_look_set_size, no_look_zeroing}
+use Rattle.rbd_replies.proofs.PlanSteps.{at_bits, at_bytes, at_done, at_drawn, at_either, at_gone, at_header, at_id, at_names, at_not_there, at_renamed, at_snap, at_unless, at_watchers}
 
 -- ---- changes
 
@@ -149,10 +74,7 @@ no_look_pieces (p ∷ pieces) site image h from bytes =
     )
 
 first_pieces : (pieces : List Piece) (site : SiteId) (image : ℕ) (h : HeaderView) (from : ℕ) (bytes : List ℕ) → LooksFirst (write_pieces site image h from bytes pieces (applied site image))
-first_pieces [] site image h from bytes = tt
-first_pieces (p ∷ pieces) site image h from bytes =
-    let rest = write_pieces site image h from bytes pieces (applied site image) in
-    at_done LooksFirst ends (writing site image (context_of h) p (bytes_for p.parts from bytes) rest) (at_done NoLook no_more rest (no_look_pieces pieces site image h from bytes))
+first_pieces pieces site image h from bytes = none_first (write_pieces site image h from bytes pieces (applied site image)) (no_look_pieces pieces site image h from bytes)
 
 first_write : (site : SiteId) (name : List ℕ) (from : ℕ) (bytes : List ℕ) → LooksFirst (write site name from bytes)
 first_write site name from bytes =
@@ -178,6 +100,45 @@ first_snap site (command.SnapCreate image snap) = first_change site image true (
 first_snap site (command.SnapRemove image snap) =
     first_change site image true (remove_refuses snap) (remove site snap) (λ i h. first_removal site snap i (snap_named h.snaps snap))
 first_snap site _ = tt
+
+-- ---- discard, resize, snap rollback
+
+first_discard : (site : SiteId) (c : Command) → LooksFirst (discard_plan site c)
+first_discard site (command.Discard image at len) =
+    let e : Extent = record { at = at; len = len } in
+    first_change site image false (write_refuses e) (zero site e) (λ i h. none_first (zero site e i h) (no_look_zeroing site e i h))
+first_discard site _ = tt
+
+first_resize : (site : SiteId) (c : Command) → LooksFirst (resize_plan site c)
+first_resize site (command.Resize image size) =
+    first_change site image true (resize_refuses size) (set_size site size) (λ i h. none_first (set_size site size i h) (no_look_set_size site size i h))
+first_resize site _ = tt
+
+first_rollback : (site : SiteId) (c : Command) → LooksFirst (rollback_plan site c)
+first_rollback site (command.SnapRollback image snap) =
+    first_change site image true (rollback_refuses snap) (roll_back_to site snap)
+    (λ i h. none_first (roll_back_to site snap i h) (no_look_rollback site snap i h (snap_named h.snaps snap)))
+first_rollback site _ = tt
+
+-- ---- rm
+
+first_owned : (site : SiteId) (session image : ℕ) (h : HeaderView) → LooksFirst (remove_owned site session image h)
+first_owned site session image h =
+    let removing : Plan = remove_all site image h (Return reply.Done) in
+    at_watchers LooksFirst ends session removing (none_first removing (no_look_remove site image h (Return reply.Done) tt))
+
+first_remove_image : (site : SiteId) (session : ℕ) (name : List ℕ) → LooksFirst (remove_image site session name)
+first_remove_image site session name =
+    at_id LooksFirst ends (joining_its_line site session) (λ image.
+    at_header LooksFirst ends (looked_at_it site session image) (λ h.
+    at_unless LooksFirst ends (image_removal_refuses h) (unless_watched site session image (holding_it site session image))
+    (at_watchers LooksFirst ends session (holding_it site session image)
+    (at_header LooksFirst ends (owned image_removal_refuses (remove_owned site session) image)
+    (λ own. at_unless LooksFirst ends (image_removal_refuses own) (remove_owned site session image own) (first_owned site session image own))))))
+
+first_remove : (site : SiteId) (session : ℕ) (c : Command) → LooksFirst (remove_plan site session c)
+first_remove site session (command.Remove image) = first_remove_image site session image
+first_remove site session _ = tt
 
 -- ---- create
 
@@ -227,6 +188,11 @@ first_listing : (site : SiteId) (c : Command) → LooksFirst (listing_plan site 
 first_listing site command.List = at_names LooksFirst ends (λ names. Return (reply.Names names)) (λ names. tt)
 first_listing site (command.Info image) = first_show_header site image reply.Info
 first_listing site (command.SnapList image) = first_show_header site image shown_snaps
+first_listing site (command.Used image) =
+    at_id LooksFirst ends (measuring site) (λ i.
+    at_header LooksFirst ends (λ h. counting site i (object_count h.layout h.size))
+    (λ h. at_bits LooksFirst ends (λ bits. Return (reply.Used (used_among (object_count h.layout h.size) bits) (object_count h.layout h.size))) (λ bits. tt)))
+first_listing site (command.Rename from to) = at_renamed NoLook no_more
 first_listing site _ = tt
 
 -- ---- close, quiesce, resume, tell
@@ -258,15 +224,19 @@ first_read home (command.Read name snap at len) s is =
     subst LookFirst (sym is) (one, λ label. one)
 first_read home _ s is = absurd is
 
-plan_looks : (home : SiteId) (c : Command) (s : Standing) → IsPlanFor home c s → LookFirst s
-plan_looks home c s (Writes is at_plan) = from_plan (write_plan home c) s at_plan (first_write_plan home c)
-plan_looks home c s (Reads is) = first_read home c s is
-plan_looks home c s (Creates is at_plan) = from_plan s.plan s at_plan (first_create home c s.plan is)
-plan_looks home c s (Lists is at_plan) = from_plan (listing_plan home c) s at_plan (first_listing home c)
-plan_looks home c s (Snaps is at_plan) = from_plan (snap_plan home c) s at_plan (first_snap home c)
-plan_looks home c s (Closes is at_plan) = from_plan (close_plan home c) s at_plan (first_close home c)
+plan_looks : (seat : Seat) (c : Command) (s : Standing) → IsPlanFor seat c s → LookFirst s
+plan_looks seat c s (Writes is at_plan) = from_plan (write_plan seat.home c) s at_plan (first_write_plan seat.home c)
+plan_looks seat c s (Discards is at_plan) = from_plan (discard_plan seat.home c) s at_plan (first_discard seat.home c)
+plan_looks seat c s (Reads is) = first_read seat.home c s is
+plan_looks seat c s (Creates is at_plan) = from_plan s.plan s at_plan (first_create seat.home c s.plan is)
+plan_looks seat c s (Lists is at_plan) = from_plan (listing_plan seat.home c) s at_plan (first_listing seat.home c)
+plan_looks seat c s (Snaps is at_plan) = from_plan (snap_plan seat.home c) s at_plan (first_snap seat.home c)
+plan_looks seat c s (Resizes is at_plan) = from_plan (resize_plan seat.home c) s at_plan (first_resize seat.home c)
+plan_looks seat c s (Rollbacks is at_plan) = from_plan (rollback_plan seat.home c) s at_plan (first_rollback seat.home c)
+plan_looks seat c s (Removes is at_plan) = from_plan (remove_plan seat.home seat.session c) s at_plan (first_remove seat.home seat.session c)
+plan_looks seat c s (Closes is at_plan) = from_plan (close_plan seat.home c) s at_plan (first_close seat.home c)
 
-pub led_to_look : (home : SiteId) (c : Command) (steps : List Answered) (last : Plan) → IsLedTo home c steps last → (s : SiteId) → is_look_at s (kind_asked last) ≡ true → AreLooks steps
-led_to_look home c steps last is s wants =
-    let first = plan_looks home c is.start is.plan in
+pub led_to_look : (seat : Seat) (c : Command) (steps : List Answered) (last : Plan) → IsLedTo seat c steps last → (s : SiteId) → is_look_at s (kind_asked last) ≡ true → AreLooks steps
+led_to_look seat c steps last is s wants =
+    let first = plan_looks seat c is.start is.plan in
     looks_before is.start.labels first.1 s is.feds is.start.plan steps last first.0 is.walk wants

@@ -1,8 +1,10 @@
 -- What was done to an image was its owner's: who knows its header may change it, and the header
--- that is known is there. An image's map is made before its header, by who drew its id.
-use Rattle.std.proofs.Common.{◌≡◌, ◌⊎◌, inl, inr, ℕ, ◌==◌, ◌&&◌, cond, Bool, true, false, List, ◌∷◌, Option, Some, None, refl, sym, ap, ◌∙◌, subst}
+-- that is known is there. An image's map is made before its header, by who drew its id, and what is
+-- left of an image goes behind its header, by who removed that.
+use Rattle.std.proofs.Common.{◌≡◌, ◌⊎◌, inl, inr, ℕ, ◌==◌, ◌&&◌, cond, Bool, true, false, List, ◌∷◌, Option, Some, None, refl, sym, ap, ◌∙◌, subst, arith}
 use Rattle.std.specs.Prelude.{IsFalse}
 use Rattle.std.proofs.lemmas.Bool.{true≢false, and_parts, eqb-true}
+use Rattle.std.proofs.lemmas.Bool.Decides.{nat_tests}
 use Rattle.rbd_kinds.specs.declared.answer.Answer.TheVariants as answer
 use Rattle.rbd_kinds.specs.declared.data_op.DataOp.{DataOp}
 use Rattle.rbd_kinds.specs.declared.data_op.DataOp.TheVariants as object
@@ -17,16 +19,16 @@ use Rattle.rbd_kinds.specs.declared.operation.Op.{Op}
 use Rattle.rbd_kinds.specs.declared.operation.Op.TheVariants as op
 use Rattle.rbd_kinds.specs.declared.reply.Reply.{Reply}
 use Rattle.rbd_machine.specs.Knowledge.{Knowledge}
-use Rattle.rbd_machine.specs.Permits.{OwnsBy, Permits, PermitsOnHeader, PermitsOnMap, PermitsOnObject}
+use Rattle.rbd_machine.specs.Permits.{IsLeftOver, MayMakeMap, OwnsBy, Permits, PermitsOnHeader, PermitsOnMap, PermitsOnObject}
 use Rattle.rbd_rely.proofs.Headers.{owned_there}
 use Rattle.rbd_rely.specs.Truth.{IsTrueAt}
 use Rattle.rbd_site.specs.Records.{Records}
 use Rattle.rbd_site.specs.Step.{answer_served, answer_to, is_fenced}
-use Rattle.rbd_stands.specs.Owned.{HasLock, IsOwner, changes_data, changes_header, changes_image, changes_map, was_done}
+use Rattle.rbd_stands.specs.Owned.{IsOwner, changes_data, changes_header, changes_image, changes_map, was_done}
 use Rattle.rbd_world.specs.Run.{Happening, Did, Operation, records_after}
 use Rattle.rbd_world.specs.Sound.{IsDone, IsRight}
 use Rattle.rbd_replies.proofs.PlacedRight.{done_of}
-use Rattle.rbd_replies.specs.Fenced.{MakesMap}
+use Rattle.rbd_replies.specs.Fenced.{MakesMap, OwnsOrNone, RemovesRest, removes_part}
 
 -- ---- the header is there
 
@@ -34,11 +36,16 @@ record IsHere (there : Option HeaderView) : Type 0 where
   view : HeaderView
   is : there ≡ Some view
 
+turned : (i image : ℕ) → (i == image) ≡ true → (image == i) ≡ true
+turned i image same = grind (arith, nat_tests)
+
 module _ (s : SiteId) (r : Records) (me : Instance) (k : Knowledge) (truth : IsTrueAt s r me k) (free : IsFalse (is_fenced r me)) where
   owned_here : (image : ℕ) (condition : (alone : Bool) → HeaderView → Type 0) → OwnsBy k s image condition → IsHere (r.headers image)
   owned_here image condition owns = let there = owned_there s r me k image condition truth free owns in record { view = there.view; is = there.is }
 
   header_here : (image : ℕ) (o : HeaderOp) → PermitsOnHeader k s image o → changes_header o ≡ true → IsHere (r.headers image)
+  header_here image (header.SetSize to) permits changes = owned_here image _ permits
+  header_here image header.Remove permits changes = owned_here image _ permits
   header_here image (header.SnapAdd name) permits changes = owned_here image _ permits
   header_here image (header.SnapRemove snap) permits changes = owned_here image _ permits
   header_here image header.Get permits changes = cc
@@ -52,34 +59,53 @@ module _ (s : SiteId) (r : Records) (me : Instance) (k : Knowledge) (truth : IsT
   header_here image (header.Notify kind) permits changes = cc
   header_here image _ permits changes = elim permits [ ]
 
-  object_here : (image number : ℕ) (o : DataOp) → PermitsOnObject k s image number o → changes_data o ≡ true → IsHere (r.headers image)
-  object_here image number (object.Write context must parts bytes) permits changes = owned_here image _ permits
-  object_here image number (object.Read snap parts) permits changes = cc
-  object_here image number _ permits changes = elim permits [ ]
-
   at_image : (i image : ℕ) (changes : Bool) → ((i == image) && changes) ≡ true → (changes ≡ true → IsHere (r.headers image)) → IsHere (r.headers i)
   at_image i image changes both here =
       let parts = and_parts (i == image) changes both in
       subst (λ n. IsHere (r.headers n)) (sym (eqb-true i image parts.0)) (here parts.1)
 
-  -- there, or the image's map is made
-  abbrev IsHereOrNew : (image : ℕ) → Op → Type 0
-  IsHereOrNew image o = IsHere (r.headers image) ⊎ MakesMap image o r
+  -- there, or the image's map is made, or what is left of it goes
+  abbrev IsHereOrNot : (image : ℕ) → Op → Type 0
+  IsHereOrNot image o = IsHere (r.headers image) ⊎ (MakesMap image o r ⊎ RemovesRest image o r)
 
-  map_here : (i image : ℕ) (o : MapOp) → PermitsOnMap k s image o → ((i == image) && changes_map o) ≡ true → IsHereOrNew i (op.Map image o)
-  map_here i image (states.Resize count) permits changes =
-      inr
-      (subst (λ n. MakesMap n (op.Map image (states.Resize count)) r) (sym (eqb-true i image (and_parts (i == image) true changes).0))
-      (record { count = count; is = refl; headless = (truth.drawn image permits.drawn).header }))
+  -- the image whose header it removed has none
+  rest_goes : (i image : ℕ) (o : Op) → (i == image) ≡ true → removes_part i o ≡ true → IsLeftOver k s image → RemovesRest i o r
+  rest_goes i image o same is left = record { is = is; headless = subst (λ n. r.headers n ≡ None) (sym (eqb-true i image same)) (truth.gone image left.gone).header }
+
+  object_here : (i image number : ℕ) (o : DataOp) → PermitsOnObject k s image number o → ((i == image) && changes_data o) ≡ true → IsHereOrNot i (op.Data image number o)
+  object_here i image number (object.Read snap parts) permits changes = absurd (true≢false (sym (and_parts (i == image) false changes).1))
+  object_here i image number (object.Write context must parts bytes) permits changes = inl (at_image i image true changes (λ changed. owned_here image _ permits))
+  object_here i image number (object.WriteFull context bytes) permits changes = inl (at_image i image true changes (λ changed. owned_here image _ permits))
+  object_here i image number (object.Zero context must parts) permits changes = inl (at_image i image true changes (λ changed. owned_here image _ permits))
+  object_here i image number (object.Empty context) permits changes = inl (at_image i image true changes (λ changed. owned_here image _ permits))
+  object_here i image number (object.Remove context) (inl left) changes =
+      let same = (and_parts (i == image) true changes).0 in
+      inr (inr (rest_goes i image (op.Data image number (object.Remove context)) same (turned i image same) left))
+  object_here i image number (object.Remove context) (inr owns) changes = inl (at_image i image true changes (λ changed. owned_here image _ owns))
+  object_here i image number _ permits changes = elim permits [ ]
+
+  map_made : (i image count : ℕ) → (i == image) ≡ true → MayMakeMap k s image count → MakesMap i (op.Map image (states.Resize count)) r
+  map_made i image count same makes =
+      subst (λ n. MakesMap n (op.Map image (states.Resize count)) r) (sym (eqb-true i image same)) (record { count = count; is = refl; headless = (truth.drawn image makes.drawn).header })
+
+  map_here : (i image : ℕ) (o : MapOp) → PermitsOnMap k s image o → ((i == image) && changes_map o) ≡ true → IsHereOrNot i (op.Map image o)
+  map_here i image (states.Resize count) (inl makes) changes = inr (inl (map_made i image count (and_parts (i == image) true changes).0 makes))
+  map_here i image (states.Resize count) (inr owns) changes = inl (at_image i image true changes (λ changed. owned_here image _ owns))
   map_here i image (states.Get view) permits changes = absurd (true≢false (sym (and_parts (i == image) false changes).1))
   map_here i image (states.Put (Some snap) bits) permits changes = inl (at_image i image true changes (λ changed. owned_here image _ permits))
   map_here i image (states.Set None number state) permits changes = inl (at_image i image true changes (λ changed. owned_here image _ permits))
-  map_here i image (states.Remove (Some snap)) permits changes = inl (at_image i image true changes (λ changed. owned_here image _ permits))
+  map_here i image (states.Remove None) (left, there) changes =
+      let same = (and_parts (i == image) true changes).0 in
+      inr (inr (rest_goes i image (op.Map image (states.Remove None)) same (turned i image same) left))
+  map_here i image (states.Remove (Some snap)) (inl left) changes =
+      let same = (and_parts (i == image) true changes).0 in
+      inr (inr (rest_goes i image (op.Map image (states.Remove (Some snap))) same (turned i image same) left))
+  map_here i image (states.Remove (Some snap)) (inr owns) changes = inl (at_image i image true changes (λ changed. owned_here image _ owns))
   map_here i image _ permits changes = elim permits [ ]
 
-  image_here : (i : ℕ) (o : Op) → Permits k s o → changes_image i o ≡ true → IsHereOrNew i o
+  image_here : (i : ℕ) (o : Op) → Permits k s o → changes_image i o ≡ true → IsHereOrNot i o
   image_here i (op.Header image o) permits changes = inl (at_image i image (changes_header o) changes (header_here image o permits))
-  image_here i (op.Data image number o) permits changes = inl (at_image i image (changes_data o) changes (object_here image number o permits))
+  image_here i (op.Data image number o) permits changes = object_here i image number o permits changes
   image_here i (op.Map image o) permits changes = map_here i image o permits changes
   image_here i (op.Directory o) permits changes = cc
   image_here i (op.BlockAdd instance) permits changes = cc
@@ -99,17 +125,16 @@ module _ (homes : ℕ → SiteId) (run : List Happening) (o : Operation) (reply 
   it : IsDone o run
   it = done_of homes o reply run right.1
 
-  pub owner_changes : changes_image image o.op ≡ true → was_done o.answer ≡ true
-      → HasLock image o.instance (records_after o.site run) ⊎ MakesMap image o.op (records_after o.site run)
+  pub owner_changes : changes_image image o.op ≡ true → was_done o.answer ≡ true → OwnsOrNone image o.instance o.op (records_after o.site run)
   owner_changes changes was =
       let free = free_by_change (records_after o.site run) o.instance o.op (sym (ap was_done it.answer) ∙ was) in
       by (image_here o.site (records_after o.site run) o.instance it.knows it.truth free image o.op it.permits changes)
     where
-      by : IsHere ((records_after o.site run).headers image) ⊎ MakesMap image o.op (records_after o.site run)
-          → HasLock image o.instance (records_after o.site run) ⊎ MakesMap image o.op (records_after o.site run)
+      by : IsHere ((records_after o.site run).headers image) ⊎ (MakesMap image o.op (records_after o.site run) ⊎ RemovesRest image o.op (records_after o.site run))
+          → OwnsOrNone image o.instance o.op (records_after o.site run)
       by (inl here) =
           inl (record { header = here.view; there = here.is; owner = subst (λ there. IsOwner there o.instance) here.is (it.owned.change image changes was) })
-      by (inr makes) = inr makes
+      by (inr other) = inr other
 
   pub owner_was_fenced : (owner : Instance) → o.op ≡ op.Header image (header.LockBreak owner) → o.answer ≡ answer.Done → is_fenced (records_after o.site run) owner ≡ true
   owner_was_fenced owner breaks was = it.owned.broken image owner breaks was

@@ -1,5 +1,5 @@
 -- A walk of a command's plan keeps to the command's bound, whether it has ended or not.
-use Rattle.std.proofs.Common.{◌≡◌, ℕ, ◌+◌, ◌≤◌, zero, suc, List, [], ◌∷◌, ◌++◌, length, Option, Some, refl, sym, ap, ◌∙◌, subst, append_assoc, arith}
+use Rattle.std.proofs.Common.{◌≡◌, ℕ, ◌+◌, ◌≤◌, zero, suc, true, false, List, [], ◌∷◌, ◌++◌, length, Option, Some, refl, sym, ap, ◌∙◌, subst, append_assoc, arith}
 use Rattle.std.proofs.lemmas.List.{length-append}
 use Rattle.rbd_commands.specs.declared.command.Command.{Command}
 use Rattle.rbd_commands.specs.declared.command.Command.TheVariants as command
@@ -14,12 +14,13 @@ use Rattle.rbd_machine.specs.Passes.{joined}
 use Rattle.rbd_machine.specs.Path.{Answered, IsWalk}
 use Rattle.rbd_machine.specs.Plan.{Plan, Ask, Await, Note, Return, Goto, Standing, settled, without_labels}
 use Rattle.rbd_machine.specs.Refused.{AreGiven, IsGiven}
+use Rattle.rbd_machine.specs.declared.seat.Seat.{Seat}
 use Rattle.rbd_meaning.specs.Reads.{AreRead, SeeOthers, SeesAnother}
 use Rattle.rbd_request.proofs.Passes.{last_pass}
 use Rattle.rbd_request.specs.Read.{IsReadOf, pass, read_labels}
-use Rattle.rbd_requests.proofs.Bounded.{command_is_bounded}
-use Rattle.rbd_requests.specs.Served.{IsPlanFor, Writes, Reads, Creates, Lists, Snaps, Closes}
-use Rattle.rbd_requests.specs.Touched.{AsksAtMost, HasAtMost, bound_of, touched_by}
+use Rattle.rbd_requests.proofs.Bounded.{by_told, command_is_bounded}
+use Rattle.rbd_requests.specs.Served.{IsPlanFor, Writes, Discards, Reads, Creates, Lists, Snaps, Resizes, Rollbacks, Removes, Closes}
+use Rattle.rbd_requests.specs.Touched.{AsksAtMost, HasAtMost, bound_of, is_bounded_by_extent, told_by, touched_by}
 use Rattle.rbd_replies.specs.Bounds.{HaveAtMost, KeepsBound, KeepsPasses}
 use Rattle.rbd_request.proofs.Meant.{given_behind}
 
@@ -91,35 +92,50 @@ module _ (site : SiteId) (name : List ℕ) (snap : Option (List ℕ)) (e : Exten
 -- ---- any command
 
 -- but for a read no command goes to a label
-unlabelled : (home : SiteId) (c : Command) (s : Standing) → IsPlanFor home c s → (IsReadOf home c s → ⊥) → s ≡ without_labels s.plan
-unlabelled home c s (Writes is at_plan) other = at_plan ∙ ap (λ (x : Standing). without_labels x.plan) (sym at_plan)
-unlabelled home c s (Reads is) other = absurd (other is)
-unlabelled home c s (Creates is at_plan) other = at_plan
-unlabelled home c s (Lists is at_plan) other = at_plan ∙ ap (λ (x : Standing). without_labels x.plan) (sym at_plan)
-unlabelled home c s (Snaps is at_plan) other = at_plan ∙ ap (λ (x : Standing). without_labels x.plan) (sym at_plan)
-unlabelled home c s (Closes is at_plan) other = at_plan ∙ ap (λ (x : Standing). without_labels x.plan) (sym at_plan)
+unlabelled : (seat : Seat) (c : Command) (s : Standing) → IsPlanFor seat c s → (IsReadOf seat.home c s → ⊥) → s ≡ without_labels s.plan
+unlabelled seat c s (Writes is at_plan) other = at_plan ∙ ap (λ (x : Standing). without_labels x.plan) (sym at_plan)
+unlabelled seat c s (Discards is at_plan) other = at_plan ∙ ap (λ (x : Standing). without_labels x.plan) (sym at_plan)
+unlabelled seat c s (Reads is) other = absurd (other is)
+unlabelled seat c s (Creates is at_plan) other = at_plan
+unlabelled seat c s (Lists is at_plan) other = at_plan ∙ ap (λ (x : Standing). without_labels x.plan) (sym at_plan)
+unlabelled seat c s (Snaps is at_plan) other = at_plan ∙ ap (λ (x : Standing). without_labels x.plan) (sym at_plan)
+unlabelled seat c s (Resizes is at_plan) other = at_plan ∙ ap (λ (x : Standing). without_labels x.plan) (sym at_plan)
+unlabelled seat c s (Rollbacks is at_plan) other = at_plan ∙ ap (λ (x : Standing). without_labels x.plan) (sym at_plan)
+unlabelled seat c s (Removes is at_plan) other = at_plan ∙ ap (λ (x : Standing). without_labels x.plan) (sym at_plan)
+unlabelled seat c s (Closes is at_plan) other = at_plan ∙ ap (λ (x : Standing). without_labels x.plan) (sym at_plan)
 
-is_that_read : (home : SiteId) (name : List ℕ) (snap : Option (List ℕ)) (at len : ℕ) (s : Standing) → IsPlanFor home (command.Read name snap at len) s → IsReadOf home (command.Read name snap at len) s
-is_that_read home name snap at len s (Writes is at_plan) = cc
-is_that_read home name snap at len s (Reads is) = is
-is_that_read home name snap at len s (Creates is at_plan) = absurd is
-is_that_read home name snap at len s (Lists is at_plan) = cc
-is_that_read home name snap at len s (Snaps is at_plan) = cc
-is_that_read home name snap at len s (Closes is at_plan) = cc
+is_that_read : (seat : Seat) (name : List ℕ) (snap : Option (List ℕ)) (at len : ℕ) (s : Standing) → IsPlanFor seat (command.Read name snap at len) s → IsReadOf seat.home (command.Read name snap at len) s
+is_that_read seat name snap at len s (Writes is at_plan) = cc
+is_that_read seat name snap at len s (Discards is at_plan) = cc
+is_that_read seat name snap at len s (Reads is) = is
+is_that_read seat name snap at len s (Creates is at_plan) = absurd is
+is_that_read seat name snap at len s (Lists is at_plan) = cc
+is_that_read seat name snap at len s (Snaps is at_plan) = cc
+is_that_read seat name snap at len s (Resizes is at_plan) = cc
+is_that_read seat name snap at len s (Rollbacks is at_plan) = cc
+is_that_read seat name snap at len s (Removes is at_plan) = cc
+is_that_read seat name snap at len s (Closes is at_plan) = cc
 
-module _ (home : SiteId) (c : Command) (s : Standing) (plan : IsPlanFor home c s) (most : ℕ) (few : HasAtMost most (touched_by c))
+module _ (seat : Seat) (c : Command) (s : Standing) (plan : IsPlanFor seat c s) (most : ℕ) (few : HasAtMost most (touched_by c))
     (feds : List Fed) (steps : List Answered) (last : Plan) (given : AreGiven steps) (walk : IsWalk s.labels s.plan feds steps last) where
-  in_one_pass : (IsReadOf home c s → ⊥) → length steps ≤ bound_of c most
-  in_one_pass other =
-      walk_within feds s.plan (bound_of c most) steps last (command_is_bounded home c s most plan few) given
-      (subst (λ l. IsWalk l s.plan feds steps last) (ap (λ (x : Standing). x.labels) (unlabelled home c s plan other)) walk)
+  in_one_pass : is_bounded_by_extent c ≡ true → (IsReadOf seat.home c s → ⊥) → length steps ≤ bound_of c most
+  in_one_pass bounded other =
+      walk_within feds s.plan (bound_of c most) steps last (command_is_bounded seat c s most plan bounded few) given
+      (subst (λ l. IsWalk l s.plan feds steps last) (ap (λ (x : Standing). x.labels) (unlabelled seat c s plan other)) walk)
 
-pub walk_keeps_bound : (home : SiteId) (c : Command) (s : Standing) → IsPlanFor home c s → (most : ℕ) → HasAtMost most (touched_by c)
-    → (feds : List Fed) (steps : List Answered) (last : Plan) → AreGiven steps → IsWalk s.labels s.plan feds steps last → KeepsBound home c (bound_of c most) steps
-walk_keeps_bound home (command.Read name snap at len) s plan most few feds steps last given walk =
+  as_it_was_told : is_bounded_by_extent c ≡ false → length steps ≤ bound_of c most + told_by c steps
+  as_it_was_told unbounded = by_told seat s feds steps last walk c most unbounded plan
+
+pub walk_keeps_bound : (seat : Seat) (c : Command) (s : Standing) → IsPlanFor seat c s → (most : ℕ) → HasAtMost most (touched_by c)
+    → (feds : List Fed) (steps : List Answered) (last : Plan) → AreGiven steps → IsWalk s.labels s.plan feds steps last → KeepsBound seat.home c (bound_of c most) steps
+walk_keeps_bound seat (command.Read name snap at len) s plan most few feds steps last given walk =
     let e : Extent = record { at = at; len = len } in
-    let is = is_that_read home name snap at len s plan in
-    read_within home name snap e most few feds steps last
-    (subst (λ (x : Standing). AsksAtMost x.plan (most + 3)) is (command_is_bounded home (command.Read name snap at len) s most plan few)) given
+    let is = is_that_read seat name snap at len s plan in
+    read_within seat.home name snap e most few feds steps last
+    (subst (λ (x : Standing). AsksAtMost x.plan (most + 3)) is (command_is_bounded seat (command.Read name snap at len) s most plan refl few)) given
     (subst (λ (x : Standing). IsWalk x.labels x.plan feds steps last) is walk)
-walk_keeps_bound home c s plan most few feds steps last given walk = in_one_pass home c s plan most few feds steps last given walk (λ read. read)
+walk_keeps_bound seat (command.Resize name size) s plan most few feds steps last given walk = as_it_was_told seat (command.Resize name size) s plan most few feds steps last given walk refl
+walk_keeps_bound seat (command.SnapRollback name snap) s plan most few feds steps last given walk =
+    as_it_was_told seat (command.SnapRollback name snap) s plan most few feds steps last given walk refl
+walk_keeps_bound seat (command.Remove name) s plan most few feds steps last given walk = as_it_was_told seat (command.Remove name) s plan most few feds steps last given walk refl
+walk_keeps_bound seat c s plan most few feds steps last given walk = in_one_pass seat c s plan most few feds steps last given walk refl (λ read. read)

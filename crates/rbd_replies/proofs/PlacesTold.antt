@@ -9,9 +9,9 @@ use Rattle.rbd_kinds.specs.declared.id.SiteId.{SiteId}
 use Rattle.rbd_kinds.specs.declared.operation.Op.TheVariants as op
 use Rattle.rbd_flat.specs.Flat.{id_of, image_at}
 use Rattle.rbd_machine.specs.Path.{Answered, found, looked_at}
-use Rattle.rbd_meaning.specs.Listings.{listed}
+use Rattle.rbd_meaning.specs.Listings.{listed, renamed}
 use Rattle.rbd_registry.specs.Directory.{is_full}
-use Rattle.rbd_site.specs.DirectoryStep.{image_found, name_added}
+use Rattle.rbd_site.specs.DirectoryStep.{image_found, name_added, name_changed}
 use Rattle.rbd_site.specs.Records.{Records}
 use Rattle.rbd_site.specs.Step.{answer_to, answer_served, is_fenced}
 use Rattle.rbd_site.specs.declared.done.DoneOp.TheVariants as done
@@ -83,6 +83,29 @@ free_there homes p right site name image is =
     free_where_added (id_of (flat_at p) name) (is_full (records_at p).directory) ((records_at p).directory.drawn + 1) image
     (ap (λ names. name_added (finmap.get names name) (is_full (records_at p).directory) ((records_at p).directory.drawn + 1)) (sym right.standing.stands.names)
     ∙ served_there homes p right (record { site = site; op = op.Directory (directory.Add name); answer = answer.Id image }) is refl)
+
+-- a name that was changed led to an image, and the other one to none
+record IsChanged (from to : Option ℕ) : Type 0 where
+  image : ℕ
+  was : from ≡ Some image
+  free : to ≡ None
+
+changed_where : (from to : Option ℕ) → name_changed from to ≡ answer.Done → IsChanged from to
+changed_where None to told = absurd (cc)
+changed_where (Some image) None told = record { image = image; was = refl; free = refl }
+changed_where (Some image) (Some other) told = absurd (cc)
+
+pub record IsRenamedThere (from to : List ℕ) (p : Placed) : Type 0 where
+  pub image : ℕ
+  pub named : id_of (flat_at p) from ≡ Some image
+  pub free : id_of (flat_at p) to ≡ None
+
+pub renamed_there : (homes : ℕ → SiteId) (p : Placed) → IsPlacedRight homes p → (site : SiteId) (from to : List ℕ) → step_at p ≡ renamed site from to → IsRenamedThere from to p
+renamed_there homes p right site from to is =
+    let names = right.standing.stands.names in
+    let changed = changed_where (id_of (flat_at p) from) (id_of (flat_at p) to)
+    (ap (λ all. name_changed (finmap.get all from) (finmap.get all to)) (sym names) ∙ served_there homes p right (renamed site from to) is refl) in
+    record { image = changed.image; named = changed.was; free = changed.free }
 
 -- ---- a header
 

@@ -2,18 +2,21 @@
 -- comes next.
 use Rattle.std.proofs.Common.{ℕ, cond, Bool, true, false, List, replicate, Option, Some, None}
 use Rattle.rbd_admin.specs.Create.{on_drawn}
-use Rattle.rbd_admin.specs.Listing.{on_names}
+use Rattle.rbd_admin.specs.Listing.{on_names, on_renamed}
 use Rattle.rbd_admin.specs.Snap.{on_gone, on_snap}
 use Rattle.rbd_commands.specs.declared.refusal.Refusal.{Refusal}
 use Rattle.rbd_kinds.specs.declared.answer.Answer.{Answer}
 use Rattle.rbd_kinds.specs.declared.answer.Answer.TheVariants as answer
 use Rattle.rbd_kinds.specs.declared.header.HeaderView.{HeaderView}
 use Rattle.rbd_kinds.specs.declared.layout.Part.{Part}
+use Rattle.rbd_kinds.specs.declared.operation.Op.{Op}
 use Rattle.rbd_kinds.specs.declared.reply.Reply.{Reply}
 use Rattle.rbd_kinds.specs.Parts.{parts_len}
 use Rattle.rbd_machine.specs.Plan.{Plan, Return}
 use Rattle.rbd_machine.specs.Steps.{not_there, on_done, on_header, on_id, unless, on_bits}
+use Rattle.rbd_meaning.specs.Removals.{may_be_gone, watchers_refuse}
 use Rattle.rbd_piece.specs.Gather.{on_bytes}
+use Rattle.rbd_remove.specs.Remove.{on_watchers, on_gone as removed_or_gone}
 
 module _ (P : Plan → Type 0) (ends : (r : Reply) → P (Return r)) where
   pub at_not_there : (a : Answer) → P (not_there a)
@@ -67,3 +70,17 @@ module _ (P : Plan → Type 0) (ends : (r : Reply) → P (Return r)) where
   pub at_either : (b : Bool) (one other : Plan) → P one → P other → P (cond b one other)
   at_either true one other holds also = holds
   at_either false one other holds also = also
+
+  pub at_renamed : (a : Answer) → P (on_renamed a)
+  at_renamed answer.Done = ends _
+  at_renamed answer.Exists = ends _
+  at_renamed a = at_not_there a
+
+  pub at_watchers : (session : ℕ) (next : Plan) → P next → (a : Answer) → P (on_watchers session next a)
+  at_watchers session next holds (answer.Instances watchers) = at_unless (watchers_refuse session watchers) next holds
+  at_watchers session next holds a = at_not_there a
+
+  pub at_removed : (o : Op) (next : Plan) → P next → (a : Answer) → P (removed_or_gone o next a)
+  at_removed o next holds answer.Done = holds
+  at_removed o next holds answer.Absent = at_either (may_be_gone o) next _ holds (ends _)
+  at_removed o next holds a = at_not_there a

@@ -28,7 +28,7 @@ named_above below most (x ∷ snaps) name s rising is = go (pointwise nat_eq x.n
     go true rest e = subst (λ (t : SnapView). below < t.id) (same_Some x s e) rising.0
     go false rest e = let first : below < x.id = rising.0 in let more : x.id < s.id = rest e in omega arith
 
-named_has_id : (most : ℕ) (snaps : List SnapView) (name : List ℕ) (s : SnapView) → AreRising most snaps → snap_named snaps name ≡ Some s → snap_in snaps s.id ≡ Some s
+pub named_has_id : (most : ℕ) (snaps : List SnapView) (name : List ℕ) (s : SnapView) → AreRising most snaps → snap_named snaps name ≡ Some s → snap_in snaps s.id ≡ Some s
 named_has_id most [] name s rising is = absurd (none-some s is)
 named_has_id most (x ∷ snaps) name s rising is = go (pointwise nat_eq x.name name) (named_has_id most snaps name s (are_rising x.id most snaps rising)) is
   where

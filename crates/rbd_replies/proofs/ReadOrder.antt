@@ -1,5 +1,6 @@
 -- The places of a line stand in order: what was done before one was also done before a later one.
-use Rattle.std.proofs.Common.{◌≡◌, ℕ, cond, Bool, true, false, List, [], ◌∷◌, ◌++◌, refl, ap}
+use Rattle.std.proofs.Common.{◌≡◌, ℕ, cond, Bool, true, false, List, [], ◌∷◌, ◌++◌, Option, refl, sym, ap, ◌∙◌, append_assoc}
+use Rattle.rbd_kinds.specs.declared.reply.Reply.{Reply}
 use Rattle.rbd_world.specs.Run.{Happening, Nothing, Waited, Began, Did, Refused, Trimmed, Expired, Heard, Stopped, Restarted, is_own}
 use Rattle.rbd_replies.specs.Places.{Placed, places_in, places_of}
 
@@ -11,18 +12,30 @@ pub record GoesOn (later earlier : List Happening) : Type 0 where
 at_once : (run : List Happening) → GoesOn run run
 at_once run = record { since = []; is = refl }
 
-one_more : (h : Happening) (later earlier : List Happening) → GoesOn later earlier → GoesOn (h ∷ later) earlier
+pub one_more : (h : Happening) (later earlier : List Happening) → GoesOn later earlier → GoesOn (h ∷ later) earlier
 one_more h later earlier goes = record { since = h ∷ goes.since; is = ap (λ run. h ∷ run) goes.is }
+
+-- the operation of a place was done in a run
+pub record IsBehind (run : List Happening) (p : Placed) : Type 0 where
+  pub reply : Option Reply
+  pub goes : GoesOn run (Did p.done reply ∷ p.before)
+
+-- so it goes on from what was before
+pub goes_on : (run : List Happening) (p : Placed) → IsBehind run p → GoesOn run p.before
+goes_on run p is = record {
+  since = is.goes.since ++ Did p.done is.reply ∷ [];
+  is = is.goes.is ∙ sym (append_assoc is.goes.since (Did p.done is.reply ∷ []) p.before);
+}
 
 -- these places are all in a run
 abbrev AreIn : (run : List Happening) → List Placed → Type 0
 AreIn run [] = Unit {0}
-AreIn run (p ∷ places) = GoesOn run p.before × AreIn run places
+AreIn run (p ∷ places) = IsBehind run p × AreIn run places
 
 -- these places come behind one
 abbrev pub AreBehind : Placed → List Placed → Type 0
 AreBehind p [] = Unit {0}
-AreBehind p (q ∷ places) = GoesOn q.before p.before × AreBehind p places
+AreBehind p (q ∷ places) = IsBehind q.before p × AreBehind p places
 
 abbrev pub AreOrdered : List Placed → Type 0
 AreOrdered [] = Unit {0}
@@ -30,13 +43,13 @@ AreOrdered (p ∷ places) = AreBehind p places × AreOrdered places
 
 in_longer : (h : Happening) (run : List Happening) (places : List Placed) → AreIn run places → AreIn (h ∷ run) places
 in_longer h run [] are = tt
-in_longer h run (p ∷ places) are = (one_more h run p.before are.0, in_longer h run places are.1)
+in_longer h run (p ∷ places) are = (record { reply = are.0.reply; goes = one_more h run _ are.0.goes }, in_longer h run places are.1)
 
 in_both : (run : List Happening) (some others : List Placed) → AreIn run some → AreIn run others → AreIn run (some ++ others)
 in_both run [] others one other = other
 in_both run (p ∷ some) others one other = (one.0, in_both run some others one.1 other)
 
-last_behind : (p q : Placed) (places : List Placed) → AreBehind p places → GoesOn q.before p.before → AreBehind p (places ++ q ∷ [])
+last_behind : (p q : Placed) (places : List Placed) → AreBehind p places → IsBehind q.before p → AreBehind p (places ++ q ∷ [])
 last_behind p q [] are goes = (goes, tt)
 last_behind p q (other ∷ places) are goes = (are.0, last_behind p q places are.1 goes)
 
@@ -65,7 +78,7 @@ one_in line (Restarted who) run = tt
 one_in line (Did o reply) run = by (is_own line o.by)
   where
     by : (b : Bool) → AreIn (Did o reply ∷ run) (cond b (record { before = run; done = o } ∷ []) [])
-    by true = (one_more (Did o reply) run run (at_once run), tt)
+    by true = (record { reply = reply; goes = at_once (Did o reply ∷ run) }, tt)
     by false = tt
 
 all_in : (line : ℕ) (run : List Happening) → AreIn run (places_of line run)
@@ -97,6 +110,6 @@ ordered_back [] back are = are
 ordered_back (p ∷ front) back are = ordered_back front back are.1
 
 -- the last place comes behind each
-pub behind_last : (p last : Placed) (places : List Placed) → AreBehind p (places ++ last ∷ []) → GoesOn last.before p.before
+pub behind_last : (p last : Placed) (places : List Placed) → AreBehind p (places ++ last ∷ []) → IsBehind last.before p
 behind_last p last [] are = are.0
 behind_last p last (q ∷ places) are = behind_last p last places are.1

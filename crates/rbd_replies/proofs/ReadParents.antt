@@ -1,7 +1,7 @@
 -- No view of an image has a parent, at no place of a run that is right: neither head nor snapshot.
 use Rattle.std.proofs.Common.{◌≡◌, ℕ, ◌==◌, cond, Bool, true, false, List, [], ◌∷◌, is_some, Option, Some, None, refl, sym, ap, ◌∙◌, subst}
 use Rattle.std.proofs.lemmas.Option.{none-some, same_Some}
-use Rattle.rbd_header.specs.Header.{is_full, snap_in, with_snap, without_snap}
+use Rattle.rbd_header.specs.Header.{cut, is_full, snap_in, with_size, with_snap, without_snap}
 use Rattle.rbd_kinds.specs.declared.header.HeaderView.{HeaderView}
 use Rattle.rbd_kinds.specs.declared.header_op.HeaderOp.{HeaderOp}
 use Rattle.rbd_kinds.specs.declared.header_op.HeaderOp.TheVariants as header
@@ -50,6 +50,10 @@ module _ (k : Knowledge) (s : SiteId) (me : Instance) (image : ℕ) where
     snap = λ t u is. absurd (none-some u (sym (ap (λ snaps. snap_in snaps t) permits.new.snaps) ∙ is));
   })
   views_then (header.Create view) permits (Some v) was = was
+  views_then (header.SetSize to) permits None was = was
+  views_then (header.SetSize to) permits (Some v) was = alone (with_size to v) (record { head = ap (cut to) (was v refl).head; snap = (was v refl).snap })
+  views_then header.Remove permits None was = was
+  views_then header.Remove permits (Some v) was = λ h is. absurd (none-some h is)
   views_then (header.SnapAdd name) permits None was = was
   views_then (header.SnapAdd name) permits (Some v) was = by (is_some (snap_named v.snaps name)) (is_full v)
     where

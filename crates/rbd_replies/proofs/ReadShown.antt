@@ -29,7 +29,7 @@ use Rattle.rbd_replies.proofs.ReadKept.{header_between}
 use Rattle.rbd_replies.proofs.PlacesTaken.{begin_with}
 use Rattle.rbd_replies.proofs.PlacesTold.{records_at, served_there}
 use Rattle.rbd_replies.proofs.ReadNames.{IsViewOf}
-use Rattle.rbd_replies.proofs.ReadOrder.{AreBehind, AreOrdered, behind_last}
+use Rattle.rbd_replies.proofs.ReadOrder.{AreBehind, AreOrdered, behind_last, goes_on}
 use Rattle.rbd_replies.proofs.ReadPiece.{piece_shown}
 
 -- ---- lists of steps, taken apart
@@ -69,7 +69,7 @@ there_at homes p right home image h is =
 pub within_size : (e : Extent) (size : ℕ) → fits e size ≡ true → e.at + e.len ≤ size
 within_size e size is = grind (arith, nat_tests)
 
-parts_within : (h : HeaderView) (e : Extent) (size object : ℕ) (piece : Piece) → e.at + e.len ≤ size → IsPartsOf h.layout e piece.object piece.parts → ArePartsBelow h size piece.object piece.parts
+pub parts_within : (h : HeaderView) (e : Extent) (size object : ℕ) (piece : Piece) → e.at + e.len ≤ size → IsPartsOf h.layout e piece.object piece.parts → ArePartsBelow h size piece.object piece.parts
 parts_within h e size object piece within are =
     λ k d below.
     let lies = lies_in h.layout e piece.object piece.parts are k d below in
@@ -97,7 +97,7 @@ module _ (homes : ℕ → SiteId) (home : SiteId) (image : ℕ) (h : HeaderView)
   pieces_shown (piece ∷ pieces) [] parts right behind ordered read = elim read [ ]
   pieces_shown (piece ∷ pieces) (p ∷ places) parts right behind ordered read =
       let there =
-      header_between homes home image last.before p.before first.before (behind_last p last places ordered.0) behind.0 last_right.right right.0.right h new was is generation in
+      header_between homes home image last.before p.before first.before (goes_on last.before p (behind_last p last places ordered.0)) (goes_on p.before first behind.0) last_right.right right.0.right h new was is generation in
       let v = there.view in
       let here : (records_at p).headers image ≡ Some v = subst (λ s. (records_after s p.before).headers image ≡ Some v) (sym read.0) there.is in
       let viewed_there : IsViewOf v view = subst (λ w. IsViewOf w view) (sym there.same) (owned_view h v.owner view viewed) in

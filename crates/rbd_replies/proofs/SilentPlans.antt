@@ -2,7 +2,7 @@
 -- answered; so nothing that its walks did had one.
 use Rattle.std.proofs.Common.{◌≡◌, ℕ, ◌==◌, true, List, [], ◌∷◌, ◌++◌, Option, Some, None, refl, sym, subst}
 use Rattle.rbd_admin.specs.Create.{IsCreatePlan}
-use Rattle.rbd_admin.specs.Listing.{listing_plan, showing, show_header}
+use Rattle.rbd_admin.specs.Listing.{counting, listing_plan, measuring, showing, show_header, show_used}
 use Rattle.rbd_admin.specs.Snap.{is_snap}
 use Rattle.rbd_close.specs.Close.{close_plan, done, joining, on_dropped, quiesced, resumed, saying, unwatching}
 use Rattle.rbd_commands.specs.declared.command.Command.{Command}
@@ -27,16 +27,22 @@ use Rattle.rbd_machine.specs.Path.{Answered, IsWalk}
 use Rattle.rbd_machine.specs.Plan.{Plan, Ask, Await, Note, Return, Goto, Standing, settled, without_labels}
 use Rattle.rbd_machine.specs.Refused.{refuses_none}
 use Rattle.rbd_machine.specs.Steps.{change, joining as change_joining, looked, owned}
-use Rattle.rbd_meaning.specs.Listings.{shown_snaps}
+use Rattle.rbd_machine.specs.declared.seat.Seat.{Seat}
+use Rattle.rbd_discard.specs.Discard.{is_discard}
+use Rattle.rbd_meaning.specs.Count.{object_count}
+use Rattle.rbd_meaning.specs.Listings.{shown_snaps, used_among}
 use Rattle.rbd_meaning.specs.Range.{out_of_range}
 use Rattle.rbd_piece.specs.Gather.{gather}
 use Rattle.rbd_request.specs.Read.{IsReadOf, closing, gathering, looking, on_closing, pass, reading, viewing}
 use Rattle.rbd_request.specs.Seen.{Seen, seen_at}
 use Rattle.rbd_request.specs.Write.{is_write}
-use Rattle.rbd_requests.specs.Served.{IsPlanFor, Writes, Reads, Creates, Lists, Snaps, Closes}
+use Rattle.rbd_remove.specs.Remove.{is_remove}
+use Rattle.rbd_resize.specs.Resize.{is_resize}
+use Rattle.rbd_resize.specs.Rollback.{is_rollback}
+use Rattle.rbd_requests.specs.Served.{IsPlanFor, Writes, Discards, Reads, Creates, Lists, Snaps, Resizes, Rollbacks, Removes, Closes}
 use Rattle.rbd_stands.specs.Effect.{effect_of_op}
 use Rattle.rbd_world.specs.Sound.{IsLedTo}
-use Rattle.rbd_replies.proofs.PlanSteps.{at_bytes, at_done, at_either, at_header, at_id, at_names, at_not_there, at_unless}
+use Rattle.rbd_replies.proofs.PlanSteps.{at_bits, at_bytes, at_done, at_either, at_header, at_id, at_names, at_not_there, at_unless}
 use Rattle.rbd_replies.proofs.RefusalsNothing.{look_does_nothing}
 use Rattle.rbd_replies.proofs.Silent.{AreSilent}
 use Rattle.rbd_replies.specs.Replies.{changes_no_image}
@@ -108,7 +114,7 @@ at_pass site name snap e = (
   )),
 )
 
--- ---- ls, info, snap ls
+-- ---- ls, info, snap ls, du
 
 at_show_header : (site : SiteId) (name : List ℕ) (shows : HeaderView → Reply) → AsksSilently (show_header site name shows)
 at_show_header site name shows = (
@@ -116,11 +122,25 @@ at_show_header site name shows = (
   at_id AsksSilently ends (showing site shows) (λ image. (λ known a. refl, at_header AsksSilently ends (λ h. Return (shows h)) (λ h. tt))),
 )
 
-at_listing : (site : SiteId) (c : Command) → AsksSilently (listing_plan site c)
-at_listing site command.List = (λ known a. refl, at_names AsksSilently ends (λ names. Return (reply.Names names)) (λ names. tt))
-at_listing site (command.Info image) = at_show_header site image reply.Info
-at_listing site (command.SnapList image) = at_show_header site image shown_snaps
-at_listing site _ = tt
+at_used : (site : SiteId) (name : List ℕ) → AsksSilently (show_used site name)
+at_used site name = (
+  λ known a. refl,
+  at_id AsksSilently ends (measuring site) (λ image. (
+    λ known a. refl,
+    at_header AsksSilently ends (λ h. counting site image (object_count h.layout h.size)) (λ h. (
+      λ known a. refl,
+      at_bits AsksSilently ends (λ bits. Return (reply.Used (used_among (object_count h.layout h.size) bits) (object_count h.layout h.size))) (λ bits. tt),
+    )),
+  )),
+)
+
+at_listing : (site : SiteId) (c : Command) → changes_no_image c ≡ true → AsksSilently (listing_plan site c)
+at_listing site command.List none = (λ known a. refl, at_names AsksSilently ends (λ names. Return (reply.Names names)) (λ names. tt))
+at_listing site (command.Info image) none = at_show_header site image reply.Info
+at_listing site (command.SnapList image) none = at_show_header site image shown_snaps
+at_listing site (command.Used image) none = at_used site image
+at_listing site (command.Rename from to) none = cc
+at_listing site _ none = tt
 
 -- ---- close, quiesce, resume, tell
 
@@ -168,6 +188,22 @@ no_write (command.Write image at bytes) writes none = cc
 no_write (command.Fill image at len byte) writes none = cc
 no_write _ writes none = cc
 
+no_discard : (c : Command) → is_discard c ≡ true → changes_no_image c ≡ true → ⊥
+no_discard (command.Discard image at len) discards none = cc
+no_discard _ discards none = cc
+
+no_resize : (c : Command) → is_resize c ≡ true → changes_no_image c ≡ true → ⊥
+no_resize (command.Resize image size) resizes none = cc
+no_resize _ resizes none = cc
+
+no_rollback : (c : Command) → is_rollback c ≡ true → changes_no_image c ≡ true → ⊥
+no_rollback (command.SnapRollback image snap) rolls none = cc
+no_rollback _ rolls none = cc
+
+no_remove : (c : Command) → is_remove c ≡ true → changes_no_image c ≡ true → ⊥
+no_remove (command.Remove image) removes none = cc
+no_remove _ removes none = cc
+
 no_create : (home : SiteId) (c : Command) (plan : Plan) → IsCreatePlan home c plan → changes_no_image c ≡ true → ⊥
 no_create home (command.Create image size shape) plan creates none = cc
 no_create home _ plan creates none = creates
@@ -177,15 +213,19 @@ no_snap (command.SnapCreate image snap) snaps none = cc
 no_snap (command.SnapRemove image snap) snaps none = cc
 no_snap _ snaps none = cc
 
-plan_silent : (home : SiteId) (c : Command) (s : Standing) → IsPlanFor home c s → changes_no_image c ≡ true → AskSilently s
-plan_silent home c s (Writes is at_plan) none = absurd (no_write c is none)
-plan_silent home c s (Reads is) none = read_silent home c s is
-plan_silent home c s (Creates is at_plan) none = absurd (no_create home c s.plan is none)
-plan_silent home c s (Lists is at_plan) none = from_plan (listing_plan home c) s at_plan (at_listing home c)
-plan_silent home c s (Snaps is at_plan) none = absurd (no_snap c is none)
-plan_silent home c s (Closes is at_plan) none = from_plan (close_plan home c) s at_plan (at_close_plan home c)
+plan_silent : (seat : Seat) (c : Command) (s : Standing) → IsPlanFor seat c s → changes_no_image c ≡ true → AskSilently s
+plan_silent seat c s (Writes is at_plan) none = absurd (no_write c is none)
+plan_silent seat c s (Discards is at_plan) none = absurd (no_discard c is none)
+plan_silent seat c s (Reads is) none = read_silent seat.home c s is
+plan_silent seat c s (Creates is at_plan) none = absurd (no_create seat.home c s.plan is none)
+plan_silent seat c s (Lists is at_plan) none = from_plan (listing_plan seat.home c) s at_plan (at_listing seat.home c none)
+plan_silent seat c s (Snaps is at_plan) none = absurd (no_snap c is none)
+plan_silent seat c s (Resizes is at_plan) none = absurd (no_resize c is none)
+plan_silent seat c s (Rollbacks is at_plan) none = absurd (no_rollback c is none)
+plan_silent seat c s (Removes is at_plan) none = absurd (no_remove c is none)
+plan_silent seat c s (Closes is at_plan) none = from_plan (close_plan seat.home c) s at_plan (at_close_plan seat.home c)
 
-pub led_is_silent : (home : SiteId) (c : Command) (steps : List Answered) (last : Plan) → IsLedTo home c steps last → changes_no_image c ≡ true → AreSilent steps
-led_is_silent home c steps last is none =
-    let silent = plan_silent home c is.start is.plan none in
+pub led_is_silent : (seat : Seat) (c : Command) (steps : List Answered) (last : Plan) → IsLedTo seat c steps last → changes_no_image c ≡ true → AreSilent steps
+led_is_silent seat c steps last is none =
+    let silent = plan_silent seat c is.start is.plan none in
     walk_is_silent is.start.labels silent.1 is.feds is.start.plan steps last silent.0 is.walk

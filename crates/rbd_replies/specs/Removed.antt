@@ -1,5 +1,7 @@
 -- What an `rm` that is done did: the name goes, and the image with it.
-use Rattle.std.specs.Prelude.{◌≡◌, ◌⊎◌, ℕ, List, [], ◌∷◌, Some}
+use Rattle.std.specs.Prelude.{◌≡◌, ℕ, ◌==◌, Bool, true, false, List, [], ◌∷◌, Some}
+use Rattle.std.specs.FinMap as finmap
+use Rattle.std.specs.List.{list_any}
 use Rattle.rbd_flat.specs.Flat.{Flat, id_of, image_at}
 use Rattle.rbd_flat.specs.declared.effect.Effect.{Effect}
 use Rattle.rbd_flat.specs.declared.effect.Effect.TheVariants as effect
@@ -7,16 +9,16 @@ use Rattle.rbd_kinds.specs.declared.header.HeaderView.{HeaderView}
 use Rattle.rbd_stands.specs.Reading.{Tells}
 use Rattle.rbd_replies.specs.Places.{Placed, effects_of, flat_at}
 
--- a name leads to the image, or none does
-abbrev pub IsUnderName : Flat → (image : ℕ) → Type 0
-IsUnderName f image = (name : List ℕ) × (id_of f name ≡ Some image)
+-- some name leads to the image
+abbrev pub is_named : (image : ℕ) → Flat → Bool
+is_named image f = list_any (λ e. e.1 == image) (finmap.entries f.names)
 
--- Its name goes where it has one still, and then the image.
-abbrev pub Unnames : (named : Type 0) → (image : ℕ) → List Effect → Type 0
-Unnames named image effects =
-    (named × (effects ≡ effect.NameFree image ∷ effect.Gone image ∷ [])) ⊎ ((named → ⊥) × (effects ≡ effect.Gone image ∷ []))
+-- Where it has a name still, that goes, and then the image.
+abbrev pub removal_effects : (image : ℕ) → (named : Bool) → List Effect
+removal_effects image true = effect.NameFree image ∷ effect.Gone image ∷ []
+removal_effects image false = effect.Gone image ∷ []
 
--- The image that the name had at one place went, with any name that leads to it where its name is
+-- The image that the name had at one place went, with the name that leads to it still where that is
 -- freed, and nothing else was done. Its own look told the flat image, which has no snapshot.
 pub record RemovesAll (name : List ℕ) (places : List Placed) : Type 0 where
   pub found : Placed
@@ -33,4 +35,4 @@ pub record RemovesAll (name : List ℕ) (places : List Placed) : Type 0 where
   pub header : HeaderView
   pub tells : Tells header (image_at (flat_at own) image)
   pub no_snaps : header.snaps ≡ []
-  pub effects : Unnames (IsUnderName (flat_at naming) image) image (effects_of places)
+  pub effects : effects_of places ≡ removal_effects image (is_named image (flat_at naming))
