@@ -24,8 +24,9 @@
 //! session that was fenced changes anything, and who changes an image has its lock. Reading and
 //! printing take time in proportion to the text; a command's work grows with the objects that it
 //! touches and the logarithm of their number, not with the image's size or with what was done
-//! before. The script, the objects, history, logs, events and the output lie in memory at the same
-//! time.
+//! before. (A `snap create`, a shrink, an `rm` and a `du` go over the object map, a quarter of a
+//! byte an object.) The script, the objects, history, logs, events and the output lie in memory at
+//! the same time.
 #![tactic(auto)]
 
 ghost use Rattle.std.specs.Prelude.{◌≡◌, ◌≢◌, [], drop, Ok, IfOk, IfErr};
