@@ -31,11 +31,19 @@ a1|header-get done|ow-q ---- ----
 a1|lock-take held|ow-q ---- ----
 a1|lock-break done|ow-q ---- ----
 a1|block-add done|ow-q ---- ----
-a1|header-remove done|ow-q ---- ----
+a1|header-remove none|ow-q ---- ----
+a1|header-remove fenced|ow-q ---- ----
 a1|unwatch done|o--q ---- ----
 a1|watch fenced|o--q ---- ----
 b1|lock-drop done|o--q ---- ----
 b1|resume|o--q ---- ----
+a1|header-remove done|---- ---- ----
+a1|lock-take done|o--- ---- ----
+a1|watch done|ow-- ---- ----
+a1|RequestLock|owa- ---- ----
+a1|header-remove done|-w-- ---- ----
+a1|unwatch done|---- ---- ----
+a1|lock-take done|o--- ---- ----
 a1|lock-drop done|---- ---- ----
 b1|lock-take done|---- o--- ----
 a2|lock-take done|---- o--- o---
