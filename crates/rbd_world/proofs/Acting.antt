@@ -8,15 +8,15 @@ use Rattle.rbd_client.specs.Actor.{actor_at, op_by, op_wanted}
 use Rattle.rbd_client.specs.Client.{ClientView}
 use Rattle.rbd_client.specs.Sound.{IsSoundClient}
 use Rattle.rbd_client.proofs.Wanted.{can_get}
-use Rattle.rbd_held.specs.Knowing.{known_on_way, known_to, known_to_release, knows_fed, plan_of}
+use Rattle.rbd_held.specs.Knowing.{known_to, knows_fed, plan_of}
 use Rattle.rbd_held.specs.Truth.{IsTrueOf}
 use Rattle.rbd_held.proofs.Answered.{answers_are_true, answers_are_true_elsewhere}
 use Rattle.rbd_held.proofs.Fed.{feeding_is_known}
 use Rattle.rbd_held.proofs.Acts.{acts_beside_others, acts_beside_own}
 use Rattle.rbd_held.proofs.Owned.{acts_by_lock, knows_by_lock}
 use Rattle.rbd_held.proofs.Permitted.{does_what_it_may, knows_truly}
-use Rattle.rbd_held.proofs.Releases.{beside_release, release_knows_no_header}
-use Rattle.rbd_held.proofs.Ways.{beside_way, way_knows_no_header}
+use Rattle.rbd_held.proofs.Releases.{beside_release}
+use Rattle.rbd_held.proofs.Ways.{beside_way}
 use Rattle.rbd_kinds.specs.declared.answer.Answer.{Answer}
 use Rattle.rbd_kinds.specs.declared.id.Instance.{Instance}
 use Rattle.rbd_kinds.specs.declared.id.SiteId.{SiteId}
@@ -31,7 +31,6 @@ use Rattle.rbd_machine.specs.Permits.{Permits}
 use Rattle.rbd_machine.specs.Plan.{Ask, Standing}
 use Rattle.rbd_machine.specs.Refused.{IsGiven}
 use Rattle.rbd_machine.specs.Standalone.{TellsStandalone}
-use Rattle.rbd_owner.specs.declared.release.Release.{Release}
 use Rattle.rbd_rely.specs.Beside.{AreBeside, MayAct}
 use Rattle.rbd_rely.specs.Locks.{KnowsByLock}
 use Rattle.rbd_rely.specs.Truth.{IsTrueAt, known_header}

@@ -11,7 +11,6 @@ use Rattle.rbd_client.specs.Client.{ClientView, state_in}
 use Rattle.rbd_client.specs.Feeding.{CountsAll, DropsAtRest, GoesItsWay, IsClientAlike, IsFedBy, ReleaseIsFed, RequestIsFed, StaysUnlessRequest, WayIsFed, comings_of, state_behind, state_on_way}
 use Rattle.rbd_client.proofs.Alike.{actor_alike, look_alike}
 use Rattle.rbd_client.proofs.Wanted.{drops_alike}
-use Rattle.rbd_kinds.specs.declared.answer.Answer.{Answer}
 use Rattle.rbd_kinds.specs.declared.id.SiteId.{SiteId}
 use Rattle.rbd_kinds.specs.declared.image_at.ImageAt.{ImageAt}
 use Rattle.rbd_kinds.specs.declared.operation.Op.{Op}

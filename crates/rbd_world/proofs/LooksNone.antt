@@ -1,68 +1,37 @@
 -- Steps and parts of requests that look at no header.
-use Rattle.std.proofs.Common.{◌≡◌, ◌⊎◌, inl, inr, ℕ, ◌+◌, List, [], ◌∷◌, ◌++◌, map, replicate, Bool, true, false, cond, Option, Some, None, refl, sym, ◌∙◌, subst}
+use Rattle.std.proofs.Common.{ℕ, List, [], ◌∷◌, replicate, Bool, true, false, cond, Option, Some, None}
 use Rattle.std.specs.Prelude.{nat_le}
 use Rattle.rbd_kinds.specs.declared.answer.Answer.{Answer}
 use Rattle.rbd_kinds.specs.declared.answer.Answer.TheVariants as answer
-use Rattle.rbd_commands.specs.declared.command.Command.{Command}
-use Rattle.rbd_commands.specs.declared.command.Command.TheVariants as command
-use Rattle.rbd_commands.specs.declared.command.Shape.{Shape}
 use Rattle.rbd_kinds.specs.declared.header.HeaderView.{HeaderView}
-use Rattle.rbd_kinds.specs.declared.header.ParentLink.{ParentLink}
 use Rattle.rbd_kinds.specs.declared.header.SnapContext.{SnapContext}
 use Rattle.rbd_kinds.specs.declared.header.SnapView.{SnapView}
-use Rattle.rbd_kinds.specs.declared.header_op.HeaderOp.TheVariants as header
 use Rattle.rbd_kinds.specs.declared.id.SiteId.{SiteId}
-use Rattle.rbd_kinds.specs.declared.machine.Fed.{Fed}
-use Rattle.rbd_kinds.specs.declared.machine.Fed.TheVariants as fed
 use Rattle.rbd_kinds.specs.declared.operation.Op.{Op}
-use Rattle.rbd_kinds.specs.declared.operation.Op.TheVariants as op
 use Rattle.rbd_commands.specs.declared.refusal.Refusal.{Refusal}
 use Rattle.rbd_commands.specs.declared.refusal.Refusal.TheVariants as refusal
-use Rattle.rbd_kinds.specs.declared.reply.Reply.{Reply}
 use Rattle.rbd_kinds.specs.declared.reply.Reply.TheVariants as reply
-use Rattle.rbd_kinds.specs.declared.layout.Extent.{Extent}
 use Rattle.rbd_kinds.specs.declared.layout.Part.{Part}
-use Rattle.rbd_kinds.specs.Header.{snap_named}
 use Rattle.rbd_kinds.specs.Parts.{parts_len}
-use Rattle.rbd_layout.specs.Asked.{layout_of, KeepsLimits}
 use Rattle.rbd_layout.specs.Pieces.{pieces_of}
 use Rattle.rbd_layout.specs.declared.types.Piece.{Piece}
-use Rattle.rbd_header.specs.Header.{context_of, new_header}
-use Rattle.rbd_machine.specs.Path.{Answered, IsWalk}
-use Rattle.rbd_machine.specs.Plan.{Plan, Ask, Await, Note, Return, Goto, Standing, settled, without_labels}
-use Rattle.rbd_machine.specs.Refused.{refuses_none}
-use Rattle.rbd_machine.specs.Steps.{EndsIt, not_there, refused, unless, on_id, on_header, on_done, change, joining as change_joining, looked, holding, owned, applied, on_bits}
-use Rattle.rbd_machine.specs.declared.reason.Reason.{Reason}
-use Rattle.rbd_machine.specs.declared.seat.Seat.{Seat}
-use Rattle.rbd_machine.proofs.Settled.{settled_goto}
+use Rattle.rbd_header.specs.Header.{context_of}
+use Rattle.rbd_machine.specs.Plan.{Plan, Return}
+use Rattle.rbd_machine.specs.Steps.{not_there, refused, unless, on_id, on_header, on_done, applied, on_bits}
 use Rattle.rbd_meaning.specs.Count.{object_count}
-use Rattle.rbd_meaning.specs.Listings.{shown_snaps, used_among}
-use Rattle.rbd_meaning.specs.Range.{extent_at}
-use Rattle.rbd_meaning.specs.Removals.{image_removal_refuses, link_of, may_be_gone, removal, removing_journal, removing_map_of, removing_object, unlinking, used_objects, watchers_refuse}
-use Rattle.rbd_meaning.specs.Resizes.{resize_refuses}
-use Rattle.rbd_meaning.specs.Rollbacks.{at_size, rollback_refuses}
-use Rattle.rbd_meaning.specs.Snaps.{create_refuses, remove_refuses}
-use Rattle.rbd_meaning.specs.Writes.{write_refuses}
+use Rattle.rbd_meaning.specs.Removals.{may_be_gone}
+use Rattle.rbd_meaning.specs.Rollbacks.{at_size}
 use Rattle.rbd_piece.specs.Gather.{gather, on_bytes}
-use Rattle.rbd_piece.specs.Write.{raising, writing}
 use Rattle.rbd_zero.specs.Full.{cut_bytes, full_by, full_piece, replacing, writing_full}
 use Rattle.rbd_zero.specs.Shrink.{pieces_from}
 use Rattle.rbd_zero.specs.Size.{cutting, resize, resize_by, sizing}
 use Rattle.rbd_zero.specs.Size as of_size
 use Rattle.rbd_zero.specs.Zero.{emptying, head_of, is_inside, is_whole, removing, setting, zero_all, zero_by, zero_piece, zeroing}
-use Rattle.rbd_request.specs.Read.{is_read, IsReadOf}
-use Rattle.rbd_request.specs.Write.{put, write, write_pieces, write_plan}
-use Rattle.rbd_admin.specs.Create.{IsCreate, IsCreatePlan, on_drawn, making, mapping, drawing}
-use Rattle.rbd_admin.specs.Listing.{counting, listing_plan, measuring, on_names, on_renamed, show_header, show_used, showing}
-use Rattle.rbd_admin.specs.Snap.{on_snap, on_gone, taking, putting, take, unmapping, remove_listed, remove, snap_plan}
-use Rattle.rbd_admin.proofs.Decided.{limits_or_not}
-use Rattle.rbd_close.specs.Close.{done, unwatching, on_dropped, joining, quiesced, resumed, saying, close_plan}
-use Rattle.rbd_discard.specs.Discard.{discard, discard_plan, zero, zero_pieces}
+use Rattle.rbd_discard.specs.Discard.{zero_pieces}
 use Rattle.rbd_remove.specs.Remove as of_remove
 use Rattle.rbd_remove.specs.Remove.{holding_it, joining_its_line, looked_at_it, on_watchers, remove_each, remove_owned, remove_plan, unless_watched}
-use Rattle.rbd_resize.specs.Resize.{resize_plan, set_size}
-use Rattle.rbd_resize.specs.Rollback.{restore_all, restore_pieces, roll_back_listed, roll_back_to, rollback_plan}
-use Rattle.rbd_requests.specs.NoLooks.{AreNoLooks, removal_has_none}
+use Rattle.rbd_resize.specs.Rollback.{restore_all, restore_pieces, roll_back_listed}
+use Rattle.rbd_requests.specs.NoLooks.{AreNoLooks}
 use Rattle.rbd_world.specs.Ways.{LooksNoMore}
 
 -- ---- steps

@@ -26,7 +26,7 @@ use Rattle.rbd_machine.specs.Label.{Label}
 use Rattle.rbd_machine.specs.Path.{Answered, IsWalk, at_operation}
 use Rattle.rbd_machine.specs.Plan.{Plan, Ask, Await, Note, Return, Goto, Standing, settled, without_labels}
 use Rattle.rbd_machine.specs.Refused.{refuses_none}
-use Rattle.rbd_machine.specs.Steps.{not_there, unless, on_id, on_header, on_done, change, joining as change_joining, looked, holding, owned, applied, on_bits}
+use Rattle.rbd_machine.specs.Steps.{not_there, unless, on_id, on_header, change, joining as change_joining, looked, holding, owned, applied}
 use Rattle.rbd_machine.specs.Wait as wait
 use Rattle.rbd_machine.proofs.Settled.{settled_goto}
 use Rattle.rbd_meaning.specs.Listings.{shown_snaps, used_among}

@@ -22,7 +22,7 @@ use Rattle.rbd_session.specs.Waits.{waits}
 use Rattle.rbd_world.specs.declared.event.Event.{Event}
 use Rattle.rbd_world.specs.declared.event.Event.TheVariants as event
 use Rattle.rbd_world.specs.declared.sites.Sites.{Sites}
-use Rattle.rbd_world.specs.Run.{Happening, Nothing, Waited, Began, Refused, Heard, Stopped, Restarted, Sent, sent_of}
+use Rattle.rbd_world.specs.Run.{Happening, Nothing, Waited, Began, Heard, Stopped, Restarted, Sent, sent_of}
 use Rattle.rbd_world.specs.Step.{Becomes, BecomesOf, IsFresh, IsSoundIf, LivesOn, RunsOn, late_behind, latest_behind, DoesToLives, begins_of, come, done_by, goes_on_by, heard_by, last_life, next_life, polled, polled_in, releases, restarted_of, submitted}
 use Rattle.rbd_world.specs.World.{LateView, LivesView, lives_in, sent_in}
 use Rattle.rbd_world.proofs.OneLife.{does_to_nobody, does_to_one, set_same}

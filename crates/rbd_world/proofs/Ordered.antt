@@ -21,8 +21,6 @@ use Rattle.rbd_machine.specs.Plan.{Plan, Ask, IsAsking, Standing}
 use Rattle.rbd_machine.specs.Steps.{on_id}
 use Rattle.rbd_machine.specs.Wait as wait
 use Rattle.rbd_machine.specs.declared.reason.Reason.{Reason}
-use Rattle.rbd_meaning.specs.Writes.{write_refuses}
-use Rattle.rbd_meaning.specs.Range.{extent_at}
 use Rattle.rbd_requests.specs.Touched.{extent_of}
 use Rattle.rbd_kinds.specs.declared.image_at.ImageAt.{ImageAt}
 use Rattle.rbd_session.specs.declared.running.Running.{Running}

@@ -4,11 +4,9 @@ use Rattle.std.specs.Prelude.{◌≡◌, ◌⊎◌, ℕ, Bool, List, []}
 use Rattle.rbd_client.specs.declared.slot_state.Way.{Way}
 use Rattle.rbd_client.specs.declared.slot_state.Way.TheVariants as way
 use Rattle.rbd_kinds.specs.declared.answer.Answer.{Answer}
-use Rattle.rbd_kinds.specs.declared.header_op.HeaderOp.TheVariants as header
 use Rattle.rbd_kinds.specs.declared.id.SiteId.{SiteId}
 use Rattle.rbd_kinds.specs.declared.machine.Fed.{Fed}
 use Rattle.rbd_kinds.specs.declared.operation.Op.{Op}
-use Rattle.rbd_kinds.specs.declared.operation.Op.TheVariants as op
 use Rattle.rbd_kinds.specs.declared.reply.Reply.{Reply}
 use Rattle.rbd_kinds.specs.declared.reply.Reply.TheVariants as reply
 use Rattle.rbd_machine.specs.Path.{Answered}

@@ -79,8 +79,8 @@
 //!   changes an image is its owner's, and a lock is broken only where its owner is fenced
 //!   (`IsOwnedStep`). No two clients are in each other's way, nor what stopped lives may still
 //!   send;
-//! - of two writes or fills of one instance, the one that found an image first writes each of its
-//!   objects first, however their operations are mixed;
+//! - of two `write`, `fill` or `discard` requests of one instance, the one that found an image first
+//!   changes each of its objects first, however their operations are mixed;
 //! - as long as nobody is stopped or fenced, object maps tell exactly which objects exist, but for
 //!   the object whose state a line raised by its last operation (`rbd_exact`).
 //!
