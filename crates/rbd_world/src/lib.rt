@@ -82,7 +82,7 @@
 //! - of two `write`, `fill` or `discard` requests of one instance, the one that found an image first
 //!   changes each of its objects first, however their operations are mixed;
 //! - as long as nobody is stopped or fenced, object maps tell exactly which objects exist, but for
-//!   the object whose state a line raised by its last operation (`rbd_exact`).
+//!   the object that a line makes or removes next, or whose state it sets next (`rbd_exact`).
 //!
 //! [`laws`] has these as laws over any sessions: a world begins sound, and each event, and each
 //! refusal of memory, leaves it so; that order as a law on whole runs; that maps are exact on an
