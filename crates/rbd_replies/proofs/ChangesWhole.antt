@@ -102,12 +102,12 @@ module _ (homes : ℕ → SiteId) (home : SiteId) where
   -- ---- discard
 
   pub discard_discards : (places : List Placed) → ArePlacedRight homes places → (name : List ℕ) (e : Extent) (whole : DiscardsWhole home name e (map step_at places))
-      → ((rest : List Placed) → map step_at rest ≡ pieces_zeroed home whole.image whole.own (pieces_of whole.own.layout e) → AllLike whole.image whole.own rest) → Discards name e places
+      → ((goes : Goes homes home name whole.image whole.own (pieces_zeroed home whole.image whole.own (pieces_of whole.own.layout e)) places) → AllLike whole.image whole.own goes.rest) → Discards name e places
   discard_discards places right name e whole like =
       let goes = goes_at places right name whole.image whole.first whole.own _ whole.are in
       let within : fits e whole.own.size ≡ true = range_fits e whole.own.size (or_else_none (non_primary whole.own.role) (out_of_range e whole.own.size) whole.may) in
       let zeros = zeros_there homes home whole.image whole.own e (within_size e whole.own.size within) (pieces_of whole.own.layout e) (pieces_listed whole.own.layout goes.laid e).parts
-      goes.rest goes.right (like goes.rest goes.rest_is) goes.rest_is in
+      goes.rest goes.right (like goes) goes.rest_is in
       record {
         finds = goes.finds;
         within = ap (λ (h : HeaderView). fits e h.size) goes.header_is ∙ within;
@@ -123,14 +123,14 @@ module _ (homes : ℕ → SiteId) (home : SiteId) where
       subst (SetsSize other also to) (sym are) (subst (λ (x : HeaderView). SetsSize other x to effects) (sym is_header) (subst (λ i. SetsSize i h to effects) (sym is_image) sets))
 
   pub resize_resizes : (places : List Placed) → ArePlacedRight homes places → (name : List ℕ) (to : ℕ) (whole : ResizesWhole home name to (map step_at places))
-      → ((rest : List Placed) → map step_at rest ≡ whole.resized → AllLike whole.image whole.own rest) → Resizes name to places
+      → ((goes : Goes homes home name whole.image whole.own whole.resized places) → AllLike whole.image whole.own goes.rest) → Resizes name to places
   resize_resizes places right name to whole like =
       let goes = goes_at places right name whole.image whole.first whole.own _ whole.are in
       record {
         finds = goes.finds;
         sets =
             sets_as to whole.image goes.finds.image whole.own goes.finds.header (effects_of goes.rest) (effects_of places) goes.image_is goes.header_is goes.silent
-            (size_there homes home whole.image whole.own goes.laid to whole.objects goes.rest goes.right (like goes.rest goes.rest_is)
+            (size_there homes home whole.image whole.own goes.laid to whole.objects goes.rest goes.right (like goes)
             (subst (IsResized home whole.image whole.own to whole.objects) (sym goes.rest_is) whole.is_resized));
       }
 
@@ -145,10 +145,10 @@ module _ (homes : ℕ → SiteId) (home : SiteId) where
       (subst (λ i. RestoresAll i snap (pieces_of h.layout (record { at = 0; len = size })) places) (sym is_image) restores)))
 
   module _ (name snap : List ℕ) (places : List Placed) (rolls : RollsBack home name snap (map step_at places)) where
-    abbrev sized : HeaderView
+    abbrev pub sized : HeaderView
     sized = at_size rolls.listed.size rolls.own
 
-    rolled_at : (goes : Goes homes home name rolls.image rolls.own (rolls.resized ++ rolls.restored) places) → (both : Divides rolls.resized rolls.restored goes.rest)
+    pub rolled_at : (goes : Goes homes home name rolls.image rolls.own (rolls.resized ++ rolls.restored) places) → (both : Divides rolls.resized rolls.restored goes.rest)
         → AllLike rolls.image rolls.own both.front → AllLike rolls.image sized both.back → RollsBackTo name snap places
     rolled_at goes both like_front like_back =
         let right_both : ArePlacedRight homes (both.front ++ both.back) = subst (ArePlacedRight homes) both.are goes.right in

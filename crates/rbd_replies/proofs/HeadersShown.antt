@@ -20,7 +20,8 @@ use Rattle.rbd_machine.specs.Refused.{AreGiven}
 use Rattle.rbd_machine.specs.declared.seat.Seat.{Seat}
 use Rattle.rbd_meaning.specs.Meant.{IsMeantBy}
 use Rattle.rbd_world.specs.Run.{Doer, Itself, OnWay, House, AfterStop, Happening, Nothing, Waited, Began, Did, Refused, Trimmed, Expired, Heard, Stopped, Restarted, Operation, cause_of, ending_entries, entries_of, entry_by, entry_of, entry_unfenced, fence_of, history_of, reply_entries}
-use Rattle.rbd_world.specs.Sound.{EndsWith, IsDue, IsRefusedOnWay, IsReplyMeant, IsRight, IsSoundWorld, seat_at}
+use Rattle.rbd_world.specs.Seats.{seat_at}
+use Rattle.rbd_world.specs.Sound.{EndsWith, IsDue, IsRefusedOnWay, IsReplyMeant, IsRight, IsSoundWorld}
 use Rattle.rbd_world.specs.World.{WorldView}
 use Rattle.rbd_replies.proofs.OnWay.{refused_there}
 use Rattle.rbd_replies.specs.Shown.{AreHeadersInForm, IsEntryInForm, IsShownInForm, ShowsInForm}
@@ -47,7 +48,7 @@ meant_in_form seat c steps (reply.Info h) given meant = info_in_form seat c step
 meant_in_form seat c steps _ given meant = tt
 
 reply_in_form : (homes : ℕ → SiteId) (line : ℕ) (r : Reply) (before run : List Happening) → IsReplyMeant homes line r before run → ShowsInForm r
-reply_in_form homes line r before run is = meant_in_form (seat_at homes is.begun.asked.who) is.begun.asked.command _ r is.ended.given is.meant
+reply_in_form homes line r before run is = meant_in_form (seat_at homes is.begun.asked.who.session) is.begun.asked.command _ r is.ended.given is.meant
 
 -- on its way to a lock a line is refused
 refusal_in_form : (homes : ℕ → SiteId) (line : ℕ) (r : Reply) (o : Operation) (run : List Happening) → IsRefusedOnWay homes line r o run → ShowsInForm r

@@ -12,12 +12,12 @@ use Rattle.rbd_kinds.specs.declared.reply.Reply.{Reply}
 use Rattle.rbd_machine.specs.Plan.{Plan, Standing}
 use Rattle.rbd_machine.specs.Refused.{AreGiven}
 use Rattle.rbd_machine.specs.Standalone.{TellAllStandalone}
-use Rattle.rbd_machine.specs.declared.seat.Seat.{Seat}
 use Rattle.rbd_session.specs.declared.running.Occupant.{Occupant}
 use Rattle.rbd_session.specs.declared.running.Occupant.TheVariants as occupant
 use Rattle.rbd_session.specs.Session.{held_in, script_line}
 use Rattle.rbd_world.specs.Run.{Asked, Doer, Itself, OnWay, House, AfterStop, Happening, Nothing, Waited, Began, Did, Refused, Trimmed, Expired, Heard, Stopped, Restarted, asked_by, is_among, is_for, step_of, steps_in, steps_of}
-use Rattle.rbd_world.specs.Sound.{GoesOnBehind, IsHeldRightly, IsLedTo, IsOpen, IsReplyMeant, IsRight, IsSoundWorld, has_ended, held_of, line_at, seat_at}
+use Rattle.rbd_world.specs.Seats.{seat_at}
+use Rattle.rbd_world.specs.Sound.{GoesOnBehind, IsHeldRightly, IsLedTo, IsOpen, IsReplyMeant, IsRight, IsSoundWorld, has_ended, held_of, line_at}
 use Rattle.rbd_world.specs.World.{WorldView, client_in, session_of}
 use Rattle.rbd_world.proofs.Quiet.{IsQuiet, lines_differ, quiet_began, quiet_did, quiet_expired, quiet_heard, quiet_nothing, quiet_refused, quiet_restarted, quiet_stopped, quiet_trimmed, quiet_waited}
 use Rattle.rbd_world.proofs.Runs.{unheard}
@@ -26,12 +26,12 @@ use Rattle.rbd_replies.proofs.OnWay.{EndsOnWay, ends_so}
 -- a walk of its command's plan leads somewhere by all operations of the line's command itself
 pub record IsLed (homes : ℕ → SiteId) (line : ℕ) (run : List Happening) (asked : Asked) : Type 0 where
   pub last : Plan
-  pub led : IsLedTo (seat_at homes asked.who) asked.command (steps_of line run) last
+  pub led : IsLedTo (seat_at homes asked.who.session) asked.command (steps_of line run) last
 
 -- ---- lines that have ended
 
 module _ (homes : ℕ → SiteId) (line : ℕ) where
-  by_walk : (begun asked : Asked) (run : List Happening) (last : Plan) → begun ≡ asked → IsLedTo (seat_at homes begun.who) begun.command (steps_of line run) last → IsLed homes line run asked
+  by_walk : (begun asked : Asked) (run : List Happening) (last : Plan) → begun ≡ asked → IsLedTo (seat_at homes begun.who.session) begun.command (steps_of line run) last → IsLed homes line run asked
   by_walk begun asked run last same led = subst (IsLed homes line run) same (record { last = last; led = led })
 
   by_reply : (reply : Reply) (before run : List Happening) (asked : Asked) → IsReplyMeant homes line reply before run → asked_by line before ≡ Some asked → IsLed homes line run asked
@@ -41,7 +41,7 @@ module _ (homes : ℕ → SiteId) (line : ℕ) where
   still : (h : Happening) (run : List Happening) (asked : Asked) → steps_in line h ≡ [] → IsLed homes line run asked → IsLed homes line (h ∷ run) asked
   still h run asked none led = record {
     last = led.last;
-    led = subst (λ steps. IsLedTo (seat_at homes asked.who) asked.command steps led.last) (sym (ap (λ steps. steps_of line run ++ steps) none ∙ append-nil (steps_of line run))) led.led;
+    led = subst (λ steps. IsLedTo (seat_at homes asked.who.session) asked.command steps led.last) (sym (ap (λ steps. steps_of line run ++ steps) none ∙ append-nil (steps_of line run))) led.led;
   }
 
   -- a line is open at another line's happening alone
@@ -110,17 +110,14 @@ module _ (homes : ℕ → SiteId) (line : ℕ) where
 -- ---- lines whose request is in a slot
 
 module _ {R : Type 0} (stands : R → Standing) (homes : ℕ → SiteId) (session : ℕ) (who : Instance) (whose : who.session ≡ session) (run : List Happening) (asked : Asked) where
-  abbrev seat_in : (n : ℕ) → Seat
-  seat_in n = record { session = n; home = homes n }
-
-  led_as : (line : ℕ) (begun : IsOpen line run) → begun.asked.who ≡ who → (last : Plan) → IsLedTo (seat_in session) begun.asked.command (steps_of line run) last
+  led_as : (line : ℕ) (begun : IsOpen line run) → begun.asked.who ≡ who → (last : Plan) → IsLedTo (seat_at homes session) begun.asked.command (steps_of line run) last
       → asked_by line run ≡ Some asked → IsLed homes line run asked
   led_as line begun mine last led asks =
       by_walk homes line begun.asked asked run last (same_Some begun.asked asked (sym begun.is ∙ asks))
-      (subst (λ n. IsLedTo (seat_in n) begun.asked.command (steps_of line run) last) (sym (ap (λ (i : Instance). i.session) mine ∙ whose)) led)
+      (subst (λ n. IsLedTo (seat_at homes n) begun.asked.command (steps_of line run) last) (sym (ap (λ (i : Instance). i.session) mine ∙ whose)) led)
 
   held_led : (line : ℕ) (o : Option (Occupant R)) → script_line o ≡ Some line
-      → IsHeldRightly stands (seat_in session) who run o → asked_by line run ≡ Some asked → IsLed homes line run asked
+      → IsHeldRightly stands (seat_at homes session) who run o → asked_by line run ≡ Some asked → IsLed homes line run asked
   held_led line None is held asks = absurd (none-some line is)
   held_led line (Some (occupant.Refused number refusal)) is held asks =
       let same : number ≡ line = same_Some number line is in

@@ -1,11 +1,14 @@
 pub mod AtPlaces
 pub mod ChangesDone
+pub mod ChangesLike
 pub mod ChangesWhole
 pub mod Fencing
 pub mod FlatSnaps
 pub mod HeadersShown
 pub mod HomeReplies
 pub mod HomeSteps
+pub mod InLine
+pub mod KeepsOwn
 pub mod Led
 pub mod LineBounds
 pub mod ListingsTold
@@ -16,6 +19,8 @@ pub mod NoEffects
 pub mod NoLooks
 pub mod OnWay
 pub mod Owners
+pub mod OwnHeader
+pub mod OwnKnown
 pub mod PassBounds
 pub mod PlacedRight
 pub mod Places

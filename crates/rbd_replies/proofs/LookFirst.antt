@@ -1,6 +1,6 @@
 -- A request that wants a look at a header has only looked before: so has one that waits for its
 -- look under the lock, and is refused on its way there.
-use Rattle.std.proofs.Common.{◌≡◌, ◌⊎◌, inl, inr, ℕ, ◌+◌, ◌==◌, Bool, true, false, List, [], ◌∷◌, ◌++◌, replicate, Option, Some, None, refl, sym, ◌∙◌, subst}
+use Rattle.std.proofs.Common.{◌≡◌, ◌⊎◌, inl, inr, ℕ, ◌+◌, ◌==◌, Bool, true, false, List, [], ◌∷◌, ◌++◌, replicate, Option, Some, None, refl, sym, subst}
 use Rattle.rbd_admin.proofs.Decided.{limits_or_not}
 use Rattle.rbd_admin.specs.Create.{IsCreate, IsCreatePlan, drawing, making, mapping}
 use Rattle.rbd_admin.specs.Listing.{counting, listing_plan, measuring, showing, show_header}
@@ -52,7 +52,8 @@ use Rattle.rbd_requests.specs.Served.{IsPlanFor, Writes, Discards, Reads, Create
 use Rattle.rbd_session.specs.Session.{is_look_at, kind_asked}
 use Rattle.rbd_world.specs.Sound.{IsLedTo}
 use Rattle.rbd_replies.proofs.LooksFirst.{LooksFirst, NoLook, ends, looks_before, no_more, none_first}
-use Rattle.rbd_replies.proofs.NoLooks.{no_look_remove, no_look_rollback, no_look_set_size, no_look_zeroing}
+use Rattle.rbd_replies.proofs.KeepsOwn.{keeps_rollback, keeps_set_size, keeps_zeroing, looks_no_more}
+use Rattle.rbd_replies.proofs.NoLooks.{no_look_remove}
 use Rattle.rbd_replies.proofs.PlanSteps.{at_bits, at_bytes, at_done, at_drawn, at_either, at_gone, at_header, at_id, at_names, at_not_there, at_renamed, at_snap, at_unless, at_watchers}
 
 -- ---- changes
@@ -106,18 +107,18 @@ first_snap site _ = tt
 first_discard : (site : SiteId) (c : Command) → LooksFirst (discard_plan site c)
 first_discard site (command.Discard image at len) =
     let e : Extent = record { at = at; len = len } in
-    first_change site image false (write_refuses e) (zero site e) (λ i h. none_first (zero site e i h) (no_look_zeroing site e i h))
+    first_change site image false (write_refuses e) (zero site e) (λ i h. none_first (zero site e i h) (looks_no_more site i (zero site e i h) (keeps_zeroing site e i h)))
 first_discard site _ = tt
 
 first_resize : (site : SiteId) (c : Command) → LooksFirst (resize_plan site c)
 first_resize site (command.Resize image size) =
-    first_change site image true (resize_refuses size) (set_size site size) (λ i h. none_first (set_size site size i h) (no_look_set_size site size i h))
+    first_change site image true (resize_refuses size) (set_size site size) (λ i h. none_first (set_size site size i h) (looks_no_more site i (set_size site size i h) (keeps_set_size site size i h)))
 first_resize site _ = tt
 
 first_rollback : (site : SiteId) (c : Command) → LooksFirst (rollback_plan site c)
 first_rollback site (command.SnapRollback image snap) =
     first_change site image true (rollback_refuses snap) (roll_back_to site snap)
-    (λ i h. none_first (roll_back_to site snap i h) (no_look_rollback site snap i h (snap_named h.snaps snap)))
+    (λ i h. none_first (roll_back_to site snap i h) (looks_no_more site i (roll_back_to site snap i h) (keeps_rollback site snap i h (snap_named h.snaps snap))))
 first_rollback site _ = tt
 
 -- ---- rm

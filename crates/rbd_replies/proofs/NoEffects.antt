@@ -7,7 +7,8 @@ use Rattle.rbd_kinds.specs.declared.reply.Reply.{Reply}
 use Rattle.rbd_machine.specs.Path.{Answered}
 use Rattle.rbd_machine.specs.Refused.{AreLooks}
 use Rattle.rbd_world.specs.Run.{Asked, Doer, Itself, OnWay, House, AfterStop, Happening, Did, Operation, is_on_way, steps_of}
-use Rattle.rbd_world.specs.Sound.{EndsWith, IsRefusedOnWay, IsRight, seat_at}
+use Rattle.rbd_world.specs.Seats.{seat_at}
+use Rattle.rbd_world.specs.Sound.{EndsWith, IsRefusedOnWay, IsRight}
 use Rattle.rbd_replies.proofs.Led.{IsLed}
 use Rattle.rbd_replies.proofs.LookFirst.{led_to_look}
 use Rattle.rbd_replies.proofs.OnWay.{EndsOnWay, places_on_way}
@@ -23,7 +24,7 @@ pub no_effects : (homes : ℕ → SiteId) (line : ℕ) (run : List Happening) (a
     → effects_of (places_of line run) ≡ []
 no_effects homes line run asked right is none =
     silent_places homes (places_of line run) (places_right homes line run right)
-    (subst AreSilent (sym (steps_at_places line run)) (led_is_silent (seat_at homes asked.who) asked.command _ is.last is.led none))
+    (subst AreSilent (sym (steps_at_places line run)) (led_is_silent (seat_at homes asked.who.session) asked.command _ is.last is.led none))
 
 -- ---- a line that is refused on its way to the lock
 
@@ -43,7 +44,7 @@ pub none_on_way : (homes : ℕ → SiteId) (run : List Happening) (o : Operation
 none_on_way homes run o line r right mine =
     let way = ends_on_way homes line o r run o.by mine right.1.1 in
     let is = way.is in
-    let looks = led_to_look (seat_at homes is.begun.asked.who) is.begun.asked.command (steps_of line run) is.plan is.led o.site is.wants in
+    let looks = led_to_look (seat_at homes is.begun.asked.who.session) is.begun.asked.command (steps_of line run) is.plan is.led o.site is.wants in
     ap effects_of (places_on_way line o (Some r) run way.apart)
     ∙ silent_places homes (places_of line run) (places_right homes line run right.2)
     (subst AreSilent (sym (steps_at_places line run)) (looks_are_silent (steps_of line run) looks))

@@ -18,7 +18,7 @@ use Rattle.rbd_machine.specs.declared.seat.Seat.{Seat}
 use Rattle.rbd_meaning.specs.Reads.{AreRead, SeeOthers, SeesAnother}
 use Rattle.rbd_request.proofs.Passes.{last_pass}
 use Rattle.rbd_request.specs.Read.{IsReadOf, pass, read_labels}
-use Rattle.rbd_requests.proofs.Bounded.{by_told, command_is_bounded}
+use Rattle.rbd_requests.proofs.Bounded.{bounded_by_told, command_is_bounded}
 use Rattle.rbd_requests.specs.Served.{IsPlanFor, Writes, Discards, Reads, Creates, Lists, Snaps, Resizes, Rollbacks, Removes, Closes}
 use Rattle.rbd_requests.specs.Touched.{AsksAtMost, HasAtMost, bound_of, is_bounded_by_extent, told_by, touched_by}
 use Rattle.rbd_replies.specs.Bounds.{HaveAtMost, KeepsBound, KeepsPasses}
@@ -124,7 +124,7 @@ module _ (seat : Seat) (c : Command) (s : Standing) (plan : IsPlanFor seat c s) 
       (subst (λ l. IsWalk l s.plan feds steps last) (ap (λ (x : Standing). x.labels) (unlabelled seat c s plan other)) walk)
 
   as_it_was_told : is_bounded_by_extent c ≡ false → length steps ≤ bound_of c most + told_by c steps
-  as_it_was_told unbounded = by_told seat s feds steps last walk c most unbounded plan
+  as_it_was_told unbounded = bounded_by_told seat s feds steps last walk c most unbounded plan
 
 pub walk_keeps_bound : (seat : Seat) (c : Command) (s : Standing) → IsPlanFor seat c s → (most : ℕ) → HasAtMost most (touched_by c)
     → (feds : List Fed) (steps : List Answered) (last : Plan) → AreGiven steps → IsWalk s.labels s.plan feds steps last → KeepsBound seat.home c (bound_of c most) steps

@@ -28,7 +28,7 @@ goes_on run p is = record {
 }
 
 -- these places are all in a run
-abbrev AreIn : (run : List Happening) → List Placed → Type 0
+abbrev pub AreIn : (run : List Happening) → List Placed → Type 0
 AreIn run [] = Unit {0}
 AreIn run (p ∷ places) = IsBehind run p × AreIn run places
 
@@ -81,7 +81,7 @@ one_in line (Did o reply) run = by (is_own line o.by)
     by true = (record { reply = reply; goes = at_once (Did o reply ∷ run) }, tt)
     by false = tt
 
-all_in : (line : ℕ) (run : List Happening) → AreIn run (places_of line run)
+pub all_in : (line : ℕ) (run : List Happening) → AreIn run (places_of line run)
 all_in line [] = tt
 all_in line (h ∷ run) = in_both (h ∷ run) (places_of line run) (places_in line h run) (in_longer h run (places_of line run) (all_in line run)) (one_in line h run)
 

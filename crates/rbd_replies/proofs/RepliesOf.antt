@@ -1,6 +1,6 @@
 -- A reply that is meant by the operations of its line says what the flat-copy machine has at their
 -- places: one line for each command.
-use Rattle.std.proofs.Common.{◌≡◌, ◌⊎◌, inl, inr, ℕ, true, List, [], ◌∷◌, ◌++◌, Some, map, replicate, sym, subst, ◌∙◌}
+use Rattle.std.proofs.Common.{◌≡◌, ◌⊎◌, inl, inr, ℕ, true, List, [], ◌∷◌, ◌++◌, Some, map, replicate, refl, sym, subst, ◌∙◌}
 use Rattle.std.proofs.lemmas.Option.{same_Some}
 use Rattle.rbd_commands.specs.declared.command.Command.{Command}
 use Rattle.rbd_commands.specs.declared.command.Command.TheVariants as command
@@ -13,56 +13,72 @@ use Rattle.rbd_machine.specs.declared.seat.Seat.{Seat}
 use Rattle.rbd_meaning.proofs.Undone.{meant_changes_nothing}
 use Rattle.rbd_meaning.specs.Meant.{IsMeantBy}
 use Rattle.rbd_world.specs.Run.{Asked, Happening, Did, Operation, asked_by, is_for}
-use Rattle.rbd_world.specs.Sound.{IsRefusedOnWay, IsReplyMeant, IsRight, look_answered, seat_at}
+use Rattle.rbd_world.specs.Seats.{seat_at}
+use Rattle.rbd_world.specs.Sound.{IsRefusedOnWay, IsReplyMeant, IsRight, look_answered}
 use Rattle.rbd_replies.proofs.ChangesDone.{create_creates, rename_renames, snap_create_takes, snap_remove_removes}
+use Rattle.rbd_replies.proofs.HomeSteps.{meant_at_places}
 use Rattle.rbd_replies.proofs.ListingsTold.{info_shows, lists_names, snaps_show, used_shows}
 use Rattle.rbd_replies.proofs.OnWay.{EndsOnWay, ends_so, nothing_before, places_on_way, refused_there}
 use Rattle.rbd_replies.proofs.PlacedRight.{ArePlacedRight, places_right}
 use Rattle.rbd_replies.proofs.Places.{step_at, steps_at_places}
-use Rattle.rbd_replies.proofs.ReadOrder.{AreOrdered, places_ordered}
+use Rattle.rbd_replies.proofs.ReadOrder.{AreOrdered, all_in, places_ordered}
 use Rattle.rbd_replies.proofs.ReadPass.{shows_at_places}
 use Rattle.rbd_replies.proofs.RefusalsNothing.{nothing_at_places}
 use Rattle.rbd_replies.proofs.Silent.{close_does_nothing, quiesce_does_nothing, resume_does_nothing, tell_does_nothing}
-use Rattle.rbd_replies.proofs.ChangesWhole.{discard_discards}
+use Rattle.rbd_replies.proofs.ChangesLike.{IsOfLine, discard_at, resize_at, rollback_at}
+use Rattle.rbd_replies.proofs.InLine.{places_in_line}
 use Rattle.rbd_replies.proofs.Removing.{remove_removes}
 use Rattle.rbd_replies.proofs.WriteWhole.{writes_at_places}
 use Rattle.rbd_replies.specs.Places.{Placed, places_of}
 use Rattle.rbd_replies.specs.Replies.{IsReplyOf}
 
 reply_of : (homes : ℕ → SiteId) (seat : Seat) (places : List Placed) → ArePlacedRight homes places → AreOrdered places
-    → (c : Command) (r : Reply) → IsMeantBy seat c (map step_at places) r → IsReplyOf c r places
-reply_of homes seat places right ordered c (reply.Refused x) meant = λ early.
+    → (c : Command) (r : Reply) → IsMeantBy seat c (map step_at places) r → IsOfLine homes seat.home c places → IsReplyOf c r places
+reply_of homes seat places right ordered c (reply.Refused x) meant of = λ early.
     nothing_at_places homes places right (meant_changes_nothing seat c (map step_at places) x meant early)
-reply_of homes seat places right ordered (command.Create name size shape) reply.Done meant = create_creates homes places right seat.home name size shape meant.1
-reply_of homes seat places right ordered (command.Write name at bytes) reply.Done meant = writes_at_places homes seat.home name at bytes places right meant
-reply_of homes seat places right ordered (command.Fill name at len byte) reply.Done meant = writes_at_places homes seat.home name at (replicate len byte) places right meant
-reply_of homes seat places right ordered (command.Discard name at len) reply.Done meant =
-    let e : Extent = record { at = at; len = len } in
-    discard_discards homes seat.home places right name e meant (known (command.Discard name at len))
-reply_of homes seat places right ordered (command.Rename from to) reply.Done meant = rename_renames homes places right seat.home from to meant
-reply_of homes seat places right ordered (command.Remove name) reply.Done meant = remove_removes homes seat.home name seat.session places right ordered meant
-reply_of homes seat places right ordered (command.Used name) (reply.Used used of) meant = used_shows homes places right seat.home name used of meant
-reply_of homes seat places right ordered (command.SnapCreate name snap) reply.Done meant = snap_create_takes homes places right seat.home name snap meant
-reply_of homes seat places right ordered (command.SnapRemove name snap) reply.Done meant = snap_remove_removes homes places right seat.home name snap meant
-reply_of homes seat places right ordered (command.Read name snap at len) (reply.Bytes bytes) meant =
+reply_of homes seat places right ordered (command.Create name size shape) reply.Done meant of = create_creates homes places right seat.home name size shape meant.1
+reply_of homes seat places right ordered (command.Write name at bytes) reply.Done meant of = writes_at_places homes seat.home name at bytes places right meant
+reply_of homes seat places right ordered (command.Fill name at len byte) reply.Done meant of = writes_at_places homes seat.home name at (replicate len byte) places right meant
+reply_of homes seat places right ordered (command.Discard name at len) reply.Done meant of = discard_at homes seat.home name at len places right of meant
+reply_of homes seat places right ordered (command.Resize name size) reply.Done meant of = resize_at homes seat.home name size places right of meant
+reply_of homes seat places right ordered (command.SnapRollback name snap) reply.Done meant of = rollback_at homes seat.home name snap places right of meant
+reply_of homes seat places right ordered (command.Rename from to) reply.Done meant of = rename_renames homes places right seat.home from to meant
+reply_of homes seat places right ordered (command.Remove name) reply.Done meant of = remove_removes homes seat.home name seat.session places right ordered meant
+reply_of homes seat places right ordered (command.Used name) (reply.Used used count) meant of = used_shows homes places right seat.home name used count meant
+reply_of homes seat places right ordered (command.SnapCreate name snap) reply.Done meant of = snap_create_takes homes places right seat.home name snap meant
+reply_of homes seat places right ordered (command.SnapRemove name snap) reply.Done meant of = snap_remove_removes homes places right seat.home name snap meant
+reply_of homes seat places right ordered (command.Read name snap at len) (reply.Bytes bytes) meant of =
     shows_at_places homes seat.home name snap (record { at = at; len = len }) bytes places right ordered meant
-reply_of homes seat places right ordered command.List (reply.Names names) meant = lists_names homes places right seat.home names meant
-reply_of homes seat places right ordered (command.Info name) (reply.Info h) meant = info_shows homes places right seat.home name h meant
-reply_of homes seat places right ordered (command.SnapList name) (reply.Snaps snaps) meant = snaps_show homes places right seat.home name snaps meant
-reply_of homes seat places right ordered (command.Close name) reply.Done meant = close_does_nothing homes places right seat.home name meant
-reply_of homes seat places right ordered (command.Quiesce name) reply.Done meant = quiesce_does_nothing homes places right seat.home name meant
-reply_of homes seat places right ordered (command.Resume name) reply.Done meant = resume_does_nothing homes places right seat.home name meant
-reply_of homes seat places right ordered (command.Tell name bytes) reply.Done meant = tell_does_nothing homes places right seat.home name bytes meant
-reply_of homes seat places right ordered (command.Create name size shape) _ (plain, meant) = absurd meant
-reply_of homes seat places right ordered _ _ meant = absurd meant
+reply_of homes seat places right ordered command.List (reply.Names names) meant of = lists_names homes places right seat.home names meant
+reply_of homes seat places right ordered (command.Info name) (reply.Info h) meant of = info_shows homes places right seat.home name h meant
+reply_of homes seat places right ordered (command.SnapList name) (reply.Snaps snaps) meant of = snaps_show homes places right seat.home name snaps meant
+reply_of homes seat places right ordered (command.Close name) reply.Done meant of = close_does_nothing homes places right seat.home name meant
+reply_of homes seat places right ordered (command.Quiesce name) reply.Done meant of = quiesce_does_nothing homes places right seat.home name meant
+reply_of homes seat places right ordered (command.Resume name) reply.Done meant of = resume_does_nothing homes places right seat.home name meant
+reply_of homes seat places right ordered (command.Tell name bytes) reply.Done meant of = tell_does_nothing homes places right seat.home name bytes meant
+reply_of homes seat places right ordered (command.Create name size shape) _ (plain, meant) of = absurd meant
+reply_of homes seat places right ordered _ _ meant of = absurd meant
 
 -- a reply that is meant behind a run that is right is the asked command's
-pub reply_at_places : (homes : ℕ → SiteId) (line : ℕ) (r : Reply) (before run : List Happening) (asked : Asked) → IsRight homes run
+pub reply_at_places : (homes : ℕ → SiteId) (line : ℕ) (r : Reply) (before run : List Happening) (asked : Asked) → IsRight homes run → asked_by line run ≡ asked_by line before
     → IsReplyMeant homes line r before run → asked_by line before ≡ Some asked → IsReplyOf asked.command r (places_of line run)
-reply_at_places homes line r before run asked right is asks =
-    subst (λ (a : Asked). IsReplyOf a.command r (places_of line run)) (same_Some is.begun.asked asked (sym is.begun.is ∙ asks))
-    (reply_of homes (seat_at homes is.begun.asked.who) (places_of line run) (places_right homes line run right) (places_ordered line run) is.begun.asked.command r
-    (subst (λ steps. IsMeantBy (seat_at homes is.begun.asked.who) is.begun.asked.command steps r) (sym (steps_at_places line run)) is.meant))
+reply_at_places homes line r before run asked right still is asks =
+    let seat : Seat = seat_at homes is.begun.asked.who.session in
+    let places : List Placed = places_of line run in
+    let meant : IsMeantBy seat is.begun.asked.command (map step_at places) r = subst (λ steps. IsMeantBy seat is.begun.asked.command steps r) (sym (steps_at_places line run)) is.meant in
+    subst (λ (a : Asked). IsReplyOf a.command r places) (same_Some is.begun.asked asked (sym is.begun.is ∙ asks))
+    (reply_of homes seat places (places_right homes line run right) (places_ordered line run) is.begun.asked.command r meant
+    (record {
+      line = line;
+      run = run;
+      right = right;
+      asked = is.begun.asked;
+      asks = still ∙ is.begun.is;
+      command_is = refl;
+      in_line = places_in_line line run;
+      within = all_in line run;
+      at_home = meant_at_places seat is.begun.asked.command places r meant;
+    }))
 
 -- ---- a line that is refused on its way to the lock
 
@@ -81,8 +97,8 @@ refused_on_way homes line o r run asked right is asks =
     let told = refused_there o.answer r is.refuses in
     let look : List Answered = look_answered o.site is.image o.answer ∷ [] in
     subst (λ (a : Asked). IsReplyOf a.command r (places_of line run)) (same_Some is.begun.asked asked (sym is.begun.is ∙ asks))
-    (refused_before homes (seat_at homes is.begun.asked.who) is.begun.asked.command r told.reason look (places_of line run) (places_right homes line run right) told.is
-    (subst (λ steps. IsMeantBy (seat_at homes is.begun.asked.who) is.begun.asked.command (steps ++ look) r) (sym (steps_at_places line run)) is.meant))
+    (refused_before homes (seat_at homes is.begun.asked.who.session) is.begun.asked.command r told.reason look (places_of line run) (places_right homes line run right) told.is
+    (subst (λ steps. IsMeantBy (seat_at homes is.begun.asked.who.session) is.begun.asked.command (steps ++ look) r) (sym (steps_at_places line run)) is.meant))
 
 -- ---- any that ends with an operation
 
@@ -91,5 +107,5 @@ pub reply_behind : (homes : ℕ → SiteId) (line : ℕ) (o : Operation) (r : Re
 reply_behind homes line o r run asked right mine asks = by (ends_so homes line o r run mine right.1.1)
   where
     by : (IsReplyMeant homes line r run (Did o (Some r) ∷ run)) ⊎ (EndsOnWay homes line r o run o.by) → IsReplyOf asked.command r (places_of line (Did o (Some r) ∷ run))
-    by (inl is) = reply_at_places homes line r run (Did o (Some r) ∷ run) asked right is asks
+    by (inl is) = reply_at_places homes line r run (Did o (Some r) ∷ run) asked right refl is asks
     by (inr way) = subst (IsReplyOf asked.command r) (sym (places_on_way line o (Some r) run way.apart)) (refused_on_way homes line o r run asked right.2 way.is asks)

@@ -1,13 +1,12 @@
 -- Each object that became what it was at a snapshot was read there, and its head has the effect of the
 -- bytes that were read.
-use Rattle.std.proofs.Common.{◌≡◌, ℕ, ◌+◌, ◌≤◌, List, [], ◌∷◌, ◌++◌, map, Option, Some, None, option_map, unwrap_or, refl, sym, ap, ◌∙◌, subst, arith}
-use Rattle.std.specs.Prelude.{All, IsSome}
+use Rattle.std.proofs.Common.{◌≡◌, ℕ, List, [], ◌∷◌, ◌++◌, map, Some, option_map, unwrap_or, refl, sym, ap, ◌∙◌, subst, arith}
+use Rattle.std.specs.Prelude.{IsSome}
 use Rattle.std.proofs.lemmas.List.Elements.{All-head, All-tail}
 use Rattle.rbd_flat.specs.declared.effect.Effect.TheVariants as effect
 use Rattle.rbd_header.specs.Header.{context_of, snap_in}
 use Rattle.rbd_header.specs.declared.view.View.{View}
 use Rattle.rbd_kinds.specs.declared.answer.Answer.{Answer}
-use Rattle.rbd_kinds.specs.declared.answer.Answer.TheVariants as answer
 use Rattle.rbd_kinds.specs.declared.header.HeaderView.{HeaderView}
 use Rattle.rbd_kinds.specs.declared.header.SnapView.{SnapView}
 use Rattle.rbd_kinds.specs.declared.id.SiteId.{SiteId}
@@ -25,7 +24,7 @@ use Rattle.rbd_zero.specs.Operations.{data_write_full, map_set, done}
 use Rattle.rbd_zero.specs.Zero.{head_of, is_inside}
 use Rattle.rbd_replies.specs.Places.{Placed, effects_of}
 use Rattle.rbd_replies.specs.Reads.{IsPieceAt}
-use Rattle.rbd_replies.specs.RolledBack.{RestoresAll, RestoresFirst, replace_effect, replacing}
+use Rattle.rbd_replies.specs.RolledBack.{RestoresAll, RestoresFirst, replacing}
 use Rattle.rbd_replies.proofs.Measured.{AllLike, IsLike, below_there, like_back, like_front, replace_there}
 use Rattle.rbd_replies.proofs.PlacedRight.{ArePlacedRight, IsPlacedRight, right_back, right_front}
 use Rattle.rbd_replies.proofs.Places.{step_at}

@@ -14,7 +14,8 @@ use Rattle.rbd_meaning.proofs.Undone.{meant_changes_nothing, nothing_after, pass
 use Rattle.rbd_meaning.specs.Meant.{IsMeantBy}
 use Rattle.rbd_meaning.specs.Undone.{ChangeNothing}
 use Rattle.rbd_world.specs.Run.{Asked, Happening, Did, Operation, asked_by, is_for, steps_of}
-use Rattle.rbd_world.specs.Sound.{IsRefusedOnWay, IsReplyMeant, IsRight, look_answered, seat_at}
+use Rattle.rbd_world.specs.Seats.{seat_at}
+use Rattle.rbd_world.specs.Sound.{IsRefusedOnWay, IsReplyMeant, IsRight, look_answered}
 use Rattle.rbd_replies.proofs.OnWay.{EndsOnWay, ends_so, nothing_before, places_on_way}
 use Rattle.rbd_replies.proofs.PlacedRight.{places_right}
 use Rattle.rbd_replies.proofs.Places.{steps_at_places}
@@ -50,7 +51,7 @@ pub shown_at_places : (homes : ℕ → SiteId) (line : ℕ) (r : Reply) (before 
 shown_at_places homes line r before run asked right is asks shows =
     nothing_at_places homes (places_of line run) (places_right homes line run right)
     (subst ChangeNothing (sym (steps_at_places line run))
-    (shown_looks (seat_at homes is.begun.asked.who) is.begun.asked.command (steps_of line run) r
+    (shown_looks (seat_at homes is.begun.asked.who.session) is.begun.asked.command (steps_of line run) r
     (ap (λ (a : Asked). only_shows a.command) (same_Some is.begun.asked asked (sym is.begun.is ∙ asks)) ∙ shows) is.meant))
 
 -- where it is refused on its way to a lock
@@ -61,7 +62,7 @@ shown_on_way homes line o r run asked right is asks shows =
     nothing_at_places homes (places_of line run) (places_right homes line run right)
     (subst ChangeNothing (sym (steps_at_places line run))
     (nothing_before (steps_of line run) look
-    (shown_looks (seat_at homes is.begun.asked.who) is.begun.asked.command (steps_of line run ++ look) r
+    (shown_looks (seat_at homes is.begun.asked.who.session) is.begun.asked.command (steps_of line run ++ look) r
     (ap (λ (a : Asked). only_shows a.command) (same_Some is.begun.asked asked (sym is.begun.is ∙ asks)) ∙ shows) is.meant)))
 
 pub shown_behind : (homes : ℕ → SiteId) (line : ℕ) (o : Operation) (r : Reply) (run : List Happening) (asked : Asked) → IsRight homes (Did o (Some r) ∷ run)

@@ -46,7 +46,7 @@ reply_told homes line r before run right is same = record {
   are = refl;
   asked = is.begun.asked;
   is = same ∙ is.begun.is;
-  says = reply_at_places homes line r before run is.begun.asked right is is.begun.is;
+  says = reply_at_places homes line r before run is.begun.asked right same is is.begun.is;
 }
 
 -- one that comes with an operation

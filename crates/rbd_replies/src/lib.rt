@@ -24,11 +24,17 @@
 //! | `create` done | the name was free at its first place; its effects are the name and a new image of zeros |
 //! | `write`, `fill` done | its effects are its pieces, one for each object of its extent, in order, in the image that the name had; they lie within the size at its own look |
 //! | `snap create`, `snap rm` done | its one effect is the snapshot taken, or the removal of the one that the flat image had under the name at its own look |
+//! | `discard` done | its effects are zeros at its pieces, one for each object of its extent, in order; it lies within the size at its own look |
+//! | `resize` done | its effects are zeros from the new size on, where it shrank, and then the size |
+//! | `snap rollback` done | its effects are those of a resize to the size of the flat snapshot that the name had at its own look, and then for each object of this size the bytes that the flat snapshot shows where the object was read |
+//! | `rm` done | its effects are the name freed, where one led to the image still, and the image gone; it had no snapshot at its own look |
+//! | `rename` done | its one effect is the other name, which was free, for the image that the first had at its place |
 //! | `ls` | all names of the flat site at its place |
+//! | `du` | how many objects the size of the flat image has at the place of its look; and how many of them are in use by the states that its map told |
 //! | `info`, `snap ls` | size, role and snapshots of the flat image at the place of its look |
 //! | `read` | in its last pass each piece's bytes are the flat view's at the place where that piece was read; the extent lies within the view, and the header at both ends of the pass has one generation |
 //! | `close`, `quiesce`, `resume`, `tell` done | no effect at all |
-//! | any refused | no effect at all, unless the fence refuses a `create`, a `write` or a `fill` when a part of it was done; what refuses it is said of its last answer by `rbd_meaning` |
+//! | any refused | no effect at all, unless the fence refuses a change when a part of it was done; what refuses it is said of its last answer by `rbd_meaning` |
 //! | any refused on its way to the lock | no effect at all; what refuses it is said as of a look under the lock that was answered as the way's last operation was |
 //! | any to a command that changes no image | no effect at all, also where its line is lost or under way |
 //!
@@ -37,7 +43,7 @@
 //! | operation | what holds |
 //! |---|---|
 //! | of a fenced instance | at the site that fenced it: it is answered `Fenced`, and neither site, no flat site and no notice changes, at every place behind the fence, also long after its session was stopped |
-//! | a change of an image that is done | it is by the owner of the image's lock there |
+//! | a change of an image that is done | it is by the owner of the image's lock there, or makes the map of an image without a header, or removes what is left of one |
 //! | a lock is broken | its owner was fenced before, at that site |
 //!
 //! # Contracts
@@ -47,6 +53,9 @@
 //! | `specs/Places.antt` | the places of a command's operations, the flat site there, and their effects |
 //! | `specs/Home.antt` | that they were done at one site |
 //! | `specs/Changed.antt` | what changes did |
+//! | `specs/Zeroed.antt` | what a discard and a resize did |
+//! | `specs/RolledBack.antt` | what a rollback did |
+//! | `specs/Removed.antt` | what an `rm` did |
 //! | `specs/Listed.antt` | what listings show |
 //! | `specs/Reads.antt` | what a read shows |
 //! | `specs/Replies.antt` | all of it, by command and reply (`IsReplyOf`) |
@@ -63,10 +72,15 @@
 //! `rbd_meaning` says of a reply which operations its line did and what they were answered; the run
 //! says that each answer is that of the records there, and that these stand for the flat site. So
 //! each row above is a law of `rbd_stands` at one place or several. For a read the header is the
-//! same at all places of the pass, since a header that is there stays, its generation never falls,
-//! and what leaves the generation leaves the header, but for its owner. Where no reply came, a walk
-//! of the command's plan led to where the line is or was lost (`IsLedTo` of `rbd_world`), and what
-//! the plan may ask for is known.
+//! same at all places of the pass, since a header that is there stays until it is removed, and none
+//! comes in its place then; its generation never falls, and what leaves the generation leaves the
+//! header, but for its owner. Where no reply came, a walk of the command's plan led to where the
+//! line is or was lost (`IsLedTo` of `rbd_world`), and what the plan may ask for is known.
+//!
+//! Which bytes a discard, a resize and a rollback changed depends on the header at each operation.
+//! That is the one that the command's own look told, with its own changes since: the run says of
+//! each operation of a line what its command knew by the line's own operations (`Recalls` of
+//! `rbd_world`), and that what is known is true.
 //!
 //! A blocklist only grows: the one operation that changes it puts an instance in, and a trim or the
 //! end of a watch leaves it. So who is fenced at a place is so at all later ones, and a site does
