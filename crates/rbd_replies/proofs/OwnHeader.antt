@@ -21,7 +21,8 @@ use Rattle.rbd_requests.specs.Served.{IsPlanFor}
 use Rattle.rbd_site.specs.Step.{is_fenced}
 use Rattle.rbd_stands.proofs.Served.{is_served}
 use Rattle.rbd_world.specs.Run.{Asked, Doer, Itself, OnWay, House, AfterStop, Happening, Nothing, Waited, Began, Did, Refused, Trimmed, Expired, Heard, Stopped, Restarted, asked_by, is_own, steps_of}
-use Rattle.rbd_world.specs.Sound.{IsDue, IsRight, Recalls, RecallsBy, known_along}
+use Rattle.rbd_world.specs.Past.{known_along}
+use Rattle.rbd_world.specs.Sound.{IsDue, IsRight, Recalls, RecallsBy}
 use Rattle.rbd_replies.specs.Home.{AreDoneAt}
 use Rattle.rbd_replies.specs.Places.{Placed}
 use Rattle.rbd_replies.proofs.InLine.{AreInLine}

@@ -28,7 +28,7 @@ use Rattle.rbd_machine.specs.Wait as wait
 use Rattle.rbd_machine.specs.declared.reason.Reason.{Reason}
 use Rattle.rbd_machine.specs.declared.reason.Reason.TheVariants as reason
 use Rattle.rbd_rely.specs.Truth.{header_of_own, known_header}
-use Rattle.rbd_world.specs.Sound.{known_along}
+use Rattle.rbd_world.specs.Past.{known_along}
 use Rattle.rbd_replies.proofs.KeepsOwn.{IsOnImage, KeepsOwn, StaysInLine}
 
 -- ---- what the steps behind the own look changed of the header

@@ -21,7 +21,8 @@ use Rattle.rbd_site.specs.Step.{after, after_served}
 use Rattle.rbd_site.proofs.GenerationLemmas.{generation_lasts, generation_same, lock_alone}
 use Rattle.rbd_site.proofs.StepLemmas.{where_fenced}
 use Rattle.rbd_world.specs.Run.{Happening, Nothing, Waited, Began, Did, Refused, Trimmed, Expired, Heard, Stopped, Restarted, records_after, records_behind}
-use Rattle.rbd_world.specs.Sound.{HadNoHeader, IsDone, IsDue, IsRight}
+use Rattle.rbd_world.specs.Past.{HadNoHeader}
+use Rattle.rbd_world.specs.Sound.{IsDone, IsDue, IsRight}
 use Rattle.rbd_replies.proofs.Fencing.{one_site}
 use Rattle.rbd_replies.proofs.PlacedRight.{done_of}
 use Rattle.rbd_replies.proofs.ReadOrder.{GoesOn}

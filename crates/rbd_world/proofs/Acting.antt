@@ -1,5 +1,5 @@
 -- Who acts at a slot of a client has an operation done: what is known then, by everybody.
-use Rattle.std.proofs.Common.{◌≡◌, ◌≢◌, ◌⊎◌, inl, inr, ℕ, ◌<◌, cond, false, ◌∷◌, length, Option, Some, None, refl, sym, ap, ◌∙◌, subst, arith}
+use Rattle.std.proofs.Common.{◌≡◌, ◌≢◌, ◌⊎◌, inl, inr, ℕ, ◌<◌, cond, false, ◌∷◌, length, Option, Some, None, refl, sym, ap, ◌∙◌, subst, arith, ◌==◌, Bool, true}
 use Rattle.std.specs.Prelude.{IsSome}
 use Rattle.std.proofs.lemmas.Bool.{true≢false, eq-eqb}
 use Rattle.rbd_client.specs.declared.actor.Actor.{Actor}
@@ -25,8 +25,8 @@ use Rattle.rbd_kinds.specs.declared.operation.Op.{Op}
 use Rattle.rbd_kinds.specs.declared.reply.Reply.{Reply}
 use Rattle.rbd_known.specs.Knowing.{AllKnow, known_behind, unless_ended}
 use Rattle.rbd_known.proofs.Little.{still_beside}
-use Rattle.rbd_known.proofs.Wanting.{wants}
-use Rattle.rbd_machine.specs.Knowledge.{Knowledge, learned, nothing_known, same_site}
+use Rattle.rbd_known.proofs.Wanting.{wants, Wants}
+use Rattle.rbd_machine.specs.Knowledge.{Knowledge, learned, nothing_known, same_site, is_drawn}
 use Rattle.rbd_machine.specs.Permits.{Permits}
 use Rattle.rbd_machine.specs.Plan.{Ask, Standing}
 use Rattle.rbd_machine.specs.Refused.{IsGiven}
@@ -41,10 +41,12 @@ use Rattle.rbd_session.specs.Session.{held_in, running_at, running_in}
 use Rattle.rbd_session.proofs.Sound.{no_some, some_same}
 use Rattle.rbd_site.specs.Records.{Records}
 use Rattle.rbd_site.specs.Step.{answer_to}
-use Rattle.rbd_world.specs.Run.{Doer, Happening, Did, Sent, flat_after, sent_of}
-use Rattle.rbd_world.specs.Sound.{AreStrangers, Holder, InSlot, Sending, IsDone, IsLiving, IsNextOf, IsOf, IsSoundWorld, MayStillCome, known_in}
+use Rattle.rbd_world.specs.Run.{Doer, Happening, Did, Sent, flat_after, sent_of, records_after}
+use Rattle.rbd_world.specs.Past.{HadNoHeader}
+use Rattle.rbd_world.specs.Sound.{AreStrangers, Holder, InSlot, Sending, IsDone, IsLiving, IsNextOf, IsOf, IsSoundWorld, MayStillCome, known_in, RecallsBy}
 use Rattle.rbd_world.specs.Step.{DoesAtSites, Goes, operation_at}
 use Rattle.rbd_world.specs.World.{LateView, LivesView, WorldView, client_in, late_at, late_of, lives_in, records_in, sent_in, site_in}
+use Rattle.rbd_world.proofs.Unborn.{IsNew, acted_drawn, learned_drawn, never_born, new_is_past, way_drawn}
 use Rattle.rbd_world.proofs.AtSites.{at_either, beside_then, can_give, elsewhere_now, here_now, is_done, others_true, sending_then, stands_in, stands_then, tells_alone, unless_over, whole_then}
 use Rattle.rbd_world.proofs.Carried.{HasWholeImages, StandFlat}
 use Rattle.rbd_world.proofs.Changed.{lives_there, same_or_other}
@@ -204,8 +206,8 @@ module _ {R : Type 0} (stands : R → Standing) (old new : WorldView R) (w : IsS
     pub alone : TellsStandalone a
     alone = tells_alone stands old new w me doer s o result goes_by known permits (locked s) at_sites
 
-    pub done_so : IsOf doer me s o w.run → IsNextOf doer s o w.run → IsDone (operation_at (site_in s old.sites) me doer s o) w.run
-    done_so whose next = is_done stands old new w me doer s o result goes_by known permits (locked s) at_sites whose next
+    pub done_so : RecallsBy doer s o goes_by w.run → IsOf doer me s o w.run → IsNextOf doer s o w.run → IsDone (operation_at (site_in s old.sites) me doer s o) w.run
+    done_so recalls whose next = is_done stands old new w me doer s o result goes_by known permits (locked s) at_sites (λ image drawn. w.new (InSlot session slot) s image (acted_drawn (knew slot) acts s image drawn)) recalls whose next
 
     pub all_know : AllKnow stands knows_now d.session
     all_know = feeding_is_known stands c d knew slot s o (fed.Answer a) result alone living.sound sound.session living.know became.slots became.others wanted (can_get stands slot c s o a wanted can.can) became.fed
@@ -309,3 +311,65 @@ module _ {R : Type 0} (stands : R → Standing) (old new : WorldView R) (w : IsS
           by actor.Request is (inl same) =
               subst (λ b. Beside t (cond b (unless_ended result (known_behind (knew slot) (plan_of stands (running_at slot c.session)) (fed.Answer a))) (knew x))) (sym (eq-eqb x slot same))
               (over t (known_behind (knew slot) (plan_of stands (running_at slot c.session)) (fed.Answer a)) (goes_there is same t))
+
+    -- ---- what the requests know then
+
+    -- what the request in a slot knows then, by who acts and whether it is in the slot of that
+    abbrev known_by : (x : ℕ) → Actor → Bool → Knowledge
+    known_by x actor.Nobody b = knew x
+    known_by x (actor.Release r) b = knew x
+    known_by x (actor.Way y) b = cond b (unless_ended result (knew x)) (knew x)
+    known_by x actor.Request b = cond b (unless_ended result (known_behind (knew slot) (plan_of stands (running_at slot c.session)) (fed.Answer a))) (knew x)
+
+    known_so : (x : ℕ) (m : Actor) → knows_fed knew slot result (plan_of stands (running_at slot c.session)) (fed.Answer a) m x ≡ known_by x m (x == slot)
+    known_so x actor.Nobody = refl
+    known_so x (actor.Release r) = refl
+    known_so x (actor.Way y) = refl
+    known_so x actor.Request = refl
+
+    -- those in other slots know what they knew
+    pub others_know : (x : ℕ) → x ≢ slot → knows_now x ≡ knew x
+    others_know x apart = known_so x acts ∙ ap (known_by x acts) (lines_differ x slot apart) ∙ by acts
+      where
+        by : (m : Actor) → known_by x m false ≡ knew x
+        by actor.Nobody = refl
+        by (actor.Release r) = refl
+        by (actor.Way y) = refl
+        by actor.Request = refl
+
+    -- ---- ids that they know as drawn
+
+    -- what a request learns by the operation
+    learns_new : actor.Request ≡ acts → (t : SiteId) (image : ℕ) → is_drawn (known_behind (knew slot) (plan_of stands (running_at slot c.session)) (fed.Answer a)).drawn t image ≡ true → HadNoHeader t image w.run
+    learns_new requests t image drawn = by (learned_drawn (knew slot) s t image o a (way_drawn (asks.next a) (learned (knew slot) s o a) t image (subst (λ p. is_drawn (known_behind (knew slot) p (fed.Answer a)).drawn t image ≡ true) plan_is drawn)))
+      where
+        asks : Wants stands slot c.session.lines s o (held_in slot c.session.slots)
+        asks = wants stands slot c.session.lines s o (held_in slot c.session.slots) (subst (λ m. op_by stands slot c.session m ≡ Some (s, o)) (sym requests) wanted)
+
+        plan_is : plan_of stands (running_at slot c.session) ≡ Ask s asks.why o asks.next
+        plan_is = ap (λ h. plan_of stands (running_in h)) asks.is ∙ asks.plan
+
+        by : (is_drawn (knew slot).drawn t image ≡ true) ⊎ IsNew s o a t image → HadNoHeader t image w.run
+        by (inl was) = w.new (InSlot session slot) t image was
+        by (inr new) =
+            never_born w.homes w.run w.right t image
+            (subst (λ q. (records_after q w.run).directory.drawn < image) new.here
+            (subst (λ (r : Records). r.directory.drawn < image) (w.records s) (new_is_past (records_in s old.sites) me s t o image new)))
+
+    pub new_now : (x : ℕ) (t : SiteId) (image : ℕ) → is_drawn (knows_now x).drawn t image ≡ true → HadNoHeader t image w.run
+    new_now x t image drawn = by acts refl (x == slot) (subst (λ k. is_drawn k.drawn t image ≡ true) (known_so x acts) drawn)
+      where
+        still : is_drawn (knew x).drawn t image ≡ true → HadNoHeader t image w.run
+        still drawn = w.new (InSlot session x) t image drawn
+
+        over : (k : Knowledge) → (is_drawn k.drawn t image ≡ true → HadNoHeader t image w.run) → (ended : Option Reply) → is_drawn (unless_ended ended k).drawn t image ≡ true → HadNoHeader t image w.run
+        over k goes None drawn = goes drawn
+        over k goes (Some reply) drawn = absurd (true≢false (sym drawn))
+
+        by : (m : Actor) → m ≡ acts → (b : Bool) → is_drawn (known_by x m b).drawn t image ≡ true → HadNoHeader t image w.run
+        by actor.Nobody is b = still
+        by (actor.Release r) is b = still
+        by (actor.Way y) is true = over (knew x) still result
+        by (actor.Way y) is false = still
+        by actor.Request is true = over (known_behind (knew slot) (plan_of stands (running_at slot c.session)) (fed.Answer a)) (learns_new is t image) result
+        by actor.Request is false = still

@@ -16,6 +16,8 @@ use Rattle.rbd_kinds.specs.declared.reply.Reply.{Reply}
 use Rattle.rbd_known.specs.Calm.{IsCalm, IsCalmRequest}
 use Rattle.rbd_known.proofs.Unowned.{calm_stays}
 use Rattle.rbd_machine.specs.Answers.{CanBeFed}
+use Rattle.rbd_known.specs.Knowing.{known_behind}
+use Rattle.rbd_machine.specs.Knowledge.{Knowledge, nothing_known}
 use Rattle.rbd_machine.specs.Label.{Label}
 use Rattle.rbd_machine.specs.Path.{Answered, IsWalk, at_operation}
 use Rattle.rbd_machine.specs.Plan.{Plan, Ask, Await, Note, Return, Goto, Standing, plan_after}
@@ -34,9 +36,9 @@ use Rattle.rbd_session.proofs.Sound.{no_some, some_same}
 use Rattle.rbd_world.specs.Run.{Itself, Happening, Did, Operation, asked_by, steps_of}
 use Rattle.rbd_machine.specs.Standalone.{TellAllStandalone, TellsStandalone}
 use Rattle.rbd_world.specs.Seats.{seat_at}
-use Rattle.rbd_world.specs.Sound.{IsDone, IsDue, IsHeldRightly, IsLedTo, IsReplyMeant, IsUnderWay, has_ended}
+use Rattle.rbd_world.specs.Sound.{IsDone, IsDue, IsHeldRightly, IsLedTo, IsReplyMeant, IsUnderWay, has_ended, HasLearned}
 use Rattle.rbd_world.specs.Step.{reply_at}
-use Rattle.rbd_world.proofs.Walks.{IsLed, given_more, standalone_more, led_on}
+use Rattle.rbd_world.proofs.Walks.{IsLed, given_more, standalone_more, led_on, led_known}
 
 -- ---- who waits for nothing stays in no line
 
@@ -187,6 +189,48 @@ module _ {R : Type 0} (stands : R → Standing) where
         track_is : (lines : LinesView)
             → run_on slot (plan_after (stands r.request).plan (fed.Answer a)) (fed_by slot r.extent (track_of r lines) (stands r.request).plan (fed.Answer a)) ≡ went lines
         track_is lines = ap (λ p. run_on slot (plan_after p (fed.Answer a)) (fed_by slot r.extent (track_of r lines) p (fed.Answer a))) asks
+
+    -- ---- what it learns
+
+    pub answer_learned : (k : Knowledge) → HasLearned stands run r k → (before after : LinesView) (q : Running R) → ComesToIn stands slot before (fed.Answer a) None r (Some (occupant.Running q)) after
+        → HasLearned stands (Did done None ∷ run) q (known_behind k (Ask s why o next) (fed.Answer a))
+    answer_learned k has before after q comes = record {
+      begun = record {
+        asked = has.begun.asked;
+        is = ap (λ l. asked_by l run) on.line ∙ has.begun.is;
+        unended = ap (λ l. has_ended l run) on.line ∙ has.begun.unended;
+      };
+      seat = has.seat;
+      start = has.start;
+      plan = has.plan;
+      labels = ap (λ (st : Standing). st.labels) on.stand ∙ has.labels;
+      feds = goes.feds;
+      walk =
+          subst (λ steps. IsWalk has.start.labels has.start.plan goes.feds steps (stands q.request).plan) (sym (ap (λ l. steps_of l (Did done None ∷ run)) on.line ∙ steps_now None))
+          (subst (IsWalk has.start.labels has.start.plan goes.feds (steps_of r.line run ++ step ∷ [])) plan_there goes.walk);
+      known =
+          ap (λ j. known_behind j (Ask s why o next) (fed.Answer a)) has.known
+          ∙ sym (led_known has.start.labels has.start.plan (steps_of r.line run) s why o next a came nothing_known);
+    }
+      where
+        on :
+            WentOn (stands r.request).labels to
+            (run_on slot (plan_after (stands r.request).plan (fed.Answer a)) (fed_by slot r.extent (track_of r before) (stands r.request).plan (fed.Answer a))) r q
+        on =
+            went_on slot (stands r.request).labels to
+            (run_on slot (plan_after (stands r.request).plan (fed.Answer a)) (fed_by slot r.extent (track_of r before) (stands r.request).plan (fed.Answer a))) None r q after refl comes.1
+
+        came : IsLed has.start.labels has.start.plan (steps_of r.line run) (Ask s why o next)
+        came = record { feds = has.feds; walk = subst (IsWalk has.start.labels has.start.plan has.feds (steps_of r.line run)) asks has.walk }
+
+        goes : IsLed has.start.labels has.start.plan (steps_of r.line run ++ step ∷ []) (at_operation has.start.labels (next a))
+        goes = led_on has.start.labels has.start.plan (steps_of r.line run) s why o next a came
+
+        plan_there : at_operation has.start.labels (next a) ≡ (stands q.request).plan
+        plan_there =
+            ap (λ ls. at_operation ls (next a)) (sym has.labels)
+            ∙ sym (ap (λ p. at_operation (stands r.request).labels (plan_after p (fed.Answer a))) asks)
+            ∙ sym (ap (λ (st : Standing). st.plan) on.stand)
 
     -- ---- its slot has its line, or none
 

@@ -1,7 +1,7 @@
 -- What an operation that is permitted does to both sites: they stand, and what others know stays
 -- true.
 use Rattle.std.specs.Prelude.{IsFalse, IsSome}
-use Rattle.std.proofs.Common.{◌≡◌, ◌≢◌, ℕ, cond, false, [], ◌∷◌, length, ◌+◌, Option, Some, None, refl, sym, ap, ◌∙◌, subst}
+use Rattle.std.proofs.Common.{◌≡◌, ◌≢◌, ℕ, cond, false, [], ◌∷◌, length, ◌+◌, Option, Some, None, refl, sym, ap, ◌∙◌, subst, true}
 use Rattle.rbd_client.specs.Client.{ClientView}
 use Rattle.rbd_held.specs.Truth.{IsTrueOf}
 use Rattle.rbd_held.proofs.Others.{others_leave_it_true}
@@ -12,7 +12,7 @@ use Rattle.rbd_kinds.specs.declared.id.SiteId.TheVariants as site
 use Rattle.rbd_kinds.specs.declared.operation.Op.{Op}
 use Rattle.rbd_kinds.specs.declared.reply.Reply.{Reply}
 use Rattle.rbd_known.specs.Knowing.{unless_ended}
-use Rattle.rbd_machine.specs.Knowledge.{Knowledge, nothing_known, same_site}
+use Rattle.rbd_machine.specs.Knowledge.{Knowledge, nothing_known, same_site, is_drawn}
 use Rattle.rbd_machine.specs.Permits.{Permits}
 use Rattle.rbd_machine.specs.Plan.{Standing}
 use Rattle.rbd_machine.specs.Refused.{IsGiven}
@@ -35,7 +35,8 @@ use Rattle.rbd_stands.specs.Effect.{effect_of}
 use Rattle.rbd_stands.specs.Owned.{IsOwnedStep}
 use Rattle.rbd_stands.specs.Site.{StandsFor}
 use Rattle.rbd_world.specs.Run.{Doer, Happening, Did, Operation, Sent, flat_after, records_after}
-use Rattle.rbd_world.specs.Sound.{IsDone, IsNextOf, IsOf, IsSoundWorld, MayStillCome}
+use Rattle.rbd_world.specs.Past.{HadNoHeader}
+use Rattle.rbd_world.specs.Sound.{IsDone, IsNextOf, IsOf, IsSoundWorld, MayStillCome, RecallsBy}
 use Rattle.rbd_world.specs.Step.{DoesAtSites, operation_at}
 use Rattle.rbd_world.specs.World.{WorldView, records_in, site_in}
 use Rattle.rbd_world.proofs.BothSites.{same_site_itself}
@@ -116,8 +117,8 @@ module _ {R : Type 0} (stands : R → Standing) (old new : WorldView R) (w : IsS
   tells_alone = told_standalone (records_in s old.sites) who (w.standalone s) o can_give
 
   -- it is the one that its site does there
-  pub is_done : IsOf by who s o w.run → IsNextOf by s o w.run → IsDone operation w.run
-  is_done whose next = record {
+  pub is_done : ((image : ℕ) → is_drawn k.drawn s image ≡ true → HadNoHeader s image w.run) → RecallsBy by s o k w.run → IsOf by who s o w.run → IsNextOf by s o w.run → IsDone operation w.run
+  is_done new recalls whose next = record {
     whose = whose;
     next = next;
     number = ap (λ ds. length ds + 1) (w.logs s);
@@ -126,6 +127,8 @@ module _ {R : Type 0} (stands : R → Standing) (old new : WorldView R) (w : IsS
     knows = k;
     truth = subst (λ r. IsTrueAt s r who k) (w.records s) (known s);
     permits = permits;
+    new = new;
+    recalls = recalls;
     owned = subst (λ r. IsOwnedStep r who o answered) (w.records s) (is_owned s (records_in s old.sites) who k (known s) locked o permits);
   }
 

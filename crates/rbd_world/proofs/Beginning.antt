@@ -24,7 +24,7 @@ use Rattle.rbd_stands.proofs.Nothing.{nothing_stands}
 use Rattle.rbd_world.specs.Owing.{owed_in}
 use Rattle.rbd_world.specs.Run.{Happening}
 use Rattle.rbd_world.specs.Seats.{seat_of_home}
-use Rattle.rbd_world.specs.Sound.{AreLivesOf, Holder, InSlot, Sending, IsFirst, IsHeldRightly, IsLiving, IsNewWorld, IsRunning, IsSoundWorld, KeepsToItsWay, first_life, held_of, line_at}
+use Rattle.rbd_world.specs.Sound.{HasLearnedIf, AreLivesOf, Holder, InSlot, Sending, IsFirst, IsHeldRightly, IsLiving, IsNewWorld, IsRunning, IsSoundWorld, KeepsToItsWay, first_life, held_of, line_at}
 use Rattle.rbd_world.specs.Step.{IsFresh}
 use Rattle.rbd_world.specs.World.{LivesView, WorldView, client_in, late_at, late_of, lives_in, sent_in, session_of}
 use Rattle.rbd_world.proofs.Changed.{lives_there}
@@ -43,6 +43,7 @@ module _ {R : Type 0} (stands : R → Standing) where
       know = λ slot. subst (λ o. KnowsIn stands slot (running_in o) c.session.lines nothing_known) (sym (fresh.slots slot)) refl;
       held = λ slot. subst (IsHeldRightly stands (seat_of_home session there) c.session.instance run) (sym (fresh.slots slot)) tt;
       ways = λ slot. subst (λ o. KeepsToItsWay stands run (state_in slot c.slots).way (running_in o)) (sym (fresh.slots slot)) tt;
+      learned = λ slot. subst (λ o. HasLearnedIf stands run (running_in o) nothing_known) (sym (fresh.slots slot)) tt;
     }
 
     pub fresh_true : (s : SiteId) (r : Records) (me : Instance) → IsTrueOf s r me (λ slot. nothing_known) c
@@ -139,6 +140,7 @@ module _ {R : Type 0} (stands : R → Standing) where
     sending = λ session slot x is. absurd (no_some x (sym (none_late w new session slot) ∙ is));
     unsent = λ session slot none. refl;
     drops = λ session slot there x differ is. absurd (no_some x (sym (none_late w new session slot) ∙ is));
+    new = λ h s image drawn. tt;
     beside = λ h g strangers s. nothing_is_beside s _ _ _ nothing_known;
     order = tt;
     in_order = λ session c is.

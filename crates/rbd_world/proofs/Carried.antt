@@ -1,6 +1,6 @@
 -- What has to be shown of a happening: calls, history, logs, mail and records go with any.
 use Rattle.std.proofs.Common.{◌≡◌, ◌≢◌, ℕ, ◌||◌, ◌==◌, nat_le, nat_lt, cond, Bool, true, false, List, [], ◌∷◌, ◌++◌, length, ◌+◌, is_some, Option, Some, None, refl, sym, ap, ◌∙◌, subst}
-use Rattle.std.proofs.lemmas.Bool.{eqb-true}
+use Rattle.std.proofs.lemmas.Bool.{true≢false, eqb-true}
 use Rattle.rbd_client.specs.declared.actor.Actor.{Actor}
 use Rattle.rbd_client.specs.declared.actor.Actor.TheVariants as actor
 use Rattle.rbd_client.specs.Actor.{actor_at}
@@ -10,7 +10,7 @@ use Rattle.rbd_held.specs.Truth.{IsTrueOf}
 use Rattle.rbd_kinds.specs.declared.id.Instance.{Instance}
 use Rattle.rbd_kinds.specs.declared.id.SiteId.{SiteId}
 use Rattle.rbd_kinds.specs.declared.notice.Notice.{Notice}
-use Rattle.rbd_machine.specs.Knowledge.{Knowledge, nothing_known, same_instance}
+use Rattle.rbd_machine.specs.Knowledge.{Knowledge, is_drawn, nothing_known, same_instance}
 use Rattle.rbd_machine.specs.Label.{Label}
 use Rattle.rbd_machine.specs.Plan.{Plan, Ask, Await, Note, Return, Goto, Standing}
 use Rattle.rbd_rely.specs.Beside.{AreBeside, MayAct}
@@ -33,6 +33,7 @@ use Rattle.rbd_world.specs.declared.event.Event.{Event}
 use Rattle.rbd_world.specs.declared.event.Event.TheVariants as event
 use Rattle.rbd_world.specs.declared.sites.Sites.{Sites}
 use Rattle.rbd_world.specs.Order.{IsInOrder, IsInTurn}
+use Rattle.rbd_world.specs.Past.{HadNoHeader}
 use Rattle.rbd_world.specs.Run.{Happening, Nothing, Waited, Began, Did, Refused, Trimmed, Expired, Heard, Stopped, Restarted, Sent, IsOfEvent, entries_of, flat_after, lines_at, log_of, mail_of, records_after, records_behind, sent_after}
 use Rattle.rbd_world.specs.Sound.{AreApart, AreInSlots, AreLivesOf, AreStrangers, Holder, InSlot, Sending, IsDue, IsLiving, IsSoundWorld, IsStanding, MayStillCome, known_in}
 use Rattle.rbd_world.specs.Step.{Does, DoesAtSites, begins_of, call_of, come, delivered, done_by, ended_watch, goes_on_by, happening, heard_by, is_begun, mail_then, polled, polled_in, releases, restarted, restarted_of, stopped, submitted}
@@ -192,6 +193,7 @@ module _ {R : Type 0} (stands : R → Standing) where
     pub unsent : (session slot : ℕ) → late_at session slot new.lives ≡ None → knows (Sending session slot) ≡ nothing_known
     pub drops : (session slot there : ℕ) (x : Sent) → slot ≢ there → late_at session slot new.lives ≡ Some x → (r : Records)
         → MayAct x.site r (who (Sending session slot)) (who (Sending session there)) (knows (Sending session slot)) (knows (Sending session there)) x.op
+    pub none_yet : (g : Holder) (s : SiteId) (image : ℕ) → is_drawn (knows g).drawn s image ≡ true → HadNoHeader s image w.run
     pub beside : (h g : Holder) → AreStrangers h g → (s : SiteId) → AreBeside s (records_in s new.sites) (who h) (who g) (knows h) (knows g)
     pub owes : IsOwedFor h w.run
     pub turn : IsInTurn h w.run
@@ -249,6 +251,7 @@ module _ {R : Type 0} (stands : R → Standing) where
         sending = carries.sending;
         unsent = carries.unsent;
         drops = carries.drops;
+        new = λ g s image drawn. (none_now g s image drawn, carries.none_yet g s image drawn);
         beside = carries.beside;
         order = (carries.turn, w.order);
         in_order = carries.in_order;
@@ -259,6 +262,19 @@ module _ {R : Type 0} (stands : R → Standing) where
 
       records_now : (s : SiteId) → records_in s new.sites ≡ records_after s (h ∷ w.run)
       records_now s = at_sites.records s ∙ ap (λ r. records_behind s r h) (w.records s)
+
+      -- nobody drew an id that has a header
+      none_now : (g : Holder) (s : SiteId) (image : ℕ) → is_drawn (is_carried.knows g).drawn s image ≡ true → (records_after s (h ∷ w.run)).headers image ≡ None
+      none_now (InSlot m x) s image drawn = by (client_in m new.lives) refl
+        where
+          by : (o : Option (ClientView R)) → client_in m new.lives ≡ o → (records_after s (h ∷ w.run)).headers image ≡ None
+          by None is = absurd (true≢false (sym drawn ∙ ap (λ (k : Knowledge). is_drawn k.drawn s image) (is_carried.carries.nobody m is x)))
+          by (Some c) is = ap (λ (r : Records). r.headers image) (sym (records_now s)) ∙ (((is_carried.carries.truth m c is s).requests x).drawn image drawn).header
+      none_now (Sending m x) s image drawn = by (late_at m x new.lives) refl
+        where
+          by : (o : Option Sent) → late_at m x new.lives ≡ o → (records_after s (h ∷ w.run)).headers image ≡ None
+          by None is = absurd (true≢false (sym drawn ∙ ap (λ (k : Knowledge). is_drawn k.drawn s image) (is_carried.carries.unsent m x is)))
+          by (Some y) is = ap (λ (r : Records). r.headers image) (sym (records_now s)) ∙ (((is_carried.carries.sending m x y is).1.truth s).drawn image drawn).header
 
       standing_now : StandFlat (h ∷ w.run) → ((s : SiteId) → HasWholeImages (records_in s new.sites)) → (s : SiteId) → IsStanding s (h ∷ w.run)
       standing_now standing whole s = record {

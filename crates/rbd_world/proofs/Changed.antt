@@ -17,10 +17,10 @@ use Rattle.rbd_world.specs.declared.event.Event.{Event}
 use Rattle.rbd_world.specs.Run.{Happening, Life, Sent, life_after, life_behind, sent_behind}
 use Rattle.rbd_world.specs.Seats.{seat_at, seat_of_home}
 use Rattle.rbd_machine.specs.declared.seat.Seat.{Seat}
-use Rattle.rbd_world.specs.Sound.{AreApart, AreLivesOf, IsHeldRightly, IsLiving, IsOpen, IsRunning, IsSoundWorld, KeepsToItsWay, held_of, line_at}
+use Rattle.rbd_world.specs.Sound.{HasLearnedIf, AreApart, AreLivesOf, IsHeldRightly, IsLiving, IsOpen, IsRunning, IsSoundWorld, KeepsToItsWay, held_of, line_at}
 use Rattle.rbd_world.specs.Step.{AreSlotsBut, AreStatesBut, Becomes, BecomesOf, Does, IsSameClient, LivesOnIf, RunsOn, late_behind, latest_behind, names_session}
 use Rattle.rbd_world.specs.World.{LateView, LivesView, WorldView, client_in, late_at, late_of, lives_in, running_of, sent_in, session_of}
-use Rattle.rbd_world.proofs.Quiet.{IsQuiet, held_on, lines_differ}
+use Rattle.rbd_world.proofs.Quiet.{IsQuiet, held_on, learned_on, lines_differ}
 use Rattle.rbd_world.proofs.Ways.{ways_on}
 
 -- ---- this slot, or another one
@@ -265,6 +265,7 @@ module _ {R : Type 0} (stands : R → Standing) where
       know = living.know;
       held = λ x. held_on stands (seat_of_home session home) c.session.instance h run (held_in x c.session.slots) (quiet x) (living.held x);
       ways = λ x. ways_on stands h run (state_in x c.slots).way (held_in x c.session.slots) (quiet x) (living.ways x);
+      learned = λ x. learned_on stands (seat_of_home session home) c.session.instance h run (held_in x c.session.slots) (knows x) (quiet x) (living.learned x);
     }
 
     -- one of which a slot changed
@@ -273,8 +274,9 @@ module _ {R : Type 0} (stands : R → Standing) where
         → ((x line : ℕ) → x ≢ slot → script_line (held_in x c.session.slots) ≡ Some line → IsQuiet line h)
         → IsSoundClient stands d → AllKnow stands knows' d.session → IsHeldRightly stands (seat_of_home session home) c.session.instance (h ∷ run) (held_in slot d.session.slots)
         → KeepsToItsWay stands (h ∷ run) (state_in slot d.slots).way (running_at slot d.session)
+        → ((x : ℕ) → x ≢ slot → knows' x ≡ knows x) → HasLearnedIf stands (h ∷ run) (running_at slot d.session) (knows' slot)
         → IsLiving stands home session (h ∷ run) knows' d
-    living_of knows knows' slot c d living slots states client quiet sound know own keeps = record {
+    living_of knows knows' slot c d living slots states client quiet sound know own keeps others learns = record {
       whose = ap (λ (i : Instance). i.session) client.instance ∙ living.whose;
       runs = subst (λ i. IsRunning i (h ∷ run)) (sym client.instance) (running_on c.session.instance h run lifeless living.runs);
       at_home = client.home ∙ living.at_home;
@@ -282,8 +284,16 @@ module _ {R : Type 0} (stands : R → Standing) where
       know = know;
       held = λ x. subst (λ i. IsHeldRightly stands (seat_of_home session home) i (h ∷ run) (held_in x d.session.slots)) (sym client.instance) (by x (same_or_other x slot));
       ways = λ x. way_by x (same_or_other x slot);
+      learned = λ x. learned_by x (same_or_other x slot);
     }
       where
+        learned_by : (x : ℕ) → (x ≡ slot) ⊎ (x ≢ slot) → HasLearnedIf stands (h ∷ run) (running_at x d.session) (knows' x)
+        learned_by x (inl here) = subst (λ i. HasLearnedIf stands (h ∷ run) (running_at i d.session) (knows' i)) (sym here) learns
+        learned_by x (inr differ) =
+            subst (λ o. HasLearnedIf stands (h ∷ run) (running_in o) (knows' x)) (sym (slots x differ))
+            (subst (HasLearnedIf stands (h ∷ run) (running_at x c.session)) (sym (others x differ))
+            (learned_on stands (seat_of_home session home) c.session.instance h run (held_in x c.session.slots) (knows x) (λ line is. quiet x line differ is) (living.learned x)))
+
         way_by : (x : ℕ) → (x ≡ slot) ⊎ (x ≢ slot) → KeepsToItsWay stands (h ∷ run) (state_in x d.slots).way (running_at x d.session)
         way_by x (inl here) = subst (λ i. KeepsToItsWay stands (h ∷ run) (state_in i d.slots).way (running_at i d.session)) (sym here) keeps
         way_by x (inr differ) =

@@ -14,7 +14,7 @@ use Rattle.rbd_kinds.specs.declared.id.Instance.{Instance}
 use Rattle.rbd_kinds.specs.declared.id.SiteId.{SiteId}
 use Rattle.rbd_kinds.specs.declared.operation.Op.{Op}
 use Rattle.rbd_kinds.specs.declared.operation.Op.TheVariants as op
-use Rattle.rbd_machine.specs.Knowledge.{Knowledge, nothing_known}
+use Rattle.rbd_machine.specs.Knowledge.{Knowledge, nothing_known, is_drawn}
 use Rattle.rbd_machine.specs.Permits.{Permits}
 use Rattle.rbd_machine.specs.Plan.{Standing}
 use Rattle.rbd_rely.specs.Beside.{AreBeside, MayAct}
@@ -30,6 +30,7 @@ use Rattle.rbd_site.specs.Step.{is_fenced}
 use Rattle.rbd_world.specs.declared.event.Event.{Event}
 use Rattle.rbd_world.specs.declared.event.Event.TheVariants as event
 use Rattle.rbd_world.specs.Run.{AfterStop, Happening, Sent, sent_after, sent_of}
+use Rattle.rbd_world.specs.Past.{HadNoHeader}
 use Rattle.rbd_world.specs.Sound.{AreLivesOf, AreStrangers, Holder, InSlot, Sending, IsDone, IsSoundWorld, MayStillCome, held_of, known_in, line_at}
 use Rattle.rbd_world.specs.Step.{BecomesOf, Does, DoesAtSites, LivesOnIf, come, operation_at, without_sent}
 use Rattle.rbd_world.specs.World.{LateView, LivesView, WorldView, client_in, late_at, late_of, lives_in, records_in, running_of, sent_in, session_of, site_in}
@@ -37,7 +38,7 @@ use Rattle.rbd_world.proofs.AtSites.{beside_then, is_done, known_then, locks_the
 use Rattle.rbd_world.proofs.Carried.{IsCarried}
 use Rattle.rbd_world.proofs.Changed.{IsElsewhere, here_or_elsewhere, lives_there, living_on, same_or_other}
 use Rattle.rbd_world.proofs.Debts.{none_sent}
-use Rattle.rbd_world.proofs.Elsewhere.{IsAs, Same, Silent, beside_still, unknown_looks}
+use Rattle.rbd_world.proofs.Elsewhere.{IsAs, Same, Silent, beside_still, unknown_looks, new_still}
 use Rattle.rbd_world.proofs.OrderedWorld.{no_turn, order_on}
 use Rattle.rbd_world.proofs.Quiet.{IsQuiet, lines_differ, quiet_did}
 use Rattle.rbd_world.proofs.Slots.{open_back, same_slots}
@@ -148,6 +149,10 @@ less_by : (P : Knowledge → Type 0) (o : Op) (k : Knowledge) → P nothing_know
 less_by P (op.Header image header.Get) k nothing known = nothing
 less_by P o k nothing known = known
 
+less_drawn : (o : Op) (k : Knowledge) (s : SiteId) (image : ℕ) → is_drawn (unless_look o k).drawn s image ≡ true → is_drawn k.drawn s image ≡ true
+less_drawn (op.Header i header.Get) k s image drawn = absurd (true≢false (sym drawn))
+less_drawn o k s image drawn = drawn
+
 less_permits : (s : SiteId) (o : Op) (k : Knowledge) → Permits k s o → Permits (unless_look o k) s o
 less_permits s (op.Header image header.Get) k permits = tt
 less_permits s o k permits = permits
@@ -208,6 +213,7 @@ module _ {R : Type 0} (stands : R → Standing) (old new : WorldView R) (w : IsS
   due : IsDone (operation_at (site_in x.site old.sites) x.instance (AfterStop slot) x.site x.op) w.run
   due =
       is_done stands old new w x.instance (AfterStop slot) x.site x.op None goes_by known permits locked at_sites
+      (λ image drawn. w.new (Sending session slot) x.site image (less_drawn x.op k x.site image drawn)) tt
       (ap (λ i. sent_after i slot w.run) may.whose ∙ sym (w.late session slot) ∙ sent) tt
 
   -- ---- who is where
@@ -456,6 +462,7 @@ module _ {R : Type 0} (stands : R → Standing) (old new : WorldView R) (w : IsS
           (λ a g apart s.
           beside_then stands old new w x.instance (AfterStop slot) x.site x.op None goes_by known permits locked at_sites (w.who a) (w.who g) (w.knows a) (w.knows g) (w.beside a g apart) s)
           each_is;
+      none_yet = new_still w.who w.who w.knows knows_then (λ s image. HadNoHeader s image w.run) w.new each_is;
       owes = λ calm. absurd (no_some x (sym (none_sent session slot w.run calm.1) ∙ sym (w.late session slot) ∙ sent));
       turn = no_turn (operation_at (site_in x.site old.sites) x.instance (AfterStop slot) x.site x.op) None w.run (λ line. refl);
       in_order = λ m q is. order_on stands old new w h (due, tt) m q (was m q is) (λ y line at. quiet line) (λ other writer. refl);

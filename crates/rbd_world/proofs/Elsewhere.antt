@@ -1,5 +1,5 @@
 -- What begins or ends a life of one session leaves the other sessions as they are.
-use Rattle.std.proofs.Common.{◌≡◌, ◌≢◌, ℕ, ◌==◌, cond, List, ◌∷◌, is_some, None, Some, refl, sym, ap, ◌∙◌, subst}
+use Rattle.std.proofs.Common.{◌≡◌, ◌≢◌, ℕ, ◌==◌, cond, List, ◌∷◌, is_some, None, Some, refl, sym, ap, ◌∙◌, subst, true}
 use Rattle.std.proofs.lemmas.Bool.{true≢false, eq-eqb}
 use Rattle.rbd_client.specs.Client.{ClientView, state_in}
 use Rattle.rbd_kinds.specs.declared.data_op.DataOp.TheVariants as object
@@ -9,7 +9,7 @@ use Rattle.rbd_kinds.specs.declared.id.Instance.{Instance}
 use Rattle.rbd_kinds.specs.declared.id.SiteId.{SiteId}
 use Rattle.rbd_kinds.specs.declared.operation.Op.{Op}
 use Rattle.rbd_kinds.specs.declared.operation.Op.TheVariants as op
-use Rattle.rbd_machine.specs.Knowledge.{Knowledge, nothing_known}
+use Rattle.rbd_machine.specs.Knowledge.{Knowledge, nothing_known, is_drawn}
 use Rattle.rbd_machine.specs.Plan.{Standing}
 use Rattle.rbd_rely.specs.Beside.{AreBeside, MayAct}
 use Rattle.rbd_rely.specs.Truth.{known_header}
@@ -21,7 +21,7 @@ use Rattle.rbd_world.specs.Run.{Happening, Life, life_after, life_behind}
 use Rattle.rbd_world.specs.Seats.{seat_of_home}
 use Rattle.rbd_world.specs.Sound.{AreLivesOf, AreStrangers, Holder, InSlot, IsLiving, known_in}
 use Rattle.rbd_world.specs.World.{LivesView}
-use Rattle.rbd_world.proofs.Quiet.{IsQuiet, held_on, lines_differ}
+use Rattle.rbd_world.proofs.Quiet.{IsQuiet, held_on, learned_on, lines_differ}
 use Rattle.rbd_world.proofs.Ways.{ways_on}
 
 -- ---- lives
@@ -39,6 +39,7 @@ module _ {R : Type 0} (stands : R → Standing) (home : SiteId) (session : ℕ) 
     know = living.know;
     held = λ x. held_on stands (seat_of_home session home) c.session.instance h run (held_in x c.session.slots) (quiet x) (living.held x);
     ways = λ x. ways_on stands h run (state_in x c.slots).way (held_in x c.session.slots) (quiet x) (living.ways x);
+    learned = λ x. learned_on stands (seat_of_home session home) c.session.instance h run (held_in x c.session.slots) (knows x) (quiet x) (living.learned x);
   }
 
   pub lives_still : (l : LivesView R) → AreLivesOf run home session l → AreLivesOf (h ∷ run) home session l
@@ -86,6 +87,15 @@ module _ (who who_now : Holder → Instance) (knows knows_now : Holder → Knowl
   pub data IsAs (g : Holder) : Type 0 where
     Silent : knows_now g ≡ nothing_known → IsAs g
     Same : who_now g ≡ who g → knows_now g ≡ knows g → IsAs g
+
+  -- what is known to be drawn by whoever knows it then was known so
+  pub new_still : (Holds : SiteId → (image : ℕ) → Type 0) → ((g : Holder) (s : SiteId) (image : ℕ) → is_drawn (knows g).drawn s image ≡ true → Holds s image) → ((g : Holder) → IsAs g)
+      → (g : Holder) (s : SiteId) (image : ℕ) → is_drawn (knows_now g).drawn s image ≡ true → Holds s image
+  new_still Holds new each g s image drawn = by (each g)
+    where
+      by : IsAs g → Holds s image
+      by (Silent none) = absurd (true≢false (sym drawn ∙ ap (λ (k : Knowledge). is_drawn k.drawn s image) none))
+      by (Same one two) = new g s image (subst (λ (k : Knowledge). is_drawn k.drawn s image ≡ true) two drawn)
 
   pub beside_still : (r : SiteId → Records) → ((a g : Holder) → AreStrangers a g → (s : SiteId) → AreBeside s (r s) (who a) (who g) (knows a) (knows g)) → ((g : Holder) → IsAs g)
       → (a g : Holder) → AreStrangers a g → (s : SiteId) → AreBeside s (r s) (who_now a) (who_now g) (knows_now a) (knows_now g)

@@ -1,16 +1,17 @@
 -- What has to be shown where the client of one session goes on in its life, put together.
-use Rattle.std.proofs.Common.{◌≡◌, ◌≢◌, ◌⊎◌, inl, inr, ℕ, ◌==◌, cond, [], ◌∷◌, Some, None, refl, sym, ap, ◌∙◌, subst}
+use Rattle.std.proofs.Common.{◌≡◌, ◌≢◌, ◌⊎◌, inl, inr, ℕ, true, ◌==◌, cond, [], ◌∷◌, Some, None, refl, sym, ap, ◌∙◌, subst}
 use Rattle.std.proofs.lemmas.Bool.{eq-eqb}
 use Rattle.rbd_client.specs.Client.{ClientView}
 use Rattle.rbd_held.specs.Truth.{IsTrueOf}
 use Rattle.rbd_kinds.specs.declared.id.SiteId.{SiteId}
-use Rattle.rbd_machine.specs.Knowledge.{Knowledge, nothing_known}
+use Rattle.rbd_machine.specs.Knowledge.{Knowledge, is_drawn, nothing_known}
 use Rattle.rbd_machine.specs.Plan.{Standing}
 use Rattle.rbd_rely.specs.Beside.{AreBeside}
 use Rattle.rbd_rely.proofs.Together.{beside_mutual}
 use Rattle.rbd_session.specs.Session.{held_in, script_line}
 use Rattle.rbd_session.proofs.Sound.{no_some, some_same}
 use Rattle.rbd_world.specs.Order.{IsInOrder, IsInTurn, IsWriterOf}
+use Rattle.rbd_world.specs.Past.{HadNoHeader}
 use Rattle.rbd_world.specs.Run.{Happening, Sent, sent_after, steps_in}
 use Rattle.rbd_world.specs.Sound.{AreApart, AreInSlots, AreStrangers, Holder, InSlot, Sending, IsDue, IsLiving, IsSoundWorld, MayStillCome, known_in}
 use Rattle.rbd_world.specs.World.{WorldView, client_in, late_at, records_in}
@@ -89,8 +90,9 @@ module _ {R : Type 0} (stands : R → Standing) (old new : WorldView R) (w : IsS
         → IsOwedFor h w.run → IsInTurn h w.run
         → ((m : ℕ) (q : ClientView R) → m ≢ session → client_in m old.lives ≡ Some q → (other : ℕ) → IsWriterOf q.session.instance other (h ∷ w.run) → steps_in other h ≡ [])
         → IsInOrder stands (w.homes session) d.session.instance (h ∷ w.run) d.session
+        → ((x : ℕ) (s : SiteId) (image : ℕ) → is_drawn (knows_now x).drawn s image ≡ true → HadNoHeader s image w.run)
         → IsCarried stands old new w h
-    goes_carries standing due whole living quiet apart slots truth others sending owes turn foreign order = record {
+    goes_carries standing due whole living quiet apart slots truth others sending owes turn foreign order none_yet = record {
       who = w.who;
       knows = knows_then;
       carries = record {
@@ -108,6 +110,7 @@ module _ {R : Type 0} (stands : R → Standing) (old new : WorldView R) (w : IsS
         sending = λ m x y is. let before = sym (late_same m x) ∙ is in ((w.sending m x y before).0, sending m x y before);
         unsent = λ m x none. w.unsent m x (sym (late_same m x) ∙ none);
         drops = λ m x z y differ is. w.drops m x z y differ (sym (late_same m x) ∙ is);
+        none_yet = λ g s image. new_by g s image (whose g);
         beside = beside_then;
         owes = owes;
         turn = turn;
@@ -116,6 +119,11 @@ module _ {R : Type 0} (stands : R → Standing) (old new : WorldView R) (w : IsS
       };
     }
       where
+        new_by : (g : Holder) (s : SiteId) (image : ℕ) → Whose g → is_drawn (knows_then g).drawn s image ≡ true → HadNoHeader s image w.run
+        new_by g s image (Mine x one) drawn =
+            none_yet x s image (ap (λ (k : Knowledge). is_drawn k.drawn s image) (sym (mine_knows x) ∙ ap knows_then (sym one)) ∙ drawn)
+        new_by g s image (Others strange same) drawn = w.new g s image (ap (λ (k : Knowledge). is_drawn k.drawn s image) (sym same) ∙ drawn)
+
         here : client_in session new.lives ≡ Some d
         here = client_is old new session c d goes
 

@@ -17,7 +17,7 @@ use Rattle.rbd_watch.specs.Posting.{numbered}
 use Rattle.rbd_world.specs.declared.event.Event.TheVariants as event
 use Rattle.rbd_world.specs.Run.{Heard, mail_of}
 use Rattle.rbd_world.specs.Seats.{seat_at}
-use Rattle.rbd_world.specs.Sound.{AreStrangers, Holder, InSlot, IsDelivered, IsHeldRightly, IsLiving, IsRunning, IsSoundWorld, KeepsToItsWay, held_of, known_in, line_at}
+use Rattle.rbd_world.specs.Sound.{AreStrangers, HasLearnedIf, Holder, InSlot, IsDelivered, IsHeldRightly, IsLiving, IsRunning, IsSoundWorld, KeepsToItsWay, held_of, known_in, line_at}
 use Rattle.rbd_world.specs.Step.{Does, DoesAtSites, Hears, IsSoundIf}
 use Rattle.rbd_world.specs.World.{WorldView, client_in, records_in, session_of}
 use Rattle.rbd_world.proofs.Carried.{IsCarried, numbered_is, whole_in}
@@ -73,6 +73,7 @@ module _ {R : Type 0} (stands : R → Standing) (old new : WorldView R) (w : IsS
     ways = λ x.
         subst (λ ss. KeepsToItsWay stands (Heard notice ∷ w.run) (state_in x ss).way (running_at x d.session)) (sym hears.slots)
         (subst (λ (v : SessionView R). KeepsToItsWay stands (Heard notice ∷ w.run) (state_in x c.slots).way (running_at x v)) (sym hears.session) (still.ways x));
+    learned = λ x. subst (λ (v : SessionView R). HasLearnedIf stands (Heard notice ∷ w.run) (running_at x v) (knew x)) (sym hears.session) (still.learned x);
   }
     where
       still : IsLiving stands (w.homes session) session (Heard notice ∷ w.run) knew c
@@ -99,6 +100,7 @@ module _ {R : Type 0} (stands : R → Standing) (old new : WorldView R) (w : IsS
       truth_now (λ m q differ is s. (stays s).clients q.session.instance (known_in w.knows m) q (w.truth m q is s))
       (λ m x y is. still_may_come stands old new w (λ s. records_in s new.sites) stays m y _ (w.sending m x y is).1) tt tt (λ m q differ is other writer. refl)
       (still_in_order stands old new w (Heard notice) due session c d there hears.session (λ line before. refl) (λ other writer. refl))
+      (λ x t image drawn. w.new (InSlot session x) t image drawn)
 
 module _ {R : Type 0} (stands : R → Standing) where
   pub heard_keeps : (old new : WorldView R) (w : IsSoundWorld stands old) (number : ℕ) (notice : Notice) (c : ClientView R) → numbered number old.sites.mail ≡ Some notice

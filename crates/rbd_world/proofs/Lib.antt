@@ -52,6 +52,7 @@ pub mod Stored
 pub mod Submitted
 pub mod Told
 pub mod Turned
+pub mod Unborn
 pub mod Undone
 pub mod Walks
 pub mod Wanted

@@ -29,7 +29,7 @@ use Rattle.rbd_zero.specs.Size as of_size
 use Rattle.rbd_zero.specs.Zero.{emptying, head_of, is_inside, is_whole, removing, setting, zero_all, zero_by, zero_piece, zeroing}
 use Rattle.rbd_discard.specs.Discard.{zero_pieces}
 use Rattle.rbd_remove.specs.Remove as of_remove
-use Rattle.rbd_remove.specs.Remove.{holding_it, joining_its_line, looked_at_it, on_watchers, remove_each, remove_owned, remove_plan, unless_watched}
+use Rattle.rbd_remove.specs.Remove.{remove_each}
 use Rattle.rbd_resize.specs.Rollback.{restore_all, restore_pieces, roll_back_listed}
 use Rattle.rbd_requests.specs.NoLooks.{AreNoLooks}
 use Rattle.rbd_world.specs.Ways.{LooksNoMore}

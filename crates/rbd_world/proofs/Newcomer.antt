@@ -31,7 +31,7 @@ use Rattle.rbd_world.specs.Run.{Asked, Happening, Began, asked_by, steps_of, way
 use Rattle.rbd_machine.specs.Standalone.{TellAllStandalone}
 use Rattle.rbd_machine.specs.declared.seat.Seat.{Seat}
 use Rattle.rbd_world.specs.Seats.{seat_at, seat_of_home}
-use Rattle.rbd_world.specs.Sound.{AreApart, InSlot, Sending, IsBegin, IsHeldRightly, IsInSlot, IsLiving, IsOpen, IsSoundWorld, KeepsToItsWay, has_ended, held_of, known_in, line_at}
+use Rattle.rbd_world.specs.Sound.{AreApart, InSlot, Sending, IsBegin, IsHeldRightly, IsInSlot, IsLiving, IsOpen, IsSoundWorld, KeepsToItsWay, has_ended, held_of, known_in, line_at, HasLearnedIf}
 use Rattle.rbd_world.specs.Step.{Begins, BeginsIn, Does, DoesAtSites, IsSoundIf, begins_of, is_begun, quiescing_of}
 use Rattle.rbd_world.specs.World.{WorldView, client_in, records_in, session_of}
 use Rattle.rbd_world.proofs.Carried.{IsCarried, whole_in}
@@ -134,6 +134,21 @@ module _ {R : Type 0} (stands : R → Standing) (old new : WorldView R) (w : IsS
         calm = λ looks. (look_is_calm seat command (stands r.request) looks begins.stands_there, begins.place);
       }
 
+  -- it has learned nothing
+  learned_new : (o : Option (Occupant R)) → IsNew o → HasLearnedIf stands (does_begin ∷ w.run) (running_in o) (knew lowest)
+  learned_new None is = tt
+  learned_new (Some (occupant.Refused number refusal)) is = tt
+  learned_new (Some (occupant.Running r)) begins = record {
+    begun = opened r.line begins.is_line;
+    seat = seat;
+    start = stands r.request;
+    plan = begins.stands_there;
+    labels = refl;
+    feds = [];
+    walk = (ap (λ l. steps_of l (does_begin ∷ w.run)) begins.is_line ∙ no_steps, refl);
+    known = knows_nothing;
+  }
+
   -- its way isn't begun
   begins_no_way : (o : Option (Occupant R)) → IsNew o → KeepsToItsWay stands (does_begin ∷ w.run) way.Unbegun (running_in o)
   begins_no_way None is = tt
@@ -222,7 +237,8 @@ module _ {R : Type 0} (stands : R → Standing) (old new : WorldView R) (w : IsS
         (where_standing w.homes w.run w.right) due (λ s. (stays s).whole (whole_in stands old w s))
         (living_of stands home session does_begin w.run (λ m l. refl) knew knew lowest c d living begins.slots became.states begins.client (λ x other apart is. quiet x other is)
         (subst (IsSoundIf stands) (client_is old new session c d goes) (sound session)) all (holds_rightly (held_in lowest d.session.slots) is_new)
-        (subst (λ (s : SlotState). KeepsToItsWay stands (does_begin ∷ w.run) s.way (running_at lowest d.session)) (sym became.state) (begins_no_way (held_in lowest d.session.slots) is_new)))
+        (subst (λ (s : SlotState). KeepsToItsWay stands (does_begin ∷ w.run) s.way (running_at lowest d.session)) (sym became.state) (begins_no_way (held_in lowest d.session.slots) is_new))
+        (λ x differ. refl) (learned_new (held_in lowest d.session.slots) is_new))
         quiet_others begun_apart (λ l now. slots_then l now (line == l) refl)
         (λ s. (stays s).clients d.session.instance knew d
         (subst (λ i. IsTrueOf s (records_in s old.sites) i knew d) (sym begins.client.instance)
@@ -234,6 +250,7 @@ module _ {R : Type 0} (stands : R → Standing) (old new : WorldView R) (w : IsS
         (order_then (held_in lowest d.session.slots) refl is_new
         (order_beside stands old new w does_begin due home me lowest c.session (λ x other apart is. quiet x other is) (ap running_in living.sound.session.lowest.free) (λ other writer. refl)
         (w.in_order session c there))))
+        (λ x t image drawn. w.new (InSlot session x) t image drawn)
 
   pub began_keeps : Does stands (event.Submit session line command) does_begin old new → DoesAtSites does_begin old.sites new.sites
       → ((m : ℕ) → IsSoundIf stands (client_in m new.lives)) → IsCarried stands old new w does_begin

@@ -15,6 +15,8 @@ use Rattle.rbd_kinds.specs.declared.id.SiteId.{SiteId}
 use Rattle.rbd_kinds.specs.declared.machine.Fed.TheVariants as fed
 use Rattle.rbd_kinds.specs.declared.reply.Reply.{Reply}
 use Rattle.rbd_kinds.specs.declared.reply.Reply.TheVariants as reply
+use Rattle.rbd_held.specs.Knowing.{knows_fed, plan_of}
+use Rattle.rbd_known.specs.Knowing.{unless_ended}
 use Rattle.rbd_machine.specs.Plan.{Return, Standing}
 use Rattle.rbd_machine.specs.Refused.{IsGiven}
 use Rattle.rbd_owner.specs.Acquire.{op_of, rest_of_acquire}
@@ -28,17 +30,17 @@ use Rattle.rbd_world.specs.declared.event.Event.TheVariants as event
 use Rattle.rbd_world.specs.Order.{IsInOrder}
 use Rattle.rbd_world.specs.Run.{Asked, OnWay, Happening, Did, Operation, asked_by, ends, step_of, steps_of, way_of}
 use Rattle.rbd_world.specs.Seats.{seat_at}
-use Rattle.rbd_world.specs.Sound.{IsDone, IsDue, IsHeldRightly, IsInSlot, IsLedTo, IsLiving, IsOpen, IsSoundWorld, IsUnderWay, KeepsToItsWay, StandsAtLook, has_ended, held_of, known_in}
+use Rattle.rbd_world.specs.Sound.{IsDone, IsDue, IsHeldRightly, IsInSlot, IsLedTo, IsLiving, IsOpen, IsSoundWorld, IsUnderWay, KeepsToItsWay, StandsAtLook, has_ended, held_of, known_in, HasLearned, HasLearnedIf}
 use Rattle.rbd_world.specs.Step.{Does, DoesAtSites, Goes, IsSoundIf, operation_at, reply_on_way}
 use Rattle.rbd_world.specs.Ways.{GoesWith, IsWayThere}
 use Rattle.rbd_world.specs.World.{WorldView, client_in, records_in, session_of, site_in}
-use Rattle.rbd_world.proofs.Acting.{all_know, beside_now, beside_of_others, can, done_so, knows_now, sending_now, standing, truth_now, truth_of_others, whole}
+use Rattle.rbd_world.proofs.Acting.{all_know, beside_now, beside_of_others, can, done_so, knows_now, sending_now, standing, truth_now, truth_of_others, whole, new_now, others_know}
 use Rattle.rbd_world.proofs.Carried.{IsCarried}
 use Rattle.rbd_world.proofs.Changed.{GoesOnAs, apart_of, client_is, has_become, line_apart, living_of}
 use Rattle.rbd_world.proofs.GoesOn.{goes_carries}
 use Rattle.rbd_world.proofs.OrderedWorld.{given_up_order, no_turn, still_in_order}
 use Rattle.rbd_world.proofs.Owes.{plain_owes, way_plain}
-use Rattle.rbd_world.proofs.Quiet.{IsQuiet, quiet_did, underway_still}
+use Rattle.rbd_world.proofs.Quiet.{IsQuiet, quiet_did, underway_still, learned_still}
 use Rattle.rbd_world.proofs.RefusedOnWay.{refused_on_way}
 use Rattle.rbd_world.proofs.Slots.{in_this_slot, not_open, open_back, other_slots}
 use Rattle.rbd_world.proofs.Ways.{asks_next, way_acts, way_goes_on, way_refused}
@@ -123,7 +125,7 @@ module _ {R : Type 0} (stands : R → Standing) (old new : WorldView R) (w : IsS
         waiting = way_waits stands slot c a living.sound acts
 
     done_there : IsDone operation w.run
-    done_there = done_so stands old new w session slot c there a.site (op_of a) wanted (OnWay r.line) result d became at_sites sound_then (λ asked is. sym (is_mine asked is))
+    done_there = done_so stands old new w session slot c there a.site (op_of a) wanted (OnWay r.line) result d became at_sites sound_then tt (λ asked is. sym (is_mine asked is))
         (asks_next a (way_of r.line w.run) stands_there)
 
     due : IsDue w.homes does_it w.run
@@ -168,11 +170,31 @@ module _ {R : Type 0} (stands : R → Standing) (old new : WorldView R) (w : IsS
     line_was None same line is = ap (λ (s : SessionView R). script_line (held_in slot s.slots)) (sym same) ∙ is
     line_was (Some reply) gives_up line is = absurd (no_some line (sym (ap script_line (gives_up.free (subst IsSome (sym runs) refl))) ∙ is))
 
+    still_learned : (x : Option Reply) → result ≡ x → GoesItsWay slot x c.session d.session
+        → HasLearnedIf stands (does_it ∷ w.run) (running_at slot d.session) (knows_now stands old new w session slot c there a.site (op_of a) wanted (OnWay r.line) result d became at_sites sound_then slot)
+    still_learned (Some reply) is gives_up = subst (λ o. HasLearnedIf stands (does_it ∷ w.run) (running_in o) (knows_now stands old new w session slot c there a.site (op_of a) wanted (OnWay r.line) result d became at_sites sound_then slot)) (sym (gives_up.free (subst IsSome (sym runs) refl))) tt
+    still_learned None is same =
+        subst (λ o. HasLearnedIf stands (does_it ∷ w.run) o (knows_now stands old new w session slot c there a.site (op_of a) wanted (OnWay r.line) result d became at_sites sound_then slot)) (sym (ap (λ (s : SessionView R). running_at slot s) same ∙ runs))
+        (subst (HasLearned stands (does_it ∷ w.run) r) (sym knows_still)
+        (learned_still stands (seat_at w.homes session) me does_it w.run r (known_in w.knows session slot)
+        (record { asked = has.begun.asked; is = has.begun.is; unended = ap (λ x. ends r.line (Did operation x) || has_ended r.line w.run) is ∙ has.begun.unended })
+        (append-nil (steps_of r.line w.run)) has refl))
+      where
+        has : HasLearned stands w.run r (known_in w.knows session slot)
+        has = subst (λ x. HasLearnedIf stands w.run x (known_in w.knows session slot)) runs (living.learned slot)
+
+        knows_still : knows_now stands old new w session slot c there a.site (op_of a) wanted (OnWay r.line) result d became at_sites sound_then slot ≡ known_in w.knows session slot
+        knows_still =
+            ap (λ m. knows_fed (known_in w.knows session) slot result (plan_of stands (running_at slot c.session)) (fed.Answer told) m slot) acts
+            ∙ ap (λ b. cond b (unless_ended result (known_in w.knows session slot)) (known_in w.knows session slot)) (eq-eqb slot slot refl) ∙ ap (λ x. unless_ended x (known_in w.knows session slot)) is
+
     living_then : IsLiving stands home session (does_it ∷ w.run) (knows_now stands old new w session slot c there a.site (op_of a) wanted (OnWay r.line) result d became at_sites sound_then) d
     living_then =
         living_of stands home session does_it w.run (λ m l. refl) (known_in w.knows session)
         (knows_now stands old new w session slot c there a.site (op_of a) wanted (OnWay r.line) result d became at_sites sound_then) slot c d living became.slots became.states became.client quiet
         sound_then (all_know stands old new w session slot c there a.site (op_of a) wanted (OnWay r.line) result d became at_sites sound_then) (still_held result refl is_fed.session) (still_on_way result refl is_fed.session)
+        (others_know stands old new w session slot c there a.site (op_of a) wanted (OnWay r.line) result d became at_sites sound_then)
+        (still_learned result refl is_fed.session)
 
     -- its line stays in its slot, unless it has its reply
     slots_then : (l : ℕ) → IsOpen l (does_it ∷ w.run) → (b : Bool) → (r.line == l) ≡ b → IsInSlot l new.lives
@@ -208,6 +230,7 @@ module _ {R : Type 0} (stands : R → Standing) (old new : WorldView R) (w : IsS
         (truth_of_others stands old new w session slot c there a.site (op_of a) wanted (OnWay r.line) result d became at_sites sound_then)
         (sending_now stands old new w session slot c there a.site (op_of a) wanted (OnWay r.line) result d became at_sites sound_then)
         (λ calm. plain_owes operation result w.run (λ line. refl) (way_plain a)) (no_turn operation result w.run (λ line. refl)) (λ m q apart is other writer. refl) (order result is_fed.session)
+        (new_now stands old new w session slot c there a.site (op_of a) wanted (OnWay r.line) result d became at_sites sound_then)
 
   pub way_keeps : Does stands (event.Poll session slot) does_it old new → DoesAtSites does_it old.sites new.sites → ((m : ℕ) → IsSoundIf stands (client_in m new.lives)) → IsCarried stands old new w does_it
   way_keeps does at_sites sound =

@@ -13,8 +13,10 @@ use Rattle.rbd_kinds.specs.declared.id.SiteId.{SiteId}
 use Rattle.rbd_kinds.specs.declared.machine.Fed.TheVariants as fed
 use Rattle.rbd_kinds.specs.declared.operation.Op.{Op}
 use Rattle.rbd_kinds.specs.declared.reply.Reply.{Reply}
+use Rattle.rbd_held.specs.Knowing.{known_to, knows_fed, plan_of}
+use Rattle.rbd_known.specs.Knowing.{known_behind, unless_ended}
 use Rattle.rbd_machine.specs.Answers.{CanBeFed}
-use Rattle.rbd_machine.specs.Path.{Answered, at_operation}
+use Rattle.rbd_machine.specs.Path.{Answered, IsWalk, at_operation}
 use Rattle.rbd_machine.specs.Plan.{Plan, Ask, Standing, plan_after}
 use Rattle.rbd_machine.specs.Refused.{IsGiven}
 use Rattle.rbd_machine.specs.Standalone.{TellsStandalone}
@@ -31,14 +33,14 @@ use Rattle.rbd_site.specs.Step.{answer_to}
 use Rattle.rbd_stands.specs.Effect.{effect_of}
 use Rattle.rbd_world.specs.declared.event.Event.TheVariants as event
 use Rattle.rbd_world.specs.Order.{IsInOrder, IsWriterOf}
-use Rattle.rbd_world.specs.Run.{Asked, Itself, Happening, Did, Operation, asked_by, replies_to, step_of, steps_in, way_of}
+use Rattle.rbd_world.specs.Run.{Asked, Itself, Happening, Did, Operation, asked_by, replies_to, step_of, steps_in, steps_of, way_of}
 use Rattle.rbd_world.specs.Seats.{seat_at}
-use Rattle.rbd_world.specs.Sound.{IsDue, IsHeldRightly, IsInSlot, IsLiving, IsOpen, IsSoundWorld, IsUnderWay, KeepsToItsWay, held_of, known_in}
+use Rattle.rbd_world.specs.Sound.{IsDue, IsHeldRightly, IsInSlot, IsLiving, IsOpen, IsSoundWorld, IsUnderWay, KeepsToItsWay, held_of, known_in, HasLearned, HasLearnedIf, Recalls}
 use Rattle.rbd_world.specs.Step.{Does, DoesAtSites, Goes, IsSoundIf, next_number, operation_at, reply_at}
 use Rattle.rbd_world.specs.Ways.{GoesWith}
 use Rattle.rbd_world.specs.World.{WorldView, client_in, records_in, session_of, site_in}
-use Rattle.rbd_world.proofs.Acting.{alone, all_know, beside_now, beside_of_others, can, done_so, knows_now, sending_now, standing, truth_now, truth_of_others, whole}
-use Rattle.rbd_world.proofs.Answered.{answer_due, answer_held, answer_line, went_on}
+use Rattle.rbd_world.proofs.Acting.{alone, all_know, beside_now, beside_of_others, can, done_so, knows_now, sending_now, standing, truth_now, truth_of_others, whole, new_now, others_know}
+use Rattle.rbd_world.proofs.Answered.{answer_due, answer_held, answer_line, went_on, answer_learned}
 use Rattle.rbd_world.proofs.Carried.{IsCarried}
 use Rattle.rbd_world.proofs.Changed.{GoesOnAs, apart_of, client_is, has_become, line_apart, living_of}
 use Rattle.rbd_world.proofs.GoesOn.{goes_carries}
@@ -93,6 +95,23 @@ module _ {R : Type 0} (stands : R → Standing) (old new : WorldView R) (w : IsS
   is_mine : (asked : Asked) → asked_by r.line w.run ≡ Some asked → asked.who ≡ me
   is_mine asked is = ap (λ (x : Asked). x.who) (some_same asked way.begun.asked (sym is ∙ way.begun.is)) ∙ way.mine
 
+  -- what it knows its command learned
+  has : HasLearned stands w.run r (known_in w.knows session slot)
+  has = subst (λ x. HasLearnedIf stands w.run x (known_in w.knows session slot)) runs (living.learned slot)
+
+  recalls : Recalls r.line s o (known_to (known_in w.knows session slot) (actor_at stands slot c)) w.run
+  recalls = record {
+    begun = has.begun;
+    seat = has.seat;
+    start = has.start;
+    plan = has.plan;
+    feds = has.feds;
+    why = why;
+    next = next;
+    walk = subst (IsWalk has.start.labels has.start.plan has.feds (steps_of r.line w.run)) asks has.walk;
+    known = ap (known_to (known_in w.knows session slot)) acts ∙ has.known;
+  }
+
   module _ (d : ClientView R) (became : Goes stands slot operation result c d) (goes_on : GoesOnAs old new session c d) (at_sites : DoesAtSites does_it old.sites new.sites)
       (sound : (m : ℕ) → IsSoundIf stands (client_in m new.lives)) where
     is_fed : RequestIsFed stands slot s o (fed.Answer a) result c d
@@ -123,7 +142,7 @@ module _ {R : Type 0} (stands : R → Standing) (old new : WorldView R) (w : IsS
     due : IsDue w.homes does_it w.run
     due =
         answer_due stands w.homes session slot w.run me living.whose r way s why o next asks a can_give tells_alone (next_number (site_in s old.sites)) (effect_of (records_in s old.sites) (done.Op o) a)
-        (done_so stands old new w session slot c there s o wanted (Itself r.line) result d became at_sites sound_then (λ asked is. sym (is_mine asked is))
+        (done_so stands old new w session slot c there s o wanted (Itself r.line) result d became at_sites sound_then recalls (λ asked is. sym (is_mine asked is))
         (way_is_over stands slot c living.sound r runs (way_of r.line w.run) keeps acts))
 
     -- its way isn't begun, or over, and it is past its own look then
@@ -142,6 +161,26 @@ module _ {R : Type 0} (stands : R → Standing) (old new : WorldView R) (w : IsS
         (goes_on_itself stands slot c living.sound r runs (seat_at w.homes session) me w.run way a (subst (λ p. CanBeFed p (fed.Answer a)) (sym asks) can_give.can) (way_of r.line w.run) keeps acts
         (subst (OfRunning (λ q. waits slot (track_of q c.session.lines) ≡ false)) (sym holds) goes) s why o next asks (stands r.request).labels)))
 
+    -- it knows then what it was taught
+    knows_behind : result ≡ None → knows_now stands old new w session slot c there s o wanted (Itself r.line) result d became at_sites sound_then slot
+        ≡ known_behind (known_in w.knows session slot) (Ask s why o next) (fed.Answer a)
+    knows_behind none =
+        ap (λ m. knows_fed (known_in w.knows session) slot result (plan_of stands (running_at slot c.session)) (fed.Answer a) m slot) acts
+        ∙ ap (λ b. cond b (unless_ended result (known_behind (known_in w.knows session slot) (plan_of stands (running_at slot c.session)) (fed.Answer a))) (known_in w.knows session slot)) (eq-eqb slot slot refl)
+        ∙ ap (λ x. unless_ended x (known_behind (known_in w.knows session slot) (plan_of stands (running_at slot c.session)) (fed.Answer a))) none
+        ∙ ap (λ p. known_behind (known_in w.knows session slot) p (fed.Answer a)) (ap (plan_of stands) runs ∙ asks)
+
+    learned_then : (n : Option (Occupant R)) → ComesToIn stands slot c.session.lines (fed.Answer a) result r n d.session.lines
+        → HasLearnedIf stands (does_it ∷ w.run) (running_in n) (knows_now stands old new w session slot c there s o wanted (Itself r.line) result d became at_sites sound_then slot)
+    learned_then None behind = tt
+    learned_then (Some (occupant.Refused line refusal)) behind = absurd behind
+    learned_then (Some (occupant.Running q)) behind =
+        subst (HasLearned stands (does_it ∷ w.run) q) (sym (knows_behind behind.0))
+        (subst (λ x. HasLearned stands (Did operation x ∷ w.run) q (known_behind (known_in w.knows session slot) (Ask s why o next) (fed.Answer a))) (sym behind.0)
+        (answer_learned stands w.homes session slot w.run me living.whose r way s why o next asks a can_give tells_alone (next_number (site_in s old.sites)) (effect_of (records_in s old.sites) (done.Op o) a)
+        (known_in w.knows session slot) has c.session.lines d.session.lines q
+        (subst (λ x. ComesToIn stands slot c.session.lines (fed.Answer a) x r (Some (occupant.Running q)) d.session.lines) behind.0 behind)))
+
     living_then : IsLiving stands home session (does_it ∷ w.run) (knows_now stands old new w session slot c there s o wanted (Itself r.line) result d became at_sites sound_then) d
     living_then =
         living_of stands home session does_it w.run (λ m l. refl) (known_in w.knows session)
@@ -150,6 +189,8 @@ module _ {R : Type 0} (stands : R → Standing) (old new : WorldView R) (w : IsS
         (answer_held stands w.homes session slot w.run me living.whose r way s why o next asks a can_give tells_alone (next_number (site_in s old.sites)) (effect_of (records_in s old.sites) (done.Op o) a)
         result c.session.lines d.session.lines (held_in slot d.session.slots) comes)
         (still_over (held_in slot d.session.slots) comes)
+        (others_know stands old new w session slot c there s o wanted (Itself r.line) result d became at_sites sound_then)
+        (learned_then (held_in slot d.session.slots) comes)
 
     -- its line stays in its slot, unless it has its reply
     slots_then : (l : ℕ) → IsOpen l (does_it ∷ w.run) → (b : Bool) → (r.line == l) ≡ b → IsInSlot l new.lives
@@ -205,7 +246,7 @@ module _ {R : Type 0} (stands : R → Standing) (old new : WorldView R) (w : IsS
         (λ calm. own_owes stands old w calm.1 session slot c there r holds s why o next asks result can_give)
         (in_turn stands w.homes home me slot w.run c.session d.session r runs living.sound.session goes s why o next asks a result (next_number (site_in s old.sites))
         (effect_of (records_in s old.sites) (done.Op o) a) w.order (w.in_order session c there) is_mine)
-        foreign order
+        foreign order (new_now stands old new w session slot c there s o wanted (Itself r.line) result d became at_sites sound_then)
 
   pub did_keeps : Does stands (event.Poll session slot) does_it old new → DoesAtSites does_it old.sites new.sites → ((m : ℕ) → IsSoundIf stands (client_in m new.lives)) → IsCarried stands old new w does_it
   did_keeps does at_sites sound =

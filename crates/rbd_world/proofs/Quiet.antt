@@ -9,6 +9,7 @@ use Rattle.rbd_kinds.specs.declared.notice.Notice.{Notice}
 use Rattle.rbd_kinds.specs.declared.operation.Op.{Op}
 use Rattle.rbd_kinds.specs.declared.reply.Reply.{Reply}
 use Rattle.rbd_known.specs.Calm.{is_change}
+use Rattle.rbd_machine.specs.Knowledge.{Knowledge}
 use Rattle.rbd_machine.specs.Path.{IsWalk}
 use Rattle.rbd_machine.specs.Plan.{Standing}
 use Rattle.rbd_machine.specs.Refused.{AreGiven}
@@ -18,9 +19,9 @@ use Rattle.rbd_requests.specs.Served.{IsPlanFor}
 use Rattle.rbd_session.specs.declared.running.Occupant.{Occupant}
 use Rattle.rbd_session.specs.declared.running.Occupant.TheVariants as occupant
 use Rattle.rbd_session.specs.declared.running.Running.{Running}
-use Rattle.rbd_session.specs.Session.{script_line}
+use Rattle.rbd_session.specs.Session.{running_in, script_line}
 use Rattle.rbd_world.specs.Run.{Asked, Doer, Itself, OnWay, House, AfterStop, Happening, Nothing, Waited, Began, Did, Refused, Trimmed, Expired, Heard, Stopped, Restarted, Operation, ends, is_among, is_for, is_on_way, is_own, or_asked, step_of, steps_in, steps_of, way_in, way_of}
-use Rattle.rbd_world.specs.Sound.{IsHeldRightly, IsOpen, IsRefusedAtOnce, IsUnderWay, has_ended}
+use Rattle.rbd_world.specs.Sound.{HasLearned, HasLearnedIf, IsHeldRightly, IsOpen, IsRefusedAtOnce, IsUnderWay, has_ended}
 
 -- it is no start, no operation and no end of the line
 pub record IsQuiet (line : ℕ) (h : Happening) : Type 0 where
@@ -125,6 +126,26 @@ module _ {R : Type 0} (stands : R → Standing) (seat : Seat) (who : Instance) (
 
   pub underway_on : (r : Running R) → IsQuiet r.line h → IsUnderWay stands seat who run r → IsUnderWay stands seat who (h ∷ run) r
   underway_on r quiet way = underway_still r (open_on r.line h run quiet way.begun) (steps_on r.line h run quiet) way refl
+
+  -- what it has learned stays
+  pub learned_still : (r : Running R) (k : Knowledge) (begun : IsOpen r.line (h ∷ run)) → steps_of r.line (h ∷ run) ≡ steps_of r.line run → (has : HasLearned stands run r k) → begun.asked ≡ has.begun.asked
+      → HasLearned stands (h ∷ run) r k
+  learned_still r k begun steps has same = record {
+    begun = begun;
+    seat = has.seat;
+    start = has.start;
+    plan = subst (λ (a : Asked). IsPlanFor has.seat a.command has.start) (sym same) has.plan;
+    labels = has.labels;
+    feds = has.feds;
+    walk = subst (λ xs. IsWalk has.start.labels has.start.plan has.feds xs (stands r.request).plan) (sym steps) has.walk;
+    known = has.known;
+  }
+
+  pub learned_on : (o : Option (Occupant R)) (k : Knowledge) → ((line : ℕ) → script_line o ≡ Some line → IsQuiet line h) → HasLearnedIf stands run (running_in o) k → HasLearnedIf stands (h ∷ run) (running_in o) k
+  learned_on None k quiet has = tt
+  learned_on (Some (occupant.Refused line refusal)) k quiet has = tt
+  learned_on (Some (occupant.Running r)) k quiet has =
+      learned_still r k (open_on r.line h run (quiet r.line refl) has.begun) (steps_on r.line h run (quiet r.line refl)) has refl
 
   refused_on : (line : ℕ) (refusal : Refusal) → IsQuiet line h → IsRefusedAtOnce seat who run line refusal → IsRefusedAtOnce seat who (h ∷ run) line refusal
   refused_on line refusal quiet held = record {

@@ -21,7 +21,7 @@ use Rattle.rbd_world.specs.declared.event.Event.TheVariants as event
 use Rattle.rbd_world.specs.Order.{IsInOrder}
 use Rattle.rbd_world.specs.Run.{Happening, Refused, steps_of}
 use Rattle.rbd_world.specs.Seats.{seat_at}
-use Rattle.rbd_world.specs.Sound.{InSlot, Sending, IsHeldRightly, IsInSlot, IsLedTo, IsLiving, IsOpen, IsRefusedAtOnce, IsReplyMeant, IsSoundWorld, KeepsToItsWay, held_of, known_in}
+use Rattle.rbd_world.specs.Sound.{InSlot, Sending, IsHeldRightly, IsInSlot, IsLedTo, IsLiving, IsOpen, IsRefusedAtOnce, IsReplyMeant, IsSoundWorld, KeepsToItsWay, held_of, known_in, HasLearnedIf}
 use Rattle.rbd_world.specs.Step.{Does, DoesAtSites, IsSoundIf, Serves}
 use Rattle.rbd_world.specs.World.{WorldView, client_in, records_in, session_of}
 use Rattle.rbd_world.proofs.Carried.{IsCarried, whole_in}
@@ -102,7 +102,8 @@ module _ {R : Type 0} (stands : R → Standing) (old new : WorldView R) (w : IsS
         (where_standing w.homes w.run w.right) refusal_meant (λ s. (stays s).whole (whole_in stands old w s))
         (living_of stands home session does_refuse w.run (λ m l. refl) knew knew slot c d living serves.slots serves.states serves.client quiet
         (subst (IsSoundIf stands) (client_is old new session c d goes) (sound session)) all (subst (IsHeldRightly stands (seat_at w.homes session) me (does_refuse ∷ w.run)) (sym serves.held) tt)
-        (subst (λ o. KeepsToItsWay stands (does_refuse ∷ w.run) (state_in slot d.slots).way (running_in o)) (sym serves.held) tt))
+        (subst (λ o. KeepsToItsWay stands (does_refuse ∷ w.run) (state_in slot d.slots).way (running_in o)) (sym serves.held) tt)
+        (λ x differ. refl) (subst (λ o. HasLearnedIf stands (does_refuse ∷ w.run) (running_in o) (knew slot)) (sym serves.held) tt))
         quiet_others (apart_of old new session c d goes slot serves.slots w.apart (λ l is. absurd (no_some l (sym (ap script_line serves.held) ∙ is))))
         (λ l now. slots_then l now (line == l) refl)
         (λ s. (stays s).clients d.session.instance knew d
@@ -114,6 +115,7 @@ module _ {R : Type 0} (stands : R → Standing) (old new : WorldView R) (w : IsS
         (subst (λ i. IsInOrder stands home i (does_refuse ∷ w.run) d.session) (sym serves.client.instance)
         (freed_order stands home me (does_refuse ∷ w.run) slot c.session d.session serves.slots serves.lines (ap running_in serves.held)
         (order_beside stands old new w does_refuse refusal_meant home me slot c.session quiet (ap running_in holds) (λ other writer. refl) (w.in_order session c there))))
+        (λ x t image drawn. w.new (InSlot session x) t image drawn)
 
   pub refused_keeps : Does stands (event.Poll session slot) does_refuse old new → DoesAtSites does_refuse old.sites new.sites
       → ((m : ℕ) → IsSoundIf stands (client_in m new.lives)) → IsCarried stands old new w does_refuse

@@ -17,10 +17,10 @@ use Rattle.rbd_site.specs.Step.{answer_to}
 use Rattle.rbd_world.specs.declared.event.Event.TheVariants as event
 use Rattle.rbd_world.specs.Run.{House, Happening, Did, Operation}
 use Rattle.rbd_world.specs.Seats.{seat_at}
-use Rattle.rbd_world.specs.Sound.{IsDue, IsHeldRightly, IsLiving, IsSoundWorld, KeepsToItsWay, known_in}
+use Rattle.rbd_world.specs.Sound.{IsDue, IsHeldRightly, IsLiving, IsSoundWorld, KeepsToItsWay, known_in, HasLearnedIf}
 use Rattle.rbd_world.specs.Step.{Does, DoesAtSites, Goes, IsSoundIf, operation_at}
 use Rattle.rbd_world.specs.World.{WorldView, client_in, records_in, site_in}
-use Rattle.rbd_world.proofs.Acting.{all_know, beside_now, beside_of_others, done_so, knows_now, sending_now, standing, truth_now, truth_of_others, whole}
+use Rattle.rbd_world.proofs.Acting.{all_know, beside_now, beside_of_others, done_so, knows_now, sending_now, standing, truth_now, truth_of_others, whole, new_now, others_know}
 use Rattle.rbd_world.proofs.Carried.{IsCarried}
 use Rattle.rbd_world.proofs.Changed.{GoesOnAs, apart_of, client_is, has_become, living_of}
 use Rattle.rbd_world.proofs.GoesOn.{goes_carries}
@@ -66,7 +66,7 @@ module _ {R : Type 0} (stands : R → Standing) (old new : WorldView R) (w : IsS
     sound_then = subst (IsSoundIf stands) (client_is old new session c d goes_on) (sound session)
 
     due : IsDue w.homes does_it w.run
-    due = (done_so stands old new w session slot c there x.site (release_op x) wanted House None d became at_sites sound_then living.runs (of_release x), tt)
+    due = (done_so stands old new w session slot c there x.site (release_op x) wanted House None d became at_sites sound_then tt living.runs (of_release x), tt)
 
     still_free : held_in slot d.session.slots ≡ None
     still_free = ap (λ (s : SessionView R). held_in slot s.slots) is_fed.session ∙ free
@@ -78,6 +78,8 @@ module _ {R : Type 0} (stands : R → Standing) (old new : WorldView R) (w : IsS
         sound_then (all_know stands old new w session slot c there x.site (release_op x) wanted House None d became at_sites sound_then)
         (subst (IsHeldRightly stands (seat_at w.homes session) me (does_it ∷ w.run)) (sym still_free) tt)
         (subst (λ o. KeepsToItsWay stands (does_it ∷ w.run) (state_in slot d.slots).way (running_in o)) (sym still_free) tt)
+        (others_know stands old new w session slot c there x.site (release_op x) wanted House None d became at_sites sound_then)
+        (subst (λ o. HasLearnedIf stands (does_it ∷ w.run) (running_in o) (knows_now stands old new w session slot c there x.site (release_op x) wanted House None d became at_sites sound_then slot)) (sym still_free) tt)
 
     release_carries : IsCarried stands old new w does_it
     release_carries =
@@ -95,6 +97,7 @@ module _ {R : Type 0} (stands : R → Standing) (old new : WorldView R) (w : IsS
         (sending_now stands old new w session slot c there x.site (release_op x) wanted House None d became at_sites sound_then)
         (λ calm. plain_owes operation None w.run (λ line. refl) (release_plain x)) (no_turn operation None w.run (λ line. refl)) (λ m q apart is other writer. refl)
         (still_in_order stands old new w does_it due session c d there is_fed.session (λ line before. refl) (λ other writer. refl))
+        (new_now stands old new w session slot c there x.site (release_op x) wanted House None d became at_sites sound_then)
 
   pub release_keeps : Does stands (event.Poll session slot) does_it old new → DoesAtSites does_it old.sites new.sites → ((m : ℕ) → IsSoundIf stands (client_in m new.lives)) → IsCarried stands old new w does_it
   release_keeps does at_sites sound =

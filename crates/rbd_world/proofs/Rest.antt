@@ -123,6 +123,7 @@ module _ {R : Type 0} (stands : R → Standing) (old new : WorldView R) (w : IsS
           (was.0, still_may_come (λ s. records_in s new.sites) stays session x _ was.1);
       unsent = λ session slot none. w.unsent session slot (sym (late_same session slot) ∙ none);
       drops = λ session slot there x differ is. w.drops session slot there x differ (sym (late_same session slot) ∙ is);
+      none_yet = w.new;
       beside = λ one other apart s. (stays s).beside (w.who one) (w.who other) (w.knows one) (w.knows other) (w.beside one other apart s);
       owes = owes;
       turn = turn;

@@ -13,13 +13,14 @@ use Rattle.rbd_session.proofs.Sound.{some_same}
 use Rattle.rbd_world.specs.declared.event.Event.TheVariants as event
 use Rattle.rbd_world.specs.Order.{IsInOrder}
 use Rattle.rbd_world.specs.Run.{Happening, Life, Restarted, life_after, life_behind}
+use Rattle.rbd_world.specs.Past.{HadNoHeader}
 use Rattle.rbd_world.specs.Sound.{AreLivesOf, Holder, InSlot, Sending, IsLiving, IsRestart, IsSoundWorld, held_of, known_in, line_at}
 use Rattle.rbd_world.specs.Step.{Does, DoesAtSites, IsFresh, IsFreshIf, LivesOnIf, next_life}
 use Rattle.rbd_world.specs.World.{LateView, LivesView, WorldView, client_in, late_at, late_of, lives_in, records_in, running_of, sent_in, session_of}
 use Rattle.rbd_world.proofs.Beginning.{fresh_living, fresh_runs_none, fresh_true}
 use Rattle.rbd_world.proofs.Carried.{IsCarried, whole_in}
 use Rattle.rbd_world.proofs.Changed.{same_or_other}
-use Rattle.rbd_world.proofs.Elsewhere.{IsAs, Same, Silent, beside_still, known_but, known_there, lives_still, living_still, nothing_here}
+use Rattle.rbd_world.proofs.Elsewhere.{IsAs, Same, Silent, beside_still, known_but, known_there, lives_still, living_still, nothing_here, new_still}
 use Rattle.rbd_world.proofs.OrderedWorld.{none_in_order, order_on}
 use Rattle.rbd_world.proofs.Quiet.{lines_differ, quiet_restarted}
 use Rattle.rbd_world.proofs.Rest.{StaysTrue, same_true, still_may_come, where_standing}
@@ -207,6 +208,7 @@ module _ {R : Type 0} (stands : R → Standing) (old new : WorldView R) (w : IsS
       drops = λ m x z y differ is. w.drops m x z y differ (sym (late_same m x) ∙ is);
       beside = beside_still w.who who_then w.knows knows_then (λ s. records_in s new.sites)
           (λ a g apart s. (stays s).beside (w.who a) (w.who g) (w.knows a) (w.knows g) (w.beside a g apart s)) each_is;
+      none_yet = new_still w.who who_then w.knows knows_then (λ s image. HadNoHeader s image w.run) w.new each_is;
       owes = tt;
       turn = tt;
       in_order = λ m q is. order_now m q is (same_or_other m session);

@@ -2,7 +2,7 @@
 -- what who acted there knew; and its lines that have no reply are lost.
 use Rattle.std.specs.List.{range_with_len}
 use Rattle.std.proofs.Common.{◌≡◌, ◌≢◌, ◌⊎◌, inl, inr, ℕ, ◌≤◌, ◌<◌, ◌==◌, cond, Bool, true, false, List, [], ◌∷◌, map, is_some, Option, Some, None, refl, sym, ap, ◌∙◌, subst, arith}
-use Rattle.std.proofs.lemmas.Bool.{cases_lt, eq-eqb}
+use Rattle.std.proofs.lemmas.Bool.{cases_lt, eq-eqb, true≢false}
 use Rattle.std.proofs.lemmas.List.{get_or_past}
 use Rattle.std.proofs.lemmas.List.FromFn.{get_or-map-range_with_len, length-map-range_with_len}
 use Rattle.rbd_client.specs.declared.actor.Actor.{Actor}
@@ -19,7 +19,7 @@ use Rattle.rbd_held.proofs.Ways.{beside_way, way_knows_no_header}
 use Rattle.rbd_kinds.specs.declared.id.Instance.{Instance}
 use Rattle.rbd_kinds.specs.declared.id.SiteId.{SiteId}
 use Rattle.rbd_kinds.specs.declared.operation.Op.{Op}
-use Rattle.rbd_machine.specs.Knowledge.{Knowledge, nothing_known}
+use Rattle.rbd_machine.specs.Knowledge.{Knowledge, nothing_known, is_drawn}
 use Rattle.rbd_machine.specs.Plan.{Standing}
 use Rattle.rbd_machine.specs.Refused.{AreGiven}
 use Rattle.rbd_rely.specs.Beside.{AreBeside, MayAct}
@@ -37,9 +37,11 @@ use Rattle.rbd_world.specs.Run.{Asked, Happening, Life, Sent, Stopped, asked_by,
 use Rattle.rbd_machine.specs.Standalone.{TellAllStandalone}
 use Rattle.rbd_machine.specs.declared.seat.Seat.{Seat}
 use Rattle.rbd_world.specs.Seats.{seat_at}
+use Rattle.rbd_world.specs.Past.{HadNoHeader}
 use Rattle.rbd_world.specs.Sound.{AreLivesOf, AreStrangers, Holder, InSlot, Sending, IsHeldRightly, IsInSlot, IsLedTo, IsLiving, IsLostOf, IsOpen, IsSoundWorld, IsStop, MayStillCome, held_of, known_in, line_at}
 use Rattle.rbd_world.specs.Step.{Does, DoesAtSites, LivesOnIf, lost_by, stopped, wanted_by}
 use Rattle.rbd_world.specs.World.{LateView, LivesView, WorldView, client_in, late_at, late_of, lives_in, records_in, running_of, sent_in, session_of}
+use Rattle.rbd_world.proofs.Unborn.{acted_drawn}
 use Rattle.rbd_world.proofs.Acting.{by_no_lock}
 use Rattle.rbd_world.proofs.Carried.{IsCarried, whole_in}
 use Rattle.rbd_world.proofs.Changed.{lives_there, same_or_other}
@@ -506,6 +508,25 @@ module _ {R : Type 0} (stands : R → Standing) (old new : WorldView R) (w : IsS
       let before = was m q differ is in
       order_on stands old new w h due m q before (quiet_of m q differ before) (λ other writer. refl)
 
+  -- ---- ids that are known to be drawn
+
+  sent_drawn : (x : ℕ) (s : SiteId) (image : ℕ) → is_drawn (knows_sent x).drawn s image ≡ true → is_drawn (knew x).drawn s image ≡ true
+  sent_drawn x s image = by (wanted x)
+    where
+      by : (o : Option (SiteId × Op)) → is_drawn (sends_by o (knew_at x)).drawn s image ≡ true → is_drawn (knew x).drawn s image ≡ true
+      by None drawn = absurd (true≢false (sym drawn))
+      by (Some p) drawn = acted_drawn (knew x) (actor_at stands x c) s image drawn
+
+  new_now : (g : Holder) (s : SiteId) (image : ℕ) → is_drawn (knows_then g).drawn s image ≡ true → HadNoHeader s image w.run
+  new_now g s image drawn = by (whose g)
+    where
+      by : Whose g → HadNoHeader s image w.run
+      by (Silent none) = absurd (true≢false (sym drawn ∙ ap (λ (k : Knowledge). is_drawn k.drawn s image) none))
+      by (Mine x one) =
+          w.new (InSlot session x) s image
+          (sent_drawn x s image (subst (λ (k : Knowledge). is_drawn k.drawn s image ≡ true) (knows_here session x refl) (subst (λ v. is_drawn (knows_then v).drawn s image ≡ true) one drawn)))
+      by (Theirs one same strange) = w.new g s image (subst (λ (k : Knowledge). is_drawn k.drawn s image ≡ true) same drawn)
+
   stopping_keeps : IsCarried stands old new w h
   stopping_keeps = record {
     who = who_then;
@@ -526,6 +547,7 @@ module _ {R : Type 0} (stands : R → Standing) (old new : WorldView R) (w : IsS
       unsent = λ m x is. unsent_now m x is (same_or_other m session);
       drops = λ m x y z differ is r. drops_now m x y z differ is r (same_or_other m session);
       beside = beside_now;
+      none_yet = new_now;
       owes = tt;
       turn = tt;
       in_order = order_now;

@@ -30,7 +30,7 @@ use Rattle.rbd_world.specs.Run.{Happening, AreCalls, asked_by, log_of, records_a
 use Rattle.rbd_machine.specs.Standalone.{TellAllStandalone}
 use Rattle.rbd_machine.specs.declared.seat.Seat.{Seat}
 use Rattle.rbd_world.specs.Seats.{seat_of_home}
-use Rattle.rbd_world.specs.Sound.{AreLivesOf, AreStrangers, Holder, InSlot, Sending, IsHeldRightly, IsLiving, IsRunning, IsSoundWorld, IsUnderWay, KeepsToItsWay, MayStillCome, has_ended, held_of, known_in, line_at}
+use Rattle.rbd_world.specs.Sound.{HasLearnedIf, AreLivesOf, AreStrangers, Holder, InSlot, Sending, IsHeldRightly, IsLiving, IsRunning, IsSoundWorld, IsUnderWay, KeepsToItsWay, MayStillCome, has_ended, held_of, known_in, line_at}
 use Rattle.rbd_world.specs.Step.{AreLivesAlike, IsAlikeOf, IsClientAlikeIf, IsSoundIf, IsUndone}
 use Rattle.rbd_world.specs.Ways.{GoesWith}
 use Rattle.rbd_world.specs.World.{LateView, LivesView, WorldView, client_in, late_at, late_of, lives_in, records_in, running_of, sent_in, session_of, site_in}
@@ -85,6 +85,28 @@ module _ {R : Type 0} (stands : R → Standing) where
   alike_ways run w (Some (occupant.Refused line refusal)) p alike keeps = subst (λ x. KeepsToItsWay stands run w (running_in x)) (sym alike) keeps
   alike_ways run w None p alike keeps = subst (λ x. KeepsToItsWay stands run w (running_in x)) (sym alike) keeps
 
+  alike_learned : (run : List Happening) (k : Knowledge) (o p : Option (Occupant R)) → IsAlikeIn stands o p → HasLearnedIf stands run (running_in o) k → HasLearnedIf stands run (running_in p) k
+  alike_learned run k (Some (occupant.Running r)) (Some (occupant.Running q)) same has = record {
+    begun = record {
+      asked = has.begun.asked;
+      is = subst (λ line. asked_by line run ≡ Some has.begun.asked) (sym same.line) has.begun.is;
+      unended = ap (λ line. has_ended line run) same.line ∙ has.begun.unended;
+    };
+    seat = has.seat;
+    start = has.start;
+    plan = has.plan;
+    labels = ap (λ (s : Standing). s.labels) same.same ∙ has.labels;
+    feds = has.feds;
+    walk =
+        subst (λ line. IsWalk has.start.labels has.start.plan has.feds (steps_of line run) (stands q.request).plan) (sym same.line)
+        (subst (λ (s : Standing). IsWalk has.start.labels has.start.plan has.feds (steps_of r.line run) s.plan) (sym same.same) has.walk);
+    known = has.known;
+  }
+  alike_learned run k (Some (occupant.Running r)) (Some (occupant.Refused line refusal)) alike has = tt
+  alike_learned run k (Some (occupant.Running r)) None alike has = tt
+  alike_learned run k (Some (occupant.Refused line refusal)) p alike has = subst (λ x. HasLearnedIf stands run (running_in x) k) (sym alike) has
+  alike_learned run k None p alike has = subst (λ x. HasLearnedIf stands run (running_in x) k) (sym alike) has
+
   -- ---- a client
 
   alike_client : (home : SiteId) (session : ℕ) (run : List Happening) (knows : ℕ → Knowledge) (c d : ClientView R) → IsClientAlike stands c d → IsSoundClient stands d
@@ -101,6 +123,7 @@ module _ {R : Type 0} (stands : R → Standing) where
     ways = λ slot.
         subst (λ ss. KeepsToItsWay stands run (state_in slot ss).way (running_at slot d.session)) (sym alike.slots)
         (alike_ways run (state_in slot c.slots).way (held_in slot c.session.slots) (held_in slot d.session.slots) (alike.session.slots slot) (living.ways slot));
+    learned = λ slot. alike_learned run (knows slot) (held_in slot c.session.slots) (held_in slot d.session.slots) (alike.session.slots slot) (living.learned slot);
   }
 
   -- of one that is there, or of none
@@ -189,6 +212,7 @@ module _ {R : Type 0} (stands : R → Standing) where
     clients = λ session.
         alike_if (IsLiving stands (w.homes session) session w.run (known_in w.knows session)) (client_in session old.lives) (client_in session new.lives) (same session) (sound session)
         (λ c d was alike is_sound. alike_client (w.homes session) session w.run (known_in w.knows session) c d alike is_sound (w.clients session c was));
+    new = w.new;
     in_slots = λ session slot.
         alike_if (λ d. w.who (InSlot session slot) ≡ d.session.instance) (client_in session old.lives) (client_in session new.lives) (same session) (sound session)
         (λ c d was alike is_sound. w.in_slots session slot c was ∙ sym alike.session.instance);

@@ -1,16 +1,19 @@
 -- A walk goes on: with an answer, and then past all that the plan waits for.
-use Rattle.std.proofs.Common.{List, [], ◌∷◌, ◌++◌, refl, sym, ap, subst}
+use Rattle.std.proofs.Common.{◌≡◌, List, [], ◌∷◌, ◌++◌, refl, sym, ap, ◌∙◌, subst}
 use Rattle.rbd_kinds.specs.declared.answer.Answer.{Answer}
 use Rattle.rbd_kinds.specs.declared.id.SiteId.{SiteId}
 use Rattle.rbd_kinds.specs.declared.machine.Fed.{Fed}
 use Rattle.rbd_kinds.specs.declared.machine.Fed.TheVariants as fed
 use Rattle.rbd_kinds.specs.declared.operation.Op.{Op}
+use Rattle.rbd_known.specs.Knowing.{known_at_operation, known_behind}
+use Rattle.rbd_machine.specs.Knowledge.{Knowledge, learned, passed}
 use Rattle.rbd_machine.specs.Label.{Label}
 use Rattle.rbd_machine.specs.Path.{Answered, IsWalk, at_operation}
 use Rattle.rbd_machine.specs.Plan.{Plan, Ask, Await, Note, Return, Goto, settled}
 use Rattle.rbd_machine.specs.Refused.{AreGiven, IsGiven}
 use Rattle.rbd_machine.specs.Standalone.{TellAllStandalone, TellsStandalone}
 use Rattle.rbd_machine.specs.declared.reason.Reason.{Reason}
+use Rattle.rbd_world.specs.Past.{known_along}
 
 pub walk_append : (labels : Label → Plan) (feds : List Fed) (plan mid last : Plan) (more : List Fed) (steps rest : List Answered)
     → IsWalk labels plan feds steps mid → IsWalk labels mid more rest last → IsWalk labels plan (feds ++ more) (steps ++ rest) last
@@ -54,6 +57,35 @@ led_on labels plan steps s why o next a led =
           walk_append labels led.feds plan (Ask s why o next) (at_operation labels (next a)) (fed.Answer a ∷ on.feds) steps (record { site = s; op = o; answer = a } ∷ []) led.walk
           (record { rest = []; is = refl }, on.walk);
     }
+
+-- what is known behind a walk that goes on
+along_append : (labels : Label → Plan) (feds : List Fed) (k : Knowledge) (plan mid : Plan) (more : List Fed) (steps : List Answered) → IsWalk labels plan feds steps mid
+    → known_along labels k plan (feds ++ more) ≡ known_along labels (known_along labels k plan feds) mid more
+along_append labels [] k plan mid more steps (none, same) = ap (λ p. known_along labels k p more) (sym same)
+along_append labels (fed.Answer a ∷ feds) k (Ask s why o next) mid more steps (first, walk) = along_append labels feds (learned k s o a) (settled labels (next a)) mid more first.rest walk
+along_append labels (fed.Passed ∷ feds) k (Await wait next) mid more steps walk = along_append labels feds (passed k wait) (settled labels next) mid more steps walk
+along_append labels (fed.Passed ∷ feds) k (Note site image event next) mid more steps walk = along_append labels feds k (settled labels next) mid more steps walk
+along_append labels (fed.Passed ∷ feds) k (Ask s why o next) mid more steps walk = absurd walk
+along_append labels (fed.Answer a ∷ feds) k (Await wait next) mid more steps walk = absurd walk
+along_append labels (fed.Answer a ∷ feds) k (Note site image event next) mid more steps walk = absurd walk
+along_append labels (f ∷ feds) k (Return reply) mid more steps walk = absurd walk
+along_append labels (f ∷ feds) k (Goto label) mid more steps walk = absurd walk
+
+along_to_operation : (labels : Label → Plan) (next : Plan) (k : Knowledge) → known_along labels k (settled labels next) (led_to_operation labels next).feds ≡ known_at_operation k next
+unfolding led_to_operation
+along_to_operation labels (Ask s why o next) k = refl
+along_to_operation labels (Await wait next) k = along_to_operation labels next (passed k wait)
+along_to_operation labels (Note site image event next) k = along_to_operation labels next k
+along_to_operation labels (Return reply) k = refl
+along_to_operation labels (Goto label) k = refl
+
+-- what an answer teaches, and the waits behind it
+pub led_known : (labels : Label → Plan) (plan : Plan) (steps : List Answered) (s : SiteId) (why : Reason) (o : Op) (next : Answer → Plan) (a : Answer) (led : IsLed labels plan steps (Ask s why o next)) (k : Knowledge)
+    → known_along labels k plan (led_on labels plan steps s why o next a led).feds ≡ known_behind (known_along labels k plan led.feds) (Ask s why o next) (fed.Answer a)
+unfolding led_on
+led_known labels plan steps s why o next a led k =
+    along_append labels led.feds k plan (Ask s why o next) (fed.Answer a ∷ (led_to_operation labels (next a)).feds) steps led.walk
+    ∙ along_to_operation labels (next a) (learned (known_along labels k plan led.feds) s o a)
 
 pub given_more : (steps : List Answered) (s : SiteId) (o : Op) (a : Answer) → AreGiven steps → IsGiven o a → AreGiven (steps ++ record { site = s; op = o; answer = a } ∷ [])
 given_more [] s o a given can = (can, tt)

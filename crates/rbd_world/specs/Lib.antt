@@ -12,3 +12,4 @@ pub mod Step
 pub mod Ways
 pub mod World
 pub mod Seats
+pub mod Past

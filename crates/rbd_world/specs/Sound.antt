@@ -20,13 +20,14 @@ use Rattle.rbd_kinds.specs.declared.operation.Op.TheVariants as op
 use Rattle.rbd_kinds.specs.declared.reply.Reply.{Reply}
 use Rattle.rbd_known.specs.Calm.{IsCalmRequest, is_change}
 use Rattle.rbd_known.specs.Knowing.{AllKnow}
-use Rattle.rbd_machine.specs.Knowledge.{Knowledge, nothing_known}
+use Rattle.rbd_machine.specs.Knowledge.{Knowledge, is_drawn, nothing_known}
 use Rattle.rbd_machine.specs.Path.{Answered, IsWalk}
 use Rattle.rbd_machine.specs.Permits.{Permits}
-use Rattle.rbd_machine.specs.Plan.{Plan, Return, Standing}
+use Rattle.rbd_machine.specs.Plan.{Plan, Ask, Return, Standing}
 use Rattle.rbd_machine.specs.Refused.{AreGiven}
 use Rattle.rbd_machine.specs.Standalone.{TellAllStandalone}
 use Rattle.rbd_machine.specs.Steps.{EndsIt, not_there, refused}
+use Rattle.rbd_machine.specs.declared.reason.Reason.{Reason}
 use Rattle.rbd_machine.specs.declared.seat.Seat.{Seat}
 use Rattle.rbd_meaning.specs.Meant.{IsMeantBy}
 use Rattle.rbd_rely.specs.Beside.{AreBeside, MayAct}
@@ -49,6 +50,7 @@ use Rattle.rbd_watch.specs.Watching.{oldest_of}
 use Rattle.rbd_world.specs.Begun.{LinesBegun, has_line}
 use Rattle.rbd_world.specs.Order.{IsInOrder, KeepsOrder}
 use Rattle.rbd_world.specs.Owing.{IsUnhindered, owed_in}
+use Rattle.rbd_world.specs.Past.{HadNoHeader, known_along}
 use Rattle.rbd_world.specs.Run.{Asked, Doer, Itself, OnWay, House, AfterStop, Happening, Began, Did, Refused, Trimmed, Expired, Heard, Stopped, Restarted, Operation, Sent, AreCalls, asked_by, ends, flat_after, history_of, is_among, life_after, log_of, mail_of, records_after, sent_after, step_of, steps_of, way_of}
 use Rattle.rbd_world.specs.Seats.{seat_at, seat_of_home}
 use Rattle.rbd_world.specs.Step.{IsFresh, is_begun}
@@ -127,9 +129,27 @@ IsNextOf (OnWay line) s o before = AsksNext s o (way_of line before)
 IsNextOf House s o before = IsOfRelease o
 IsNextOf (AfterStop slot) s o before = Unit {0}
 
+-- A walk of the line's command asks for the operation, and this is what it taught.
+pub record Recalls (line : ℕ) (s : SiteId) (o : Op) (k : Knowledge) (before : List Happening) : Type 0 where
+  pub begun : IsOpen line before
+  pub seat : Seat
+  pub start : Standing
+  pub plan : IsPlanFor seat begun.asked.command start
+  pub feds : List Fed
+  pub why : Reason
+  pub next : Answer → Plan
+  pub walk : IsWalk start.labels start.plan feds (steps_of line before) (Ask s why o next)
+  pub known : k ≡ known_along start.labels nothing_known start.plan feds
+
+-- a line's own operation goes by what its command learned
+abbrev pub RecallsBy : Doer → SiteId → Op → Knowledge → (before : List Happening) → Type 0
+RecallsBy (Itself line) s o k before = Recalls line s o k before
+RecallsBy by s o k before = Unit {0}
+
 -- The operation is of whom it is done by, and the next of what it is done for. It has the number,
 -- the answer and the effect that its site has for it there; it was permitted by what was known,
--- which was true; and what it changes of an image is its owner's.
+-- which was true, and no image had a header so far whose id was drawn for one; and what it changes
+-- of an image is its owner's. A line's own operation goes by what its command learned.
 pub record IsDone (o : Operation) (before : List Happening) : Type 0 where
   pub whose : IsOf o.by o.instance o.site o.op before
   pub next : IsNextOf o.by o.site o.op before
@@ -139,6 +159,8 @@ pub record IsDone (o : Operation) (before : List Happening) : Type 0 where
   pub knows : Knowledge
   pub truth : IsTrueAt o.site (records_after o.site before) o.instance knows
   pub permits : Permits knows o.site o.op
+  pub new : (image : ℕ) → is_drawn knows.drawn o.site image ≡ true → HadNoHeader o.site image before
+  pub recalls : RecallsBy o.by o.site o.op knows before
   pub owned : IsOwnedStep (records_after o.site before) o.instance o.op o.answer
 
 -- A walk of the line's command led it to where it wants its look under the lock, at the site.
@@ -265,6 +287,21 @@ IsHeldRightly stands seat who run None = Unit {0}
 IsHeldRightly stands seat who run (Some (occupant.Refused line refusal)) = IsRefusedAtOnce seat who run line refusal
 IsHeldRightly stands seat who run (Some (occupant.Running r)) = IsUnderWay stands seat who run r
 
+-- what the request in a slot knows is what a walk of its command taught
+pub record HasLearned {R : Type 0} (stands : R → Standing) (run : List Happening) (r : Running R) (k : Knowledge) : Type 0 where
+  pub begun : IsOpen r.line run
+  pub seat : Seat
+  pub start : Standing
+  pub plan : IsPlanFor seat begun.asked.command start
+  pub labels : (stands r.request).labels ≡ start.labels
+  pub feds : List Fed
+  pub walk : IsWalk start.labels start.plan feds (steps_of r.line run) (stands r.request).plan
+  pub known : k ≡ known_along start.labels nothing_known start.plan feds
+
+abbrev pub HasLearnedIf : {R : Type 0} → (stands : R → Standing) → List Happening → Option (Running R) → Knowledge → Type 0
+HasLearnedIf stands run None k = Unit {0}
+HasLearnedIf stands run (Some r) k = HasLearned stands run r k
+
 -- the state of its slot goes with the operations on its way
 abbrev pub KeepsToItsWay : {R : Type 0} → (stands : R → Standing) → List Happening → Way → Option (Running R) → Type 0
 KeepsToItsWay stands run w None = Unit {0}
@@ -279,6 +316,7 @@ pub record IsLiving {R : Type 0} (stands : R → Standing) (home : SiteId) (sess
   pub know : AllKnow stands knows c.session
   pub held : (slot : ℕ) → IsHeldRightly stands (seat_of_home session home) c.session.instance run (held_in slot c.session.slots)
   pub ways : (slot : ℕ) → KeepsToItsWay stands run (state_in slot c.slots).way (running_at slot c.session)
+  pub learned : (slot : ℕ) → HasLearnedIf stands run (running_at slot c.session) (knows slot)
 
 -- ---- what a stopped life may still send
 
@@ -379,6 +417,8 @@ pub record IsSoundWorld {R : Type 0} (stands : R → Standing) (w : WorldView R)
   pub unsent : (session slot : ℕ) → late_at session slot w.lives ≡ None → knows (Sending session slot) ≡ nothing_known
   pub drops : (session slot there : ℕ) (x : Sent) → slot ≢ there → late_at session slot w.lives ≡ Some x → (r : Records)
       → MayAct x.site r (who (Sending session slot)) (who (Sending session there)) (knows (Sending session slot)) (knows (Sending session there)) x.op
+  -- an id that somebody drew had no header so far
+  pub new : (h : Holder) (s : SiteId) (image : ℕ) → is_drawn (knows h).drawn s image ≡ true → HadNoHeader s image run
   -- no two that aren't of one client are in each other's way
   pub beside : (h g : Holder) → AreStrangers h g → (s : SiteId) → AreBeside s (records_in s w.sites) (who h) (who g) (knows h) (knows g)
   -- the writes of each instance change an image in the order in which they found it
