@@ -1,5 +1,5 @@
 //! Parts of requests that zero or replace an object, or set the size of an image. The requests of
-//! `rbd_discard` and `rbd_resize` are made of them, and replay will be. No session serves one yet.
+//! `rbd_discard` and `rbd_resize` are made of them, and replay will be.
 //!
 //! ```text
 //! let mut zeros = ZeroPiece::new(alloc, SiteId::A, image, &header, piece)?;  // all of object 3
