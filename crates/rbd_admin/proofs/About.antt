@@ -1,5 +1,6 @@
 -- The operations of requests are their own.
-use Rattle.std.proofs.Common.{ℕ, ◌+◌, List, true, Option, Some, None, refl}
+use Rattle.std.proofs.Common.{ℕ, ◌+◌, List, Option, Some, None, refl}
+use Rattle.rbd_kinds.specs.declared.sharing.Sharing.TheVariants as sharing
 use Rattle.rbd_kinds.specs.declared.answer.Answer.{Answer}
 use Rattle.rbd_kinds.specs.declared.answer.Answer.TheVariants as answer
 use Rattle.rbd_commands.specs.declared.command.Command.TheVariants as command
@@ -99,12 +100,12 @@ module _ (site : SiteId) where
 
   pub taking_is_own : (name snap : List ℕ) (feds : List Fed) (steps : List Answered) (last : Plan) → IsWalk Goto (snap_plan site (command.SnapCreate name snap)) feds steps last → AreOwn site (look_up name) steps
   taking_is_own name snap feds steps last walk =
-      let way = joining site true (create_refuses snap) (take site snap) in
-      are_own site (look_up name) (on_id way) (by_on_id site way (λ image. of_joining site image true (create_refuses snap) (take site snap) (of_take snap image))) feds steps last walk
+      let way = joining site sharing.Alone (create_refuses snap) (take site snap) in
+      are_own site (look_up name) (on_id way) (by_on_id site way (λ image. of_joining site image sharing.Alone (create_refuses snap) (take site snap) (of_take snap image))) feds steps last walk
 
   pub removing_is_own : (name snap : List ℕ) (feds : List Fed) (steps : List Answered) (last : Plan) → IsWalk Goto (snap_plan site (command.SnapRemove name snap)) feds steps last → AreOwn site (look_up name) steps
   removing_is_own name snap feds steps last walk =
-      let way = joining site true (remove_refuses snap) (remove site snap) in
+      let way = joining site sharing.Alone (remove_refuses snap) (remove site snap) in
       are_own site (look_up name) (on_id way)
-      (by_on_id site way (λ image. of_joining site image true (remove_refuses snap) (remove site snap) (λ h. of_remove snap image (snap_named h.snaps snap))))
+      (by_on_id site way (λ image. of_joining site image sharing.Alone (remove_refuses snap) (remove site snap) (λ h. of_remove snap image (snap_named h.snaps snap))))
       feds steps last walk

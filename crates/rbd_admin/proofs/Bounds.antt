@@ -1,5 +1,6 @@
 -- Bounds of the plans.
-use Rattle.std.proofs.Common.{ℕ, zero, suc, ◌+◌, List, true, Option, Some, None, sym, subst, arith}
+use Rattle.std.proofs.Common.{ℕ, zero, suc, ◌+◌, List, Option, Some, None, sym, subst, arith}
+use Rattle.rbd_kinds.specs.declared.sharing.Sharing.TheVariants as sharing
 use Rattle.rbd_kinds.specs.declared.answer.Answer.{Answer}
 use Rattle.rbd_kinds.specs.declared.answer.Answer.TheVariants as answer
 use Rattle.rbd_commands.specs.declared.command.Command.{Command}
@@ -137,9 +138,9 @@ bounded_remove : (site : SiteId) (snap : List ℕ) (image : ℕ) (h : HeaderView
 bounded_remove site snap image h = bounded_remove_listed site snap image (snap_named h.snaps snap)
 
 pub bounded_removal : (site : SiteId) (image snap : List ℕ) → IsBounded (snap_plan site (command.SnapRemove image snap)) 5
-bounded_removal site image snap = bounded_change site (remove_refuses snap) (remove site snap) 2 (bounded_remove site snap) image true
+bounded_removal site image snap = bounded_change site (remove_refuses snap) (remove site snap) 2 (bounded_remove site snap) image sharing.Alone
 
 pub bounded_snap : (site : SiteId) (c : Command) → IsBounded (snap_plan site c) 6
-bounded_snap site (command.SnapCreate image snap) = bounded_change site (create_refuses snap) (take site snap) 3 (bounded_take site snap) image true
+bounded_snap site (command.SnapCreate image snap) = bounded_change site (create_refuses snap) (take site snap) 3 (bounded_take site snap) image sharing.Alone
 bounded_snap site (command.SnapRemove image snap) = bounded_more (snap_plan site (command.SnapRemove image snap)) 5 6 (omega arith) (bounded_removal site image snap)
 bounded_snap site _ = tt

@@ -1,5 +1,6 @@
 -- Changes of snapshots that are done, step by step.
-use Rattle.std.proofs.Common.{◌≡◌, ℕ, ◌+◌, List, [], ◌∷◌, true, Option, Some, None, refl, ap, ◌∙◌}
+use Rattle.std.proofs.Common.{◌≡◌, ℕ, ◌+◌, List, [], ◌∷◌, Option, Some, None, refl, ap, ◌∙◌}
+use Rattle.rbd_kinds.specs.declared.sharing.Sharing.TheVariants as sharing
 use Rattle.rbd_kinds.specs.declared.answer.Answer.{Answer}
 use Rattle.rbd_kinds.specs.declared.answer.Answer.TheVariants as answer
 use Rattle.rbd_commands.specs.declared.command.Command.TheVariants as command
@@ -49,7 +50,7 @@ told_gone next a feds steps walk = absurd (nothing_ends_otherwise (Return reply.
 
 pub takes_one : (site : SiteId) (name snap : List ℕ) (feds : List Fed) (steps : List Answered) → IsWalk Goto (snap_plan site (command.SnapCreate name snap)) feds steps (Return reply.Done) → TakesOne site name snap steps
 takes_one site name snap feds steps walk =
-    let c = changed (Return reply.Done) tt site name true (create_refuses snap) (take site snap) feds steps walk in
+    let c = changed (Return reply.Done) tt site name sharing.Alone (create_refuses snap) (take site snap) feds steps walk in
     let next = c.own.snap_seq + 1 in
     let n = noted (Return reply.Done) tt site c.image (event.SnapCreate snap) (copying site snap c.image next) c.more c.rest c.walk in
     let g = went_on (Return reply.Done) tt site reason.Own (op.Map c.image (states.Get None)) (on_bits (putting site snap c.image next)) n.more c.rest n.walk in
@@ -100,7 +101,7 @@ removed site snap image (Some listed) feds steps walk =
 
 pub removes_one : (site : SiteId) (name snap : List ℕ) (feds : List Fed) (steps : List Answered) → IsWalk Goto (snap_plan site (command.SnapRemove name snap)) feds steps (Return reply.Done) → RemovesOne site name snap steps
 removes_one site name snap feds steps walk =
-    let c = changed (Return reply.Done) tt site name true (remove_refuses snap) (remove site snap) feds steps walk in
+    let c = changed (Return reply.Done) tt site name sharing.Alone (remove_refuses snap) (remove site snap) feds steps walk in
     let l = removed site snap c.image (snap_named c.own.snaps snap) c.more c.rest c.walk in
     record {
       image = c.image;

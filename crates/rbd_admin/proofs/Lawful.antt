@@ -3,6 +3,7 @@ use Rattle.std.proofs.Common.{◌≡◌, ◌≢◌, ◌⊎◌, inl, inr, ℕ, �
 use Rattle.std.specs.Prelude.{nat_eq, not, filter}
 use Rattle.std.specs.Cmp.Lexicographic.{pointwise}
 use Rattle.std.proofs.lemmas.Bool.Decides.{eqb_tells}
+use Rattle.rbd_kinds.specs.declared.sharing.Sharing.TheVariants as sharing
 use Rattle.rbd_kinds.specs.declared.answer.Answer.{Answer}
 use Rattle.rbd_kinds.specs.declared.answer.Answer.TheVariants as answer
 use Rattle.rbd_commands.specs.declared.command.Command.{Command}
@@ -290,9 +291,9 @@ module _ (at : Label → Knowledge) where
 
   pub lawful_snap : (site : SiteId) (c : Command) → IsLawful at nothing_known (snap_plan site c)
   lawful_snap site (command.SnapCreate image snap) =
-      lawful_change at site image true (create_refuses snap) (take site snap) (λ i h form may. lawful_take site snap i h may)
+      lawful_change at site image sharing.Alone (create_refuses snap) (take site snap) (λ i h form may. lawful_take site snap i h may)
   lawful_snap site (command.SnapRemove image snap) =
-      lawful_change at site image true (remove_refuses snap) (remove site snap) (λ i h form may.
+      lawful_change at site image sharing.Alone (remove_refuses snap) (remove site snap) (λ i h form may.
       lawful_remove_listed site snap i h form (snap_named h.snaps snap) refl (or_else_none (non_primary h.role) _ may))
   lawful_snap site _ = tt
 

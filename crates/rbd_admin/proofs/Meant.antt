@@ -1,5 +1,6 @@
 -- What replies mean, command by command.
 use Rattle.std.proofs.Common.{◌≡◌, ◌⊎◌, inl, inr, ℕ, ◌+◌, List, true, false, Option, Some, None, refl, subst}
+use Rattle.rbd_kinds.specs.declared.sharing.Sharing.TheVariants as sharing
 use Rattle.rbd_kinds.specs.declared.answer.Answer.{Answer}
 use Rattle.rbd_kinds.specs.declared.answer.Answer.TheVariants as answer
 use Rattle.rbd_commands.specs.declared.command.Command.{Command}
@@ -296,10 +297,10 @@ pub snap_means : (seat : Seat) (c : Command) (feds : List Fed) (steps : List Ans
 snap_means seat (command.SnapCreate image snap) feds steps r is given walk =
     taking_means seat.home image snap feds steps r
     (ends_by (create_refuses snap) never IsDone feds false (snap_plan seat.home (command.SnapCreate image snap)) steps r
-    (refusing_change (create_refuses snap) never IsDone seat.home image true (take seat.home snap) (λ i h may. refusing_copied seat.home snap i (h.snap_seq + 1))) given walk) walk
+    (refusing_change (create_refuses snap) never IsDone seat.home image sharing.Alone (take seat.home snap) (λ i h may. refusing_copied seat.home snap i (h.snap_seq + 1))) given walk) walk
 snap_means seat (command.SnapRemove image snap) feds steps r is given walk =
     removing_means seat.home image snap feds steps r
     (ends_by (remove_refuses snap) by_fence IsDone feds false (snap_plan seat.home (command.SnapRemove image snap)) steps r
-    (refusing_change (remove_refuses snap) by_fence IsDone seat.home image true (remove seat.home snap) (λ i h may.
+    (refusing_change (remove_refuses snap) by_fence IsDone seat.home image sharing.Alone (remove seat.home snap) (λ i h may.
     refusing_remove seat.home snap i (snap_named h.snaps snap) (or_else_none (non_primary h.role) _ may))) given walk) walk
 snap_means seat _ feds steps r is given walk = cc

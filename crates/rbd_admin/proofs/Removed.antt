@@ -1,5 +1,6 @@
 -- What a `snap rm` has done when it is refused, step by step.
-use Rattle.std.proofs.Common.{◌≡◌, ◌⊎◌, inl, inr, ℕ, List, [], ◌∷◌, ◌++◌, true, Option, Some, None, refl, ap, sym, subst, ◌∙◌}
+use Rattle.std.proofs.Common.{◌≡◌, ◌⊎◌, inl, inr, ℕ, List, [], ◌∷◌, ◌++◌, Option, Some, None, refl, ap, sym, subst, ◌∙◌}
+use Rattle.rbd_kinds.specs.declared.sharing.Sharing.TheVariants as sharing
 use Rattle.rbd_kinds.specs.declared.answer.Answer.{Answer}
 use Rattle.rbd_kinds.specs.declared.answer.Answer.TheVariants as answer
 use Rattle.rbd_commands.specs.declared.command.Command.TheVariants as command
@@ -116,9 +117,9 @@ module _ (x : Refusal) (site : SiteId) (name snap : List ℕ) where
       go a more last are w = stop (found site name image ∷ looked_at site image first ∷ []) _ last steps are (absent_ends a more last Refused w) (inl (refl, (refl, tt)))
 
   found_stops : (image : ℕ) (feds : List Fed) (rest steps : List Answered) → steps ≡ found site name image ∷ rest
-      → IsWalk Goto (joining site true refuses act image) feds rest Refused → Stops site name snap steps
+      → IsWalk Goto (joining site sharing.Alone refuses act image) feds rest Refused → Stops site name snap steps
   found_stops image feds rest steps are walk =
-      let j = awaited_to (reply.Refused x) (wait.Join site image true) (looking site refuses act image) feds rest walk in
+      let j = awaited_to (reply.Refused x) (wait.Join site image sharing.Alone) (looking site refuses act image) feds rest walk in
       let v = asked_to (reply.Refused x) site reason.Own (op.Header image header.Get) (on_header (looked site refuses act image)) j.more rest j.walk in
       go v.answer v.more v.rest (are ∙ ap (λ s. found site name image ∷ s) v.are) v.walk
     where
@@ -129,10 +130,10 @@ module _ (x : Refusal) (site : SiteId) (name snap : List ℕ) where
 
   pub removal_stops : (feds : List Fed) (steps : List Answered) → IsWalk Goto (snap_plan site (command.SnapRemove name snap)) feds steps Refused → Stops site name snap steps
   removal_stops feds steps walk =
-      let w = asked_to (reply.Refused x) site reason.Own (look_up name) (on_id (joining site true refuses act)) feds steps walk in
+      let w = asked_to (reply.Refused x) site reason.Own (look_up name) (on_id (joining site sharing.Alone refuses act)) feds steps walk in
       go w.answer w.more w.rest w.are w.walk
     where
-      go : (a : Answer) (more : List Fed) (rest : List Answered) → steps ≡ asked (look_up name) a ∷ rest → IsWalk Goto (on_id (joining site true refuses act) a) more rest Refused → Stops site name snap steps
+      go : (a : Answer) (more : List Fed) (rest : List Answered) → steps ≡ asked (look_up name) a ∷ rest → IsWalk Goto (on_id (joining site sharing.Alone refuses act) a) more rest Refused → Stops site name snap steps
       go (answer.Id image) more rest are w = found_stops image more rest steps are w
       go a more rest are w = stop [] _ rest steps are (absent_ends a more rest Refused w) (inl tt)
 

@@ -1,5 +1,6 @@
 -- `snap create` and `snap rm`: plans of changes that are alone on their image.
 use Rattle.std.specs.Prelude.{◌≡◌, ℕ, ◌+◌, List, Bool, true, false, Option, Some, None}
+use Rattle.rbd_kinds.specs.declared.sharing.Sharing.TheVariants as sharing
 use Rattle.rbd_admin.specs.declared.snap.Act.{Act}
 use Rattle.rbd_admin.specs.declared.snap.Act.TheVariants as act
 use Rattle.rbd_admin.specs.declared.snap.ChangeKind.{ChangeKind}
@@ -83,8 +84,8 @@ abbrev pub remove : SiteId → (snap : List ℕ) → (image : ℕ) → HeaderVie
 remove site snap image h = remove_listed site snap image (snap_named h.snaps snap)
 
 abbrev pub snap_plan : SiteId → Command → Plan
-snap_plan site (command.SnapCreate image snap) = change site image true (create_refuses snap) (take site snap)
-snap_plan site (command.SnapRemove image snap) = change site image true (remove_refuses snap) (remove site snap)
+snap_plan site (command.SnapCreate image snap) = change site image sharing.Alone (create_refuses snap) (take site snap)
+snap_plan site (command.SnapRemove image snap) = change site image sharing.Alone (remove_refuses snap) (remove site snap)
 snap_plan site _ = refused refusal.NoImage
 
 -- ---- where a request stands

@@ -17,7 +17,7 @@ use crate::operations::map_get;
 use rbd_header::is_full;
 use rbd_kinds::{
     Answer, Bytes, Command, Event, Fed, HeaderOp, HeaderView, ImageId, MapOp, Name, NoMemory, Op,
-    OpKind, Refusal, Reply, SiteId, SnapId, SnapStatus, TryClone, Turn, Want,
+    OpKind, Refusal, Reply, Sharing, SiteId, SnapId, SnapStatus, TryClone, Turn, Want,
 };
 use rbd_machine::{
     Approach, Machine, Progress, Reason, Refuses, non_primary, refusal_of, told_done,
@@ -122,12 +122,12 @@ impl SnapRequest {
 
     /// Begins a change of a snapshot of an image.
     fn begin(site: SiteId, image: Name, kind: ChangeKind, snap: Name) -> Self
-        ensures { rest_of_snap result ≡ change_of site image true (refuses_by kind snap) (does_by kind site snap) }
+        ensures { rest_of_snap result ≡ change_of site image Sharing.Alone (refuses_by kind snap) (does_by kind site snap) }
     {
         SnapRequest {
             site,
             change: SnapChange { kind, snap },
-            stage: Stage::Approaching(Approach::new(site, image, true)),
+            stage: Stage::Approaching(Approach::new(site, image, Sharing::Alone)),
             readied: None,
         }
     }

@@ -1,5 +1,6 @@
 -- The operations of each request are its own.
-use Rattle.std.proofs.Common.{ℕ, List, true, refl}
+use Rattle.std.proofs.Common.{ℕ, List, refl}
+use Rattle.rbd_kinds.specs.declared.sharing.Sharing.TheVariants as sharing
 use Rattle.rbd_kinds.specs.declared.answer.Answer.{Answer}
 use Rattle.rbd_kinds.specs.declared.answer.Answer.TheVariants as answer
 use Rattle.rbd_kinds.specs.declared.id.SiteId.{SiteId}
@@ -27,8 +28,8 @@ module _ (site : SiteId) where
 
   pub quiesce_is_own : (name : List ℕ) (feds : List Fed) (steps : List Answered) (last : Plan) → IsWalk Goto (quiesce site name) feds steps last → AreOwn site (look_up name) steps
   quiesce_is_own name feds steps last walk =
-      let way = change_joining site true refuses_none quiesced in
-      are_own site (look_up name) (on_id way) (by_on_id site way (λ image. of_joining site image true refuses_none quiesced (λ h. tt))) feds steps last walk
+      let way = change_joining site sharing.Alone refuses_none quiesced in
+      are_own site (look_up name) (on_id way) (by_on_id site way (λ image. of_joining site image sharing.Alone refuses_none quiesced (λ h. tt))) feds steps last walk
 
   pub resume_is_own : (name : List ℕ) (feds : List Fed) (steps : List Answered) (last : Plan) → IsWalk Goto (resume site name) feds steps last → AreOwn site (look_up name) steps
   resume_is_own name feds steps last walk = are_own site (look_up name) (on_id resumed) (by_on_id site resumed (λ image. tt)) feds steps last walk

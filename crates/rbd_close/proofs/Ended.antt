@@ -1,5 +1,6 @@
 -- What has been done when a request has ended.
-use Rattle.std.proofs.Common.{◌≡◌, inl, inr, ℕ, List, [], ◌∷◌, true, ap, ◌∙◌}
+use Rattle.std.proofs.Common.{◌≡◌, inl, inr, ℕ, List, [], ◌∷◌, ap, ◌∙◌}
+use Rattle.rbd_kinds.specs.declared.sharing.Sharing.TheVariants as sharing
 use Rattle.rbd_kinds.specs.declared.answer.Answer.{Answer}
 use Rattle.rbd_kinds.specs.declared.answer.Answer.TheVariants as answer
 use Rattle.rbd_kinds.specs.declared.id.SiteId.{SiteId}
@@ -48,7 +49,7 @@ module _ (site : SiteId) (r : Reply) where
   ends_behind : (name : List ℕ) (a : Answer) (feds : List Fed) (steps rest : List Answered) → steps ≡ answered site (look_up name) a ∷ rest
       → IsWalk Goto (on_id (joining site) a) feds rest (Return r) → Ends site name steps
   ends_behind name (answer.Id image) feds steps rest are walk =
-      let j = awaited_to r (wait.Join site image true) (holding site image) feds rest walk in
+      let j = awaited_to r (wait.Join site image sharing.Alone) (holding site image) feds rest walk in
       let h = awaited_to r (wait.Hold site image) (dropping site image) j.more rest j.walk in
       let d = asked_to r site reason.Own (lock_drop image) (on_dropped site image) h.more rest h.walk in
       inl (record {
@@ -109,7 +110,7 @@ module _ (site : SiteId) where
   closes name feds steps walk =
       let w = went_on is_done tt site reason.Own (look_up name) (on_id (joining site)) feds steps walk in
       let i = told_image is_done tt (joining site) w.answer w.more w.rest w.walk in
-      let j = awaited is_done tt (wait.Join site i.image true) (holding site i.image) w.more w.rest i.walk in
+      let j = awaited is_done tt (wait.Join site i.image sharing.Alone) (holding site i.image) w.more w.rest i.walk in
       let h = awaited is_done tt (wait.Hold site i.image) (dropping site i.image) j.more w.rest j.walk in
       let d = went_on is_done tt site reason.Own (lock_drop i.image) (on_dropped site i.image) h.more w.rest h.walk in
       record {
@@ -122,7 +123,7 @@ module _ (site : SiteId) where
 
   pub looks_twice : (name : List ℕ) (feds : List Fed) (steps : List Answered) → IsWalk Goto (quiesce site name) feds steps is_done → LooksTwice site name steps
   looks_twice name feds steps walk =
-      let c = changed is_done tt site name true refuses_none quiesced feds steps walk in
+      let c = changed is_done tt site name sharing.Alone refuses_none quiesced feds steps walk in
       record {
         image = c.image;
         first = c.first;

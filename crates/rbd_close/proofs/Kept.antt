@@ -1,5 +1,6 @@
 -- Requests that neither take a lock nor drop one.
-use Rattle.std.proofs.Common.{◌≡◌, ℕ, List, [], ◌∷◌, Bool, true, refl, sym, subst}
+use Rattle.std.proofs.Common.{◌≡◌, ℕ, List, [], ◌∷◌, Bool, refl, sym, subst}
+use Rattle.rbd_kinds.specs.declared.sharing.Sharing.TheVariants as sharing
 use Rattle.rbd_kinds.specs.declared.answer.Answer.{Answer}
 use Rattle.rbd_kinds.specs.declared.answer.Answer.TheVariants as answer
 use Rattle.rbd_kinds.specs.declared.header.HeaderView.{HeaderView}
@@ -61,7 +62,7 @@ keeps_on_done next keeps a = keeps_not_there a
 keeps_quiesce : (site : SiteId) (name : List ℕ) → KeepsLock (quiesce site name)
 keeps_quiesce site name = (
   λ owned a. refl,
-  keeps_on_id (change_joining site true refuses_none quiesced) (λ image. (
+  keeps_on_id (change_joining site sharing.Alone refuses_none quiesced) (λ image. (
     λ owned a. refl,
     keeps_on_header (looked site refuses_none quiesced image) (λ first. (λ owned a. refl, keeps_on_header (looked_own refuses_none quiesced image) (λ own. tt))),
   )),

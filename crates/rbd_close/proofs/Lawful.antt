@@ -1,5 +1,6 @@
 -- The plans do what they may.
 use Rattle.std.proofs.Common.{ℕ, List, true, cond, Some, None, refl, ap}
+use Rattle.rbd_kinds.specs.declared.sharing.Sharing.TheVariants as sharing
 use Rattle.rbd_kinds.specs.declared.answer.Answer.{Answer}
 use Rattle.rbd_kinds.specs.declared.answer.Answer.TheVariants as answer
 use Rattle.rbd_commands.specs.declared.command.Command.{Command}
@@ -42,7 +43,7 @@ lawful_close site name = (tt, λ found can. lawful_on_id known_nowhere (learned 
 
 lawful_plan : (site : SiteId) (c : Command) → IsLawful known_nowhere nothing_known (close_plan site c)
 lawful_plan site (command.Close image) = lawful_close site image
-lawful_plan site (command.Quiesce image) = lawful_change known_nowhere site image true refuses_none quiesced (λ i h form may. tt)
+lawful_plan site (command.Quiesce image) = lawful_change known_nowhere site image sharing.Alone refuses_none quiesced (λ i h form may. tt)
 lawful_plan site (command.Resume image) = (tt, λ found can. lawful_on_id known_nowhere (learned nothing_known site (look_up image)) resumed (λ i. tt) found)
 lawful_plan site (command.Tell image bytes) = (
   tt,

@@ -1,5 +1,6 @@
 -- What replies mean, command by command.
 use Rattle.std.proofs.Common.{◌≡◌, inl, inr, ℕ, List, Bool, true, false, refl, subst}
+use Rattle.rbd_kinds.specs.declared.sharing.Sharing.TheVariants as sharing
 use Rattle.rbd_kinds.specs.declared.answer.Answer.{Answer}
 use Rattle.rbd_kinds.specs.declared.answer.Answer.TheVariants as answer
 use Rattle.rbd_commands.specs.declared.command.Command.{Command}
@@ -67,7 +68,7 @@ module _ (site : SiteId) where
   -- ---- the others change nothing before their last operation
 
   refusing_quiesce : (name : List ℕ) → IsRefusing refuses_none never IsDone false (quiesce site name)
-  refusing_quiesce name = refusing_change refuses_none never IsDone site name true quiesced (λ i h may. tt)
+  refusing_quiesce name = refusing_change refuses_none never IsDone site name sharing.Alone quiesced (λ i h may. tt)
 
   refusing_resume : (name : List ℕ) → IsRefusing refuses_none never IsDone false (resume site name)
   refusing_resume name = refusing_find refuses_none never IsDone name resumed (λ i. tt)

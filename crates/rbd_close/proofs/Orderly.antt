@@ -1,5 +1,6 @@
 -- The plans keep to their line.
 use Rattle.std.proofs.Common.{ℕ, List, true, None, refl}
+use Rattle.rbd_kinds.specs.declared.sharing.Sharing.TheVariants as sharing
 use Rattle.rbd_course.specs.Course.{Course, beginning}
 use Rattle.rbd_course.specs.Orderly.{IsOrderly, IsOrderlyFrom}
 use Rattle.rbd_course.specs.declared.stage.Stage.TheVariants as stage
@@ -42,7 +43,7 @@ orderly_close site name = (
 
 orderly_plan : (site : SiteId) (c : Command) → IsOrderly None starts true beginning (close_plan site c)
 orderly_plan site (command.Close image) = orderly_close site image
-orderly_plan site (command.Quiesce image) = orderly_change None starts site image true refuses_none quiesced (λ i h form may. tt)
+orderly_plan site (command.Quiesce image) = orderly_change None starts site image sharing.Alone refuses_none quiesced (λ i h form may. tt)
 orderly_plan site (command.Resume image) = (refl, λ found can. orderly_on_id None starts beginning resumed (λ i. tt) found)
 orderly_plan site (command.Tell image bytes) = (
   refl,

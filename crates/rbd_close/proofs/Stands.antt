@@ -1,5 +1,6 @@
 -- The steps of a close, to its end or to where it stands, and what the session counts behind them.
-use Rattle.std.proofs.Common.{◌≡◌, ◌⊎◌, inl, inr, ℕ, List, [], ◌∷◌, ◌++◌, Bool, true, false, refl, ap, sym, ◌∙◌, subst}
+use Rattle.std.proofs.Common.{◌≡◌, ◌⊎◌, inl, inr, ℕ, List, [], ◌∷◌, ◌++◌, Bool, false, refl, ap, sym, ◌∙◌, subst}
+use Rattle.rbd_kinds.specs.declared.sharing.Sharing.TheVariants as sharing
 use Rattle.rbd_kinds.specs.declared.answer.Answer.{Answer}
 use Rattle.rbd_kinds.specs.declared.answer.Answer.TheVariants as answer
 use Rattle.rbd_kinds.specs.declared.id.SiteId.{SiteId}
@@ -153,7 +154,7 @@ module _ (site : SiteId) where
         go (inr p) = at_drop p.more steps last p.walk
 
     at_join : (feds : List Fed) (steps : List Answered) (last : Plan) → IsWalk Goto (joining site image) feds steps last → BehindFind (answer.Id image) steps
-    at_join feds steps last walk = go (pass_of (wait.Join site image true) (holding site image) feds steps last walk)
+    at_join feds steps last walk = go (pass_of (wait.Join site image sharing.Alone) (holding site image) feds steps last walk)
       where
         go : (steps ≡ []) ⊎ Passed last (holding site image) steps → BehindFind (answer.Id image) steps
         go (inl none) = subst (BehindFind (answer.Id image)) (sym none) tt

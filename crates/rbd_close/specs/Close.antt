@@ -1,5 +1,6 @@
 -- `close`, `quiesce`, `resume` and `tell`: the plans.
 use Rattle.std.specs.Prelude.{ℕ, List, Bool, true, false}
+use Rattle.rbd_kinds.specs.declared.sharing.Sharing.TheVariants as sharing
 use Rattle.rbd_close.specs.declared.close.Close.{Close}
 use Rattle.rbd_close.specs.declared.close.Stage.{Stage as CloseStage}
 use Rattle.rbd_close.specs.declared.close.Stage.TheVariants as closing
@@ -84,7 +85,7 @@ abbrev pub holding : SiteId → (image : ℕ) → Plan
 holding site image = Await (wait.Hold site image) (dropping site image)
 
 abbrev pub joining : SiteId → (image : ℕ) → Plan
-joining site image = Await (wait.Join site image true) (holding site image)
+joining site image = Await (wait.Join site image sharing.Alone) (holding site image)
 
 abbrev pub close : SiteId → (name : List ℕ) → Plan
 close site name = find site name (joining site)
@@ -95,7 +96,7 @@ abbrev pub quiesced : (image : ℕ) → HeaderView → Plan
 quiesced image h = done
 
 abbrev pub quiesce : SiteId → (name : List ℕ) → Plan
-quiesce site name = change site name true refuses_none quiesced
+quiesce site name = change site name sharing.Alone refuses_none quiesced
 
 -- ---- resume: the image is found, and that is all
 

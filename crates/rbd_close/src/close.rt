@@ -7,8 +7,8 @@ ghost use Rattle.rbd_machine.specs.Plan.{GoesOn, Goto, plan_after, without_label
 ghost use Rattle.rbd_close.specs.Close.{close, rest_of_close};
 
 use rbd_kinds::{
-    Answer, Event, Fed, HeaderOp, ImageId, Name, NoMemory, NoticeKind, Op, OpKind, Reply, SiteId,
-    Turn, Want,
+    Answer, Event, Fed, HeaderOp, ImageId, Name, NoMemory, NoticeKind, Op, OpKind, Reply, Sharing,
+    SiteId, Turn, Want,
 };
 use rbd_machine::{Machine, Reason, dir_find, refusal_of, told_done, told_image};
 use std::alloc::Global;
@@ -155,7 +155,7 @@ impl Machine for Close {
                 return Want::Join {
                     site,
                     image: *image,
-                    alone: true,
+                    sharing: Sharing::Alone,
                 };
             }
             Stage::Holding(image) => {

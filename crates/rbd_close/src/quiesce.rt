@@ -4,7 +4,9 @@ ghost use Rattle.rbd_machine.specs.Plan.{without_labels};
 ghost use Rattle.rbd_machine.specs.Refused.{refuses_none};
 ghost use Rattle.rbd_close.specs.Close.{quiesce, rest_of_quiesce};
 
-use rbd_kinds::{Event, Fed, HeaderView, Name, NoMemory, Op, Refusal, Reply, SiteId, Turn, Want};
+use rbd_kinds::{
+    Event, Fed, HeaderView, Name, NoMemory, Op, Refusal, Reply, Sharing, SiteId, Turn, Want,
+};
 use rbd_machine::{Approach, Machine, Progress, Reason, Refuses};
 use std::alloc::Global;
 
@@ -44,7 +46,7 @@ impl Quiesce {
         ensures { rest_of_quiesce result ≡ quiesce site name }
     {
         Quiesce {
-            way: Approach::new(site, name, true),
+            way: Approach::new(site, name, Sharing::Alone),
         }
     }
 }

@@ -1,6 +1,8 @@
 -- Plans that keep to their line, step by step.
 use Rattle.std.proofs.Common.{◌≡◌, ℕ, List, [], Bool, true, false, cond, Option, Some, None, refl, ap, sym, subst}
 use Rattle.std.specs.Prelude.{◌&&◌}
+use Rattle.rbd_kinds.specs.Sharing.{is_alone}
+use Rattle.rbd_kinds.specs.declared.sharing.Sharing.{Sharing}
 use Rattle.rbd_course.specs.Course.{Course, Place, answered, beginning, due_of, looked, objects_asked}
 use Rattle.rbd_course.specs.Orderly.{IsOrderly}
 use Rattle.rbd_course.specs.declared.stage.Stage.{Stage}
@@ -76,25 +78,25 @@ module _ (e : Option Extent) (at : Label → Course) where
   orderly_unless c (Some r) next orderly = tt
 
   -- a change, whatever it does behind its own look
-  pub orderly_change : (s : SiteId) (name : List ℕ) (alone : Bool) (refuses : HeaderView → Option Refusal) (act : ℕ → HeaderView → Plan)
-      → ((image : ℕ) (h : HeaderView) → IsHeaderInForm h → refuses h ≡ None → IsOrderly e at true (own_course e alone s image h) (act image h))
-      → IsOrderly e at true beginning (change s name alone refuses act)
-  orderly_change s name alone refuses act acts = (
+  pub orderly_change : (s : SiteId) (name : List ℕ) (sharing : Sharing) (refuses : HeaderView → Option Refusal) (act : ℕ → HeaderView → Plan)
+      → ((image : ℕ) (h : HeaderView) → IsHeaderInForm h → refuses h ≡ None → IsOrderly e at true (own_course e (is_alone sharing) s image h) (act image h))
+      → IsOrderly e at true beginning (change s name sharing refuses act)
+  orderly_change s name sharing refuses act acts = (
     refl,
     λ found can.
-        orderly_on_id beginning (steps.joining s alone refuses act) (λ image. (
+        orderly_on_id beginning (steps.joining s sharing refuses act) (λ image. (
           (refl, refl),
           (
             refl,
-            orderly_on_header image (answered e (course_at alone s image stage.Joined) s (op.Header image header.Get)) (steps.looked s refuses act image) (λ h form.
-                subst (λ c. IsOrderly e at true c (steps.looked s refuses act image h)) (sym (first_told e alone s image h))
-                (orderly_unless (course_at alone s image stage.Joined) (refuses h) (steps.holding s refuses act image) (λ may_wait. (
+            orderly_on_header image (answered e (course_at (is_alone sharing) s image stage.Joined) s (op.Header image header.Get)) (steps.looked s refuses act image) (λ h form.
+                subst (λ c. IsOrderly e at true c (steps.looked s refuses act image h)) (sym (first_told e (is_alone sharing) s image h))
+                (orderly_unless (course_at (is_alone sharing) s image stage.Joined) (refuses h) (steps.holding s refuses act image) (λ may_wait. (
                   (at_itself s image, refl),
                   (
                     refl,
-                    orderly_on_header image (answered e (course_at alone s image stage.Waiting) s (op.Header image header.Get)) (steps.owned refuses act image) (λ own form.
-                        subst (λ c. IsOrderly e at true c (steps.owned refuses act image own)) (sym (own_told e alone s image own))
-                        (orderly_unless (own_course e alone s image own) (refuses own) (act image own) (acts image own form))),
+                    orderly_on_header image (answered e (course_at (is_alone sharing) s image stage.Waiting) s (op.Header image header.Get)) (steps.owned refuses act image) (λ own form.
+                        subst (λ c. IsOrderly e at true c (steps.owned refuses act image own)) (sym (own_told e (is_alone sharing) s image own))
+                        (orderly_unless (own_course e (is_alone sharing) s image own) (refuses own) (act image own) (acts image own form))),
                   ),
                 )))),
           ),

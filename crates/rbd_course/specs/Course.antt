@@ -12,6 +12,7 @@ use Rattle.rbd_kinds.specs.declared.layout.Extent.{Extent}
 use Rattle.rbd_kinds.specs.declared.operation.Op.{Op}
 use Rattle.rbd_kinds.specs.declared.operation.Op.TheVariants as op
 use Rattle.rbd_kinds.specs.Extents.{fits}
+use Rattle.rbd_kinds.specs.Sharing.{is_alone}
 use Rattle.rbd_layout.specs.Pieces.{pieces_of}
 use Rattle.rbd_layout.specs.declared.types.Piece.{Piece}
 use Rattle.rbd_machine.specs.Knowledge.{is_at}
@@ -107,7 +108,7 @@ behind turn objects = objects
 
 -- A piece ends where the next turn is awaited, or that the event counts as applied.
 abbrev pub waited : Course → Wait → Course
-waited c (wait.Join site image alone) = record c { place = Some (record { site = site; image = image; alone = alone; stage = stage.Joined }) }
+waited c (wait.Join site image sharing) = record c { place = Some (record { site = site; image = image; alone = is_alone sharing; stage = stage.Joined }) }
 waited c (wait.Hold site image) = record c { place = held c.place }
 waited c (wait.Turn object) = record c { turn = Some object; objects = behind c.turn c.objects }
 waited c (wait.Applied site image) = record c { turn = None; objects = behind c.turn c.objects }

@@ -25,7 +25,7 @@ BeginsWith object (first ∷ objects) = object ≡ first
 -- in the line, once, before anything else there, and leaves where it is in the line; and it takes
 -- its turns at the objects that it has tickets for, in their order.
 abbrev pub MayWait : (answered : Bool) → Course → Wait → Type 0
-MayWait fresh c (wait.Join site image alone) = (fresh ≡ true) × (c.place ≡ None)
+MayWait fresh c (wait.Join site image sharing) = (fresh ≡ true) × (c.place ≡ None)
 MayWait fresh c (wait.Hold site image) = IsInLine site image c.place × (is_newcomer_at c.place ≡ true)
 MayWait fresh c (wait.Turn object) = BeginsWith object (behind c.turn c.objects)
 MayWait fresh c (wait.Applied site image) = IsInLine site image c.place

@@ -1,5 +1,6 @@
 -- The operations of a discard are its own.
 use Rattle.std.proofs.Common.{ℕ, Bool, true, false, List, [], ◌∷◌, refl}
+use Rattle.rbd_kinds.specs.declared.sharing.Sharing.TheVariants as sharing
 use Rattle.rbd_kinds.specs.declared.header.HeaderView.{HeaderView}
 use Rattle.rbd_kinds.specs.declared.header.SnapContext.{SnapContext}
 use Rattle.rbd_kinds.specs.declared.id.SiteId.{SiteId}
@@ -35,7 +36,7 @@ module _ (site : SiteId) (image : ℕ) where
 
 pub discard_is_own : (site : SiteId) (name : List ℕ) (e : Extent) (feds : List Fed) (steps : List Answered) (last : Plan) → IsWalk Goto (discard site name e) feds steps last → AreOwn site (look_up name) steps
 discard_is_own site name e feds steps last walk =
-    let way = joining site false (write_refuses e) (zero site e) in
+    let way = joining site sharing.Discard (write_refuses e) (zero site e) in
     are_own site (look_up name) (on_id way)
-    (by_on_id site way (λ image. of_joining site image false (write_refuses e) (zero site e) (λ h. of_pieces site image (pieces_of h.layout e) h)))
+    (by_on_id site way (λ image. of_joining site image sharing.Discard (write_refuses e) (zero site e) (λ h. of_pieces site image (pieces_of h.layout e) h)))
     feds steps last walk

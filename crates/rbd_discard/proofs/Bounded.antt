@@ -1,5 +1,6 @@
 -- How many operations a discard has.
-use Rattle.std.proofs.Common.{◌≡◌, ℕ, ◌+◌, ◌*◌, ◌≤◌, suc, false, List, [], ◌∷◌, length, subst, arith}
+use Rattle.std.proofs.Common.{◌≡◌, ℕ, ◌+◌, ◌*◌, ◌≤◌, suc, List, [], ◌∷◌, length, subst, arith}
+use Rattle.rbd_kinds.specs.declared.sharing.Sharing.TheVariants as sharing
 use Rattle.rbd_kinds.specs.declared.header.HeaderView.{HeaderView}
 use Rattle.rbd_kinds.specs.declared.id.SiteId.{SiteId}
 use Rattle.rbd_kinds.specs.declared.layout.Extent.{Extent}
@@ -30,4 +31,4 @@ bounded_discard site name e most few =
     (λ image h.
     let n = length (pieces_of h.layout e) in
     let less : n ≤ most = few h in
-    bounded_more (zero site e image h) (3 * n) (3 * most) (omega arith) (bounded_own site e image h)) name false)
+    bounded_more (zero site e image h) (3 * n) (3 * most) (omega arith) (bounded_own site e image h)) name sharing.Discard)

@@ -1,7 +1,8 @@
 -- A discard begins no part again.
-use Rattle.std.proofs.Common.{ℕ, false, List, [], ◌∷◌}
+use Rattle.std.proofs.Common.{ℕ, List, [], ◌∷◌}
 use Rattle.rbd_commands.specs.declared.command.Command.{Command}
 use Rattle.rbd_commands.specs.declared.command.Command.TheVariants as command
+use Rattle.rbd_kinds.specs.declared.sharing.Sharing.TheVariants as sharing
 use Rattle.rbd_kinds.specs.declared.header.HeaderView.{HeaderView}
 use Rattle.rbd_kinds.specs.declared.id.SiteId.{SiteId}
 use Rattle.rbd_kinds.specs.declared.layout.Extent.{Extent}
@@ -19,7 +20,7 @@ closed_pieces [] site image h = tt
 closed_pieces (p ∷ pieces) site image h = closed_zero Goto site image h p (zero_pieces site image h pieces (applied site image)) (closed_pieces pieces site image h)
 
 closed_discard : (site : SiteId) (name : List ℕ) (e : Extent) → IsClosed Goto (discard site name e)
-closed_discard site name e = closed_change Goto site name false (write_refuses e) (zero site e) (λ image h. closed_pieces (pieces_of h.layout e) site image h)
+closed_discard site name e = closed_change Goto site name sharing.Discard (write_refuses e) (zero site e) (λ image h. closed_pieces (pieces_of h.layout e) site image h)
 
 pub closed_discard_plan : (site : SiteId) (c : Command) → IsClosed Goto (discard_plan site c)
 closed_discard_plan site (command.Discard image at len) = closed_discard site image (record { at = at; len = len })

@@ -1,5 +1,6 @@
 -- A change that is refused: by a look, before anything was done, or behind its own look.
-use Rattle.std.proofs.Common.{◌≡◌, ◌⊎◌, inl, inr, ℕ, List, [], ◌∷◌, ◌++◌, Bool, Option, Some, None, refl, ap, subst, ◌∙◌}
+use Rattle.std.proofs.Common.{◌≡◌, ◌⊎◌, inl, inr, ℕ, List, [], ◌∷◌, ◌++◌, Option, Some, None, refl, ap, subst, ◌∙◌}
+use Rattle.rbd_kinds.specs.declared.sharing.Sharing.{Sharing}
 use Rattle.rbd_kinds.proofs.Results.{same_refusal}
 use Rattle.rbd_kinds.specs.declared.answer.Answer.{Answer}
 use Rattle.rbd_kinds.specs.declared.answer.Answer.TheVariants as answer
@@ -26,7 +27,7 @@ pub record IsEarly (refuses : HeaderView → Option Refusal) (late : Refusal →
   pub by : IsRefusedBy refuses late steps x
   pub looks : AreLooks by.before
 
-module _ (x : Refusal) (site : SiteId) (name : List ℕ) (alone : Bool) (refuses : HeaderView → Option Refusal) (act : ℕ → HeaderView → Plan) (late : Refusal → Type 0) where
+module _ (x : Refusal) (site : SiteId) (name : List ℕ) (sharing : Sharing) (refuses : HeaderView → Option Refusal) (act : ℕ → HeaderView → Plan) (late : Refusal → Type 0) where
   abbrev Refused : Plan
   Refused = Return (reply.Refused x)
 
@@ -120,16 +121,16 @@ module _ (x : Refusal) (site : SiteId) (name : List ℕ) (alone : Bool) (refuses
 
   -- ---- from its beginning
 
-  pub change_ends : (feds : List Fed) (steps : List Answered) → AreGiven steps → IsWalk Goto (change site name alone refuses act) feds steps Refused → Ends steps
+  pub change_ends : (feds : List Fed) (steps : List Answered) → AreGiven steps → IsWalk Goto (change site name sharing refuses act) feds steps Refused → Ends steps
   change_ends feds steps given walk =
-      let w = asked_to (reply.Refused x) site reason.Own (look_up name) (on_id (joining site alone refuses act)) feds steps walk in
+      let w = asked_to (reply.Refused x) site reason.Own (look_up name) (on_id (joining site sharing refuses act)) feds steps walk in
       let each = subst AreGiven w.are given in
       go w.answer w.more w.rest w.are each.0 each.1 w.walk
     where
       go : (a : Answer) (more : List Fed) (rest : List Answered) → steps ≡ asked (look_up name) a ∷ rest → IsGiven (look_up name) a → AreGiven rest
-          → IsWalk Goto (on_id (joining site alone refuses act) a) more rest Refused → Ends steps
+          → IsWalk Goto (on_id (joining site sharing refuses act) a) more rest Refused → Ends steps
       go (answer.Id image) more rest are can given w =
-          let j = awaited_to (reply.Refused x) (wait.Join site image alone) (looking site refuses act image) more rest w in
+          let j = awaited_to (reply.Refused x) (wait.Join site image sharing) (looking site refuses act image) more rest w in
           looking_ends image j.more rest steps are given j.walk
       go answer.Absent more rest are can given w = at_last [] (look_up name) answer.Absent refusal.NoImage more rest steps tt tt refl are w
       go answer.Fenced more rest are can given w = at_last [] (look_up name) answer.Fenced refusal.Fenced more rest steps tt tt refl are w

@@ -3,6 +3,7 @@ use Rattle.std.proofs.Common.{ℕ, List, [], ◌∷◌, All, false, None, refl}
 use Rattle.std.proofs.lemmas.List.Elements.{All-head, All-tail}
 use Rattle.rbd_commands.specs.declared.command.Command.{Command}
 use Rattle.rbd_commands.specs.declared.command.Command.TheVariants as command
+use Rattle.rbd_kinds.specs.declared.sharing.Sharing.TheVariants as sharing
 use Rattle.rbd_kinds.specs.declared.header.HeaderView.{HeaderView}
 use Rattle.rbd_kinds.specs.declared.id.SiteId.{SiteId}
 use Rattle.rbd_kinds.specs.declared.layout.Extent.{Extent}
@@ -39,7 +40,7 @@ module _ (known_at : Label → Knowledge) where
 
   lawful_discard : (site : SiteId) (name : List ℕ) (e : Extent) → IsLawful known_at nothing_known (discard site name e)
   lawful_discard site name e =
-      lawful_change known_at site name false (write_refuses e) (zero site e) (λ image h form may.
+      lawful_change known_at site name sharing.Discard (write_refuses e) (zero site e) (λ image h form may.
       lawful_pieces (pieces_of h.layout e) (owning_known false None site image h) site image h (own_is_found false None site image h)
       (pieces_below h e form.layout (within_size e h.size (or_else_none (non_primary h.role) (out_of_range e h.size) may))))
 

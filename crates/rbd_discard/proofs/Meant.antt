@@ -1,5 +1,6 @@
 -- What the replies of a discard mean.
 use Rattle.std.proofs.Common.{◌≡◌, inl, inr, ◌⊎◌, ℕ, List, ◌∷◌, ◌++◌, false, None, refl, ap, sym, subst, ◌∙◌}
+use Rattle.rbd_kinds.specs.declared.sharing.Sharing.TheVariants as sharing
 use Rattle.rbd_kinds.proofs.Results.{same_refusal}
 use Rattle.rbd_kinds.specs.declared.header.HeaderView.{HeaderView}
 use Rattle.rbd_kinds.specs.declared.id.SiteId.{SiteId}
@@ -43,7 +44,7 @@ module _ (site : SiteId) (name : List ℕ) (e : Extent) where
 
   pub discard_is_whole : (feds : List Fed) (steps : List Answered) → IsWalk Goto (discard site name e) feds steps (Return reply.Done) → DiscardsWhole site name e steps
   discard_is_whole feds steps walk =
-      let c = changed (Return reply.Done) tt site name false (write_refuses e) (zero site e) feds steps walk in
+      let c = changed (Return reply.Done) tt site name sharing.Discard (write_refuses e) (zero site e) feds steps walk in
       record {
         image = c.image;
         first = c.first;
@@ -56,7 +57,7 @@ module _ (site : SiteId) (name : List ℕ) (e : Extent) where
   -- no other reply comes
   other_reply : (r : Reply) → EndsUnrefused (Return r) → ((all steps : List Answered) → Does r all steps → ⊥) → (feds : List Fed) (steps : List Answered) → IsWalk Goto (discard site name e) feds steps (Return r) → ⊥
   other_reply r kind none feds steps walk =
-      let c = changed (Return r) kind site name false (write_refuses e) (zero site e) feds steps walk in
+      let c = changed (Return r) kind site name sharing.Discard (write_refuses e) (zero site e) feds steps walk in
       none (pieces_zeroed site c.image c.own (pieces_of c.own.layout e)) c.rest (does_own r c.image c.own c.more c.rest c.walk)
 
   -- ---- refused behind its own look
@@ -119,5 +120,5 @@ discard_means site image at len feds steps reply.Done given parentless walk = di
 discard_means site image at len feds steps (reply.Refused x) given parentless walk =
     let e : Extent = record { at = at; len = len } in
     refused_means site image e x steps (discard_is_own site image e feds steps (Return (reply.Refused x)) walk) given parentless
-    (change_ends x site image false (write_refuses e) (zero site e) by_fence feds steps given walk)
+    (change_ends x site image sharing.Discard (write_refuses e) (zero site e) by_fence feds steps given walk)
 discard_means site image at len feds steps r given parentless walk = other_reply site image (record { at = at; len = len }) r tt (λ all steps does. does) feds steps walk

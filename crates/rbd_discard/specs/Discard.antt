@@ -1,5 +1,6 @@
 -- `discard`: a change that goes beside writes, object by object.
 use Rattle.std.specs.Prelude.{◌≡◌, ℕ, List, [], ◌∷◌, Bool, true, false, Some, None}
+use Rattle.rbd_kinds.specs.declared.sharing.Sharing.TheVariants as sharing
 use Rattle.rbd_kinds.specs.declared.answer.Answer.{Answer}
 use Rattle.rbd_kinds.specs.declared.answer.Answer.TheVariants as answer
 use Rattle.rbd_commands.specs.declared.command.Command.{Command}
@@ -37,7 +38,7 @@ abbrev pub zero : SiteId → Extent → (image : ℕ) → HeaderView → Plan
 zero site e image h = Note site image (event.Discard e.at e.len) (zero_pieces site image h (pieces_of h.layout e) (applied site image))
 
 abbrev pub discard : SiteId → (name : List ℕ) → Extent → Plan
-discard site name e = change site name false (write_refuses e) (zero site e)
+discard site name e = change site name sharing.Discard (write_refuses e) (zero site e)
 
 abbrev pub discard_plan : SiteId → Command → Plan
 discard_plan site (command.Discard image at len) = discard site image (record { at = at; len = len })

@@ -11,7 +11,8 @@ ghost use Rattle.rbd_discard.specs.Owning.{owning_in};
 
 use crate::pieces::zero_pieces;
 use rbd_kinds::{
-    Answer, Command, Event, Extent, Fed, ImageAt, ImageId, NoMemory, Op, Reply, SiteId, Turn, Want,
+    Answer, Command, Event, Extent, Fed, ImageAt, ImageId, NoMemory, Op, Reply, Sharing, SiteId,
+    Turn, Want,
 };
 use rbd_machine::{Approach, Machine, Progress, Reason, Refuses};
 use rbd_request::Range;
@@ -73,7 +74,7 @@ impl DiscardRequest {
                     at: at.get(),
                     len: len.get(),
                 },
-                approach: Approach::new(home, image.into_name(), false),
+                approach: Approach::new(home, image.into_name(), Sharing::Discard),
                 stage: Stage::Approaching,
                 pieces: VecDeque::new(alloc),
             },

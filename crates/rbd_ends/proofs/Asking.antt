@@ -1,6 +1,8 @@
 -- The operations that a request asks for, whatever it is answered. None takes a lock: that is done
 -- on a way to it.
 use Rattle.std.proofs.Common.{◌≡◌, ◌⊎◌, inl, inr, ℕ, ◌+◌, List, [], ◌∷◌, ◌++◌, map, replicate, Bool, true, false, cond, eqb, nat_le, Option, Some, None, refl, sym, subst}
+use Rattle.rbd_kinds.specs.declared.sharing.Sharing.{Sharing}
+use Rattle.rbd_kinds.specs.declared.sharing.Sharing.TheVariants as sharing
 use Rattle.rbd_commands.specs.declared.command.Command.{Command}
 use Rattle.rbd_commands.specs.declared.command.Command.TheVariants as command
 use Rattle.rbd_commands.specs.declared.command.Shape.{Shape}
@@ -144,8 +146,8 @@ module _ (site : SiteId) (refuses : HeaderView → Option Refusal) (act : ℕ �
   only_looking : (image : ℕ) → AsksOnly TakesNoLock (looking site refuses act image)
   only_looking image = (tt, λ a. only_on_header TakesNoLock (looked site refuses act image) (λ h. only_unless TakesNoLock (refuses h) (holding site refuses act image) (only_owning image)) a)
 
-  only_change : (name : List ℕ) (alone : Bool) → AsksOnly TakesNoLock (change site name alone refuses act)
-  only_change name alone = (tt, λ a. only_on_id TakesNoLock (joining site alone refuses act) (λ image. only_looking image) a)
+  only_change : (name : List ℕ) (sharing : Sharing) → AsksOnly TakesNoLock (change site name sharing refuses act)
+  only_change name sharing = (tt, λ a. only_on_id TakesNoLock (joining site sharing refuses act) (λ image. only_looking image) a)
 
 -- ---- write, fill
 
@@ -159,10 +161,10 @@ only_pieces site image h at bytes [] next only = only
 only_pieces site image h at bytes (p ∷ pieces) next only =
     only_raising site image (context_of h) p (bytes_for p.parts at bytes) (write_pieces site image h at bytes pieces next) (only_pieces site image h at bytes pieces next only)
 
-only_write : (site : SiteId) (name : List ℕ) (at : ℕ) (bytes : List ℕ) → AsksOnly TakesNoLock (change site name false (write_refuses (extent_at at bytes)) (put site at bytes))
+only_write : (site : SiteId) (name : List ℕ) (at : ℕ) (bytes : List ℕ) → AsksOnly TakesNoLock (change site name sharing.Shared (write_refuses (extent_at at bytes)) (put site at bytes))
 only_write site name at bytes =
     only_change site (write_refuses (extent_at at bytes)) (put site at bytes)
-    (λ image h. only_pieces site image h at bytes (pieces_of h.layout (extent_at at bytes)) (applied site image) tt) name false
+    (λ image h. only_pieces site image h at bytes (pieces_of h.layout (extent_at at bytes)) (applied site image) tt) name sharing.Shared
 
 only_writes : (site : SiteId) (c : Command) → AsksOnly TakesNoLock (write_plan site c)
 only_writes site (command.Write image at bytes) = only_write site image at bytes
@@ -197,8 +199,8 @@ only_remove site snap image (Some listed) =
 
 only_snaps : (site : SiteId) (c : Command) → AsksOnly TakesNoLock (snap_plan site c)
 only_snaps site (command.SnapCreate image snap) =
-    only_change site (create_refuses snap) (take site snap) (only_take site snap) image true
-only_snaps site (command.SnapRemove image snap) = only_change site (remove_refuses snap) (remove site snap) (λ i h. only_remove site snap i (snap_named h.snaps snap)) image true
+    only_change site (create_refuses snap) (take site snap) (only_take site snap) image sharing.Alone
+only_snaps site (command.SnapRemove image snap) = only_change site (remove_refuses snap) (remove site snap) (λ i h. only_remove site snap i (snap_named h.snaps snap)) image sharing.Alone
 only_snaps site _ = tt
 
 -- ---- read
@@ -268,7 +270,7 @@ only_discards : (site : SiteId) (c : Command) → AsksOnly TakesNoLock (discard_
 only_discards site (command.Discard image at len) =
     let e : Extent = record { at = at; len = len } in
     only_change site (write_refuses e) (zero site e)
-    (λ i h. only_zero_in_turn site i h (pieces_of h.layout e) (applied site i) tt) image false
+    (λ i h. only_zero_in_turn site i h (pieces_of h.layout e) (applied site i) tt) image sharing.Discard
 only_discards site _ = tt
 
 -- ---- resize
@@ -295,7 +297,7 @@ only_resize site image h to objects next only = only_resize_by (nat_le h.size to
 only_resizes : (site : SiteId) (c : Command) → AsksOnly TakesNoLock (resize_plan site c)
 only_resizes site (command.Resize image size) =
     only_change site (resize_refuses size) (set_size site size)
-    (λ i h. only_resize site i h size (object_count h.layout size) (applied site i) tt) image true
+    (λ i h. only_resize site i h size (object_count h.layout size) (applied site i) tt) image sharing.Alone
 only_resizes site _ = tt
 
 -- ---- snap rollback
@@ -320,7 +322,7 @@ only_roll_back site snap image h (Some listed) =
 
 only_rollbacks : (site : SiteId) (c : Command) → AsksOnly TakesNoLock (rollback_plan site c)
 only_rollbacks site (command.SnapRollback image snap) =
-    only_change site (rollback_refuses snap) (roll_back_to site snap) (λ i h. only_roll_back site snap i h (snap_named h.snaps snap)) image true
+    only_change site (rollback_refuses snap) (roll_back_to site snap) (λ i h. only_roll_back site snap i h (snap_named h.snaps snap)) image sharing.Alone
 only_rollbacks site _ = tt
 
 -- ---- rm
@@ -465,7 +467,7 @@ module _ (May : Op → Type 0) (site : SiteId) (drop : (image : ℕ) → May (op
 
 only_closes : (site : SiteId) (c : Command) → AsksOnly TakesNoLock (close_plan site c)
 only_closes site (command.Close image) = (tt, λ found. only_on_id TakesNoLock (closing_alone site) (only_closing TakesNoLock site (λ i. tt) (λ i. tt) (λ i. tt)) found)
-only_closes site (command.Quiesce image) = only_change site refuses_none quiesced (λ i h. tt) image true
+only_closes site (command.Quiesce image) = only_change site refuses_none quiesced (λ i h. tt) image sharing.Alone
 only_closes site (command.Resume image) = (tt, λ found. only_on_id TakesNoLock resumed (λ i. tt) found)
 only_closes site (command.Tell image bytes) = (tt, λ found. only_on_id TakesNoLock (saying site bytes) (λ i. (tt, λ a. only_on_done TakesNoLock done tt a)) found)
 only_closes site _ = tt

@@ -1,5 +1,6 @@
 -- The plans of all commands pay the states that they set, step by step.
 use Rattle.std.proofs.Common.{◌≡◌, ◌⊎◌, inl, inr, ℕ, ◌+◌, List, [], ◌∷◌, replicate, Bool, true, false, cond, eqb, Option, Some, None, refl, sym, subst}
+use Rattle.rbd_kinds.specs.declared.sharing.Sharing.TheVariants as sharing
 use Rattle.rbd_kinds.specs.declared.answer.Answer.{Answer}
 use Rattle.rbd_kinds.specs.declared.answer.Answer.TheVariants as answer
 use Rattle.rbd_commands.specs.declared.command.Command.{Command}
@@ -69,7 +70,7 @@ pays_pieces (p ∷ pieces) site image h from bytes next pays =
 
 pays_write : (site : SiteId) (name : List ℕ) (from : ℕ) (bytes : List ℕ) → Pays (write site name from bytes)
 pays_write site name from bytes =
-    pays_change site name false (write_refuses (extent_at from bytes)) (put site from bytes)
+    pays_change site name sharing.Shared (write_refuses (extent_at from bytes)) (put site from bytes)
     (λ image h standalone. pays_pieces (pieces_of h.layout (extent_at from bytes)) site image h from bytes (applied site image) tt)
 
 pays_write_plan : (site : SiteId) (c : Command) → Pays (write_plan site c)
@@ -194,9 +195,9 @@ pays_remove_listed site snap image (Some listed) =
     (tt, λ a given told. pays_on_done (unmapping site image listed.id) (pays_unmapping site image listed.id) a)
 
 pays_snap : (site : SiteId) (c : Command) → Pays (snap_plan site c)
-pays_snap site (command.SnapCreate image snap) = pays_change site image true (create_refuses snap) (take site snap) (λ i h standalone. pays_take site snap i h)
+pays_snap site (command.SnapCreate image snap) = pays_change site image sharing.Alone (create_refuses snap) (take site snap) (λ i h standalone. pays_take site snap i h)
 pays_snap site (command.SnapRemove image snap) =
-    pays_change site image true (remove_refuses snap) (remove site snap) (λ i h standalone. pays_remove_listed site snap i (snap_named h.snaps snap))
+    pays_change site image sharing.Alone (remove_refuses snap) (remove site snap) (λ i h standalone. pays_remove_listed site snap i (snap_named h.snaps snap))
 pays_snap site _ = tt
 
 -- ---- close, quiesce, resume, tell
@@ -211,7 +212,7 @@ pays_on_dropped site image a = pays_not_there a
 
 pays_close : (site : SiteId) (c : Command) → Pays (close_plan site c)
 pays_close site (command.Close image) = pays_find site image (joining_to_close site) (λ i. (tt, λ dropped given also. pays_on_dropped site i dropped))
-pays_close site (command.Quiesce image) = pays_change site image true refuses_none quiesced (λ i h standalone. tt)
+pays_close site (command.Quiesce image) = pays_change site image sharing.Alone refuses_none quiesced (λ i h standalone. tt)
 pays_close site (command.Resume image) = pays_find site image resumed (λ i. tt)
 pays_close site (command.Tell image bytes) = pays_find site image (saying site bytes) (λ i. (tt, λ told given also. pays_on_done done tt told))
 pays_close site _ = tt

@@ -1,6 +1,7 @@
 -- Discards, resizes and rollbacks pay the states that they set: each object is changed directly
 -- behind its state, and one that goes has its state set to 0 then.
 use Rattle.std.proofs.Common.{◌≡◌, ℕ, nat_le, List, [], ◌∷◌, Bool, true, false, Option, Some, None, refl, sym, ap, subst}
+use Rattle.rbd_kinds.specs.declared.sharing.Sharing.TheVariants as sharing
 use Rattle.rbd_commands.specs.declared.command.Command.{Command}
 use Rattle.rbd_commands.specs.declared.command.Command.TheVariants as command
 use Rattle.rbd_kinds.specs.declared.answer.Answer.{Answer}
@@ -116,7 +117,7 @@ pays_pieces (p ∷ pieces) site image h next standalone pays =
 pub pays_discard : (site : SiteId) (c : Command) → Pays (discard_plan site c)
 pays_discard site (command.Discard image at len) =
     let e : Extent = record { at = at; len = len } in
-    pays_change site image false (write_refuses e) (zero site e) (λ i h standalone. pays_pieces (pieces_of h.layout e) site i h (applied site i) standalone tt)
+    pays_change site image sharing.Discard (write_refuses e) (zero site e) (λ i h standalone. pays_pieces (pieces_of h.layout e) site i h (applied site i) standalone tt)
 pays_discard site _ = tt
 
 -- ---- resize
@@ -143,7 +144,7 @@ pays_resize site image h to objects next standalone pays = by (nat_le h.size to)
 
 pub pays_resize_plan : (site : SiteId) (c : Command) → Pays (resize_plan site c)
 pays_resize_plan site (command.Resize image size) =
-    pays_change site image true (resize_refuses size) (set_size site size) (λ i h standalone. pays_resize site i h size (object_count h.layout size) (applied site i) standalone tt)
+    pays_change site image sharing.Alone (resize_refuses size) (set_size site size) (λ i h standalone. pays_resize site i h size (object_count h.layout size) (applied site i) standalone tt)
 pays_resize_plan site _ = tt
 
 -- ---- snap rollback
@@ -163,5 +164,5 @@ pays_listed site snap image h (Some listed) standalone =
 
 pub pays_rollback : (site : SiteId) (c : Command) → Pays (rollback_plan site c)
 pays_rollback site (command.SnapRollback image snap) =
-    pays_change site image true (rollback_refuses snap) (roll_back_to site snap) (λ i h standalone. pays_listed site snap i h (snap_named h.snaps snap) standalone)
+    pays_change site image sharing.Alone (rollback_refuses snap) (roll_back_to site snap) (λ i h standalone. pays_listed site snap i h (snap_named h.snaps snap) standalone)
 pays_rollback site _ = tt

@@ -1,5 +1,6 @@
 -- Steps that requests share pay what they owe, where what comes next does.
-use Rattle.std.proofs.Common.{ℕ, List, [], ◌∷◌, ◌++◌, replicate, Bool, Option, Some, None}
+use Rattle.std.proofs.Common.{ℕ, List, [], ◌∷◌, ◌++◌, replicate, Option, Some, None}
+use Rattle.rbd_kinds.specs.declared.sharing.Sharing.{Sharing}
 use Rattle.rbd_commands.specs.declared.refusal.Refusal.{Refusal}
 use Rattle.rbd_kinds.specs.declared.answer.Answer.{Answer}
 use Rattle.rbd_kinds.specs.declared.answer.Answer.TheVariants as answer
@@ -53,10 +54,10 @@ pays_find site name next pays = (tt, λ a given told. pays_on_id next pays a)
 pub pays_look : (site : SiteId) (image : ℕ) (next : HeaderView → Plan) → ((h : HeaderView) → IsStandalone h → Pays (next h)) → Pays (look site image next)
 pays_look site image next pays = (tt, λ a given told. pays_on_header next pays a told)
 
-pub pays_change : (site : SiteId) (name : List ℕ) (alone : Bool) (refuses : HeaderView → Option Refusal) (act : ℕ → HeaderView → Plan)
-    → ((image : ℕ) (h : HeaderView) → IsStandalone h → Pays (act image h)) → Pays (change site name alone refuses act)
-pays_change site name alone refuses act acts =
-    pays_find site name (joining site alone refuses act) (λ image.
+pub pays_change : (site : SiteId) (name : List ℕ) (sharing : Sharing) (refuses : HeaderView → Option Refusal) (act : ℕ → HeaderView → Plan)
+    → ((image : ℕ) (h : HeaderView) → IsStandalone h → Pays (act image h)) → Pays (change site name sharing refuses act)
+pays_change site name sharing refuses act acts =
+    pays_find site name (joining site sharing refuses act) (λ image.
     pays_look site image (looked site refuses act image) (λ h standalone.
     pays_unless (refuses h) (holding site refuses act image)
     (pays_look site image (owned refuses act image) (λ own alone. pays_unless (refuses own) (act image own) (acts image own alone)))))

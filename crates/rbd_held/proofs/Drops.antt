@@ -4,6 +4,8 @@ use Rattle.std.proofs.Common.{◌≡◌, ◌≢◌, ◌⊎◌, inl, inr, ℕ, su
 use Rattle.std.specs.List.{list_all}
 use Rattle.std.specs.Prelude.{IsSome}
 use Rattle.std.proofs.lemmas.Bool.{and_parts, cases_eq, eqb-true, or_parts}
+use Rattle.rbd_kinds.specs.Sharing.{go_together, is_alone}
+use Rattle.rbd_line.proofs.Together.{shared_both}
 use Rattle.rbd_client.specs.declared.actor.Actor.{Actor}
 use Rattle.rbd_client.specs.declared.actor.Actor.TheVariants as actor
 use Rattle.rbd_client.specs.declared.slot_state.SlotState.{SlotState}
@@ -33,7 +35,7 @@ use Rattle.rbd_known.specs.Knowing.{AllKnow}
 use Rattle.rbd_known.proofs.Looking.{may_shared, owner_runs, runs_who_owns}
 use Rattle.rbd_known.proofs.There.{IsMemberFor, may_of}
 use Rattle.rbd_known.proofs.Wanting.{Wants, wants}
-use Rattle.rbd_line.specs.Line.{Member, ahead, any_past, is_let_pass, is_past, is_shared_past, lets_pass, may_pass, member_of}
+use Rattle.rbd_line.specs.Line.{Member, ahead, any_past, is_let_pass, is_past, lets_pass, may_pass, member_of}
 use Rattle.rbd_kinds.specs.declared.image_at.ImageAt.{ImageAt}
 use Rattle.rbd_kinds.specs.Images.{is_at}
 use Rattle.rbd_locks.proofs.Keys.{where_same}
@@ -53,12 +55,8 @@ use Rattle.rbd_session.proofs.Sound.{no_some, some_same}
 
 -- ---- in one line
 
-never_alone : (b : Bool) → (b && false) ≡ true → ⊥
-never_alone true is = true≢false (sym is)
-never_alone false is = true≢false (sym is)
-
 -- One that is alone and may pass is the first. Behind it nobody may, until it is past own.
-alone_goes_first : (line : List Member) (slot other : ℕ) (m n : Member) → slot ≢ other → member_of slot line ≡ Some m → member_of other line ≡ Some n → m.alone ≡ true → is_past m.stage ≡ false
+alone_goes_first : (line : List Member) (slot other : ℕ) (m n : Member) → slot ≢ other → member_of slot line ≡ Some m → member_of other line ≡ Some n → is_alone m.sharing ≡ true → is_past m.stage ≡ false
     → may_pass slot line ≡ true → may_pass other line ≡ true → ⊥
 alone_goes_first [] slot other m n differ here there alone waits may also = no_some m here
 alone_goes_first (x ∷ line) slot other m n differ here there alone waits may also = by (x.slot == slot) refl
@@ -66,18 +64,17 @@ alone_goes_first (x ∷ line) slot other m n differ here there alone waits may a
     -- it would have to let pass whoever is ahead of it
     behind_one : (b : Bool) → (x.slot == slot) ≡ b → b ≡ false → ⊥
     behind_one b is none =
-        never_alone (is_shared_past x)
-        (sym (ap (λ a. is_shared_past x && not a) alone)
-        ∙ (and_parts (lets_pass m.alone x) (list_all (lets_pass m.alone) (ahead slot line))
-        (sym (ap (λ o. is_let_pass o (ahead slot (x ∷ line))) here ∙ ap (λ c. is_let_pass (Some m) (cond c [] (x ∷ ahead slot line))) (is ∙ none)) ∙ may)).0)
+        let lets =
+        (and_parts (lets_pass m.sharing x) (list_all (lets_pass m.sharing) (ahead slot line))
+        (sym (ap (λ o. is_let_pass o (ahead slot (x ∷ line))) here ∙ ap (λ c. is_let_pass (Some m) (cond c [] (x ∷ ahead slot line))) (is ∙ none)) ∙ may)).0 in
+        true≢false (sym alone ∙ (shared_both x.sharing m.sharing (and_parts (is_past x.stage) (go_together x.sharing m.sharing) lets).1).1)
 
     first : x ≡ m → (x.slot == other) ≡ false → ⊥
     first same apart =
         let lets =
-        (and_parts (lets_pass n.alone x) (list_all (lets_pass n.alone) (ahead other line))
+        (and_parts (lets_pass n.sharing x) (list_all (lets_pass n.sharing) (ahead other line))
         (sym (ap (λ o. is_let_pass o (ahead other (x ∷ line))) there ∙ ap (λ c. is_let_pass (Some n) (cond c [] (x ∷ ahead other line))) apart) ∙ also)).0 in
-        let shared = (and_parts (is_shared_past x) (not n.alone) lets).0 in
-        true≢false (sym (and_parts (is_past x.stage) (not x.alone) shared).0 ∙ ap (λ (y : Member). is_past y.stage) same ∙ waits)
+        true≢false (sym (and_parts (is_past x.stage) (go_together x.sharing n.sharing) lets).0 ∙ ap (λ (y : Member). is_past y.stage) same ∙ waits)
 
     by : (b : Bool) → (x.slot == slot) ≡ b → ⊥
     by false is = behind_one false is refl
@@ -213,7 +210,7 @@ module _ {R : Type 0} (stands : R → Standing) (c : ClientView R) (knows : ℕ 
   record IsPastAlone : Type 0 where
     pub member : Member
     pub found : member_of slot line_there ≡ Some member
-    pub alone : member.alone ≡ true
+    pub alone : is_alone member.sharing ≡ true
     pub past : is_past member.stage ≡ true
 
   is_past_alone : IsPastAlone

@@ -8,6 +8,7 @@ pub mod Images
 pub mod Operation
 pub mod OperationKind
 pub mod Parts
+pub mod Sharing
 pub mod Spans
 pub mod States
 pub mod Striping

@@ -33,6 +33,7 @@ mod notice;
 mod operation;
 mod operation_kind;
 mod reply;
+mod sharing;
 
 pub use answer::Answer;
 pub use children_op::ChildrenOp;
@@ -59,3 +60,4 @@ pub use rbd_values::{
     is_name_byte,
 };
 pub use reply::{MirrorState, Reply};
+pub use sharing::Sharing;

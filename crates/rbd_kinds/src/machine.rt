@@ -3,6 +3,7 @@ use crate::answer::Answer;
 use crate::id::{ImageId, SiteId};
 use crate::operation_kind::OpKind;
 use crate::reply::Reply;
+use crate::sharing::Sharing;
 
 /// What a request wants next.
 #[derive(Clone, Copy, Debug, PartialEq, Eq)]
@@ -12,11 +13,11 @@ pub enum Want {
         site: SiteId,
         kind: OpKind,
     },
-    /// To join the line of an image's requests, alone on the image or shared.
+    /// To join the line of an image's requests, alone on the image or beside others.
     Join {
         site: SiteId,
         image: ImageId,
-        alone: bool,
+        sharing: Sharing,
     },
     /// The image's lock.
     Hold {

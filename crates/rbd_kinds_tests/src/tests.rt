@@ -1,5 +1,6 @@
 mod bytes;
 mod names;
+mod sharing;
 mod values;
 mod words;
 

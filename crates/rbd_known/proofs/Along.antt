@@ -2,6 +2,7 @@
 use Rattle.std.proofs.Common.{◌≡◌, ℕ, ◌&&◌, cond, Bool, true, false, List, [], Option, Some, None, option_map, refl, sym, ap, ◌∙◌, subst}
 use Rattle.std.specs.Prelude.{IsSome, is_some}
 use Rattle.std.proofs.lemmas.Bool.{true≢false, and_parts}
+use Rattle.rbd_kinds.specs.Sharing.{is_alone}
 use Rattle.rbd_course.specs.Course.{Course, Place, answered, waited, noted, looked, past, is_newcomer_at, is_own_at, is_waiting, has_just_joined, held_stage}
 use Rattle.rbd_course.specs.Course as course
 use Rattle.rbd_course.specs.Orderly.{IsInLine, MayWait}
@@ -367,9 +368,9 @@ module _ (k : Knowledge) (c : Course) (t : IsTied k c) (site : SiteId) (image : 
       by (Some o) is some = left_owns in_line s i o is
 
 pub waited_tied : (fresh : Bool) (k : Knowledge) (c : Course) (w : Wait) → MayWait fresh c w → IsTied k c → IsTied (passed k w) (waited c w)
-waited_tied fresh k c (wait.Join site image alone) may t = record {
+waited_tied fresh k c (wait.Join site image sharing) may t = record {
   owns = λ s i o is. absurd (subst (OwnsIn s i o) may.1 (t.owns s i o is));
-  alone = λ p is. ap (λ (x : Place). x.alone) (some_same (record { site = site; image = image; alone = alone; stage = stage.Joined }) p is);
+  alone = λ p is. ap (λ (x : Place). x.alone) (some_same (record { site = site; image = image; alone = is_alone sharing; stage = stage.Joined }) p is);
   turn = t.turn;
 }
 waited_tied fresh k c (wait.Hold site image) may t = record {

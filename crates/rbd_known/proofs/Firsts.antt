@@ -3,6 +3,7 @@ use Rattle.std.proofs.Common.{◌≡◌, ◌≢◌, ℕ, cond, not, ◌||◌, eq
 use Rattle.std.specs.List.{filter, list_all}
 use Rattle.std.proofs.lemmas.Bool.{true≢false, and_parts, eqb-true, or_parts}
 use Rattle.std.proofs.lemmas.List.Folds.{list_any-append}
+use Rattle.rbd_kinds.specs.Sharing.{is_alone}
 use Rattle.rbd_guard.specs.Order.{is_in}
 use Rattle.rbd_line.specs.Line.{Member, behind, changed, has_turn, holds, is_past, none_past_behind, slots, without, Each, IsFairMember}
 use Rattle.rbd_line.specs.Turns.{begins_with}
@@ -19,7 +20,7 @@ none_first n object (m ∷ ms) none fair is = by (holds object m) refl is (none_
   where
     by : (b : Bool) → holds object m ≡ b → begins_with n (slots (cond b (m ∷ filter (holds object) ms) (filter (holds object) ms))) ≡ true → (has_turn n object ms ≡ true → ⊥) → ⊥
     by true held is rest =
-        let past = (and_parts (is_past m.stage) (not m.alone) (fair.0.holds_by_right object held)).0 in
+        let past = (and_parts (is_past m.stage) (not (is_alone m.sharing)) (fair.0.holds_by_right object held)).0 in
         true≢false (sym (and_parts (not (is_past m.stage)) (list_all (λ m. not (is_past m.stage)) ms) none).0 ∙ ap not past)
     by false held is rest = rest is
 

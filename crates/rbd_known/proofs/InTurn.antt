@@ -69,8 +69,8 @@ less_has slot new old lines less has site image object some shared knows =
 module _ (slot : ℕ) where
   pub waited_has : (fresh : Bool) (t : Track) (k : Knowledge) (w : Wait) → MayWait fresh (course_of slot t) w → IsTied k (course_of slot t) → HasItsTurns slot k t.lines
       → HasItsTurns slot (passed k w) (waited_by slot t w).lines
-  waited_has fresh t k (wait.Join there of alone) may tied has = λ site image object some shared knows.
-      own_joined slot object t there of alone site image (less_has slot (passed k (wait.Join there of alone)) k t.lines (λ s. waited_less s k (wait.Join there of alone)) has site image object some shared knows)
+  waited_has fresh t k (wait.Join there of sharing) may tied has = λ site image object some shared knows.
+      own_joined slot object t there of sharing site image (less_has slot (passed k (wait.Join there of sharing)) k t.lines (λ s. waited_less s k (wait.Join there of sharing)) has site image object some shared knows)
   waited_has fresh t k (wait.Hold there of) may tied has = λ site image object some shared knows.
       own_held slot object t there of site image (less_has slot (passed k (wait.Hold there of)) k t.lines (λ s. waited_less s k (wait.Hold there of)) has site image object some shared knows)
   waited_has fresh t k (wait.Turn at) may tied has = λ site image object some shared knows. absurd (turned_unknown site k image object at knows)
@@ -105,7 +105,7 @@ module _ (slot : ℕ) (from : 1 ≤ slot) (to : slot ≤ 64) (e : Option Extent)
   standing plan = record { labels = labels; plan = plan }
 
   waited_fair : (fresh : Bool) (t : Track) (old : Standing) (w : Wait) → IsOnTrack slot e fresh old t → MayWait fresh (course_of slot t) w → AreFair t.lines → AreFair (waited_by slot t w).lines
-  waited_fair fresh t old (wait.Join site image alone) on may fair = passed_by_fair slot from to t (want.Join site image alone) fair (joins on.somewhere)
+  waited_fair fresh t old (wait.Join site image sharing) on may fair = passed_by_fair slot from to t (want.Join site image sharing) fair (joins on.somewhere)
     where
       joins : IsSomewhere slot t → (t.place ≡ None) × (member_of slot (t.lines site image) ≡ None)
       joins (inl nowhere) = (nowhere, subst (λ q. IsNowhereElse slot q t.lines) nowhere on.elsewhere site image refl)

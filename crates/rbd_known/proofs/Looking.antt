@@ -4,6 +4,7 @@ use Rattle.std.specs.Prelude.{IsSome}
 use Rattle.std.specs.List.{filter}
 use Rattle.std.specs.Option.{option_map}
 use Rattle.std.proofs.lemmas.Bool.{true≢false, or_parts}
+use Rattle.rbd_kinds.specs.Sharing.{is_alone}
 use Rattle.rbd_course.specs.Course.{is_waiting, has_just_joined}
 use Rattle.rbd_course.specs.declared.stage.Stage.{Stage}
 use Rattle.rbd_course.specs.declared.stage.Stage.TheVariants as stage
@@ -51,10 +52,10 @@ changes_object o = true
 
 -- two that are past are both shared
 both_past : (line : List Member) (one other : Member) → IsFairLine line → member_of one.slot line ≡ Some one → member_of other.slot line ≡ Some other → one.slot ≢ other.slot
-    → is_past one.stage ≡ true → is_past other.stage ≡ true → one.alone ≡ false
-both_past line one other fair here there differ past behind = by one.alone refl
+    → is_past one.stage ≡ true → is_past other.stage ≡ true → is_alone one.sharing ≡ false
+both_past line one other fair here there differ past behind = by (is_alone one.sharing) refl
   where
-    by : (b : Bool) → one.alone ≡ b → b ≡ false
+    by : (b : Bool) → is_alone one.sharing ≡ b → b ≡ false
     by false is = refl
     by true is = absurd (true≢false (sym behind ∙ alone_past line one other fair here there differ is past))
 
@@ -62,7 +63,7 @@ apart_slots : (line : List Member) (slot other : ℕ) (m n : Member) → slot �
 apart_slots line slot other m n differ here there same = differ (sym (found_at line slot m here) ∙ same ∙ found_at line other n there)
 
 both_shared : (line : List Member) (slot other : ℕ) (m n : Member) → IsFairLine line → slot ≢ other → member_of slot line ≡ Some m → member_of other line ≡ Some n
-    → is_past m.stage ≡ true → is_past n.stage ≡ true → (m.alone ≡ false) × (n.alone ≡ false)
+    → is_past m.stage ≡ true → is_past n.stage ≡ true → (is_alone m.sharing ≡ false) × (is_alone n.sharing ≡ false)
 both_shared line slot other m n fair differ here there past behind =
     let apart = apart_slots line slot other m n differ here there in (
       both_past line m n fair (at_own_slot slot line m here) (at_own_slot other line n there) apart past behind,
@@ -71,7 +72,7 @@ both_shared line slot other m n fair differ here there past behind =
 
 -- one that may pass is as one that is past
 pub may_shared : (line : List Member) (slot other : ℕ) (m n : Member) → IsFairLine line → slot ≢ other → member_of slot line ≡ Some m → member_of other line ≡ Some n
-    → may_pass slot line ≡ true → is_past n.stage ≡ true → (m.alone ≡ false) × (n.alone ≡ false)
+    → may_pass slot line ≡ true → is_past n.stage ≡ true → (is_alone m.sharing ≡ false) × (is_alone n.sharing ≡ false)
 may_shared line slot other m n fair differ here there may behind =
     both_shared (changed slot passed line) slot other (passed m) n (passed_fair slot line fair may) differ
     (own_changed line slot passed passed_is_steady ∙ ap (option_map passed) here)
@@ -93,7 +94,7 @@ module _ (slot other : ℕ) (site : SiteId) (image : ℕ) (o p : Own) (t u : Tra
   are_shared : is_past two.member.stage ≡ true → (o.alone ≡ false) × (p.alone ≡ false)
   are_shared past = let shared = by one.member.stage refl in (one.alone ∙ shared.0, two.alone ∙ shared.1)
     where
-      by : (s : Stage) → one.member.stage ≡ s → (one.member.alone ≡ false) × (two.member.alone ≡ false)
+      by : (s : Stage) → one.member.stage ≡ s → (is_alone one.member.sharing ≡ false) × (is_alone two.member.sharing ≡ false)
       by stage.Joined is = absurd (true≢false (sym (ap has_just_joined is) ∙ one.waits))
       by stage.Waiting is = may_shared (t.lines site image) slot other one.member two.member fair differ one.found there (may (ap is_waiting is)) past
       by stage.Past is = both_shared (t.lines site image) slot other one.member two.member fair differ one.found there (ap is_past is) past

@@ -1,6 +1,7 @@
 -- Up to its next operation a request is lawful by what it knows there, and goes with its place.
 use Rattle.std.proofs.Common.{◌≡◌, inl, inr, ℕ, ◌≤◌, Bool, true, false, [], Option, Some, None, refl, sym, ◌∙◌, subst}
 use Rattle.std.proofs.lemmas.Bool.{true≢false, and_parts, or_parts}
+use Rattle.rbd_kinds.specs.declared.sharing.Sharing.{Sharing}
 use Rattle.rbd_course.specs.Course.{Place, behind, is_own_at, is_waiting, noted, waited}
 use Rattle.rbd_course.specs.Orderly.{BeginsWith, IsInLine, MayWait}
 use Rattle.rbd_kinds.specs.declared.id.SiteId.{SiteId}
@@ -63,12 +64,12 @@ no_first object (Some o) first = first
 
 -- its course behind a wait
 module _ (slot : ℕ) (e : Option Extent) (fresh : Bool) (s : Standing) (t : Track) (on : IsOnTrack slot e fresh s t) where
-  joined_course : (site : SiteId) (image : ℕ) (alone : Bool) → (course_of slot t).place ≡ None → IsSomewhere slot t
-      → course_of slot (waited_by slot t (wait.Join site image alone)) ≡ waited (course_of slot t) (wait.Join site image alone)
-  joined_course site image alone none (inl nowhere) =
+  joined_course : (site : SiteId) (image : ℕ) (sharing : Sharing) → (course_of slot t).place ≡ None → IsSomewhere slot t
+      → course_of slot (waited_by slot t (wait.Join site image sharing)) ≡ waited (course_of slot t) (wait.Join site image sharing)
+  joined_course site image sharing none (inl nowhere) =
       let nowhere_else : IsNowhereElse slot None t.lines = subst (λ q. IsNowhereElse slot q t.lines) nowhere on.elsewhere in
-      course_joined slot t site image alone nowhere (nowhere_else site image refl)
-  joined_course site image alone none (inr (p, m, there)) = absurd (no_some _ (sym none ∙ place_there slot p m t there))
+      course_joined slot t site image sharing nowhere (nowhere_else site image refl)
+  joined_course site image sharing none (inr (p, m, there)) = absurd (no_some _ (sym none ∙ place_there slot p m t there))
 
   turned_course : (object : ℕ) → BeginsWith object (behind (course_of slot t).turn (course_of slot t).objects) → IsSomewhere slot t
       → course_of slot (waited_by slot t (wait.Turn object)) ≡ waited (course_of slot t) (wait.Turn object)
@@ -77,7 +78,7 @@ module _ (slot : ℕ) (e : Option Extent) (fresh : Bool) (s : Standing) (t : Tra
   turned_course object first (inr (p, m, there)) = course_turned slot p m t there object
 
   waited_course : (w : Wait) → MayWait fresh (course_of slot t) w → course_of slot (waited_by slot t w) ≡ waited (course_of slot t) w
-  waited_course (wait.Join site image alone) may = joined_course site image alone may.1 on.somewhere
+  waited_course (wait.Join site image sharing) may = joined_course site image sharing may.1 on.somewhere
   waited_course (wait.Turn object) may = turned_course object may on.somewhere
   waited_course (wait.Hold site image) may = let (p, m, there) = in_line_there slot t site image on.somewhere may.0 in course_held slot p m t there site image
   waited_course (wait.Applied site image) may = let (p, m, there) = in_line_there slot t site image on.somewhere may in course_applied slot p m t there site image

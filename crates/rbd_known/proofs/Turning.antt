@@ -3,6 +3,7 @@
 use Rattle.std.proofs.Common.{◌≡◌, ◌≢◌, ◌⊎◌, inl, inr, ℕ, cond, not, Bool, true, false, List, [], ◌∷◌, ◌++◌, Option, Some, None, refl, sym, ap, ◌∙◌, subst}
 use Rattle.std.proofs.lemmas.Bool.{true≢false, or_parts}
 use Rattle.std.proofs.lemmas.List.{append-nil}
+use Rattle.rbd_kinds.specs.declared.sharing.Sharing.{Sharing}
 use Rattle.rbd_course.specs.Course.{is_own_at}
 use Rattle.rbd_guard.specs.Order.{is_in}
 use Rattle.rbd_kinds.specs.declared.answer.Answer.{Answer}
@@ -58,7 +59,7 @@ module _ (slot n object : ℕ) (differ : n ≢ slot) where
   left_at place lines = first_at n object place (without slot) lines (λ p is. left_first n object slot differ (lines p.site p.image))
 
   waited_first : (t : Track) (w : Wait) (site : SiteId) (image : ℕ) → has_turn n object (t.lines site image) ≡ true → has_turn n object ((waited_by slot t w).lines site image) ≡ true
-  waited_first t (wait.Join there of alone) = first_at n object (Some (image_at there of)) (λ ms. ms ++ joined slot alone ∷ []) t.lines (λ p is. joined_first n object (joined slot alone) (t.lines p.site p.image))
+  waited_first t (wait.Join there of sharing) = first_at n object (Some (image_at there of)) (λ ms. ms ++ joined slot sharing ∷ []) t.lines (λ p is. joined_first n object (joined slot sharing) (t.lines p.site p.image))
   waited_first t (wait.Hold there of) = kept_at held (λ m out. out) t.place t.lines
   waited_first t (wait.Turn at) = kept_at (done_with t.turn) (λ m out. done_fewer object t.turn m out) t.place t.lines
   waited_first t (wait.Applied there of) = kept_at (done_with t.turn) (λ m out. done_fewer object t.turn m out) t.place t.lines
@@ -101,9 +102,9 @@ module _ (slot object : ℕ) where
       → (site : SiteId) (image : ℕ) → has_turn slot object (lines site image) ≡ true → has_turn slot object (changed_at place (changed slot f) lines site image) ≡ true
   own_at f stays more place lines = first_at slot object place (changed slot f) lines (λ p is. own_first slot object f stays more (lines p.site p.image))
 
-  pub own_joined : (t : Track) (there : SiteId) (of : ℕ) (alone : Bool) (site : SiteId) (image : ℕ) → has_turn slot object (t.lines site image) ≡ true
-      → has_turn slot object ((waited_by slot t (wait.Join there of alone)).lines site image) ≡ true
-  own_joined t there of alone = first_at slot object (Some (image_at there of)) (λ ms. ms ++ joined slot alone ∷ []) t.lines (λ p is. joined_first slot object (joined slot alone) (t.lines p.site p.image))
+  pub own_joined : (t : Track) (there : SiteId) (of : ℕ) (sharing : Sharing) (site : SiteId) (image : ℕ) → has_turn slot object (t.lines site image) ≡ true
+      → has_turn slot object ((waited_by slot t (wait.Join there of sharing)).lines site image) ≡ true
+  own_joined t there of sharing = first_at slot object (Some (image_at there of)) (λ ms. ms ++ joined slot sharing ∷ []) t.lines (λ p is. joined_first slot object (joined slot sharing) (t.lines p.site p.image))
 
   pub own_held : (t : Track) (there : SiteId) (of : ℕ) (site : SiteId) (image : ℕ) → has_turn slot object (t.lines site image) ≡ true
       → has_turn slot object ((waited_by slot t (wait.Hold there of)).lines site image) ≡ true

@@ -9,6 +9,8 @@ use Rattle.rbd_course.specs.declared.stage.Stage.TheVariants as stage
 use Rattle.rbd_course.specs.Course.{held_stage}
 use Rattle.rbd_guard.specs.Order.{is_in, AreApart}
 use Rattle.rbd_guard.proofs.Apart.{apart_push, apart_without}
+use Rattle.rbd_kinds.specs.Sharing.{go_together, is_alone}
+use Rattle.rbd_kinds.specs.declared.sharing.Sharing.{Sharing}
 use Rattle.rbd_line.specs.Line.{Member, member_of, is_member, ahead, is_past, is_shared_past, lets_pass, is_let_pass, may_pass, objects_in, objects_of, slots, is_shared_past_in, may_enter, joined, held, passed, entered, next_piece, changed, without, Each, EachPair, LetsPass, IsFairMember, IsFairLine}
 use Rattle.rbd_line.proofs.Few.{few}
 
@@ -148,35 +150,35 @@ room_for_one slot ms fair from to out =
 
 -- ---- one joins
 
-pub joined_fair : (slot : ℕ) (alone : Bool) (ms : List Member) → IsFairLine ms → 1 ≤ slot → slot ≤ 64 → is_member slot ms ≡ false → IsFairLine (ms ++ joined slot alone ∷ [])
-joined_fair slot alone ms fair from to out =
+pub joined_fair : (slot : ℕ) (sharing : Sharing) (ms : List Member) → IsFairLine ms → 1 ≤ slot → slot ≤ 64 → is_member slot ms ≡ false → IsFairLine (ms ++ joined slot sharing ∷ [])
+joined_fair slot sharing ms fair from to out =
     record {
-      apart = subst AreApart (sym (slots_push ms (joined slot alone))) (apart_push (slots ms) slot fair.apart (slots_in slot ms ∙ out));
-      each = each_push IsFairMember ms (joined slot alone) fair.each
+      apart = subst AreApart (sym (slots_push ms (joined slot sharing))) (apart_push (slots ms) slot fair.apart (slots_in slot ms ∙ out));
+      each = each_push IsFairMember ms (joined slot sharing) fair.each
           (record { slot_from = from; slot_to = to; holds_by_right = λ object here. absurd (true≢false (sym here)); once = tt });
-      passing = pair_push LetsPass ms (joined slot alone) fair.passing (each_true (λ m. LetsPass m (joined slot alone)) ms (λ m past. absurd (true≢false (sym past))));
+      passing = pair_push LetsPass ms (joined slot sharing) fair.passing (each_true (λ m. LetsPass m (joined slot sharing)) ms (λ m past. absurd (true≢false (sym past))));
     }
 
 -- ---- changes that nobody's passing depends on
 
 pub record IsQuiet (f : Member → Member) : Type 0 where
   pub slot : (m : Member) → (f m).slot ≡ m.slot
-  pub alone : (m : Member) → (f m).alone ≡ m.alone
+  pub sharing : (m : Member) → (f m).sharing ≡ m.sharing
   pub past : (m : Member) → is_past (f m).stage ≡ is_past m.stage
 
 pub quiet_put : (slot : ℕ) (f : Member → Member) → IsQuiet f → IsQuiet (put slot f)
 quiet_put slot f q =
     record {
       slot = λ m. put_is (λ n. n.slot) slot f m (q.slot m);
-      alone = λ m. put_is (λ n. n.alone) slot f m (q.alone m);
+      sharing = λ m. put_is (λ n. n.sharing) slot f m (q.sharing m);
       past = λ m. put_is (λ n. is_past n.stage) slot f m (q.past m);
     }
 
 quiet_pair : (h : Member → Member) → IsQuiet h → (a b : Member) → LetsPass a b → LetsPass (h a) (h b)
 quiet_pair h q a b lets later =
-    ap (λ p. (p && not (h a).alone) && not (h b).alone) (q.past a)
-    ∙ (ap (λ n. (is_past a.stage && not n) && not (h b).alone) (q.alone a)
-    ∙ (ap (λ n. (is_past a.stage && not a.alone) && not n) (q.alone b)
+    ap (λ p. p && go_together (h a).sharing (h b).sharing) (q.past a)
+    ∙ (ap (λ n. is_past a.stage && go_together n (h b).sharing) (q.sharing a)
+    ∙ (ap (λ n. is_past a.stage && go_together a.sharing n) (q.sharing b)
     ∙ lets (sym (q.past b) ∙ later)))
 
 pub quiet_fair : (slot : ℕ) (f : Member → Member) (ms : List Member) → IsQuiet f → IsFairLine ms → Each IsFairMember (changed slot f ms) → IsFairLine (changed slot f ms)
@@ -195,14 +197,14 @@ stays_past stage.Waiting = refl
 stays_past stage.Past = refl
 
 pub quiet_held : IsQuiet held
-quiet_held = record { slot = λ m. refl; alone = λ m. refl; past = λ m. stays_past m.stage }
+quiet_held = record { slot = λ m. refl; sharing = λ m. refl; past = λ m. stays_past m.stage }
 
 held_member : (m : Member) → IsFairMember m → IsFairMember (held m)
 held_member m fair =
     record {
       slot_from = fair.slot_from;
       slot_to = fair.slot_to;
-      holds_by_right = λ object here. ap (λ p. p && not m.alone) (stays_past m.stage) ∙ fair.holds_by_right object here;
+      holds_by_right = λ object here. ap (λ p. p && not (is_alone m.sharing)) (stays_past m.stage) ∙ fair.holds_by_right object here;
       once = fair.once;
     }
 
@@ -221,50 +223,46 @@ and_right : (a b : Bool) → (a && b) ≡ true → b ≡ true
 and_right true b h = h
 and_right false b h = absurd (true≢false (sym h))
 
-raised : (a b c : Bool) → ((a && b) && c) ≡ true → (b && c) ≡ true
-raised true b c h = h
-raised false b c h = absurd (true≢false (sym h))
-
 passed_member : (m : Member) → IsFairMember m → IsFairMember (passed m)
 passed_member m fair =
     record {
       slot_from = fair.slot_from;
       slot_to = fair.slot_to;
-      holds_by_right = λ object here. and_right (is_past m.stage) (not m.alone) (fair.holds_by_right object here);
+      holds_by_right = λ object here. and_right (is_past m.stage) (not (is_alone m.sharing)) (fair.holds_by_right object here);
       once = fair.once;
     }
 
-let_by : (slot : ℕ) (alone : Bool) (x m : Member) → lets_pass alone x ≡ true → LetsPass x m → (eqb m.slot slot ≡ true → m.alone ≡ alone) → LetsPass x (put slot passed m)
-let_by slot alone x m lets before same = by (eqb m.slot slot) refl
+let_by : (slot : ℕ) (sharing : Sharing) (x m : Member) → lets_pass sharing x ≡ true → LetsPass x m → (eqb m.slot slot ≡ true → m.sharing ≡ sharing) → LetsPass x (put slot passed m)
+let_by slot sharing x m lets before same = by (eqb m.slot slot) refl
   where
     by : (b : Bool) → eqb m.slot slot ≡ b → LetsPass x (cond b (passed m) m)
     by true e = λ past. ap (λ a. lets_pass a x) (same e) ∙ lets
     by false e = before
 
-pub passed_pairs : (slot : ℕ) (alone : Bool) (ms : List Member) → AreApart (slots ms) → list_all (lets_pass alone) (ahead slot ms) ≡ true
-    → Each (λ m. eqb m.slot slot ≡ true → m.alone ≡ alone) ms → EachPair LetsPass ms → EachPair LetsPass (changed slot passed ms)
-passed_pairs slot alone [] apart lets same pairs = tt
-passed_pairs slot alone (x ∷ ms) apart lets same pairs =
-    by (eqb x.slot slot) refl lets (λ more. passed_pairs slot alone ms apart.1 more same.1 pairs.1)
+pub passed_pairs : (slot : ℕ) (sharing : Sharing) (ms : List Member) → AreApart (slots ms) → list_all (lets_pass sharing) (ahead slot ms) ≡ true
+    → Each (λ m. eqb m.slot slot ≡ true → m.sharing ≡ sharing) ms → EachPair LetsPass ms → EachPair LetsPass (changed slot passed ms)
+passed_pairs slot sharing [] apart lets same pairs = tt
+passed_pairs slot sharing (x ∷ ms) apart lets same pairs =
+    by (eqb x.slot slot) refl lets (λ more. passed_pairs slot sharing ms apart.1 more same.1 pairs.1)
   where
     first : eqb x.slot slot ≡ true → EachPair LetsPass (passed x ∷ changed slot passed ms)
     first e =
         subst (λ l. EachPair LetsPass (passed x ∷ l)) (sym (absent_change slot passed ms (rest_out slot x ms apart e)))
-        (each_weaker (LetsPass x) (LetsPass (passed x)) ms (λ m before past. raised (is_past x.stage) (not x.alone) (not m.alone) (before past)) pairs.0, pairs.1)
+        (each_weaker (LetsPass x) (LetsPass (passed x)) ms (λ m before past. and_right (is_past x.stage) (go_together x.sharing m.sharing) (before past)) pairs.0, pairs.1)
 
-    others_pass : lets_pass alone x ≡ true → Each (LetsPass x) (changed slot passed ms)
+    others_pass : lets_pass sharing x ≡ true → Each (LetsPass x) (changed slot passed ms)
     others_pass lets_it =
-        each_map (λ m. LetsPass x m × (eqb m.slot slot ≡ true → m.alone ≡ alone)) (LetsPass x) (put slot passed) ms
-        (λ m both. let_by slot alone x m lets_it both.0 both.1)
-        (each_both (LetsPass x) (λ m. eqb m.slot slot ≡ true → m.alone ≡ alone) ms pairs.0 same.1)
+        each_map (λ m. LetsPass x m × (eqb m.slot slot ≡ true → m.sharing ≡ sharing)) (LetsPass x) (put slot passed) ms
+        (λ m both. let_by slot sharing x m lets_it both.0 both.1)
+        (each_both (LetsPass x) (λ m. eqb m.slot slot ≡ true → m.sharing ≡ sharing) ms pairs.0 same.1)
 
-    by : (b : Bool) → eqb x.slot slot ≡ b → list_all (lets_pass alone) (cond b [] (x ∷ ahead slot ms)) ≡ true
-        → (list_all (lets_pass alone) (ahead slot ms) ≡ true → EachPair LetsPass (changed slot passed ms))
+    by : (b : Bool) → eqb x.slot slot ≡ b → list_all (lets_pass sharing) (cond b [] (x ∷ ahead slot ms)) ≡ true
+        → (list_all (lets_pass sharing) (ahead slot ms) ≡ true → EachPair LetsPass (changed slot passed ms))
         → EachPair LetsPass (cond b (passed x) x ∷ changed slot passed ms)
     by true e lets rest = first e
     by false e lets rest = (
-      others_pass (and_left (lets_pass alone x) (list_all (lets_pass alone) (ahead slot ms)) lets),
-      rest (and_right (lets_pass alone x) (list_all (lets_pass alone) (ahead slot ms)) lets),
+      others_pass (and_left (lets_pass sharing x) (list_all (lets_pass sharing) (ahead slot ms)) lets),
+      rest (and_right (lets_pass sharing x) (list_all (lets_pass sharing) (ahead slot ms)) lets),
     )
 
 same_some : (a b : Member) → Some a ≡ Some b → a ≡ b
@@ -285,8 +283,8 @@ passed_fair slot ms fair may =
     by : (o : Option Member) → member_of slot ms ≡ o → is_let_pass o (ahead slot ms) ≡ true → EachPair LetsPass (changed slot passed ms)
     by None e lets = absurd (true≢false (sym lets))
     by (Some found) e lets =
-        passed_pairs slot found.alone ms fair.apart lets
-        (at_slot (λ m. m.alone ≡ found.alone) slot ms fair.apart (λ m is. ap (λ n. n.alone) (same_some m found (sym is ∙ e)))) fair.passing
+        passed_pairs slot found.sharing ms fair.apart lets
+        (at_slot (λ m. m.sharing ≡ found.sharing) slot ms fair.apart (λ m is. ap (λ n. n.sharing) (same_some m found (sym is ∙ e)))) fair.passing
 
 -- ---- one leaves
 
@@ -310,10 +308,10 @@ left_fair slot ms fair =
 -- ---- tickets come and go
 
 pub quiet_entered : (object : ℕ) → IsQuiet (entered object)
-quiet_entered object = record { slot = λ m. refl; alone = λ m. refl; past = λ m. refl }
+quiet_entered object = record { slot = λ m. refl; sharing = λ m. refl; past = λ m. refl }
 
 pub quiet_next : IsQuiet next_piece
-quiet_next = record { slot = λ m. refl; alone = λ m. refl; past = λ m. refl }
+quiet_next = record { slot = λ m. refl; sharing = λ m. refl; past = λ m. refl }
 
 pub in_push : (n object : ℕ) (xs : List ℕ) → is_in n (xs ++ object ∷ []) ≡ (is_in n xs || eqb object n)
 in_push n object [] = or_nothing (eqb object n)

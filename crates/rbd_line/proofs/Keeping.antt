@@ -5,6 +5,8 @@ use Rattle.std.specs.Option.{is_some}
 use Rattle.std.proofs.lemmas.Bool.{eqb-true, eqb-false, cond-true, cond-false}
 use Rattle.rbd_guard.specs.Order.{is_in, AreApart}
 use Rattle.rbd_guard.proofs.Apart.{head_in, in_right, others}
+use Rattle.rbd_kinds.specs.Sharing.{is_alone}
+use Rattle.rbd_kinds.specs.declared.sharing.Sharing.{Sharing}
 use Rattle.rbd_line.specs.Kept.{IsKept}
 use Rattle.rbd_line.specs.Line.{Member, member_of, is_member, behind, is_past, is_shared_past, may_pass, objects_in, objects_of, holds, slots, is_shared_past_in, may_enter, none_past_behind, has_turn, comes_next, joined, held, passed, entered, next_piece, changed, without, Each, IsFairMember, IsFairLine}
 use Rattle.rbd_line.specs.Turns.{begins_with}
@@ -70,13 +72,13 @@ member_push n (x ∷ ms) m out = by (eqb x.slot n) out (λ rest. member_push n m
     by true out rest = absurd (true≢false out)
     by false out rest = rest out
 
-pub joined_kept : (held_of holders : ℕ → List ℕ) (slot : ℕ) (alone : Bool) (ms : List Member) → IsKept held_of holders ms → 1 ≤ slot → slot ≤ 64 → is_member slot ms ≡ false
-    → IsKept held_of holders (ms ++ joined slot alone ∷ [])
-joined_kept held_of holders slot alone ms kept from to out =
+pub joined_kept : (held_of holders : ℕ → List ℕ) (slot : ℕ) (sharing : Sharing) (ms : List Member) → IsKept held_of holders ms → 1 ≤ slot → slot ≤ 64 → is_member slot ms ≡ false
+    → IsKept held_of holders (ms ++ joined slot sharing ∷ [])
+joined_kept held_of holders slot sharing ms kept from to out =
     record {
-      fair = joined_fair slot alone ms kept.fair from to out;
-      turns = λ o. kept.turns o ∙ sym (ap slots (filter_push (holds o) ms (joined slot alone) refl));
-      outside = λ n gone. kept.outside n (member_push n ms (joined slot alone) gone);
+      fair = joined_fair slot sharing ms kept.fair from to out;
+      turns = λ o. kept.turns o ∙ sym (ap slots (filter_push (holds o) ms (joined slot sharing) refl));
+      outside = λ n gone. kept.outside n (member_push n ms (joined slot sharing) gone);
     }
 
 stage_kept : (held_of holders : ℕ → List ℕ) (slot : ℕ) (f : Member → Member) (ms : List Member) → ((m : Member) → (f m).slot ≡ m.slot) → ((m : Member) → (f m).objects ≡ m.objects)
@@ -156,7 +158,7 @@ none_holds object (m ∷ ms) none all =
     by : (b : Bool) → holds object m ≡ b → (p : Bool) → is_past m.stage ≡ p → (not p && list_all (λ (m : Member). not (is_past m.stage)) ms) ≡ true
         → (list_all (λ (m : Member). not (is_past m.stage)) ms ≡ true → filter (holds object) ms ≡ []) → cond b (m ∷ filter (holds object) ms) (filter (holds object) ms) ≡ []
     by b here true past none rest = absurd (true≢false (sym none))
-    by true here false past none rest = absurd (right (is_past m.stage) (not m.alone) past (all.0.holds_by_right object here))
+    by true here false past none rest = absurd (right (is_past m.stage) (not (is_alone m.sharing)) past (all.0.holds_by_right object here))
     by false here false past none rest = rest none
 
 each_behind : (P : Member → Type 0) (slot : ℕ) (ms : List Member) → Each P ms → Each P (behind slot ms)

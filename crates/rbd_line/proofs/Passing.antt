@@ -10,12 +10,15 @@ use Rattle.rbd_course.specs.declared.stage.Stage.TheVariants as stage
 use Rattle.rbd_course.specs.Course.{held_stage}
 use Rattle.rbd_guard.specs.Order.{is_in}
 use Rattle.rbd_guard.proofs.Apart.{head_in}
+use Rattle.rbd_kinds.specs.Sharing.{go_together, is_alone}
+use Rattle.rbd_kinds.specs.declared.sharing.Sharing.{Sharing}
 use Rattle.rbd_line.specs.Line.{Member, member_of, is_member, ahead, behind, is_past, lets_pass, is_let_pass, may_pass, holds, slots, none_past_behind, has_turn, joined, held, passed, entered, next_piece, changed, without, Each, EachPair, LetsPass, IsFairLine, is_shared_past, is_shared_past_in, may_enter, objects_in, objects_of, IsFairMember}
 use Rattle.rbd_line.specs.Steady.{IsSteady}
 use Rattle.rbd_line.specs.Turns.{begins_with}
 use Rattle.rbd_line.proofs.Fair.{put, put_is, put_keeps, absent_change, rest_out, in_slots, each_true}
 use Rattle.rbd_line.proofs.Few.{few}
 use Rattle.rbd_line.proofs.Keeping.{same_some, some_none, found_has, is_found}
+use Rattle.rbd_line.proofs.Together.{alone_with_none, flips}
 
 and_left : (a b : Bool) → (a && b) ≡ true → a ≡ true
 and_left true b h = refl
@@ -45,25 +48,19 @@ two P (x ∷ ms) one other pairs here there differ =
     by false e true f h t rest = inr (subst (λ m. P m one) (same_some x other t) (found_has (P x) one.slot ms pairs.0 one h).0)
     by false e false f h t rest = rest h t
 
-lets_no_more : (p a b : Bool) → a ≡ true → ((p && not a) && not b) ≡ true → ⊥
-lets_no_more true true b e h = true≢false (sym h)
-lets_no_more false true b e h = true≢false (sym h)
-lets_no_more p false b e h = true≢false (sym e)
-
-lets_shared : (p a b : Bool) → b ≡ true → ((p && not a) && not b) ≡ true → ⊥
-lets_shared true true true e h = true≢false (sym h)
-lets_shared true false true e h = true≢false (sym h)
-lets_shared false a true e h = true≢false (sym h)
-lets_shared p a false e h = true≢false (sym e)
-
-pub alone_past : (ms : List Member) (one other : Member) → IsFairLine ms → member_of one.slot ms ≡ Some one → member_of other.slot ms ≡ Some other → (one.slot ≡ other.slot → ⊥)
-    → one.alone ≡ true → is_past one.stage ≡ true → is_past other.stage ≡ false
-alone_past ms one other fair here there differ alone past = by (is_past other.stage) refl (two LetsPass ms one other fair.passing here there differ)
+pub apart_past : (ms : List Member) (one other : Member) → IsFairLine ms → member_of one.slot ms ≡ Some one → member_of other.slot ms ≡ Some other → (one.slot ≡ other.slot → ⊥)
+    → go_together one.sharing other.sharing ≡ false → is_past one.stage ≡ true → is_past other.stage ≡ false
+apart_past ms one other fair here there differ never past = by (is_past other.stage) refl (two LetsPass ms one other fair.passing here there differ)
   where
     by : (b : Bool) → is_past other.stage ≡ b → (LetsPass one other) ⊎ (LetsPass other one) → is_past other.stage ≡ false
     by false e pair = e
-    by true e (inl lets) = absurd (lets_no_more (is_past one.stage) one.alone other.alone alone (lets e))
-    by true e (inr lets) = absurd (lets_shared (is_past other.stage) other.alone one.alone alone (lets past))
+    by true e (inl lets) = absurd (true≢false (sym (and_right (is_past one.stage) (go_together one.sharing other.sharing) (lets e)) ∙ never))
+    by true e (inr lets) =
+        absurd (true≢false (sym (and_right (is_past other.stage) (go_together other.sharing one.sharing) (lets past)) ∙ (flips other.sharing one.sharing ∙ never)))
+
+pub alone_past : (ms : List Member) (one other : Member) → IsFairLine ms → member_of one.slot ms ≡ Some one → member_of other.slot ms ≡ Some other → (one.slot ≡ other.slot → ⊥)
+    → is_alone one.sharing ≡ true → is_past one.stage ≡ true → is_past other.stage ≡ false
+alone_past ms one other fair here there differ alone past = apart_past ms one other fair here there differ (alone_with_none one.sharing other.sharing alone) past
 
 -- ---- turns
 
@@ -105,7 +102,7 @@ one_first a b (x ∷ xs) h k = sym (eqb-true x a h) ∙ eqb-true x b k
 -- ---- a member that changes
 
 pub held_is_steady : IsSteady held
-held_is_steady = record { slot = λ m. refl; alone = λ m. refl; past = λ m. by m.stage }
+held_is_steady = record { slot = λ m. refl; sharing = λ m. refl; past = λ m. by m.stage }
   where
     by : (s : Stage) → is_past s ≡ true → is_past (held_stage s) ≡ true
     by stage.Joined h = h
@@ -113,19 +110,19 @@ held_is_steady = record { slot = λ m. refl; alone = λ m. refl; past = λ m. by
     by stage.Past h = h
 
 pub passed_is_steady : IsSteady passed
-passed_is_steady = record { slot = λ m. refl; alone = λ m. refl; past = λ m h. refl }
+passed_is_steady = record { slot = λ m. refl; sharing = λ m. refl; past = λ m h. refl }
 
 pub entered_is_steady : (object : ℕ) → IsSteady (entered object)
-entered_is_steady object = record { slot = λ m. refl; alone = λ m. refl; past = λ m h. h }
+entered_is_steady object = record { slot = λ m. refl; sharing = λ m. refl; past = λ m h. h }
 
 pub next_is_steady : IsSteady next_piece
-next_is_steady = record { slot = λ m. refl; alone = λ m. refl; past = λ m h. h }
+next_is_steady = record { slot = λ m. refl; sharing = λ m. refl; past = λ m h. h }
 
 put_steady : (slot : ℕ) (f : Member → Member) → IsSteady f → IsSteady (put slot f)
 put_steady slot f steady =
     record {
       slot = λ m. put_is (λ n. n.slot) slot f m (steady.slot m);
-      alone = λ m. put_is (λ n. n.alone) slot f m (steady.alone m);
+      sharing = λ m. put_is (λ n. n.sharing) slot f m (steady.sharing m);
       past = λ m h. put_keeps (λ n. is_past n.stage ≡ true) slot f m (steady.past m) h;
     }
 
@@ -145,17 +142,17 @@ ahead_map h (x ∷ ms) slot same = ap (λ n. cond (eqb n slot) [] (h x ∷ ahead
     by true rest = refl
     by false rest = ap (λ l. h x ∷ l) rest
 
-raised : (p q a b : Bool) → (p ≡ true → q ≡ true) → ((p && not a) && not b) ≡ true → ((q && not a) && not b) ≡ true
-raised true q a b more h = ap (λ c. (c && not a) && not b) (more refl) ∙ h
-raised false q a b more h = absurd (true≢false (sym h))
+raised : (p q a : Bool) → (p ≡ true → q ≡ true) → (p && a) ≡ true → (q && a) ≡ true
+raised true q a more h = ap (λ c. c && a) (more refl) ∙ h
+raised false q a more h = absurd (true≢false (sym h))
 
-let_map : (h : Member → Member) (alone : Bool) (ms : List Member) → IsSteady h → list_all (lets_pass alone) ms ≡ true → list_all (lets_pass alone) (map h ms) ≡ true
-let_map h alone [] steady all = refl
-let_map h alone (x ∷ ms) steady all =
-    and_both (lets_pass alone (h x)) (list_all (lets_pass alone) (map h ms))
-    (ap (λ a. (is_past (h x).stage && not a) && not alone) (steady.alone x)
-    ∙ raised (is_past x.stage) (is_past (h x).stage) x.alone alone (steady.past x) (and_left (lets_pass alone x) (list_all (lets_pass alone) ms) all))
-    (let_map h alone ms steady (and_right (lets_pass alone x) (list_all (lets_pass alone) ms) all))
+let_map : (h : Member → Member) (sharing : Sharing) (ms : List Member) → IsSteady h → list_all (lets_pass sharing) ms ≡ true → list_all (lets_pass sharing) (map h ms) ≡ true
+let_map h sharing [] steady all = refl
+let_map h sharing (x ∷ ms) steady all =
+    and_both (lets_pass sharing (h x)) (list_all (lets_pass sharing) (map h ms))
+    (ap (λ a. is_past (h x).stage && go_together a sharing) (steady.sharing x)
+    ∙ raised (is_past x.stage) (is_past (h x).stage) (go_together x.sharing sharing) (steady.past x) (and_left (lets_pass sharing x) (list_all (lets_pass sharing) ms) all))
+    (let_map h sharing ms steady (and_right (lets_pass sharing x) (list_all (lets_pass sharing) ms) all))
 
 pub may_changed : (ms : List Member) (slot other : ℕ) (f : Member → Member) → IsSteady f → may_pass slot ms ≡ true → may_pass slot (changed other f ms) ≡ true
 may_changed ms slot other f steady may =
@@ -166,8 +163,8 @@ may_changed ms slot other f steady may =
     by : (o : Option Member) → is_let_pass o (ahead slot ms) ≡ true → is_let_pass (option_map (put other f) o) (map (put other f) (ahead slot ms)) ≡ true
     by None h = h
     by (Some m) h =
-        ap (λ a. list_all (lets_pass a) (map (put other f) (ahead slot ms))) ((put_steady other f steady).alone m)
-        ∙ let_map (put other f) m.alone (ahead slot ms) (put_steady other f steady) h
+        ap (λ a. list_all (lets_pass a) (map (put other f) (ahead slot ms))) ((put_steady other f steady).sharing m)
+        ∙ let_map (put other f) m.sharing (ahead slot ms) (put_steady other f steady) h
 
 pub own_changed : (ms : List Member) (slot : ℕ) (f : Member → Member) → IsSteady f → member_of slot (changed slot f ms) ≡ option_map f (member_of slot ms)
 own_changed [] slot f steady = refl
@@ -207,17 +204,13 @@ none_behind_changed ms slot f steady fair = ap (list_all (λ (m : Member). not (
 
 -- ---- who isn't past has nobody behind it that is
 
-lets_past : (p a b : Bool) → ((p && not a) && not b) ≡ true → p ≡ true
-lets_past true a b h = refl
-lets_past false a b h = h
-
 all_wait : (x : Member) (ms : List Member) → is_past x.stage ≡ false → Each (LetsPass x) ms → list_all (λ (m : Member). not (is_past m.stage)) ms ≡ true
 all_wait x [] waits lets = refl
 all_wait x (m ∷ ms) waits lets =
     and_both (not (is_past m.stage)) (list_all (λ (m : Member). not (is_past m.stage)) ms) (by (is_past m.stage) refl) (all_wait x ms waits lets.1)
   where
     by : (b : Bool) → is_past m.stage ≡ b → not b ≡ true
-    by true e = absurd (true≢false (sym (lets_past (is_past x.stage) x.alone m.alone (lets.0 e)) ∙ waits))
+    by true e = absurd (true≢false (sym (and_left (is_past x.stage) (go_together x.sharing m.sharing) (lets.0 e)) ∙ waits))
     by false e = refl
 
 wait_behind : (ms : List Member) (m : Member) → EachPair LetsPass ms → member_of m.slot ms ≡ Some m → is_past m.stage ≡ false → none_past_behind m.slot ms ≡ true
@@ -287,7 +280,7 @@ may_left ms slot other differ may =
   where
     by : (o : Option Member) → is_let_pass o (ahead slot ms) ≡ true → is_let_pass o (without other (ahead slot ms)) ≡ true
     by None h = h
-    by (Some m) h = all_filter (lets_pass m.alone) (λ n. not (eqb n.slot other)) (ahead slot ms) h
+    by (Some m) h = all_filter (lets_pass m.sharing) (λ n. not (eqb n.slot other)) (ahead slot ms) h
 
 some_push : (ms : List Member) (slot : ℕ) (n m : Member) → member_of slot ms ≡ Some m → (member_of slot (ms ++ n ∷ []) ≡ Some m) × (ahead slot (ms ++ n ∷ []) ≡ ahead slot ms)
 some_push [] slot n m here = absurd (some_none m here)
@@ -299,27 +292,27 @@ some_push (x ∷ ms) slot n m here = by (eqb x.slot slot) here (λ there. some_p
     by true h rest = (h, refl)
     by false h rest = let r = rest h in (r.0, ap (λ l. x ∷ l) r.1)
 
-pub may_joined : (ms : List Member) (slot other : ℕ) (alone : Bool) → may_pass slot ms ≡ true → may_pass slot (ms ++ joined other alone ∷ []) ≡ true
-may_joined ms slot other alone may = by (member_of slot ms) refl may
+pub may_joined : (ms : List Member) (slot other : ℕ) (sharing : Sharing) → may_pass slot ms ≡ true → may_pass slot (ms ++ joined other sharing ∷ []) ≡ true
+may_joined ms slot other sharing may = by (member_of slot ms) refl may
   where
-    by : (o : Option Member) → member_of slot ms ≡ o → is_let_pass o (ahead slot ms) ≡ true → may_pass slot (ms ++ joined other alone ∷ []) ≡ true
+    by : (o : Option Member) → member_of slot ms ≡ o → is_let_pass o (ahead slot ms) ≡ true → may_pass slot (ms ++ joined other sharing ∷ []) ≡ true
     by None e h = absurd (true≢false (sym h))
     by (Some m) e h =
-        let pushed = some_push ms slot (joined other alone) m e in
-        ap (λ o. is_let_pass o (ahead slot (ms ++ joined other alone ∷ []))) pushed.0 ∙ (ap (is_let_pass (Some m)) pushed.1 ∙ h)
+        let pushed = some_push ms slot (joined other sharing) m e in
+        ap (λ o. is_let_pass o (ahead slot (ms ++ joined other sharing ∷ []))) pushed.0 ∙ (ap (is_let_pass (Some m)) pushed.1 ∙ h)
 
-pub joined_found : (ms : List Member) (slot : ℕ) (alone : Bool) → is_member slot ms ≡ false → member_of slot (ms ++ joined slot alone ∷ []) ≡ Some (joined slot alone)
-joined_found [] slot alone out = cond-true (eqb slot slot) (Some (joined slot alone)) None (eq-eqb slot slot refl)
-joined_found (x ∷ ms) slot alone out = by (eqb x.slot slot) out (λ more. joined_found ms slot alone more)
+pub joined_found : (ms : List Member) (slot : ℕ) (sharing : Sharing) → is_member slot ms ≡ false → member_of slot (ms ++ joined slot sharing ∷ []) ≡ Some (joined slot sharing)
+joined_found [] slot sharing out = cond-true (eqb slot slot) (Some (joined slot sharing)) None (eq-eqb slot slot refl)
+joined_found (x ∷ ms) slot sharing out = by (eqb x.slot slot) out (λ more. joined_found ms slot sharing more)
   where
-    by : (b : Bool) → (b || is_member slot ms) ≡ false → (is_member slot ms ≡ false → member_of slot (ms ++ joined slot alone ∷ []) ≡ Some (joined slot alone))
-        → cond b (Some x) (member_of slot (ms ++ joined slot alone ∷ [])) ≡ Some (joined slot alone)
+    by : (b : Bool) → (b || is_member slot ms) ≡ false → (is_member slot ms ≡ false → member_of slot (ms ++ joined slot sharing ∷ []) ≡ Some (joined slot sharing))
+        → cond b (Some x) (member_of slot (ms ++ joined slot sharing ∷ [])) ≡ Some (joined slot sharing)
     by true h rest = absurd (true≢false h)
     by false h rest = rest h
 
-pub others_joined : (ms : List Member) (slot other : ℕ) (alone : Bool) → (other ≡ slot → ⊥) → member_of other (ms ++ joined slot alone ∷ []) ≡ member_of other ms
-others_joined [] slot other alone differ = cond-false (eqb slot other) (Some (joined slot alone)) None (ne_eqb slot other (λ same. differ (sym same)))
-others_joined (x ∷ ms) slot other alone differ = ap (λ o. cond (eqb x.slot other) (Some x) o) (others_joined ms slot other alone differ)
+pub others_joined : (ms : List Member) (slot other : ℕ) (sharing : Sharing) → (other ≡ slot → ⊥) → member_of other (ms ++ joined slot sharing ∷ []) ≡ member_of other ms
+others_joined [] slot other sharing differ = cond-false (eqb slot other) (Some (joined slot sharing)) None (ne_eqb slot other (λ same. differ (sym same)))
+others_joined (x ∷ ms) slot other sharing differ = ap (λ o. cond (eqb x.slot other) (Some x) o) (others_joined ms slot other sharing differ)
 
 pub few_members : (ms : List Member) → IsFairLine ms → length ms ≤ 64
 few_members ms fair =
@@ -327,40 +320,41 @@ few_members ms fair =
     let same = length-map ms (λ (m : Member). m.slot) in
     omega (arith, enough, same)
 
--- ---- nobody passes one that is alone
-
-lets_none : (p a b : Bool) → a ≡ true → ((p && not a) && not b) ≡ false
-lets_none true true b e = refl
-lets_none false a b e = refl
-lets_none true false b e = absurd (true≢false (sym e))
+-- ---- nobody passes one with which it doesn't go together
 
 and_false : (b : Bool) → (b && false) ≡ false
 and_false true = refl
 and_false false = refl
 
-held_back : (ms : List Member) (one : Member) (other : ℕ) (alone : Bool) → member_of one.slot ms ≡ Some one → one.alone ≡ true → is_member one.slot (ahead other ms) ≡ true
-    → list_all (lets_pass alone) (ahead other ms) ≡ false
-held_back [] one other alone here is before = absurd (some_none one here)
-held_back (x ∷ ms) one other alone here is before =
-    by (eqb x.slot other) refl (eqb x.slot one.slot) refl here before (λ h b. held_back ms one other alone h is b)
+held_back : (ms : List Member) (one : Member) (other : ℕ) (sharing : Sharing) → member_of one.slot ms ≡ Some one → go_together one.sharing sharing ≡ false
+    → is_member one.slot (ahead other ms) ≡ true → list_all (lets_pass sharing) (ahead other ms) ≡ false
+held_back [] one other sharing here is before = absurd (some_none one here)
+held_back (x ∷ ms) one other sharing here is before =
+    by (eqb x.slot other) refl (eqb x.slot one.slot) refl here before (λ h b. held_back ms one other sharing h is b)
   where
     by : (a : Bool) → eqb x.slot other ≡ a → (c : Bool) → eqb x.slot one.slot ≡ c → cond c (Some x) (member_of one.slot ms) ≡ Some one
         → is_member one.slot (cond a [] (x ∷ ahead other ms)) ≡ true
-        → (member_of one.slot ms ≡ Some one → is_member one.slot (ahead other ms) ≡ true → list_all (lets_pass alone) (ahead other ms) ≡ false)
-        → list_all (lets_pass alone) (cond a [] (x ∷ ahead other ms)) ≡ false
+        → (member_of one.slot ms ≡ Some one → is_member one.slot (ahead other ms) ≡ true → list_all (lets_pass sharing) (ahead other ms) ≡ false)
+        → list_all (lets_pass sharing) (cond a [] (x ∷ ahead other ms)) ≡ false
     by true e c g h before rest = absurd (true≢false (sym before))
     by false e true g h before rest =
-        ap (λ b. b && list_all (lets_pass alone) (ahead other ms)) (lets_none (is_past x.stage) x.alone alone (ap (λ m. m.alone) (same_some x one h) ∙ is))
+        ap (λ b. b && list_all (lets_pass sharing) (ahead other ms))
+        (ap (λ b. is_past x.stage && b) (ap (λ m. go_together m.sharing sharing) (same_some x one h) ∙ is) ∙ and_false (is_past x.stage))
     by false e false g h before rest =
-        ap (λ b. lets_pass alone x && b) (rest h (sym (ap (λ c. c || is_member one.slot (ahead other ms)) g) ∙ before)) ∙ and_false (lets_pass alone x)
+        ap (λ b. lets_pass sharing x && b) (rest h (sym (ap (λ c. c || is_member one.slot (ahead other ms)) g) ∙ before)) ∙ and_false (lets_pass sharing x)
 
-pub none_passes : (ms : List Member) (one : Member) (other : ℕ) → member_of one.slot ms ≡ Some one → one.alone ≡ true → is_member one.slot (ahead other ms) ≡ true
+pub none_passes : (ms : List Member) (one : Member) (other : ℕ) → member_of one.slot ms ≡ Some one → is_alone one.sharing ≡ true → is_member one.slot (ahead other ms) ≡ true
     → may_pass other ms ≡ false
 none_passes ms one other here is before = by (member_of other ms)
   where
     by : (o : Option Member) → is_let_pass o (ahead other ms) ≡ false
     by None = refl
-    by (Some m) = held_back ms one other m.alone here is before
+    by (Some m) = held_back ms one other m.sharing here (alone_with_none one.sharing m.sharing is) before
+
+pub apart_waits : (ms : List Member) (one other : Member) → member_of one.slot ms ≡ Some one → member_of other.slot ms ≡ Some other → go_together one.sharing other.sharing ≡ false
+    → is_member one.slot (ahead other.slot ms) ≡ true → may_pass other.slot ms ≡ false
+apart_waits ms one other here there never before =
+    ap (λ o. is_let_pass o (ahead other.slot ms)) there ∙ held_back ms one other.slot other.sharing here never before
 
 -- ---- tickets
 
@@ -373,9 +367,9 @@ nothing (x ∷ xs) b out right = absurd (true≢false (sym (right x (head_in x x
 
 pub none_yet : (ms : List Member) (m : Member) → IsFairLine ms → member_of m.slot ms ≡ Some m → is_past m.stage ≡ false → m.objects ≡ []
 none_yet ms m fair is waits =
-    nothing m.objects (is_shared_past m) (ap (λ p. p && not m.alone) waits) (found_has IsFairMember m.slot ms fair.each m is).0.holds_by_right
+    nothing m.objects (is_shared_past m) (ap (λ p. p && not (is_alone m.sharing)) waits) (found_has IsFairMember m.slot ms fair.each m is).0.holds_by_right
 
-pub may_after_pass : (ms : List Member) (m : Member) → member_of m.slot ms ≡ Some m → m.alone ≡ false → may_enter m.slot (changed m.slot passed ms) ≡ true
+pub may_after_pass : (ms : List Member) (m : Member) → member_of m.slot ms ≡ Some m → is_alone m.sharing ≡ false → may_enter m.slot (changed m.slot passed ms) ≡ true
 may_after_pass ms m is shared =
     ap is_shared_past_in (own_changed ms m.slot passed passed_is_steady) ∙ (ap (λ o. is_shared_past_in (option_map passed o)) is ∙ ap not shared)
 

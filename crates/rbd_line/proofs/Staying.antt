@@ -3,6 +3,7 @@ use Rattle.std.proofs.Common.{◌≡◌, ℕ, Bool, true, false, cond, not, eqb,
 use Rattle.std.specs.List.{filter, list_all}
 use Rattle.std.proofs.lemmas.Bool.{ne_eqb, eqb-true, cond-false, or_right}
 use Rattle.rbd_guard.specs.Order.{is_in}
+use Rattle.rbd_kinds.specs.declared.sharing.Sharing.{Sharing}
 use Rattle.rbd_line.specs.Line.{Member, behind, is_past, holds, slots, none_past_behind, has_turn, joined, held, passed, entered, next_piece, changed, without, Each, IsFairMember, IsFairLine}
 use Rattle.rbd_line.specs.Turns.{begins_with}
 use Rattle.rbd_line.proofs.Fair.{put, put_is, each_true}
@@ -24,8 +25,8 @@ turn_held ms slot object other = same_turn ms slot object other held (λ m. refl
 pub turn_passed : (ms : List Member) (slot object other : ℕ) → has_turn slot object (changed other passed ms) ≡ has_turn slot object ms
 turn_passed ms slot object other = same_turn ms slot object other passed (λ m. refl) (λ m. refl)
 
-pub turn_joined : (ms : List Member) (slot object other : ℕ) (alone : Bool) → has_turn slot object (ms ++ joined other alone ∷ []) ≡ has_turn slot object ms
-turn_joined ms slot object other alone = ap (λ l. begins_with slot (slots l)) (filter_push (holds object) ms (joined other alone) refl)
+pub turn_joined : (ms : List Member) (slot object other : ℕ) (sharing : Sharing) → has_turn slot object (ms ++ joined other sharing ∷ []) ≡ has_turn slot object ms
+turn_joined ms slot object other sharing = ap (λ l. begins_with slot (slots l)) (filter_push (holds object) ms (joined other sharing) refl)
 
 -- ---- others leave, and do their pieces
 

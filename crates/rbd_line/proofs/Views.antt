@@ -4,6 +4,7 @@ use Rattle.std.specs.List.{filter, list_any}
 use Rattle.std.proofs.lemmas.List.{map-append, length-map}
 use Rattle.rbd_course.specs.declared.stage.Stage.TheVariants as stage
 use Rattle.rbd_guard.specs.Order.{is_in, AreApart}
+use Rattle.rbd_kinds.specs.declared.sharing.Sharing.{Sharing}
 use Rattle.rbd_line.specs.declared.standing.Standing.{Standing}
 use Rattle.rbd_line.specs.Kept.{member, held_at, passed_at, IsKept}
 use Rattle.rbd_line.specs.Line.{Member, is_member, is_past, any_past, may_pass, may_enter, none_past_behind, objects_of, has_turn, comes_next, joined, held, passed, entered, next_piece, changed, without, Each}
@@ -39,14 +40,14 @@ room held_of holders items slot kept from to out =
     let same = length-map items (member held_of) in
     omega (arith, few, same)
 
-pub after_join : (held_of holders : ℕ → List ℕ) (items : List Standing) (slot : ℕ) (alone : Bool) → IsKept held_of holders (members_of held_of items) → 1 ≤ slot → slot ≤ 64
+pub after_join : (held_of holders : ℕ → List ℕ) (items : List Standing) (slot : ℕ) (sharing : Sharing) → IsKept held_of holders (members_of held_of items) → 1 ≤ slot → slot ≤ 64
     → is_member slot (members_of held_of items) ≡ false
-    → Holds held_of holders (items ++ record { slot = slot; alone = alone; stage = stage.Joined } ∷ []) (members_of held_of items ++ joined slot alone ∷ [])
-after_join held_of holders items slot alone kept from to out =
-    holds_them held_of holders (items ++ record { slot = slot; alone = alone; stage = stage.Joined } ∷ []) (members_of held_of items ++ joined slot alone ∷ [])
-    (map-append (member held_of) items (record { slot = slot; alone = alone; stage = stage.Joined } ∷ [])
-    ∙ ap (λ (l : List ℕ). members_of held_of items ++ (record { slot = slot; alone = alone; stage = stage.Joined; objects = l }) ∷ []) (kept.outside slot out))
-    (joined_kept held_of holders slot alone (members_of held_of items) kept from to out)
+    → Holds held_of holders (items ++ record { slot = slot; sharing = sharing; stage = stage.Joined } ∷ []) (members_of held_of items ++ joined slot sharing ∷ [])
+after_join held_of holders items slot sharing kept from to out =
+    holds_them held_of holders (items ++ record { slot = slot; sharing = sharing; stage = stage.Joined } ∷ []) (members_of held_of items ++ joined slot sharing ∷ [])
+    (map-append (member held_of) items (record { slot = slot; sharing = sharing; stage = stage.Joined } ∷ [])
+    ∙ ap (λ (l : List ℕ). members_of held_of items ++ (record { slot = slot; sharing = sharing; stage = stage.Joined; objects = l }) ∷ []) (kept.outside slot out))
+    (joined_kept held_of holders slot sharing (members_of held_of items) kept from to out)
 
 seen_change : (held_of : ℕ → List ℕ) (slot : ℕ) (g : Standing → Standing) (f : Member → Member) (items : List Standing) → ((s : Standing) → member held_of (g s) ≡ put slot f (member held_of s))
     → members_of held_of (map g items) ≡ changed slot f (members_of held_of items)
@@ -85,7 +86,7 @@ after_pass held_of holders items slot may kept =
 same_held : (old_held held_of : ℕ → List ℕ) (items : List Standing) → ((n : ℕ) → held_of n ≡ old_held n) → members_of held_of items ≡ members_of old_held items
 same_held old_held held_of [] same = refl
 same_held old_held held_of (s ∷ items) same =
-    ap (λ (l : List ℕ). (record { slot = s.slot; alone = s.alone; stage = s.stage; objects = l }) ∷ members_of held_of items) (same s.slot)
+    ap (λ (l : List ℕ). (record { slot = s.slot; sharing = s.sharing; stage = s.stage; objects = l }) ∷ members_of held_of items) (same s.slot)
     ∙ ap (λ l. member old_held s ∷ l) (same_held old_held held_of items same)
 
 pub after_reserve : (old_held old_holders held_of holders : ℕ → List ℕ) (items : List Standing) → ((o : ℕ) → holders o ≡ old_holders o) → ((n : ℕ) → held_of n ≡ old_held n)
@@ -95,11 +96,11 @@ after_reserve old_held old_holders held_of holders items holders_are held_are ke
     (record { fair = kept.fair; turns = λ o. holders_are o ∙ kept.turns o; outside = λ n out. held_are n ∙ kept.outside n out })
 
 one_change : (slot : ℕ) (g : List ℕ → List ℕ) (s : Standing) (old new : List ℕ) → new ≡ cond (eqb slot s.slot) (g old) old → (b : Bool) → eqb s.slot slot ≡ b
-    → member (λ _. new) s ≡ cond b (record { slot = s.slot; alone = s.alone; stage = s.stage; objects = g old }) (member (λ _. old) s)
+    → member (λ _. new) s ≡ cond b (record { slot = s.slot; sharing = s.sharing; stage = s.stage; objects = g old }) (member (λ _. old) s)
 one_change slot g s old new is b e =
     ap (λ (l : List ℕ). member (λ _. l) s) (is ∙ ap (λ c. cond c (g old) old) (eqb_flip slot s.slot ∙ e)) ∙ by b
   where
-    by : (c : Bool) → member (λ _. cond c (g old) old) s ≡ cond c (record { slot = s.slot; alone = s.alone; stage = s.stage; objects = g old }) (member (λ _. old) s)
+    by : (c : Bool) → member (λ _. cond c (g old) old) s ≡ cond c (record { slot = s.slot; sharing = s.sharing; stage = s.stage; objects = g old }) (member (λ _. old) s)
     by true = refl
     by false = refl
 
@@ -108,7 +109,7 @@ seen_turns : (old_held held_of : ℕ → List ℕ) (slot : ℕ) (g : List ℕ �
 seen_turns old_held held_of slot g [] is = refl
 seen_turns old_held held_of slot g (s ∷ items) is =
     ap (λ m. m ∷ members_of held_of items) (one_change slot g s (old_held s.slot) (held_of s.slot) (is s.slot) (eqb s.slot slot) refl)
-    ∙ ap (λ l. cond (eqb s.slot slot) (record { slot = s.slot; alone = s.alone; stage = s.stage; objects = g (old_held s.slot) }) (member old_held s) ∷ l)
+    ∙ ap (λ l. cond (eqb s.slot slot) (record { slot = s.slot; sharing = s.sharing; stage = s.stage; objects = g (old_held s.slot) }) (member old_held s) ∷ l)
     (seen_turns old_held held_of slot g items is)
 
 pub after_enter : (old_held old_holders held_of holders : ℕ → List ℕ) (items : List Standing) (slot object : ℕ)

@@ -3,16 +3,17 @@ use Rattle.std.proofs.Common.{◌≡◌, ℕ, ◌+◌, ◌<◌, Bool, false, ◌
 use Rattle.std.specs.List.{list_all}
 use Rattle.std.proofs.lemmas.List.{at_drop_more}
 use Rattle.std.proofs.lemmas.Bool.{cond-false}
+use Rattle.rbd_kinds.specs.declared.sharing.Sharing.{Sharing}
 use Rattle.rbd_line.specs.declared.standing.Standing.{Standing}
 use Rattle.rbd_line.specs.Kept.{member}
 use Rattle.rbd_line.specs.Line.{lets_pass, ahead}
 
-abbrev pub all_let : (held : ℕ → List ℕ) → (slot : ℕ) → Bool → List Standing → Bool
-all_let held slot alone xs = list_all (lets_pass alone) (ahead slot (map (member held) xs))
+abbrev pub all_let : (held : ℕ → List ℕ) → (slot : ℕ) → Sharing → List Standing → Bool
+all_let held slot sharing xs = list_all (lets_pass sharing) (ahead slot (map (member held) xs))
 
-pub one_on : (held : ℕ → List ℕ) (slot : ℕ) (alone : Bool) (xs : List Standing) (i : ℕ) (x : Standing) → i < length xs → x ≡ get_or xs i x → eqb x.slot slot ≡ false
-    → all_let held slot alone (drop i xs) ≡ lets_pass alone (member held x) && all_let held slot alone (drop (i + 1) xs)
-one_on held slot alone xs i x within is other =
-    at_drop_more (all_let held slot alone) xs i x within
-    ∙ (ap (λ y. all_let held slot alone (y ∷ drop (i + 1) xs)) (sym is)
-    ∙ ap (list_all (lets_pass alone)) (cond-false (eqb x.slot slot) _ _ other))
+pub one_on : (held : ℕ → List ℕ) (slot : ℕ) (sharing : Sharing) (xs : List Standing) (i : ℕ) (x : Standing) → i < length xs → x ≡ get_or xs i x → eqb x.slot slot ≡ false
+    → all_let held slot sharing (drop i xs) ≡ lets_pass sharing (member held x) && all_let held slot sharing (drop (i + 1) xs)
+one_on held slot sharing xs i x within is other =
+    at_drop_more (all_let held slot sharing) xs i x within
+    ∙ (ap (λ y. all_let held slot sharing (y ∷ drop (i + 1) xs)) (sym is)
+    ∙ ap (list_all (lets_pass sharing)) (cond-false (eqb x.slot slot) _ _ other))

@@ -7,7 +7,7 @@ use Rattle.rbd_line.specs.declared.standing.Standing.{Standing}
 use Rattle.rbd_line.specs.Line.{Member, is_member, holds, slots, IsFairLine}
 
 abbrev pub member : (held : ℕ → List ℕ) → Standing → Member
-member held s = record { slot = s.slot; alone = s.alone; stage = s.stage; objects = held s.slot }
+member held s = record { slot = s.slot; sharing = s.sharing; stage = s.stage; objects = held s.slot }
 
 -- a standing where the one at a slot waits, or is past its own look
 abbrev pub held_at : (slot : ℕ) → Standing → Standing

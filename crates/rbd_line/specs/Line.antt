@@ -5,13 +5,15 @@ use Rattle.rbd_course.specs.declared.stage.Stage.{Stage}
 use Rattle.rbd_course.specs.declared.stage.Stage.TheVariants as stage
 use Rattle.rbd_course.specs.Course.{held_stage}
 use Rattle.rbd_guard.specs.Order.{is_in, AreApart}
+use Rattle.rbd_kinds.specs.Sharing.{go_together, is_alone}
+use Rattle.rbd_kinds.specs.declared.sharing.Sharing.{Sharing}
 use Rattle.rbd_line.specs.Turns.{begins_with}
 
--- a request in the line: its slot, whether it is alone on the image, how far it has come, and the
+-- a request in the line: its slot, beside which others it goes, how far it has come, and the
 -- objects whose tickets it has, in the order in which it took them
 pub record Member : Type 0 where
   pub slot : ℕ
-  pub alone : Bool
+  pub sharing : Sharing
   pub stage : Stage
   pub objects : List ℕ
 
@@ -54,15 +56,15 @@ any_past members = list_any (λ m. is_past m.stage) members
 
 -- it is past its own look, and not alone
 abbrev pub is_shared_past : Member → Bool
-is_shared_past m = is_past m.stage && not m.alone
+is_shared_past m = is_past m.stage && not (is_alone m.sharing)
 
--- whether a member lets one that is behind it pass, which is alone or shared
-abbrev pub lets_pass : (alone : Bool) → Member → Bool
-lets_pass alone m = is_shared_past m && not alone
+-- whether a member lets one that is behind it pass: it is past its own look, and they go together
+abbrev pub lets_pass : Sharing → Member → Bool
+lets_pass sharing m = is_past m.stage && go_together m.sharing sharing
 
 abbrev pub is_let_pass : Option Member → (ahead : List Member) → Bool
 is_let_pass None ahead = false
-is_let_pass (Some m) ahead = list_all (lets_pass m.alone) ahead
+is_let_pass (Some m) ahead = list_all (lets_pass m.sharing) ahead
 
 -- whether a member may go past its own look: each one ahead of it lets it
 abbrev pub may_pass : (slot : ℕ) → List Member → Bool
@@ -106,8 +108,8 @@ none_past_behind slot members = list_all (λ m. not (is_past m.stage)) (behind s
 
 -- ---- changes
 
-abbrev pub joined : (slot : ℕ) → (alone : Bool) → Member
-joined slot alone = record { slot = slot; alone = alone; stage = stage.Joined; objects = [] }
+abbrev pub joined : (slot : ℕ) → Sharing → Member
+joined slot sharing = record { slot = slot; sharing = sharing; stage = stage.Joined; objects = [] }
 
 -- a member that waits for its own look: one that is past it already stays so
 abbrev pub held : Member → Member
@@ -143,7 +145,7 @@ EachPair P (m ∷ members) = Each (P m) members × EachPair P members
 
 -- who is past its own look was let pass by each one ahead of it
 abbrev pub LetsPass : (earlier later : Member) → Type 0
-LetsPass earlier later = IsTrue (is_past later.stage) → IsTrue (lets_pass later.alone earlier)
+LetsPass earlier later = IsTrue (is_past later.stage) → IsTrue (lets_pass later.sharing earlier)
 
 -- only a shared member that is past its own look holds objects, each of them once
 pub record IsFairMember (m : Member) : Type 0 where

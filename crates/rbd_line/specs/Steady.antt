@@ -2,8 +2,8 @@
 use Rattle.std.specs.Prelude.{◌≡◌, IsTrue}
 use Rattle.rbd_line.specs.Line.{Member, is_past}
 
--- it stays at its slot, alone or shared, and past its own look
+-- it stays at its slot, goes beside the same others, and stays past its own look
 pub record IsSteady (f : Member → Member) : Type 0 where
   pub slot : (m : Member) → (f m).slot ≡ m.slot
-  pub alone : (m : Member) → (f m).alone ≡ m.alone
+  pub sharing : (m : Member) → (f m).sharing ≡ m.sharing
   pub past : (m : Member) → IsTrue (is_past m.stage) → IsTrue (is_past (f m).stage)

@@ -1,7 +1,9 @@
 //! What follows for every line: each law is the contract of a function that does nothing.
-ghost use Rattle.std.specs.Prelude.{◌≡◌, ◌≢◌, ℕ, ◌≤◌, ◌&&◌, Bool, List, [], ◌∷◌, ◌++◌, Some, None, IsTrue, IsFalse, drop, is_some, length};
+ghost use Rattle.std.specs.Prelude.{◌≡◌, ◌≢◌, ℕ, ◌≤◌, ◌&&◌, List, [], ◌∷◌, ◌++◌, Some, None, IsTrue, IsFalse, drop, is_some, length};
 ghost use Rattle.std.specs.List.{list_any};
 ghost use Rattle.std.specs.Option.{option_map};
+ghost use Rattle.rbd_kinds.specs.Sharing.{go_together, is_alone};
+ghost use Rattle.rbd_kinds.specs.declared.sharing.Sharing.{Sharing};
 ghost use Rattle.rbd_line.specs.Line.{Member, member_of, is_member, ahead, is_past, may_pass, may_enter, holds, objects_of, has_turn, none_past_behind, joined, held, passed, entered, next_piece, changed, without, IsFairLine};
 ghost use Rattle.rbd_line.specs.Steady.{IsSteady};
 
@@ -10,10 +12,24 @@ ghost use Rattle.rbd_line.specs.Steady.{IsSteady};
 pub fn alone_is_alone()
     ensures past { (members : List Member) (one other : Member) → IsFairLine members
         → member_of one.slot members ≡ Some one → member_of other.slot members ≡ Some other → one.slot ≢ other.slot
-        → IsTrue one.alone → IsTrue (is_past one.stage) → IsFalse (is_past other.stage) }
+        → IsTrue (is_alone one.sharing) → IsTrue (is_past one.stage) → IsFalse (is_past other.stage) }
 
     ensures behind { (members : List Member) (one : Member) (other : ℕ) → member_of one.slot members ≡ Some one
-        → IsTrue one.alone → IsTrue (is_member one.slot (ahead other members)) → IsFalse (may_pass other members) }
+        → IsTrue (is_alone one.sharing) → IsTrue (is_member one.slot (ahead other members)) → IsFalse (may_pass other members) }
+{}
+
+/// Two that don't go together aren't past their own looks at once, and the later one waits for the
+/// end of the earlier: a flatten for that of each discard and flatten ahead of it, and a discard
+/// for that of each flatten.
+pub fn who_doesnt_go_together_waits()
+    ensures past { (members : List Member) (one other : Member) → IsFairLine members
+        → member_of one.slot members ≡ Some one → member_of other.slot members ≡ Some other → one.slot ≢ other.slot
+        → IsFalse (go_together one.sharing other.sharing) → IsTrue (is_past one.stage) → IsFalse (is_past other.stage) }
+
+    ensures behind { (members : List Member) (one other : Member)
+        → member_of one.slot members ≡ Some one → member_of other.slot members ≡ Some other
+        → IsFalse (go_together one.sharing other.sharing) → IsTrue (is_member one.slot (ahead other.slot members))
+        → IsFalse (may_pass other.slot members) }
 {}
 
 /// Who holds an object has its turn there before each one that is behind it in the line.
@@ -34,8 +50,8 @@ pub fn first_has_its_turn()
 
 /// Who has its turn keeps it, whatever the others do, until its piece is done or it leaves.
 pub fn turns_stay()
-    ensures joined { (members : List Member) (slot object other : ℕ) (alone : Bool)
-        → has_turn slot object (members ++ joined other alone ∷ []) ≡ has_turn slot object members }
+    ensures joined { (members : List Member) (slot object other : ℕ) (sharing : Sharing)
+        → has_turn slot object (members ++ joined other sharing ∷ []) ≡ has_turn slot object members }
 
     ensures hold { (members : List Member) (slot object other : ℕ)
         → has_turn slot object (changed other held members) ≡ has_turn slot object members }
@@ -62,8 +78,8 @@ pub fn passing_goes_on()
     ensures left { (members : List Member) (slot other : ℕ) → other ≢ slot
         → IsTrue (may_pass slot members) → IsTrue (may_pass slot (without other members)) }
 
-    ensures joined { (members : List Member) (slot other : ℕ) (alone : Bool)
-        → IsTrue (may_pass slot members) → IsTrue (may_pass slot (members ++ joined other alone ∷ [])) }
+    ensures joined { (members : List Member) (slot other : ℕ) (sharing : Sharing)
+        → IsTrue (may_pass slot members) → IsTrue (may_pass slot (members ++ joined other sharing ∷ [])) }
 
     ensures changed { (members : List Member) (slot other : ℕ) (f : Member → Member) → IsSteady f
         → IsTrue (may_pass slot members) → IsTrue (may_pass slot (changed other f members)) }
@@ -99,7 +115,7 @@ pub fn taking_tickets()
     ensures none_yet { (members : List Member) (m : Member) → IsFairLine members → member_of m.slot members ≡ Some m
         → IsFalse (is_past m.stage) → m.objects ≡ [] }
 
-    ensures passed { (members : List Member) (m : Member) → member_of m.slot members ≡ Some m → IsFalse m.alone
+    ensures passed { (members : List Member) (m : Member) → member_of m.slot members ≡ Some m → IsFalse (is_alone m.sharing)
         → IsTrue (may_enter m.slot (changed m.slot passed members)) }
 
     ensures entered { (members : List Member) (slot object : ℕ) → IsTrue (may_enter slot members)
@@ -116,11 +132,11 @@ pub fn taking_tickets()
 
 /// Who joins is a member, who leaves is none, and the others stay who they are.
 pub fn joining_and_leaving()
-    ensures joined { (members : List Member) (slot : ℕ) (alone : Bool) → IsFalse (is_member slot members)
-        → member_of slot (members ++ joined slot alone ∷ []) ≡ Some (joined slot alone) }
+    ensures joined { (members : List Member) (slot : ℕ) (sharing : Sharing) → IsFalse (is_member slot members)
+        → member_of slot (members ++ joined slot sharing ∷ []) ≡ Some (joined slot sharing) }
 
-    ensures joined_others { (members : List Member) (slot other : ℕ) (alone : Bool) → other ≢ slot
-        → member_of other (members ++ joined slot alone ∷ []) ≡ member_of other members }
+    ensures joined_others { (members : List Member) (slot other : ℕ) (sharing : Sharing) → other ≢ slot
+        → member_of other (members ++ joined slot sharing ∷ []) ≡ member_of other members }
 
     ensures left { (members : List Member) (slot : ℕ) → member_of slot (without slot members) ≡ None }
 

@@ -4,9 +4,9 @@
 //!
 //! ```text
 //! let mut line = Line::new(alloc)?;
-//! line.join(Slot(1), false);               // two writes join, each shared
-//! line.join(Slot(2), false);
-//! line.join(Slot(3), true);                // a snapshot joins behind them, alone
+//! line.join(Slot(1), Sharing::Shared);     // two writes join
+//! line.join(Slot(2), Sharing::Shared);
+//! line.join(Slot(3), Sharing::Alone);      // a snapshot joins behind them
 //! line.hold(Slot(1));                      // it waits for its own look under the lock
 //! line.hold(Slot(2));
 //! line.may_pass(Slot(2))                   // false: request 1 isn't past its own look yet
@@ -27,11 +27,14 @@
 //! # Rules
 //!
 //! A *member* of the line is a request, named by its slot in the session. It joins behind the
-//! others, alone on the image or shared, and goes through three stages ([`rbd_course::Stage`]).
+//! others, alone on the image or beside some ([`rbd_kinds::Sharing`]), and goes through three stages
+//! ([`rbd_course::Stage`]).
 //!
 //! | A member that is | goes past its own look |
 //! |---|---|
-//! | shared | once each member ahead of it is shared, and past its own look |
+//! | shared (`write`, `fill`) | once each member ahead of it is past its own look, and none is alone |
+//! | a discard | the same, and no flatten is ahead of it |
+//! | a flatten | the same, and neither a discard nor a flatten is ahead of it |
 //! | alone | once nobody is ahead of it |
 //!
 //! So nobody is past its own look beside one that is alone and past it, and while one that is alone
@@ -44,8 +47,8 @@
 //! | `leave` | all go |
 //!
 //! A member has its turn at an object when it is the first in line order of those that have a
-//! ticket there. Only a shared member that is past its own look takes tickets, one for each object
-//! at most.
+//! ticket there. Only a member that isn't alone, and is past its own look, takes tickets, one for
+//! each object at most.
 //!
 //! # Contracts
 //!
@@ -53,7 +56,7 @@
 //! tickets it has, and for how many more tickets there is room (`reserved`). They see no tickets.
 //! Each call says what the members are afterwards, by one equation, and that they are fair
 //! (`IsFairLine`): no slot stands twice, each is 1 to 64, who is past its own look was let pass by
-//! each one ahead of it, and who holds an object is shared and past its own look, and holds it
+//! each one ahead of it, and who holds an object isn't alone, is past its own look, and holds it
 //! once.
 //!
 //! | Call | Members afterwards |
@@ -73,7 +76,7 @@
 //! A line has at most 64 members. `join`, `enter`, `has_turn`, `end_piece` and `is_empty` cost the
 //! same however many they are and however many tickets they have (`enter`, `has_turn` and
 //! `end_piece` on average, since they look into hash tables). `hold`, `may_pass`, `pass`, `stage`,
-//! `alone` and `is_any_past` go along the line once or twice. `leave` does so too, and costs as much as the
+//! `sharing` and `is_any_past` go along the line once or twice. `leave` does so too, and costs as much as the
 //! member's tickets do one by one. Only `new` and `reserve` take memory.
 //!
 //! # How it works

@@ -4,18 +4,18 @@ ghost use Rattle.rbd_guard.specs.Order.{is_in};
 ghost use Rattle.rbd_line.specs.Line.{member_of, is_member, any_past, may_pass, has_turn, comes_next, objects_of, may_enter, none_past_behind, joined, held, passed, entered, next_piece, changed, without, IsFairLine};
 
 use crate::standing::{
-    Standing, alone_of, are_letting_pass, hold_at, is_any_past, join_at, leave_at, pass_at,
+    Standing, are_letting_pass, hold_at, is_any_past, join_at, leave_at, pass_at, sharing_of,
     stage_of,
 };
 use crate::turns::Turns;
 use rbd_course::Stage;
-use rbd_kinds::{NoMemory, Slot};
+use rbd_kinds::{NoMemory, Sharing, Slot};
 use std::alloc::Global;
 use std::marker::Model;
 
 /// The line of one image in one session. Contracts see its `members` in line order, each with its
-/// slot, whether it is alone, its stage and its objects, and for how many more tickets there is
-/// room.
+/// slot, beside which others it goes, its stage and its objects, and for how many more tickets there
+/// is room.
 #[derive(Debug, Drop)]
 pub struct Line {
     /// The members in the order in which they joined.
@@ -54,17 +54,17 @@ impl Line {
         })
     }
 
-    /// A request that isn't in the line joins behind the others, alone on the image or shared.
+    /// A request that isn't in the line joins behind the others, alone on the image or beside some.
     /// Slots are 1 to 64. It takes no memory.
-    pub fn join(&mut self, slot: Slot, alone: bool)
+    pub fn join(&mut self, slot: Slot, sharing: Sharing)
         requires from { 1 ≤ slot }
         requires to { slot ≤ 64 }
         requires other { IsFalse (is_member slot self.old.members) }
-        ensures members { self.new.members ≡ self.old.members ++ joined slot alone ∷ [] }
+        ensures members { self.new.members ≡ self.old.members ++ joined slot sharing ∷ [] }
         ensures reserved { self.new.reserved ≡ self.old.reserved }
         ensures sound { IsFairLine self.new.members }
     {
-        join_at(&mut self.standings, slot, alone);
+        join_at(&mut self.standings, slot, sharing);
     }
 
     /// The request in a slot waits for its own look: one that is past it stays so. A slot that
@@ -77,16 +77,16 @@ impl Line {
         hold_at(&mut self.standings, slot);
     }
 
-    /// Whether the request in a slot may go past its own look: each one ahead of it is shared and
-    /// past its own, or nobody is ahead of one that is alone. A slot that isn't in the line may
-    /// not. It takes no memory.
+    /// Whether the request in a slot may go past its own look: each one ahead of it is past its own,
+    /// and they go together. So nobody is ahead of one that is alone. A slot that isn't in the line
+    /// may not. It takes no memory.
     pub fn may_pass(&self, slot: Slot) -> bool
         ensures may { result ≡ may_pass slot self.now.members }
         ensures sound { IsFairLine self.now.members }
     {
         let members = self.standings.as_slice();
-        match alone_of(members, slot) {
-            Some(alone) => are_letting_pass(members, slot, alone),
+        match sharing_of(members, slot) {
+            Some(sharing) => are_letting_pass(members, slot, sharing),
             None => false,
         }
     }
@@ -110,13 +110,13 @@ impl Line {
         stage_of(self.standings.as_slice(), slot)
     }
 
-    /// Whether the request in a slot is alone on the image: `None` exactly where the slot isn't in
-    /// the line.
-    pub fn alone(&self, slot: Slot) -> Option<bool>
-        ensures alone { result ≡ option_map (λ m. m.alone) (member_of slot self.now.members) }
+    /// Beside which others the request in a slot goes: `None` exactly where the slot isn't in the
+    /// line.
+    pub fn sharing(&self, slot: Slot) -> Option<Sharing>
+        ensures sharing { result ≡ option_map (λ m. m.sharing) (member_of slot self.now.members) }
         ensures sound { IsFairLine self.now.members }
     {
-        alone_of(self.standings.as_slice(), slot)
+        sharing_of(self.standings.as_slice(), slot)
     }
 
     /// Whether anybody in the line is past its own look. It takes no memory.

@@ -7,13 +7,13 @@ ghost use Rattle.rbd_line.specs.Kept.{member, held_at, passed_at};
 ghost use Rattle.rbd_line.specs.Line.{is_past, lets_pass, member_of, ahead};
 
 use rbd_course::Stage;
-use rbd_kinds::Slot;
+use rbd_kinds::{Sharing, Slot};
 
-/// A member of a line: its slot, whether it is alone on the image, and how far it has come.
+/// A member of a line: its slot, beside which others it goes, and how far it has come.
 #[derive(Clone, Copy, Debug)]
 pub struct Standing {
     pub slot: Slot,
-    pub alone: bool,
+    pub sharing: Sharing,
     pub stage: Stage,
 }
 
@@ -29,37 +29,37 @@ pub fn stage_of(members: &[Standing], slot: Slot) -> Option<Stage>
     None
 }
 
-/// Whether a slot is alone on the image: `None` where it isn't a member.
-pub fn alone_of(members: &[Standing], slot: Slot) -> Option<bool>
-    ensures { (held : ℕ → List ℕ) → result ≡ option_map (λ m. m.alone) (member_of slot (map (member held) members.now)) }
+/// Beside which others a slot goes: `None` where it isn't a member.
+pub fn sharing_of(members: &[Standing], slot: Slot) -> Option<Sharing>
+    ensures { (held : ℕ → List ℕ) → result ≡ option_map (λ m. m.sharing) (member_of slot (map (member held) members.now)) }
 {
     for standing in members {
         if standing.slot == slot {
-            return Some(standing.alone);
+            return Some(standing.sharing);
         }
     }
     None
 }
 
-/// Whether each member ahead of a slot lets one pass that is alone, or shared.
-pub fn are_letting_pass(members: &[Standing], slot: Slot, alone: bool) -> bool
-    ensures { (held : ℕ → List ℕ) → result ≡ list_all (lets_pass alone) (ahead slot (map (member held) members.now)) }
+/// Whether each member ahead of a slot lets one pass that goes beside these others.
+pub fn are_letting_pass(members: &[Standing], slot: Slot, sharing: Sharing) -> bool
+    ensures { (held : ℕ → List ℕ) → result ≡ list_all (lets_pass sharing) (ahead slot (map (member held) members.now)) }
 {
     for standing in members {
         if standing.slot == slot {
             return true;
         }
-        if !is_letting_pass(standing, alone) {
+        if !is_letting_pass(standing, sharing) {
             return false;
         }
     }
     true
 }
 
-fn is_letting_pass(standing: &Standing, alone: bool) -> bool
-    ensures { (held : ℕ → List ℕ) → result ≡ lets_pass alone (member held standing.now) }
+fn is_letting_pass(standing: &Standing, sharing: Sharing) -> bool
+    ensures { (held : ℕ → List ℕ) → result ≡ lets_pass sharing (member held standing.now) }
 {
-    is_past(standing.stage) && !standing.alone && !alone
+    is_past(standing.stage) && standing.sharing.goes_with(&sharing)
 }
 
 /// Whether any member is past its own look.
@@ -80,14 +80,14 @@ fn is_past(stage: Stage) -> bool
 }
 
 /// The slot becomes a member behind the others, for which there has to be room.
-pub fn join_at(members: &mut Vec<Standing>, slot: Slot, alone: bool)
+pub fn join_at(members: &mut Vec<Standing>, slot: Slot, sharing: Sharing)
     requires { vec_len members.old < vec_capacity members.old }
-    ensures members { members.new.items ≡ members.old.items ++ (record { slot = slot; alone = alone; stage = Stage.Joined }) ∷ [] }
+    ensures members { members.new.items ≡ members.old.items ++ (record { slot = slot; sharing = sharing; stage = Stage.Joined }) ∷ [] }
     ensures room { vec_capacity members.old ≤ vec_capacity members.new }
 {
     let standing = Standing {
         slot,
-        alone,
+        sharing,
         stage: Stage::Joined,
     };
     let pushed: Result<_, _> = members.push(standing);

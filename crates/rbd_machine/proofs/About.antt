@@ -1,5 +1,6 @@
 -- Plans whose operations are their own, step by step.
-use Rattle.std.proofs.Common.{◌≡◌, ℕ, List, [], ◌∷◌, Bool, Option, Some, None, refl, sym, subst}
+use Rattle.std.proofs.Common.{◌≡◌, ℕ, List, [], ◌∷◌, Option, Some, None, refl, sym, subst}
+use Rattle.rbd_kinds.specs.declared.sharing.Sharing.{Sharing}
 use Rattle.rbd_kinds.specs.declared.answer.Answer.{Answer}
 use Rattle.rbd_kinds.specs.declared.answer.Answer.TheVariants as answer
 use Rattle.rbd_kinds.specs.declared.header.HeaderView.{HeaderView}
@@ -43,8 +44,8 @@ module _ (site : SiteId) where
     of_unless None next of = of
     of_unless (Some r) next of = tt
 
-    pub of_joining : (alone : Bool) (refuses : HeaderView → Option Refusal) (act : ℕ → HeaderView → Plan) → ((h : HeaderView) → IsOfImage image (act image h)) → IsOfImage image (joining site alone refuses act image)
-    of_joining alone refuses act acts = (
+    pub of_joining : (sharing : Sharing) (refuses : HeaderView → Option Refusal) (act : ℕ → HeaderView → Plan) → ((h : HeaderView) → IsOfImage image (act image h)) → IsOfImage image (joining site sharing refuses act image)
+    of_joining sharing refuses act acts = (
       refl,
       refl,
       of_on_header (looked site refuses act image) (λ h.

@@ -1,5 +1,6 @@
 -- Bounds of plans, step by step.
-use Rattle.std.proofs.Common.{ℕ, ◌≤◌, zero, suc, List, length, Bool, Option, Some, None, [], ◌∷◌, arith}
+use Rattle.std.proofs.Common.{ℕ, ◌≤◌, zero, suc, List, length, Option, Some, None, [], ◌∷◌, arith}
+use Rattle.rbd_kinds.specs.declared.sharing.Sharing.{Sharing}
 use Rattle.rbd_kinds.specs.declared.answer.Answer.{Answer}
 use Rattle.rbd_kinds.specs.declared.answer.Answer.TheVariants as answer
 use Rattle.rbd_kinds.specs.declared.header.HeaderView.{HeaderView}
@@ -63,8 +64,8 @@ module _ (site : SiteId) (refuses : HeaderView → Option Refusal) (act : ℕ �
   bounded_looking : (image : ℕ) → IsBounded (looking site refuses act image) (suc (suc n))
   bounded_looking image = bounded_on_header (looked site refuses act image) (suc n) (λ h. bounded_unless (refuses h) (holding site refuses act image) (suc n) (bounded_owning image))
 
-  pub bounded_change : (name : List ℕ) (alone : Bool) → IsBounded (change site name alone refuses act) (suc (suc (suc n)))
-  bounded_change name alone = bounded_on_id (joining site alone refuses act) (suc (suc n)) bounded_looking
+  pub bounded_change : (name : List ℕ) (sharing : Sharing) → IsBounded (change site name sharing refuses act) (suc (suc (suc n)))
+  bounded_change name sharing = bounded_on_id (joining site sharing refuses act) (suc (suc n)) bounded_looking
 
 -- ---- more than enough
 

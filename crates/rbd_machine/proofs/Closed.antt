@@ -1,5 +1,6 @@
 -- Plans whose labels stand at operations, step by step.
-use Rattle.std.proofs.Common.{ℕ, List, Bool, Option, Some, None}
+use Rattle.std.proofs.Common.{ℕ, List, Option, Some, None}
+use Rattle.rbd_kinds.specs.declared.sharing.Sharing.{Sharing}
 use Rattle.rbd_kinds.specs.declared.answer.Answer.{Answer}
 use Rattle.rbd_kinds.specs.declared.answer.Answer.TheVariants as answer
 use Rattle.rbd_kinds.specs.declared.header.HeaderView.{HeaderView}
@@ -30,10 +31,10 @@ module _ (labels : Label → Plan) where
   closed_unless None next closed = closed
   closed_unless (Some r) next closed = tt
 
-  pub closed_change : (site : SiteId) (name : List ℕ) (alone : Bool) (refuses : HeaderView → Option Refusal) (act : ℕ → HeaderView → Plan)
-      → ((image : ℕ) (h : HeaderView) → IsClosed labels (act image h)) → IsClosed labels (change site name alone refuses act)
-  closed_change site name alone refuses act acts =
-      closed_on_id (joining site alone refuses act) (λ image.
+  pub closed_change : (site : SiteId) (name : List ℕ) (sharing : Sharing) (refuses : HeaderView → Option Refusal) (act : ℕ → HeaderView → Plan)
+      → ((image : ℕ) (h : HeaderView) → IsClosed labels (act image h)) → IsClosed labels (change site name sharing refuses act)
+  closed_change site name sharing refuses act acts =
+      closed_on_id (joining site sharing refuses act) (λ image.
       closed_on_header (looked site refuses act image) (λ h.
       closed_unless (refuses h) (holding site refuses act image)
       (closed_on_header (owned refuses act image) (λ own. closed_unless (refuses own) (act image own) (acts image own)))))

@@ -1,5 +1,6 @@
 -- What may be fed wants something, and where a plan may be fed what.
-use Rattle.std.proofs.Common.{◌≡◌, ℕ, Bool, true, subst}
+use Rattle.std.proofs.Common.{◌≡◌, ℕ, true, subst}
+use Rattle.rbd_kinds.specs.declared.sharing.Sharing.{Sharing}
 use Rattle.rbd_kinds.specs.declared.answer.Answer.{Answer}
 use Rattle.rbd_kinds.specs.declared.answer.Answer.TheVariants as answer
 use Rattle.rbd_kinds.specs.declared.data_op.DataOp.TheVariants as object
@@ -31,12 +32,12 @@ can_be_fed (Return reply) o a is asked can = absurd is
 can_be_fed (Goto label) o a is asked can = absurd is
 
 -- that it joined its line, where it wants that
-pub can_join : (plan : Plan) (site : SiteId) (image : ℕ) (alone : Bool) → IsLive plan → Wants plan (want.Join site image alone) → CanBeFed plan fed.Passed
-can_join (Ask s why wanted next) site image alone live wants = cc
-can_join (Await wait next) site image alone live wants = tt
-can_join (Note s i event next) site image alone live wants = tt
-can_join (Return reply) site image alone live wants = absurd live
-can_join (Goto label) site image alone live wants = absurd live
+pub can_join : (plan : Plan) (site : SiteId) (image : ℕ) (sharing : Sharing) → IsLive plan → Wants plan (want.Join site image sharing) → CanBeFed plan fed.Passed
+can_join (Ask s why wanted next) site image sharing live wants = cc
+can_join (Await wait next) site image sharing live wants = tt
+can_join (Note s i event next) site image sharing live wants = tt
+can_join (Return reply) site image sharing live wants = absurd live
+can_join (Goto label) site image sharing live wants = absurd live
 
 -- that it has the lock, where it wants that
 pub can_hold : (plan : Plan) (site : SiteId) (image : ℕ) → IsLive plan → Wants plan (want.Hold site image) → CanBeFed plan fed.Passed

@@ -3,6 +3,8 @@ use Rattle.std.proofs.Common.{◌≡◌, ◌≢◌, ◌⊎◌, inl, inr, ℕ, Li
 use Rattle.std.specs.Prelude.{unwrap_or}
 use Rattle.std.proofs.lemmas.Bool.{true≢false}
 use Rattle.std.proofs.lemmas.Bool.Decides.{eqb_tells}
+use Rattle.rbd_kinds.specs.Sharing.{is_alone}
+use Rattle.rbd_kinds.specs.declared.sharing.Sharing.{Sharing}
 use Rattle.rbd_kinds.specs.declared.answer.Answer.{Answer}
 use Rattle.rbd_kinds.specs.declared.answer.Answer.TheVariants as answer
 use Rattle.rbd_kinds.specs.declared.directory_op.DirectoryOp.TheVariants as directory
@@ -109,20 +111,20 @@ module _ (at : Label → Knowledge) where
   lawful_unless k None next lawful = lawful refl
   lawful_unless k (Some r) next lawful = tt
 
-  pub lawful_change : (s : SiteId) (name : List ℕ) (alone : Bool) (refuses : HeaderView → Option Refusal) (act : ℕ → HeaderView → Plan)
-      → ((image : ℕ) (h : HeaderView) → IsHeaderInForm h → refuses h ≡ None → IsLawful at (owning_known alone None s image h) (act image h))
-      → IsLawful at nothing_known (change s name alone refuses act)
-  lawful_change s name alone refuses act acts = (
+  pub lawful_change : (s : SiteId) (name : List ℕ) (sharing : Sharing) (refuses : HeaderView → Option Refusal) (act : ℕ → HeaderView → Plan)
+      → ((image : ℕ) (h : HeaderView) → IsHeaderInForm h → refuses h ≡ None → IsLawful at (owning_known (is_alone sharing) None s image h) (act image h))
+      → IsLawful at nothing_known (change s name sharing refuses act)
+  lawful_change s name sharing refuses act acts = (
     tt,
     λ found can.
-        lawful_on_id (learned nothing_known s (op.Directory (directory.Find name))) (joining s alone refuses act) (λ image. (
+        lawful_on_id (learned nothing_known s (op.Directory (directory.Find name))) (joining s sharing refuses act) (λ image. (
           tt,
-          lawful_on_header s image (learned (passed nothing_known (wait.Join s image alone)) s (op.Header image header.Get)) (looked s refuses act image) (λ h form standalone.
-              lawful_unless (record nothing_known { alone = alone }) (refuses h) (holding s refuses act image) (λ may_wait. (
+          lawful_on_header s image (learned (passed nothing_known (wait.Join s image sharing)) s (op.Header image header.Get)) (looked s refuses act image) (λ h form standalone.
+              lawful_unless (record nothing_known { alone = is_alone sharing }) (refuses h) (holding s refuses act image) (λ may_wait. (
                 tt,
-                lawful_on_header s image (learned (holding_known alone s image) s (op.Header image header.Get)) (owned refuses act image) (λ own form standalone.
-                    lawful_unless (learned (holding_known alone s image) s (op.Header image header.Get) (answer.Header own)) (refuses own) (act image own) (λ may.
-                    subst (λ k. IsLawful at k (act image own)) (own_told alone s image own) (acts image own form may))),
+                lawful_on_header s image (learned (holding_known (is_alone sharing) s image) s (op.Header image header.Get)) (owned refuses act image) (λ own form standalone.
+                    lawful_unless (learned (holding_known (is_alone sharing) s image) s (op.Header image header.Get) (answer.Header own)) (refuses own) (act image own) (λ may.
+                    subst (λ k. IsLawful at k (act image own)) (own_told (is_alone sharing) s image own) (acts image own form may))),
               ))),
         )) found,
   )

@@ -1,5 +1,6 @@
 -- Plans that are refused by their last answer alone, step by step.
 use Rattle.std.proofs.Common.{◌≡◌, ◌∙◌, ◌⊎◌, inl, inr, ℕ, List, [], ◌∷◌, ◌++◌, Bool, true, false, cond, Option, Some, None, refl, ap, sym, subst}
+use Rattle.rbd_kinds.specs.declared.sharing.Sharing.{Sharing}
 use Rattle.rbd_kinds.specs.declared.answer.Answer.{Answer}
 use Rattle.rbd_kinds.specs.declared.answer.Answer.TheVariants as answer
 use Rattle.rbd_kinds.specs.declared.directory_op.DirectoryOp.TheVariants as directory
@@ -175,10 +176,10 @@ module _ (refuses : HeaderView → Option Refusal) (late : Refusal → Type 0) (
   refusing_header image h None next is goes_on = inr (λ live. is, goes_on is)
   refusing_header image h (Some x) next is goes_on = inl (record { why = x; is = is; ends = refl; comes = λ was. cc })
 
-  pub refusing_change : (site : SiteId) (name : List ℕ) (alone : Bool) (act : ℕ → HeaderView → Plan)
-      → ((image : ℕ) (h : HeaderView) → refuses h ≡ None → IsRefusing false (act image h)) → IsRefusing false (change site name alone refuses act)
-  refusing_change site name alone act acts =
-      refusing_find name (joining site alone refuses act) (λ image.
+  pub refusing_change : (site : SiteId) (name : List ℕ) (sharing : Sharing) (act : ℕ → HeaderView → Plan)
+      → ((image : ℕ) (h : HeaderView) → refuses h ≡ None → IsRefusing false (act image h)) → IsRefusing false (change site name sharing refuses act)
+  refusing_change site name sharing act acts =
+      refusing_find name (joining site sharing refuses act) (λ image.
       refusing_look image (looked site refuses act image) (λ h.
       refusing_header image h (refuses h) (holding site refuses act image) refl (λ may_wait.
       refusing_look image (owned refuses act image) (λ own.

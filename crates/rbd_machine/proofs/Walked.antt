@@ -1,5 +1,6 @@
 -- What a request was fed up to an end that is no refusal, step by step.
-use Rattle.std.proofs.Common.{◌≡◌, ℕ, List, [], ◌∷◌, Bool, Option, Some, None, refl, ap, ◌∙◌, subst}
+use Rattle.std.proofs.Common.{◌≡◌, ℕ, List, [], ◌∷◌, Option, Some, None, refl, ap, ◌∙◌, subst}
+use Rattle.rbd_kinds.specs.declared.sharing.Sharing.{Sharing}
 use Rattle.rbd_kinds.specs.declared.answer.Answer.{Answer}
 use Rattle.rbd_kinds.specs.declared.answer.Answer.TheVariants as answer
 use Rattle.rbd_kinds.specs.declared.directory_op.DirectoryOp.TheVariants as directory
@@ -151,12 +152,12 @@ module _ (last : Plan) (kind : EndsUnrefused last) where
   went_past None next feds steps walk = record { may = refl; walk = walk }
   went_past (Some x) next feds steps walk = absurd (refusal_ends_otherwise x feds steps walk)
 
-  pub changed : (site : SiteId) (name : List ℕ) (alone : Bool) (refuses : HeaderView → Option Refusal) (act : ℕ → HeaderView → Plan) (feds : List Fed) (steps : List Answered)
-      → IsWalk Goto (change site name alone refuses act) feds steps last → Changed last site name refuses act steps
-  changed site name alone refuses act feds steps walk =
-      let w = went_on site reason.Own (op.Directory (directory.Find name)) (on_id (joining site alone refuses act)) feds steps walk in
-      let i = told_image (joining site alone refuses act) w.answer w.more w.rest w.walk in
-      let j = awaited (wait.Join site i.image alone) (looking site refuses act i.image) w.more w.rest i.walk in
+  pub changed : (site : SiteId) (name : List ℕ) (sharing : Sharing) (refuses : HeaderView → Option Refusal) (act : ℕ → HeaderView → Plan) (feds : List Fed) (steps : List Answered)
+      → IsWalk Goto (change site name sharing refuses act) feds steps last → Changed last site name refuses act steps
+  changed site name sharing refuses act feds steps walk =
+      let w = went_on site reason.Own (op.Directory (directory.Find name)) (on_id (joining site sharing refuses act)) feds steps walk in
+      let i = told_image (joining site sharing refuses act) w.answer w.more w.rest w.walk in
+      let j = awaited (wait.Join site i.image sharing) (looking site refuses act i.image) w.more w.rest i.walk in
       let v = went_on site reason.Own (op.Header i.image header.Get) (on_header (looked site refuses act i.image)) j.more w.rest j.walk in
       let h = told_header (looked site refuses act i.image) v.answer v.more v.rest v.walk in
       let m = went_past (refuses h.header) (holding site refuses act i.image) v.more v.rest h.walk in

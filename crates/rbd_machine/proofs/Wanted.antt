@@ -8,14 +8,14 @@ use Rattle.rbd_machine.specs.Wait.{Wait, want_of}
 use Rattle.rbd_machine.specs.Wait as wait
 
 no_operation : (w : Wait) (site : SiteId) (kind : OpKind) → want.Op site kind ≡ want_of w → ⊥
-no_operation (wait.Join s i alone) site kind is = cc
+no_operation (wait.Join s i sharing) site kind is = cc
 no_operation (wait.Hold s i) site kind is = cc
 no_operation (wait.Turn object) site kind is = cc
 no_operation (wait.Applied s i) site kind is = cc
 no_operation (wait.Leave s i) site kind is = cc
 
 no_event : (w : Wait) (site : SiteId) (image : ℕ) → want.Note site image ≡ want_of w → ⊥
-no_event (wait.Join s i alone) site image is = cc
+no_event (wait.Join s i sharing) site image is = cc
 no_event (wait.Hold s i) site image is = cc
 no_event (wait.Turn object) site image is = cc
 no_event (wait.Applied s i) site image is = cc

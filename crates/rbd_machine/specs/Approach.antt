@@ -19,8 +19,8 @@ use Rattle.rbd_machine.specs.declared.progress.Progress.TheVariants as progress
 
 -- what is left of it, with what the change does then
 abbrev pub rest_from : Stage → Approach → (HeaderView → Option Refusal) → (act : ℕ → HeaderView → Plan) → Plan
-rest_from stage.Finding a refuses act = change a.site a.name a.alone refuses act
-rest_from (stage.Joining image) a refuses act = joining a.site a.alone refuses act image
+rest_from stage.Finding a refuses act = change a.site a.name a.sharing refuses act
+rest_from (stage.Joining image) a refuses act = joining a.site a.sharing refuses act image
 rest_from (stage.Looking image) a refuses act = looking a.site refuses act image
 rest_from (stage.Holding image) a refuses act = holding a.site refuses act image
 rest_from (stage.Owning image) a refuses act = owning a.site refuses act image

@@ -1,6 +1,7 @@
 -- What a request knows: what its operations were answered, and what it waited for. It names no
 -- site's state.
 use Rattle.std.specs.Prelude.{ℕ, ◌*◌, ◌==◌, ◌&&◌, Bool, true, false, not, if◌then◌else◌, List, [], ◌∷◌, length, map, filter, slice_set, Option, Some, None, option_map}
+use Rattle.rbd_kinds.specs.Sharing.{is_alone}
 use Rattle.rbd_kinds.specs.declared.answer.Answer.{Answer}
 use Rattle.rbd_kinds.specs.declared.answer.Answer.TheVariants as answer
 use Rattle.rbd_kinds.specs.declared.data_op.DataOp.{DataOp}
@@ -322,7 +323,7 @@ held k site image = record { site = site; image = image; alone = k.alone; header
 -- what it knows of an object by its own changes as long: another request may lower a state, or
 -- change the object, in its own turn.
 abbrev pub passed : Knowledge → Wait → Knowledge
-passed k (wait.Join site image alone) = record k { alone = alone }
+passed k (wait.Join site image sharing) = record k { alone = is_alone sharing }
 passed k (wait.Hold site image) = record k { owns = held k site image; objects = [] }
 passed k (wait.Turn object) = record k { turn = Some object; maps = unmarked k.maps; objects = [] }
 passed k (wait.Applied site image) = record k { turn = None; maps = unmarked k.maps; objects = [] }

@@ -1,5 +1,6 @@
 -- Steps that many requests share, as plans with what comes next.
-use Rattle.std.specs.Prelude.{◌≡◌, ℕ, List, Bool, Option, Some, None, Result, Ok, Err}
+use Rattle.std.specs.Prelude.{◌≡◌, ℕ, List, Option, Some, None, Result, Ok, Err}
+use Rattle.rbd_kinds.specs.declared.sharing.Sharing.{Sharing}
 use Rattle.rbd_kinds.specs.declared.answer.Answer.{Answer}
 use Rattle.rbd_kinds.specs.declared.answer.Answer.TheVariants as answer
 use Rattle.rbd_kinds.specs.declared.directory_op.DirectoryOp.TheVariants as directory
@@ -113,11 +114,11 @@ looked site refuses act image h = unless (refuses h) (holding site refuses act i
 abbrev pub looking : SiteId → (HeaderView → Option Refusal) → (act : ℕ → HeaderView → Plan) → (image : ℕ) → Plan
 looking site refuses act image = look site image (looked site refuses act image)
 
-abbrev pub joining : SiteId → (alone : Bool) → (HeaderView → Option Refusal) → (act : ℕ → HeaderView → Plan) → (image : ℕ) → Plan
-joining site alone refuses act image = Await (wait.Join site image alone) (looking site refuses act image)
+abbrev pub joining : SiteId → Sharing → (HeaderView → Option Refusal) → (act : ℕ → HeaderView → Plan) → (image : ℕ) → Plan
+joining site sharing refuses act image = Await (wait.Join site image sharing) (looking site refuses act image)
 
-abbrev pub change : SiteId → (name : List ℕ) → (alone : Bool) → (HeaderView → Option Refusal) → (act : ℕ → HeaderView → Plan) → Plan
-change site name alone refuses act = find site name (joining site alone refuses act)
+abbrev pub change : SiteId → (name : List ℕ) → Sharing → (HeaderView → Option Refusal) → (act : ℕ → HeaderView → Plan) → Plan
+change site name sharing refuses act = find site name (joining site sharing refuses act)
 
 -- ---- refusals
 

@@ -11,7 +11,7 @@ use crate::looks::{dir_find, header_get};
 use crate::progress::Progress;
 use crate::told::{told_header, told_image};
 use rbd_kinds::{
-    Answer, Fed, HeaderView, ImageId, Name, NoMemory, Op, OpKind, Refusal, SiteId, Want,
+    Answer, Fed, HeaderView, ImageId, Name, NoMemory, Op, OpKind, Refusal, Sharing, SiteId, Want,
 };
 
 /// What a change refuses by the header that it looks at.
@@ -45,7 +45,7 @@ pub trait Refuses {
 pub struct Approach {
     site: SiteId,
     name: Name,
-    alone: bool,
+    sharing: Sharing,
     stage: Stage,
 }
 
@@ -60,15 +60,15 @@ pub enum Stage {
 }
 
 impl Approach {
-    /// The way of a change of the image of a name at a site. It is alone in the image's line, or
-    /// goes beside other changes. It takes no memory.
-    pub fn new(site: SiteId, name: Name, alone: bool) -> Self
-        ensures { (refuses : HeaderView → Option Refusal) (act : ℕ → HeaderView → Plan) → rest_of result refuses act ≡ change site name alone refuses act }
+    /// The way of a change of the image of a name at a site, which goes beside others in the image's
+    /// line, or is alone there. It takes no memory.
+    pub fn new(site: SiteId, name: Name, sharing: Sharing) -> Self
+        ensures { (refuses : HeaderView → Option Refusal) (act : ℕ → HeaderView → Plan) → rest_of result refuses act ≡ change site name sharing refuses act }
     {
         Approach {
             site,
             name,
-            alone,
+            sharing,
             stage: Stage::Finding,
         }
     }
@@ -86,7 +86,7 @@ impl Approach {
             Stage::Joining(image) => Want::Join {
                 site,
                 image: *image,
-                alone: self.alone,
+                sharing: self.sharing,
             },
             Stage::Looking(_) => Want::Op {
                 site,

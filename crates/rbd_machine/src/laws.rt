@@ -16,6 +16,7 @@ ghost use Rattle.rbd_machine.specs.Permits.{Permits};
 ghost use Rattle.rbd_kinds.specs.declared.header.HeaderView.{HeaderView};
 ghost use Rattle.rbd_kinds.specs.declared.id.Instance.{Instance};
 ghost use Rattle.rbd_kinds.specs.declared.id.SiteId.{SiteId};
+ghost use Rattle.rbd_kinds.specs.declared.sharing.Sharing.{Sharing};
 ghost use Rattle.rbd_commands.specs.declared.refusal.Refusal.{Refusal};
 ghost use Rattle.rbd_kinds.specs.declared.machine.Fed.{Fed};
 ghost use Rattle.rbd_kinds.specs.declared.machine.Want.TheVariants.{Note, Op as WantsOp};
@@ -69,8 +70,8 @@ pub fn walks_keep_bounds()
 
 /// A change has three operations up to its own look, and then those of what it does.
 pub fn changes_look_twice()
-    ensures { (site : SiteId) (name : List ℕ) (alone : Bool) (refuses : HeaderView → Option Refusal) (act : ℕ → HeaderView → Plan) (n : ℕ)
-        → ((image : ℕ) (h : HeaderView) → IsBounded (act image h) n) → IsBounded (change site name alone refuses act) (n + 3) }
+    ensures { (site : SiteId) (name : List ℕ) (sharing : Sharing) (refuses : HeaderView → Option Refusal) (act : ℕ → HeaderView → Plan) (n : ℕ)
+        → ((image : ℕ) (h : HeaderView) → IsBounded (act image h) n) → IsBounded (change site name sharing refuses act) (n + 3) }
 {}
 
 /// What a request doesn't own by a look of its own it may not change, whatever was told before: no

@@ -2,7 +2,7 @@
 //! it asks what it wants, does that, and feeds it what came of it, until it is done with its reply.
 //!
 //! ```text
-//! let mut way = Approach::new(SiteId::A, disk, true);     // a change that is alone on the image `disk`
+//! let mut way = Approach::new(SiteId::A, disk, Sharing::Alone);   // a change of `disk`
 //! way.wants()                       // an operation at site A, of the kind dir-find
 //! way.next()?                       // dir-find disk
 //! way.feed(&rule, &id)              // More: the answer was `id 7`

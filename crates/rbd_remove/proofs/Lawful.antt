@@ -4,6 +4,7 @@ use Rattle.std.specs.Prelude.{IsSome, map}
 use Rattle.rbd_commands.specs.declared.command.Command.{Command}
 use Rattle.rbd_commands.specs.declared.command.Command.TheVariants as command
 use Rattle.rbd_commands.specs.declared.refusal.Refusal.TheVariants as refusal
+use Rattle.rbd_kinds.specs.declared.sharing.Sharing.TheVariants as sharing
 use Rattle.rbd_kinds.specs.declared.answer.Answer.{Answer}
 use Rattle.rbd_kinds.specs.declared.answer.Answer.TheVariants as answer
 use Rattle.rbd_kinds.specs.declared.directory_op.DirectoryOp.TheVariants as directory
@@ -152,7 +153,7 @@ module _ (at : Label → Knowledge) (site : SiteId) (session image : ℕ) where
     lawful_joining : IsLawful at nothing_known (joining_its_line site session image)
     lawful_joining = (
       tt,
-      lawful_on_header at site image (learned (passed nothing_known (wait.Join site image true)) site (op.Header image header.Get)) (looked_at_it site session image) (λ h form standalone.
+      lawful_on_header at site image (learned (passed nothing_known (wait.Join site image sharing.Alone)) site (op.Header image header.Get)) (looked_at_it site session image) (λ h form standalone.
           lawful_unless at (record nothing_known { alone = true }) (image_removal_refuses h) (unless_watched site session image (holding_it site session image)) (λ may.
           lawful_unwatched (record nothing_known { alone = true }) (holding_it site session image) lawful_holding)),
     )

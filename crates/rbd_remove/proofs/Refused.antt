@@ -2,6 +2,7 @@
 use Rattle.std.proofs.Common.{◌≡◌, ◌⊎◌, inl, inr, ℕ, Bool, true, false, cond, List, [], ◌∷◌, ◌++◌, map, Option, Some, None, refl, ap, ◌∙◌, sym, subst}
 use Rattle.rbd_commands.specs.declared.refusal.Refusal.{Refusal}
 use Rattle.rbd_commands.specs.declared.refusal.Refusal.TheVariants as refusal
+use Rattle.rbd_kinds.specs.declared.sharing.Sharing.TheVariants as sharing
 use Rattle.rbd_kinds.specs.declared.answer.Answer.{Answer}
 use Rattle.rbd_kinds.specs.declared.answer.Answer.TheVariants as answer
 use Rattle.rbd_kinds.specs.declared.children_op.ChildrenOp.TheVariants as child
@@ -362,7 +363,7 @@ module _ (x : Refusal) (site : SiteId) (session : ℕ) where
 
       joining_stops : FindJournals steps → (feds : List Fed) (rest : List Answered) → steps ≡ found site name image ∷ rest → AreGiven rest → IsWalk Goto (joining_its_line site session image) feds rest Refused → Meant
       joining_stops finds feds rest are given walk =
-          let j = awaited_to (reply.Refused x) (wait.Join site image true) (looking_at_it site session image) feds rest walk in
+          let j = awaited_to (reply.Refused x) (wait.Join site image sharing.Alone) (looking_at_it site session image) feds rest walk in
           let w = asked_to (reply.Refused x) site reason.Own get (on_header (looked_at_it site session image)) j.more rest j.walk in
           let (g, gs) = subst AreGiven w.are given in
           go w.answer w.more w.rest (are ∙ ap (λ s. found site name image ∷ s) w.are) g gs w.walk

@@ -2,6 +2,7 @@
 use Rattle.std.proofs.Common.{◌≡◌, ℕ, Bool, true, false, cond, List, [], ◌∷◌, ◌++◌, Some, None, refl, ap, ◌∙◌}
 use Rattle.std.proofs.lemmas.List.{append-nil}
 use Rattle.rbd_commands.specs.declared.refusal.Refusal.TheVariants as refusal
+use Rattle.rbd_kinds.specs.declared.sharing.Sharing.TheVariants as sharing
 use Rattle.rbd_kinds.specs.declared.answer.Answer.{Answer}
 use Rattle.rbd_kinds.specs.declared.answer.Answer.TheVariants as answer
 use Rattle.rbd_kinds.specs.declared.header.HeaderView.{HeaderView}
@@ -184,7 +185,7 @@ module _ (last : Plan) (kind : EndsUnrefused last) where
       let f = found_image site name (joining_its_line site session) feds steps walk in
       let holding = holding_it site session f.image in
       let act = remove_owned site session f.image in
-      let j = awaited last kind (wait.Join site f.image true) (looking_at_it site session f.image) f.more f.rest f.walk in
+      let j = awaited last kind (wait.Join site f.image sharing.Alone) (looking_at_it site session f.image) f.more f.rest f.walk in
       let h = looked_past site f.image (λ h. unless_watched site session f.image holding) j.more f.rest j.walk in
       let a = asked_watchers site session f.image holding h.more h.rest h.walk in
       let l = awaited last kind (wait.Hold site f.image) (owning site image_removal_refuses (remove_owned site session) f.image) a.more a.rest a.walk in

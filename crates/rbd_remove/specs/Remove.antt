@@ -3,6 +3,7 @@ use Rattle.std.specs.Prelude.{ℕ, List, [], ◌∷◌, Bool, true, false, if◌
 use Rattle.rbd_commands.specs.declared.command.Command.{Command}
 use Rattle.rbd_commands.specs.declared.command.Command.TheVariants as command
 use Rattle.rbd_commands.specs.declared.refusal.Refusal.TheVariants as refusal
+use Rattle.rbd_kinds.specs.declared.sharing.Sharing.TheVariants as sharing
 use Rattle.rbd_kinds.specs.declared.answer.Answer.{Answer}
 use Rattle.rbd_kinds.specs.declared.answer.Answer.TheVariants as answer
 use Rattle.rbd_kinds.specs.declared.header.HeaderView.{HeaderView}
@@ -67,7 +68,7 @@ abbrev pub looking_at_it : SiteId → (session : ℕ) → (image : ℕ) → Plan
 looking_at_it site session image = look site image (looked_at_it site session image)
 
 abbrev pub joining_its_line : SiteId → (session : ℕ) → (image : ℕ) → Plan
-joining_its_line site session image = Await (wait.Join site image true) (looking_at_it site session image)
+joining_its_line site session image = Await (wait.Join site image sharing.Alone) (looking_at_it site session image)
 
 abbrev pub remove_image : SiteId → (session : ℕ) → (name : List ℕ) → Plan
 remove_image site session name = find site name (joining_its_line site session)

@@ -17,7 +17,7 @@ use crate::remove::Remove;
 use crate::watchers::{told_watchers, watchers_get};
 use rbd_kinds::{
     Answer, Command, Event, Fed, HeaderView, ImageId, Name, NoMemory, Op, OpKind, Refusal, Reply,
-    SessionNo, SiteId, Snaps, Turn, Want,
+    SessionNo, Sharing, SiteId, Snaps, Turn, Want,
 };
 use rbd_machine::{
     Machine, Progress, Reason, dir_find, header_get, non_primary, told_header, told_image,
@@ -244,7 +244,7 @@ impl Machine for RemoveRequest {
                 return Want::Join {
                     site,
                     image: *image,
-                    alone: true,
+                    sharing: Sharing::Alone,
                 };
             }
             Stage::Looking(_) => OpKind::HeaderGet,

@@ -2,6 +2,7 @@
 -- look told it, but for their own changes. So they did what their replies say.
 use Rattle.std.proofs.Common.{◌≡◌, ℕ, Bool, true, false, List, [], ◌∷◌, ◌++◌, map, Option, Some, refl, sym, ap, ◌∙◌, subst}
 use Rattle.std.specs.Prelude.{nat_le}
+use Rattle.rbd_kinds.specs.declared.sharing.Sharing.TheVariants as sharing
 use Rattle.rbd_commands.specs.declared.command.Command.{Command}
 use Rattle.rbd_commands.specs.declared.command.Command.TheVariants as command
 use Rattle.rbd_discard.specs.Discard.{zero}
@@ -181,7 +182,7 @@ module _ (homes : ℕ → SiteId) (home : SiteId) where
       discard_discards homes home places right name e whole
       (like_behind (command.Discard name at len) places right of name whole.image whole.first whole.own _ whole.are
       (record {
-        alone = false;
+        sharing = sharing.Discard;
         refuses = write_refuses e;
         act = λ site. zero site e;
         stands = λ seat s plan. stands_by seat (command.Discard name at len) s plan;
@@ -197,7 +198,7 @@ module _ (homes : ℕ → SiteId) (home : SiteId) where
       resize_resizes homes home places right name to whole
       (like_behind (command.Resize name to) places right of name whole.image whole.first whole.own whole.resized whole.are
       (record {
-        alone = true;
+        sharing = sharing.Alone;
         refuses = resize_refuses to;
         act = λ site. set_size site to;
         stands = λ seat s plan. stands_by seat (command.Resize name to) s plan;
@@ -213,7 +214,7 @@ module _ (homes : ℕ → SiteId) (home : SiteId) where
     changes =
         subst (λ d. IsChangeBy home d name rolls.image rolls.first rolls.own) (sym of.command_is)
         (record {
-          alone = true;
+          sharing = sharing.Alone;
           refuses = rollback_refuses snap;
           act = λ site. roll_back_to site snap;
           stands = λ seat s plan. stands_by seat (command.SnapRollback name snap) s plan;

@@ -1,6 +1,8 @@
 -- A request that wants a look at a header has only looked before: so has one that waits for its
 -- look under the lock, and is refused on its way there.
-use Rattle.std.proofs.Common.{◌≡◌, ◌⊎◌, inl, inr, ℕ, ◌+◌, ◌==◌, Bool, true, false, List, [], ◌∷◌, ◌++◌, replicate, Option, Some, None, refl, sym, subst}
+use Rattle.std.proofs.Common.{◌≡◌, ◌⊎◌, inl, inr, ℕ, ◌+◌, ◌==◌, true, List, [], ◌∷◌, ◌++◌, replicate, Option, Some, None, refl, sym, subst}
+use Rattle.rbd_kinds.specs.declared.sharing.Sharing.{Sharing}
+use Rattle.rbd_kinds.specs.declared.sharing.Sharing.TheVariants as sharing
 use Rattle.rbd_admin.proofs.Decided.{limits_or_not}
 use Rattle.rbd_admin.specs.Create.{IsCreate, IsCreatePlan, drawing, making, mapping}
 use Rattle.rbd_admin.specs.Listing.{counting, listing_plan, measuring, showing, show_header}
@@ -58,10 +60,10 @@ use Rattle.rbd_replies.proofs.PlanSteps.{at_bits, at_bytes, at_done, at_drawn, a
 
 -- ---- changes
 
-first_change : (site : SiteId) (name : List ℕ) (alone : Bool) (refuses : HeaderView → Option Refusal) (act : ℕ → HeaderView → Plan)
-    → ((image : ℕ) (h : HeaderView) → LooksFirst (act image h)) → LooksFirst (change site name alone refuses act)
-first_change site name alone refuses act acts =
-    at_id LooksFirst ends (change_joining site alone refuses act) (λ image.
+first_change : (site : SiteId) (name : List ℕ) (sharing : Sharing) (refuses : HeaderView → Option Refusal) (act : ℕ → HeaderView → Plan)
+    → ((image : ℕ) (h : HeaderView) → LooksFirst (act image h)) → LooksFirst (change site name sharing refuses act)
+first_change site name sharing refuses act acts =
+    at_id LooksFirst ends (change_joining site sharing refuses act) (λ image.
     at_header LooksFirst ends (looked site refuses act image) (λ h.
     at_unless LooksFirst ends (refuses h) (holding site refuses act image)
     (at_header LooksFirst ends (owned refuses act image) (λ own. at_unless LooksFirst ends (refuses own) (act image own) (acts image own)))))
@@ -79,7 +81,7 @@ first_pieces pieces site image h from bytes = none_first (write_pieces site imag
 
 first_write : (site : SiteId) (name : List ℕ) (from : ℕ) (bytes : List ℕ) → LooksFirst (write site name from bytes)
 first_write site name from bytes =
-    first_change site name false (write_refuses (extent_at from bytes)) (put site from bytes)
+    first_change site name sharing.Shared (write_refuses (extent_at from bytes)) (put site from bytes)
     (λ image h. first_pieces (pieces_of h.layout (extent_at from bytes)) site image h from bytes)
 
 first_write_plan : (site : SiteId) (c : Command) → LooksFirst (write_plan site c)
@@ -97,9 +99,9 @@ first_taking site snap image next =
     at_bits LooksFirst ends (putting site snap image next) (λ bits. at_done LooksFirst ends (taking site snap image) (at_snap NoLook no_more (applied site image) tt))
 
 first_snap : (site : SiteId) (c : Command) → LooksFirst (snap_plan site c)
-first_snap site (command.SnapCreate image snap) = first_change site image true (create_refuses snap) (take site snap) (λ i h. first_taking site snap i (h.snap_seq + 1))
+first_snap site (command.SnapCreate image snap) = first_change site image sharing.Alone (create_refuses snap) (take site snap) (λ i h. first_taking site snap i (h.snap_seq + 1))
 first_snap site (command.SnapRemove image snap) =
-    first_change site image true (remove_refuses snap) (remove site snap) (λ i h. first_removal site snap i (snap_named h.snaps snap))
+    first_change site image sharing.Alone (remove_refuses snap) (remove site snap) (λ i h. first_removal site snap i (snap_named h.snaps snap))
 first_snap site _ = tt
 
 -- ---- discard, resize, snap rollback
@@ -107,17 +109,17 @@ first_snap site _ = tt
 first_discard : (site : SiteId) (c : Command) → LooksFirst (discard_plan site c)
 first_discard site (command.Discard image at len) =
     let e : Extent = record { at = at; len = len } in
-    first_change site image false (write_refuses e) (zero site e) (λ i h. none_first (zero site e i h) (looks_no_more site i (zero site e i h) (keeps_zeroing site e i h)))
+    first_change site image sharing.Discard (write_refuses e) (zero site e) (λ i h. none_first (zero site e i h) (looks_no_more site i (zero site e i h) (keeps_zeroing site e i h)))
 first_discard site _ = tt
 
 first_resize : (site : SiteId) (c : Command) → LooksFirst (resize_plan site c)
 first_resize site (command.Resize image size) =
-    first_change site image true (resize_refuses size) (set_size site size) (λ i h. none_first (set_size site size i h) (looks_no_more site i (set_size site size i h) (keeps_set_size site size i h)))
+    first_change site image sharing.Alone (resize_refuses size) (set_size site size) (λ i h. none_first (set_size site size i h) (looks_no_more site i (set_size site size i h) (keeps_set_size site size i h)))
 first_resize site _ = tt
 
 first_rollback : (site : SiteId) (c : Command) → LooksFirst (rollback_plan site c)
 first_rollback site (command.SnapRollback image snap) =
-    first_change site image true (rollback_refuses snap) (roll_back_to site snap)
+    first_change site image sharing.Alone (rollback_refuses snap) (roll_back_to site snap)
     (λ i h. none_first (roll_back_to site snap i h) (looks_no_more site i (roll_back_to site snap i h) (keeps_rollback site snap i h (snap_named h.snaps snap))))
 first_rollback site _ = tt
 
@@ -205,7 +207,7 @@ no_look_dropped site image a = at_not_there NoLook no_more a
 
 first_close : (site : SiteId) (c : Command) → LooksFirst (close_plan site c)
 first_close site (command.Close image) = at_id LooksFirst ends (joining site) (λ i. no_look_dropped site i)
-first_close site (command.Quiesce image) = first_change site image true refuses_none quiesced (λ i h. tt)
+first_close site (command.Quiesce image) = first_change site image sharing.Alone refuses_none quiesced (λ i h. tt)
 first_close site (command.Resume image) = at_id LooksFirst ends resumed (λ i. tt)
 first_close site (command.Tell image bytes) = at_id LooksFirst ends (saying site bytes) (λ i. at_done NoLook no_more done tt)
 first_close site _ = tt

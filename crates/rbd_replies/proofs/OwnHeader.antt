@@ -3,6 +3,7 @@ use Rattle.std.proofs.Common.{◌≡◌, ℕ, ◌==◌, cond, Bool, true, false,
 use Rattle.std.specs.Prelude.{IsFalse}
 use Rattle.std.proofs.lemmas.Bool.{eqb-true}
 use Rattle.std.proofs.lemmas.Option.{none-some, same_Some}
+use Rattle.rbd_kinds.specs.declared.sharing.Sharing.{Sharing}
 use Rattle.rbd_commands.specs.declared.command.Command.{Command}
 use Rattle.rbd_commands.specs.declared.refusal.Refusal.{Refusal}
 use Rattle.rbd_kinds.specs.declared.header.HeaderView.{HeaderView}
@@ -65,11 +66,11 @@ own_line line House s o k before mine recalls = cc
 own_line line (AfterStop slot) s o k before mine recalls = cc
 
 -- the first step tells where its plan is at home
-home_of : (site home : SiteId) (name : List ℕ) (image : ℕ) (alone : Bool) (refuses : HeaderView → Option Refusal) (act : ℕ → HeaderView → Plan) (feds : List Fed) (steps : List Answered) (last : Plan)
-    → IsWalk Goto (change site name alone refuses act) feds (found home name image ∷ steps) last → site ≡ home
-home_of site home name image alone refuses act [] steps last (none, same) = absurd (cc)
-home_of site home name image alone refuses act (fed.Passed ∷ more) steps last walk = absurd walk
-home_of site home name image alone refuses act (fed.Answer a ∷ more) steps last (first, walk) = sym (head_site (found home name image) steps _ first.rest first.is)
+home_of : (site home : SiteId) (name : List ℕ) (image : ℕ) (sharing : Sharing) (refuses : HeaderView → Option Refusal) (act : ℕ → HeaderView → Plan) (feds : List Fed) (steps : List Answered) (last : Plan)
+    → IsWalk Goto (change site name sharing refuses act) feds (found home name image ∷ steps) last → site ≡ home
+home_of site home name image sharing refuses act [] steps last (none, same) = absurd (cc)
+home_of site home name image sharing refuses act (fed.Passed ∷ more) steps last walk = absurd walk
+home_of site home name image sharing refuses act (fed.Answer a ∷ more) steps last (first, walk) = sym (head_site (found home name image) steps _ first.rest first.is)
   where
     head_site : (one : Answered) (steps : List Answered) (other : Answered) (rest : List Answered) → one ∷ steps ≡ other ∷ rest → one.site ≡ other.site
     head_site one steps other rest same = let head : one ≡ other = cc in ap (λ (x : Answered). x.site) head
@@ -110,10 +111,10 @@ plain_both image (step ∷ one) two plain also = (plain.0, plain_both image one 
 -- ---- a command that is such a change
 
 pub record IsChangeBy (home : SiteId) (c : Command) (name : List ℕ) (image : ℕ) (first own : HeaderView) : Type 0 where
-  pub alone : Bool
+  pub sharing : Sharing
   pub refuses : HeaderView → Option Refusal
   pub act : SiteId → ℕ → HeaderView → Plan
-  pub stands : (seat : Seat) (s : Standing) → IsPlanFor seat c s → s ≡ without_labels (change seat.home name alone refuses (act seat.home))
+  pub stands : (seat : Seat) (s : Standing) → IsPlanFor seat c s → s ≡ without_labels (change seat.home name sharing refuses (act seat.home))
   pub may_wait : refuses first ≡ None
   pub may : refuses own ≡ None
   pub keeps : KeepsOwn home image (act home image own)
@@ -133,16 +134,16 @@ module _ (homes : ℕ → SiteId) (home : SiteId) (line : ℕ) (run : List Happe
   knows_at s o k before goes steps r are =
       let plan : IsPlanFor r.seat asked.command r.start = subst (λ c. IsPlanFor r.seat c r.start) (same_command before goes r.begun.asked r.begun.is) r.plan in
       let at_plan = changes.stands r.seat r.start plan in
-      let walk : IsWalk Goto (change r.seat.home name changes.alone changes.refuses (changes.act r.seat.home)) r.feds (way steps) (Ask s r.why o r.next) =
-      subst (λ (xs : List Answered). IsWalk Goto (change r.seat.home name changes.alone changes.refuses (changes.act r.seat.home)) r.feds xs (Ask s r.why o r.next)) are
+      let walk : IsWalk Goto (change r.seat.home name changes.sharing changes.refuses (changes.act r.seat.home)) r.feds (way steps) (Ask s r.why o r.next) =
+      subst (λ (xs : List Answered). IsWalk Goto (change r.seat.home name changes.sharing changes.refuses (changes.act r.seat.home)) r.feds xs (Ask s r.why o r.next)) are
       (subst (λ (st : Standing). IsWalk st.labels st.plan r.feds (steps_of line before) (Ask s r.why o r.next)) at_plan r.walk) in
-      let here = home_of r.seat.home home name image changes.alone changes.refuses (changes.act r.seat.home) r.feds _ _ walk in
-      let walk_here : IsWalk Goto (change home name changes.alone changes.refuses (changes.act home)) r.feds (way steps) (Ask s r.why o r.next) =
-      subst (λ site. IsWalk Goto (change site name changes.alone changes.refuses (changes.act site)) r.feds (way steps) (Ask s r.why o r.next)) here walk in
+      let here = home_of r.seat.home home name image changes.sharing changes.refuses (changes.act r.seat.home) r.feds _ _ walk in
+      let walk_here : IsWalk Goto (change home name changes.sharing changes.refuses (changes.act home)) r.feds (way steps) (Ask s r.why o r.next) =
+      subst (λ site. IsWalk Goto (change site name changes.sharing changes.refuses (changes.act site)) r.feds (way steps) (Ask s r.why o r.next)) here walk in
       ap (λ (x : Knowledge). known_header x home image)
       (r.known ∙ ap (λ (st : Standing). known_along st.labels nothing_known st.plan r.feds) at_plan
-      ∙ ap (λ site. known_along Goto nothing_known (change site name changes.alone changes.refuses (changes.act site)) r.feds) here)
-      ∙ change_knows home name changes.alone changes.refuses (changes.act home) r.feds image first own steps (Ask s r.why o r.next) changes.may_wait changes.may changes.keeps walk_here
+      ∙ ap (λ site. known_along Goto nothing_known (change site name changes.sharing changes.refuses (changes.act site)) r.feds) here)
+      ∙ change_knows home name changes.sharing changes.refuses (changes.act home) r.feds image first own steps (Ask s r.why o r.next) changes.may_wait changes.may changes.keeps walk_here
 
   -- ---- the header there
 

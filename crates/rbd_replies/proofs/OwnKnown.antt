@@ -1,6 +1,8 @@
 -- What a change knows at each of its operations behind its own look: the header that this told, with
 -- its own changes since.
 use Rattle.std.proofs.Common.{◌≡◌, ℕ, cond, Bool, true, false, List, [], ◌∷◌, map, Option, Some, None, option_map, refl, sym, ap, ◌∙◌, subst}
+use Rattle.rbd_kinds.specs.Sharing.{is_alone}
+use Rattle.rbd_kinds.specs.declared.sharing.Sharing.{Sharing}
 use Rattle.rbd_commands.specs.declared.refusal.Refusal.{Refusal}
 use Rattle.rbd_header.specs.Header.{with_size}
 use Rattle.rbd_kinds.specs.declared.answer.Answer.{Answer}
@@ -83,7 +85,7 @@ module _ (home : SiteId) (image : ℕ) where
   learned_there k s _ a here on = elim on [ ]
 
   waited_there : (k : Knowledge) (w : Wait) → StaysInLine w → known_header (passed k w) home image ≡ known_header k home image
-  waited_there k (wait.Join site i alone) stays = refl
+  waited_there k (wait.Join site i sharing) stays = refl
   waited_there k (wait.Turn number) stays = refl
   waited_there k (wait.Applied site i) stays = refl
   waited_there k _ stays = elim stays [ ]
@@ -158,31 +160,31 @@ own_is_told home image alone own =
     told true is at = ap (λ b. header_of_own (cond b (Some (record { site = home; image = image; alone = alone; header = Some own })) None)) is
     told false is at = absurd (cc)
 
-module _ (home : SiteId) (name : List ℕ) (alone : Bool) (refuses : HeaderView → Option Refusal) (act : ℕ → HeaderView → Plan) where
+module _ (home : SiteId) (name : List ℕ) (sharing : Sharing) (refuses : HeaderView → Option Refusal) (act : ℕ → HeaderView → Plan) where
   -- what is known behind its own look and these steps
   pub change_knows : (feds : List Fed) (image : ℕ) (first own : HeaderView) (steps : List Answered) (last : Plan) → refuses first ≡ None → refuses own ≡ None → KeepsOwn home image (act image own)
-      → IsWalk Goto (change home name alone refuses act) feds (found home name image ∷ looked_at home image first ∷ looked_at home image own ∷ steps) last
-      → known_header (known_along Goto nothing_known (change home name alone refuses act) feds) home image ≡ sized image steps (Some own)
+      → IsWalk Goto (change home name sharing refuses act) feds (found home name image ∷ looked_at home image first ∷ looked_at home image own ∷ steps) last
+      → known_header (known_along Goto nothing_known (change home name sharing refuses act) feds) home image ≡ sized image steps (Some own)
   change_knows feds image first own steps last may_wait may keeps walk =
       let look : Answered = looked_at home image first in
       let again : Answered = looked_at home image own in
-      let one = one_step home reason.Own (op.Directory (directory.Find name)) (on_id (joining home alone refuses act)) feds (found home name image) (look ∷ again ∷ steps) last walk in
-      let two = one_wait (wait.Join home image alone) (looking home refuses act image) one.more look (again ∷ steps) last one.walk in
+      let one = one_step home reason.Own (op.Directory (directory.Find name)) (on_id (joining home sharing refuses act)) feds (found home name image) (look ∷ again ∷ steps) last walk in
+      let two = one_wait (wait.Join home image sharing) (looking home refuses act image) one.more look (again ∷ steps) last one.walk in
       let three = one_step home reason.Own (op.Header image header.Get) (on_header (looked home refuses act image)) two.more look (again ∷ steps) last two.walk in
       let goes_on : IsWalk Goto (holding home refuses act image) three.more (again ∷ steps) last =
       subst (λ r. IsWalk Goto (settled Goto (unless r (holding home refuses act image))) three.more (again ∷ steps) last) may_wait three.walk in
       let four = one_wait (wait.Hold home image) (owning home refuses act image) three.more again steps last goes_on in
       let five = one_step home reason.Own (op.Header image header.Get) (on_header (owned refuses act image)) four.more again steps last four.walk in
       let acts : IsWalk Goto (settled Goto (act image own)) five.more steps last = subst (λ r. IsWalk Goto (settled Goto (unless r (act image own))) five.more steps last) may five.walk in
-      let k : Knowledge = learned (holding_known alone home image) home (op.Header image header.Get) (answer.Header own) in
-      let known : known_along Goto nothing_known (change home name alone refuses act) feds ≡ known_along Goto k (settled Goto (act image own)) five.more =
-      ap (known_along Goto nothing_known (change home name alone refuses act)) one.are
-      ∙ ap (known_along Goto nothing_known (joining home alone refuses act image)) two.are
-      ∙ ap (known_along Goto (passed nothing_known (wait.Join home image alone)) (looking home refuses act image)) three.are
-      ∙ ap (λ r. known_along Goto (passed nothing_known (wait.Join home image alone)) (settled Goto (unless r (holding home refuses act image))) three.more) may_wait
-      ∙ ap (known_along Goto (passed nothing_known (wait.Join home image alone)) (holding home refuses act image)) four.are
-      ∙ ap (known_along Goto (holding_known alone home image) (owning home refuses act image)) five.are
+      let k : Knowledge = learned (holding_known (is_alone sharing) home image) home (op.Header image header.Get) (answer.Header own) in
+      let known : known_along Goto nothing_known (change home name sharing refuses act) feds ≡ known_along Goto k (settled Goto (act image own)) five.more =
+      ap (known_along Goto nothing_known (change home name sharing refuses act)) one.are
+      ∙ ap (known_along Goto nothing_known (joining home sharing refuses act image)) two.are
+      ∙ ap (known_along Goto (passed nothing_known (wait.Join home image sharing)) (looking home refuses act image)) three.are
+      ∙ ap (λ r. known_along Goto (passed nothing_known (wait.Join home image sharing)) (settled Goto (unless r (holding home refuses act image))) three.more) may_wait
+      ∙ ap (known_along Goto (passed nothing_known (wait.Join home image sharing)) (holding home refuses act image)) four.are
+      ∙ ap (known_along Goto (holding_known (is_alone sharing) home image) (owning home refuses act image)) five.are
       ∙ ap (λ r. known_along Goto k (settled Goto (unless r (act image own))) five.more) may in
       ap (λ (x : Knowledge). known_header x home image) known
       ∙ known_behind home image five.more (settled Goto (act image own)) steps last k (subst (KeepsOwn home image) (sym (settled_goto (act image own))) keeps) acts
-      ∙ ap (sized image steps) (own_is_told home image alone own)
+      ∙ ap (sized image steps) (own_is_told home image (is_alone sharing) own)

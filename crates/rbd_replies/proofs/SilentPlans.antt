@@ -1,6 +1,7 @@
 -- The plan of a command that changes no image asks for nothing that has an effect, whatever it is
 -- answered; so nothing that its walks did had one.
 use Rattle.std.proofs.Common.{◌≡◌, ℕ, ◌==◌, true, List, [], ◌∷◌, ◌++◌, Option, Some, None, refl, sym, subst}
+use Rattle.rbd_kinds.specs.declared.sharing.Sharing.TheVariants as sharing
 use Rattle.rbd_admin.specs.Create.{IsCreatePlan}
 use Rattle.rbd_admin.specs.Listing.{counting, listing_plan, measuring, showing, show_header, show_used}
 use Rattle.rbd_admin.specs.Snap.{is_snap}
@@ -152,10 +153,10 @@ at_dropped site image answer.Done = (λ known a. refl, at_done AsksSilently ends
 at_dropped site image answer.Changed = at_unwatching site image
 at_dropped site image a = at_not_there AsksSilently ends a
 
-at_quiesce : (site : SiteId) (name : List ℕ) → AsksSilently (change site name true refuses_none quiesced)
+at_quiesce : (site : SiteId) (name : List ℕ) → AsksSilently (change site name sharing.Alone refuses_none quiesced)
 at_quiesce site name = (
   λ known a. refl,
-  at_id AsksSilently ends (change_joining site true refuses_none quiesced) (λ image. (
+  at_id AsksSilently ends (change_joining site sharing.Alone refuses_none quiesced) (λ image. (
     λ known a. refl,
     at_header AsksSilently ends (looked site refuses_none quiesced image) (λ h. (λ known a. refl, at_header AsksSilently ends (owned refuses_none quiesced image) (λ own. tt))),
   )),

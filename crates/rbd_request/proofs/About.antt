@@ -1,5 +1,6 @@
 -- The operations of requests are their own.
 use Rattle.std.proofs.Common.{ℕ, List, [], ◌∷◌, Bool, true, false, cond, eqb, Option, Some, None, refl}
+use Rattle.rbd_kinds.specs.declared.sharing.Sharing.TheVariants as sharing
 use Rattle.rbd_kinds.specs.declared.answer.Answer.{Answer}
 use Rattle.rbd_kinds.specs.declared.answer.Answer.TheVariants as answer
 use Rattle.rbd_kinds.specs.declared.header.HeaderView.{HeaderView}
@@ -35,9 +36,9 @@ module _ (site : SiteId) (name : List ℕ) where
 
   pub write_is_own : (at : ℕ) (bytes : List ℕ) (feds : List Fed) (steps : List Answered) (last : Plan) → IsWalk Goto (write site name at bytes) feds steps last → AreOwn site (look_up name) steps
   write_is_own at bytes feds steps last walk =
-      let way = joining site false (write_refuses (extent_at at bytes)) (put site at bytes) in
+      let way = joining site sharing.Shared (write_refuses (extent_at at bytes)) (put site at bytes) in
       are_own site (look_up name) (on_id way)
-      (by_on_id site way (λ image. of_joining site image false (write_refuses (extent_at at bytes)) (put site at bytes) (λ h. of_pieces (pieces_of h.layout (extent_at at bytes)) image h at bytes)))
+      (by_on_id site way (λ image. of_joining site image sharing.Shared (write_refuses (extent_at at bytes)) (put site at bytes) (λ h. of_pieces (pieces_of h.layout (extent_at at bytes)) image h at bytes)))
       feds steps last walk
 
   -- ---- reads

@@ -1,5 +1,6 @@
 -- How many operations requests have.
 use Rattle.std.proofs.Common.{◌≡◌, ℕ, ◌+◌, ◌≤◌, suc, List, [], ◌∷◌, length, Bool, true, false, cond, eqb, Option, Some, None, subst, ◌*◌, add-mul, arith}
+use Rattle.rbd_kinds.specs.declared.sharing.Sharing.TheVariants as sharing
 use Rattle.rbd_kinds.specs.declared.answer.Answer.TheVariants as answer
 use Rattle.rbd_kinds.specs.declared.header.HeaderView.{HeaderView}
 use Rattle.rbd_kinds.specs.declared.id.SiteId.{SiteId}
@@ -45,7 +46,7 @@ bounded_write_request site name at bytes most few =
     (λ image h.
     let n = length (pieces_of h.layout (extent_at at bytes)) in
     let less : n ≤ most = few h in
-    bounded_more (put site at bytes image h) (2 * n) (2 * most) (omega arith) (bounded_put site at bytes image h)) name false)
+    bounded_more (put site at bytes image h) (2 * n) (2 * most) (omega arith) (bounded_put site at bytes image h)) name sharing.Shared)
 
 -- ---- reads
 

@@ -1,5 +1,6 @@
 -- The labels of requests stand at operations.
 use Rattle.std.proofs.Common.{ℕ, List, [], ◌∷◌, replicate, Bool, true, false, cond, eqb, Option, Some, None}
+use Rattle.rbd_kinds.specs.declared.sharing.Sharing.TheVariants as sharing
 use Rattle.rbd_kinds.specs.declared.answer.Answer.{Answer}
 use Rattle.rbd_kinds.specs.declared.answer.Answer.TheVariants as answer
 use Rattle.rbd_commands.specs.declared.command.Command.{Command}
@@ -33,7 +34,7 @@ closed_pieces (p ∷ pieces) site image h at bytes =
 
 closed_write_request : (site : SiteId) (name : List ℕ) (at : ℕ) (bytes : List ℕ) → IsClosed Goto (write site name at bytes)
 closed_write_request site name at bytes =
-    closed_change Goto site name false (write_refuses (extent_at at bytes)) (put site at bytes) (λ image h. closed_pieces (pieces_of h.layout (extent_at at bytes)) site image h at bytes)
+    closed_change Goto site name sharing.Shared (write_refuses (extent_at at bytes)) (put site at bytes) (λ image h. closed_pieces (pieces_of h.layout (extent_at at bytes)) site image h at bytes)
 
 pub closed_write_plan : (site : SiteId) (c : Command) → IsClosed Goto (write_plan site c)
 closed_write_plan site (command.Write image at bytes) = closed_write_request site image at bytes

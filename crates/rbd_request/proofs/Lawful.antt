@@ -2,6 +2,7 @@
 use Rattle.std.proofs.Common.{◌≡◌, ℕ, ◌+◌, ◌-◌, List, [], ◌∷◌, length, map, replicate, All, Bool, true, false, cond, eqb, Option, Some, None, refl, ap, sym, subst, ◌∙◌, arith}
 use Rattle.std.proofs.lemmas.List.{length-append}
 use Rattle.std.proofs.lemmas.List.Elements.{All-head, All-tail}
+use Rattle.rbd_kinds.specs.declared.sharing.Sharing.TheVariants as sharing
 use Rattle.rbd_kinds.specs.declared.answer.Answer.{Answer}
 use Rattle.rbd_kinds.specs.declared.answer.Answer.TheVariants as answer
 use Rattle.rbd_commands.specs.declared.command.Command.{Command}
@@ -74,7 +75,7 @@ module _ (known_at : Label → Knowledge) where
 
   lawful_write_request : (site : SiteId) (name : List ℕ) (at : ℕ) (bytes : List ℕ) → IsLawful known_at nothing_known (write site name at bytes)
   lawful_write_request site name at bytes =
-      lawful_change known_at site name false (write_refuses (extent_at at bytes)) (put site at bytes) (λ image h form may.
+      lawful_change known_at site name sharing.Shared (write_refuses (extent_at at bytes)) (put site at bytes) (λ image h form may.
       lawful_pieces (pieces_of h.layout (extent_at at bytes)) (owning_known false None site image h) site image h at bytes (own_is_found false None site image h)
       (pieces_below h (extent_at at bytes) form.layout (within_size (extent_at at bytes) h.size (or_else_none (non_primary h.role) (out_of_range (extent_at at bytes) h.size) may))))
 

@@ -1,5 +1,6 @@
 -- What replies mean, command by command.
 use Rattle.std.proofs.Common.{◌≡◌, ◌⊎◌, inl, inr, ℕ, List, [], ◌∷◌, ◌++◌, replicate, Bool, true, false, cond, eqb, Option, Some, None, refl, ap, subst}
+use Rattle.rbd_kinds.specs.declared.sharing.Sharing.TheVariants as sharing
 use Rattle.rbd_kinds.specs.declared.answer.Answer.{Answer}
 use Rattle.rbd_kinds.specs.declared.answer.Answer.TheVariants as answer
 use Rattle.rbd_commands.specs.declared.command.Command.{Command}
@@ -81,7 +82,7 @@ write_means site name at bytes feds steps r given walk = go r (ends_by (write_re
   where
     is : IsRefusing (write_refuses (extent_at at bytes)) by_fence IsDone false (write site name at bytes)
     is =
-        refusing_change (write_refuses (extent_at at bytes)) by_fence IsDone site name false (put site at bytes) (λ image h may.
+        refusing_change (write_refuses (extent_at at bytes)) by_fence IsDone site name sharing.Shared (put site at bytes) (λ image h may.
         refusing_pieces (write_refuses (extent_at at bytes)) (pieces_of h.layout (extent_at at bytes)) false site image h at bytes)
 
     go : (r : Reply) → EndsBy (write_refuses (extent_at at bytes)) by_fence IsDone false steps r → IsWalk Goto (write site name at bytes) feds steps (Return r) → WriteMeans site name at bytes steps r

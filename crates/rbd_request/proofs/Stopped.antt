@@ -1,5 +1,6 @@
 -- What a write has done when it is refused, step by step.
-use Rattle.std.proofs.Common.{◌≡◌, ◌⊎◌, inl, inr, ℕ, List, [], ◌∷◌, ◌++◌, false, Option, Some, None, refl, ap, sym, subst, ◌∙◌}
+use Rattle.std.proofs.Common.{◌≡◌, ◌⊎◌, inl, inr, ℕ, List, [], ◌∷◌, ◌++◌, Option, Some, None, refl, ap, sym, subst, ◌∙◌}
+use Rattle.rbd_kinds.specs.declared.sharing.Sharing.TheVariants as sharing
 use Rattle.rbd_kinds.specs.declared.answer.Answer.{Answer}
 use Rattle.rbd_kinds.specs.declared.answer.Answer.TheVariants as answer
 use Rattle.rbd_kinds.specs.declared.header.HeaderView.{HeaderView}
@@ -191,9 +192,9 @@ module _ (x : Refusal) (site : SiteId) (name : List ℕ) (at : ℕ) (bytes : Lis
       }
 
   found_stops : (image : ℕ) (feds : List Fed) (rest steps : List Answered) → steps ≡ found site name image ∷ rest
-      → IsWalk Goto (joining site false refuses act image) feds rest Refused → Stops site name at bytes steps
+      → IsWalk Goto (joining site sharing.Shared refuses act image) feds rest Refused → Stops site name at bytes steps
   found_stops image feds rest steps are walk =
-      let j = awaited_to (reply.Refused x) (wait.Join site image false) (looking site refuses act image) feds rest walk in
+      let j = awaited_to (reply.Refused x) (wait.Join site image sharing.Shared) (looking site refuses act image) feds rest walk in
       let v = asked_to (reply.Refused x) site reason.Own (op.Header image header.Get) (on_header (looked site refuses act image)) j.more rest j.walk in
       go v.answer v.more v.rest (are ∙ ap (λ s. found site name image ∷ s) v.are) v.walk
     where
@@ -209,10 +210,10 @@ module _ (x : Refusal) (site : SiteId) (name : List ℕ) (at : ℕ) (bytes : Lis
 
   pub write_stops : (feds : List Fed) (steps : List Answered) → IsWalk Goto (write site name at bytes) feds steps Refused → Stops site name at bytes steps
   write_stops feds steps walk =
-      let w = asked_to (reply.Refused x) site reason.Own (look_up name) (on_id (joining site false refuses act)) feds steps walk in
+      let w = asked_to (reply.Refused x) site reason.Own (look_up name) (on_id (joining site sharing.Shared refuses act)) feds steps walk in
       go w.answer w.more w.rest w.are w.walk
     where
-      go : (a : Answer) (more : List Fed) (rest : List Answered) → steps ≡ asked (look_up name) a ∷ rest → IsWalk Goto (on_id (joining site false refuses act) a) more rest Refused → Stops site name at bytes steps
+      go : (a : Answer) (more : List Fed) (rest : List Answered) → steps ≡ asked (look_up name) a ∷ rest → IsWalk Goto (on_id (joining site sharing.Shared refuses act) a) more rest Refused → Stops site name at bytes steps
       go (answer.Id image) more rest are w = found_stops image more rest steps are w
       go a more rest are w = record {
         before = [];

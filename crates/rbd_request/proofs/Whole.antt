@@ -1,5 +1,6 @@
 -- A write that is done, step by step.
-use Rattle.std.proofs.Common.{◌≡◌, ℕ, List, [], ◌∷◌, false, ap, ◌∙◌}
+use Rattle.std.proofs.Common.{◌≡◌, ℕ, List, [], ◌∷◌, ap, ◌∙◌}
+use Rattle.rbd_kinds.specs.declared.sharing.Sharing.TheVariants as sharing
 use Rattle.rbd_kinds.specs.declared.header.HeaderView.{HeaderView}
 use Rattle.rbd_kinds.specs.declared.id.SiteId.{SiteId}
 use Rattle.rbd_kinds.specs.declared.journal.Event.TheVariants as event
@@ -48,7 +49,7 @@ written (p ∷ pieces) site image h at bytes feds steps walk =
 pub write_is_whole : (site : SiteId) (name : List ℕ) (at : ℕ) (bytes : List ℕ) (feds : List Fed) (steps : List Answered)
     → IsWalk Goto (write site name at bytes) feds steps (Return reply.Done) → WritesWhole site name at bytes steps
 write_is_whole site name at bytes feds steps walk =
-    let c = changed (Return reply.Done) tt site name false (write_refuses (extent_at at bytes)) (put site at bytes) feds steps walk in
+    let c = changed (Return reply.Done) tt site name sharing.Shared (write_refuses (extent_at at bytes)) (put site at bytes) feds steps walk in
     let pieces = pieces_of c.own.layout (extent_at at bytes) in
     let e = noted (Return reply.Done) tt site c.image (event.Write at bytes) (write_pieces site c.image c.own at bytes pieces (applied site c.image)) c.more c.rest c.walk in
     record {

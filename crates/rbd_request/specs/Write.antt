@@ -1,5 +1,6 @@
 -- `write` and `fill`: a change that goes beside other writes, object by object.
 use Rattle.std.specs.Prelude.{◌≡◌, ℕ, List, [], ◌∷◌, map, replicate, Bool, true, false, Option, Some, None}
+use Rattle.rbd_kinds.specs.declared.sharing.Sharing.TheVariants as sharing
 use Rattle.rbd_kinds.specs.declared.answer.Answer.{Answer}
 use Rattle.rbd_kinds.specs.declared.answer.Answer.TheVariants as answer
 use Rattle.rbd_commands.specs.declared.command.Command.{Command}
@@ -47,7 +48,7 @@ abbrev pub objects_of : List Piece → List ℕ
 objects_of = map (λ (p : Piece). p.object)
 
 abbrev pub write : SiteId → (name : List ℕ) → (at : ℕ) → (bytes : List ℕ) → Plan
-write site name at bytes = change site name false (write_refuses (extent_at at bytes)) (put site at bytes)
+write site name at bytes = change site name sharing.Shared (write_refuses (extent_at at bytes)) (put site at bytes)
 
 abbrev pub write_plan : SiteId → Command → Plan
 write_plan site (command.Write image at bytes) = write site image at bytes

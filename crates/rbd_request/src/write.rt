@@ -13,7 +13,7 @@ use crate::extent::Range;
 use crate::pieces::write_pieces;
 use rbd_kinds::{
     Answer, Bytes, Command, Event, Extent, Fed, FillLength, ImageAt, ImageId, Name, NoMemory, Op,
-    Reply, SiteId, TryClone, Turn, Want,
+    Reply, Sharing, SiteId, TryClone, Turn, Want,
 };
 use rbd_machine::{Approach, Machine, Progress, Reason, Refuses};
 use rbd_piece::WritePiece;
@@ -89,7 +89,7 @@ impl WriteRequest {
             site,
             at,
             bytes,
-            approach: Approach::new(site, name, false),
+            approach: Approach::new(site, name, Sharing::Shared),
             stage: Stage::Approaching,
             pieces: VecDeque::new(alloc),
         }

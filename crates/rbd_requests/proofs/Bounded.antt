@@ -1,6 +1,7 @@
 -- How many operations commands have.
 use Rattle.std.proofs.Common.{◌≡◌, ℕ, ◌+◌, ◌*◌, ◌≤◌, suc, List, [], length, replicate, Bool, true, false, Option, Some, None, refl, sym, ◌∙◌, subst, add-mul, arith}
 use Rattle.std.proofs.lemmas.List.{length-replicate}
+use Rattle.rbd_kinds.specs.declared.sharing.Sharing.TheVariants as sharing
 use Rattle.rbd_commands.specs.declared.command.Command.{Command}
 use Rattle.rbd_commands.specs.declared.command.Command.TheVariants as command
 use Rattle.rbd_kinds.specs.declared.header.HeaderView.{HeaderView}
@@ -52,7 +53,7 @@ write_asks_few site name from bytes most few =
     (asks_change site (write_refuses (extent_at from bytes)) (put site from bytes) (2 * most)
     (λ image h form.
     let pieces = few h form in
-    asks_within (put site from bytes image h) (2 * length (pieces_of h.layout (extent_at from bytes))) (2 * most) (omega arith) (bounded_put site from bytes image h)) name false)
+    asks_within (put site from bytes image h) (2 * length (pieces_of h.layout (extent_at from bytes))) (2 * most) (omega arith) (bounded_put site from bytes image h)) name sharing.Shared)
 
 write_plan_asks_few : (site : SiteId) (c : Command) (most : ℕ) → is_write c ≡ true → HasAtMost most (touched_by c) → AsksAtMost (write_plan site c) (bound_of c most)
 write_plan_asks_few site (command.Write image from bytes) most is few = write_asks_few site image from bytes most few
@@ -70,7 +71,7 @@ discard_asks_few site name e most few =
     (asks_change site (write_refuses e) (zero site e) (3 * most)
     (λ image h form.
     let pieces = few h form in
-    asks_within (zero site e image h) (3 * length (pieces_of h.layout e)) (3 * most) (omega arith) (bounded_own site e image h)) name false)
+    asks_within (zero site e image h) (3 * length (pieces_of h.layout e)) (3 * most) (omega arith) (bounded_own site e image h)) name sharing.Discard)
 
 discard_plan_asks_few : (site : SiteId) (c : Command) (most : ℕ) → is_discard c ≡ true → HasAtMost most (touched_by c) → AsksAtMost (discard_plan site c) (bound_of c most)
 discard_plan_asks_few site (command.Discard image at len) most is few = discard_asks_few site image (record { at = at; len = len }) most few

@@ -1,6 +1,7 @@
 -- How many operations a plan has, whatever they are answered of what they can give: step by step,
 -- and along a walk.
-use Rattle.std.proofs.Common.{◌≡◌, ℕ, ◌+◌, ◌*◌, ◌≤◌, zero, suc, List, [], ◌∷◌, length, Bool, Option, Some, None, ap, subst, add-mul, arith}
+use Rattle.std.proofs.Common.{◌≡◌, ℕ, ◌+◌, ◌*◌, ◌≤◌, zero, suc, List, [], ◌∷◌, length, Option, Some, None, ap, subst, add-mul, arith}
+use Rattle.rbd_kinds.specs.declared.sharing.Sharing.{Sharing}
 use Rattle.rbd_kinds.specs.declared.answer.Answer.{Answer}
 use Rattle.rbd_kinds.specs.declared.answer.Answer.TheVariants as answer
 use Rattle.rbd_kinds.specs.declared.header.HeaderView.{HeaderView}
@@ -44,8 +45,8 @@ module _ (site : SiteId) (refuses : HeaderView → Option Refusal) (act : ℕ �
   asks_looking : (image : ℕ) → AsksAtMost (looking site refuses act image) (suc (suc n))
   asks_looking image = asks_on_header image (looked site refuses act image) (suc n) (λ h form. asks_unless (refuses h) (holding site refuses act image) (suc n) (asks_owning image))
 
-  pub asks_change : (name : List ℕ) (alone : Bool) → AsksAtMost (change site name alone refuses act) (suc (suc (suc n)))
-  asks_change name alone = λ found can. asks_on_id (joining site alone refuses act) (suc (suc n)) asks_looking found
+  pub asks_change : (name : List ℕ) (sharing : Sharing) → AsksAtMost (change site name sharing refuses act) (suc (suc (suc n)))
+  asks_change name sharing = λ found can. asks_on_id (joining site sharing refuses act) (suc (suc n)) asks_looking found
 
 -- ---- a bound for all answers is one for those that can be given, and so is a larger one
 

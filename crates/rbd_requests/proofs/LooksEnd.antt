@@ -1,5 +1,6 @@
 -- Where a plan looks at a header, what isn't there and the fence end it: step by step.
-use Rattle.std.proofs.Common.{◌≡◌, ℕ, List, Bool, Option, Some, None, refl}
+use Rattle.std.proofs.Common.{◌≡◌, ℕ, List, Option, Some, None, refl}
+use Rattle.rbd_kinds.specs.declared.sharing.Sharing.{Sharing}
 use Rattle.rbd_commands.specs.declared.refusal.Refusal.{Refusal}
 use Rattle.rbd_kinds.specs.declared.answer.Answer.{Answer}
 use Rattle.rbd_kinds.specs.declared.answer.Answer.TheVariants as answer
@@ -56,11 +57,11 @@ pub at_bits : (next : List ℕ → Plan) → ((bits : List ℕ) → LooksEnd (ne
 at_bits next ends (answer.Bits bits) = ends bits
 at_bits next ends a = at_not_there a
 
-pub at_change : (site : SiteId) (name : List ℕ) (alone : Bool) (refuses : HeaderView → Option Refusal) (act : ℕ → HeaderView → Plan)
-    → ((image : ℕ) (h : HeaderView) → LooksEnd (act image h)) → LooksEnd (change site name alone refuses act)
-at_change site name alone refuses act acts = (
+pub at_change : (site : SiteId) (name : List ℕ) (sharing : Sharing) (refuses : HeaderView → Option Refusal) (act : ℕ → HeaderView → Plan)
+    → ((image : ℕ) (h : HeaderView) → LooksEnd (act image h)) → LooksEnd (change site name sharing refuses act)
+at_change site name sharing refuses act acts = (
   tt,
-  at_id (joining site alone refuses act) (λ image. (
+  at_id (joining site sharing refuses act) (λ image. (
     header_ends (looked site refuses act image),
     at_header (looked site refuses act image) (λ h.
         at_unless (refuses h) (holding site refuses act image) (

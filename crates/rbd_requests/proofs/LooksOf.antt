@@ -1,6 +1,7 @@
 -- Where the plan of a command looks at a header, what isn't there and the fence end it.
 use Rattle.std.proofs.Common.{◌⊎◌, inl, inr, ℕ, ◌+◌, List, [], ◌∷◌, replicate, Bool, true, false, cond, Option, Some, None, sym, subst}
 use Rattle.std.specs.Prelude.{nat_le}
+use Rattle.rbd_kinds.specs.declared.sharing.Sharing.TheVariants as sharing
 use Rattle.rbd_kinds.specs.declared.answer.Answer.{Answer}
 use Rattle.rbd_kinds.specs.declared.answer.Answer.TheVariants as answer
 use Rattle.rbd_commands.specs.declared.command.Command.{Command}
@@ -66,7 +67,7 @@ at_pieces (p ∷ pieces) site image h from bytes =
 
 at_write : (site : SiteId) (name : List ℕ) (from : ℕ) (bytes : List ℕ) → LooksEnd (write site name from bytes)
 at_write site name from bytes =
-    at_change site name false (write_refuses (extent_at from bytes)) (put site from bytes)
+    at_change site name sharing.Shared (write_refuses (extent_at from bytes)) (put site from bytes)
     (λ image h. at_pieces (pieces_of h.layout (extent_at from bytes)) site image h from bytes)
 
 pub at_write_plan : (site : SiteId) (c : Command) → LooksEnd (write_plan site c)
@@ -119,7 +120,7 @@ at_zeroed (p ∷ pieces) site image h = at_zero site image h p (zero_pieces site
 pub at_discard_plan : (site : SiteId) (c : Command) → LooksEnd (discard_plan site c)
 at_discard_plan site (command.Discard image at len) =
     let e : Extent = record { at = at; len = len } in
-    at_change site image false (write_refuses e) (zero site e) (λ i h. at_zeroed (pieces_of h.layout e) site i h)
+    at_change site image sharing.Discard (write_refuses e) (zero site e) (λ i h. at_zeroed (pieces_of h.layout e) site i h)
 at_discard_plan site _ = tt
 
 -- ---- create
@@ -200,15 +201,15 @@ at_removal site snap image None = tt
 at_removal site snap image (Some listed) = (tt, at_done (unmapping site image listed.id) (tt, at_gone (applied site image) tt))
 
 pub at_snap_plan : (site : SiteId) (c : Command) → LooksEnd (snap_plan site c)
-at_snap_plan site (command.SnapCreate image snap) = at_change site image true (create_refuses snap) (take site snap) (at_take site snap)
-at_snap_plan site (command.SnapRemove image snap) = at_change site image true (remove_refuses snap) (remove site snap) (λ i h. at_removal site snap i (snap_named h.snaps snap))
+at_snap_plan site (command.SnapCreate image snap) = at_change site image sharing.Alone (create_refuses snap) (take site snap) (at_take site snap)
+at_snap_plan site (command.SnapRemove image snap) = at_change site image sharing.Alone (remove_refuses snap) (remove site snap) (λ i h. at_removal site snap i (snap_named h.snaps snap))
 at_snap_plan site _ = tt
 
 -- ---- resize
 
 pub at_resize_plan : (site : SiteId) (c : Command) → LooksEnd (resize_plan site c)
 at_resize_plan site (command.Resize image size) =
-    at_change site image true (resize_refuses size) (set_size site size) (λ i h. at_resize site i h size (object_count h.layout size) (applied site i) tt)
+    at_change site image sharing.Alone (resize_refuses size) (set_size site size) (λ i h. at_resize site i h size (object_count h.layout size) (applied site i) tt)
 at_resize_plan site _ = tt
 
 -- ---- snap rollback
@@ -236,7 +237,7 @@ at_listed site snap image h (Some listed) =
 
 pub at_rollback_plan : (site : SiteId) (c : Command) → LooksEnd (rollback_plan site c)
 at_rollback_plan site (command.SnapRollback image snap) =
-    at_change site image true (rollback_refuses snap) (roll_back_to site snap) (λ i h. at_listed site snap i h (snap_named h.snaps snap))
+    at_change site image sharing.Alone (rollback_refuses snap) (roll_back_to site snap) (λ i h. at_listed site snap i h (snap_named h.snaps snap))
 at_rollback_plan site _ = tt
 
 -- ---- rm
@@ -293,7 +294,7 @@ at_dropped site image a = at_not_there a
 
 pub at_close_plan : (site : SiteId) (c : Command) → LooksEnd (close_plan site c)
 at_close_plan site (command.Close image) = (tt, at_id (joining site) (λ i. (tt, at_dropped site i)))
-at_close_plan site (command.Quiesce image) = at_change site image true refuses_none quiesced (λ i h. tt)
+at_close_plan site (command.Quiesce image) = at_change site image sharing.Alone refuses_none quiesced (λ i h. tt)
 at_close_plan site (command.Resume image) = (tt, at_id resumed (λ i. tt))
 at_close_plan site (command.Tell image bytes) = (tt, at_id (saying site bytes) (λ i. (tt, at_done done tt)))
 at_close_plan site _ = tt

@@ -1,6 +1,8 @@
 -- How many operations a change has by the headers that it is told: step by step, and along a walk.
-use Rattle.std.proofs.Common.{◌≡◌, ◌⊎◌, inl, inr, ℕ, ◌+◌, ◌*◌, ◌<◌, ◌≤◌, zero, suc, List, [], ◌∷◌, length, Bool, true, Option, Some, None, ap, sym, subst, arith}
+use Rattle.std.proofs.Common.{◌≡◌, ◌⊎◌, inl, inr, ℕ, ◌+◌, ◌*◌, ◌<◌, ◌≤◌, zero, suc, List, [], ◌∷◌, length, Option, Some, None, ap, sym, subst, arith}
 use Rattle.std.proofs.lemmas.Bool.{cases_lt}
+use Rattle.rbd_kinds.specs.declared.sharing.Sharing.TheVariants as sharing
+use Rattle.rbd_kinds.specs.declared.sharing.Sharing.{Sharing}
 use Rattle.rbd_commands.specs.declared.refusal.Refusal.{Refusal}
 use Rattle.rbd_kinds.specs.declared.answer.Answer.{Answer}
 use Rattle.rbd_kinds.specs.declared.answer.Answer.TheVariants as answer
@@ -68,8 +70,8 @@ module _ (holds : HeaderView → Type 0) where
     told_looking : (image : ℕ) → AsksIfTold holds (looking site refuses act image) (suc (suc n))
     told_looking image = told_header (looked site refuses act image) (suc n) (λ h told. told_unless (refuses h) (holding site refuses act image) (suc n) (told_owning image))
 
-    told_change : (name : List ℕ) (alone : Bool) → AsksIfTold holds (change site name alone refuses act) (suc (suc (suc n)))
-    told_change name alone = λ found told. told_id (joining site alone refuses act) (suc (suc n)) told_looking found
+    told_change : (name : List ℕ) (sharing : Sharing) → AsksIfTold holds (change site name sharing refuses act) (suc (suc (suc n)))
+    told_change name sharing = λ found told. told_id (joining site sharing refuses act) (suc (suc n)) told_looking found
 
   -- ---- along a walk of a request without labels
 
@@ -107,12 +109,12 @@ module _ (many : HeaderView → ℕ) where
 
   change_within : (site : SiteId) (name : List ℕ) (refuses : HeaderView → Option Refusal) (act : ℕ → HeaderView → Plan)
       → ((image : ℕ) (h : HeaderView) (most : ℕ) → many h ≤ most → IsBounded (act image h) (2 + most))
-      → (feds : List Fed) (steps : List Answered) (last : Plan) → IsWalk Goto (change site name true refuses act) feds steps last → length steps ≤ 5 + most_told many steps
+      → (feds : List Fed) (steps : List Answered) (last : Plan) → IsWalk Goto (change site name sharing.Alone refuses act) feds steps last → length steps ≤ 5 + most_told many steps
   change_within site name refuses act acts feds steps last walk =
       let most = most_told many steps in
       let five : suc (suc (suc (2 + most))) ≡ 5 + most = omega arith in
-      told_walk (IsWithin most) feds (change site name true refuses act) (5 + most) steps last
-      (subst (AsksIfTold (IsWithin most) (change site name true refuses act)) five (told_change (IsWithin most) site refuses act (2 + most) (λ image h less. acts image h most less) name true))
+      told_walk (IsWithin most) feds (change site name sharing.Alone refuses act) (5 + most) steps last
+      (subst (AsksIfTold (IsWithin most) (change site name sharing.Alone refuses act)) five (told_change (IsWithin most) site refuses act (2 + most) (λ image h less. acts image h most less) name sharing.Alone))
       (all_within most steps (omega arith)) walk
 
 -- ---- resize

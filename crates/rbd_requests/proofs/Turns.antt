@@ -2,6 +2,7 @@
 use Rattle.std.proofs.Common.{◌≡◌, ◌⊎◌, inl, inr, ℕ, List, replicate, true, Option, Some, refl, sym, subst, ap}
 use Rattle.std.specs.Prelude.{unwrap_or}
 use Rattle.std.proofs.lemmas.List.{length-replicate}
+use Rattle.rbd_kinds.specs.declared.sharing.Sharing.TheVariants as sharing
 use Rattle.rbd_commands.specs.declared.command.Command.{Command}
 use Rattle.rbd_commands.specs.declared.command.Command.TheVariants as command
 use Rattle.rbd_kinds.specs.declared.id.SiteId.{SiteId}
@@ -27,6 +28,8 @@ write_takes_turns site name from bytes = record {
   name = name;
   refuses = write_refuses (extent_at from bytes);
   act = put site from bytes;
+  sharing = sharing.Shared;
+  shared = refl;
   is = refl;
   turns = λ image h may.
       subst (AreTurns (put site from bytes image h)) (sym (objects_are (extent_at from bytes) h may))
@@ -52,6 +55,8 @@ discard_takes_turns site name e = record {
   name = name;
   refuses = write_refuses e;
   act = zero site e;
+  sharing = sharing.Discard;
+  shared = refl;
   is = refl;
   turns = λ image h may. subst (AreTurns (zero site e image h)) (sym (objects_are e h may)) (of_discard.turns_of_pieces (pieces_of h.layout e) site image h);
 }

@@ -2,6 +2,7 @@
 -- They define nothing.
 use Rattle.std.proofs.Common.{◌≡◌, ℕ, ◌+◌, List, [], ◌∷◌, Bool, true, false, cond, Option, Some, None, refl, ap, sym, subst}
 use Rattle.std.specs.Prelude.{◌&&◌}
+use Rattle.rbd_kinds.specs.declared.sharing.Sharing.TheVariants as sharing
 use Rattle.rbd_commands.specs.declared.command.Command.{Command}
 use Rattle.rbd_commands.specs.declared.command.Command.TheVariants as command
 use Rattle.rbd_commands.specs.declared.refusal.Refusal.TheVariants as refusal
@@ -75,9 +76,9 @@ module _ (site : SiteId) (snap : List ℕ) (image : ℕ) (h : HeaderView) where
 
 pub orderly_snap : (site : SiteId) (c : Command) → IsOrderly None starts true beginning (snap_plan site c)
 orderly_snap site (command.SnapCreate image snap) =
-    orderly_change None starts site image true (create_refuses snap) (take site snap) (λ i h form may. orderly_take site snap i h)
+    orderly_change None starts site image sharing.Alone (create_refuses snap) (take site snap) (λ i h form may. orderly_take site snap i h)
 orderly_snap site (command.SnapRemove image snap) =
-    orderly_change None starts site image true (remove_refuses snap) (remove site snap)
+    orderly_change None starts site image sharing.Alone (remove_refuses snap) (remove site snap)
     (λ i h form may. orderly_remove_listed site snap i h (snap_named h.snaps snap))
 orderly_snap site _ = tt
 
@@ -91,7 +92,7 @@ orderly_set_size site to image h = (
 
 pub orderly_size : (site : SiteId) (c : Command) → IsOrderly None starts true beginning (resize_plan site c)
 orderly_size site (command.Resize image size) =
-    orderly_change None starts site image true (resize_refuses size) (set_size site size) (λ i h form may. orderly_set_size site size i h)
+    orderly_change None starts site image sharing.Alone (resize_refuses size) (set_size site size) (λ i h form may. orderly_set_size site size i h)
 orderly_size site _ = tt
 
 -- ---- snap rollback
@@ -115,7 +116,7 @@ module _ (site : SiteId) (image : ℕ) where
 
 pub orderly_rollback : (site : SiteId) (c : Command) → IsOrderly None starts true beginning (rollback_plan site c)
 orderly_rollback site (command.SnapRollback image snap) =
-    orderly_change None starts site image true (rollback_refuses snap) (roll_back_to site snap) (λ i h form may. orderly_listed site i snap h (snap_named h.snaps snap))
+    orderly_change None starts site image sharing.Alone (rollback_refuses snap) (roll_back_to site snap) (λ i h form may. orderly_listed site i snap h (snap_named h.snaps snap))
 orderly_rollback site _ = tt
 
 -- ---- rm

@@ -2,6 +2,7 @@
 -- define nothing.
 use Rattle.std.proofs.Common.{◌≡◌, ℕ, List, [], ◌∷◌, replicate, Bool, true, false, cond, Option, Some, None, refl, ap, sym, subst}
 use Rattle.std.proofs.lemmas.List.{length-replicate}
+use Rattle.rbd_kinds.specs.declared.sharing.Sharing.TheVariants as sharing
 use Rattle.rbd_commands.specs.declared.command.Command.{Command}
 use Rattle.rbd_commands.specs.declared.command.Command.TheVariants as command
 use Rattle.rbd_commands.specs.declared.refusal.Refusal.TheVariants as refusal
@@ -72,7 +73,7 @@ orderly_put site from bytes image h may = (
 
 orderly_write : (site : SiteId) (name : List ℕ) (from : ℕ) (bytes : List ℕ) → IsOrderly (Some (extent_at from bytes)) starts true beginning (write site name from bytes)
 orderly_write site name from bytes =
-    orderly_change (Some (extent_at from bytes)) starts site name false (write_refuses (extent_at from bytes)) (put site from bytes)
+    orderly_change (Some (extent_at from bytes)) starts site name sharing.Shared (write_refuses (extent_at from bytes)) (put site from bytes)
     (λ image h form may. orderly_put site from bytes image h may)
 
 pub orderly_write_plan : (site : SiteId) (c : Command) → is_write c ≡ true → IsOrderly (extent_of c) starts true beginning (write_plan site c)
@@ -99,7 +100,7 @@ orderly_zeros e (piece ∷ pieces) site image h fresh p turn objects in_line are
 
 orderly_discard : (site : SiteId) (name : List ℕ) (e : Extent) → IsOrderly (Some e) starts true beginning (discard site name e)
 orderly_discard site name e =
-    orderly_change (Some e) starts site name false (write_refuses e) (zero site e) (λ image h form may. (
+    orderly_change (Some e) starts site name sharing.Discard (write_refuses e) (zero site e) (λ image h form may. (
       at_itself site image,
       orderly_zeros (Some e) (pieces_of h.layout e) site image h true (place_at false site image stage.Past) None (objects_within h e) (at_itself site image) (objects_are e h may),
     ))

@@ -1,6 +1,8 @@
 -- Which bytes of an image a command is about, and what follows for its turns and for how many
 -- operations it has.
 use Rattle.std.specs.Prelude.{◌≡◌, ℕ, zero, suc, ◌+◌, ◌*◌, ◌≤◌, max, List, [], ◌∷◌, length, Bool, true, false, Option, Some, None}
+use Rattle.rbd_kinds.specs.declared.sharing.Sharing.{Sharing}
+use Rattle.rbd_kinds.specs.Sharing.{is_alone}
 use Rattle.rbd_kinds.specs.declared.answer.Answer.{Answer}
 use Rattle.rbd_kinds.specs.declared.answer.Answer.TheVariants as answer
 use Rattle.rbd_commands.specs.declared.command.Command.{Command}
@@ -125,5 +127,7 @@ pub record TakesTurns (e : Extent) (plan : Plan) : Type 0 where
   pub name : List ℕ
   pub refuses : HeaderView → Option Refusal
   pub act : ℕ → HeaderView → Plan
-  pub is : plan ≡ change site name false refuses act
+  pub sharing : Sharing
+  pub shared : is_alone sharing ≡ false
+  pub is : plan ≡ change site name sharing refuses act
   pub turns : (image : ℕ) (h : HeaderView) → refuses h ≡ None → AreTurns (act image h) (objects_within h e)

@@ -1,7 +1,8 @@
 -- How many operations a resize and a rollback have.
-use Rattle.std.proofs.Common.{◌≡◌, ◌⊎◌, inl, inr, ℕ, suc, ◌+◌, ◌*◌, ◌≤◌, ◌<◌, true, List, [], ◌∷◌, ◌++◌, length, Option, Some, None, refl, ap, subst, arith}
+use Rattle.std.proofs.Common.{◌≡◌, ◌⊎◌, inl, inr, ℕ, suc, ◌+◌, ◌*◌, ◌≤◌, ◌<◌, List, [], ◌∷◌, ◌++◌, length, Option, Some, None, refl, ap, subst, arith}
 use Rattle.std.proofs.lemmas.Bool.{cases_lt}
 use Rattle.std.proofs.lemmas.List.{length-append}
+use Rattle.rbd_kinds.specs.declared.sharing.Sharing.TheVariants as sharing
 use Rattle.rbd_kinds.specs.declared.header.HeaderView.{HeaderView}
 use Rattle.rbd_kinds.specs.declared.header.SnapView.{SnapView}
 use Rattle.rbd_kinds.specs.declared.id.SiteId.{SiteId}
@@ -104,8 +105,8 @@ walked_few plan n feds steps last b walk =
     omega (arith, few)
 
 change_few : (r : Reply) (site : SiteId) (name : List ℕ) (refuses : HeaderView → Option Refusal) (act : ℕ → HeaderView → Plan) (holds : HeaderView → Type 0) (n : ℕ) (feds : List Fed) (steps : List Answered)
-    → ((image : ℕ) (h : HeaderView) → holds h → IsBounded (act image h) n) → HoldsOfTold holds steps → IsWalk Goto (change site name true refuses act) feds steps (Return r) → length steps ≤ n + 3
-change_few r site name refuses act holds n feds steps few told walk = go (change_ends r site name true refuses act steps feds walk)
+    → ((image : ℕ) (h : HeaderView) → holds h → IsBounded (act image h) n) → HoldsOfTold holds steps → IsWalk Goto (change site name sharing.Alone refuses act) feds steps (Return r) → length steps ≤ n + 3
+change_few r site name refuses act holds n feds steps few told walk = go (change_ends r site name sharing.Alone refuses act steps feds walk)
   where
     go : Changed (Return r) site name refuses act steps ⊎ IsEarly refuses steps r → length steps ≤ n + 3
     go (inl c) =

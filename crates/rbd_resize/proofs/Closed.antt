@@ -1,7 +1,8 @@
 -- A resize and a rollback go to no label of their own.
-use Rattle.std.proofs.Common.{ℕ, true, List, [], ◌∷◌, Option, Some, None}
+use Rattle.std.proofs.Common.{ℕ, List, [], ◌∷◌, Option, Some, None}
 use Rattle.rbd_commands.specs.declared.command.Command.{Command}
 use Rattle.rbd_commands.specs.declared.command.Command.TheVariants as command
+use Rattle.rbd_kinds.specs.declared.sharing.Sharing.TheVariants as sharing
 use Rattle.rbd_kinds.specs.declared.header.HeaderView.{HeaderView}
 use Rattle.rbd_kinds.specs.declared.header.SnapView.{SnapView}
 use Rattle.rbd_kinds.specs.declared.id.SiteId.{SiteId}
@@ -41,10 +42,10 @@ closed_listed site snap image h (Some listed) = closed_roll_back Goto site image
 
 pub closed_resize_plan : (site : SiteId) (c : Command) → IsClosed Goto (resize_plan site c)
 closed_resize_plan site (command.Resize image to) =
-    closed_change Goto site image true (resize_refuses to) (set_size site to) (λ found h. closed_resize Goto site found h to (object_count h.layout to) (applied site found) tt)
+    closed_change Goto site image sharing.Alone (resize_refuses to) (set_size site to) (λ found h. closed_resize Goto site found h to (object_count h.layout to) (applied site found) tt)
 closed_resize_plan site _ = tt
 
 pub closed_rollback_plan : (site : SiteId) (c : Command) → IsClosed Goto (rollback_plan site c)
 closed_rollback_plan site (command.SnapRollback image snap) =
-    closed_change Goto site image true (rollback_refuses snap) (roll_back_to site snap) (λ found h. closed_listed site snap found h (snap_named h.snaps snap))
+    closed_change Goto site image sharing.Alone (rollback_refuses snap) (roll_back_to site snap) (λ found h. closed_listed site snap found h (snap_named h.snaps snap))
 closed_rollback_plan site _ = tt

@@ -1,5 +1,6 @@
 -- How a change ends: on its way, or by what it does at its own look.
-use Rattle.std.proofs.Common.{◌≡◌, ◌⊎◌, inl, inr, ℕ, ◌≤◌, List, [], ◌∷◌, ◌++◌, length, Bool, Option, Some, None, refl, ap, ◌∙◌, arith}
+use Rattle.std.proofs.Common.{◌≡◌, ◌⊎◌, inl, inr, ℕ, ◌≤◌, List, [], ◌∷◌, ◌++◌, length, Option, Some, None, refl, ap, ◌∙◌, arith}
+use Rattle.rbd_kinds.specs.declared.sharing.Sharing.{Sharing}
 use Rattle.rbd_kinds.specs.declared.answer.Answer.{Answer}
 use Rattle.rbd_kinds.specs.declared.answer.Answer.TheVariants as answer
 use Rattle.rbd_kinds.specs.declared.header.HeaderView.{HeaderView}
@@ -33,7 +34,7 @@ pub record IsEarly (refuses : HeaderView → Option Refusal) (steps : List Answe
   pub refused : IsGiven last.op last.answer → refusal_by refuses last.op last.answer ≡ Some why
   pub few : length before ≤ 2
 
-module _ (r : Reply) (site : SiteId) (name : List ℕ) (alone : Bool) (refuses : HeaderView → Option Refusal) (act : ℕ → HeaderView → Plan) (steps : List Answered) where
+module _ (r : Reply) (site : SiteId) (name : List ℕ) (sharing : Sharing) (refuses : HeaderView → Option Refusal) (act : ℕ → HeaderView → Plan) (steps : List Answered) where
   abbrev Left : Type 0
   Left = Changed (Return r) site name refuses act steps ⊎ IsEarly refuses steps r
 
@@ -88,9 +89,9 @@ module _ (r : Reply) (site : SiteId) (name : List ℕ) (alone : Bool) (refuses :
           stop refusal.NoImage (found site name image ∷ looked_at site image first ∷ []) (asked (op.Header image header.Get) answer.Absent) more last are w looks (refl, (may_wait, tt)) (λ given. refl) (omega arith)
       go _ more last are w = stop refusal.NoImage (found site name image ∷ looked_at site image first ∷ []) _ more last are w looks (refl, (may_wait, tt)) (λ given. let no = given.can.word in cc) (omega arith)
 
-  at_found : (image : ℕ) (feds : List Fed) (rest : List Answered) → steps ≡ found site name image ∷ rest → IsWalk Goto (joining site alone refuses act image) feds rest (Return r) → Left
+  at_found : (image : ℕ) (feds : List Fed) (rest : List Answered) → steps ≡ found site name image ∷ rest → IsWalk Goto (joining site sharing refuses act image) feds rest (Return r) → Left
   at_found image feds rest are walk =
-      let j = awaited_to r (wait.Join site image alone) (looking site refuses act image) feds rest walk in
+      let j = awaited_to r (wait.Join site image sharing) (looking site refuses act image) feds rest walk in
       let v = asked_to r site reason.Own (op.Header image header.Get) (on_header (looked site refuses act image)) j.more rest j.walk in
       go v.answer v.more v.rest (are ∙ ap (λ s. found site name image ∷ s) v.are) v.walk
     where
@@ -101,12 +102,12 @@ module _ (r : Reply) (site : SiteId) (name : List ℕ) (alone : Bool) (refuses :
       go answer.Absent more last are w = stop refusal.NoImage (found site name image ∷ []) (asked (op.Header image header.Get) answer.Absent) more last are w (refl, tt) (refl, tt) (λ given. refl) (omega arith)
       go _ more last are w = stop refusal.NoImage (found site name image ∷ []) _ more last are w (refl, tt) (refl, tt) (λ given. let no = given.can.word in cc) (omega arith)
 
-  pub change_ends : (feds : List Fed) → IsWalk Goto (change site name alone refuses act) feds steps (Return r) → Left
+  pub change_ends : (feds : List Fed) → IsWalk Goto (change site name sharing refuses act) feds steps (Return r) → Left
   change_ends feds walk =
-      let w = asked_to r site reason.Own (look_up name) (on_id (joining site alone refuses act)) feds steps walk in
+      let w = asked_to r site reason.Own (look_up name) (on_id (joining site sharing refuses act)) feds steps walk in
       go w.answer w.more w.rest w.are w.walk
     where
-      go : (a : Answer) (more : List Fed) (rest : List Answered) → steps ≡ asked (look_up name) a ∷ rest → IsWalk Goto (on_id (joining site alone refuses act) a) more rest (Return r) → Left
+      go : (a : Answer) (more : List Fed) (rest : List Answered) → steps ≡ asked (look_up name) a ∷ rest → IsWalk Goto (on_id (joining site sharing refuses act) a) more rest (Return r) → Left
       go (answer.Id image) more rest are w = at_found image more rest are w
       go answer.Fenced more rest are w = stop refusal.Fenced [] (asked (look_up name) answer.Fenced) more rest are w tt tt (λ given. refl) (omega arith)
       go answer.Absent more rest are w = stop refusal.NoImage [] (asked (look_up name) answer.Absent) more rest are w tt tt (λ given. refl) (omega arith)

@@ -4,6 +4,7 @@ use Rattle.std.proofs.lemmas.List.{length-replicate}
 use Rattle.std.proofs.lemmas.List.Elements.{All-head, All-tail}
 use Rattle.rbd_commands.specs.declared.command.Command.{Command}
 use Rattle.rbd_commands.specs.declared.command.Command.TheVariants as command
+use Rattle.rbd_kinds.specs.declared.sharing.Sharing.TheVariants as sharing
 use Rattle.rbd_kinds.specs.declared.answer.Answer.{Answer}
 use Rattle.rbd_kinds.specs.declared.answer.Answer.TheVariants as answer
 use Rattle.rbd_kinds.specs.declared.header.HeaderView.{HeaderView}
@@ -101,12 +102,12 @@ module _ (at : Label → Knowledge) (site : SiteId) where
   lawful_listed snap image h (Some listed) is form = lawful_roll_back image h listed form (named_in_form h.layout h.snaps snap listed form.snaps is)
 
   lawful_resize_plan : (c : Command) → IsLawful at nothing_known (resize_plan site c)
-  lawful_resize_plan (command.Resize image size) = lawful_change at site image true (resize_refuses size) (set_size site size) (λ i h form may. lawful_set_size size i h form may)
+  lawful_resize_plan (command.Resize image size) = lawful_change at site image sharing.Alone (resize_refuses size) (set_size site size) (λ i h form may. lawful_set_size size i h form may)
   lawful_resize_plan _ = tt
 
   lawful_rollback_plan : (c : Command) → IsLawful at nothing_known (rollback_plan site c)
   lawful_rollback_plan (command.SnapRollback image snap) =
-      lawful_change at site image true (rollback_refuses snap) (roll_back_to site snap) (λ i h form may. lawful_listed snap i h (snap_named h.snaps snap) refl form)
+      lawful_change at site image sharing.Alone (rollback_refuses snap) (roll_back_to site snap) (λ i h form may. lawful_listed snap i h (snap_named h.snaps snap) refl form)
   lawful_rollback_plan _ = tt
 
 pub lawful_resize_request : (site : SiteId) (c : Command) → IsLawfulRequest (without_labels (resize_plan site c))

@@ -1,5 +1,6 @@
 -- What the replies of a resize and of a rollback mean.
-use Rattle.std.proofs.Common.{◌≡◌, ◌⊎◌, inl, inr, ℕ, true, false, List, [], ◌∷◌, ◌++◌, Option, Some, None, refl, ap, sym, subst, ◌∙◌}
+use Rattle.std.proofs.Common.{◌≡◌, ◌⊎◌, inl, inr, ℕ, false, List, [], ◌∷◌, ◌++◌, Option, Some, None, refl, ap, sym, subst, ◌∙◌}
+use Rattle.rbd_kinds.specs.declared.sharing.Sharing.TheVariants as sharing
 use Rattle.rbd_kinds.specs.declared.header.HeaderView.{HeaderView}
 use Rattle.rbd_kinds.specs.declared.header.SnapView.{SnapView}
 use Rattle.rbd_kinds.specs.declared.id.SiteId.{SiteId}
@@ -114,8 +115,8 @@ module _ (site : SiteId) (name : List ℕ) (refuses : HeaderView → Option Refu
     given_rest : (image : ℕ) (first own : HeaderView) (rest : List Answered) → steps ≡ found site name image ∷ looked_at site image first ∷ looked_at site image own ∷ rest → AreGiven rest
     given_rest image first own rest are = let there = subst AreGiven are given in there.1.1.1
 
-    pub refused_so : (x : Refusal) → IsWalk Goto (change site name true refuses act) feds steps (Return (reply.Refused x)) → IsRefusedSo steps x
-    refused_so x walk = go (change_ends (reply.Refused x) site name true refuses act steps feds walk)
+    pub refused_so : (x : Refusal) → IsWalk Goto (change site name sharing.Alone refuses act) feds steps (Return (reply.Refused x)) → IsRefusedSo steps x
+    refused_so x walk = go (change_ends (reply.Refused x) site name sharing.Alone refuses act steps feds walk)
       where
         go : Changed (Return (reply.Refused x)) site name refuses act steps ⊎ IsEarly refuses steps (reply.Refused x) → IsRefusedSo steps x
         go (inl c) =
@@ -127,8 +128,8 @@ module _ (site : SiteId) (name : List ℕ) (refuses : HeaderView → Option Refu
         go (inr e) = early_so steps x given e
 
     -- no other reply comes
-    pub done_or_refused : (r : Reply) → IsWalk Goto (change site name true refuses act) feds steps (Return r) → IsDone r ⊎ ((x : Refusal) × (r ≡ reply.Refused x))
-    done_or_refused r walk = go (change_ends r site name true refuses act steps feds walk)
+    pub done_or_refused : (r : Reply) → IsWalk Goto (change site name sharing.Alone refuses act) feds steps (Return r) → IsDone r ⊎ ((x : Refusal) × (r ≡ reply.Refused x))
+    done_or_refused r walk = go (change_ends r site name sharing.Alone refuses act steps feds walk)
       where
         at_end : (rest : List Answered) → EndsBy refuses by_fence IsDone false rest r → IsDone r ⊎ ((x : Refusal) × (r ≡ reply.Refused x))
         at_end rest (inl granted) = inl granted

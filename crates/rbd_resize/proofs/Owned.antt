@@ -1,5 +1,6 @@
 -- The operations of a resize and of a rollback are their own.
-use Rattle.std.proofs.Common.{◌≡◌, ℕ, true, List, Option, Some, None, refl}
+use Rattle.std.proofs.Common.{◌≡◌, ℕ, List, Option, Some, None, refl}
+use Rattle.rbd_kinds.specs.declared.sharing.Sharing.TheVariants as sharing
 use Rattle.rbd_kinds.specs.declared.answer.Answer.{Answer}
 use Rattle.rbd_kinds.specs.declared.answer.Answer.TheVariants as answer
 use Rattle.rbd_kinds.specs.declared.header.HeaderView.{HeaderView}
@@ -61,11 +62,11 @@ module _ (site : SiteId) (image : ℕ) where
 
 pub resize_is_own : (site : SiteId) (name : List ℕ) (to : ℕ) (feds : List Fed) (steps : List Answered) (last : Plan) → IsWalk Goto (size_change site name to) feds steps last → AreOwn site (look_up name) steps
 resize_is_own site name to feds steps last walk =
-    let way = joining site true (resize_refuses to) (set_size site to) in
-    are_own site (look_up name) (on_id way) (by_on_id site way (λ image. of_joining site image true (resize_refuses to) (set_size site to) (of_set_size site image to))) feds steps last walk
+    let way = joining site sharing.Alone (resize_refuses to) (set_size site to) in
+    are_own site (look_up name) (on_id way) (by_on_id site way (λ image. of_joining site image sharing.Alone (resize_refuses to) (set_size site to) (of_set_size site image to))) feds steps last walk
 
 pub rollback_is_own : (site : SiteId) (name snap : List ℕ) (feds : List Fed) (steps : List Answered) (last : Plan) → IsWalk Goto (rollback site name snap) feds steps last → AreOwn site (look_up name) steps
 rollback_is_own site name snap feds steps last walk =
-    let way = joining site true (rollback_refuses snap) (roll_back_to site snap) in
+    let way = joining site sharing.Alone (rollback_refuses snap) (roll_back_to site snap) in
     are_own site (look_up name) (on_id way)
-    (by_on_id site way (λ image. of_joining site image true (rollback_refuses snap) (roll_back_to site snap) (λ h. of_listed site image snap h (snap_named h.snaps snap)))) feds steps last walk
+    (by_on_id site way (λ image. of_joining site image sharing.Alone (rollback_refuses snap) (roll_back_to site snap) (λ h. of_listed site image snap h (snap_named h.snaps snap)))) feds steps last walk

@@ -1,6 +1,7 @@
 -- What a resize and a rollback have done when they are done.
-use Rattle.std.proofs.Common.{◌≡◌, ◌⊎◌, inl, inr, ℕ, true, List, [], ◌∷◌, ◌++◌, Option, Some, None, refl, ap, sym, subst, ◌∙◌, append_assoc}
+use Rattle.std.proofs.Common.{◌≡◌, ◌⊎◌, inl, inr, ℕ, List, [], ◌∷◌, ◌++◌, Option, Some, None, refl, ap, sym, subst, ◌∙◌, append_assoc}
 use Rattle.std.proofs.lemmas.List.{append-nil}
+use Rattle.rbd_kinds.specs.declared.sharing.Sharing.TheVariants as sharing
 use Rattle.rbd_kinds.specs.declared.answer.Answer.{Answer}
 use Rattle.rbd_kinds.specs.declared.answer.Answer.TheVariants as answer
 use Rattle.rbd_kinds.specs.declared.header.HeaderView.{HeaderView}
@@ -191,7 +192,7 @@ module _ (site : SiteId) (name : List ℕ) where
 
   pub resize_is_whole : (to : ℕ) (feds : List Fed) (steps : List Answered) → AreGiven steps → IsWalk Goto (size_change site name to) feds steps Done → ResizesWhole site name to steps
   resize_is_whole to feds steps given walk =
-      let c = changed Done tt site name true (resize_refuses to) (set_size site to) feds steps walk in
+      let c = changed Done tt site name sharing.Alone (resize_refuses to) (set_size site to) feds steps walk in
       let form = own_in_form site name c.image c.first c.own c.rest steps c.are given in
       subst (ResizesWhole site name to) (sym c.are) (sized_whole to c.image c.first c.own c.rest c.may_wait c.may form (set_size_did site to c.image c.own c.more c.rest c.walk))
 
@@ -216,6 +217,6 @@ module _ (site : SiteId) (name : List ℕ) where
 
   pub rollback_is_whole : (snap : List ℕ) (feds : List Fed) (steps : List Answered) → AreGiven steps → IsWalk Goto (rollback site name snap) feds steps Done → RollsBack site name snap steps
   rollback_is_whole snap feds steps given walk =
-      let c = changed Done tt site name true (rollback_refuses snap) (roll_back_to site snap) feds steps walk in
+      let c = changed Done tt site name sharing.Alone (rollback_refuses snap) (roll_back_to site snap) feds steps walk in
       let form = own_in_form site name c.image c.first c.own c.rest steps c.are given in
       subst (RollsBack site name snap) (sym c.are) (rolled_whole snap c.image c.first c.own c.rest c.may_wait c.may form (listed_did site snap c.image c.own c.more c.rest c.walk))

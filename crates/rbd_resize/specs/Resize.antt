@@ -3,6 +3,7 @@ use Rattle.std.specs.Prelude.{◌≡◌, ℕ, List, Bool, true, false, Option, S
 use Rattle.rbd_commands.specs.declared.command.Command.{Command}
 use Rattle.rbd_commands.specs.declared.command.Command.TheVariants as command
 use Rattle.rbd_commands.specs.declared.refusal.Refusal.TheVariants as refusal
+use Rattle.rbd_kinds.specs.declared.sharing.Sharing.TheVariants as sharing
 use Rattle.rbd_kinds.specs.declared.answer.Answer.{Answer}
 use Rattle.rbd_kinds.specs.declared.answer.Answer.TheVariants as answer
 use Rattle.rbd_kinds.specs.declared.header.HeaderView.{HeaderView}
@@ -30,7 +31,7 @@ abbrev pub set_size : SiteId → (to : ℕ) → (image : ℕ) → HeaderView →
 set_size site to image h = Note site image (event.Resize to) (resize site image h to (object_count h.layout to) (applied site image))
 
 abbrev pub size_change : SiteId → (name : List ℕ) → (to : ℕ) → Plan
-size_change site name to = change site name true (resize_refuses to) (set_size site to)
+size_change site name to = change site name sharing.Alone (resize_refuses to) (set_size site to)
 
 abbrev pub resize_plan : SiteId → Command → Plan
 resize_plan site (command.Resize image size) = size_change site image size

@@ -3,6 +3,7 @@ use Rattle.std.specs.Prelude.{ℕ, List, [], ◌∷◌, Bool, true, false, Optio
 use Rattle.rbd_commands.specs.declared.command.Command.{Command}
 use Rattle.rbd_commands.specs.declared.command.Command.TheVariants as command
 use Rattle.rbd_commands.specs.declared.refusal.Refusal.TheVariants as refusal
+use Rattle.rbd_kinds.specs.declared.sharing.Sharing.TheVariants as sharing
 use Rattle.rbd_kinds.specs.declared.header.HeaderView.{HeaderView}
 use Rattle.rbd_kinds.specs.declared.header.SnapView.{SnapView}
 use Rattle.rbd_kinds.specs.declared.id.SiteId.{SiteId}
@@ -55,7 +56,7 @@ abbrev pub roll_back_to : SiteId → (snap : List ℕ) → (image : ℕ) → Hea
 roll_back_to site snap image h = roll_back_listed site snap image h (snap_named h.snaps snap)
 
 abbrev pub rollback : SiteId → (name snap : List ℕ) → Plan
-rollback site name snap = change site name true (rollback_refuses snap) (roll_back_to site snap)
+rollback site name snap = change site name sharing.Alone (rollback_refuses snap) (roll_back_to site snap)
 
 abbrev pub rollback_plan : SiteId → Command → Plan
 rollback_plan site (command.SnapRollback image snap) = rollback site image snap

@@ -11,8 +11,8 @@ ghost use Rattle.rbd_resize.specs.Resize.{is_resize, resize_plan, rest_of_resize
 
 use crate::few::has_few_objects;
 use rbd_kinds::{
-    Answer, Command, Event, Fed, HeaderView, ImageId, NoMemory, Op, Refusal, Reply, SiteId, Turn,
-    Want,
+    Answer, Command, Event, Fed, HeaderView, ImageId, NoMemory, Op, Refusal, Reply, Sharing,
+    SiteId, Turn, Want,
 };
 use rbd_machine::{Approach, Machine, Progress, Reason, Refuses, non_primary};
 use rbd_zero::Size;
@@ -68,7 +68,7 @@ impl ResizeRequest {
             Command::Resize { image, size } => ResizeRequest {
                 site: home,
                 target: Target { to: size.get() },
-                stage: Stage::Approaching(Approach::new(home, image.into_name(), true)),
+                stage: Stage::Approaching(Approach::new(home, image.into_name(), Sharing::Alone)),
                 sized: None,
             },
             _ => unreachable!(),

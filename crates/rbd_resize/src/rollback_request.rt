@@ -12,8 +12,8 @@ ghost use Rattle.rbd_resize.specs.Rolling.{rest_of_rollback_request, rest_of_rol
 
 use crate::rollback::Rollback;
 use rbd_kinds::{
-    Answer, Command, Event, Fed, HeaderView, ImageId, Name, NoMemory, Op, Refusal, Reply, SiteId,
-    TryClone, Turn, Want,
+    Answer, Command, Event, Fed, HeaderView, ImageId, Name, NoMemory, Op, Refusal, Reply, Sharing,
+    SiteId, TryClone, Turn, Want,
 };
 use rbd_machine::{Approach, Machine, Progress, Reason, Refuses, non_primary};
 use std::alloc::Global;
@@ -70,7 +70,7 @@ impl RollbackRequest {
                 target: Target {
                     snap: snap.into_name(),
                 },
-                stage: Stage::Approaching(Approach::new(home, image.into_name(), true)),
+                stage: Stage::Approaching(Approach::new(home, image.into_name(), Sharing::Alone)),
                 rolled: None,
             },
             _ => unreachable!(),

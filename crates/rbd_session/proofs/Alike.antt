@@ -2,6 +2,7 @@
 use Rattle.std.proofs.Common.{◌≡◌, ℕ, cond, Bool, true, false, List, [], ◌∷◌, ◌++◌, Option, Some, None, is_some, refl, sym, ap, ◌∙◌, subst}
 use Rattle.std.proofs.Math.Path.{fun_ext}
 use Rattle.std.proofs.lemmas.Bool.{true≢false}
+use Rattle.rbd_kinds.specs.declared.sharing.Sharing.{Sharing}
 use Rattle.rbd_line.specs.Line.{Member, changed, joined}
 use Rattle.rbd_machine.specs.Wait as wait
 use Rattle.rbd_kinds.specs.declared.image_at.ImageAt.{ImageAt}
@@ -35,9 +36,9 @@ pub same_lines : (old new : LinesView) → ((key : ℕ) → members_at key new �
 same_lines old new same = fun_ext (λ s. fun_ext (λ i. same (key_of s i)))
 
 -- a request that joined a line
-pub joined_track : {R : Type 0} (slot : ℕ) (due : Option (List ℕ)) (old new : Running R) (before after : LinesView) (p : ImageAt) (alone : Bool) → new ≡ record old { place = Some p }
-    → lines_of after ≡ changed_at (Some p) (λ members. members ++ joined slot alone ∷ []) (lines_of before)
-    → track_with due new after ≡ waited_by slot (track_with due old before) (wait.Join p.site p.image alone)
-joined_track slot due old new before after p alone is lines =
-    subst (λ r. track_with due r after ≡ waited_by slot (track_with due old before) (wait.Join p.site p.image alone)) (sym is)
+pub joined_track : {R : Type 0} (slot : ℕ) (due : Option (List ℕ)) (old new : Running R) (before after : LinesView) (p : ImageAt) (sharing : Sharing) → new ≡ record old { place = Some p }
+    → lines_of after ≡ changed_at (Some p) (λ members. members ++ joined slot sharing ∷ []) (lines_of before)
+    → track_with due new after ≡ waited_by slot (track_with due old before) (wait.Join p.site p.image sharing)
+joined_track slot due old new before after p sharing is lines =
+    subst (λ r. track_with due r after ≡ waited_by slot (track_with due old before) (wait.Join p.site p.image sharing)) (sym is)
     (ap (λ ls. record { place = Some p; turn = old.turn; due = listed due; lines = ls }) lines)

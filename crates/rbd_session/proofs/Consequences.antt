@@ -1,10 +1,13 @@
 -- What follows for every session.
-use Rattle.std.proofs.Common.{◌≡◌, ◌≢◌, ℕ, ◌==◌, ◌&&◌, ◌||◌, not, cond, Bool, true, false, List, [], ◌∷◌, Option, Some, None, refl, sym, ap, ◌∙◌}
+use Rattle.std.proofs.Common.{◌≡◌, ◌≢◌, ℕ, ◌==◌, ◌&&◌, ◌||◌, not, cond, Bool, true, false, List, [], ◌∷◌, Option, Some, None, refl, sym, ap, subst, ◌∙◌}
 use Rattle.std.proofs.lemmas.Bool.{true≢false, eq-eqb, eqb-true, and_parts}
+use Rattle.rbd_course.specs.Course.{is_waiting}
+use Rattle.rbd_course.specs.declared.stage.Stage.TheVariants as stage
+use Rattle.rbd_kinds.specs.Sharing.{go_together, is_alone}
 use Rattle.rbd_kinds.specs.declared.id.SiteId.{SiteId}
 use Rattle.rbd_line.specs.Line.{Member, member_of, is_member, is_past, ahead, holds, has_turn, may_pass, comes_next, objects_in}
 use Rattle.rbd_line.specs.Turns.{begins_with}
-use Rattle.rbd_line.proofs.Passing.{alone_past, ahead_first, first_may}
+use Rattle.rbd_line.proofs.Passing.{alone_past, apart_past, apart_waits, ahead_first, first_may, found_at}
 use Rattle.rbd_guard.specs.Order.{is_in}
 use Rattle.rbd_machine.specs.Knowledge.{same_site}
 use Rattle.rbd_machine.specs.Plan.{Standing}
@@ -16,7 +19,7 @@ use Rattle.rbd_session.specs.Advance.{track_of}
 use Rattle.rbd_session.specs.Lines.{LinesView, lines_of}
 use Rattle.rbd_session.specs.OnTrack.{is_here}
 use Rattle.rbd_session.specs.Session.{SessionView, IsSoundSession, running_in, running_at, held_in, going_in, kind_asked, kind_at, of_going}
-use Rattle.rbd_session.specs.Track.{line_in, course_of, image_at}
+use Rattle.rbd_session.specs.Track.{course_in, line_in, course_of, image_at}
 use Rattle.rbd_session.specs.Waits.{waits, awaits_line, awaits_turn, lacks_turn, is_at_own}
 use Rattle.rbd_session.proofs.Sound.{no_some, some_same}
 use Rattle.rbd_session.proofs.Track.{same_site_is}
@@ -25,8 +28,13 @@ use Rattle.rbd_session.proofs.Track.{same_site_is}
 
 pub alone_beside : {R : Type 0} (stands : R → Standing) (s : SessionView R) (site : SiteId) (image : ℕ) (one other : Member) → IsSoundSession stands s
     → member_of one.slot (lines_of s.lines site image) ≡ Some one → member_of other.slot (lines_of s.lines site image) ≡ Some other
-    → one.slot ≢ other.slot → one.alone ≡ true → is_past one.stage ≡ true → is_past other.stage ≡ false
+    → one.slot ≢ other.slot → is_alone one.sharing ≡ true → is_past one.stage ≡ true → is_past other.stage ≡ false
 alone_beside stands s site image one other sound here there differ = alone_past (lines_of s.lines site image) one other (sound.fair site image) here there differ
+
+pub apart_beside : {R : Type 0} (stands : R → Standing) (s : SessionView R) (site : SiteId) (image : ℕ) (one other : Member) → IsSoundSession stands s
+    → member_of one.slot (lines_of s.lines site image) ≡ Some one → member_of other.slot (lines_of s.lines site image) ≡ Some other
+    → one.slot ≢ other.slot → go_together one.sharing other.sharing ≡ false → is_past one.stage ≡ true → is_past other.stage ≡ false
+apart_beside stands s site image one other sound here there differ = apart_past (lines_of s.lines site image) one other (sound.fair site image) here there differ
 
 -- ---- pieces
 
@@ -51,6 +59,24 @@ module _ {R : Type 0} (stands : R → Standing) where
       ap (λ q. lacks_turn slot r.turn (line_in q (lines_of s.lines))) place ∙ ap (λ t. lacks_turn slot t (lines_of s.lines p.site p.image)) turn ∙ ap not others in
       held_up slot (held_in slot s.slots) s.lines r runs
       (ap (λ b. awaits_line slot (track_of r s.lines) || b) lacks ∙ or_true (awaits_line slot (track_of r s.lines)))
+
+  pub apart_held : (s : SessionView R) (slot : ℕ) (r : Running R) (p : ImageAt) (one own : Member) → running_at slot s ≡ Some r → r.place ≡ Some p
+      → member_of slot (lines_of s.lines p.site p.image) ≡ Some own → own.stage ≡ stage.Waiting → member_of one.slot (lines_of s.lines p.site p.image) ≡ Some one
+      → is_member one.slot (ahead slot (lines_of s.lines p.site p.image)) ≡ true → go_together one.sharing own.sharing ≡ false → kind_at stands slot s ≡ None
+  apart_held s slot r p one own runs place there waiting here before never =
+      let line = lines_of s.lines p.site p.image in
+      let t = track_of r s.lines in
+      let at = found_at line slot own there in
+      let closed : may_pass slot line ≡ false =
+      subst (λ n. may_pass n line ≡ false) at
+      (apart_waits line one own here (subst (λ n. member_of n line ≡ Some own) (sym at) there) never
+      (subst (λ n. is_member one.slot (ahead n line) ≡ true) (sym at) before)) in
+      let held : awaits_line slot t ≡ true =
+      ap (λ q. is_at_own (course_in t.turn t.due q (member_of slot (line_in q (lines_of s.lines)))).place && not (may_pass slot (line_in q (lines_of s.lines)))) place
+      ∙ ap (λ o. is_at_own (course_in t.turn t.due (Some p) o).place && not (may_pass slot line)) there
+      ∙ ap (λ x. is_waiting x && not (may_pass slot line)) waiting
+      ∙ ap not closed in
+      held_up slot (held_in slot s.slots) s.lines r runs (ap (λ b. b || awaits_turn slot t) held)
 
 -- ---- who is in a line
 

@@ -70,11 +70,11 @@ noted_fair slot t fair (inr may) =
 
 pub passed_by_fair : (slot : ℕ) → 1 ≤ slot → slot ≤ 64 → (t : Track) (w : Want) → AreFair t.lines → MayPass slot t w → AreFair (passed_by slot t w).lines
 passed_by_fair slot from to t (want.Op site kind) fair may = fair
-passed_by_fair slot from to t (want.Join site image alone) fair may =
-    fair_at (Some (image_at site image)) (λ members. members ++ joined slot alone ∷ []) t.lines fair
+passed_by_fair slot from to t (want.Join site image sharing) fair may =
+    fair_at (Some (image_at site image)) (λ members. members ++ joined slot sharing ∷ []) t.lines fair
     (λ p is.
-    subst (λ q. IsFairLine (line_in q t.lines ++ joined slot alone ∷ [])) is
-    (joined_fair slot alone (t.lines site image) (fair site image) from to (not_found slot (t.lines site image) may.1)))
+    subst (λ q. IsFairLine (line_in q t.lines ++ joined slot sharing ∷ [])) is
+    (joined_fair slot sharing (t.lines site image) (fair site image) from to (not_found slot (t.lines site image) may.1)))
 passed_by_fair slot from to t (want.Hold site image) fair may = fair_at t.place (changed slot held) t.lines fair (λ p is. held_fair slot (t.lines p.site p.image) (fair p.site p.image))
 passed_by_fair slot from to t (want.Note site image) fair may = noted_fair slot t fair may
 passed_by_fair slot from to t (want.Turn object) fair may = fair_at t.place (changed slot (done_with t.turn)) t.lines fair (λ p is. done_fair slot t.turn (t.lines p.site p.image) (fair p.site p.image))

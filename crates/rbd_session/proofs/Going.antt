@@ -165,7 +165,7 @@ module _ (slot : ℕ) (e : Option Extent) (labels : Label → Plan) where
       omega (arith, same, most)
 
   may_join : (w : Wait) (fresh : Bool) (t : Track) (old : Standing) → IsOnTrack slot e fresh old t → MayWait fresh (course_of slot t) w → MayPass slot t (want_of w)
-  may_join (wait.Join site image alone) fresh t old on may = go on.somewhere
+  may_join (wait.Join site image sharing) fresh t old on may = go on.somewhere
     where
       go : IsSomewhere slot t → (t.place ≡ None) × (member_of slot (t.lines site image) ≡ None)
       go (inl nowhere) = (nowhere, subst (λ q. IsNowhereElse slot q t.lines) nowhere on.elsewhere site image refl)
@@ -176,14 +176,14 @@ module _ (slot : ℕ) (e : Option Extent) (labels : Label → Plan) where
   may_join (wait.Leave site image) fresh t old on may = tt
 
   is_fresh : (w : Wait) (fresh : Bool) (c : Course) → MayWait fresh c w → IsJoin (want_of w) → fresh ≡ true
-  is_fresh (wait.Join site image alone) fresh c may join = may.0
+  is_fresh (wait.Join site image sharing) fresh c may join = may.0
   is_fresh (wait.Hold site image) fresh c may join = elim join [ ]
   is_fresh (wait.Turn object) fresh c may join = elim join [ ]
   is_fresh (wait.Applied site image) fresh c may join = elim join [ ]
   is_fresh (wait.Leave site image) fresh c may join = elim join [ ]
 
   passed_is : (t : Track) (w : Wait) → passed_by slot t (want_of w) ≡ waited_by slot t w
-  passed_is t (wait.Join site image alone) = refl
+  passed_is t (wait.Join site image sharing) = refl
   passed_is t (wait.Hold site image) = refl
   passed_is t (wait.Turn object) = refl
   passed_is t (wait.Applied site image) = refl

@@ -39,8 +39,8 @@ own_leaves : (slot : ℕ) (place : Option ImageAt) (f : Member → Member) → I
 own_leaves slot place f keeps lines = changed_leaves slot place (changed slot f) lines (λ other differ members. others_changed members slot other f keeps differ)
 
 pub waited_leaves : (slot : ℕ) (t : Track) (w : Wait) → LeavesOthers slot t.lines (waited_by slot t w).lines
-waited_leaves slot t (wait.Join site image alone) =
-    changed_leaves slot (Some (image_at site image)) (λ members. members ++ joined slot alone ∷ []) t.lines (λ other differ members. others_joined members slot other alone differ)
+waited_leaves slot t (wait.Join site image sharing) =
+    changed_leaves slot (Some (image_at site image)) (λ members. members ++ joined slot sharing ∷ []) t.lines (λ other differ members. others_joined members slot other sharing differ)
 waited_leaves slot t (wait.Hold site image) = own_leaves slot t.place held held_is_steady t.lines
 waited_leaves slot t (wait.Turn object) = own_leaves slot t.place (done_with t.turn) (done_steady t.turn) t.lines
 waited_leaves slot t (wait.Applied site image) = own_leaves slot t.place (done_with t.turn) (done_steady t.turn) t.lines
@@ -51,7 +51,7 @@ noted_leaves slot t = own_leaves slot t.place (given t.due) (given_steady t.due)
 
 pub passed_leaves : (slot : ℕ) (t : Track) (w : Want) → LeavesOthers slot t.lines (passed_by slot t w).lines
 passed_leaves slot t (want.Op site kind) other differ s i = refl
-passed_leaves slot t (want.Join site image alone) other differ s i = waited_leaves slot t (wait.Join site image alone) other differ s i
+passed_leaves slot t (want.Join site image sharing) other differ s i = waited_leaves slot t (wait.Join site image sharing) other differ s i
 passed_leaves slot t (want.Hold site image) other differ s i = waited_leaves slot t (wait.Hold site image) other differ s i
 passed_leaves slot t (want.Note site image) other differ s i = noted_leaves slot t other differ s i
 passed_leaves slot t (want.Turn object) other differ s i = waited_leaves slot t (wait.Turn object) other differ s i

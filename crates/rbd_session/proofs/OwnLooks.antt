@@ -2,6 +2,7 @@
 use Rattle.std.proofs.Common.{◌≡◌, ◌≢◌, ◌⊎◌, inl, inr, ℕ, ◌==◌, ◌&&◌, ◌||◌, cond, not, Bool, true, false, List, [], ◌∷◌, ◌++◌, Option, Some, None, refl, sym, ap, ◌∙◌, subst}
 use Rattle.std.proofs.lemmas.Bool.{true≢false, cases_eq, and_parts}
 use Rattle.std.specs.Option.{option_map}
+use Rattle.rbd_kinds.specs.declared.sharing.Sharing.{Sharing}
 use Rattle.rbd_course.specs.Course.{is_own_at, is_waiting}
 use Rattle.rbd_course.specs.declared.stage.Stage.{Stage}
 use Rattle.rbd_course.specs.declared.stage.Stage.TheVariants as stage
@@ -117,16 +118,16 @@ changed_not_past slot f steady keeps members past = by (member_of slot members) 
     by None past = past
     by (Some m) past = sym (keeps m) ∙ past
 
-joined_not_past : (slot : ℕ) (alone : Bool) → TakesNotPast slot (λ members. members ++ joined slot alone ∷ [])
-joined_not_past slot alone [] past = by (slot == slot) past
+joined_not_past : (slot : ℕ) (sharing : Sharing) → TakesNotPast slot (λ members. members ++ joined slot sharing ∷ [])
+joined_not_past slot sharing [] past = by (slot == slot) past
   where
-    by : (b : Bool) → is_past_in (cond b (Some (joined slot alone)) None) ≡ true → false ≡ true
+    by : (b : Bool) → is_past_in (cond b (Some (joined slot sharing)) None) ≡ true → false ≡ true
     by true past = past
     by false past = past
-joined_not_past slot alone (m ∷ members) past = by (m.slot == slot) past (joined_not_past slot alone members)
+joined_not_past slot sharing (m ∷ members) past = by (m.slot == slot) past (joined_not_past slot sharing members)
   where
-    by : (b : Bool) → is_past_in (cond b (Some m) (member_of slot (members ++ joined slot alone ∷ []))) ≡ true
-        → (is_past_in (member_of slot (members ++ joined slot alone ∷ [])) ≡ true → is_past_in (member_of slot members) ≡ true)
+    by : (b : Bool) → is_past_in (cond b (Some m) (member_of slot (members ++ joined slot sharing ∷ []))) ≡ true
+        → (is_past_in (member_of slot (members ++ joined slot sharing ∷ [])) ≡ true → is_past_in (member_of slot members) ≡ true)
         → is_past_in (cond b (Some m) (member_of slot members)) ≡ true
     by true past rest = past
     by false past rest = rest past
@@ -135,8 +136,8 @@ left_not_past : (slot : ℕ) → TakesNotPast slot (without slot)
 left_not_past slot members past = absurd (true≢false (sym past ∙ ap is_past_in (gone members slot)))
 
 waited_past : (slot : ℕ) (t : Track) (w : Wait) (site : SiteId) (image : ℕ) → past_at slot (waited_by slot t w).lines site image ≡ true → past_at slot t.lines site image ≡ true
-waited_past slot t (wait.Join at of alone) site image past =
-    past_before slot (Some (image_at at of)) (λ members. members ++ joined slot alone ∷ []) t.lines (joined_not_past slot alone) site image past
+waited_past slot t (wait.Join at of sharing) site image past =
+    past_before slot (Some (image_at at of)) (λ members. members ++ joined slot sharing ∷ []) t.lines (joined_not_past slot sharing) site image past
 waited_past slot t (wait.Hold at of) site image past = past_before slot t.place (changed slot held) t.lines (changed_not_past slot held held_is_steady held_past) site image past
 waited_past slot t (wait.Turn object) site image past =
     past_before slot t.place (changed slot (done_with t.turn)) t.lines (changed_not_past slot (done_with t.turn) (done_steady t.turn) (done_past t.turn)) site image past

@@ -148,8 +148,8 @@ module _ (slot other : ℕ) (differ : other ≢ slot) where
   left_may members may = may_left members slot other differ may
 
   waited_may : (t : Track) (w : Wait) (site : SiteId) (image : ℕ) → may_at slot t.lines site image ≡ true → may_at slot (waited_by other t w).lines site image ≡ true
-  waited_may t (wait.Join at of alone) site image may =
-      may_still slot (Some (image_at at of)) (λ members. members ++ joined other alone ∷ []) t.lines (λ members may. may_joined members slot other alone may) site image may
+  waited_may t (wait.Join at of sharing) site image may =
+      may_still slot (Some (image_at at of)) (λ members. members ++ joined other sharing ∷ []) t.lines (λ members may. may_joined members slot other sharing may) site image may
   waited_may t (wait.Hold at of) site image may = may_still slot t.place (changed other held) t.lines (changed_may held held_is_steady) site image may
   waited_may t (wait.Turn object) site image may = may_still slot t.place (changed other (done_with t.turn)) t.lines (changed_may (done_with t.turn) (done_steady t.turn)) site image may
   waited_may t (wait.Applied at of) site image may = may_still slot t.place (changed other (done_with t.turn)) t.lines (changed_may (done_with t.turn) (done_steady t.turn)) site image may

@@ -2,6 +2,7 @@
 use Rattle.std.proofs.Common.{◌≡◌, ℕ, inl, inr, cond, Bool, true, false, List, [], ◌∷◌, ◌++◌, drop, Option, Some, None, refl, sym, ap, ◌∙◌, subst}
 use Rattle.std.proofs.lemmas.Bool.{eq-eqb}
 use Rattle.std.specs.Option.{option_map}
+use Rattle.rbd_kinds.specs.declared.sharing.Sharing.{Sharing}
 use Rattle.rbd_course.specs.Course.{Course, waited, noted, answered, looked, behind, is_own_at, due_of, objects_asked}
 use Rattle.rbd_kinds.specs.declared.answer.Answer.{Answer}
 use Rattle.rbd_kinds.specs.declared.answer.Answer.TheVariants as answer
@@ -59,11 +60,11 @@ stays_there slot p m t f keeps there turn due = record {
 }
 
 pub done_steady : (turn : Option ℕ) → IsSteady (done_with turn)
-done_steady None = record { slot = λ m. refl; alone = λ m. refl; past = λ m past. past }
-done_steady (Some object) = record { slot = λ m. refl; alone = λ m. refl; past = λ m past. past }
+done_steady None = record { slot = λ m. refl; sharing = λ m. refl; past = λ m past. past }
+done_steady (Some object) = record { slot = λ m. refl; sharing = λ m. refl; past = λ m past. past }
 
 pub given_steady : (objects : List ℕ) → IsSteady (given objects)
-given_steady objects = record { slot = λ m. refl; alone = λ m. refl; past = λ m past. past }
+given_steady objects = record { slot = λ m. refl; sharing = λ m. refl; past = λ m past. past }
 
 pub first_goes : (object : ℕ) (objects : List ℕ) → drop 1 objects ≡ behind (Some object) objects
 first_goes object [] = refl
@@ -105,12 +106,12 @@ module _ (slot : ℕ) (p : ImageAt) (m : Member) (t : Track) (there : IsThere sl
       ∙ ap (λ c. course_in t.turn (due_of c.place (objects_asked h e)) (Some p) (Some (passed m))) (course_there slot p m t there)
       ∙ same_by (looked e h)
 
-pub course_joined : (slot : ℕ) (t : Track) (site : SiteId) (image : ℕ) (alone : Bool) → t.place ≡ None → member_of slot (t.lines site image) ≡ None
-    → course_of slot (waited_by slot t (wait.Join site image alone)) ≡ waited (course_of slot t) (wait.Join site image alone)
-course_joined slot t site image alone nowhere none =
+pub course_joined : (slot : ℕ) (t : Track) (site : SiteId) (image : ℕ) (sharing : Sharing) → t.place ≡ None → member_of slot (t.lines site image) ≡ None
+    → course_of slot (waited_by slot t (wait.Join site image sharing)) ≡ waited (course_of slot t) (wait.Join site image sharing)
+course_joined slot t site image sharing nowhere none =
     ap (course_in t.turn t.due (Some (image_at site image)))
-    (ap (member_of slot) (changed_here (image_at site image) (λ members. members ++ joined slot alone ∷ []) t.lines) ∙ joined_found (t.lines site image) slot alone (not_found slot (t.lines site image) none))
-    ∙ subst (λ q. course_in t.turn t.due (Some (image_at site image)) (Some (joined slot alone)) ≡ waited (course_in t.turn t.due q (member_of slot (line_in q t.lines))) (wait.Join site image alone)) (sym nowhere) refl
+    (ap (member_of slot) (changed_here (image_at site image) (λ members. members ++ joined slot sharing ∷ []) t.lines) ∙ joined_found (t.lines site image) slot sharing (not_found slot (t.lines site image) none))
+    ∙ subst (λ q. course_in t.turn t.due (Some (image_at site image)) (Some (joined slot sharing)) ≡ waited (course_in t.turn t.due q (member_of slot (line_in q t.lines))) (wait.Join site image sharing)) (sym nowhere) refl
 
 pub course_left : (slot : ℕ) (t : Track) (site : SiteId) (image : ℕ) → course_of slot (waited_by slot t (wait.Leave site image)) ≡ waited (course_of slot t) (wait.Leave site image)
 course_left slot t site image = refl

@@ -1,5 +1,7 @@
 -- A request stays on its track, whatever it waits for and is answered.
 use Rattle.std.proofs.Common.{◌≡◌, ◌⊎◌, inl, inr, ℕ, cond, not, Bool, true, false, List, [], ◌∷◌, ◌++◌, drop, Option, Some, None, refl, sym, ap, ◌∙◌, subst}
+use Rattle.rbd_kinds.specs.Sharing.{is_alone}
+use Rattle.rbd_kinds.specs.declared.sharing.Sharing.{Sharing}
 use Rattle.rbd_course.specs.Course.{Place, waited, noted, looked, behind, is_own_at, is_waiting, due_of, objects_asked, held_stage}
 use Rattle.rbd_course.specs.Orderly.{BeginsWith, IsInLine, IsOrderlyFrom, MayWait}
 use Rattle.rbd_course.specs.declared.stage.Stage.{Stage}
@@ -69,23 +71,23 @@ pub done_past : (turn : Option ℕ) → KeepsPast (done_with turn)
 done_past None m = refl
 done_past (Some object) m = refl
 
-done_alone : (turn : Option ℕ) (m : Member) → (done_with turn m).alone ≡ m.alone
-done_alone None m = refl
-done_alone (Some object) m = refl
+done_sharing : (turn : Option ℕ) (m : Member) → (done_with turn m).sharing ≡ m.sharing
+done_sharing None m = refl
+done_sharing (Some object) m = refl
 
 done_none : (turn : Option ℕ) (m : Member) → m.objects ≡ [] → (done_with turn m).objects ≡ []
 done_none None m none = none
 done_none (Some object) m none = ap (drop 1) none
 
-takes_changed : (slot : ℕ) (t : Track) (f : Member → Member) → IsSteady f → KeepsPast f → ((m : Member) → (f m).alone ≡ m.alone) → ((m : Member) → m.objects ≡ [] → (f m).objects ≡ [])
+takes_changed : (slot : ℕ) (t : Track) (f : Member → Member) → IsSteady f → KeepsPast f → ((m : Member) → (f m).sharing ≡ m.sharing) → ((m : Member) → m.objects ≡ [] → (f m).objects ≡ [])
     → (turn : Option ℕ) → (t.due ≡ []) ⊎ MayTake slot t
     → (t.due ≡ []) ⊎ MayTake slot (record { place = t.place; turn = turn; due = t.due; lines = changed_at t.place (changed slot f) t.lines })
-takes_changed slot t f keeps past alone none turn (inl none_due) = inl none_due
-takes_changed slot t f keeps past alone none turn (inr may) = inr (record {
+takes_changed slot t f keeps past same none turn (inl none_due) = inl none_due
+takes_changed slot t f keeps past same none turn (inr may) = inr (record {
   place = may.place;
   member = f may.member;
   there = stays_there slot may.place may.member t f keeps may.there turn t.due;
-  shared = rw (past may.member) (rw (alone may.member) may.shared);
+  shared = rw (past may.member) (rw (same may.member) may.shared);
   none = none may.member may.none;
   behind =
       subst (λ q. none_past_behind slot (changed_at q (changed slot f) t.lines may.place.site may.place.image) ≡ true) (sym may.there.place)
@@ -152,12 +154,12 @@ module _ (slot : ℕ) (e : Option Extent) (labels : Label → Plan) where
   abbrev at : Plan → Standing
   at plan = record { labels = labels; plan = plan }
 
-  joined_on_track : (site : SiteId) (image : ℕ) (alone : Bool) (next : Plan) (t : Track) (fresh : Bool) (old : Standing) → IsOnTrack slot e fresh old t → (course_of slot t).place ≡ None
-      → IsOrderlyFrom e false (waited (course_of slot t) (wait.Join site image alone)) (at (settled labels next))
-      → IsOnTrack slot e false (at (settled labels next)) (waited_by slot t (wait.Join site image alone))
-  joined_on_track site image alone next t fresh old on no_place orderly = go on.somewhere
+  joined_on_track : (site : SiteId) (image : ℕ) (sharing : Sharing) (next : Plan) (t : Track) (fresh : Bool) (old : Standing) → IsOnTrack slot e fresh old t → (course_of slot t).place ≡ None
+      → IsOrderlyFrom e false (waited (course_of slot t) (wait.Join site image sharing)) (at (settled labels next))
+      → IsOnTrack slot e false (at (settled labels next)) (waited_by slot t (wait.Join site image sharing))
+  joined_on_track site image sharing next t fresh old on no_place orderly = go on.somewhere
     where
-      go : IsSomewhere slot t → IsOnTrack slot e false (at (settled labels next)) (waited_by slot t (wait.Join site image alone))
+      go : IsSomewhere slot t → IsOnTrack slot e false (at (settled labels next)) (waited_by slot t (wait.Join site image sharing))
       go (inr (p, m, there)) = let no = sym (place_there slot p m t there) ∙ no_place in cc
       go (inl nowhere) =
           let nowhere_else : IsNowhereElse slot None t.lines = subst (λ q. IsNowhereElse slot q t.lines) nowhere on.elsewhere in
@@ -165,21 +167,21 @@ module _ (slot : ℕ) (e : Option Extent) (labels : Label → Plan) where
           record {
             somewhere = inr (
               image_at site image,
-              joined slot alone,
+              joined slot sharing,
               record {
                 place = refl;
                 member =
-                    ap (member_of slot) (changed_here (image_at site image) (λ members. members ++ joined slot alone ∷ []) t.lines)
-                    ∙ joined_found (t.lines site image) slot alone (not_found slot (t.lines site image) none);
+                    ap (member_of slot) (changed_here (image_at site image) (λ members. members ++ joined slot sharing ∷ []) t.lines)
+                    ∙ joined_found (t.lines site image) slot sharing (not_found slot (t.lines site image) none);
               },
             );
-            elsewhere = joined_elsewhere slot (image_at site image) (λ members. members ++ joined slot alone ∷ []) t.lines nowhere_else;
-            orderly = subst (λ c. IsOrderlyFrom e false c (at (settled labels next))) (sym (course_joined slot t site image alone nowhere none)) orderly;
+            elsewhere = joined_elsewhere slot (image_at site image) (λ members. members ++ joined slot sharing ∷ []) t.lines nowhere_else;
+            orderly = subst (λ c. IsOrderlyFrom e false c (at (settled labels next))) (sym (course_joined slot t site image sharing nowhere none)) orderly;
             takes = none_due nowhere on.takes;
             turns = λ object is. let no : false ≡ true = sym (ap (λ q. comes_next slot object (line_in q t.lines)) nowhere) ∙ on.turns object is in cc;
           }
         where
-          none_due : t.place ≡ None → (t.due ≡ []) ⊎ MayTake slot t → (t.due ≡ []) ⊎ MayTake slot (waited_by slot t (wait.Join site image alone))
+          none_due : t.place ≡ None → (t.due ≡ []) ⊎ MayTake slot t → (t.due ≡ []) ⊎ MayTake slot (waited_by slot t (wait.Join site image sharing))
           none_due nowhere (inl is) = inl is
           none_due nowhere (inr may) = let no = sym may.there.place ∙ nowhere in cc
 
@@ -189,7 +191,7 @@ module _ (slot : ℕ) (e : Option Extent) (labels : Label → Plan) where
     where
       go : (w : Wait) → MayWait fresh (course_of slot t) w × IsOrderlyFrom e false (waited (course_of slot t) w) (at (settled labels next))
           → MayWait fresh (course_of slot t) w × IsOnTrack slot e false (at (settled labels next)) (waited_by slot t w)
-      go (wait.Join site image alone) (may, orderly) = (may, joined_on_track site image alone next t fresh (at (Await w next)) on may.1 orderly)
+      go (wait.Join site image sharing) (may, orderly) = (may, joined_on_track site image sharing next t fresh (at (Await w next)) on may.1 orderly)
       go (wait.Hold site image) (may, orderly) =
           let (p, m, there) = in_line_there slot t site image on.somewhere may.0 in (
             may,
@@ -203,7 +205,7 @@ module _ (slot : ℕ) (e : Option Extent) (labels : Label → Plan) where
             may,
             changed_on_track slot e false (at (settled labels next)) t (done_with t.turn) (done_steady t.turn) p m there on.elsewhere None t.due
                 (subst (λ c. IsOrderlyFrom e false c (at (settled labels next))) (sym (course_applied slot p m t there site image)) orderly)
-                (takes_changed slot t (done_with t.turn) (done_steady t.turn) (done_past t.turn) (done_alone t.turn) (done_none t.turn) None on.takes)
+                (takes_changed slot t (done_with t.turn) (done_steady t.turn) (done_past t.turn) (done_sharing t.turn) (done_none t.turn) None on.takes)
                 (λ object is. cc),
           )
       go (wait.Turn object) (may, orderly) = turned on.somewhere may orderly
@@ -218,7 +220,7 @@ module _ (slot : ℕ) (e : Option Extent) (labels : Label → Plan) where
                 may,
                 changed_on_track slot e false (at (settled labels next)) t (done_with t.turn) (done_steady t.turn) p m there on.elsewhere (Some object) t.due
                     (subst (λ c. IsOrderlyFrom e false c (at (settled labels next))) (sym (course_turned slot p m t there object)) orderly)
-                    (takes_changed slot t (done_with t.turn) (done_steady t.turn) (done_past t.turn) (done_alone t.turn) (done_none t.turn) (Some object) on.takes)
+                    (takes_changed slot t (done_with t.turn) (done_steady t.turn) (done_past t.turn) (done_sharing t.turn) (done_none t.turn) (Some object) on.takes)
                     (λ other is. begins other (done_with t.turn m).objects (subst (λ o. BeginsWith o (done_with t.turn m).objects) (some_is object other is) first)),
               )
       go (wait.Leave site image) (may, orderly) = (
@@ -261,7 +263,7 @@ module _ (slot : ℕ) (e : Option Extent) (labels : Label → Plan) where
           let line = t.lines p.site p.image in
           let waiting : is_waiting m.stage ≡ true = (and_parts (is_at s image p.site p.image) (is_waiting m.stage) (sym (ap (is_own_at s image) (place_there slot p m t there)) ∙ own)).1 in
           let not_past : is_past m.stage ≡ false = waiting_not_past m.stage waiting in
-          let may : m.alone ≡ false → MayTake slot (looked_by slot e h t) = λ shared. record {
+          let may : is_alone m.sharing ≡ false → MayTake slot (looked_by slot e h t) = λ shared. record {
             place = p;
             member = passed m;
             there = new;
@@ -275,10 +277,10 @@ module _ (slot : ℕ) (e : Option Extent) (labels : Label → Plan) where
           } in
           changed_on_track slot e true (at (settled labels next)) t passed passed_is_steady p m there elsewhere t.turn (looked_by slot e h t).due
           (subst (λ c. IsOrderlyFrom e true c (at (settled labels next))) (sym (course_looked slot p m t there e h)) orderly)
-          (takes m.alone refl (ap (λ q. due_of q (objects_asked h e)) (place_there slot p m t there)) may)
+          (takes (is_alone m.sharing) refl (ap (λ q. due_of q (objects_asked h e)) (place_there slot p m t there)) may)
           (turns_there slot p m t there turns)
         where
-          takes : (alone : Bool) → m.alone ≡ alone → (looked_by slot e h t).due ≡ cond m.alone [] (objects_asked h e) → (m.alone ≡ false → MayTake slot (looked_by slot e h t))
+          takes : (alone : Bool) → is_alone m.sharing ≡ alone → (looked_by slot e h t).due ≡ cond (is_alone m.sharing) [] (objects_asked h e) → (is_alone m.sharing ≡ false → MayTake slot (looked_by slot e h t))
               → ((looked_by slot e h t).due ≡ []) ⊎ MayTake slot (looked_by slot e h t)
           takes true is due may = inl (due ∙ ap (λ b. cond b [] (objects_asked h e)) is)
           takes false is due may = inr (may is)

@@ -114,12 +114,12 @@ waits_left (turn.Done reply) plan = zero
 waits_left turn.More plan = waits_before plan
 
 abbrev pub IsJoin : Want → Type 0
-IsJoin (want.Join site image alone) = Unit {0}
+IsJoin (want.Join site image sharing) = Unit {0}
 IsJoin w = ⊥
 
 -- A request joins a line where it is in none, and takes its tickets where it may.
 abbrev pub MayPass : (slot : ℕ) → Track → Want → Type 0
-MayPass slot t (want.Join site image alone) = (t.place ≡ None) × (member_of slot (t.lines site image) ≡ None)
+MayPass slot t (want.Join site image sharing) = (t.place ≡ None) × (member_of slot (t.lines site image) ≡ None)
 MayPass slot t (want.Note site image) = (t.due ≡ []) ⊎ MayTake slot t
 MayPass slot t w = Unit {0}
 

@@ -1,6 +1,7 @@
 -- Where a request stands in its session: the line that it is in, its turn, and what becomes of them
 -- on its way.
 use Rattle.std.specs.Prelude.{ℕ, if◌then◌else◌, List, [], ◌∷◌, ◌++◌, Option, Some, None}
+use Rattle.rbd_kinds.specs.Sharing.{is_alone}
 use Rattle.rbd_course.specs.Course.{Course, Place, objects_asked, due_of, is_own_at}
 use Rattle.rbd_kinds.specs.declared.answer.Answer.{Answer}
 use Rattle.rbd_kinds.specs.declared.answer.Answer.TheVariants as answer
@@ -50,7 +51,7 @@ line_in (Some p) lines = lines p.site p.image
 -- ---- its course
 
 abbrev pub place_in : Option ImageAt → Option Member → Option Place
-place_in (Some p) (Some m) = Some (record { site = p.site; image = p.image; alone = m.alone; stage = m.stage })
+place_in (Some p) (Some m) = Some (record { site = p.site; image = p.image; alone = is_alone m.sharing; stage = m.stage })
 place_in _ _ = None
 
 -- how the request goes through its line, told without the others
@@ -73,7 +74,7 @@ done_with (Some object) m = next_piece m
 -- ---- its way
 
 abbrev pub waited_by : (slot : ℕ) → Track → Wait → Track
-waited_by slot t (wait.Join site image alone) = record t { place = Some (image_at site image); lines = changed_at (Some (image_at site image)) (λ members. members ++ joined slot alone ∷ []) t.lines }
+waited_by slot t (wait.Join site image sharing) = record t { place = Some (image_at site image); lines = changed_at (Some (image_at site image)) (λ members. members ++ joined slot sharing ∷ []) t.lines }
 waited_by slot t (wait.Hold site image) = record t { lines = changed_at t.place (changed slot held) t.lines }
 waited_by slot t (wait.Turn object) = record t { turn = Some object; lines = changed_at t.place (changed slot (done_with t.turn)) t.lines }
 waited_by slot t (wait.Applied site image) = record t { turn = None; lines = changed_at t.place (changed slot (done_with t.turn)) t.lines }
@@ -95,7 +96,7 @@ answered_by slot e t site o a = t
 -- what it wants beside an operation is passed over
 abbrev pub passed_by : (slot : ℕ) → Track → Want → Track
 passed_by slot t (want.Op site kind) = t
-passed_by slot t (want.Join site image alone) = waited_by slot t (wait.Join site image alone)
+passed_by slot t (want.Join site image sharing) = waited_by slot t (wait.Join site image sharing)
 passed_by slot t (want.Hold site image) = waited_by slot t (wait.Hold site image)
 passed_by slot t (want.Note site image) = noted_by slot t
 passed_by slot t (want.Turn object) = waited_by slot t (wait.Turn object)

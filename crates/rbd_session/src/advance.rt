@@ -11,7 +11,7 @@ ghost use Rattle.rbd_session.specs.Track.{changed_at, done_with, given, passed_b
 use crate::lines::Lines;
 use crate::running::Running;
 use rbd_course::Request;
-use rbd_kinds::{Fed, ImageAt, Reply, Sequence, Slot, Turn, Want};
+use rbd_kinds::{Fed, ImageAt, Reply, Sequence, Sharing, Slot, Turn, Want};
 
 /// Feeds a request, and passes over what it then wants beside an operation. `None` where it wants
 /// its next operation, and else its reply. It takes no memory.
@@ -106,15 +106,21 @@ fn end_piece(place: Option<ImageAt>, lines: &mut Lines, slot: Slot, turn: Option
 }
 
 /// The request joins the line of an image.
-fn join<R>(running: &mut Running<R>, lines: &mut Lines, slot: Slot, place: ImageAt, alone: bool)
+fn join<R>(
+    running: &mut Running<R>,
+    lines: &mut Lines,
+    slot: Slot,
+    place: ImageAt,
+    sharing: Sharing,
+)
     requires from { 1 ≤ slot }
     requires to { slot ≤ 64 }
     requires other { IsFalse (is_member slot (lines_of lines.old place.site place.image)) }
     requires open { CanOpen lines.old }
-    ensures lines { lines_of lines.new ≡ changed_at (Some place) (λ members. members ++ joined slot alone ∷ []) (lines_of lines.old) }
+    ensures lines { lines_of lines.new ≡ changed_at (Some place) (λ members. members ++ joined slot sharing ∷ []) (lines_of lines.old) }
     ensures running { running.new ≡ record running.old { place = Some place } }
 {
-    lines.join(&place, slot, alone);
+    lines.join(&place, slot, sharing);
     running.place = Some(place);
 }
 
@@ -160,13 +166,11 @@ fn pass<R>(
 {
     match want {
         Want::Op { .. } => {}
-        Want::Join { site, image, alone } => join(
-            running,
-            lines,
-            slot,
-            ImageAt { site, image },
-            alone,
-        ),
+        Want::Join {
+            site,
+            image,
+            sharing,
+        } => join(running, lines, slot, ImageAt { site, image }, sharing),
         Want::Hold { .. } => lines.hold(running.place, slot),
         Want::Note { .. } => note(running.place, lines, slot, due),
         Want::Turn { object } => turn_to(running, lines, slot, Some(object)),

@@ -1,6 +1,8 @@
 //! What follows for every session: each law is the contract of a function that does nothing.
 ghost use Rattle.std.specs.Prelude.{◌≡◌, ◌≢◌, ◌⊎◌, ℕ, Option, false, ◌∷◌, Some, None, IsTrue, IsFalse, List};
 ghost use Rattle.rbd_kinds.specs.declared.id.SiteId.{SiteId as Site};
+ghost use Rattle.rbd_course.specs.declared.stage.Stage.TheVariants.{Waiting};
+ghost use Rattle.rbd_kinds.specs.Sharing.{go_together, is_alone};
 ghost use Rattle.rbd_line.specs.Line.{Member, member_of, is_member, is_past, is_past_in, ahead, holds};
 ghost use Rattle.rbd_kinds.specs.declared.machine.Fed.{Fed};
 ghost use Rattle.rbd_kinds.specs.declared.reply.Reply.{Reply};
@@ -21,7 +23,26 @@ pub fn alone_is_alone<R: Request>()
     ensures { (s : SessionView R) (site : Site) (image : ℕ) (one other : Member)
         → IsSoundSession R.stands s
         → member_of one.slot (lines_of s.lines site image) ≡ Some one → member_of other.slot (lines_of s.lines site image) ≡ Some other
-        → one.slot ≢ other.slot → IsTrue one.alone → IsTrue (is_past one.stage) → IsFalse (is_past other.stage) }
+        → one.slot ≢ other.slot → IsTrue (is_alone one.sharing) → IsTrue (is_past one.stage) → IsFalse (is_past other.stage) }
+{}
+
+/// Two requests of an image that don't go together aren't past their own looks at once, and the
+/// later one waits at its own look for the end of the earlier: a discard for that of each flatten
+/// ahead of it, a flatten for that of each discard and flatten. Nobody asks for its operation.
+pub fn who_doesnt_go_together_waits<R: Request>()
+    ensures past { (s : SessionView R) (site : Site) (image : ℕ) (one other : Member)
+        → IsSoundSession R.stands s
+        → member_of one.slot (lines_of s.lines site image) ≡ Some one → member_of other.slot (lines_of s.lines site image) ≡ Some other
+        → one.slot ≢ other.slot → IsFalse (go_together one.sharing other.sharing)
+        → IsTrue (is_past one.stage) → IsFalse (is_past other.stage) }
+
+    ensures waits { (s : SessionView R) (slot : ℕ) (r : Running R) (p : ImageAt) (one own : Member)
+        → running_at slot s ≡ Some r → r.place ≡ Some p
+        → member_of slot (lines_of s.lines p.site p.image) ≡ Some own → own.stage ≡ Waiting
+        → member_of one.slot (lines_of s.lines p.site p.image) ≡ Some one
+        → IsTrue (is_member one.slot (ahead slot (lines_of s.lines p.site p.image)))
+        → IsFalse (go_together one.sharing own.sharing)
+        → kind_at R.stands slot s ≡ None }
 {}
 
 /// A request whose next piece changes an object that one ahead of it in its line has a ticket for

@@ -22,7 +22,8 @@
 //!
 //! | a request | may go past its own look when |
 //! |---|---|
-//! | beside others (`write`, `fill`) | each one ahead of it goes beside others too, and is past its own look |
+//! | beside others (`write`, `fill`) | each one ahead of it is past its own look, and none is alone |
+//! | a `discard` | the same, and no `flatten` is ahead of it (there is no such command yet) |
 //! | alone (`snap create`, `snap rm`) | nobody is ahead of it |
 //!
 //! - So nobody is past own beside one that is alone and past own. Who has ended is in no line.

@@ -4,11 +4,12 @@ ghost use Rattle.std.specs.HashMap.{get, spare};
 ghost use Rattle.std.specs.Option.{option_map};
 ghost use Rattle.rbd_line.specs.Line.{member_of, is_member, any_past, may_pass, has_turn, comes_next, joined, held, passed, next_piece, changed, without};
 ghost use Rattle.rbd_session.specs.Lines.{members_in, room_in, members_at, room_at, room_of, lines_of, members_of, is_key, CanOpen, IsEmptyLine, IsHeld, MayEnterAll};
+ghost use Rattle.rbd_kinds.specs.Sharing.{is_alone};
 ghost use Rattle.rbd_kinds.specs.declared.id.SiteId.{SiteId};
 ghost use Rattle.rbd_session.specs.Track.{given};
 
 use rbd_course::Stage;
-use rbd_kinds::{ImageAt, NoMemory, Slot};
+use rbd_kinds::{ImageAt, NoMemory, Sharing, Slot};
 use rbd_line::Line;
 use std::alloc::Global;
 use std::collections::HashMap;
@@ -87,11 +88,11 @@ fn leave_in(lines: &mut HashMap<u64, Line>, key: u64, slot: Slot)
 }
 
 /// A line that is held is joined. False where none is.
-fn join_in(lines: &mut HashMap<u64, Line>, key: u64, slot: Slot, alone: bool) -> bool
+fn join_in(lines: &mut HashMap<u64, Line>, key: u64, slot: Slot, sharing: Sharing) -> bool
     requires from { 1 ≤ slot }
     requires to { slot ≤ 64 }
     requires other { IsFalse (is_member slot (members_in lines.old key)) }
-    ensures held { IsTrue result → (k : ℕ) → members_in lines.new k ≡ cond (nat_eq key k) (members_in lines.old k ++ joined slot alone ∷ []) (members_in lines.old k) }
+    ensures held { IsTrue result → (k : ℕ) → members_in lines.new k ≡ cond (nat_eq key k) (members_in lines.old k ++ joined slot sharing ∷ []) (members_in lines.old k) }
     ensures none { IsFalse result → (k : ℕ) → get nat_eq lines.new k ≡ get nat_eq lines.old k }
     ensures absent { IsFalse result → get nat_eq lines.old key ≡ None }
     ensures room { (k : ℕ) → room_in lines.new k ≡ room_in lines.old k }
@@ -100,7 +101,7 @@ fn join_in(lines: &mut HashMap<u64, Line>, key: u64, slot: Slot, alone: bool) ->
     let Some(line) = lines.get_mut(&key) else {
         return false;
     };
-    line.join(slot, alone);
+    line.join(slot, sharing);
     true
 }
 
@@ -228,19 +229,19 @@ impl Lines {
     }
 
     /// A request joins the line of an image.
-    pub fn join(&mut self, place: &ImageAt, slot: Slot, alone: bool)
+    pub fn join(&mut self, place: &ImageAt, slot: Slot, sharing: Sharing)
         requires from { 1 ≤ slot }
         requires to { slot ≤ 64 }
         requires other { IsFalse (is_member slot (lines_of self.old place.now.site place.now.image)) }
         requires open { CanOpen self.old }
-        ensures lines { (key : ℕ) → members_at key self.new ≡ cond (is_key (Some place.now) key) (members_at key self.old ++ joined slot alone ∷ []) (members_at key self.old) }
+        ensures lines { (key : ℕ) → members_at key self.new ≡ cond (is_key (Some place.now) key) (members_at key self.old ++ joined slot sharing ∷ []) (members_at key self.old) }
     {
         let key = place.key();
-        if join_in(&mut self.lines, key, slot, alone) {
+        if join_in(&mut self.lines, key, slot, sharing) {
             return;
         }
         let mut line = self.unused.take().unwrap();
-        line.join(slot, alone);
+        line.join(slot, sharing);
         add(&mut self.lines, key, line);
     }
 
@@ -345,7 +346,7 @@ impl Lines {
 
     /// Whether a request is alone in its line: `None` where it is in none.
     pub fn alone(&self, place: Option<ImageAt>, slot: Slot) -> Option<bool>
-        ensures { result ≡ option_map (λ m. m.alone) (member_of slot (members_of place self.now)) }
+        ensures { result ≡ option_map (λ m. is_alone m.sharing) (member_of slot (members_of place self.now)) }
     {
         match place {
             Some(place) => alone_in(&self.lines, place.key(), slot),
@@ -364,10 +365,10 @@ fn stage_in(lines: &HashMap<u64, Line>, key: u64, slot: Slot) -> Option<Stage>
 }
 
 fn alone_in(lines: &HashMap<u64, Line>, key: u64, slot: Slot) -> Option<bool>
-    ensures { result ≡ option_map (λ m. m.alone) (member_of slot (members_in lines.now key)) }
+    ensures { result ≡ option_map (λ m. is_alone m.sharing) (member_of slot (members_in lines.now key)) }
 {
     match lines.get(&key) {
-        Some(line) => line.alone(slot),
+        Some(line) => line.sharing(slot).map(|sharing| sharing.is_alone()),
         None => None,
     }
 }

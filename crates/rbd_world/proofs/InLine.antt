@@ -131,7 +131,7 @@ module _ (slot : ℕ) (p : ImageAt) where
       further next (Await (wait.Applied s i) next) t (waited_by slot t (wait.Applied s i)) (run slot next (waited_by slot t (wait.Applied s i))) refl
       (stays_changed slot p t (done_with t.turn) (done_steady t.turn) there None t.due (λ none. none) (λ none n. done_takes n t.turn))
       (run_stays next (waited_by slot t (wait.Applied s i)) there keeps)
-  run_stays (Await (wait.Join s i alone) next) t there keeps = absurd keeps
+  run_stays (Await (wait.Join s i sharing) next) t there keeps = absurd keeps
   run_stays (Await (wait.Leave s i) next) t there keeps = absurd keeps
   run_stays (Note s i event next) t there keeps =
       further next (Note s i event next) t (noted_by slot t) (run slot next (noted_by slot t)) refl

@@ -2,6 +2,7 @@
 use Rattle.std.proofs.Common.{◌≡◌, ℕ, ◌==◌, ◌&&◌, Bool, true, false, List, Option, Some, None, refl, sym, ap, ◌∙◌, subst}
 use Rattle.std.proofs.lemmas.Bool.{true≢false, eqb-true, and_parts}
 use Rattle.std.specs.Prelude.{IsSome}
+use Rattle.rbd_kinds.specs.declared.sharing.Sharing.{Sharing}
 use Rattle.rbd_kinds.specs.declared.answer.Answer.{Answer}
 use Rattle.rbd_kinds.specs.declared.answer.Answer.TheVariants as answer
 use Rattle.rbd_commands.specs.declared.refusal.Refusal.{Refusal}
@@ -137,25 +138,27 @@ next_asked other (Ask s why o next) = next
 next_asked other plan = other
 
 -- how it goes on behind the look-up
-abbrev pub joins : SiteId → (refuses : HeaderView → Option Refusal) → (act : (image : ℕ) → HeaderView → Plan) → (image : ℕ) → Plan
-joins home refuses act = joining home false refuses act
+abbrev pub joins : SiteId → Sharing → (refuses : HeaderView → Option Refusal) → (act : (image : ℕ) → HeaderView → Plan) → (image : ℕ) → Plan
+joins home sharing refuses act = joining home sharing refuses act
 
 abbrev pub looks : SiteId → (refuses : HeaderView → Option Refusal) → (act : (image : ℕ) → HeaderView → Plan) → (image : ℕ) → Plan
 looks home refuses act = looking home refuses act
 
 pub record LooksUp (home s : SiteId) (o : Op) (next : Answer → Plan) : Type 0 where
   pub name : List ℕ
+  pub sharing : Sharing
   pub refuses : HeaderView → Option Refusal
   pub act : (image : ℕ) → HeaderView → Plan
   pub site_is : s ≡ home
   pub op_is : o ≡ op.Directory (directory.Find name)
-  pub next_is : next ≡ on_id (joins home refuses act)
+  pub next_is : next ≡ on_id (joins home sharing refuses act)
   pub keeps : (image : ℕ) (h : HeaderView) (turn : Option ℕ) → KeepsTo home image turn (act image h)
 
-looks_up_so : (home s : SiteId) (why : Reason) (o : Op) (next : Answer → Plan) (st : Standing) (changes : ChangesInLine home st) → Ask s why o next ≡ find home changes.name (joins home changes.refuses changes.act)
+looks_up_so : (home s : SiteId) (why : Reason) (o : Op) (next : Answer → Plan) (st : Standing) (changes : ChangesInLine home st) → Ask s why o next ≡ find home changes.name (joins home changes.sharing changes.refuses changes.act)
     → LooksUp home s o next
 looks_up_so home s why o next st changes is = record {
   name = changes.name;
+  sharing = changes.sharing;
   refuses = changes.refuses;
   act = changes.act;
   site_is = ap (site_asked s) is;

@@ -53,9 +53,9 @@ own_keeps : (slot : ℕ) (place : Option ImageAt) (f : Member → Member) → Is
 own_keeps slot place f steady lines = at_place slot place (changed slot f) lines (λ x y x_other y_other ms member is. ahead_changed slot f steady x y ms ∙ is)
 
 waited_keeps : (slot : ℕ) (t : Track) (w : Wait) → KeepsAhead slot t.lines (waited_by slot t w).lines
-waited_keeps slot t (wait.Join site image alone) =
-    at_place slot (Some (image_at site image)) (λ members. members ++ joined slot alone ∷ []) t.lines
-    (λ x y x_other y_other ms member is. ap (is_member x) (ahead_pushed y ms (joined slot alone) member) ∙ is)
+waited_keeps slot t (wait.Join site image sharing) =
+    at_place slot (Some (image_at site image)) (λ members. members ++ joined slot sharing ∷ []) t.lines
+    (λ x y x_other y_other ms member is. ap (is_member x) (ahead_pushed y ms (joined slot sharing) member) ∙ is)
 waited_keeps slot t (wait.Hold site image) = own_keeps slot t.place held held_is_steady t.lines
 waited_keeps slot t (wait.Turn object) = own_keeps slot t.place (done_with t.turn) (done_steady t.turn) t.lines
 waited_keeps slot t (wait.Applied site image) = own_keeps slot t.place (done_with t.turn) (done_steady t.turn) t.lines

@@ -1,6 +1,7 @@
 -- Where a command that isn't a read looks at a header, it either waits for the lock next, or looks
 -- at none any more: step by step, and along a walk.
 use Rattle.std.proofs.Common.{◌≡◌, ◌⊎◌, inl, inr, ℕ, List, [], ◌∷◌, replicate, true, false, Option, Some, None, refl, sym, ◌∙◌, subst}
+use Rattle.rbd_kinds.specs.declared.sharing.Sharing.TheVariants as sharing
 use Rattle.rbd_kinds.specs.declared.answer.Answer.{Answer}
 use Rattle.rbd_kinds.specs.declared.answer.Answer.TheVariants as answer
 use Rattle.rbd_commands.specs.declared.command.Command.{Command}
@@ -134,9 +135,9 @@ module _ (site : SiteId) (refuses : HeaderView → Option Refusal) (act : ℕ �
   once_joining : (a : Answer) → LookedIf (op.Header image header.Get) (on_header (looked site refuses act image) a) × LooksOnce (on_header (looked site refuses act image) a)
   once_joining a = (looked_then a, at_header (looked site refuses act image) (λ h. once_so (refuses h)) a)
 
-at_change : (site : SiteId) (name : List ℕ) (alone : _) (refuses : HeaderView → Option Refusal) (act : ℕ → HeaderView → Plan)
-    → ((image : ℕ) (h : HeaderView) → LooksNoMore (act image h)) → LooksOnce (change site name alone refuses act)
-at_change site name alone refuses act acts = λ a. (tt, at_id (change_joining site alone refuses act) (once_joining site refuses act acts) a)
+at_change : (site : SiteId) (name : List ℕ) (sharing : _) (refuses : HeaderView → Option Refusal) (act : ℕ → HeaderView → Plan)
+    → ((image : ℕ) (h : HeaderView) → LooksNoMore (act image h)) → LooksOnce (change site name sharing refuses act)
+at_change site name sharing refuses act acts = λ a. (tt, at_id (change_joining site sharing refuses act) (once_joining site refuses act acts) a)
 
 -- ---- write, fill
 
@@ -147,7 +148,7 @@ none_pieces (p ∷ pieces) site image h from bytes =
 
 at_write : (site : SiteId) (name : List ℕ) (from : ℕ) (bytes : List ℕ) → LooksOnce (write site name from bytes)
 at_write site name from bytes =
-    at_change site name false (write_refuses (extent_at from bytes)) (put site from bytes)
+    at_change site name sharing.Shared (write_refuses (extent_at from bytes)) (put site from bytes)
     (λ image h. none_pieces (pieces_of h.layout (extent_at from bytes)) site image h from bytes)
 
 at_write_plan : (site : SiteId) (c : Command) → LooksOnce (write_plan site c)
@@ -160,7 +161,7 @@ at_write_plan site _ = tt
 at_discard_plan : (site : SiteId) (c : Command) → LooksOnce (discard_plan site c)
 at_discard_plan site (command.Discard image at len) =
     let e : Extent = record { at = at; len = len } in
-    at_change site image false (write_refuses e) (zero site e) (λ i h. none_zeroed (pieces_of h.layout e) site i h)
+    at_change site image sharing.Discard (write_refuses e) (zero site e) (λ i h. none_zeroed (pieces_of h.layout e) site i h)
 at_discard_plan site _ = tt
 
 -- ---- create
@@ -244,22 +245,22 @@ none_removal site snap image (Some listed) = (tt, none_done (unmapping site imag
 
 at_snap_plan : (site : SiteId) (c : Command) → LooksOnce (snap_plan site c)
 at_snap_plan site (command.SnapCreate image snap) =
-    at_change site image true (create_refuses snap) (take site snap)
+    at_change site image sharing.Alone (create_refuses snap) (take site snap)
     (λ i h. (tt, none_bits _ (λ bits. (tt, none_done (taking site snap i) (tt, none_snap (applied site i) tt)))))
 at_snap_plan site (command.SnapRemove image snap) =
-    at_change site image true (remove_refuses snap) (remove site snap) (λ i h. none_removal site snap i (snap_named h.snaps snap))
+    at_change site image sharing.Alone (remove_refuses snap) (remove site snap) (λ i h. none_removal site snap i (snap_named h.snaps snap))
 at_snap_plan site _ = tt
 
 -- ---- resize, snap rollback
 
 at_resize_plan : (site : SiteId) (c : Command) → LooksOnce (resize_plan site c)
 at_resize_plan site (command.Resize image size) =
-    at_change site image true (resize_refuses size) (set_size site size) (λ i h. none_resize site i h size (object_count h.layout size) (applied site i) tt)
+    at_change site image sharing.Alone (resize_refuses size) (set_size site size) (λ i h. none_resize site i h size (object_count h.layout size) (applied site i) tt)
 at_resize_plan site _ = tt
 
 at_rollback_plan : (site : SiteId) (c : Command) → LooksOnce (rollback_plan site c)
 at_rollback_plan site (command.SnapRollback image snap) =
-    at_change site image true (rollback_refuses snap) (roll_back_to site snap) (λ i h. none_listed site snap i h (snap_named h.snaps snap))
+    at_change site image sharing.Alone (rollback_refuses snap) (roll_back_to site snap) (λ i h. none_listed site snap i h (snap_named h.snaps snap))
 at_rollback_plan site _ = tt
 
 -- ---- rm
@@ -326,7 +327,7 @@ none_dropped site image a = none_there a
 
 at_close_plan : (site : SiteId) (c : Command) → LooksOnce (close_plan site c)
 at_close_plan site (command.Close image) = at_none (close site image) (tt, none_id (joining site) (λ i. (tt, none_dropped site i)))
-at_close_plan site (command.Quiesce image) = at_change site image true refuses_none quiesced (λ i h. tt)
+at_close_plan site (command.Quiesce image) = at_change site image sharing.Alone refuses_none quiesced (λ i h. tt)
 at_close_plan site (command.Resume image) = at_none (resume site image) (tt, none_id resumed (λ i. tt))
 at_close_plan site (command.Tell image bytes) = at_none (tell site image bytes) (tt, none_id (saying site bytes) (λ i. (tt, none_done done tt)))
 at_close_plan site _ = tt

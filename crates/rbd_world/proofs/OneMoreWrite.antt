@@ -2,6 +2,7 @@
 use Rattle.std.proofs.Common.{◌≡◌, ◌≢◌, ◌⊎◌, inl, inr, ℕ, true, false, List, [], replicate, Some, None, refl, sym, ap, ◌∙◌, subst}
 use Rattle.std.proofs.lemmas.Bool.{true≢false}
 use Rattle.std.specs.Prelude.{IsSome}
+use Rattle.rbd_kinds.specs.declared.sharing.Sharing.TheVariants as sharing
 use Rattle.rbd_commands.specs.declared.command.Command.{Command}
 use Rattle.rbd_commands.specs.declared.command.Command.TheVariants as command
 use Rattle.rbd_kinds.specs.declared.id.Instance.{Instance}
@@ -33,6 +34,7 @@ use Rattle.rbd_world.proofs.Writing.{put_keeps, zero_keeps}
 write_changes : (home : SiteId) (name : List ℕ) (at : ℕ) (bytes : List ℕ) (s : Standing) → s ≡ without_labels (write home name at bytes) → ChangesInLine home s
 write_changes home name at bytes s is = record {
   name = name;
+  sharing = sharing.Shared;
   refuses = write_refuses (extent_at at bytes);
   act = put home at bytes;
   stand = is;
@@ -42,6 +44,7 @@ write_changes home name at bytes s is = record {
 discard_changes : (home : SiteId) (name : List ℕ) (e : Extent) (s : Standing) → s ≡ without_labels (discard home name e) → ChangesInLine home s
 discard_changes home name e s is = record {
   name = name;
+  sharing = sharing.Discard;
   refuses = write_refuses e;
   act = zero home e;
   stand = is;

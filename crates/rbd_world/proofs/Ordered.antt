@@ -218,19 +218,19 @@ module _ {R : Type 0} (stands : R → Standing) (homes : ℕ → SiteId) (home :
 
       module _ (b : IsBeforeFinding stands home rn r) where
         told : Told a
-        told = told_it labels (joins home (up b).refuses (up b).act) a (subst (λ n. IsAsking (at_operation labels (n a))) (up b).next_is further.asks)
+        told = told_it labels (joins home (up b).sharing (up b).refuses (up b).act) a (subst (λ n. IsAsking (at_operation labels (n a))) (up b).next_is further.asks)
 
         abbrev image : ℕ
         image = told.image
 
         plan_then : at_operation labels (next a) ≡ looks home (up b).refuses (up b).act image
-        plan_then = ap (λ n. at_operation labels (n a)) (up b).next_is ∙ ap (λ x. at_operation labels (on_id (joins home (up b).refuses (up b).act) x)) told.is
+        plan_then = ap (λ n. at_operation labels (n a)) (up b).next_is ∙ ap (λ x. at_operation labels (on_id (joins home (up b).sharing (up b).refuses (up b).act) x)) told.is
 
-        track_then : there ≡ waited_by slot (track_of r c.lines) (wait.Join home image false)
+        track_then : there ≡ waited_by slot (track_of r c.lines) (wait.Join home image (up b).sharing)
         track_then =
             ap (λ w. run slot (next a) (answered_by slot r.extent (track_of r c.lines) s w a)) (up b).op_is
             ∙ ap (λ n. run slot (n a) (track_of r c.lines)) (up b).next_is
-            ∙ ap (λ x. run slot (on_id (joins home (up b).refuses (up b).act) x) (track_of r c.lines)) told.is
+            ∙ ap (λ x. run slot (on_id (joins home (up b).sharing (up b).refuses (up b).act) x) (track_of r c.lines)) told.is
 
         tells : (i : ℕ) → tells_image i o a ≡ (image == i)
         tells i = ap (λ w. tells_image i w a) (up b).op_is ∙ ap (λ x. tells_image i (op.Directory (directory.Find (up b).name)) x) told.is
@@ -330,7 +330,7 @@ module _ {R : Type 0} (stands : R → Standing) (homes : ℕ → SiteId) (home :
           ap (λ n. is_member x (ahead n (lines_of d.lines t i))) same ∙ ap (λ (ls : SiteId → ℕ → List Member). is_member x (ahead slot (ls t i))) joined_lines
           ∙ by (is_at home (image p further b) t i) refl
         where
-          joined_lines : lines_of d.lines ≡ (waited_by slot (track_of r c.lines) (wait.Join home (image p further b) false)).lines
+          joined_lines : lines_of d.lines ≡ (waited_by slot (track_of r c.lines) (wait.Join home (image p further b) (up b).sharing)).lines
           joined_lines = lines_then p further ∙ ap (λ (u : Track). u.lines) (track_then p further b)
 
           outside : is_member slot (lines_of c.lines t i) ≡ false
@@ -341,17 +341,17 @@ module _ {R : Type 0} (stands : R → Standing) (homes : ℕ → SiteId) (home :
               let before_that = found_earlier q.line p.line t i does rn (finds_nothing q.line t i does (silent x q x_other one)) earlier in
               (in_its_place x q one t i (found_has q.line p.line t i rn before_that) (old.comes x q one writes)).is
 
-          member_now : is_member slot (cond (is_at home (image p further b) t i) (lines_of c.lines t i ++ joined slot false ∷ []) (lines_of c.lines t i)) ≡ true
+          member_now : is_member slot (cond (is_at home (image p further b) t i) (lines_of c.lines t i ++ joined slot (up b).sharing ∷ []) (lines_of c.lines t i)) ≡ true
           member_now =
               sym (ap (λ (ls : SiteId → ℕ → List Member). is_member slot (ls t i)) joined_lines) ∙ ap (λ n. is_member n (lines_of d.lines t i)) (sym same) ∙ member
 
           by : (f : Bool) → is_at home (image p further b) t i ≡ f
-              → is_member x (ahead slot (cond f (lines_of c.lines t i ++ joined slot false ∷ []) (lines_of c.lines t i))) ≡ true
-          by true here = ap (is_member x) (ahead_last (lines_of c.lines t i) (joined slot false) outside) ∙ inside
+              → is_member x (ahead slot (cond f (lines_of c.lines t i ++ joined slot (up b).sharing ∷ []) (lines_of c.lines t i))) ≡ true
+          by true here = ap (is_member x) (ahead_last (lines_of c.lines t i) (joined slot (up b).sharing) outside) ∙ inside
           by false other =
               absurd
               (true≢false
-              (sym (sym (ap (λ f. is_member slot (cond f (lines_of c.lines t i ++ joined slot false ∷ []) (lines_of c.lines t i))) other) ∙ member_now) ∙ outside))
+              (sym (sym (ap (λ f. is_member slot (cond f (lines_of c.lines t i ++ joined slot (up b).sharing ∷ []) (lines_of c.lines t i))) other) ∙ member_now) ∙ outside))
       own_later x_other one same further (inr b) =
           ahead_stays p further b (λ was.
           old.in_line x y q r one (ap (λ n. running_at n c) same ∙ runs) writes (subst IsSome further.extent other_writes) t i

@@ -2,8 +2,9 @@
 -- it.
 use Rattle.std.proofs.Common.{◌≡◌, ℕ, ◌||◌, not, Bool, true, false, List, [], ◌∷◌, Option, Some, None, refl, sym, ap, ◌∙◌}
 use Rattle.std.proofs.lemmas.Bool.{true≢false, and_parts}
+use Rattle.rbd_kinds.specs.Sharing.{go_together, is_alone}
 use Rattle.rbd_guard.specs.Order.{is_in}
-use Rattle.rbd_line.specs.Line.{Member, LetsPass, IsFairLine, IsFairMember, member_of, is_member, ahead, comes_next, has_turn, holds, is_past, is_shared_past, lets_pass, objects_in}
+use Rattle.rbd_line.specs.Line.{Member, LetsPass, IsFairLine, IsFairMember, member_of, is_member, ahead, comes_next, has_turn, holds, is_past, lets_pass, objects_in}
 use Rattle.rbd_line.specs.Turns.{begins_with}
 use Rattle.rbd_line.proofs.Keeping.{found_has}
 use Rattle.rbd_line.proofs.Passing.{ahead_first, found_at}
@@ -46,12 +47,10 @@ module _ (slot number : ℕ) (members : List Member) (fair : IsFairLine members)
   its_past : is_past ticket.member.stage ≡ true
   its_past =
       let right = (found_has IsFairMember slot members fair.each ticket.member ticket.found).0.holds_by_right number ticket.has in
-      (and_parts (is_past ticket.member.stage) (not ticket.member.alone) right).0
+      (and_parts (is_past ticket.member.stage) (not (is_alone ticket.member.sharing)) right).0
 
-  past_of : (m : Member) → lets_pass ticket.member.alone m ≡ true → is_past m.stage ≡ true
-  past_of m lets =
-      let shared = (and_parts (is_shared_past m) (not ticket.member.alone) lets).0 in
-      (and_parts (is_past m.stage) (not m.alone) shared).0
+  past_of : (m : Member) → lets_pass ticket.member.sharing m ≡ true → is_past m.stage ≡ true
+  past_of m lets = (and_parts (is_past m.stage) (go_together m.sharing ticket.member.sharing) lets).0
 
   pub earlier_past : (x : ℕ) → is_member x (ahead slot members) ≡ true → IsPastWithout x number members
   earlier_past x before m found = (

@@ -104,7 +104,7 @@ acted_drawn k (actor.Release x) t image drawn = absurd (release_draws_none x.sta
 
 -- no wait teaches any
 passed_drawn : (k : Knowledge) (w : Wait) (t : SiteId) (image : ℕ) → is_drawn (passed k w).drawn t image ≡ true → is_drawn k.drawn t image ≡ true
-passed_drawn k (wait.Join site i alone) t image drawn = drawn
+passed_drawn k (wait.Join site i sharing) t image drawn = drawn
 passed_drawn k (wait.Hold site i) t image drawn = drawn
 passed_drawn k (wait.Turn object) t image drawn = drawn
 passed_drawn k (wait.Applied site i) t image drawn = drawn

@@ -2,6 +2,7 @@
 -- image first writes each of its objects first. A write is here whatever changes an extent piece by
 -- piece: a `write`, a `fill` or a `discard`.
 use Rattle.std.specs.Prelude.{◌≡◌, ◌⊎◌, ℕ, ◌==◌, ◌&&◌, ◌||◌, not, Bool, true, false, List, [], ◌∷◌, Option, Some, None, IsSome}
+use Rattle.rbd_kinds.specs.declared.sharing.Sharing.{Sharing}
 use Rattle.rbd_kinds.specs.declared.answer.Answer.{Answer}
 use Rattle.rbd_kinds.specs.declared.answer.Answer.TheVariants as answer
 use Rattle.rbd_commands.specs.declared.refusal.Refusal.{Refusal}
@@ -100,9 +101,10 @@ WritesFirst one other s image number (h ∷ run) =
 -- that keeps to it, whatever header it is told.
 pub record ChangesInLine (home : SiteId) (s : Standing) : Type 0 where
   pub name : List ℕ
+  pub sharing : Sharing
   pub refuses : HeaderView → Option Refusal
   pub act : (image : ℕ) → HeaderView → Plan
-  pub stand : s ≡ without_labels (change home name false refuses act)
+  pub stand : s ≡ without_labels (change home name sharing refuses act)
   pub keeps : (image : ℕ) (h : HeaderView) (turn : Option ℕ) → KeepsTo home image turn (act image h)
 
 -- It has found no image yet, and is in no line.

@@ -2,7 +2,7 @@
 //! as the first.
 
 /// The way of a change that goes beside others to its own look.
-pub const BESIDE: &str = "dir-find disk, join, header-get, hold, header-get, ";
+pub const BESIDE: &str = "dir-find disk, join discard, header-get, hold, header-get, ";
 
 /// That of a change that is alone.
 pub const ALONE: &str = "dir-find disk, join alone, header-get, hold, header-get, ";
@@ -153,18 +153,19 @@ rename disk one|exists||dir-rename disk one|ImageExists";
 /// All that is wanted before a request is refused: at the first look, and at its own.
 pub const REFUSALS: &str = "\
 discard 0 1|none dir-find||dir-find disk|NoImage
-discard 0 1|gone||dir-find disk, join, header-get|NoImage
-discard 0 1|size 4096 secondary||dir-find disk, join, header-get|NonPrimary
-discard 0 0|size 4096 secondary||dir-find disk, join, header-get|NonPrimary
-discard 0 0|size 4096||dir-find disk, join, header-get|BadRange
-discard 0 4097|size 4096||dir-find disk, join, header-get|BadRange
-discard 4096 1|size 4096||dir-find disk, join, header-get|BadRange
-discard 9223372036854775807 9223372036854775807|size 4096||dir-find disk, join, header-get|\
+discard 0 1|gone||dir-find disk, join discard, header-get|NoImage
+discard 0 1|size 4096 secondary||dir-find disk, join discard, header-get|NonPrimary
+discard 0 0|size 4096 secondary||dir-find disk, join discard, header-get|NonPrimary
+discard 0 0|size 4096||dir-find disk, join discard, header-get|BadRange
+discard 0 4097|size 4096||dir-find disk, join discard, header-get|BadRange
+discard 4096 1|size 4096||dir-find disk, join discard, header-get|BadRange
+discard 9223372036854775807 9223372036854775807|size 4096||dir-find disk, join discard, header-get|\
     BadRange
-discard 0 1|size 4096|gone|dir-find disk, join, header-get, hold, header-get|NoImage
-discard 0 1|size 4096|size 4096 secondary|dir-find disk, join, header-get, hold, header-get|\
-    NonPrimary
-discard 0 4096|size 4096|size 4095|dir-find disk, join, header-get, hold, header-get|BadRange
+discard 0 1|size 4096|gone|dir-find disk, join discard, header-get, hold, header-get|NoImage
+discard 0 1|size 4096|size 4096 secondary|dir-find disk, join discard, header-get, hold, \
+    header-get|NonPrimary
+discard 0 4096|size 4096|size 4095|dir-find disk, join discard, header-get, hold, header-get|\
+    BadRange
 resize 0|none dir-find||dir-find disk|NoImage
 resize 0|gone||dir-find disk, join alone, header-get|NoImage
 resize 0|size 4096 secondary||dir-find disk, join alone, header-get|NonPrimary

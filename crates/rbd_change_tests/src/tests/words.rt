@@ -1,7 +1,7 @@
 //! What a request wants, in words.
 use rbd_kinds::{
     Bytes, ChildrenOp, DataOp, DirectoryOp, Event, HeaderOp, ImageId, MapOp, NoMemory, Op, Part,
-    SnapContext, SnapId, Want,
+    Sharing, SnapContext, SnapId, Want,
 };
 
 /// The image of these tests.
@@ -211,15 +211,25 @@ pub fn event_into(log: &mut String, event: &Option<Event>) -> Result<(), NoMemor
     }
 }
 
+/// The word for joining a line.
+fn join_word(sharing: Sharing) -> &'static str {
+    match sharing {
+        Sharing::Alone => "join alone",
+        Sharing::Shared => "join",
+        Sharing::Discard => "join discard",
+        Sharing::Flatten => "join flatten",
+    }
+}
+
 /// Writes what is wanted beside operations and events.
 pub fn wait_into(log: &mut String, want: &Want) -> Result<(), NoMemory> {
     match want {
         Want::Join {
             site: _,
             image,
-            alone,
+            sharing,
         } => {
-            word_into(log, if *alone { "join alone" } else { "join" })?;
+            word_into(log, join_word(*sharing))?;
             image_into(log, *image)
         }
         Want::Hold { site: _, image } => {

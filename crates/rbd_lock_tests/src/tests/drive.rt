@@ -72,7 +72,7 @@ fn waits_in_line<M: Machine>(machine: &M, site: &mut Site) -> Result<bool, NoMem
         Want::Join {
             site: _,
             image: _,
-            alone: _,
+            sharing: _,
         } => {
             site.wait(&want)?;
             Ok(true)

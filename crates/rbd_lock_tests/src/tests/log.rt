@@ -1,7 +1,7 @@
 //! How a site writes down what it is asked, what it answers, and what a request waits for.
 use super::site::{HERE, IMAGE};
 use rbd_kinds::{
-    Answer, DirectoryOp, HeaderOp, Instance, NoMemory, NoticeKind, Op, SessionNo, Want,
+    Answer, DirectoryOp, HeaderOp, Instance, NoMemory, NoticeKind, Op, SessionNo, Sharing, Want,
 };
 
 /// Writes an operation and its answer into a log, as `lock-break c2: done`.
@@ -23,12 +23,12 @@ pub fn wait_into(log: &mut String, want: &Want) -> Result<(), NoMemory> {
         Want::Join {
             site: _,
             image: _,
-            alone: true,
+            sharing: Sharing::Alone,
         } => "join alone",
         Want::Join {
             site: _,
             image: _,
-            alone: false,
+            sharing: _,
         } => "join",
         Want::Hold { site: _, image: _ } => "hold",
         _ => "something else",
@@ -46,7 +46,7 @@ fn is_here(want: &Want) -> bool {
         Want::Join {
             site,
             image,
-            alone: _,
+            sharing: _,
         } => *site == HERE && *image == IMAGE,
         Want::Hold { site, image } => *site == HERE && *image == IMAGE,
         _ => false,

@@ -1,6 +1,6 @@
 //! Each request is fed by hand, on its way to its end and to a refusal. What it has to want was
 //! worked out from the rules in prose.
-ghost use Rattle.std.specs.Prelude.{◌≡◌, true, IfOk, OnOk};
+ghost use Rattle.std.specs.Prelude.{◌≡◌, IfOk, OnOk};
 ghost use Rattle.rbd_kinds.specs.declared.id.SiteId.TheVariants as site;
 ghost use Rattle.rbd_header.specs.Header.{new_header};
 ghost use Rattle.rbd_kinds.specs.declared.journal.Event.TheVariants.{SnapCreate};
@@ -19,7 +19,7 @@ use super::header::disk;
 use rbd_admin::{CreateRequest, ListRequest, SnapRequest};
 use rbd_kinds::{
     Answer, AskedName, Bytes, Command, Event, Fed, MapOp, Names, NoMemory, Number, Op, OpKind,
-    Refusal, Reply, Role, Shape, SiteId, SnapId,
+    Refusal, Reply, Role, Shape, Sharing, SiteId, SnapId,
 };
 use rbd_machine::Machine;
 use std::alloc::Global;
@@ -255,7 +255,7 @@ fn snap_create_request(
     image: &[u8],
     snap: &[u8],
 ) -> Result<SnapRequest, NoMemory>
-    ensures { IfOk result (λ r. rest_of_snap r ≡ change site.A image.now true (create_refuses snap.now) (take site.A snap.now)) }
+    ensures { IfOk result (λ r. rest_of_snap r ≡ change site.A image.now Sharing.Alone (create_refuses snap.now) (take site.A snap.now)) }
 {
     let image = AskedName::parse(Bytes::from_slice(alloc, image)?).expect(rt, "a name");
     let snap = AskedName::parse(Bytes::from_slice(alloc, snap)?).expect(rt, "a name");
@@ -270,13 +270,13 @@ fn own(
     image: &[u8],
     snap: &[u8],
 ) -> Result<(), NoMemory>
-    requires { rest_of_snap request.old ≡ change site.A image.now true (create_refuses snap.now) (take site.A snap.now) }
+    requires { rest_of_snap request.old ≡ change site.A image.now Sharing.Alone (create_refuses snap.now) (take site.A snap.now) }
     ensures { OnOk result (rest_of_snap request.new ≡ Note site.A 7 (SnapCreate snap.now) (copying site.A snap.now 7 1)) }
 {
     let (_image, _snap) = (image, snap);
     let found = Fed::Answer(Answer::Id(IMAGE));
     go_on(rt, alloc, request, op(OpKind::DirFind), found)?;
-    go_on(rt, alloc, request, join(true), Fed::Passed)?;
+    go_on(rt, alloc, request, join(Sharing::Alone), Fed::Passed)?;
     let looked = Fed::Answer(Answer::Header(disk(alloc, 4096, 0, Role::Plain)));
     go_on(rt, alloc, request, op(OpKind::HeaderGet), looked)?;
     go_on(rt, alloc, request, HOLD, Fed::Passed)?;
@@ -340,7 +340,7 @@ fn owns_and_takes(
     image: &[u8],
     snap: &[u8],
 ) -> Result<bool, NoMemory>
-    requires { rest_of_snap request.old ≡ change site.A image.now true (create_refuses snap.now) (take site.A snap.now) }
+    requires { rest_of_snap request.old ≡ change site.A image.now Sharing.Alone (create_refuses snap.now) (take site.A snap.now) }
 {
     own(rt, alloc, request, image, snap)?;
     takes(rt, alloc, request, snap)
@@ -361,7 +361,7 @@ fn snap_remove_request(
     image: &[u8],
     snap: &[u8],
 ) -> Result<SnapRequest, NoMemory>
-    ensures { IfOk result (λ r. rest_of_snap r ≡ change site.A image.now true (remove_refuses snap.now) (remove site.A snap.now)) }
+    ensures { IfOk result (λ r. rest_of_snap r ≡ change site.A image.now Sharing.Alone (remove_refuses snap.now) (remove site.A snap.now)) }
 {
     let image = AskedName::parse(Bytes::from_slice(alloc, image)?).expect(rt, "a name");
     let snap = AskedName::parse(Bytes::from_slice(alloc, snap)?).expect(rt, "a name");
@@ -375,12 +375,12 @@ fn finds_no_snapshot(
     image: &[u8],
     snap: &[u8],
 ) -> Result<bool, NoMemory>
-    requires { rest_of_snap request.old ≡ change site.A image.now true (remove_refuses snap.now) (remove site.A snap.now) }
+    requires { rest_of_snap request.old ≡ change site.A image.now Sharing.Alone (remove_refuses snap.now) (remove site.A snap.now) }
 {
     let (_image, _snap) = (image, snap);
     let found = Fed::Answer(Answer::Id(IMAGE));
     go_on(rt, alloc, request, op(OpKind::DirFind), found)?;
-    go_on(rt, alloc, request, join(true), Fed::Passed)?;
+    go_on(rt, alloc, request, join(Sharing::Alone), Fed::Passed)?;
     let looked = Fed::Answer(Answer::Header(disk(alloc, 4096, 0, Role::Plain)));
     let reply = end(rt, alloc, request, op(OpKind::HeaderGet), looked)?;
     Ok(is_refused(reply, Refusal::NoSnap))

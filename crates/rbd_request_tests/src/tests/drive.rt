@@ -4,7 +4,8 @@ ghost use Rattle.rbd_machine.specs.Answers.{CanBeFed};
 ghost use Rattle.rbd_machine.specs.Plan.{GoesOn, IsAsking, plan_after};
 
 use rbd_kinds::{
-    AskedName, Bytes, Fed, ImageId, NoMemory, Op, OpKind, Refusal, Reply, SiteId, Turn, Want,
+    AskedName, Bytes, Fed, ImageId, NoMemory, Op, OpKind, Refusal, Reply, Sharing, SiteId, Turn,
+    Want,
 };
 use rbd_machine::{Machine, Reason};
 use std::alloc::Global;
@@ -32,11 +33,11 @@ pub const APPLIED: Want = Want::Applied {
 };
 
 /// To join the line of the image's requests.
-pub fn join(alone: bool) -> Want {
+pub fn join(sharing: Sharing) -> Want {
     Want::Join {
         site: SiteId::A,
         image: IMAGE,
-        alone,
+        sharing,
     }
 }
 

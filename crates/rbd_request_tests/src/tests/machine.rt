@@ -12,7 +12,7 @@ use super::drive::{HOLD, IMAGE, asks, end, go_on, is_done, is_refused, join};
 use super::header::disk;
 use rbd_kinds::{
     Answer, Bytes, Event, Fed, HeaderView, Name, NoMemory, Op, OpKind, Refusal, Reply, Role,
-    SiteId, Turn, Want,
+    Sharing, SiteId, Turn, Want,
 };
 use rbd_machine::{
     Approach, Machine, Progress, Reason, Refuses, non_primary, told_done, told_header, told_image,
@@ -91,22 +91,22 @@ impl Machine for Change {
 }
 
 /// A change of the image `disk`.
-fn made(rt: &impl Abort, alloc: Global, alone: bool) -> Result<Change, NoMemory>
-    ensures { IfOk result (λ c. rest_of c.way (λ header. if header.size == 4096 then None else Some BadRange) (λ image header. Return Done) ≡ way_of site.A (100 ∷ 105 ∷ 115 ∷ 107 ∷ []) alone (λ header. if header.size == 4096 then None else Some BadRange) (λ image header. Return Done)) }
+fn made(rt: &impl Abort, alloc: Global, sharing: Sharing) -> Result<Change, NoMemory>
+    ensures { IfOk result (λ c. rest_of c.way (λ header. if header.size == 4096 then None else Some BadRange) (λ image header. Return Done) ≡ way_of site.A (100 ∷ 105 ∷ 115 ∷ 107 ∷ []) sharing (λ header. if header.size == 4096 then None else Some BadRange) (λ image header. Return Done)) }
 {
     let name = Name::parse(Bytes::from_slice(alloc, b"disk")?).expect(rt, "a name");
-    let way = Approach::new(SiteId::A, name, alone);
+    let way = Approach::new(SiteId::A, name, sharing);
     Ok(Change { way })
 }
 
 /// It has found its image and joined the line.
-fn joined(rt: &impl Abort, alloc: Global, alone: bool) -> Result<Change, NoMemory>
+fn joined(rt: &impl Abort, alloc: Global, sharing: Sharing) -> Result<Change, NoMemory>
     ensures { IfOk result (λ c. rest_of c.way (λ header. if header.size == 4096 then None else Some BadRange) (λ image header. Return Done) ≡ looking site.A (λ header. if header.size == 4096 then None else Some BadRange) (λ image header. Return Done) 7) }
 {
-    let mut change = made(rt, alloc, alone)?;
+    let mut change = made(rt, alloc, sharing)?;
     let found = Fed::Answer(Answer::Id(IMAGE));
     go_on(rt, alloc, &mut change, FIND, found)?;
-    go_on(rt, alloc, &mut change, join(alone), Fed::Passed)?;
+    go_on(rt, alloc, &mut change, join(sharing), Fed::Passed)?;
     Ok(change)
 }
 
@@ -114,7 +114,7 @@ fn joined(rt: &impl Abort, alloc: Global, alone: bool) -> Result<Change, NoMemor
 fn held(rt: &impl Abort, alloc: Global) -> Result<Change, NoMemory>
     ensures { IfOk result (λ c. rest_of c.way (λ header. if header.size == 4096 then None else Some BadRange) (λ image header. Return Done) ≡ owning site.A (λ header. if header.size == 4096 then None else Some BadRange) (λ image header. Return Done) 7) }
 {
-    let mut change = joined(rt, alloc, true)?;
+    let mut change = joined(rt, alloc, Sharing::Alone)?;
     let looked = Fed::Answer(Answer::Header(disk(alloc, 4096, 0, Role::Plain)));
     go_on(rt, alloc, &mut change, LOOK, looked)?;
     go_on(rt, alloc, &mut change, HOLD, Fed::Passed)?;
@@ -136,7 +136,7 @@ fn a_change_looks_before_the_lock_and_under_it(rt: HostRuntime) -> Result<(), Fa
 #[test]
 fn the_first_look_refuses(rt: HostRuntime) -> Result<(), Fail> {
     let alloc = rt.alloc();
-    let mut change = joined(&rt, alloc, false)?;
+    let mut change = joined(&rt, alloc, Sharing::Shared)?;
     assert!(rt; change.way.owning().is_none());
     let looked = Fed::Answer(Answer::Header(disk(alloc, 8192, 0, Role::Plain)));
     let reply = end(&rt, alloc, &mut change, LOOK, looked)?;
@@ -157,7 +157,7 @@ fn the_own_look_refuses(rt: HostRuntime) -> Result<(), Fail> {
 #[test]
 fn no_such_name_is_no_image(rt: HostRuntime) -> Result<(), Fail> {
     let alloc = rt.alloc();
-    let mut change = made(&rt, alloc, true)?;
+    let mut change = made(&rt, alloc, Sharing::Alone)?;
     assert!(rt; asks(alloc, &change, OpKind::DirFind)?);
     let absent = Fed::Answer(Answer::Absent);
     let reply = end(&rt, alloc, &mut change, FIND, absent)?;
@@ -168,7 +168,7 @@ fn no_such_name_is_no_image(rt: HostRuntime) -> Result<(), Fail> {
 #[test]
 fn the_fence_ends_a_look(rt: HostRuntime) -> Result<(), Fail> {
     let alloc = rt.alloc();
-    let mut change = joined(&rt, alloc, true)?;
+    let mut change = joined(&rt, alloc, Sharing::Alone)?;
     let fenced = Fed::Answer(Answer::Fenced);
     let reply = end(&rt, alloc, &mut change, LOOK, fenced)?;
     assert!(rt; is_refused(reply, Refusal::Fenced));

@@ -18,7 +18,7 @@ use super::drive::{
 use super::header::disk;
 use rbd_kinds::{
     Answer, AskedName, Bytes, Command, Event, Fed, FillLength, NoMemory, Number, OpKind, Payload,
-    Refusal, Role, SiteId,
+    Refusal, Role, Sharing, SiteId,
 };
 use rbd_machine::Machine;
 use rbd_request::WriteRequest;
@@ -53,7 +53,7 @@ fn hello_joined(rt: &impl Abort, alloc: Global) -> Result<WriteRequest, NoMemory
     let mut request = hello(rt, alloc, image)?;
     let found = Fed::Answer(Answer::Id(IMAGE));
     go_on(rt, alloc, &mut request, op(OpKind::DirFind), found)?;
-    go_on(rt, alloc, &mut request, join(false), Fed::Passed)?;
+    go_on(rt, alloc, &mut request, join(Sharing::Shared), Fed::Passed)?;
     Ok(request)
 }
 
@@ -201,7 +201,7 @@ fn is_a_fill_past_the_end(
     let _image = image;
     let found = Fed::Answer(Answer::Id(IMAGE));
     go_on(rt, alloc, request, op(OpKind::DirFind), found)?;
-    go_on(rt, alloc, request, join(false), Fed::Passed)?;
+    go_on(rt, alloc, request, join(Sharing::Shared), Fed::Passed)?;
     let looked = Fed::Answer(Answer::Header(disk(alloc, 2, 1, Role::Plain)));
     let reply = end(rt, alloc, request, op(OpKind::HeaderGet), looked)?;
     Ok(is_refused(reply, Refusal::BadRange))

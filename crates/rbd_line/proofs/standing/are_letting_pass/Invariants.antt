@@ -7,5 +7,5 @@ use Rattle.rbd_line.proofs.standing.are_letting_pass.Given as goal
 -- those so far let it pass
 abbrev pub invariant-loop-standing : goal.invariant-loop-standing
 invariant-loop-standing l =
-    (held : ℕ → List ℕ) → list_all (lets_pass l.alone) (ahead l.slot (map (member held) (drop l.standing-index l.members)))
-    ≡ list_all (lets_pass l.alone) (ahead l.slot (map (member held) l.members))
+    (held : ℕ → List ℕ) → list_all (lets_pass l.sharing) (ahead l.slot (map (member held) (drop l.standing-index l.members)))
+    ≡ list_all (lets_pass l.sharing) (ahead l.slot (map (member held) l.members))

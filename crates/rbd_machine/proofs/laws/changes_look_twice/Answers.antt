@@ -6,6 +6,6 @@ use Rattle.rbd_machine.proofs.laws.changes_look_twice.Goals as goal
 
 -- src/laws.rt:16:1
 pub returns : goal.returns
-returns c = λ site name alone refuses act n acts.
+returns c = λ site name sharing refuses act n acts.
     let three_more : suc (suc (suc n)) ≡ n + 3 = omega arith in
-    subst (IsBounded (change site name alone refuses act)) three_more (bounded_change site refuses act n acts name alone)
+    subst (IsBounded (change site name sharing refuses act)) three_more (bounded_change site refuses act n acts name sharing)

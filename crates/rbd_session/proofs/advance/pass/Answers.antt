@@ -13,5 +13,5 @@ join-requires-clause-other g c =
 pub returns-in-Join-clause-track : goal.returns-in-Join-clause-track
 returns-in-Join-clause-track g c =
     rw c.in-Join.is
-    (joined_track c.args.slot c.args.due.now c.args.running.now c.join.new.running c.args.lines.now c.join.new.lines (record { site = c.in-Join.site; image = c.in-Join.image }) c.in-Join.alone
+    (joined_track c.args.slot c.args.due.now c.args.running.now c.join.new.running c.args.lines.now c.join.new.lines (record { site = c.in-Join.site; image = c.in-Join.image }) c.in-Join.sharing
     c.join.ensures.running c.join.ensures.lines)

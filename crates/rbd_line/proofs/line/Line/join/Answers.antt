@@ -14,20 +14,20 @@ join_at-requires c =
 
 after : (c : goal.After-join_at)
     → Holds (λ slot. held_by slot c.self.inside.turns) (λ object. holders object c.self.inside.turns) c.join_at.new.members.items
-    (members_of (λ slot. held_by slot c.self.inside.turns) c.self.inside.standings.items ++ joined c.args.slot c.args.alone ∷ [])
+    (members_of (λ slot. held_by slot c.self.inside.turns) c.self.inside.standings.items ++ joined c.args.slot c.args.sharing ∷ [])
 after c =
     subst
     (λ items. Holds (λ slot. held_by slot c.self.inside.turns) (λ object. holders object c.self.inside.turns) items
-    (members_of (λ slot. held_by slot c.self.inside.turns) c.self.inside.standings.items ++ joined c.args.slot c.args.alone ∷ []))
+    (members_of (λ slot. held_by slot c.self.inside.turns) c.self.inside.standings.items ++ joined c.args.slot c.args.sharing ∷ []))
     (sym c.join_at.ensures.members)
-    (after_join (λ slot. held_by slot c.self.inside.turns) (λ object. holders object c.self.inside.turns) c.self.inside.standings.items c.args.slot c.args.alone c.self.invariant.1 c.requires.from c.requires.to
+    (after_join (λ slot. held_by slot c.self.inside.turns) (λ object. holders object c.self.inside.turns) c.self.inside.standings.items c.args.slot c.args.sharing c.self.invariant.1 c.requires.from c.requires.to
     (ap (λ (l : LineView). is_member c.args.slot l.members) c.self.view_is ∙ c.requires.other))
 
 pub invariant_of-self : goal.invariant_of-self
 invariant_of-self c = (let more = c.join_at.ensures.room in let fits = c.self.invariant.0 in omega (arith, more, fits), (after c).kept)
 
 pub returns-clause-members : goal.returns-clause-members
-returns-clause-members c = (after c).seen ∙ ap (λ (l : LineView). l.members ++ joined c.args.slot c.args.alone ∷ []) c.self.view_is
+returns-clause-members c = (after c).seen ∙ ap (λ (l : LineView). l.members ++ joined c.args.slot c.args.sharing ∷ []) c.self.view_is
 
 pub returns-clause-sound : goal.returns-clause-sound
 returns-clause-sound c = (after c).kept.fair

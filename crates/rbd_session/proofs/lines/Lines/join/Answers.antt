@@ -12,7 +12,7 @@ returns c =
       lines = λ key.
           rw (← c.self.view_is)
           (rw (← c.key-key.ensures)
-          (opened c.self.inside.lines c.join_in.new.lines c.add.new.lines c.key-key.result c.join.new.self (joined c.args.slot c.args.alone) c.add.ensures
+          (opened c.self.inside.lines c.join_in.new.lines c.add.new.lines c.key-key.result c.join.new.self (joined c.args.slot c.args.sharing) c.add.ensures
           (c.join_in.ensures.none c.if-join_in.false) (c.join_in.ensures.absent c.if-join_in.false)
-          (c.join.ensures.members ∙ ap (λ members. members ++ joined c.args.slot c.args.alone ∷ []) empty) key));
+          (c.join.ensures.members ∙ ap (λ members. members ++ joined c.args.slot c.args.sharing ∷ []) empty) key));
     }
