@@ -23,7 +23,7 @@ use Rattle.rbd_meaning.specs.Listings.{used_among}
 use Rattle.rbd_meaning.specs.Snaps.{create_refuses, remove_refuses}
 use Rattle.rbd_admin.specs.Create.{on_drawn, making, mapping, drawing}
 use Rattle.rbd_admin.specs.Listing.{counting, on_names, on_renamed, list_names, measuring, rename, showing, show_header, show_used}
-use Rattle.rbd_admin.specs.Snap.{on_snap, on_gone, taking, putting, take, unmapping, remove_listed, remove, snap_plan}
+use Rattle.rbd_admin.specs.Snap.{on_snap, on_gone, taking, putting, copying, take, unmapping, removing, remove_listed, remove, snap_plan}
 
 module _ (site : SiteId) where
   -- ---- create
@@ -81,22 +81,28 @@ module _ (site : SiteId) where
 
   -- ---- snap create, snap rm
 
-  of_on_snap : (image : ℕ) (a : Answer) → IsOfImage site image (on_snap (applied site image) a)
-  of_on_snap image (answer.Snap snap) = tt
-  of_on_snap image a = of_not_there site image a
+  of_on_snap : (image : ℕ) (next : Plan) → IsOfImage site image next → (a : Answer) → IsOfImage site image (on_snap next a)
+  of_on_snap image next of (answer.Snap snap) = of
+  of_on_snap image next of a = of_not_there site image a
 
   of_on_gone : (image : ℕ) (next : Plan) → IsOfImage site image next → (a : Answer) → IsOfImage site image (on_gone next a)
   of_on_gone image next of answer.Done = of
   of_on_gone image next of answer.Absent = of
   of_on_gone image next of a = of_not_there site image a
 
+  of_copying : (snap : List ℕ) (image id : ℕ) (next : Plan) → IsOfImage site image next → IsOfImage site image (copying site snap image id next)
+  of_copying snap image id next of =
+      (refl, refl, of_on_bits image (putting site snap image id next) (λ bits. (refl, refl, of_on_done site image (taking site snap image next) (refl, refl, of_on_snap image next of))))
+
+  of_removing : (image snap : ℕ) (next : Plan) → IsOfImage site image next → IsOfImage site image (removing site image snap next)
+  of_removing image snap next of = (refl, refl, of_on_done site image (unmapping site image snap next) (refl, refl, of_on_gone image next of))
+
   of_take : (snap : List ℕ) (image : ℕ) (h : HeaderView) → IsOfImage site image (take site snap image h)
-  of_take snap image h =
-      (refl, refl, of_on_bits image (putting site snap image (h.snap_seq + 1)) (λ bits. (refl, refl, of_on_done site image (taking site snap image) (refl, refl, of_on_snap image))))
+  of_take snap image h = of_copying snap image (h.snap_seq + 1) (applied site image) tt
 
   of_remove : (snap : List ℕ) (image : ℕ) (listed : Option SnapView) → IsOfImage site image (remove_listed site snap image listed)
   of_remove snap image None = tt
-  of_remove snap image (Some listed) = (refl, refl, of_on_done site image (unmapping site image listed.id) (refl, refl, of_on_gone image (applied site image) tt))
+  of_remove snap image (Some listed) = of_removing image listed.id (applied site image) tt
 
   pub taking_is_own : (name snap : List ℕ) (feds : List Fed) (steps : List Answered) (last : Plan) → IsWalk Goto (snap_plan site (command.SnapCreate name snap)) feds steps last → AreOwn site (look_up name) steps
   taking_is_own name snap feds steps last walk =

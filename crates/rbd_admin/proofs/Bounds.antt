@@ -23,7 +23,7 @@ use Rattle.rbd_machine.specs.Steps.{applied, on_bits}
 use Rattle.rbd_meaning.specs.Count.{object_count}
 use Rattle.rbd_meaning.specs.Listings.{shown_snaps}
 use Rattle.rbd_meaning.specs.Snaps.{create_refuses, remove_refuses}
-use Rattle.rbd_admin.specs.Snap.{on_snap, on_gone, taking, putting, take, unmapping, remove_listed, remove, snap_plan}
+use Rattle.rbd_admin.specs.Snap.{on_snap, on_gone, taking, putting, copying, take, unmapping, removing, remove_listed, remove, snap_plan}
 
 -- ---- create
 
@@ -124,15 +124,19 @@ bounded_on_gone next n b answer.Done = b
 bounded_on_gone next n b answer.Absent = b
 bounded_on_gone next n b a = bounded_not_there a n
 
-bounded_putting : (site : SiteId) (snap : List ℕ) (image next : ℕ) (bits : List ℕ) → IsBounded (putting site snap image next bits) 2
-bounded_putting site snap image next bits = bounded_on_done (taking site snap image) 1 (bounded_on_snap (applied site image) 0 tt)
+pub bounded_copying : (site : SiteId) (snap : List ℕ) (image id : ℕ) (next : Plan) (n : ℕ) → IsBounded next n → IsBounded (copying site snap image id next) (suc (suc (suc n)))
+bounded_copying site snap image id next n b =
+    bounded_on_bits (putting site snap image id next) (suc (suc n)) (λ bits. bounded_on_done (taking site snap image next) (suc n) (bounded_on_snap next n b))
+
+pub bounded_removing : (site : SiteId) (image snap : ℕ) (next : Plan) (n : ℕ) → IsBounded next n → IsBounded (removing site image snap next) (suc (suc n))
+bounded_removing site image snap next n b = bounded_on_done (unmapping site image snap next) (suc n) (bounded_on_gone next n b)
 
 bounded_take : (site : SiteId) (snap : List ℕ) (image : ℕ) (h : HeaderView) → IsBounded (take site snap image h) 3
-bounded_take site snap image h = bounded_on_bits (putting site snap image (h.snap_seq + 1)) 2 (bounded_putting site snap image (h.snap_seq + 1))
+bounded_take site snap image h = bounded_copying site snap image (h.snap_seq + 1) (applied site image) 0 tt
 
 bounded_remove_listed : (site : SiteId) (snap : List ℕ) (image : ℕ) (listed : Option SnapView) → IsBounded (remove_listed site snap image listed) 2
 bounded_remove_listed site snap image None = tt
-bounded_remove_listed site snap image (Some listed) = bounded_on_done (unmapping site image listed.id) 1 (bounded_on_gone (applied site image) 0 tt)
+bounded_remove_listed site snap image (Some listed) = bounded_removing site image listed.id (applied site image) 0 tt
 
 bounded_remove : (site : SiteId) (snap : List ℕ) (image : ℕ) (h : HeaderView) → IsBounded (remove site snap image h) 2
 bounded_remove site snap image h = bounded_remove_listed site snap image (snap_named h.snaps snap)

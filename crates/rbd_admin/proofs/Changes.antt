@@ -52,13 +52,14 @@ pub takes_one : (site : SiteId) (name snap : List ℕ) (feds : List Fed) (steps 
 takes_one site name snap feds steps walk =
     let c = changed (Return reply.Done) tt site name sharing.Alone (create_refuses snap) (take site snap) feds steps walk in
     let next = c.own.snap_seq + 1 in
-    let n = noted (Return reply.Done) tt site c.image (event.SnapCreate snap) (copying site snap c.image next) c.more c.rest c.walk in
-    let g = went_on (Return reply.Done) tt site reason.Own (op.Map c.image (states.Get None)) (on_bits (putting site snap c.image next)) n.more c.rest n.walk in
-    let b = told_bits (Return reply.Done) tt (putting site snap c.image next) g.answer g.more g.rest g.walk in
-    let p = went_on (Return reply.Done) tt site reason.Own (op.Map c.image (states.Put (Some next) b.bits)) (on_done (taking site snap c.image)) g.more g.rest b.walk in
-    let d = told_done (Return reply.Done) tt (taking site snap c.image) p.answer p.more p.rest p.walk in
-    let w = went_on (Return reply.Done) tt site reason.Own (op.Header c.image (header.SnapAdd snap)) (on_snap (applied site c.image)) p.more p.rest d.walk in
-    let t = told_snap (applied site c.image) w.answer w.more w.rest w.walk in
+    let end = applied site c.image in
+    let n = noted (Return reply.Done) tt site c.image (event.SnapCreate snap) (copying site snap c.image next end) c.more c.rest c.walk in
+    let g = went_on (Return reply.Done) tt site reason.Own (op.Map c.image (states.Get None)) (on_bits (putting site snap c.image next end)) n.more c.rest n.walk in
+    let b = told_bits (Return reply.Done) tt (putting site snap c.image next end) g.answer g.more g.rest g.walk in
+    let p = went_on (Return reply.Done) tt site reason.Own (op.Map c.image (states.Put (Some next) b.bits)) (on_done (taking site snap c.image end)) g.more g.rest b.walk in
+    let d = told_done (Return reply.Done) tt (taking site snap c.image end) p.answer p.more p.rest p.walk in
+    let w = went_on (Return reply.Done) tt site reason.Own (op.Header c.image (header.SnapAdd snap)) (on_snap end) p.more p.rest d.walk in
+    let t = told_snap end w.answer w.more w.rest w.walk in
     record {
       image = c.image;
       first = c.first;
@@ -84,9 +85,9 @@ record Listed (site : SiteId) (image : ℕ) (found : Option SnapView) (steps : L
 removed : (site : SiteId) (snap : List ℕ) (image : ℕ) (found : Option SnapView) (feds : List Fed) (steps : List Answered) → IsWalk Goto (remove_listed site snap image found) feds steps (Return reply.Done) → Listed site image found steps
 removed site snap image None feds steps walk = absurd (refusal_ends_otherwise (Return reply.Done) tt refusal.NoSnap feds steps walk)
 removed site snap image (Some listed) feds steps walk =
-    let n = noted (Return reply.Done) tt site image (event.SnapRemove snap) (removing site image listed.id) feds steps walk in
-    let w = went_on (Return reply.Done) tt site reason.Own (op.Header image (header.SnapRemove listed.id)) (on_done (unmapping site image listed.id)) n.more steps n.walk in
-    let d = told_done (Return reply.Done) tt (unmapping site image listed.id) w.answer w.more w.rest w.walk in
+    let n = noted (Return reply.Done) tt site image (event.SnapRemove snap) (removing site image listed.id (applied site image)) feds steps walk in
+    let w = went_on (Return reply.Done) tt site reason.Own (op.Header image (header.SnapRemove listed.id)) (on_done (unmapping site image listed.id (applied site image))) n.more steps n.walk in
+    let d = told_done (Return reply.Done) tt (unmapping site image listed.id (applied site image)) w.answer w.more w.rest w.walk in
     let u = went_on (Return reply.Done) tt site reason.Own (op.Map image (states.Remove (Some listed.id))) (on_gone (applied site image)) w.more w.rest d.walk in
     let g = told_gone (applied site image) u.answer u.more u.rest u.walk in
     record {

@@ -13,6 +13,7 @@ use Rattle.rbd_kinds.specs.declared.reply.Reply.TheVariants as reply
 use Rattle.rbd_kinds.specs.Header.{snap_named}
 use Rattle.rbd_header.specs.Header.{new_header}
 use Rattle.rbd_layout.specs.Asked.{layout_of, KeepsLimits}
+use Rattle.rbd_machine.specs.Label.{Label}
 use Rattle.rbd_machine.specs.Plan.{Plan, Ask, Await, Note, Return, Goto, IsClosed}
 use Rattle.rbd_machine.specs.Steps.{applied, on_bits}
 use Rattle.rbd_machine.proofs.Closed.{closed_not_there, closed_on_id, closed_on_header, closed_on_done, closed_change}
@@ -20,7 +21,7 @@ use Rattle.rbd_meaning.specs.Listings.{shown_snaps}
 use Rattle.rbd_meaning.specs.Snaps.{create_refuses, remove_refuses}
 use Rattle.rbd_admin.specs.Create.{IsCreate, IsCreatePlan, on_drawn, making, mapping, drawing}
 use Rattle.rbd_admin.specs.Listing.{measuring, on_names, on_renamed, showing, show_header, show_used, listing_plan}
-use Rattle.rbd_admin.specs.Snap.{on_snap, on_gone, taking, putting, take, unmapping, remove_listed, remove, snap_plan}
+use Rattle.rbd_admin.specs.Snap.{on_snap, on_gone, taking, putting, copying, take, unmapping, removing, remove_listed, remove, snap_plan}
 
 -- ---- create
 
@@ -63,12 +64,12 @@ closed_show_header site name shown = closed_on_id Goto (showing site shown) (λ 
 
 -- ---- du, rename
 
-closed_on_bits : (next : List ℕ → Plan) → ((bits : List ℕ) → IsClosed Goto (next bits)) → (a : Answer) → IsClosed Goto (on_bits next a)
-closed_on_bits next closed (answer.Bits bits) = closed bits
-closed_on_bits next closed a = closed_not_there Goto a
+closed_on_bits : (labels : Label → Plan) (next : List ℕ → Plan) → ((bits : List ℕ) → IsClosed labels (next bits)) → (a : Answer) → IsClosed labels (on_bits next a)
+closed_on_bits labels next closed (answer.Bits bits) = closed bits
+closed_on_bits labels next closed a = closed_not_there labels a
 
 closed_show_used : (site : SiteId) (name : List ℕ) → IsClosed Goto (show_used site name)
-closed_show_used site name = closed_on_id Goto (measuring site) (λ image. closed_on_header Goto _ (λ h. closed_on_bits _ (λ bits. tt)))
+closed_show_used site name = closed_on_id Goto (measuring site) (λ image. closed_on_header Goto _ (λ h. closed_on_bits Goto _ (λ bits. tt)))
 
 closed_on_renamed : (a : Answer) → IsClosed Goto (on_renamed a)
 closed_on_renamed answer.Done = tt
@@ -87,24 +88,30 @@ closed_listing site _ = tt
 
 -- ---- snap create, snap rm
 
-closed_on_snap : (next : Plan) → IsClosed Goto next → (a : Answer) → IsClosed Goto (on_snap next a)
-closed_on_snap next closed (answer.Snap snap) = closed
-closed_on_snap next closed a = closed_not_there Goto a
+module _ (labels : Label → Plan) where
+  closed_on_snap : (next : Plan) → IsClosed labels next → (a : Answer) → IsClosed labels (on_snap next a)
+  closed_on_snap next closed (answer.Snap snap) = closed
+  closed_on_snap next closed a = closed_not_there labels a
 
-closed_on_gone : (next : Plan) → IsClosed Goto next → (a : Answer) → IsClosed Goto (on_gone next a)
-closed_on_gone next closed answer.Done = closed
-closed_on_gone next closed answer.Absent = closed
-closed_on_gone next closed a = closed_not_there Goto a
+  closed_on_gone : (next : Plan) → IsClosed labels next → (a : Answer) → IsClosed labels (on_gone next a)
+  closed_on_gone next closed answer.Done = closed
+  closed_on_gone next closed answer.Absent = closed
+  closed_on_gone next closed a = closed_not_there labels a
 
-closed_take : (site : SiteId) (snap : List ℕ) (image : ℕ) (h : HeaderView) → IsClosed Goto (take site snap image h)
-closed_take site snap image h = closed_on_bits (putting site snap image (h.snap_seq + 1)) (λ bits. closed_on_done Goto (taking site snap image) (closed_on_snap (applied site image) tt))
+  pub closed_copying : (site : SiteId) (snap : List ℕ) (image id : ℕ) (next : Plan) → IsClosed labels next → IsClosed labels (copying site snap image id next)
+  closed_copying site snap image id next closed =
+      closed_on_bits labels (putting site snap image id next) (λ bits. closed_on_done labels (taking site snap image next) (closed_on_snap next closed))
+
+  pub closed_removing : (site : SiteId) (image snap : ℕ) (next : Plan) → IsClosed labels next → IsClosed labels (removing site image snap next)
+  closed_removing site image snap next closed = closed_on_done labels (unmapping site image snap next) (closed_on_gone next closed)
 
 closed_remove_listed : (site : SiteId) (snap : List ℕ) (image : ℕ) (listed : Option SnapView) → IsClosed Goto (remove_listed site snap image listed)
 closed_remove_listed site snap image None = tt
-closed_remove_listed site snap image (Some listed) = closed_on_done Goto (unmapping site image listed.id) (closed_on_gone (applied site image) tt)
+closed_remove_listed site snap image (Some listed) = closed_removing Goto site image listed.id (applied site image) tt
 
 pub closed_snap : (site : SiteId) (c : Command) → IsClosed Goto (snap_plan site c)
-closed_snap site (command.SnapCreate image snap) = closed_change Goto site image _ (create_refuses snap) (take site snap) (closed_take site snap)
+closed_snap site (command.SnapCreate image snap) =
+    closed_change Goto site image _ (create_refuses snap) (take site snap) (λ i h. closed_copying Goto site snap i (h.snap_seq + 1) (applied site i) tt)
 closed_snap site (command.SnapRemove image snap) =
     closed_change Goto site image _ (remove_refuses snap) (remove site snap) (λ i h. closed_remove_listed site snap i (snap_named h.snaps snap))
 closed_snap site _ = tt

@@ -33,13 +33,13 @@ use Rattle.rbd_machine.specs.Steps.{applied, non_primary, on_bits}
 use Rattle.rbd_machine.proofs.Lawful.{at_itself, or_else_none, own_at, owning_known, own_is_found, lawful_not_there, lawful_on_id, lawful_on_header, lawful_on_done, lawful_change}
 use Rattle.rbd_meaning.specs.Count.{object_count}
 use Rattle.rbd_meaning.specs.Listings.{shown_snaps, used_among}
-use Rattle.rbd_meaning.specs.Snaps.{removal_refusal, create_refuses, remove_refuses}
+use Rattle.rbd_meaning.specs.Snaps.{removal_refusal, create_refuses, remove_refuses, IsGone}
 use Rattle.rbd_meaning.proofs.Allowed.{may_take, unprotected}
 use Rattle.rbd_zero.proofs.Resized.{few_objects}
 use Rattle.rbd_admin.proofs.Decided.{limits_or_not}
 use Rattle.rbd_admin.specs.Create.{IsCreate, IsCreatePlan, on_drawn, making, mapping, drawing}
 use Rattle.rbd_admin.specs.Listing.{counting, measuring, on_names, on_renamed, rename, showing, show_header, show_used, listing_plan}
-use Rattle.rbd_admin.specs.Snap.{on_snap, on_gone, taking, putting, take, unmapping, remove_listed, remove, snap_plan}
+use Rattle.rbd_admin.specs.Snap.{on_snap, on_gone, taking, putting, copying, take, unmapping, removing, remove_listed, remove, snap_plan}
 
 -- ---- snapshots by name and by id
 
@@ -129,6 +129,14 @@ put_known site image h bits = learned (told_known site image h bits) site (op.Ma
 -- a snapshot was removed
 abbrev removed_known : SiteId → (image id : ℕ) → HeaderView → Knowledge
 removed_known site image id h = learned (owning_known true None site image h) site (op.Header image (header.SnapRemove id)) answer.Done
+
+-- a snapshot was taken
+abbrev taken_known : SiteId → (snap : List ℕ) → (image : ℕ) → HeaderView → (bits : List ℕ) → (taken : ℕ) → Knowledge
+taken_known site snap image h bits taken = learned (put_known site image h bits) site (op.Header image (header.SnapAdd snap)) (answer.Snap taken)
+
+-- the map of one that was removed is gone
+abbrev unmapped_known : SiteId → (image id : ℕ) → HeaderView → (gone : Answer) → Knowledge
+unmapped_known site image id h gone = learned (removed_known site image id h) site (op.Map image (states.Remove (Some id))) gone
 
 own_is_changed : (site : SiteId) (image id : ℕ) (h : HeaderView) → own_of (removed_known site image id h).owns site image ≡ Some (own_at true site image (without_snap id h))
 own_is_changed site image id h =
@@ -231,67 +239,81 @@ module _ (at : Label → Knowledge) where
 
   -- ---- snap create, snap rm
 
-  lawful_on_snap : (known : Answer → Knowledge) (site : SiteId) (image : ℕ) (a : Answer) → IsLawful at (known a) (on_snap (applied site image) a)
-  lawful_on_snap known site image (answer.Snap snap) = tt
-  lawful_on_snap known site image a = lawful_not_there at (known a) a
+  lawful_on_snap : (known : Answer → Knowledge) (next : Plan) → ((taken : ℕ) → IsLawful at (known (answer.Snap taken)) next) → (a : Answer) → IsLawful at (known a) (on_snap next a)
+  lawful_on_snap known next lawful (answer.Snap taken) = lawful taken
+  lawful_on_snap known next lawful a = lawful_not_there at (known a) a
 
-  lawful_on_gone : (known : Answer → Knowledge) (site : SiteId) (image : ℕ) (a : Answer) → IsLawful at (known a) (on_gone (applied site image) a)
-  lawful_on_gone known site image answer.Done = tt
-  lawful_on_gone known site image answer.Absent = tt
-  lawful_on_gone known site image a = lawful_not_there at (known a) a
+  lawful_on_gone : (known : Answer → Knowledge) (next : Plan) → ((gone : Answer) → IsGone gone → IsLawful at (known gone) next) → (a : Answer) → IsLawful at (known a) (on_gone next a)
+  lawful_on_gone known next lawful answer.Done = lawful answer.Done tt
+  lawful_on_gone known next lawful answer.Absent = lawful answer.Absent tt
+  lawful_on_gone known next lawful a = lawful_not_there at (known a) a
 
-  lawful_taking : (site : SiteId) (snap : List ℕ) (image : ℕ) (h : HeaderView) (bits : List ℕ) → create_refuses snap h ≡ None → IsLawful at (put_known site image h bits) (taking site snap image)
-  lawful_taking site snap image h bits may = (
+  lawful_taking : (site : SiteId) (snap : List ℕ) (image : ℕ) (h : HeaderView) (bits : List ℕ) (next : Plan) → create_refuses snap h ≡ None
+      → ((taken : ℕ) → IsLawful at (taken_known site snap image h bits taken) next) → IsLawful at (put_known site image h bits) (taking site snap image next)
+  lawful_taking site snap image h bits next may lawful = (
     record {
       alone = true;
       header = h;
       is = own_is_found true None site image h;
       meets = (refl, may_take (maps_of (put_known site image h bits).maps site image) snap h may (ap (λ (m : MapsKnown). m.put) (told_first site image _ (told_known site image h bits).maps)));
     },
-    λ a can. lawful_on_snap (learned (put_known site image h bits) site (op.Header image (header.SnapAdd snap))) site image a,
+    λ a can. lawful_on_snap (learned (put_known site image h bits) site (op.Header image (header.SnapAdd snap))) next lawful a,
   )
 
-  lawful_putting : (site : SiteId) (snap : List ℕ) (image : ℕ) (h : HeaderView) (bits : List ℕ) → create_refuses snap h ≡ None → HoldStates bits
-      → IsLawful at (told_known site image h bits) (putting site snap image (h.snap_seq + 1) bits)
-  lawful_putting site snap image h bits may hold = (
+  lawful_putting : (site : SiteId) (snap : List ℕ) (image : ℕ) (h : HeaderView) (bits : List ℕ) (next : Plan) → create_refuses snap h ≡ None → HoldStates bits
+      → ((taken : ℕ) → IsLawful at (taken_known site snap image h bits taken) next) → IsLawful at (told_known site image h bits) (putting site snap image (h.snap_seq + 1) next bits)
+  lawful_putting site snap image h bits next may hold lawful = (
     record {
       alone = true;
       header = h;
       is = own_is_found true None site image h;
       meets = (refl, record { next = refl; told = ap (λ (m : MapsKnown). m.states) (told_first site image _ (owning_known true None site image h).maps); hold = hold });
     },
-    λ a can. lawful_on_done at (learned (told_known site image h bits) site (op.Map image (states.Put (Some (h.snap_seq + 1)) bits))) (taking site snap image) (lawful_taking site snap image h bits may) a,
+    λ a can. lawful_on_done at (learned (told_known site image h bits) site (op.Map image (states.Put (Some (h.snap_seq + 1)) bits))) (taking site snap image next) (lawful_taking site snap image h bits next may lawful) a,
   )
 
-  lawful_take : (site : SiteId) (snap : List ℕ) (image : ℕ) (h : HeaderView) → create_refuses snap h ≡ None → IsLawful at (owning_known true None site image h) (take site snap image h)
-  lawful_take site snap image h may = (
+  -- the part that takes a snapshot, by the own look
+  lawful_copying : (site : SiteId) (snap : List ℕ) (image : ℕ) (h : HeaderView) (next : Plan) → create_refuses snap h ≡ None
+      → ((bits : List ℕ) (taken : ℕ) → IsLawful at (taken_known site snap image h bits taken) next)
+      → IsLawful at (owning_known true None site image h) (copying site snap image (h.snap_seq + 1) next)
+  lawful_copying site snap image h next may lawful = (
     tt,
-    lawful_on_bits (learned (owning_known true None site image h) site (op.Map image (states.Get None))) image (putting site snap image (h.snap_seq + 1))
-        (λ bits hold. lawful_putting site snap image h bits may hold),
+    lawful_on_bits (learned (owning_known true None site image h) site (op.Map image (states.Get None))) image (putting site snap image (h.snap_seq + 1) next)
+        (λ bits hold. lawful_putting site snap image h bits next may hold (lawful bits)),
   )
 
-  lawful_unmapping : (site : SiteId) (image id : ℕ) (h : HeaderView) → IsLawful at (removed_known site image id h) (unmapping site image id)
-  lawful_unmapping site image id h = (
+  lawful_unmapping : (site : SiteId) (image id : ℕ) (h : HeaderView) (next : Plan) → ((gone : Answer) → IsGone gone → IsLawful at (unmapped_known site image id h gone) next)
+      → IsLawful at (removed_known site image id h) (unmapping site image id next)
+  lawful_unmapping site image id h next lawful = (
     inr (record { alone = true; header = without_snap id h; is = own_is_changed site image id h; meets = (refl, removed_is_unlisted h.snaps id) }),
-    λ a can. lawful_on_gone (learned (removed_known site image id h) site (op.Map image (states.Remove (Some id)))) site image a,
+    λ a can. lawful_on_gone (learned (removed_known site image id h) site (op.Map image (states.Remove (Some id)))) next lawful a,
+  )
+
+  -- the part that removes a snapshot, by the own look
+  lawful_removing : (site : SiteId) (image : ℕ) (h : HeaderView) (listed : SnapView) (next : Plan) → snap_in h.snaps listed.id ≡ Some listed → removal_refusal (Some listed) ≡ None
+      → ((gone : Answer) → IsGone gone → IsLawful at (unmapped_known site image listed.id h gone) next)
+      → IsLawful at (owning_known true None site image h) (removing site image listed.id next)
+  lawful_removing site image h listed next is may lawful = (
+    record {
+      alone = true;
+      header = h;
+      is = own_is_found true None site image h;
+      meets = (refl, record { view = listed; listed = is; unprotected = unprotected listed.status may });
+    },
+    λ a can. lawful_on_done at (learned (owning_known true None site image h) site (op.Header image (header.SnapRemove listed.id))) (unmapping site image listed.id next)
+        (lawful_unmapping site image listed.id h next lawful) a,
   )
 
   lawful_remove_listed : (site : SiteId) (snap : List ℕ) (image : ℕ) (h : HeaderView) → IsHeaderInForm h → (listed : Option SnapView)
       → snap_named h.snaps snap ≡ listed → removal_refusal listed ≡ None → IsLawful at (owning_known true None site image h) (remove_listed site snap image listed)
   lawful_remove_listed site snap image h form None is may = tt
-  lawful_remove_listed site snap image h form (Some listed) is may = (
-    record {
-      alone = true;
-      header = h;
-      is = own_is_found true None site image h;
-      meets = (refl, record { view = listed; listed = named_by_id h.snaps h.snap_seq snap listed form.rising is; unprotected = unprotected listed.status may });
-    },
-    λ a can. lawful_on_done at (learned (owning_known true None site image h) site (op.Header image (header.SnapRemove listed.id))) (unmapping site image listed.id) (lawful_unmapping site image listed.id h) a,
-  )
+  lawful_remove_listed site snap image h form (Some listed) is may =
+      lawful_removing site image h listed (applied site image) (named_by_id h.snaps h.snap_seq snap listed form.rising is) may (λ gone is_gone. tt)
 
   pub lawful_snap : (site : SiteId) (c : Command) → IsLawful at nothing_known (snap_plan site c)
   lawful_snap site (command.SnapCreate image snap) =
-      lawful_change at site image sharing.Alone (create_refuses snap) (take site snap) (λ i h form may. lawful_take site snap i h may)
+      lawful_change at site image sharing.Alone (create_refuses snap) (take site snap) (λ i h form may.
+      lawful_copying site snap i h (applied site i) may (λ bits taken. tt))
   lawful_snap site (command.SnapRemove image snap) =
       lawful_change at site image sharing.Alone (remove_refuses snap) (remove site snap) (λ i h form may.
       lawful_remove_listed site snap i h form (snap_named h.snaps snap) refl (or_else_none (non_primary h.role) _ may))

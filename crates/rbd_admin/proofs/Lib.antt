@@ -1,10 +1,10 @@
 pub mod About
+pub mod Acting
 pub mod Bounds
 pub mod Closed
 pub mod Decided
 pub mod Lawful
 pub mod Meant
-pub mod Looks
 pub mod Removed
 pub mod Shown
 pub mod Tells

@@ -240,13 +240,13 @@ module _ (site : SiteId) (snap : List ℕ) (image : ℕ) where
   refusing_taken _ can = let no = can.can.word in cc
 
   refusing_put : (next : ℕ) (bits : List ℕ) (a : Answer) → IsGiven (op.Map image (states.Put (Some next) bits)) a
-      → Answers (create_refuses snap) never IsDone false (op.Map image (states.Put (Some next) bits)) a (on_done (taking site snap image) a)
+      → Answers (create_refuses snap) never IsDone false (op.Map image (states.Put (Some next) bits)) a (on_done (taking site snap image (applied site image)) a)
   refusing_put next bits answer.Done can = inr (λ live. refl, refusing_taken)
   refusing_put next bits answer.Fenced can = inl (record { why = refusal.Fenced; is = refl; ends = refl; comes = λ was. cc })
   refusing_put next bits _ can = let no = can.can.word in cc
 
   refusing_copied : (next : ℕ) (a : Answer) → IsGiven (op.Map image (states.Get None)) a
-      → Answers (create_refuses snap) never IsDone false (op.Map image (states.Get None)) a (on_bits (putting site snap image next) a)
+      → Answers (create_refuses snap) never IsDone false (op.Map image (states.Get None)) a (on_bits (putting site snap image next (applied site image)) a)
   refusing_copied next (answer.Bits bits) can = inr (λ live. refl, refusing_put next bits)
   refusing_copied next answer.Absent can = inl (record { why = refusal.NoImage; is = refl; ends = refl; comes = λ was. cc })
   refusing_copied next answer.Fenced can = inl (record { why = refusal.Fenced; is = refl; ends = refl; comes = λ was. cc })
@@ -260,7 +260,7 @@ module _ (site : SiteId) (snap : List ℕ) (image : ℕ) where
   refusing_unmapped id _ can = let no = can.can.word in cc
 
   refusing_removed : (id : ℕ) (a : Answer) → IsGiven (op.Header image (header.SnapRemove id)) a
-      → Answers (remove_refuses snap) by_fence IsDone false (op.Header image (header.SnapRemove id)) a (on_done (unmapping site image id) a)
+      → Answers (remove_refuses snap) by_fence IsDone false (op.Header image (header.SnapRemove id)) a (on_done (unmapping site image id (applied site image)) a)
   refusing_removed id answer.Done can = inr (λ live. refl, refusing_unmapped id)
   refusing_removed id answer.Absent can = inl (record { why = refusal.NoImage; is = refl; ends = refl; comes = λ was. cc })
   refusing_removed id answer.Fenced can = inl (record { why = refusal.Fenced; is = refl; ends = refl; comes = λ was. refl })

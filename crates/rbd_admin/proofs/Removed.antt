@@ -70,7 +70,7 @@ module _ (x : Refusal) (site : SiteId) (name snap : List ℕ) where
     looks rest = found site name image ∷ looked_at site image first ∷ looked_at site image own ∷ rest
 
     unmapping_stops : (listed : SnapView) → snap_named own.snaps snap ≡ Some listed → (feds : List Fed) (rest : List Answered) → steps ≡ looks (snap_removed site image listed.id ∷ rest)
-        → IsWalk Goto (unmapping site image listed.id) feds rest Refused → Stops site name snap steps
+        → IsWalk Goto (unmapping site image listed.id (applied site image)) feds rest Refused → Stops site name snap steps
     unmapping_stops listed is feds rest are walk =
         let u = asked_to (reply.Refused x) site reason.Own (op.Map image (states.Remove (Some listed.id))) (on_gone (applied site image)) feds rest walk in
         stop (looks (snap_removed site image listed.id ∷ [])) _ u.rest steps (are ∙ ap (λ r. looks (snap_removed site image listed.id ∷ r)) u.are) (go u.answer u.more u.rest u.walk)
@@ -85,12 +85,12 @@ module _ (x : Refusal) (site : SiteId) (name snap : List ℕ) where
         → IsWalk Goto (remove_listed site snap image listed) feds rest Refused → Stops site name snap steps
     removing_stops None is feds rest are walk = stop (found site name image ∷ looked_at site image first ∷ []) (looked_at site image own) rest steps are (refused_ends refusal.NoSnap feds rest walk) (inl (refl, (refl, tt)))
     removing_stops (Some listed) is feds rest are walk =
-        let n = noted_to (reply.Refused x) site image (event.SnapRemove snap) (removing site image listed.id) feds rest walk in
-        let w = asked_to (reply.Refused x) site reason.Own (op.Header image (header.SnapRemove listed.id)) (on_done (unmapping site image listed.id)) n.more rest n.walk in
+        let n = noted_to (reply.Refused x) site image (event.SnapRemove snap) (removing site image listed.id (applied site image)) feds rest walk in
+        let w = asked_to (reply.Refused x) site reason.Own (op.Header image (header.SnapRemove listed.id)) (on_done (unmapping site image listed.id (applied site image))) n.more rest n.walk in
         go w.answer w.more w.rest (are ∙ ap looks w.are) w.walk
       where
         go : (a : Answer) (more : List Fed) (last : List Answered) → steps ≡ looks (asked (op.Header image (header.SnapRemove listed.id)) a ∷ last)
-            → IsWalk Goto (on_done (unmapping site image listed.id) a) more last Refused → Stops site name snap steps
+            → IsWalk Goto (on_done (unmapping site image listed.id (applied site image)) a) more last Refused → Stops site name snap steps
         go answer.Done more last are w = unmapping_stops listed is more last are w
         go a more last are w = stop (looks []) _ last steps are (absent_ends a more last Refused w) (inl (refl, (refl, (refl, tt))))
 

@@ -5,22 +5,25 @@ use Rattle.rbd_kinds.specs.declared.answer.Answer.TheVariants as answer
 use Rattle.rbd_kinds.specs.declared.directory_op.DirectoryOp.TheVariants as directory
 use Rattle.rbd_kinds.specs.declared.header.HeaderView.{HeaderView}
 use Rattle.rbd_kinds.specs.declared.header_op.HeaderOp.TheVariants as header
-use Rattle.rbd_kinds.specs.declared.id.SiteId.{SiteId}
 use Rattle.rbd_kinds.specs.declared.machine.Fed.TheVariants as fed
 use Rattle.rbd_kinds.specs.declared.map_op.MapOp.TheVariants as states
 use Rattle.rbd_kinds.specs.declared.operation.Op.TheVariants as op
 use Rattle.rbd_machine.specs.Answers.{CanBeFed, CanGive}
-use Rattle.rbd_machine.specs.Approach.{rest_from}
-use Rattle.rbd_machine.specs.declared.approach.Stage as way_stage
-use Rattle.rbd_machine.specs.declared.approach.Stage.TheVariants as at
-use Rattle.rbd_machine.specs.Plan.{IsLive}
+use Rattle.rbd_machine.specs.Plan.{Plan, IsLive}
 use Rattle.rbd_machine.specs.Steps.{TellsDone, TellsBits}
 use Rattle.rbd_admin.specs.Create.{TellsDrawn}
 use Rattle.rbd_admin.specs.Listing.{TellsNames, TellsRenamed}
-use Rattle.rbd_admin.specs.Snap.{does, refuses_of, rest_at, TellsAt, TellsGone, TellsSnap}
-use Rattle.rbd_admin.specs.declared.snap.SnapChange.{SnapChange}
-use Rattle.rbd_admin.specs.declared.snap.Stage.{Stage}
-use Rattle.rbd_admin.specs.declared.snap.Stage.TheVariants as stage
+use Rattle.rbd_admin.specs.Snap.{TellsGone, TellsSnap}
+use Rattle.rbd_admin.specs.SnapParts.{taking_from, TellsTaking, removing_from, TellsRemoving}
+use Rattle.rbd_admin.specs.Snapping.{rest_of_act, TellsAct}
+use Rattle.rbd_admin.specs.declared.remove_snap.RemoveSnap.{RemoveSnap}
+use Rattle.rbd_admin.specs.declared.remove_snap.Stage as of_remove
+use Rattle.rbd_admin.specs.declared.remove_snap.Stage.TheVariants as remove_stage
+use Rattle.rbd_admin.specs.declared.snap.Act.{Act}
+use Rattle.rbd_admin.specs.declared.snap.Act.TheVariants as act
+use Rattle.rbd_admin.specs.declared.take_snap.Stage as of_take
+use Rattle.rbd_admin.specs.declared.take_snap.Stage.TheVariants as take_stage
+use Rattle.rbd_admin.specs.declared.take_snap.TakeSnap.{TakeSnap}
 
 pub draw_tells : (name : List ℕ) (a : Answer) → CanGive (op.Directory (directory.Add name)) a → TellsDrawn a
 draw_tells name (answer.Id image) can = tt
@@ -80,37 +83,32 @@ unmapping_tells image removed answer.Absent can = tt
 unmapping_tells image removed answer.Fenced can = tt
 unmapping_tells image removed _ can = let no = can.word in cc
 
--- the answers that a stage may be fed tell it how to go on
-abbrev pub IsActing : Stage → Type 0
-IsActing (stage.Approaching way) = ⊥
-IsActing (stage.Noting image a) = ⊥
-IsActing (stage.Applying image) = ⊥
-IsActing _ = Unit {0}
+-- ---- the parts of snap create and snap rm
 
-pub stage_tells : (s : Stage) (site : SiteId) (change : SnapChange) (a : Answer) → IsActing s → CanBeFed (rest_at s site change) (fed.Answer a) → TellsAt s a
-stage_tells (stage.Approaching way) site change a acting can = absurd acting
-stage_tells (stage.Noting image x) site change a acting can = absurd acting
-stage_tells (stage.Copying image next) site change a acting can = states_tell image a can
-stage_tells (stage.Putting image next bits) site change a acting can = putting_tells image next bits a can
-stage_tells (stage.Taking image) site change a acting can = taking_tells image change.snap a can
-stage_tells (stage.Removing image listed) site change a acting can = removing_tells image listed a can
-stage_tells (stage.Unmapping image removed) site change a acting can = unmapping_tells image removed a can
-stage_tells (stage.Applying image) site change a acting can = absurd acting
+-- the answers that a stage may be fed tell it how to go on
+pub take_tells : (s : of_take.Stage) (t : TakeSnap) (next : Plan) (a : Answer) → CanBeFed (taking_from s t next) (fed.Answer a) → TellsTaking s a
+take_tells take_stage.Copying t next a can = states_tell t.image a can
+take_tells (take_stage.Putting bits) t next a can = putting_tells t.image t.snap bits a can
+take_tells take_stage.Taking t next a can = taking_tells t.image t.name a can
+
+pub remove_tells : (s : of_remove.Stage) (r : RemoveSnap) (next : Plan) (a : Answer) → CanBeFed (removing_from s r next) (fed.Answer a) → TellsRemoving s a
+remove_tells remove_stage.Removing r next a can = removing_tells r.image r.snap a can
+remove_tells remove_stage.Unmapping r next a can = unmapping_tells r.image r.snap a can
+
+pub act_tells : (x : Act) (next : Plan) (a : Answer) → CanBeFed (rest_of_act x next) (fed.Answer a) → TellsAct x a
+act_tells (act.Take t) next a can = take_tells t.stage t next a can
+act_tells (act.Remove r) next a can = remove_tells r.stage r next a can
 
 -- at each stage there is something that it wants
-pub stage_is_live : (s : Stage) (site : SiteId) (change : SnapChange) → IsLive (rest_at s site change)
-stage_is_live (stage.Approaching way) site change = way_is_live way.stage
-  where
-    way_is_live : (w : way_stage.Stage) → IsLive (rest_from w way (refuses_of change) (does site change))
-    way_is_live at.Finding = tt
-    way_is_live (at.Joining image) = tt
-    way_is_live (at.Looking image) = tt
-    way_is_live (at.Holding image) = tt
-    way_is_live (at.Owning image) = tt
-stage_is_live (stage.Noting image x) site change = tt
-stage_is_live (stage.Copying image next) site change = tt
-stage_is_live (stage.Putting image next bits) site change = tt
-stage_is_live (stage.Taking image) site change = tt
-stage_is_live (stage.Removing image listed) site change = tt
-stage_is_live (stage.Unmapping image removed) site change = tt
-stage_is_live (stage.Applying image) site change = tt
+take_is_live : (s : of_take.Stage) (t : TakeSnap) (next : Plan) → IsLive (taking_from s t next)
+take_is_live take_stage.Copying t next = tt
+take_is_live (take_stage.Putting bits) t next = tt
+take_is_live take_stage.Taking t next = tt
+
+remove_is_live : (s : of_remove.Stage) (r : RemoveSnap) (next : Plan) → IsLive (removing_from s r next)
+remove_is_live remove_stage.Removing r next = tt
+remove_is_live remove_stage.Unmapping r next = tt
+
+pub act_is_live : (x : Act) (next : Plan) → IsLive (rest_of_act x next)
+act_is_live (act.Take t) next = take_is_live t.stage t next
+act_is_live (act.Remove r) next = remove_is_live r.stage r next

@@ -1,4 +1,6 @@
 pub mod Create
 pub mod Listing
 pub mod Snap
+pub mod SnapParts
+pub mod Snapping
 pub mod Used

@@ -1,5 +1,5 @@
 //! What the plans of requests keep to: laws, each the contract of a function that does nothing.
-ghost use Rattle.std.specs.Prelude.{◌≡◌, ℕ, List, [], ◌∷◌, true};
+ghost use Rattle.std.specs.Prelude.{◌≡◌, ℕ, ◌+◌, List, [], ◌∷◌, true};
 ghost use Rattle.rbd_commands.specs.declared.command.Command.{Command};
 ghost use Rattle.rbd_commands.specs.declared.command.Command.TheVariants.{List as ListAll, Info, Rename, SnapList, Used};
 ghost use Rattle.rbd_commands.specs.declared.command.Shape.{Shape};
@@ -9,6 +9,7 @@ ghost use Rattle.rbd_kinds.specs.declared.id.SiteId.{SiteId};
 ghost use Rattle.rbd_kinds.specs.declared.layout.Layout.{Layout};
 ghost use Rattle.rbd_kinds.specs.Form.{IsNewHeader};
 ghost use Rattle.rbd_layout.specs.Asked.{KeepsLimits, layout_of};
+ghost use Rattle.rbd_machine.specs.Label.{Label};
 ghost use Rattle.rbd_machine.specs.Lawful.{IsLawfulRequest};
 ghost use Rattle.rbd_machine.specs.Plan.{Plan, Return, Goto, IsClosed, without_labels};
 ghost use Rattle.rbd_commands.specs.declared.command.Command.TheVariants.{SnapCreate, SnapRemove};
@@ -20,7 +21,7 @@ ghost use Rattle.rbd_machine.specs.declared.seat.Seat.{Seat};
 ghost use Rattle.rbd_admin.specs.Create.{IsCreate, IsCreatePlan};
 ghost use Rattle.rbd_header.specs.Header.{new_header};
 ghost use Rattle.rbd_admin.specs.Listing.{is_listing, listing_plan};
-ghost use Rattle.rbd_admin.specs.Snap.{is_snap, snap_plan};
+ghost use Rattle.rbd_admin.specs.Snap.{copying, is_snap, removing, snap_plan};
 ghost use Rattle.rbd_machine.specs.Refused.{AreGiven};
 ghost use Rattle.rbd_meaning.specs.Creates.{MakesOne};
 ghost use Rattle.rbd_meaning.specs.Listings.{ShowsHeader, ShowsUsed, listed, renamed, shown_snaps};
@@ -52,17 +53,24 @@ pub fn renames_ask_once()
 {}
 
 /// A `snap create` has six operations at most, and a `snap rm` five: three up to their own look,
-/// one that changes the header, and two or one on the snapshot's map.
+/// one that changes the header, and two or one on the snapshot's map. So the part that takes a
+/// snapshot has three more than what comes next, and the part that removes one has two.
 pub fn snapshots_change_once()
     ensures either { (home : SiteId) (command : Command) → IsBounded (snap_plan home command) 6 }
     ensures removal { (home : SiteId) (image snap : List ℕ) → IsBounded (snap_plan home (SnapRemove image snap)) 5 }
+    ensures take { (site : SiteId) (snap : List ℕ) (image id : ℕ) (next : Plan) (n : ℕ) → IsBounded next n → IsBounded (copying site snap image id next) (n + 3) }
+    ensures remove { (site : SiteId) (image snap : ℕ) (next : Plan) (n : ℕ) → IsBounded next n → IsBounded (removing site image snap next) (n + 2) }
 {}
 
-/// None of them begins a part again.
+/// None of them begins a part again, nor do the parts, unless what comes next does.
 pub fn plans_go_to_no_label()
     ensures create { (home : SiteId) (command : Command) (plan : Plan) → IsCreatePlan home command plan → IsClosed Goto plan }
     ensures listing { (home : SiteId) (command : Command) → IsClosed Goto (listing_plan home command) }
     ensures snap { (home : SiteId) (command : Command) → IsClosed Goto (snap_plan home command) }
+    ensures take { (labels : Label → Plan) (site : SiteId) (snap : List ℕ) (image id : ℕ) (next : Plan)
+        → IsClosed labels next → IsClosed labels (copying site snap image id next) }
+    ensures remove { (labels : Label → Plan) (site : SiteId) (image snap : ℕ) (next : Plan)
+        → IsClosed labels next → IsClosed labels (removing site image snap next) }
 {}
 
 /// A `create` is lawful from nothing known: the header that it makes is a new one, under an id that

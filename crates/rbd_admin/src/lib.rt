@@ -1,4 +1,5 @@
-//! Requests that make, show, rename and snapshot images, as machines that want one thing at a time.
+//! Requests that make, show, rename and snapshot images, as machines that want one thing at a time,
+//! and the two parts of which `snap create` and `snap rm` are made.
 //!
 //! ```text
 //! let mut request = SnapRequest::new(SiteId::A, snap_create);     // of the image `disk`, named `first`
@@ -25,8 +26,16 @@
 //! | `info`, `snap ls` | `dir-find`, `header-get` | NoImage |
 //! | `du` | `dir-find`, `header-get`, `map-get` | NoImage |
 //! | `rename` | `dir-rename` | NoImage where there is no image of the name, ImageExists where the other is held |
-//! | `snap create` | to its own look, its event, `map-get`, `map-put`, `header-snap-add`, applied | NoImage, NonPrimary, SnapExists, BadShape |
-//! | `snap rm` | to its own look, its event, `header-snap-remove`, `map-remove`, applied | NoImage, NonPrimary, NoSnap, SnapProtected |
+//! | `snap create` | to its own look, its event, a [`TakeSnap`], applied | NoImage, NonPrimary, SnapExists, BadShape |
+//! | `snap rm` | to its own look, its event, a [`RemoveSnap`], applied | NoImage, NonPrimary, NoSnap, SnapProtected |
+//!
+//! A part is what comes behind the event that was noted. It is for whoever does what an event says:
+//! the request that noted it, and the replay of a journal.
+//!
+//! | part | steps | refused |
+//! |---|---|---|
+//! | [`TakeSnap`] | `map-get`, `map-put`, `header-snap-add` | NoImage |
+//! | [`RemoveSnap`] | `header-snap-remove`, `map-remove` | NoImage |
 //!
 //! The way to its own look is `dir-find`, the image's line, alone in it, `header-get`, the lock,
 //! and `header-get` again ([`Approach`](rbd_machine::Approach)). What the own look shows can't
@@ -36,9 +45,9 @@
 //!
 //! Object maps are kept as Ceph keeps them. An image's map is made before its header, with a state
 //! for each object of its size. A snapshot's map is put before the header lists the snapshot, with
-//! the bits that the head's map was told to have: its id is one more than the last that the own
-//! look tells, and alone on the image nobody takes another. It is removed once the header doesn't
-//! list the snapshot, and one that isn't there is passed over.
+//! the bits that the head's map was told to have: its id is one more than the last of the header
+//! that the part is made of, that of the own look, and alone on the image nobody takes another. It
+//! is removed once the header doesn't list the snapshot, and one that isn't there is passed over.
 //!
 //! A `du` counts the objects of the size that the header tells, and among them those that the
 //! head's map has in another state than 0. A map may have more objects, since it never becomes
@@ -53,37 +62,55 @@
 //!
 //! `specs/Create.antt`, `specs/Listing.antt` and `specs/Snap.antt` have the plan of each command:
 //! what a request wants, and how it goes on after each answer. `specs/Used.antt` says which objects
-//! `du` counts, one by one. A request that is made has this plan
-//! left, and each of its calls keeps to it ([`Machine`](rbd_machine::Machine)). [`laws`] says how
-//! many operations each plan has at most, that none begins a part again, that the header of a new
-//! image is in form, that each plan is lawful from nothing known (`rbd_machine`), and that each
-//! reply is meant (`rbd_meaning`): what has been done when a request is done, what is shown of what
-//! it was told, and which answer refused it.
+//! `du` counts, one by one. A request that is made has this plan left, and each of its calls keeps
+//! to it ([`Machine`](rbd_machine::Machine)).
+//!
+//! `specs/Snap.antt` also has the plans of the parts, `copying` and `removing`. The parts have the
+//! form of those of `rbd_zero`: their clauses hold for every plan that comes next, and a step tells
+//! a [`Progress`](rbd_machine::Progress). `specs/SnapParts.antt` says what is left of a part, and
+//! `specs/Snapping.antt` what is left of a request.
+//!
+//! [`laws`] says how many operations each plan has at most, that none begins a part again, that the
+//! header of a new image is in form, that each plan is lawful from nothing known (`rbd_machine`),
+//! and that each reply is meant (`rbd_meaning`): what has been done when a request is done, what is
+//! shown of what it was told, and which answer refused it.
 //!
 //! # Cost
 //!
 //! A request holds the names of its command, without a copy. Each operation or event that names
 //! something copies that name once; the header of a new image is made when its operation is asked
 //! for. A reply of names, a header or snapshots is copied once, by `ready`, and handed out by
-//! `feed`. Of a `snap create` the bits of a map are owned once more by `ready`, and once more by
-//! their `map-put`: where they are shared no byte is copied. A `du` counts them where they are, in
-//! one pass up to the last object of the size. Nothing else takes memory.
+//! `feed`. A `du` counts the bits of a map where they are, in one pass up to the last object of the
+//! size.
+//!
+//! | part | operations | memory |
+//! |---|---|---|
+//! | [`TakeSnap`] | 3 | it holds the name, which `header-snap-add` copies once; the bits of a map are owned once more by `ready`, and once more by their `map-put`: where they are shared no byte is copied |
+//! | [`RemoveSnap`] | 2 | none |
+//!
+//! Neither is made with memory. A `snap create` copies the name at its own look, for its part.
+//! Nothing else takes memory.
 //!
 //! # How it works
 //!
 //! Each request has the step at which it stands, and each of its calls is a `match` on the step.
 //! [`ListRequest`] also serves `rename`, which like an `ls` has one operation and holds nothing.
 //! `snap create` and `snap rm` are one machine, since they differ only in what they refuse, in
-//! their event and in their operations behind it.
+//! their event and in their part behind it. At the own look `ready` makes the part, and puts it
+//! beside the stage; it is taken from there once the event is noted.
 #![tactic(auto)]
 
 mod create;
 pub mod laws;
 mod listing;
 mod operations;
+mod remove_snap;
 mod snap;
+mod take_snap;
 mod used;
 
 pub use create::CreateRequest;
 pub use listing::ListRequest;
+pub use remove_snap::RemoveSnap;
 pub use snap::SnapRequest;
+pub use take_snap::TakeSnap;

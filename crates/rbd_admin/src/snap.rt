@@ -1,50 +1,39 @@
 //! `snap create` and `snap rm`
-ghost use Rattle.std.specs.Prelude.{◌≡◌, ℕ, ◌+◌, false, true, Some, None, is_some, if◌then◌else◌, IfOk};
-ghost use Rattle.rbd_kinds.specs.declared.header_op.HeaderOp.TheVariants as header;
-ghost use Rattle.rbd_kinds.specs.declared.id.SiteId.{SiteId};
+ghost use Rattle.std.specs.Prelude.{◌≡◌, true, Some, None, is_some, if◌then◌else◌, IfOk, OnOk};
 ghost use Rattle.rbd_kinds.specs.declared.machine.Fed.TheVariants as fed_with;
-ghost use Rattle.rbd_kinds.specs.declared.map_op.MapOp.TheVariants as states;
-ghost use Rattle.rbd_kinds.specs.declared.operation.Op.TheVariants as on;
 ghost use Rattle.rbd_kinds.specs.Header.{snap_named};
 ghost use Rattle.rbd_header.specs.Header.{is_full as lists_all};
 ghost use Rattle.rbd_machine.specs.Answers.{CanBeFed};
-ghost use Rattle.rbd_machine.specs.Plan.{GoesOn, Goto, plan_after, without_labels};
-ghost use Rattle.rbd_machine.specs.Steps.{going, change as change_of};
+ghost use Rattle.rbd_machine.specs.Plan.{GoesOn, Goto, Note, Plan, Wants, Asks, plan_after, without_labels};
+ghost use Rattle.rbd_machine.specs.Ready.{IsReadyFor};
+ghost use Rattle.rbd_machine.specs.Steps.{Progresses, applied, change as change_of};
 ghost use Rattle.rbd_meaning.specs.Snaps.{removal_refusal, is_unprotected};
-ghost use Rattle.rbd_admin.specs.Snap.{is_snap, snap_plan, rest_at, rest_of_snap, IsApproaching, refuses_by, does_by, refuses_of, does, noting, doing, event_of, TellsAt, IsReadied, HasBits};
+ghost use Rattle.rbd_admin.specs.Snap.{is_snap, snap_plan};
+ghost use Rattle.rbd_admin.specs.Snapping.{rest_of_snap, rest_of_act, rest_of_acted, refuses_by, does_by, refuses_of, does, event_of, owning_in, IsApproaching, IsActReady, IsReady, TellsAct};
 
-use crate::operations::map_get;
+use crate::remove_snap::RemoveSnap;
+use crate::take_snap::TakeSnap;
 use rbd_header::is_full;
 use rbd_kinds::{
-    Answer, Bytes, Command, Event, Fed, HeaderOp, HeaderView, ImageId, MapOp, Name, NoMemory, Op,
-    OpKind, Refusal, Reply, Sharing, SiteId, SnapId, SnapStatus, TryClone, Turn, Want,
+    Answer, Command, Event, Fed, HeaderView, ImageId, Name, NoMemory, Op, Refusal, Reply, Sharing,
+    SiteId, SnapStatus, TryClone, Turn, Want,
 };
-use rbd_machine::{
-    Approach, Machine, Progress, Reason, Refuses, non_primary, refusal_of, told_done,
-};
+use rbd_machine::{Approach, Machine, Progress, Reason, Refuses, non_primary};
 use std::alloc::Global;
 
-/// Takes a snapshot of an image, or removes one. A snapshot's object map is put before the header
-/// lists the snapshot, and removed once it doesn't (Ceph: a snapshot has an object map of its own,
-/// that of the head as it was).
+/// Takes a snapshot of an image, or removes one.
 ///
 /// ```text
-/// Approaching   to its own look, alone in the image's line
-///    │ header
+/// Approaching   to its own look, alone in the image's line   (see `Approach`)
+///    │             refused: NonPrimary, then SnapExists and BadShape, or NoSnap and SnapProtected
 /// Noting        the event SnapCreate or SnapRemove, in the image's journal
 ///    │
-///    ├── to take one ───────────────────────────┐── to remove one
-/// Copying       map-get           ──none─▶ (1)  │
-///    │ bits                                     │
-/// Putting       map-put, with these bits        Removing    header-snap-remove   ──none─▶ (1)
-///    │ done                                     │ done
-/// Taking        header-snap-add   ──none─▶ (1)  Unmapping   map-remove
-///    │ snap                                     │ done, or none
-///    ├──────────────────────────────────────────┘
+/// Acting        the snapshot is taken (see `TakeSnap`) or removed (see `RemoveSnap`)
+///    │
 /// Applying      the event counts as applied
 ///    │
 ///    ▼
-/// Done                                                                      (1) NoImage
+/// Done
 /// ```
 ///
 /// Each operation may be answered `fenced`, which ends the request with Fenced.
@@ -53,21 +42,16 @@ pub struct SnapRequest {
     site: SiteId,
     change: SnapChange,
     stage: Stage,
-    /// The bits that it was told, once there is memory for them.
-    readied: Option<Bytes>,
+    /// What is done behind the event, once the own look told the header.
+    act: Option<Act>,
 }
 
-/// A stage of the request.
+/// A stage of it, with its image once it is found.
 #[derive(Debug, Drop)]
 enum Stage {
     Approaching(Approach),
-    Noting(ImageId, Act),
-    /// The snapshot is the next one.
-    Copying(ImageId, SnapId),
-    Putting(ImageId, SnapId, Bytes),
-    Taking(ImageId),
-    Removing(ImageId, SnapId),
-    Unmapping(ImageId, SnapId),
+    Noting(ImageId),
+    Acting(ImageId, Act),
     Applying(ImageId),
 }
 
@@ -84,13 +68,11 @@ enum ChangeKind {
     Remove,
 }
 
-/// What is done once the own look told the header.
-#[derive(Clone, Copy, Debug, PartialEq, Eq)]
+/// What is done behind the event.
+#[derive(Debug, Drop)]
 enum Act {
-    /// The snapshot that is taken next.
-    Take(SnapId),
-    /// The snapshot that the header lists under the name.
-    Remove(SnapId),
+    Take(TakeSnap),
+    Remove(RemoveSnap),
 }
 
 impl SnapRequest {
@@ -128,14 +110,45 @@ impl SnapRequest {
             site,
             change: SnapChange { kind, snap },
             stage: Stage::Approaching(Approach::new(site, image, Sharing::Alone)),
-            readied: None,
+            act: None,
         }
+    }
+
+    /// The image, where it approaches and is at its own look.
+    fn owning(&self) -> Option<ImageId>
+        ensures { result ≡ owning_in self.now.stage }
+    {
+        match &self.stage {
+            Stage::Approaching(way) => way.owning(),
+            _ => None,
+        }
+    }
+
+    /// Takes the memory for its own look.
+    fn ready_act(&mut self, answer: &Answer) -> Result<(), NoMemory>
+        requires at { IsApproaching self.old.stage }
+        requires can { CanBeFed (rest_of_snap self.old) (fed_with.Answer answer.now) }
+        ensures rest { rest_of_snap self.new ≡ rest_of_snap self.old }
+        ensures ready { OnOk result (IsReady self.new answer.now) }
+    {
+        let Some(image) = self.owning() else {
+            return Ok(());
+        };
+        let Answer::Header(header) = answer else {
+            return Ok(());
+        };
+        if self.change.refusal(header).is_some() {
+            return Ok(());
+        }
+        self.act = Some(self.change.act(self.site, image, header)?);
+        Ok(())
     }
 
     /// Goes on with its way to its own look, and from there.
     fn approach(&mut self, fed: &Fed) -> Turn
         requires at { IsApproaching self.old.stage }
         requires can { CanBeFed (rest_of_snap self.old) fed.now }
+        requires ready { IsReadyFor (IsReady self.old) fed.now }
         ensures { GoesOn Goto (plan_after (rest_of_snap self.old) fed.now) result (without_labels (rest_of_snap self.new)) }
     {
         let Stage::Approaching(way) = &mut self.stage else {
@@ -145,55 +158,54 @@ impl SnapRequest {
             Progress::More => Turn::More,
             Progress::Refused(refusal) => Turn::Done(Reply::Refused(refusal)),
             Progress::Ended(image) => {
-                let Fed::Answer(answer) = fed else {
-                    unreachable!()
-                };
-                let Answer::Header(header) = answer else {
-                    unreachable!()
-                };
-                self.own(image, header)
+                self.stage = Stage::Noting(image);
+                Turn::More
             }
         }
     }
 
-    /// Goes on from its own look, which refused nothing.
-    fn own(&mut self, image: ImageId, header: &HeaderView) -> Turn
-        requires { refuses_of self.old.change header.now ≡ None }
-        ensures { GoesOn Goto (does self.old.site self.old.change image header.now) result (without_labels (rest_of_snap self.new)) }
+    /// Goes on behind its event, with what its own look made.
+    fn begin_act(&mut self, image: ImageId) -> Turn
+        ensures { GoesOn Goto (rest_of_acted self.old.act (applied self.old.site image)) result (without_labels (rest_of_snap self.new)) }
     {
-        match self.change.act(header) {
-            Ok(act) => {
-                self.stage = Stage::Noting(image, act);
-                Turn::More
-            }
-            Err(refusal) => Turn::Done(Reply::Refused(refusal)),
-        }
+        self.stage = match self.act.take() {
+            Some(act) => Stage::Acting(image, act),
+            None => Stage::Applying(image),
+        };
+        Turn::More
     }
 }
 
 impl SnapChange {
-    /// What is to be done by a header that refuses nothing, or why nothing is: it doesn't list the
-    /// snapshot that is to be removed.
-    fn act(&self, header: &HeaderView) -> Result<Act, Refusal>
+    /// What is done behind the event, by a header that refuses nothing.
+    fn act(&self, site: SiteId, image: ImageId, header: &HeaderView) -> Result<Act, NoMemory>
         requires { refuses_of self.now header.now ≡ None }
-        ensures { (site : SiteId) (image : ℕ) → does site self.now image header.now ≡ going (noting site self.now.snap image) result }
+        ensures { IfOk result (λ act. Note site image (event_of self.now) (rest_of_act act (applied site image)) ≡ does site self.now image header.now) }
     {
         match self.kind {
-            ChangeKind::Create => Ok(Act::Take(next_snap(header))),
-            ChangeKind::Remove => match header.named(&self.snap) {
-                Some(listed) => Ok(Act::Remove(listed.id)),
-                None => Err(Refusal::NoSnap),
-            },
+            ChangeKind::Create => {
+                let name = self.snap.try_clone()?;
+                Ok(Act::Take(TakeSnap::new(site, image, header, name)))
+            }
+            ChangeKind::Remove => {
+                let Some(listed) = header.named(&self.snap) else {
+                    unreachable!()
+                };
+                Ok(Act::Remove(RemoveSnap::new(site, image, header, listed)))
+            }
         }
     }
-}
 
-/// The snapshot that is taken next of an image that isn't full.
-fn next_snap(header: &HeaderView) -> SnapId
-    requires { lists_all header.now ≡ false }
-    ensures { result ≡ header.now.snap_seq + 1 }
-{
-    SnapId(header.snap_seq + 1)
+    /// Its event.
+    fn event(&self) -> Result<Event, NoMemory>
+        ensures { IfOk result (λ event. event ≡ event_of self.now) }
+    {
+        let name = self.snap.try_clone()?;
+        Ok(match self.kind {
+            ChangeKind::Create => Event::SnapCreate { name },
+            ChangeKind::Remove => Event::SnapRemove { name },
+        })
+    }
 }
 
 impl Refuses for SnapChange {
@@ -248,117 +260,72 @@ fn protection(status: SnapStatus) -> Option<Refusal>
 }
 
 impl Act {
-    /// The event, for the snapshot of a name.
-    fn event(&self, snap: &Name) -> Result<Event, NoMemory>
-        ensures { IfOk result (λ event. event ≡ event_of snap.now self.now) }
-    {
-        let name = snap.try_clone()?;
-        Ok(match self {
-            Act::Take(_) => Event::SnapCreate { name },
-            Act::Remove(_) => Event::SnapRemove { name },
-        })
-    }
-
-    /// The stage behind the event.
-    fn begun(&self, image: ImageId) -> Stage
-        ensures { (site : SiteId) (change : SnapChange) → rest_at result site change ≡ doing site change.snap image self.now }
+    fn wants(&self) -> Want
+        ensures { (next : Plan) → Wants (rest_of_act self.now next) result }
     {
         match self {
-            Act::Take(next) => Stage::Copying(image, *next),
-            Act::Remove(listed) => Stage::Removing(image, *listed),
+            Act::Take(take) => take.wants(),
+            Act::Remove(remove) => remove.wants(),
         }
     }
-}
 
-impl Stage {
-    /// The stage behind an operation, with the bits that were told, or why the request ends: it is
-    /// fenced, or the image isn't there.
-    fn behind(&self, bits: Option<Bytes>, answer: &Answer) -> Result<Stage, Refusal>
-        requires tells { TellsAt self.now answer.now }
-        requires ready { IsReadied self.now bits answer.now }
-        ensures { (site : SiteId) (change : SnapChange) → plan_after (rest_at self.now site change) (fed_with.Answer answer.now) ≡ going (λ behind. rest_at behind site change) result }
+    fn next(&self) -> Result<Op, NoMemory>
+        ensures { (next : Plan) → IfOk result (Asks (rest_of_act self.now next)) }
     {
         match self {
-            Stage::Approaching(_) => unreachable!(),
-            Stage::Noting(_, _) => unreachable!(),
-            Stage::Copying(image, next) => match bits {
-                Some(bits) => Ok(Stage::Putting(*image, *next, bits)),
-                None => Err(refusal_of(answer)),
-            },
-            Stage::Putting(image, _, _) => match told_done(answer) {
-                Ok(()) => Ok(Stage::Taking(*image)),
-                Err(refusal) => Err(refusal),
-            },
-            Stage::Taking(image) => match answer {
-                Answer::Snap(_) => Ok(Stage::Applying(*image)),
-                _ => Err(refusal_of(answer)),
-            },
-            Stage::Removing(image, listed) => match told_done(answer) {
-                Ok(()) => Ok(Stage::Unmapping(*image, *listed)),
-                Err(refusal) => Err(refusal),
-            },
-            Stage::Unmapping(image, _) => match answer {
-                Answer::Done => Ok(Stage::Applying(*image)),
-                Answer::Absent => Ok(Stage::Applying(*image)),
-                _ => Err(refusal_of(answer)),
-            },
-            Stage::Applying(_) => unreachable!(),
+            Act::Take(take) => take.next(),
+            Act::Remove(remove) => remove.next(),
         }
     }
-}
 
-/// The bits that an answer brings at a stage, if it brings some.
-fn bits_for(stage: &Stage, answer: &Answer) -> Result<Option<Bytes>, NoMemory>
-    ensures { IfOk result (λ readied. IsReadied stage.now readied answer.now) }
-{
-    match stage {
-        Stage::Copying(_, _) => match answer {
-            Answer::Bits(bits) => Ok(Some(bits.try_clone()?)),
-            _ => Ok(None),
-        },
-        _ => Ok(None),
+    fn ready(&mut self, answer: &Answer) -> Result<(), NoMemory>
+        ensures rest { (next : Plan) → rest_of_act self.new next ≡ rest_of_act self.old next }
+        ensures ready { OnOk result (IsActReady self.new answer.now) }
+    {
+        match self {
+            Act::Take(take) => take.ready(answer),
+            Act::Remove(_) => Ok(()),
+        }
+    }
+
+    fn feed(&mut self, answer: &Answer) -> Progress<()>
+        requires tells { TellsAct self.old answer.now }
+        requires ready { IsActReady self.old answer.now }
+        ensures { (next : Plan) → Progresses next (plan_after (rest_of_act self.old next) (fed_with.Answer answer.now)) result (rest_of_act self.new next) }
+    {
+        match self {
+            Act::Take(take) => take.feed(answer),
+            Act::Remove(remove) => remove.feed(answer),
+        }
     }
 }
 
 impl Machine for SnapRequest {
     ghost stands = { λ r. without_labels (rest_of_snap r) };
 
-    ghost is_ready = { HasBits };
+    ghost is_ready = { IsReady };
 
     fn wants(&self) -> Want {
         let site = self.site;
-        let kind = match &self.stage {
-            Stage::Approaching(way) => return way.wants(),
-            Stage::Noting(image, _) => {
-                return Want::Note {
-                    site,
-                    image: *image,
-                };
-            }
-            Stage::Copying(_, _) => OpKind::MapGet,
-            Stage::Putting(_, _, _) => OpKind::MapPut,
-            Stage::Taking(_) => OpKind::HeaderSnapAdd,
-            Stage::Removing(_, _) => OpKind::HeaderSnapRemove,
-            Stage::Unmapping(_, _) => OpKind::MapRemove,
-            Stage::Applying(image) => {
-                return Want::Applied {
-                    site,
-                    image: *image,
-                };
-            }
-        };
-        Want::Op { site, kind }
+        match &self.stage {
+            Stage::Approaching(way) => way.wants(),
+            Stage::Noting(image) => Want::Note {
+                site,
+                image: *image,
+            },
+            Stage::Acting(_, act) => act.wants(),
+            Stage::Applying(image) => Want::Applied {
+                site,
+                image: *image,
+            },
+        }
     }
 
     fn next(&self, _alloc: Global) -> Result<Op, NoMemory> {
         match &self.stage {
             Stage::Approaching(way) => way.next(),
-            Stage::Noting(_, _) => unreachable!(),
-            Stage::Copying(image, _) => Ok(map_get(*image)),
-            Stage::Putting(image, next, bits) => Ok(map_put(*image, *next, bits.try_clone()?)),
-            Stage::Taking(image) => Ok(snap_add(*image, self.change.snap.try_clone()?)),
-            Stage::Removing(image, listed) => Ok(snap_remove(*image, *listed)),
-            Stage::Unmapping(image, removed) => Ok(map_remove(*image, *removed)),
+            Stage::Noting(_) => unreachable!(),
+            Stage::Acting(_, act) => act.next(),
             Stage::Applying(_) => unreachable!(),
         }
     }
@@ -369,77 +336,44 @@ impl Machine for SnapRequest {
 
     fn event(&self, _alloc: Global) -> Result<Option<Event>, NoMemory> {
         match &self.stage {
-            Stage::Noting(_, act) => Ok(Some(act.event(&self.change.snap)?)),
+            Stage::Noting(_) => Ok(Some(self.change.event()?)),
             _ => Ok(None),
         }
     }
 
     fn ready(&mut self, _alloc: Global, fed: &Fed) -> Result<(), NoMemory> {
-        match fed {
-            Fed::Answer(answer) => {
-                self.readied = bits_for(&self.stage, answer)?;
-                Ok(())
-            }
-            Fed::Passed => Ok(()),
+        let Fed::Answer(answer) = fed else {
+            return Ok(());
+        };
+        match &mut self.stage {
+            Stage::Approaching(_) => self.ready_act(answer),
+            Stage::Acting(_, act) => act.ready(answer),
+            _ => Ok(()),
         }
     }
 
-    #[tactic(auto, using(crate::proofs::Tells::stage_tells, crate::proofs::Tells::stage_is_live))]
+    #[tactic(auto, using(crate::proofs::Tells::act_tells))]
     fn feed(&mut self, fed: &Fed) -> Turn {
-        match &self.stage {
+        match &mut self.stage {
             Stage::Approaching(_) => self.approach(fed),
-            Stage::Noting(image, act) => {
-                self.stage = act.begun(*image);
-                Turn::More
+            Stage::Noting(image) => {
+                let image = *image;
+                self.begin_act(image)
             }
-            Stage::Applying(_) => Turn::Done(Reply::Done),
-            stage => {
+            Stage::Acting(image, act) => {
                 let Fed::Answer(answer) = fed else {
                     unreachable!()
                 };
-                match stage.behind(self.readied.take(), answer) {
-                    Ok(behind) => {
-                        self.stage = behind;
+                match act.feed(answer) {
+                    Progress::More => Turn::More,
+                    Progress::Ended(()) => {
+                        self.stage = Stage::Applying(*image);
                         Turn::More
                     }
-                    Err(refusal) => Turn::Done(Reply::Refused(refusal)),
+                    Progress::Refused(refusal) => Turn::Done(Reply::Refused(refusal)),
                 }
             }
+            Stage::Applying(_) => Turn::Done(Reply::Done),
         }
     }
-}
-
-/// A map of a snapshot is put.
-fn map_put(image: ImageId, snap: SnapId, bits: Bytes) -> Op
-    ensures { result ≡ on.Map image (states.Put (Some snap) bits) }
-{
-    let op = MapOp::Put {
-        snap: Some(snap),
-        bits,
-    };
-    Op::Map { image, op }
-}
-
-/// A map of a snapshot is removed.
-fn map_remove(image: ImageId, snap: SnapId) -> Op
-    ensures { result ≡ on.Map image (states.Remove (Some snap)) }
-{
-    let op = MapOp::Remove { snap: Some(snap) };
-    Op::Map { image, op }
-}
-
-/// A snapshot of a name is taken.
-fn snap_add(image: ImageId, name: Name) -> Op
-    ensures { result ≡ on.Header image (header.SnapAdd name) }
-{
-    let op = HeaderOp::SnapAdd { name };
-    Op::Header { image, op }
-}
-
-/// A snapshot is removed.
-fn snap_remove(image: ImageId, snap: SnapId) -> Op
-    ensures { result ≡ on.Header image (header.SnapRemove snap) }
-{
-    let op = HeaderOp::SnapRemove { snap };
-    Op::Header { image, op }
 }

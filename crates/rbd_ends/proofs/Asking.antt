@@ -186,16 +186,16 @@ only_on_gone next only answer.Done = only
 only_on_gone next only answer.Absent = only
 only_on_gone next only a = only_not_there TakesNoLock a
 
-only_putting : (site : SiteId) (snap : List ℕ) (image next : ℕ) (bits : List ℕ) → AsksOnly TakesNoLock (putting site snap image next bits)
-only_putting site snap image next bits = (tt, λ a. only_on_done TakesNoLock (taking site snap image) (tt, λ b. only_on_snap (applied site image) tt b) a)
+only_putting : (site : SiteId) (snap : List ℕ) (image next : ℕ) (bits : List ℕ) → AsksOnly TakesNoLock (putting site snap image next (applied site image) bits)
+only_putting site snap image next bits = (tt, λ a. only_on_done TakesNoLock (taking site snap image (applied site image)) (tt, λ b. only_on_snap (applied site image) tt b) a)
 
 only_take : (site : SiteId) (snap : List ℕ) (image : ℕ) (h : HeaderView) → AsksOnly TakesNoLock (take site snap image h)
-only_take site snap image h = (tt, λ a. only_on_bits (putting site snap image (h.snap_seq + 1)) (only_putting site snap image (h.snap_seq + 1)) a)
+only_take site snap image h = (tt, λ a. only_on_bits (putting site snap image (h.snap_seq + 1) (applied site image)) (only_putting site snap image (h.snap_seq + 1)) a)
 
 only_remove : (site : SiteId) (snap : List ℕ) (image : ℕ) (listed : Option SnapView) → AsksOnly TakesNoLock (remove_listed site snap image listed)
 only_remove site snap image None = tt
 only_remove site snap image (Some listed) =
-    (tt, λ a. only_on_done TakesNoLock (unmapping site image listed.id) (tt, λ b. only_on_gone (applied site image) tt b) a)
+    (tt, λ a. only_on_done TakesNoLock (unmapping site image listed.id (applied site image)) (tt, λ b. only_on_gone (applied site image) tt b) a)
 
 only_snaps : (site : SiteId) (c : Command) → AsksOnly TakesNoLock (snap_plan site c)
 only_snaps site (command.SnapCreate image snap) =

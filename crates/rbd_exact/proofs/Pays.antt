@@ -175,24 +175,24 @@ pays_on_gone next pays answer.Done = pays
 pays_on_gone next pays answer.Absent = pays
 pays_on_gone next pays a = pays_not_there a
 
-pays_taking : (site : SiteId) (snap : List ℕ) (image : ℕ) → Pays (taking site snap image)
+pays_taking : (site : SiteId) (snap : List ℕ) (image : ℕ) → Pays (taking site snap image (applied site image))
 pays_taking site snap image = (tt, λ a given told. pays_on_snap (applied site image) tt a)
 
-pays_putting : (site : SiteId) (snap : List ℕ) (image next : ℕ) (bits : List ℕ) → Pays (putting site snap image next bits)
-pays_putting site snap image next bits = (tt, λ a given told. pays_on_done (taking site snap image) (pays_taking site snap image) a)
+pays_putting : (site : SiteId) (snap : List ℕ) (image next : ℕ) (bits : List ℕ) → Pays (putting site snap image next (applied site image) bits)
+pays_putting site snap image next bits = (tt, λ a given told. pays_on_done (taking site snap image (applied site image)) (pays_taking site snap image) a)
 
 pays_take : (site : SiteId) (snap : List ℕ) (image : ℕ) (h : HeaderView) → Pays (take site snap image h)
 pays_take site snap image h =
     let next = h.snap_seq + 1 in
-    (tt, λ a given told. pays_on_bits (putting site snap image next) (pays_putting site snap image next) a)
+    (tt, λ a given told. pays_on_bits (putting site snap image next (applied site image)) (pays_putting site snap image next) a)
 
-pays_unmapping : (site : SiteId) (image snap : ℕ) → Pays (unmapping site image snap)
+pays_unmapping : (site : SiteId) (image snap : ℕ) → Pays (unmapping site image snap (applied site image))
 pays_unmapping site image snap = (tt, λ a given told. pays_on_gone (applied site image) tt a)
 
 pays_remove_listed : (site : SiteId) (snap : List ℕ) (image : ℕ) (listed : Option SnapView) → Pays (remove_listed site snap image listed)
 pays_remove_listed site snap image None = tt
 pays_remove_listed site snap image (Some listed) =
-    (tt, λ a given told. pays_on_done (unmapping site image listed.id) (pays_unmapping site image listed.id) a)
+    (tt, λ a given told. pays_on_done (unmapping site image listed.id (applied site image)) (pays_unmapping site image listed.id) a)
 
 pays_snap : (site : SiteId) (c : Command) → Pays (snap_plan site c)
 pays_snap site (command.SnapCreate image snap) = pays_change site image sharing.Alone (create_refuses snap) (take site snap) (λ i h standalone. pays_take site snap i h)

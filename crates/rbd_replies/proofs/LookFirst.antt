@@ -91,12 +91,12 @@ first_write_plan site _ = tt
 
 first_removal : (site : SiteId) (snap : List ℕ) (image : ℕ) (listed : Option SnapView) → LooksFirst (remove_listed site snap image listed)
 first_removal site snap image None = tt
-first_removal site snap image (Some listed) = at_done NoLook no_more (unmapping site image listed.id) (λ s. refl, at_gone NoLook no_more (applied site image) tt)
+first_removal site snap image (Some listed) = at_done NoLook no_more (unmapping site image listed.id (applied site image)) (λ s. refl, at_gone NoLook no_more (applied site image) tt)
 
 -- its map is copied before
-first_taking : (site : SiteId) (snap : List ℕ) (image next : ℕ) → LooksFirst (copying site snap image next)
+first_taking : (site : SiteId) (snap : List ℕ) (image next : ℕ) → LooksFirst (copying site snap image next (applied site image))
 first_taking site snap image next =
-    at_bits LooksFirst ends (putting site snap image next) (λ bits. at_done LooksFirst ends (taking site snap image) (at_snap NoLook no_more (applied site image) tt))
+    at_bits LooksFirst ends (putting site snap image next (applied site image)) (λ bits. at_done LooksFirst ends (taking site snap image (applied site image)) (at_snap NoLook no_more (applied site image) tt))
 
 first_snap : (site : SiteId) (c : Command) → LooksFirst (snap_plan site c)
 first_snap site (command.SnapCreate image snap) = first_change site image sharing.Alone (create_refuses snap) (take site snap) (λ i h. first_taking site snap i (h.snap_seq + 1))

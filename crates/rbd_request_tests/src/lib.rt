@@ -1,5 +1,5 @@
 //! Tests of requests, through their public calls: the way of a change (`machine`), the parts of
-//! requests (`piece`), and the requests of a client (`write`, `read`, `admin`).
+//! requests (`piece`, `snaps`), and the requests of a client (`write`, `read`, `admin`).
 //!
 //! They stand apart from the crates that they test, since a crate that has tests is proved twice:
 //! once as it is, and once with its tests. Each request is fed by hand, by the calls of `drive`.

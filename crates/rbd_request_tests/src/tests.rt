@@ -5,4 +5,5 @@ mod machine;
 mod order;
 mod piece;
 mod read;
+mod snaps;
 mod write;

@@ -194,11 +194,11 @@ at_gone next ends a = at_not_there a
 
 at_take : (site : SiteId) (snap : List ℕ) (image : ℕ) (h : HeaderView) → LooksEnd (take site snap image h)
 at_take site snap image h =
-    (tt, at_bits (putting site snap image (h.snap_seq + 1)) (λ bits. (tt, at_done (taking site snap image) (tt, at_snap (applied site image) tt))))
+    (tt, at_bits (putting site snap image (h.snap_seq + 1) (applied site image)) (λ bits. (tt, at_done (taking site snap image (applied site image)) (tt, at_snap (applied site image) tt))))
 
 at_removal : (site : SiteId) (snap : List ℕ) (image : ℕ) (listed : Option SnapView) → LooksEnd (remove_listed site snap image listed)
 at_removal site snap image None = tt
-at_removal site snap image (Some listed) = (tt, at_done (unmapping site image listed.id) (tt, at_gone (applied site image) tt))
+at_removal site snap image (Some listed) = (tt, at_done (unmapping site image listed.id (applied site image)) (tt, at_gone (applied site image) tt))
 
 pub at_snap_plan : (site : SiteId) (c : Command) → LooksEnd (snap_plan site c)
 at_snap_plan site (command.SnapCreate image snap) = at_change site image sharing.Alone (create_refuses snap) (take site snap) (at_take site snap)

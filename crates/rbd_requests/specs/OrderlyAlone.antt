@@ -62,9 +62,9 @@ module _ (site : SiteId) (snap : List ℕ) (image : ℕ) (h : HeaderView) where
     (
       refl,
       λ told can.
-          orderly_on_bits None (past_note site image) refl (putting site snap image (h.snap_seq + 1)) (λ bits. (
+          orderly_on_bits None (past_note site image) refl (putting site snap image (h.snap_seq + 1) (applied site image)) (λ bits. (
             refl,
-            λ put can. orderly_on_done None starts (past_note site image) (taking site snap image) (refl, λ a can. orderly_on_snap a) put,
+            λ put can. orderly_on_done None starts (past_note site image) (taking site snap image (applied site image)) (refl, λ a can. orderly_on_snap a) put,
           )) told,
     ),
   )
@@ -72,7 +72,7 @@ module _ (site : SiteId) (snap : List ℕ) (image : ℕ) (h : HeaderView) where
   orderly_remove_listed : (listed : Option SnapView) → IsOrderly None starts true (own_course None true site image h) (remove_listed site snap image listed)
   orderly_remove_listed None = tt
   orderly_remove_listed (Some listed) =
-      (at_itself site image, (refl, λ a can. orderly_on_done None starts (past_note site image) (unmapping site image listed.id) (refl, λ gone can. orderly_on_gone gone) a))
+      (at_itself site image, (refl, λ a can. orderly_on_done None starts (past_note site image) (unmapping site image listed.id (applied site image)) (refl, λ gone can. orderly_on_gone gone) a))
 
 pub orderly_snap : (site : SiteId) (c : Command) → IsOrderly None starts true beginning (snap_plan site c)
 orderly_snap site (command.SnapCreate image snap) =

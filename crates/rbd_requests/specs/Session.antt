@@ -14,7 +14,7 @@ use Rattle.rbd_request.specs.Read as of_read
 use Rattle.rbd_request.specs.Write as of_write
 use Rattle.rbd_admin.specs.Create.{rest_of_create}
 use Rattle.rbd_admin.specs.Listing.{rest_of_list, HasReply}
-use Rattle.rbd_admin.specs.Snap.{rest_of_snap, HasBits}
+use Rattle.rbd_admin.specs.Snapping.{rest_of_snap, IsReady as IsSnapReady}
 use Rattle.rbd_close.specs.Close.{rest_of_request}
 use Rattle.rbd_discard.specs.Discard as of_discard
 use Rattle.rbd_remove.specs.Request as of_remove
@@ -47,7 +47,7 @@ is_ready_of extra (request.Read r) a = of_read.IsReady r a
 is_ready_of extra (request.Write w) a = of_write.IsReady w a
 is_ready_of extra (request.Discard d) a = of_discard.IsReady d a
 is_ready_of extra (request.Create r) a = Unit {0}
-is_ready_of extra (request.Snap r) a = HasBits r a
+is_ready_of extra (request.Snap r) a = IsSnapReady r a
 is_ready_of extra (request.List r) a = HasReply r a
 is_ready_of extra (request.Resize r) a = of_resize.IsReady r a
 is_ready_of extra (request.Rollback r) a = of_rollback.IsReady r a

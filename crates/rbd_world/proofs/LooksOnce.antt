@@ -241,12 +241,12 @@ none_gone next none a = none_there a
 
 none_removal : (site : SiteId) (snap : List ℕ) (image : ℕ) (listed : Option SnapView) → LooksNoMore (remove_listed site snap image listed)
 none_removal site snap image None = tt
-none_removal site snap image (Some listed) = (tt, none_done (unmapping site image listed.id) (tt, none_gone (applied site image) tt))
+none_removal site snap image (Some listed) = (tt, none_done (unmapping site image listed.id (applied site image)) (tt, none_gone (applied site image) tt))
 
 at_snap_plan : (site : SiteId) (c : Command) → LooksOnce (snap_plan site c)
 at_snap_plan site (command.SnapCreate image snap) =
     at_change site image sharing.Alone (create_refuses snap) (take site snap)
-    (λ i h. (tt, none_bits _ (λ bits. (tt, none_done (taking site snap i) (tt, none_snap (applied site i) tt)))))
+    (λ i h. (tt, none_bits _ (λ bits. (tt, none_done (taking site snap i (applied site i)) (tt, none_snap (applied site i) tt)))))
 at_snap_plan site (command.SnapRemove image snap) =
     at_change site image sharing.Alone (remove_refuses snap) (remove site snap) (λ i h. none_removal site snap i (snap_named h.snaps snap))
 at_snap_plan site _ = tt

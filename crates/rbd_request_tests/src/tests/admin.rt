@@ -6,10 +6,11 @@ ghost use Rattle.rbd_header.specs.Header.{new_header};
 ghost use Rattle.rbd_kinds.specs.declared.journal.Event.TheVariants.{SnapCreate};
 ghost use Rattle.rbd_kinds.specs.declared.reply.Reply.TheVariants as reply;
 ghost use Rattle.rbd_machine.specs.Plan.{Note, IsAsking};
-ghost use Rattle.rbd_machine.specs.Steps.{change};
+ghost use Rattle.rbd_machine.specs.Steps.{applied, change};
 ghost use Rattle.rbd_admin.specs.Create.{drawing, rest_of_create};
 ghost use Rattle.rbd_admin.specs.Listing.{list_names, show_header, rest_of_list};
-ghost use Rattle.rbd_admin.specs.Snap.{copying, take, remove, rest_of_snap};
+ghost use Rattle.rbd_admin.specs.Snap.{copying, take, remove};
+ghost use Rattle.rbd_admin.specs.Snapping.{rest_of_snap};
 ghost use Rattle.rbd_meaning.specs.Snaps.{create_refuses, remove_refuses};
 
 use super::drive::{
@@ -271,7 +272,7 @@ fn own(
     snap: &[u8],
 ) -> Result<(), NoMemory>
     requires { rest_of_snap request.old ≡ change site.A image.now Sharing.Alone (create_refuses snap.now) (take site.A snap.now) }
-    ensures { OnOk result (rest_of_snap request.new ≡ Note site.A 7 (SnapCreate snap.now) (copying site.A snap.now 7 1)) }
+    ensures { OnOk result (rest_of_snap request.new ≡ Note site.A 7 (SnapCreate snap.now) (copying site.A snap.now 7 1 (applied site.A 7))) }
 {
     let (_image, _snap) = (image, snap);
     let found = Fed::Answer(Answer::Id(IMAGE));
@@ -311,7 +312,7 @@ fn takes(
     request: &mut SnapRequest,
     snap: &[u8],
 ) -> Result<bool, NoMemory>
-    requires { rest_of_snap request.old ≡ Note site.A 7 (SnapCreate snap.now) (copying site.A snap.now 7 1) }
+    requires { rest_of_snap request.old ≡ Note site.A 7 (SnapCreate snap.now) (copying site.A snap.now 7 1 (applied site.A 7)) }
 {
     if !is_taking(request.event(alloc)?, snap) {
         return Ok(false);

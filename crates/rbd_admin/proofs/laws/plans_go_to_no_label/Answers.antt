@@ -1,4 +1,4 @@
-use Rattle.rbd_admin.proofs.Closed.{closed_create, closed_listing, closed_snap}
+use Rattle.rbd_admin.proofs.Closed.{closed_copying, closed_create, closed_listing, closed_removing, closed_snap}
 use Rattle.rbd_admin.proofs.laws.plans_go_to_no_label.Goals as goal
 
 pub returns-clause-create : goal.returns-clause-create
@@ -9,3 +9,9 @@ returns-clause-listing c = closed_listing
 
 pub returns-clause-snap : goal.returns-clause-snap
 returns-clause-snap c = closed_snap
+
+pub returns-clause-take : goal.returns-clause-take
+returns-clause-take c = closed_copying
+
+pub returns-clause-remove : goal.returns-clause-remove
+returns-clause-remove c = closed_removing
