@@ -12,3 +12,4 @@ pub mod There
 pub mod Turning
 pub mod Unowned
 pub mod Wanting
+pub mod NoReads

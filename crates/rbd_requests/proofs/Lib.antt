@@ -9,3 +9,6 @@ pub mod Looks
 pub mod LooksEnd
 pub mod LooksOf
 pub mod OnePlan
+pub mod LooksNone
+pub mod LooksOnce
+pub mod InLine

@@ -2,6 +2,8 @@ pub mod Served
 pub mod Touched
 pub mod Session
 pub mod NoLooks
+pub mod Looking
+pub mod InLine
 pub mod OrderlyParts
 pub mod OrderlyWrites
 pub mod OrderlyLooks

@@ -1,6 +1,6 @@
 //! What the requests of all commands keep to: laws, each the contract of a function that does
 //! nothing.
-ghost use Rattle.std.specs.Prelude.{◌≡◌, ℕ, ◌+◌, ◌*◌, ◌≤◌, List, length, Some, false, true};
+ghost use Rattle.std.specs.Prelude.{◌≡◌, ℕ, ◌+◌, ◌*◌, ◌≤◌, List, length, IsSome, Some, false, true};
 ghost use Rattle.rbd_commands.specs.declared.command.Command.{Command};
 ghost use Rattle.rbd_kinds.specs.declared.answer.Answer.{Answer};
 ghost use Rattle.rbd_kinds.specs.declared.header_op.HeaderOp.TheVariants.{Get};
@@ -22,6 +22,8 @@ ghost use Rattle.rbd_course.specs.Course.{beginning};
 ghost use Rattle.rbd_course.specs.Orderly.{IsOrderlyFrom};
 ghost use Rattle.rbd_meaning.specs.Meant.{IsMeantBy};
 ghost use Rattle.rbd_request.specs.Read.{is_read};
+ghost use Rattle.rbd_requests.specs.InLine.{ChangesInLine};
+ghost use Rattle.rbd_requests.specs.Looking.{LooksOnce};
 ghost use Rattle.rbd_requests.specs.Served.{is_built, HasOnePlan, IsPlanFor};
 ghost use Rattle.rbd_requests.specs.Touched.{bound_of, extent_of, is_bounded_by_extent, told_by, touched_by, AsksAtMost, HasAtMost, TakesTurns};
 
@@ -81,4 +83,17 @@ pub fn looks_refuse_what_isnt_there()
     ensures { (seat : Seat) (command : Command) (s : Standing) (feds : List Fed) (steps : List Answered) (site : SiteId) (why : Reason) (image : ℕ) (next : Answer → Plan) (a : Answer)
         → IsPlanFor seat command s → is_read command ≡ false → IsWalk s.labels s.plan feds steps (Ask site why (Header image Get) next)
         → EndsIt a → next a ≡ not_there a }
+{}
+
+/// Where a request that isn't a read looks at a header, it either waits for the lock of its image
+/// next, or looks at no header any more. So it goes one way to a lock at most.
+pub fn commands_look_once()
+    ensures { (seat : Seat) (command : Command) (s : Standing) (feds : List Fed) (steps : List Answered) (last : Plan)
+        → IsPlanFor seat command s → is_read command ≡ false → IsWalk s.labels s.plan feds steps last → LooksOnce last }
+{}
+
+/// The request of a command that changes an extent goes beside others: it looks its image up first,
+/// joins the image's line, and behind that keeps to it, whatever header it is told.
+pub fn extents_change_in_line()
+    ensures { (seat : Seat) (command : Command) (s : Standing) → IsPlanFor seat command s → IsSome (extent_of command) → ChangesInLine seat.home s }
 {}

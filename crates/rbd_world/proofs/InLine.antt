@@ -22,7 +22,8 @@ use Rattle.rbd_machine.specs.Wait as wait
 use Rattle.rbd_kinds.specs.declared.image_at.ImageAt.{ImageAt}
 use Rattle.rbd_session.specs.Track.{Track, Lines, answered_by, changed_at, course_of, done_with, ended_by, given, line_in, looked_by, place_in, noted_by, run, waited_by}
 use Rattle.rbd_session.proofs.Track.{changed_here, done_steady, given_steady}
-use Rattle.rbd_world.specs.InLine.{IsPastWithout, KeepsTo}
+use Rattle.rbd_world.specs.InLine.{IsPastWithout}
+use Rattle.rbd_requests.specs.InLine.{KeepsTo}
 use Rattle.rbd_world.proofs.Ahead.{TakesNone, ahead_changed, ahead_left, fewer, member_changed, member_left, without_changed}
 
 -- ---- the same members, in the same order

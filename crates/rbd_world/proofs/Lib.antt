@@ -10,6 +10,7 @@ pub mod Changed
 pub mod Coming
 pub mod Debts
 pub mod Elsewhere
+pub mod Events
 pub mod Exactly
 pub mod FedAlike
 pub mod FirstClients
@@ -20,8 +21,6 @@ pub mod InLine
 pub mod InOrder
 pub mod KeptAhead
 pub mod Latest
-pub mod LooksNone
-pub mod LooksOnce
 pub mod Lost
 pub mod LostLines
 pub mod Newcomer
@@ -59,4 +58,3 @@ pub mod Wanted
 pub mod Ways
 pub mod WaysOfLines
 pub mod WritesFirst
-pub mod Writing

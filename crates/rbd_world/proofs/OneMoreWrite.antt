@@ -1,20 +1,15 @@
 -- A session that begins a command keeps its writes in order: the new one stands in no line.
-use Rattle.std.proofs.Common.{◌≡◌, ◌≢◌, ◌⊎◌, inl, inr, ℕ, true, false, List, [], replicate, Some, None, refl, sym, ap, ◌∙◌, subst}
+use Rattle.std.proofs.Common.{◌≡◌, ◌≢◌, ◌⊎◌, inl, inr, ℕ, true, false, List, [], Some, None, sym, ap, ◌∙◌, subst}
 use Rattle.std.proofs.lemmas.Bool.{true≢false}
 use Rattle.std.specs.Prelude.{IsSome}
-use Rattle.rbd_kinds.specs.declared.sharing.Sharing.TheVariants as sharing
 use Rattle.rbd_commands.specs.declared.command.Command.{Command}
-use Rattle.rbd_commands.specs.declared.command.Command.TheVariants as command
 use Rattle.rbd_kinds.specs.declared.id.Instance.{Instance}
 use Rattle.rbd_kinds.specs.declared.id.SiteId.{SiteId}
 use Rattle.rbd_line.specs.Line.{ahead, is_member}
-use Rattle.rbd_machine.specs.Plan.{Standing, without_labels}
-use Rattle.rbd_kinds.specs.declared.layout.Extent.{Extent}
+use Rattle.rbd_machine.specs.Plan.{Standing}
 use Rattle.rbd_machine.specs.declared.seat.Seat.{Seat}
-use Rattle.rbd_discard.specs.Discard.{discard, zero}
-use Rattle.rbd_request.specs.Write.{extent_at, put, write, write_refuses}
 use Rattle.rbd_requests.specs.Served.{IsPlanFor}
-use Rattle.rbd_requests.proofs.OnePlan.{only_discards, only_writes}
+use Rattle.rbd_requests.proofs.InLine.{changes_in_line}
 use Rattle.rbd_requests.specs.Touched.{extent_of}
 use Rattle.rbd_session.specs.declared.running.Running.{Running}
 use Rattle.rbd_session.specs.Lines.{LinesView, lines_of}
@@ -22,40 +17,11 @@ use Rattle.rbd_session.specs.Session.{SessionView, BeginsAt, IsSoundSession, run
 use Rattle.rbd_session.proofs.Members.{not_found}
 use Rattle.rbd_session.proofs.Sound.{some_same}
 use Rattle.rbd_world.specs.InLine.{IsPastWithout}
-use Rattle.rbd_world.specs.Order.{ChangesInLine, IsBeforeFinding, IsBehindFinding, IsInOrder, IsWriterOf, found_before, has_found, has_written}
+use Rattle.rbd_world.specs.Order.{IsBeforeFinding, IsBehindFinding, IsInOrder, IsWriterOf, found_before, has_found, has_written}
 use Rattle.rbd_world.specs.Run.{Asked, Happening, asked_by, steps_of}
 use Rattle.rbd_world.specs.Step.{AreSlotsBut}
 use Rattle.rbd_world.proofs.Changed.{same_or_other}
 use Rattle.rbd_world.proofs.FoundFirst.{found_has, never_found}
-use Rattle.rbd_world.proofs.Writing.{put_keeps, zero_keeps}
-
--- ---- a command that changes an extent goes beside others
-
-write_changes : (home : SiteId) (name : List ℕ) (at : ℕ) (bytes : List ℕ) (s : Standing) → s ≡ without_labels (write home name at bytes) → ChangesInLine home s
-write_changes home name at bytes s is = record {
-  name = name;
-  sharing = sharing.Shared;
-  refuses = write_refuses (extent_at at bytes);
-  act = put home at bytes;
-  stand = is;
-  keeps = λ image h turn. put_keeps home image turn at bytes h;
-}
-
-discard_changes : (home : SiteId) (name : List ℕ) (e : Extent) (s : Standing) → s ≡ without_labels (discard home name e) → ChangesInLine home s
-discard_changes home name e s is = record {
-  name = name;
-  sharing = sharing.Discard;
-  refuses = write_refuses e;
-  act = zero home e;
-  stand = is;
-  keeps = λ image h turn. zero_keeps home image turn e h;
-}
-
-pub changes_in_line : (seat : Seat) (c : Command) (s : Standing) → IsPlanFor seat c s → IsSome (extent_of c) → ChangesInLine seat.home s
-changes_in_line seat (command.Write name at bytes) s is writes = write_changes seat.home name at bytes s (only_writes seat (command.Write name at bytes) s refl is)
-changes_in_line seat (command.Fill name at len byte) s is writes = write_changes seat.home name at (replicate len byte) s (only_writes seat (command.Fill name at len byte) s refl is)
-changes_in_line seat (command.Discard name at len) s is writes = discard_changes seat.home name (record { at = at; len = len }) s (only_discards seat (command.Discard name at len) s refl is)
-changes_in_line seat _ s is writes = absurd (true≢false (sym writes))
 
 module _ {R : Type 0} (stands : R → Standing) (seat : Seat) (who : Instance) (slot line : ℕ) (command : Command) (run : List Happening) (c d : SessionView R) (r : Running R)
     (sound : IsSoundSession stands c) (free : running_at slot c ≡ None) (runs : running_at slot d ≡ Some r) (begins : BeginsAt stands IsPlanFor extent_of seat line command r)

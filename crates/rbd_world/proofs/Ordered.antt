@@ -33,7 +33,8 @@ use Rattle.rbd_session.specs.Waits.{waits}
 use Rattle.rbd_session.proofs.Consequences.{members_run_there}
 use Rattle.rbd_session.proofs.Members.{not_found}
 use Rattle.rbd_session.proofs.Sound.{no_some, some_same}
-use Rattle.rbd_world.specs.InLine.{IsAtTurn, IsPastWithout, KeepsTo}
+use Rattle.rbd_world.specs.InLine.{IsPastWithout}
+use Rattle.rbd_requests.specs.InLine.{IsAtTurn, KeepsTo}
 use Rattle.rbd_world.specs.Order.{IsBeforeFinding, IsBehindFinding, IsFirstToWrite, IsInOrder, IsInTurn, IsWriterOf, KeepsOrder, finds_in, found_before, has_found, has_written, tells_image, writes_in, writes_object}
 use Rattle.rbd_world.specs.Run.{Asked, Itself, Happening, Did, Operation, asked_by, steps_in, step_of}
 use Rattle.rbd_world.specs.Sound.{IsDue, IsRight}
@@ -46,7 +47,7 @@ use Rattle.rbd_world.proofs.InOrder.{Came, Further, Ended, LooksUp, Told, after,
 use Rattle.rbd_world.proofs.KeptAhead.{member_left_alone}
 use Rattle.rbd_world.proofs.Orderly.{comes_still, written_before}
 use Rattle.rbd_world.proofs.Turned.{HasTicket, earlier_past, ticket_of, turn_of}
-use Rattle.rbd_world.proofs.Writing.{look_keeps}
+use Rattle.rbd_requests.proofs.InLine.{look_keeps}
 
 and_false : (b : Bool) → (b && false) ≡ false
 and_false true = refl

@@ -3,7 +3,6 @@ use Rattle.std.proofs.Common.{◌≡◌, ◌⊎◌, inl, inr, ℕ, Bool, true, f
 use Rattle.std.proofs.lemmas.Bool.{true≢false}
 use Rattle.rbd_client.specs.Sound.{WaitsForLook}
 use Rattle.rbd_commands.specs.declared.command.Command.{Command}
-use Rattle.rbd_commands.specs.declared.command.Command.TheVariants as command
 use Rattle.rbd_kinds.specs.declared.answer.Answer.{Answer}
 use Rattle.rbd_kinds.specs.declared.answer.Answer.TheVariants as answer
 use Rattle.rbd_kinds.specs.declared.directory_op.DirectoryOp.TheVariants as directory
@@ -18,6 +17,7 @@ use Rattle.rbd_kinds.specs.declared.machine.Fed.TheVariants as fed
 use Rattle.rbd_kinds.specs.declared.operation.Op.TheVariants as op
 use Rattle.rbd_kinds.specs.declared.reply.Reply.{Reply}
 use Rattle.rbd_known.specs.Calm.{is_change}
+use Rattle.rbd_known.proofs.NoReads.{changes_are_no_reads}
 use Rattle.rbd_machine.specs.Answers.{CanGive, gives}
 use Rattle.rbd_machine.specs.Knowledge.{same_site}
 use Rattle.rbd_machine.specs.Label.{Label, Lock}
@@ -32,7 +32,7 @@ use Rattle.rbd_owner.specs.Steps.{is_among}
 use Rattle.rbd_owner.specs.declared.acquire.Acquire.{Acquire}
 use Rattle.rbd_owner.specs.declared.acquire.Stage.{Stage}
 use Rattle.rbd_owner.specs.declared.acquire.Stage.TheVariants as stage
-use Rattle.rbd_request.specs.Read.{is_read}
+use Rattle.rbd_requests.specs.Looking.{is_read}
 use Rattle.rbd_requests.specs.CommandsMeant.{command_is_meant}
 use Rattle.rbd_requests.proofs.Looks.{looks_refuse}
 use Rattle.rbd_session.specs.declared.running.Running.{Running}
@@ -130,11 +130,6 @@ looks_at site (Note s image event next) is = absurd (true≢false (sym is))
 looks_at site (Return reply) is = absurd (true≢false (sym is))
 looks_at site (Goto label) is = absurd (true≢false (sym is))
 
--- a command that waits in a line is no read
-pub no_read : (c : Command) → is_change c ≡ true → is_read c ≡ false
-no_read (command.Read image snap at len) is = absurd (true≢false (sym is))
-no_read _ is = refl
-
 -- what isn't there, or is fenced, tells no header
 ends_alone : (a : Answer) → EndsIt a → TellsStandalone a
 ends_alone answer.Absent ends = tt
@@ -163,7 +158,7 @@ module _ {R : Type 0} (stands : R → Standing) (homes : ℕ → SiteId) (sessio
   reads_not = by (is_change command_is) refl
     where
       by : (b : Bool) → is_change command_is ≡ b → is_read command_is ≡ false
-      by true is = no_read command_is is
+      by true is = changes_are_no_reads command_is is
       by false is = absurd (no_some _ (sym (way.calm is).1 ∙ ap (λ (q : Running R). q.place) (sym same) ∙ waiting.place))
 
   session_is : way.begun.asked.who.session ≡ session

@@ -14,6 +14,7 @@ use Rattle.rbd_machine.specs.Permits.{Permits}
 use Rattle.rbd_machine.specs.Plan.{Standing}
 use Rattle.rbd_rely.specs.Truth.{IsTrueAt}
 use Rattle.rbd_rely.proofs.Done.{may_do, gives_it}
+use Rattle.rbd_rely.proofs.Effects.{has_its_effect}
 use Rattle.rbd_world.specs.Run.{Sent}
 use Rattle.rbd_world.specs.Sound.{InSlot, IsSoundWorld, Sending, known_in}
 use Rattle.rbd_world.specs.Step.{DropsWhatItMay, IsPermitted, MayCome, WantsWhatItMay}
@@ -24,6 +25,7 @@ module _ {R : Type 0} (stands : R → Standing) (w : WorldView R) (session slot 
   permitted sound who k s o known permits = record {
     may = may_do s (records_in s w.sites) who k (length (site_in s w.sites).log) (sound.form s) (sound.mapped s) known o permits;
     gives = (gives_it s (records_in s w.sites) who k (length (site_in s w.sites).log) (sound.form s) (sound.mapped s) known o permits).can;
+    steps = λ f stands_for. has_its_effect s (records_in s w.sites) f k who (length (site_in s w.sites).log) stands_for (sound.form s) (sound.standalone s) (sound.mapped s) known o permits;
   }
 
   pub wants_what_it_may : (c : ClientView R) → IsSoundWorld stands w → client_in session w.lives ≡ Some c → WantsWhatItMay stands w.sites slot c

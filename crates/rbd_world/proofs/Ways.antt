@@ -40,7 +40,7 @@ use Rattle.rbd_machine.specs.Wait as wait
 use Rattle.rbd_machine.specs.declared.reason.Reason.{Reason}
 use Rattle.rbd_machine.specs.declared.reason.Reason.TheVariants as reason
 use Rattle.rbd_owner.specs.Acquire.{acquire, begun, lock_labels, op_at, op_of, rest_at, rest_of_acquire}
-use Rattle.rbd_request.specs.Read.{is_read}
+use Rattle.rbd_requests.specs.Looking.{is_read}
 use Rattle.rbd_owner.specs.Release.{release_op, release_op_at}
 use Rattle.rbd_owner.specs.declared.acquire.Acquire.{Acquire}
 use Rattle.rbd_owner.specs.declared.acquire.Stage.{Stage}
@@ -60,10 +60,13 @@ use Rattle.rbd_session.specs.Waits.{waits}
 use Rattle.rbd_session.proofs.Sound.{no_some, some_same}
 use Rattle.rbd_world.specs.Run.{Happening, steps_of}
 use Rattle.rbd_world.specs.Sound.{IsUnderWay, KeepsToItsWay}
-use Rattle.rbd_world.specs.Ways.{AsksNext, GoesWith, IsOfRelease, IsOver, IsWayThere, LooksNoMore, TookTheLock, WasRefused}
-use Rattle.rbd_world.proofs.LooksOnce.{Holds, HoldsNext, IsLast, Looked, looks_once, none_at_operation}
+use Rattle.rbd_world.specs.Ways.{AsksNext, GoesWith, IsOfRelease, IsOver, IsWayThere, TookTheLock, WasRefused}
+use Rattle.rbd_requests.specs.Looking.{LooksNoMore}
+use Rattle.rbd_requests.proofs.LooksOnce.{looks_once, none_at_operation}
+use Rattle.rbd_requests.specs.Looking.{Holds, HoldsNext, IsLast, Looked}
 use Rattle.rbd_world.proofs.Quiet.{IsQuiet, way_on}
-use Rattle.rbd_world.proofs.RefusedOnWay.{LooksAt, looks_at, no_read}
+use Rattle.rbd_known.proofs.NoReads.{changes_are_no_reads}
+use Rattle.rbd_world.proofs.RefusedOnWay.{LooksAt, looks_at}
 use Rattle.rbd_world.proofs.Walks.{walk_append}
 
 abbrev end : Plan
@@ -261,7 +264,7 @@ module _ {R : Type 0} (stands : R → Standing) (slot : ℕ) (c : ClientView R) 
     reads_not = by (is_change under.begun.asked.command) refl
       where
         by : (b : Bool) → is_change under.begun.asked.command ≡ b → is_read under.begun.asked.command ≡ false
-        by true is = no_read under.begun.asked.command is
+        by true is = changes_are_no_reads under.begun.asked.command is
         by false is = absurd (no_some _ (sym (under.calm is).1 ∙ place_is))
 
     waits_there : is_newcomer_at (course_of slot (track_of r c.session.lines)).place ≡ false

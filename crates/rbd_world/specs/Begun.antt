@@ -1,10 +1,10 @@
--- The lines that were begun, in a table.
-use Rattle.std.specs.Prelude.{ℕ, nat_eq, Bool, List, is_some}
-use Rattle.std.specs.Map.{lookup}
+-- The lines that were begun, in a set.
+use Rattle.std.specs.Prelude.{ℕ, nat_eq, Bool, List}
+use Rattle.std.specs.List.{list_any}
 
 pub record LinesBegun : Type 0 where
-  pub entries : List (ℕ × ℕ)
+  pub lines : List ℕ
   pub room : ℕ
 
 abbrev pub has_line : (line : ℕ) → LinesBegun → Bool
-has_line line b = is_some (lookup (nat_eq line) b.entries)
+has_line line b = list_any (nat_eq line) b.lines

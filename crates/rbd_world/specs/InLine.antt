@@ -1,36 +1,6 @@
--- How a write goes through the line of its image: behind its look-up it stays there, and sets the
--- state of each object, and changes it, at its turn.
-use Rattle.std.specs.Prelude.{◌≡◌, ℕ, true, false, List, Option, Some, None}
-use Rattle.rbd_kinds.specs.declared.answer.Answer.{Answer}
-use Rattle.rbd_kinds.specs.declared.data_op.DataOp.TheVariants as object
-use Rattle.rbd_kinds.specs.declared.header_op.HeaderOp.TheVariants as header
-use Rattle.rbd_kinds.specs.declared.id.SiteId.{SiteId}
-use Rattle.rbd_kinds.specs.declared.map_op.MapOp.TheVariants as states
-use Rattle.rbd_kinds.specs.declared.operation.Op.{Op}
-use Rattle.rbd_kinds.specs.declared.operation.Op.TheVariants as op
+-- How a change of an extent goes through the line of its image, where it stands there.
+use Rattle.std.specs.Prelude.{◌≡◌, ℕ, true, false, List, Some}
 use Rattle.rbd_line.specs.Line.{Member, member_of, holds, is_past}
-use Rattle.rbd_machine.specs.Plan.{Plan, Ask, Await, Note, Return, Goto}
-use Rattle.rbd_machine.specs.Wait as wait
-
--- a look at a header, or a change of the object whose turn it has, or of its state in the head's map
-abbrev pub IsAtTurn : SiteId → (image : ℕ) → (turn : Option ℕ) → SiteId → Op → Type 0
-IsAtTurn site image turn s (op.Header i header.Get) = Unit {0}
-IsAtTurn site image turn s (op.Map i (states.Set None number state)) = (s ≡ site) × (i ≡ image) × (turn ≡ Some number)
-IsAtTurn site image turn s (op.Data i number (object.Read snap parts)) = ⊥
-IsAtTurn site image turn s (op.Data i number o) = (s ≡ site) × (i ≡ image) × (turn ≡ Some number)
-IsAtTurn site image turn s o = ⊥
-
--- Whatever it is answered, the plan looks at headers, and sets states and changes objects of the
--- image at their turns; it joins no line, and leaves none before it ends.
-abbrev pub KeepsTo : SiteId → (image : ℕ) → (turn : Option ℕ) → Plan → Type 0
-KeepsTo site image turn (Ask s why o next) = IsAtTurn site image turn s o × ((answer : Answer) → KeepsTo site image turn (next answer))
-KeepsTo site image turn (Await (wait.Hold s i) next) = KeepsTo site image turn next
-KeepsTo site image turn (Await (wait.Turn number) next) = KeepsTo site image (Some number) next
-KeepsTo site image turn (Await (wait.Applied s i) next) = KeepsTo site image None next
-KeepsTo site image turn (Await w next) = ⊥
-KeepsTo site image turn (Note s i event next) = KeepsTo site image turn next
-KeepsTo site image turn (Return reply) = Unit {0}
-KeepsTo site image turn (Goto label) = ⊥
 
 -- the member in a slot, where there is one, is past its own look, and has no ticket for an object
 abbrev pub IsPastWithout : (slot object : ℕ) → List Member → Type 0

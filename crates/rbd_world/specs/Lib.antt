@@ -1,4 +1,5 @@
 pub mod Begun
+pub mod Events
 pub mod InLine
 pub mod Late
 pub mod Noted

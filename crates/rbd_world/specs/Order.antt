@@ -1,28 +1,25 @@
 -- The order in which the writes of one instance change an image: of two, the one that found the
 -- image first writes each of its objects first. A write is here whatever changes an extent piece by
 -- piece: a `write`, a `fill` or a `discard`.
-use Rattle.std.specs.Prelude.{◌≡◌, ◌⊎◌, ℕ, ◌==◌, ◌&&◌, ◌||◌, not, Bool, true, false, List, [], ◌∷◌, Option, Some, None, IsSome}
-use Rattle.rbd_kinds.specs.declared.sharing.Sharing.{Sharing}
+use Rattle.std.specs.Prelude.{◌≡◌, ◌⊎◌, ℕ, ◌==◌, ◌&&◌, ◌||◌, not, Bool, true, false, List, [], ◌∷◌, Some, None, IsSome}
 use Rattle.rbd_kinds.specs.declared.answer.Answer.{Answer}
 use Rattle.rbd_kinds.specs.declared.answer.Answer.TheVariants as answer
-use Rattle.rbd_commands.specs.declared.refusal.Refusal.{Refusal}
 use Rattle.rbd_kinds.specs.declared.data_op.DataOp.TheVariants as data_op
 use Rattle.rbd_kinds.specs.declared.directory_op.DirectoryOp.TheVariants as directory
-use Rattle.rbd_kinds.specs.declared.header.HeaderView.{HeaderView}
 use Rattle.rbd_kinds.specs.declared.id.Instance.{Instance}
 use Rattle.rbd_kinds.specs.declared.id.SiteId.{SiteId}
 use Rattle.rbd_kinds.specs.declared.operation.Op.{Op}
 use Rattle.rbd_kinds.specs.declared.operation.Op.TheVariants as op
 use Rattle.rbd_line.specs.Line.{ahead, is_member}
 use Rattle.rbd_machine.specs.Knowledge.{same_site}
-use Rattle.rbd_machine.specs.Plan.{Plan, Goto, Standing, without_labels}
-use Rattle.rbd_machine.specs.Steps.{change}
+use Rattle.rbd_machine.specs.Plan.{Goto, Standing}
+use Rattle.rbd_requests.specs.InLine.{ChangesInLine, KeepsTo}
 use Rattle.rbd_requests.specs.Touched.{extent_of}
 use Rattle.rbd_session.specs.declared.running.Running.{Running}
 use Rattle.rbd_session.specs.Lines.{lines_of}
 use Rattle.rbd_session.specs.Session.{SessionView, running_at}
 use Rattle.rbd_session.specs.Track.{image_at}
-use Rattle.rbd_world.specs.InLine.{IsPastWithout, KeepsTo}
+use Rattle.rbd_world.specs.InLine.{IsPastWithout}
 use Rattle.rbd_world.specs.Run.{Asked, Happening, Did, asked_by, is_own}
 
 -- ---- what a line has done
@@ -96,16 +93,6 @@ WritesFirst one other s image number (h ∷ run) =
     (writes_in one s image number h ≡ true → has_written other s image number run ≡ false) × WritesFirst one other s image number run
 
 -- ---- where the writes of an instance stand
-
--- A change that goes beside others: it looks its image up first, joins the image's line, and behind
--- that keeps to it, whatever header it is told.
-pub record ChangesInLine (home : SiteId) (s : Standing) : Type 0 where
-  pub name : List ℕ
-  pub sharing : Sharing
-  pub refuses : HeaderView → Option Refusal
-  pub act : (image : ℕ) → HeaderView → Plan
-  pub stand : s ≡ without_labels (change home name sharing refuses act)
-  pub keeps : (image : ℕ) (h : HeaderView) (turn : Option ℕ) → KeepsTo home image turn (act image h)
 
 -- It has found no image yet, and is in no line.
 pub record IsBeforeFinding {R : Type 0} (stands : R → Standing) (home : SiteId) (run : List Happening) (r : Running R) : Type 0 where

@@ -11,6 +11,7 @@ use Rattle.rbd_client.specs.Feeding.{DropsAtRest, IsClientAlike, IsFedBy}
 use Rattle.rbd_client.specs.Sound.{IsSoundClient}
 use Rattle.rbd_commands.specs.declared.command.Command.{Command}
 use Rattle.rbd_commands.specs.declared.command.Command.TheVariants as command
+use Rattle.rbd_flat.specs.Flat.{Flat}
 use Rattle.rbd_flat.specs.declared.entry.Entry.{Entry}
 use Rattle.rbd_flat.specs.declared.entry.Entry.TheVariants as entry
 use Rattle.rbd_kinds.specs.declared.answer.Answer.{Answer}
@@ -32,6 +33,7 @@ use Rattle.rbd_owner.specs.Acquire.{op_of, rest_of_acquire}
 use Rattle.rbd_owner.specs.declared.acquire.Acquire.{Acquire}
 use Rattle.rbd_owner.specs.declared.release.Release.{Release}
 use Rattle.rbd_owner.specs.Release.{release_op}
+use Rattle.rbd_rely.specs.Truth.{changed_by}
 use Rattle.rbd_requests.specs.Served.{IsPlanFor, is_built}
 use Rattle.rbd_requests.specs.Touched.{extent_of}
 use Rattle.rbd_session.specs.declared.running.Occupant.{Occupant}
@@ -44,10 +46,11 @@ use Rattle.rbd_session.specs.Session.{SessionView, IsNewcomer, held_in, script_l
 use Rattle.rbd_session.specs.Waits.{waits}
 use Rattle.rbd_site.specs.InForm.{AreInForm}
 use Rattle.rbd_site.specs.Log.{SiteLog, records_of}
-use Rattle.rbd_site.specs.Step.{MayDo, answer_to, mail_after}
+use Rattle.rbd_site.specs.Step.{MayDo, after, answer_to, mail_after}
 use Rattle.rbd_site.specs.declared.done.Done.{Done}
 use Rattle.rbd_site.specs.declared.done.DoneOp.TheVariants as done
 use Rattle.rbd_stands.specs.Effect.{effect_of}
+use Rattle.rbd_stands.specs.Site.{StandsFor}
 use Rattle.rbd_watch.specs.Posting.{numbered}
 use Rattle.rbd_watch.specs.Watching.{oldest_of}
 use Rattle.rbd_world.specs.Begun.{LinesBegun, has_line}
@@ -455,10 +458,13 @@ pub record AreSameSites (old new : Sites) : Type 0 where
   pub sites : (s : SiteId) → site_in s new ≡ site_in s old
   pub mail : new.mail ≡ old.mail
 
--- The operation may be done at its site, and the answer is one that it can give.
+-- The operation may be done at its site, and the answer is one that it can give. Where the site's
+-- records stand for a flat site, it is a step of the flat-copy machine there, or none.
 pub record IsPermitted (sites : Sites) (who : Instance) (s : SiteId) (o : Op) : Type 0 where
   pub may : MayDo (records_in s sites) who o
   pub gives : CanGive o (answer_to (records_in s sites) who o)
+  pub steps : (f : Flat) → StandsFor [] (records_in s sites) f
+      → StandsFor [] (after (records_in s sites) who o) (changed_by f (effect_of (records_in s sites) (done.Op o) (answer_to (records_in s sites) who o)))
 
 -- so it is with what may still come
 abbrev pub MayCome : Sites → Option Sent → Type 0

@@ -10,11 +10,11 @@ use Rattle.rbd_kinds.specs.declared.operation.Op.{Op}
 use Rattle.rbd_kinds.specs.declared.reply.Reply.{Reply}
 use Rattle.rbd_kinds.specs.declared.reply.Reply.TheVariants as reply
 use Rattle.rbd_machine.specs.Path.{Answered}
-use Rattle.rbd_machine.specs.Plan.{Plan, Ask, Await, Note, Return, Goto}
+use Rattle.rbd_machine.specs.Plan.{Plan, Ask, Return}
 use Rattle.rbd_machine.specs.declared.reason.Reason.{Reason}
 use Rattle.rbd_owner.specs.Acquire.{IsWay, rest_of_acquire}
 use Rattle.rbd_owner.specs.Steps.{lock_drop, released_lock}
-use Rattle.rbd_requests.specs.NoLooks.{IsNoLook}
+use Rattle.rbd_requests.specs.Looking.{LooksNoMore}
 
 -- ---- operations that are a way
 
@@ -61,14 +61,6 @@ pub record IsOfRelease (o : Op) : Type 0 where
   pub is : (o ≡ lock_drop image) ⊎ (o ≡ released_lock image)
 
 -- ---- what the state of a slot says
-
--- Whatever it is answered, it looks at no header any more: it is past its own look.
-abbrev pub LooksNoMore : Plan → Type 0
-LooksNoMore (Ask site why o next) = IsNoLook o × ((a : Answer) → LooksNoMore (next a))
-LooksNoMore (Await wait next) = LooksNoMore next
-LooksNoMore (Note site image event next) = LooksNoMore next
-LooksNoMore (Return r) = Unit {0}
-LooksNoMore (Goto label) = ⊥
 
 -- A request that has begun no way has done nothing on one, unless its way is over and it is past
 -- its own look. Where one is on its way its operations lead to where it stands, and where it has

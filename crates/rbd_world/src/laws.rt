@@ -12,6 +12,7 @@ ghost use Rattle.rbd_owner.specs.Counts.{is_counted, is_fence, is_round, is_take
 ghost use Rattle.rbd_owner.specs.Order.{EndsWith};
 ghost use Rattle.rbd_owner.specs.Steps.{fenced, lock_break};
 ghost use Rattle.rbd_site.specs.Records.{object_at};
+ghost use Rattle.rbd_world.specs.Events.{AreCallsOf};
 ghost use Rattle.rbd_world.specs.Late.{comes_among, is_late, is_stopped_among};
 ghost use Rattle.rbd_world.specs.Order.{IsWriterOf, WritesFirst, found_before};
 ghost use Rattle.rbd_world.specs.Owing.{IsUnhindered, has_worked};
@@ -20,6 +21,7 @@ ghost use Rattle.rbd_world.specs.Sound.{IsInSlot, IsNewWorld, IsOpen, IsRight, I
 ghost use Rattle.rbd_world.specs.Step.{Does, DoesAtSites, DropsWhatItMay, IsBuiltEvent, IsSoundIf, IsUndone, MayCome, WantsWhatItMay, happening};
 ghost use Rattle.rbd_world.specs.Ways.{AreAWay, AsksNext, IsOfRelease, IsOver, WasRefused};
 ghost use Rattle.rbd_world.specs.World.{WorldView, client_in, late_at, records_in};
+ghost use Rattle.rbd_world.specs.declared.event.Call.{Call};
 ghost use Rattle.rbd_world.specs.declared.event.Event.{Event};
 
 use rbd_course::Request;
@@ -36,6 +38,12 @@ pub fn steps_keep_worlds_sound<R: Request>()
         → DoesAtSites (happening R.stands e old) old.sites new.sites
         → ((session : ℕ) → IsSoundIf R.stands (client_in session new.lives))
         → IsSoundWorld R.stands new }
+{}
+
+/// Whatever list of events comes, the world behind it is sound: so its calls, history, logs and mail
+/// are those of one run, in which all holds that [`steps_keep_worlds_sound`] keeps.
+pub fn lists_of_events_are_runs<R: Request>()
+    ensures { (calls : List Call) (old new : WorldView R) → IsSoundWorld R.stands old → AreCallsOf R.stands calls old new → IsSoundWorld R.stands new }
 {}
 
 /// A step that is refused memory leaves a sound world.

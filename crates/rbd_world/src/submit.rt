@@ -49,7 +49,7 @@ pub fn submit<E: Machine + Drop>(
     let is_begun = begun.has(line);
     let outcome = submit_to(alloc, lives, history, session, line, command, is_begun)?;
     if has_begun(&outcome) {
-        begun.add(line, session);
+        begun.add(line);
     }
     Ok(outcome)
 }

@@ -28,7 +28,6 @@ use Rattle.rbd_machine.specs.Path.{Answered, IsWalk, at_operation}
 use Rattle.rbd_machine.specs.Plan.{Plan, Ask, Await, Note, Return, Goto, Standing, settled, without_labels}
 use Rattle.rbd_machine.specs.Refused.{refuses_none}
 use Rattle.rbd_machine.specs.Steps.{not_there, unless, on_id, on_header, change, joining as change_joining, looked, holding, owned, applied}
-use Rattle.rbd_machine.specs.Wait as wait
 use Rattle.rbd_machine.proofs.Settled.{settled_goto}
 use Rattle.rbd_meaning.specs.Listings.{shown_snaps, used_among}
 use Rattle.rbd_meaning.specs.Range.{extent_at}
@@ -43,7 +42,6 @@ use Rattle.rbd_admin.proofs.Decided.{limits_or_not}
 use Rattle.rbd_close.specs.Close.{done, unwatching, on_dropped, joining, close, quiesced, resumed, resume, saying, tell, close_plan}
 use Rattle.rbd_discard.specs.Discard.{discard_plan, zero}
 use Rattle.rbd_kinds.specs.declared.layout.Extent.{Extent}
-use Rattle.rbd_machine.specs.Answers.{CanGive}
 use Rattle.rbd_machine.specs.declared.seat.Seat.{Seat}
 use Rattle.rbd_meaning.specs.Count.{object_count}
 use Rattle.rbd_meaning.specs.Removals.{image_removal_refuses, removal, watchers_refuse}
@@ -55,31 +53,10 @@ use Rattle.rbd_resize.specs.Resize.{resize_plan, set_size}
 use Rattle.rbd_resize.specs.Rollback.{roll_back_to, rollback_plan}
 use Rattle.rbd_requests.specs.NoLooks.{IsNoLook, removal_has_none}
 use Rattle.rbd_requests.specs.Served.{IsPlanFor, Writes, Discards, Reads, Creates, Lists, Snaps, Resizes, Rollbacks, Removes, Closes}
-use Rattle.rbd_world.specs.Ways.{LooksNoMore}
-use Rattle.rbd_world.proofs.LooksNone.{none_bits, none_done, none_each, none_header, none_id, none_listed, none_resize, none_there, none_unless, none_zeroed}
+use Rattle.rbd_requests.specs.Looking.{Holds, HoldsNext, IsLast, Looked, LookedIf, LooksNoMore, LooksOnce}
+use Rattle.rbd_requests.proofs.LooksNone.{none_bits, none_done, none_each, none_header, none_id, none_listed, none_resize, none_there, none_unless, none_zeroed}
 
 -- ---- looks
-
--- It waits for the lock of its image next, or behind an operation that can be answered so.
-abbrev pub HoldsNext : Plan → Type 0
-HoldsNext (Await (wait.Hold site image) next) = Unit {0}
-HoldsNext (Ask site why o next) = (a : Answer) × (CanGive o a × HoldsNext (next a))
-HoldsNext _ = ⊥
-
-pub data Looked (p : Plan) : Type 0 where
-  Holds : HoldsNext p → Looked p
-  IsLast : LooksNoMore p → Looked p
-
-abbrev pub LookedIf : Op → Plan → Type 0
-LookedIf (op.Header image header.Get) p = Looked p
-LookedIf o p = Unit {0}
-
-abbrev pub LooksOnce : Plan → Type 0
-LooksOnce (Ask site why o next) = (a : Answer) → LookedIf o (next a) × LooksOnce (next a)
-LooksOnce (Await w next) = LooksOnce next
-LooksOnce (Note site image event next) = LooksOnce next
-LooksOnce (Return r) = Unit {0}
-LooksOnce (Goto label) = Unit {0}
 
 if_none : (o : Op) (p : Plan) → IsNoLook o → LookedIf o p
 if_none (op.Header image header.Get) p none = absurd none

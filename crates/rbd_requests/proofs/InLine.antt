@@ -1,6 +1,12 @@
--- Behind its look-up a write stays in its line, and sets the state of each object, and changes it, at
--- its turn.
-use Rattle.std.proofs.Common.{ℕ, Bool, true, false, List, [], ◌∷◌, Option, Some, None, refl}
+-- Behind its look-up a change of an extent stays in its line, and sets the state of each object, and
+-- changes it, at its turn.
+use Rattle.std.proofs.Common.{◌≡◌, ℕ, Bool, true, false, List, [], ◌∷◌, replicate, Option, Some, None, refl, sym}
+use Rattle.std.proofs.lemmas.Bool.{true≢false}
+use Rattle.std.specs.Prelude.{IsSome}
+use Rattle.rbd_commands.specs.declared.command.Command.{Command}
+use Rattle.rbd_commands.specs.declared.command.Command.TheVariants as command
+use Rattle.rbd_kinds.specs.declared.sharing.Sharing.TheVariants as sharing
+use Rattle.rbd_machine.specs.declared.seat.Seat.{Seat}
 use Rattle.rbd_kinds.specs.declared.answer.Answer.{Answer}
 use Rattle.rbd_kinds.specs.declared.answer.Answer.TheVariants as answer
 use Rattle.rbd_kinds.specs.declared.header.HeaderView.{HeaderView}
@@ -8,16 +14,19 @@ use Rattle.rbd_kinds.specs.declared.id.SiteId.{SiteId}
 use Rattle.rbd_commands.specs.declared.refusal.Refusal.{Refusal}
 use Rattle.rbd_layout.specs.Pieces.{pieces_of}
 use Rattle.rbd_layout.specs.declared.types.Piece.{Piece}
-use Rattle.rbd_machine.specs.Plan.{Plan}
+use Rattle.rbd_machine.specs.Plan.{Plan, Standing, without_labels}
 use Rattle.rbd_machine.specs.Steps.{applied, holding, looked, looking, on_done, on_header, owned, unless}
 use Rattle.rbd_meaning.specs.Range.{extent_at}
-use Rattle.rbd_discard.specs.Discard.{zero, zero_pieces}
+use Rattle.rbd_discard.specs.Discard.{discard, zero, zero_pieces}
 use Rattle.rbd_header.specs.Header.{context_of}
 use Rattle.rbd_kinds.specs.declared.header.SnapContext.{SnapContext}
 use Rattle.rbd_kinds.specs.declared.layout.Extent.{Extent}
-use Rattle.rbd_request.specs.Write.{put, write_pieces}
+use Rattle.rbd_request.specs.Write.{put, write, write_pieces, write_refuses}
 use Rattle.rbd_zero.specs.Zero.{emptying, is_inside, is_whole, removing, setting, zero_all, zero_by, zeroing}
-use Rattle.rbd_world.specs.InLine.{KeepsTo}
+use Rattle.rbd_requests.specs.InLine.{ChangesInLine, KeepsTo}
+use Rattle.rbd_requests.specs.Served.{IsPlanFor}
+use Rattle.rbd_requests.specs.Touched.{extent_of}
+use Rattle.rbd_requests.proofs.OnePlan.{only_discards, only_writes}
 
 module _ (site : SiteId) (image : ℕ) where
   header_keeps : (turn : Option ℕ) (next : HeaderView → Plan) → ((h : HeaderView) → KeepsTo site image turn (next h)) → (a : Answer) → KeepsTo site image turn (on_header next a)
@@ -81,3 +90,33 @@ module _ (site : SiteId) (image : ℕ) where
           header_keeps turn (owned refuses act image) (λ own. unless_keeps turn (refuses own) (act image own) (acts image own turn)),
         )),
   )
+
+-- ---- a command that changes an extent goes beside others
+
+write_changes : (home : SiteId) (name : List ℕ) (at : ℕ) (bytes : List ℕ) (s : Standing) → s ≡ without_labels (write home name at bytes) → ChangesInLine home s
+write_changes home name at bytes s is = record {
+  name = name;
+  sharing = sharing.Shared;
+  shared = refl;
+  refuses = write_refuses (extent_at at bytes);
+  act = put home at bytes;
+  stand = is;
+  keeps = λ image h turn. put_keeps home image turn at bytes h;
+}
+
+discard_changes : (home : SiteId) (name : List ℕ) (e : Extent) (s : Standing) → s ≡ without_labels (discard home name e) → ChangesInLine home s
+discard_changes home name e s is = record {
+  name = name;
+  sharing = sharing.Discard;
+  shared = refl;
+  refuses = write_refuses e;
+  act = zero home e;
+  stand = is;
+  keeps = λ image h turn. zero_keeps home image turn e h;
+}
+
+pub changes_in_line : (seat : Seat) (c : Command) (s : Standing) → IsPlanFor seat c s → IsSome (extent_of c) → ChangesInLine seat.home s
+changes_in_line seat (command.Write name at bytes) s is writes = write_changes seat.home name at bytes s (only_writes seat (command.Write name at bytes) s refl is)
+changes_in_line seat (command.Fill name at len byte) s is writes = write_changes seat.home name at (replicate len byte) s (only_writes seat (command.Fill name at len byte) s refl is)
+changes_in_line seat (command.Discard name at len) s is writes = discard_changes seat.home name (record { at = at; len = len }) s (only_discards seat (command.Discard name at len) s refl is)
+changes_in_line seat _ s is writes = absurd (true≢false (sym writes))

@@ -32,7 +32,7 @@ use Rattle.rbd_remove.specs.Remove as of_remove
 use Rattle.rbd_remove.specs.Remove.{remove_each}
 use Rattle.rbd_resize.specs.Rollback.{restore_all, restore_pieces, roll_back_listed}
 use Rattle.rbd_requests.specs.NoLooks.{AreNoLooks}
-use Rattle.rbd_world.specs.Ways.{LooksNoMore}
+use Rattle.rbd_requests.specs.Looking.{LooksNoMore}
 
 -- ---- steps
 
