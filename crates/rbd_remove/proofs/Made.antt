@@ -1,6 +1,8 @@
 -- What there is to remove, as a list that is made.
-use Rattle.std.proofs.Common.{◌≡◌, ℕ, ◌+◌, Bool, true, false, cond, List, [], ◌∷◌, ◌++◌, map, Option, Some, None, refl, ap, ◌∙◌, sym, arith}
+use Rattle.std.proofs.Common.{◌≡◌, ℕ, ◌+◌, ◌*◌, ◌/◌, ◌%◌, Bool, true, false, cond, List, [], ◌∷◌, ◌++◌, map, Option, Some, None, refl, ap, ◌∙◌, sym, arith}
+use Rattle.std.specs.Prelude.{◌==◌, not, slice_index}
 use Rattle.std.specs.List.{filter, range_with_len}
+use Rattle.std.proofs.Math.Nat.{zero-div}
 use Rattle.std.proofs.Math.Path.{fun_ext}
 use Rattle.std.proofs.lemmas.List.{append_assoc, map-append, map-id}
 use Rattle.std.proofs.lemmas.List.FromFn.{filter_of_map_range_with_len_more}
@@ -11,6 +13,7 @@ use Rattle.rbd_kinds.specs.declared.id.SiteId.{SiteId}
 use Rattle.rbd_kinds.specs.declared.map_op.MapOp.TheVariants as states
 use Rattle.rbd_kinds.specs.declared.operation.Op.{Op}
 use Rattle.rbd_kinds.specs.declared.operation.Op.TheVariants as op
+use Rattle.rbd_kinds.specs.States.{weight}
 use Rattle.rbd_machine.specs.Plan.{Plan}
 use Rattle.rbd_machine.specs.Steps.{on_bits, own}
 use Rattle.rbd_meaning.specs.Removals.{link_of, removal, removing_journal, removing_map_of, removing_object, unlinking, used_objects}
@@ -57,6 +60,21 @@ module _ (start : List Remnant) (bits : List ℕ) where
       go : (b : Bool) → cond b (Some n) None ≡ None → [] ≡ map object_remnant (cond b (n ∷ []) [])
       go true none = cc
       go false none = refl
+
+  unused : (n o : ℕ) → slice_index bits n ≡ 0 → o / 4 ≡ n → cond (is_in_use bits o) (Some o) None ≡ None
+  unused n o empty at =
+      ap (λ k. cond (not (slice_index bits k / weight (o % 4) % 4 == 0)) (Some o) None) at
+      ∙ ap (λ byte. cond (not (byte / weight (o % 4) % 4 == 0)) (Some o) None) empty
+      ∙ ap (λ state. cond (not (state % 4 == 0)) (Some o) None) (zero-div (weight (o % 4)))
+
+  -- a byte that is zero has four objects, none of them in use
+  pub byte_passed : (n : ℕ) (made : List Remnant) → made ≡ added_up_to (4 * n) → slice_index bits n ≡ 0 → made ≡ added_up_to (4 * (n + 1))
+  byte_passed n made before empty =
+      let one = object_passed (4 * n) made before (unused n (4 * n) empty (omega arith)) in
+      let two = object_passed (4 * n + 1) made one (unused n (4 * n + 1) empty (omega arith)) in
+      let three = object_passed (4 * n + 1 + 1) made two (unused n (4 * n + 1 + 1) empty (omega arith)) in
+      let four = object_passed (4 * n + 1 + 1 + 1) made three (unused n (4 * n + 1 + 1 + 1) empty (omega arith)) in
+      four ∙ ap added_up_to (let e : 4 * n + 1 + 1 + 1 + 1 ≡ 4 * (n + 1) = omega arith in e)
 
 -- ---- all of them
 

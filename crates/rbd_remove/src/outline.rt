@@ -46,13 +46,19 @@ impl Outline {
         Ok(made)
     }
 
-    /// Adds the objects whose state isn't 0, ascending, and behind them the maps and the journal.
+    /// Adds the objects whose state isn't 0, ascending, and behind them the maps and the journal. A
+    /// byte of the map that is 0 has four unused objects, which are passed over by one test.
     fn add_contents(&self, made: &mut VecDeque<Remnant>, bits: &[u8]) -> Result<(), NoMemory>
         ensures { OnOk result (made.new.items ≡ made.old.items ++ contents self.now.snaps self.now.journal bits.now) }
     {
-        for object in 0..state_count(bits)? {
-            if let Some(object) = object_in(bits, object) {
-                made.push_back(Remnant::Object(object))?;
+        for index in 0..state_count(bits)? / 4 {
+            if bits[index as usize] == 0 {
+                continue;
+            }
+            for object in 4 * index..4 * index + 4 {
+                if let Some(object) = object_in(bits, object) {
+                    made.push_back(Remnant::Object(object))?;
+                }
             }
         }
         made.push_back(Remnant::Map(None))?;

@@ -1,8 +1,11 @@
-use Rattle.std.proofs.Common.{◌≡◌, ◌++◌, map}
-use Rattle.std.specs.List.{filter, range_with_len}
-use Rattle.rbd_remove.specs.Remnants.{is_in_use, object_remnant}
+use Rattle.std.proofs.Common.{◌≡◌, ◌*◌}
+use Rattle.rbd_remove.proofs.Made.{added_up_to}
 use Rattle.rbd_remove.proofs.outline.Outline.add_contents.Given as goal
 
--- the objects before are added
+-- the objects of the bytes before are added
+abbrev pub invariant-loop-index : goal.invariant-loop-index
+invariant-loop-index l = l.made.items ≡ added_up_to l.initial.made.items l.bits (4 * l.index)
+
+-- and of this byte those before
 abbrev pub invariant-loop-object : goal.invariant-loop-object
-invariant-loop-object l = l.made.items ≡ l.initial.made.items ++ map object_remnant (filter (is_in_use l.bits) (range_with_len 0 l.object))
+invariant-loop-object l = l.made.items ≡ added_up_to l.fn.made.items l.bits l.object
