@@ -26,7 +26,7 @@ Plays a script on rbd_lab, on a fresh machine too: what is missing is built.
 
 All other words go to the program as they are. Standard output is the program's alone, and so is
 the exit status. Standard error says which build ran: the proved one (scripts/proved), or else one
-that was built without proof and runs with checks (scripts/unproved; about a minute, once).
+that was built without proof and runs with checks (scripts/unproved; a minute or two, once).
 Where a line of the script doesn't fit, standard error also shows the line, with a mark under the
 word that is meant, and with what may help.
 
