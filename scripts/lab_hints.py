@@ -2,11 +2,26 @@
 import re
 from typing import NamedTuple, Optional
 
-from lab_marks import COMMANDS, LIMIT, Token
+from lab_marks import BEHIND_SNAP, COMMANDS, LIMIT, SCHEDULE, UNBUILT, Token
 from lab_marks import declared_in, fault_of_line, is_session_name, unbuilt_token
 
-SUFFIXED = re.compile(r"([0-9]+)([kmgt])i?b?", re.I)
-POWERS = {"k": 10, "m": 20, "g": 30, "t": 40}
+SUFFIXED = re.compile(r"([0-9]+)([kmgtp]i?b?|b)", re.I)
+POWERS = {"b": 0, "k": 10, "m": 20, "g": 30, "t": 40, "p": 50}
+# What `rbd` calls a command, or calls it too, and what it is called here.
+ALIASES = {"list": "ls", "remove": "rm", "mv": "rename", "disk-usage": "du"}
+ALIASES_BEHIND_SNAP = {"list": "ls", "remove": "rm", "add": "create", "revert": "rollback"}
+
+
+def one_of(words):
+    """Returns words as a text: `a, b or c`."""
+    *some, last = words
+    return f"{', '.join(some)} or {last}"
+
+
+def built(table):
+    return [it for it in table if it not in UNBUILT]
+
+
 WANTED = {
     "image": "an image's name",
     "snap": "IMAGE@SNAP, the name of an image and of its snapshot",
@@ -17,12 +32,12 @@ WANTED = {
     "kind": "the word of an operation, as in a trace (data-write)",
     "session": "the name of a declared session",
     "new session": "a session's name: 1 to 32 lower-case letters and digits, a letter first",
-    "command": "a command, as create or read",
-    "word behind snap": "create, rm or ls",
-    "word behind mirror": "a word that may stand behind mirror",
-    "line of a schedule": "@poll, @until, @settle or @trim",
+    "command": f"a command: {one_of([*built(COMMANDS), 'snap ..'])}",
+    "word behind snap": one_of(built(BEHIND_SNAP)),
+    "word behind mirror": "a form of mirror; none is built yet",
+    "line of a schedule": one_of(SCHEDULE),
 }
-UNBUILT = "the grammar has this form, but it isn't built yet: README.md has those that are"
+NOT_BUILT = "the grammar has this form, but it isn't built yet: docs/RULES.md has those that are"
 
 
 class Shown(NamedTuple):
@@ -30,12 +45,17 @@ class Shown(NamedTuple):
     # What is marked, or None.
     token: Optional[Token]
     hint: str
+    # The form of such a line, or nothing.
+    form: str = ""
 
 
 def of_number(text, part):
     """Returns what helps where a number is wanted."""
     if found := SUFFIXED.fullmatch(text):
-        return f"a size is a plain number of bytes: {int(found[1]) << POWERS[found[2].lower()]}"
+        meant = int(found[1]) << POWERS[found[2][0].lower()]
+        return f"a size is a plain number of bytes: {meant}{f', and {part[2]} at most' * (meant > part[2])}"
+    if text.startswith("--"):
+        return f"there are no words with dashes; wanted here: {part[3]}, a number"
     if re.fullmatch(r"0[xX][0-9a-fA-F]+", text):
         return f"a number is decimal: {int(text, 16)}"
     if re.fullmatch(r"0[0-9]+", text):
@@ -60,6 +80,8 @@ def of_hex(text, part):
 
 def of_name(text, part):
     """Returns what helps where the name of an image or snapshot is wanted."""
+    if text.startswith("--"):
+        return f"there are no words with dashes; wanted here: {WANTED[part[0]]}"
     if "/" in text:
         return "there are no pools here: the image's name stands alone"
     if part[0] == "snap" and "@" not in text:
@@ -99,11 +121,14 @@ def of_word(text, part):
     if text.startswith("#"):
         return "a comment is a line of its own"
     if part[0] == "flag" and text.lstrip("-") in ("size", "object-size", "stripe-unit", "stripe-count"):
-        return "options are words without dashes: object N, unit N, count N"
+        return "options are words without dashes, behind the size: object N, unit N, count N"
     if part[0] == "flag" and text in ("object", "unit", "count"):
         return "options stand in the order object, unit, count, each once"
     if part[0] == "command" and text.lower() in COMMANDS and text != text.lower():
         return "commands are lower-case"
+    aliases = {"command": ALIASES, "word behind snap": ALIASES_BEHIND_SNAP}.get(part[0], {})
+    if text in aliases:
+        return f"that is `{aliases[text]}` here"
     if part[0] == "flag":
         return "no such option stands here"
     return f"wanted here: {WANTED[part[0]]}"
@@ -114,7 +139,7 @@ def of_fault(fault, lines, number, sessions):
     part = fault.part
     if fault.token is None:
         number_wanted = part[0] in ("number", "times")
-        wanted = f"a number from {part[1]} to {part[2]}" if number_wanted else WANTED[part[0]]
+        wanted = f"{part[3]}, a number from {part[1]} to {part[2]}" if number_wanted else WANTED[part[0]]
         return f"wanted behind the last word: {wanted}"
     text = fault.token.text.decode("latin-1")
     if text.endswith("\r"):
@@ -138,7 +163,7 @@ def of_unbuilt(line):
     """Returns what helps where a line of the grammar isn't built."""
     if line.split()[0] == b"@until":
         return f"wanted here: {WANTED['kind']}"
-    return UNBUILT
+    return NOT_BUILT
 
 
 def explained(script, number, cause):
@@ -154,7 +179,9 @@ def explained(script, number, cause):
     fault = fault_of_line(line, sessions)
     if fault and fault.cause == cause:
         token = fault.token or Token(len(line.rstrip(b" ")) + 1, b" ")
-        return Shown(line, token, of_fault(fault, lines, number, sessions))
+        # Who has one word wrong doesn't need the whole form.
+        form = "" if cause in ("bad number", "bad name") and not token.text.startswith(b"--") else fault.form
+        return Shown(line, token, of_fault(fault, lines, number, sessions), form)
     if not fault and cause == "unknown word" and line.split():
         return Shown(line, unbuilt_token(line), of_unbuilt(line))
     return Shown(line, None, "")
@@ -173,4 +200,5 @@ def drawn(number, shown, wide=100):
     if token:
         room = max(1, begin + wide - token.at)
         texts.append(f"{margin}{' ' * (token.at - begin + 2 * bool(begin))}{'^' * min(len(token.text), room)}")
-    return texts + ([margin + shown.hint] if shown.hint else [])
+    texts += [margin + shown.hint] if shown.hint else []
+    return texts + ([f"{margin}the form is: {shown.form}"] if shown.form else [])

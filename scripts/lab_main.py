@@ -26,7 +26,7 @@ Plays a script on rbd_lab, on a fresh machine too: what is missing is built.
 
 All other words go to the program as they are. Standard output is the program's alone, and so is
 the exit status. Standard error says which build ran: the proved one (scripts/proved), or else one
-that was built without proof and runs with checks (scripts/unproved; about a minute, once).
+that was built without proof and runs with checks (scripts/unproved; a minute or two, once).
 Where a line of the script doesn't fit, standard error also shows the line, with a mark under the
 word that is meant, and with what may help.
 
@@ -56,6 +56,19 @@ def say(*texts):
 def fail(why, status=NO_ANSWER):
     say(why)
     sys.exit(status)
+
+
+def put(texts):
+    """Prints lines."""
+    try:
+        sys.stdout.buffer.write(b"".join(it + b"\n" for it in texts))
+        sys.stdout.flush()
+    except OSError as error:
+        # (what is left in the buffer goes nowhere)
+        os.dup2(os.open(os.devnull, os.O_WRONLY), 1)
+        if not isinstance(error, BrokenPipeError):
+            say(f"the output cannot be written: {error.strerror}")
+        sys.exit(UNWRITABLE)
 
 
 def build():
@@ -139,7 +152,7 @@ def replies_in(output):
 
 def shown(script, status, output):
     """Returns the texts that show a script with what the program answered."""
-    lines = script.removesuffix(b"\n").split(b"\n")
+    lines = script.removesuffix(b"\n").split(b"\n") if script else []
     wide = len(str(len(lines)))
     said = FAULT.fullmatch(output) if status == BAD_LINE else None
     replies = replies_in(output) if status == 0 else {}
@@ -164,9 +177,7 @@ def show(path):
     ours = build()
     ran = started(ours, ["run"], script, subprocess.PIPE)
     if ran.returncode in (0, BAD_LINE):
-        for text in shown(script, ran.returncode, ran.stdout):
-            sys.stdout.buffer.write(text + b"\n")
-        sys.stdout.flush()
+        put(shown(script, ran.returncode, ran.stdout))
     end(ours, ran.returncode)
 
 
@@ -180,9 +191,9 @@ def version():
 def main():
     words = sys.argv[1:]
     if words in (["-h"], ["--help"]):
-        print(HELP)
+        put([HELP.encode()])
     elif words == ["--version"]:
-        print(version())
+        put([version().encode()])
     elif words[:1] == ["show"]:
         if len(words) != 2:
             fail("usage: scripts/lab show FILE", NOT_UNDERSTOOD)
@@ -192,6 +203,8 @@ def main():
     else:
         if any(os.path.isfile(it) for it in words):
             say("the script comes from standard input: scripts/lab run < SCRIPT")
+        if words[:1] in (["threads"], ["gen"]):
+            say(f"`{words[0]}` isn't built yet")
         ours = build()
         end(ours, started(ours, words, b"", None).returncode)
 
@@ -199,12 +212,7 @@ def main():
 if __name__ == "__main__":
     try:
         main()
-        sys.stdout.flush()
     except KeyboardInterrupt:
         sys.exit(130)
     except OSError as error:
-        # (what is left in the buffer goes nowhere)
-        os.dup2(os.open(os.devnull, os.O_WRONLY), 1)
-        if not isinstance(error, BrokenPipeError):
-            say(error)
-        sys.exit(UNWRITABLE)
+        fail(error)

@@ -17,15 +17,15 @@ MIRROR_WORDS = ("enable", "demote", "resync", "status", "follow")
 SHAPE = [("option", "object", GREATEST), ("option", "unit", GREATEST)]
 SHAPE += [("option", "count", BELOW_32_BITS), ("flag", "journal")]
 
-# What stands behind a command's word.
+# What stands behind a command's word. Behind a number's bounds stands its name in the grammar.
 COMMANDS = {
-    "create": [("image",), ("number", 0, GREATEST), *SHAPE],
+    "create": [("image",), ("number", 0, GREATEST, "SIZE"), *SHAPE],
     "clone": [("snap",), ("image",), *SHAPE],
-    "write": [("image",), ("number", 0, GREATEST), ("hex",)],
-    "fill": [("image",), ("number", 0, GREATEST), ("number", 0, 1 << 20), ("byte",)],
-    "discard": [("image",), ("number", 0, GREATEST), ("number", 0, GREATEST)],
-    "read": [("target",), ("number", 0, GREATEST), ("number", 0, 1 << 16)],
-    "resize": [("image",), ("number", 0, GREATEST)],
+    "write": [("image",), ("number", 0, GREATEST, "AT"), ("hex",)],
+    "fill": [("image",), ("number", 0, GREATEST, "AT"), ("number", 0, 1 << 20, "LEN"), ("byte",)],
+    "discard": [("image",), ("number", 0, GREATEST, "AT"), ("number", 0, GREATEST, "LEN")],
+    "read": [("target",), ("number", 0, GREATEST, "AT"), ("number", 0, 1 << 16, "LEN")],
+    "resize": [("image",), ("number", 0, GREATEST, "SIZE")],
     "rename": [("image",), ("image",)],
     "ls": [],
     "children": [("snap",)],
@@ -35,18 +35,24 @@ COMMANDS = {
 BEHIND_SNAP = {**{word: [("snap",)] for word in SNAP_WORDS}, "ls": [("image",)]}
 BEHIND_MIRROR = {word: [("image",)] for word in MIRROR_WORDS}
 BEHIND_MIRROR["promote"] = [("image",), ("flag", "force")]
+SLOT, ID = ("number", 0, 64, "SLOT"), ("number", 0, BELOW_32_BITS, "ID")
 SCHEDULE = {
-    "@poll": [("session",), ("number", 0, 64), ("times", 1, 1_000_000)],
-    "@until": [("session",), ("number", 0, 64), ("kind",)],
-    "@settle": [("number", 0, GREATEST)],
-    "@deliver": [("number", 0, GREATEST)],
-    "@lose": [("number", 0, GREATEST)],
-    "@expire": [("session",), ("site",), ("number", 0, BELOW_32_BITS)],
+    "@poll": [("session",), SLOT, ("times", 1, 1_000_000, "TIMES")],
+    "@until": [("session",), SLOT, ("kind",)],
+    "@settle": [("number", 0, GREATEST, "N")],
+    "@deliver": [("number", 0, GREATEST, "N")],
+    "@lose": [("number", 0, GREATEST, "N")],
+    "@expire": [("session",), ("site",), ID],
     "@stop": [("session",)],
     "@restart": [("session",)],
-    "@late": [("session",), ("number", 0, 64)],
-    "@trim": [("site",), ("number", 0, BELOW_32_BITS), ("number", 0, GREATEST)],
+    "@late": [("session",), SLOT],
+    "@trim": [("site",), ID, ("number", 0, GREATEST, "OBJECT")],
 }
+# What the grammar has and the program doesn't play.
+UNBUILT = ("clone", "children", "flatten", "mirror", "protect", "unprotect", "journal")
+# How a part is written in the grammar.
+WRITTEN = {"image": "IMAGE", "snap": "IMAGE@SNAP", "target": "IMAGE[@SNAP]", "hex": "HEX", "byte": "BYTE"}
+WRITTEN |= {"site": "SITE", "kind": "WORD", "session": "NAME", "new session": "NAME"}
 
 
 class Token(NamedTuple):
@@ -58,8 +64,11 @@ class Fault(NamedTuple):
     cause: str
     # The token that doesn't fit, or None where the line ends too early.
     token: Optional[Token]
-    # The part that was wanted in its place, as `("number", 0, 64)`; `("end",)` where none was.
+    # The part that was wanted in its place, as `("number", 0, 64, "SLOT")`; `("end",)` where none
+    # was.
     part: tuple
+    # The form of the line from its word on, as in the grammar, or nothing.
+    form: str = ""
 
 
 def tokens_of(line):
@@ -90,8 +99,8 @@ def cause_of(part, text, sessions):
         "image": lambda: is_name(text),
         "snap": lambda: is_snap(text),
         "target": lambda: is_snap(text) if b"@" in text else is_name(text),
-        "number": lambda: is_number(text, *part[1:]),
-        "times": lambda: is_number(text, *part[1:]),
+        "number": lambda: is_number(text, *part[1:3]),
+        "times": lambda: is_number(text, *part[1:3]),
         "hex": lambda: len(text) <= 131_072 and bool(re.fullmatch(rb"([0-9a-f]{2})+", text)),
         "byte": lambda: bool(re.fullmatch(rb"[0-9a-f]{2}", text)),
         "site": lambda: text in (b"a", b"b"),
@@ -105,6 +114,21 @@ def cause_of(part, text, sessions):
     return None if fits[kind]() else causes.get(kind, "unknown word")
 
 
+def form_of(word, parts):
+    """Returns a form as the grammar writes it, or nothing where it isn't built."""
+    if word in UNBUILT:
+        return ""
+    texts = [word]
+    for part in parts:
+        if part[0] == "option":
+            texts.append(f"[{part[1]} N]")
+        elif part[0] == "times":
+            texts.append(f"[{part[3]}]")
+        elif part[0] != "flag":
+            texts.append(part[3] if part[0] == "number" else WRITTEN[part[0]])
+    return " ".join(texts)
+
+
 def fault_in(parts, tokens, sessions):
     """Returns the first fault of some parts in their order, or None."""
     left = list(tokens)
@@ -115,7 +139,7 @@ def fault_in(parts, tokens, sessions):
             if left[0].text.decode("latin-1") != part[1]:
                 continue
             left.pop(0)
-            part = ("number", 0, part[2])
+            part = ("number", 0, part[2], "N")
         if not left:
             return Fault("missing part", None, part)
         if cause := cause_of(part, left[0].text, sessions):
@@ -131,15 +155,23 @@ def fault_by_word(table, tokens, sessions, part):
     word = tokens[0].text.decode("latin-1")
     if word not in table:
         return Fault("unknown word", tokens[0], (part,))
-    return fault_in(table[word], tokens[1:], sessions)
+    fault = fault_in(table[word], tokens[1:], sessions)
+    return fault and fault._replace(form=form_of(word, table[word]))
 
 
 def fault_of_command(tokens, sessions):
-    if tokens and tokens[0].text == b"snap":
-        return fault_by_word(BEHIND_SNAP, tokens[1:], sessions, "word behind snap")
-    if tokens and tokens[0].text == b"mirror":
-        return fault_by_word(BEHIND_MIRROR, tokens[1:], sessions, "word behind mirror")
-    return fault_by_word(COMMANDS, tokens, sessions, "command")
+    first = tokens[0].text if tokens else b""
+    if first == b"snap":
+        fault = fault_by_word(BEHIND_SNAP, tokens[1:], sessions, "word behind snap")
+    elif first == b"mirror":
+        fault = fault_by_word(BEHIND_MIRROR, tokens[1:], sessions, "word behind mirror")
+        # (none of it is built)
+        return fault and fault._replace(form="")
+    else:
+        fault = fault_by_word(COMMANDS, tokens, sessions, "command")
+    if not fault or not fault.form:
+        return fault
+    return fault._replace(form=f"NAME {'snap ' if first == b'snap' else ''}{fault.form}")
 
 
 def fault_of_line(line, sessions):
@@ -149,7 +181,7 @@ def fault_of_line(line, sessions):
     if not tokens:
         return None
     if tokens[0].text == b"client":
-        return fault_in([("new session",), ("site",)], tokens[1:], sessions)
+        return fault_by_word({"client": [("new session",), ("site",)]}, tokens, sessions, "client")
     if tokens[0].text.startswith(b"@"):
         return fault_by_word(SCHEDULE, tokens, sessions, "line of a schedule")
     if tokens[0].text == b"&":

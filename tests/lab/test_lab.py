@@ -27,11 +27,15 @@ FILES = ("lab", "lab_main.py", "lab_hints.py", "lab_marks.py")
 HINTS = """\
 c1 create d 8K | 8K | bytes: 8192
 c1 create d 4MiB | 4MiB | bytes: 4194304
+c1 create d 8192B | 8192B | bytes: 8192
+c1 read d 0 1M | 1M | 1048576, and 65536 at most
 c1 create d 0x1000 | 0x1000 | decimal: 4096
 c1 create d 04096 | 04096 | leading zeros: 4096
 c1 create d -1 | -1 | no sign
 c1 read d 0 65537 | 65537 | from 0 to 65536
 c1 create d 8192 --object-size 4096 | --object-size | object N, unit N, count N
+c1 create --size 8192 d | --size | no words with dashes
+c1 create d --size 8192 | --size | no words with dashes
 c1 create d 8192 count 2 object 4096 | object | in the order
 c1 create d 8192 journal | journal | isn't built
 c1 clone d@s e | clone | isn't built
@@ -48,6 +52,12 @@ c1 write d 0 aab | aab | an odd number
 c1 write d 0 0xaa | 0xaa | without 0x
 c1 info rbd/d | rbd/d | no pools
 c1 snap create d | d | IMAGE@SNAP
+c1 snap list d | list | `ls`
+c1 snap add d@s | add | `create`
+c1 snap take d@s | take | create, rm, rollback or ls
+c1 mv d e | mv | `rename`
+c1 export d | export | read, resize
+@stopp c1 | @stopp | @stop, @restart
 c1 ls # all | # | a line of its own
 client c1 b | c1 | declared before
 client b c | c | a or b
@@ -103,6 +113,21 @@ class Marks(unittest.TestCase):
             shown = lab_hints.explained(script, 2, found[1].cause if found else "unknown word")
             self.assertEqual(shown.token.text.decode(), word, line)
             self.assertIn(hint, shown.hint, line)
+
+    def test_a_part_too_few_or_too_many_shows_the_form(self):
+        rows = {
+            b"c1 create d": "NAME create IMAGE SIZE [object N] [unit N] [count N]",
+            b"c1 ls d": "NAME ls",
+            b"& c1 snap rm": "NAME snap rm IMAGE@SNAP",
+            b"@poll c1": "@poll NAME SLOT [TIMES]",
+            b"client c2": "client NAME SITE",
+            b"c1 clone d@s": "",
+            b"c1 mirror enable": "",
+        }
+        for line, form in rows.items():
+            number, fault = first_fault(b"client c1 a\n" + line)
+            shown = lab_hints.explained(b"client c1 a\n" + line, number, fault.cause)
+            self.assertEqual(shown.form, form, line)
 
     def test_what_the_program_does_not_say_is_not_marked(self):
         self.assertIsNone(lab_hints.explained(b"client c1 a\nc1 ls\n", 2, "bad number").token)
@@ -189,6 +214,30 @@ class Wrapper(unittest.TestCase):
         self.assertEqual(ran.returncode, 2)
         self.assertIn(b"  |    ^\n", ran.stdout)
         self.assertIn(b"missing part: nothing is played\n", ran.stdout)
+
+    def test_show_of_an_empty_file(self):
+        self.program("exit 0")
+        (self.room / "script").write_bytes(b"")
+        ran = self.lab("show", str(self.room / "script"))
+        self.assertEqual((ran.stdout, ran.returncode), (b"", 0))
+
+    def test_an_output_that_can_not_be_written_is_status_4(self):
+        self.program("exit 0")
+        (self.room / "script").write_bytes(b"client c1 a\n")
+        for words in ("--help", f"show {self.room}/script"):
+            for to in (">&-", ">/dev/full", "2>&- >/dev/full"):
+                ran = subprocess.run(f"{self.room}/scripts/lab {words} {to}", shell=True, capture_output=True)
+                self.assertEqual(ran.returncode, 4, (words, to))
+                self.assertNotIn(b"Traceback", ran.stderr)
+
+    def test_standard_error_may_be_closed(self):
+        self.program("echo 2 c1 ok")
+        ran = subprocess.run(f"{self.room}/scripts/lab run 2>&- </dev/null", shell=True, capture_output=True)
+        self.assertEqual((ran.stdout, ran.returncode), (b"2 c1 ok\n", 0))
+
+    def test_words_to_come_are_not_built(self):
+        self.program("exit 1")
+        self.assertIn(b"`gen` isn't built yet", self.lab("gen", "--seed", "1").stderr)
 
     def test_help_and_version_need_no_program(self):
         for word in ("-h", "--help", "--version"):
