@@ -28,7 +28,7 @@ use Rattle.rbd_stands.specs.Reading.{Tells, flat_snap_named}
 use Rattle.rbd_replies.proofs.PlacedRight.{ArePlacedRight}
 use Rattle.rbd_replies.proofs.Places.{step_at}
 use Rattle.rbd_replies.proofs.PlacesTaken.{change_first, none_taken, silent_first}
-use Rattle.rbd_replies.proofs.PlacesTold.{effect_there, finding_is_silent, found_there, free_there, header_there, looking_is_silent, renamed_there}
+use Rattle.rbd_replies.proofs.PlacesTold.{effect_there, finding_is_silent, found_there, free_there, header_there, looking_is_silent, looks_there, renamed_there}
 use Rattle.rbd_replies.specs.Changed.{Creates, FindsImage, RemovesSnap, Renames, TakesSnap}
 use Rattle.rbd_replies.specs.Places.{Placed, effects_of, flat_at}
 
@@ -156,6 +156,7 @@ module _ (homes : ℕ → SiteId) where
       image = image;
       named = found_there homes p here site name image cc;
       header = own;
+      looked = looks_there s site image own cc;
       tells = header_there homes s look site image own cc;
     };
     image_is = refl;

@@ -32,7 +32,7 @@ use Rattle.rbd_replies.proofs.Measured.{AllLike, effects_append}
 use Rattle.rbd_replies.proofs.PlacedRight.{ArePlacedRight, right_back, right_front}
 use Rattle.rbd_replies.proofs.Places.{step_at}
 use Rattle.rbd_replies.proofs.PlacesTaken.{silent_first}
-use Rattle.rbd_replies.proofs.PlacesTold.{finding_is_silent, found_there, header_there, looking_is_silent}
+use Rattle.rbd_replies.proofs.PlacesTold.{finding_is_silent, found_there, header_there, looking_is_silent, looks_there}
 use Rattle.rbd_replies.proofs.ReadShown.{Divides, there_at, within_size}
 use Rattle.rbd_replies.proofs.Restoring.{all_restored}
 use Rattle.rbd_replies.proofs.WriteWhole.{range_fits}
@@ -85,6 +85,7 @@ module _ (homes : ℕ → SiteId) (home : SiteId) where
           image = image;
           named = found_there homes p here home name image one;
           header = own;
+          looked = looks_there s home image own three;
           tells = header_there homes s look home image own three;
         };
         image_is = refl;

@@ -13,7 +13,7 @@ use Rattle.rbd_stands.specs.Reading.{IsToldBy, Tells}
 use Rattle.rbd_replies.proofs.PlacedRight.{ArePlacedRight}
 use Rattle.rbd_replies.proofs.Places.{step_at}
 use Rattle.rbd_replies.proofs.PlacesTaken.{none_taken}
-use Rattle.rbd_replies.proofs.PlacesTold.{found_there, header_there, listed_there}
+use Rattle.rbd_replies.proofs.PlacesTold.{found_there, header_there, listed_there, looks_there}
 use Rattle.rbd_replies.specs.Listed.{ListsNames, ShowsImage, ShowsSnaps, ShowsUsed}
 use Rattle.rbd_replies.specs.Places.{Placed, flat_at}
 
@@ -43,6 +43,7 @@ module _ (homes : ℕ → SiteId) where
     are = ap (λ rest. p ∷ q ∷ rest) (none_taken places cc);
     image = image;
     named = found_there homes p here site name image cc;
+    looked = looks_there q site image h cc;
     tells = header_there homes q there site image h cc;
   }
 
@@ -88,6 +89,7 @@ module _ (homes : ℕ → SiteId) where
             image = shows.image;
             named = found_there homes p here site name shows.image one;
             header = shows.header;
+            looked = looks_there q site shows.image shows.header two;
             flat = flat.i;
             is = flat.is;
             tells = flat.told;

@@ -22,7 +22,7 @@ use Rattle.rbd_stands.specs.Reading.{Tells}
 use Rattle.rbd_world.specs.Run.{records_after}
 use Rattle.rbd_replies.proofs.PlacedRight.{IsPlacedRight}
 use Rattle.rbd_replies.proofs.Places.{step_at}
-use Rattle.rbd_replies.specs.Places.{Placed, flat_at}
+use Rattle.rbd_replies.specs.Places.{LooksAt, Placed, flat_at}
 
 -- the records of its site there
 abbrev pub records_at : Placed → Records
@@ -108,6 +108,10 @@ renamed_there homes p right site from to is =
     record { image = changed.image; named = changed.was; free = changed.free }
 
 -- ---- a header
+
+-- a step that looked at a header is a look at its place
+pub looks_there : (p : Placed) (site : SiteId) (image : ℕ) (h : HeaderView) → step_at p ≡ looked_at site image h → LooksAt image h p
+looks_there p site image h is = record { asks = ap (λ (s : Answered). s.op) is; answered = ap (λ (s : Answered). s.answer) is }
 
 -- the header tells the flat image there
 pub header_there : (homes : ℕ → SiteId) (p : Placed) → IsPlacedRight homes p → (site : SiteId) (image : ℕ) (h : HeaderView) → step_at p ≡ looked_at site image h

@@ -15,7 +15,7 @@ use Rattle.rbd_replies.specs.Reads.{ShowsBytes}
 use Rattle.rbd_replies.proofs.PlacedRight.{ArePlacedRight, right_back, right_front}
 use Rattle.rbd_replies.proofs.Places.{step_at}
 use Rattle.rbd_replies.proofs.PlacesTaken.{begin_with, none_taken}
-use Rattle.rbd_replies.proofs.PlacesTold.{found_there, header_there, records_at}
+use Rattle.rbd_replies.proofs.PlacesTold.{found_there, header_there, looks_there, records_at}
 use Rattle.rbd_replies.proofs.ReadNames.{IsViewOf, shape_of_named}
 use Rattle.rbd_replies.proofs.ReadOrder.{AreOrdered, ordered_back}
 use Rattle.rbd_replies.proofs.ReadParents.{views_alone}
@@ -115,8 +115,10 @@ module _ (homes : ℕ → SiteId) (home : SiteId) (name : List ℕ) (snap : Opti
         image = image;
         named = found_there homes one right.0 home name image one_is;
         header = h;
+        looked = looks_there two home image h two_is;
         tells = header_there homes two two_right home image h two_is;
         again = shows.closing;
+        looked_again = looks_there last home image shows.closing last_is;
         tells_again = header_there homes last last_right home image shows.closing last_is;
         generation = shows.same;
         view = view;

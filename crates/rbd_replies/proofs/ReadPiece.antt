@@ -64,9 +64,15 @@ module _ (homes : ℕ → SiteId) (home : SiteId) (image : ℕ) (h : HeaderView)
       by (answer.Bytes bytes) answered some =
           let told = bytes_told [] (records_at p) (flat_at p) p.done.instance image piece.object h view.snap viewed.shape piece.parts bytes right.standing.stands is viewed.is lie
           (answer_there homes p right (record { site = p.done.site; op = data_read image view.snap piece; answer = answer.Bytes bytes }) (λ i. record { site = p.done.site; op = op_is i; answer = answered i })) in
-          record { flat = told.flat; is = told.is; same = told.same }
+          record { asks = op_is; answered = ap (bytes_shown piece.parts) answered; flat = told.flat; is = told.is; same = told.same }
       by answer.Absent answered some =
           let told = absence_told [] (records_at p) (flat_at p) p.done.instance image piece.object h view.snap viewed.shape piece.parts right.standing.stands is viewed.is lie
           (answer_there homes p right (record { site = p.done.site; op = data_read image view.snap piece; answer = answer.Absent }) (λ i. record { site = p.done.site; op = op_is i; answer = answered i })) in
-          record { flat = told.flat; is = told.is; same = zeros_at_parts piece.parts told.flat (λ x there. told.zeros x there (not_covered viewed.shape.parent x viewed.no_parent)) }
+          record {
+            asks = op_is;
+            answered = ap (bytes_shown piece.parts) answered;
+            flat = told.flat;
+            is = told.is;
+            same = zeros_at_parts piece.parts told.flat (λ x there. told.zeros x there (not_covered viewed.shape.parent x viewed.no_parent));
+          }
       by _ answered some = absurd (false≢true some)

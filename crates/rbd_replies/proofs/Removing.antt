@@ -39,7 +39,7 @@ use Rattle.rbd_replies.specs.Removed.{RemovesAll, is_named, removal_effects}
 use Rattle.rbd_replies.proofs.PlacedRight.{ArePlacedRight, IsPlacedRight}
 use Rattle.rbd_replies.proofs.Places.{step_at}
 use Rattle.rbd_replies.proofs.PlacesTaken.{silent_first}
-use Rattle.rbd_replies.proofs.PlacesTold.{effect_there, finding_is_silent, found_there, header_there, looking_is_silent, records_at, served_there, unfenced_there}
+use Rattle.rbd_replies.proofs.PlacesTold.{effect_there, finding_is_silent, found_there, header_there, looking_is_silent, looks_there, records_at, served_there, unfenced_there}
 use Rattle.rbd_replies.proofs.ReadKept.{none_later}
 use Rattle.rbd_replies.proofs.ReadOrder.{AreBehind, AreOrdered, IsBehind, goes_on, one_more}
 use Rattle.rbd_replies.proofs.ReadShown.{there_at}
@@ -232,6 +232,7 @@ module _ (homes : ℕ → SiteId) (home : SiteId) (name : List ℕ) (session : �
         image = image;
         named = found_there homes a right.0 home name image a_is;
         header = own;
+        looked = looks_there d home image own d_is;
         tells = header_there homes d d_right home image own d_is;
         no_snaps = none;
         effects =

@@ -15,7 +15,7 @@ use Rattle.rbd_replies.specs.Places.{Placed}
 use Rattle.rbd_replies.proofs.PlacedRight.{ArePlacedRight}
 use Rattle.rbd_replies.proofs.Places.{step_at}
 use Rattle.rbd_replies.proofs.PlacesTaken.{silent_first}
-use Rattle.rbd_replies.proofs.PlacesTold.{finding_is_silent, found_there, header_there, looking_is_silent}
+use Rattle.rbd_replies.proofs.PlacesTold.{finding_is_silent, found_there, header_there, looking_is_silent, looks_there}
 use Rattle.rbd_replies.proofs.WritePieces.{pieces_there}
 
 pub range_fits : (e : Extent) (size : ℕ) → out_of_range e size ≡ None → fits e size ≡ true
@@ -46,6 +46,7 @@ writes_at_places homes home name at bytes (one ∷ two ∷ three ∷ rest) (righ
         image = whole.image;
         named = found_there homes one right home name whole.image is_one;
         header = whole.own;
+        looked = looks_there three home whole.image whole.own is_three;
         tells = header_there homes three third home whole.image whole.own is_three;
       };
       within = range_fits (extent_at at bytes) whole.own.size (or_else_none (non_primary whole.own.role) (out_of_range (extent_at at bytes) whole.own.size) whole.may);

@@ -9,7 +9,7 @@ use Rattle.rbd_layout.specs.Pieces.{pieces_of}
 use Rattle.rbd_meaning.specs.Range.{extent_at}
 use Rattle.rbd_stands.specs.Reading.{Tells, flat_snap_named}
 use Rattle.rbd_stands.specs.Writing.{piece_effects}
-use Rattle.rbd_replies.specs.Places.{Placed, effects_of, flat_at}
+use Rattle.rbd_replies.specs.Places.{LooksAt, Placed, effects_of, flat_at}
 
 -- The name was free, and has a new image of zeros.
 pub record Creates (name : List ℕ) (size : ℕ) (places : List Placed) : Type 0 where
@@ -21,8 +21,8 @@ pub record Creates (name : List ℕ) (size : ℕ) (places : List Placed) : Type 
   pub free : id_of (flat_at first) name ≡ None
   pub effects : effects_of places ≡ effect.Name name image ∷ effect.Create image size Plain ∷ []
 
--- The way of a change: the image that the name had at one place, and a header that tells the flat
--- image at the place of its own look.
+-- The way of a change: the image that the name had at one place, and the header that its own look
+-- was told, which tells the flat image at the place of that look.
 pub record FindsImage (name : List ℕ) (places : List Placed) : Type 0 where
   pub found : Placed
   pub first : Placed
@@ -32,6 +32,7 @@ pub record FindsImage (name : List ℕ) (places : List Placed) : Type 0 where
   pub image : ℕ
   pub named : id_of (flat_at found) name ≡ Some image
   pub header : HeaderView
+  pub looked : LooksAt image header own
   pub tells : Tells header (image_at (flat_at own) image)
 
 -- Each of its pieces was written, one after another, and nothing else: the piece of an object has

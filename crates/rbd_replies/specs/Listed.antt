@@ -11,7 +11,7 @@ use Rattle.rbd_kinds.specs.declared.operation.Op.TheVariants as op
 use Rattle.rbd_kinds.specs.Striping.{IsObjectCount}
 use Rattle.rbd_meaning.specs.Listings.{used_among}
 use Rattle.rbd_stands.specs.Reading.{IsToldBy, Tells}
-use Rattle.rbd_replies.specs.Places.{Placed, flat_at}
+use Rattle.rbd_replies.specs.Places.{LooksAt, Placed, flat_at}
 
 -- all names of the flat site at one place
 pub record ListsNames (names : List (List ℕ)) (places : List Placed) : Type 0 where
@@ -19,14 +19,15 @@ pub record ListsNames (names : List (List ℕ)) (places : List Placed) : Type 0 
   pub are : places ≡ at_place ∷ []
   pub names_are : names ≡ finmap.keys (flat_at at_place).names
 
--- The image that the name had at one place, and at the next the header tells it: its size, its role
--- and its snapshots are the flat image's.
+-- The image that the name had at one place, and at the next the header that a look was told tells
+-- it: its size, its role and its snapshots are the flat image's.
 pub record ShowsImage (name : List ℕ) (h : HeaderView) (places : List Placed) : Type 0 where
   pub found : Placed
   pub look : Placed
   pub are : places ≡ found ∷ look ∷ []
   pub image : ℕ
   pub named : id_of (flat_at found) name ≡ Some image
+  pub looked : LooksAt image h look
   pub tells : Tells h (image_at (flat_at look) image)
 
 pub record ShowsSnaps (name : List ℕ) (snaps : List SnapView) (places : List Placed) : Type 0 where
@@ -34,8 +35,9 @@ pub record ShowsSnaps (name : List ℕ) (snaps : List SnapView) (places : List P
   pub shows : ShowsImage name header places
   pub snaps_are : snaps ≡ header.snaps
 
--- The image that the name had at one place, and at the next the header tells it: so many objects the
--- flat image's size has. So many of them are in use by the states that its head's map told behind.
+-- The image that the name had at one place, and at the next the header that a look was told tells
+-- it: so many objects the flat image's size has. So many of them are in use by the states that its
+-- head's map told behind.
 pub record ShowsUsed (name : List ℕ) (used of : ℕ) (places : List Placed) : Type 0 where
   pub found : Placed
   pub look : Placed
@@ -44,6 +46,7 @@ pub record ShowsUsed (name : List ℕ) (used of : ℕ) (places : List Placed) : 
   pub image : ℕ
   pub named : id_of (flat_at found) name ≡ Some image
   pub header : HeaderView
+  pub looked : LooksAt image header look
   pub flat : FlatImage
   pub is : image_at (flat_at look) image ≡ Some flat
   pub tells : IsToldBy header flat

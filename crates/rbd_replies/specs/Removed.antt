@@ -7,7 +7,7 @@ use Rattle.rbd_flat.specs.declared.effect.Effect.{Effect}
 use Rattle.rbd_flat.specs.declared.effect.Effect.TheVariants as effect
 use Rattle.rbd_kinds.specs.declared.header.HeaderView.{HeaderView}
 use Rattle.rbd_stands.specs.Reading.{Tells}
-use Rattle.rbd_replies.specs.Places.{Placed, effects_of, flat_at}
+use Rattle.rbd_replies.specs.Places.{LooksAt, Placed, effects_of, flat_at}
 
 -- some name leads to the image
 abbrev pub is_named : (image : ℕ) → Flat → Bool
@@ -19,7 +19,8 @@ removal_effects image true = effect.NameFree image ∷ effect.Gone image ∷ []
 removal_effects image false = effect.Gone image ∷ []
 
 -- The image that the name had at one place went, with the name that leads to it still where that is
--- freed, and nothing else was done. Its own look told the flat image, which has no snapshot.
+-- freed, and nothing else was done. The header that its own look was told tells the flat image
+-- there, which has no snapshot.
 pub record RemovesAll (name : List ℕ) (places : List Placed) : Type 0 where
   pub found : Placed
   pub first : Placed
@@ -33,6 +34,7 @@ pub record RemovesAll (name : List ℕ) (places : List Placed) : Type 0 where
   pub image : ℕ
   pub named : id_of (flat_at found) name ≡ Some image
   pub header : HeaderView
+  pub looked : LooksAt image header own
   pub tells : Tells header (image_at (flat_at own) image)
   pub no_snaps : header.snaps ≡ []
   pub effects : effects_of places ≡ removal_effects image (is_named image (flat_at naming))

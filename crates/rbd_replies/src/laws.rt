@@ -32,10 +32,11 @@ pub fn operations_have_places()
 {}
 
 /// Each reply is the flat-copy machine's, at its place in the history: what a command did, and what
-/// it shows, is what that machine has at the places of its operations. It comes with an operation
-/// of the command, or of its way to the lock of its image, where it is refused; or a command is
-/// refused without one. It is so at every place of a run that is right, as that of each world is
-/// (`IsSoundWorld`).
+/// it shows, is what that machine has at the places of its operations. Where it goes by a header,
+/// that is the one which its look was told; and what a read shows of a piece was answered where this
+/// piece was read. It comes with an operation of the command, or of its way to the lock of its
+/// image, where it is refused; or a command is refused without one. It is so at every place of a run
+/// that is right, as that of each world is (`IsSoundWorld`).
 pub fn replies_are_the_flat_machines()
     ensures done { (homes : ℕ → Site) (run : List Happening) (o : Operation) (line : ℕ) (reply : Reply) (asked : Asked)
         → IsRight homes (Did o (Some reply) ∷ run) → replies_to line (Did o (Some reply)) ≡ true → asked_by line run ≡ Some asked

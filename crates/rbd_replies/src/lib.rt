@@ -17,7 +17,9 @@
 //!
 //! The operations of a line's command stand at *places* of the run, each with the flat site of all
 //! effects before. Those on its way to the lock of its image are apart, as those of a release and
-//! of a stopped session are: they are no part of the command.
+//! of a stopped session are: they are no part of the command. A header that a reply goes by, by its
+//! layout, its size, its snapshots or its generation, is the one that the look at its place was told
+//! (`LooksAt`).
 //!
 //! | reply | what it says |
 //! |---|---|
@@ -30,9 +32,9 @@
 //! | `rm` done | its effects are the name freed, where one led to the image still, and the image gone; it had no snapshot at its own look |
 //! | `rename` done | its one effect is the other name, which was free, for the image that the first had at its place |
 //! | `ls` | all names of the flat site at its place |
-//! | `du` | how many objects the size of the flat image has at the place of its look; and how many of them are in use by the states that its map told |
+//! | `du` | how many objects the size of the flat image has at the place of its look, by the layout that it was told; and how many of them are in use by the states that its map told |
 //! | `info`, `snap ls` | size, role and snapshots of the flat image at the place of its look |
-//! | `read` | in its last pass each piece's bytes are the flat view's at the place where that piece was read; the extent lies within the view, and the header at both ends of the pass has one generation |
+//! | `read` | in its last pass each piece, by the layout that its first look was told, was read at a place of its own, and what was answered there are the flat view's bytes at this place; the extent lies within the view, and the looks at both ends of the pass were told headers of one generation |
 //! | `close`, `quiesce`, `resume`, `tell` done | no effect at all |
 //! | any refused | no effect at all, unless the fence refuses a change when a part of it was done; what refuses it is said of its last answer by `rbd_meaning` |
 //! | any refused on its way to the lock | no effect at all; what refuses it is said as of a look under the lock that was answered as the way's last operation was |
@@ -50,7 +52,7 @@
 //!
 //! | file | what it says |
 //! |---|---|
-//! | `specs/Places.antt` | the places of a command's operations, the flat site there, and their effects |
+//! | `specs/Places.antt` | the places of a command's operations, the flat site there, what a look there was told, and their effects |
 //! | `specs/Home.antt` | that they were done at one site |
 //! | `specs/Changed.antt` | what changes did |
 //! | `specs/Zeroed.antt` | what a discard and a resize did |
