@@ -41,7 +41,9 @@ c1 create d 8192 journal | journal | isn't built
 c1 clone d@s e | clone | isn't built
 c1 snap protect d@s | protect | isn't built
 c1 flatten d | flatten | isn't built
+c1 snap foo d@s | foo | create, rm, rollback or ls
 @until c1 1 write | write | of an operation
+@settl 4 | @settl | @settle, @deliver, @lose, @expire, @stop, @restart, @late or @trim
 c2 ls | c2 | declare it: `client c2 a`
 create d 8192 | create | begins with its session's name
 rbd ls | rbd | in place of rbd

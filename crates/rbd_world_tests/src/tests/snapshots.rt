@@ -4,7 +4,7 @@
 //! gets the head's object map and puts it as the snapshot's, and changes the header, which then has
 //! another generation. It is removed by five: the first three, the header's change, and the end of
 //! its map.
-use super::rows::{goes_as, tells_as};
+use super::rows::{goes_as, mixes_as, tells_as};
 use std::test::Fail;
 
 /// c2 has read the object 0 when line 9 takes the snapshot, and begins again at its look (a23).
@@ -80,6 +80,32 @@ h 59 reply 10
 #[test]
 fn a_read_across_a_snapshot_begins_again(rt: HostRuntime) -> Result<(), Fail> {
     tells_as(&rt, rt.alloc(), ACROSS, ACROSS_HISTORY)?;
+    Ok(())
+}
+
+/// The bytes 4094 to 4097 are 1122 3344.
+const WRITTEN: &str = "3 1.1>end 5 1.1>end";
+
+/// Line 9 takes the snapshot, line 12 makes the bytes 5566 7788, and line 11 reads the snapshot
+/// behind both. Line 6 reads the image by five operations, the third and the fourth of which are at
+/// the objects. It begins again where the snapshot is taken between its second and its fifth. In
+/// the last row line 12 has written the object 0 when line 9 begins, which waits for it.
+const BESIDE: &str =
+    "6 9 1.1>end 12 1.1>end 2.1>end 11 2.1>end|3 ok;5 ok;9 ok;12 ok;6 ok 55667788;11 ok 11223344
+6 2.1 9 1.1>end 12 1.1>end 2.1>end 11 2.1>end|3 ok;5 ok;9 ok;12 ok;6 ok 55667788;11 ok 11223344
+6 2.1*2 9 1.1>end 12 1.1>end 2.1>end 11 2.1>end|3 ok;5 ok;9 ok;12 ok;6 ok 55667788;11 ok 11223344
+6 2.1*3 9 1.1>end 12 1.1>end 2.1>end 11 2.1>end|3 ok;5 ok;9 ok;12 ok;6 ok 55667788;11 ok 11223344
+6 2.1*4 9 1.1>end 12 1.1>end 2.1>end 11 2.1>end|3 ok;5 ok;9 ok;12 ok;6 ok 55667788;11 ok 11223344
+6 2.1*5 9 1.1>end 12 1.1>end 11 2.1>end|3 ok;5 ok;6 ok 11223344;9 ok;12 ok;11 ok 11223344
+9 1.1*5 6 2.1*4 1.1 12 1.1>end 2.1>end 11 2.1>end|3 ok;5 ok;9 ok;12 ok;6 ok 55667788;11 ok 11223344
+9 1.1*5 6 2.1>end 1.1 12 1.1>end 11 2.1>end|3 ok;5 ok;6 ok 11223344;9 ok;12 ok;11 ok 11223344
+12 1.1*5 9 1.2*2 6 2.1*3 1.1>end 1.2>end 2.1>end 11 2.1>end|3 ok;5 ok;12 ok;9 ok;6 ok 55667788;11 ok 55667788";
+
+#[test]
+fn a_read_shows_what_was_there_before_a_snapshot_or_behind_it(rt: HostRuntime) -> Result<(), Fail> {
+    for row in BESIDE.split('\n') {
+        mixes_as(&rt, rt.alloc(), WRITTEN, row)?;
+    }
     Ok(())
 }
 
