@@ -19,7 +19,7 @@ use Rattle.rbd_machine.specs.Steps.{applied}
 use Rattle.rbd_machine.proofs.Approached.{owning_form}
 use Rattle.rbd_meaning.specs.Rollbacks.{at_size, rollback_refuses}
 use Rattle.rbd_resize.specs.Rollback.{roll_back, roll_back_listed, roll_back_to}
-use Rattle.rbd_resize.specs.Rolling.{rest_at, rest_of_rollback, noting, owning_in, IsApproaching, HasRollback, IsReadyAt}
+use Rattle.rbd_resize.specs.Rolling.{rest_at, rest_of_rolled, noting, owning_in, IsApproaching, HasRollback, IsReadyAt}
 use Rattle.rbd_resize.specs.declared.rollback.Rollback.{Rollback}
 use Rattle.rbd_resize.specs.declared.rollback_request.RollbackRequest.{RollbackRequest}
 use Rattle.rbd_resize.specs.declared.rollback_request.Stage.{Stage}
@@ -76,13 +76,13 @@ way_apart (stage.Rolling i rollback) r rolled at = absurd at
 way_apart (stage.Applying i) r rolled at = absurd at
 
 -- a rollback that was made for the image has its memory
-pub rolled_at : (r : RollbackRequest) (b : Rollback) (listed : SnapView) (image : ℕ) (h : HeaderView) (a : Answer) → IsApproaching r.stage → owning_in r.stage ≡ Some image → a ≡ answer.Header h
-    → snap_named h.snaps r.target.snap ≡ Some listed → ((next : Plan) → rest_of_rollback b next ≡ roll_back r.site image h listed next) → IsReadyAt r.stage (record r { rolled = Some b }) a
-rolled_at r b listed image h a at owns is named made = subst (IsReadyAt r.stage (record r { rolled = Some b })) (sym is) (ready_at r.stage (record r { rolled = Some b }) h at has)
+pub rolled_at : (r : RollbackRequest) (rolled : Option Rollback) (listed : SnapView) (image : ℕ) (h : HeaderView) (a : Answer) → IsApproaching r.stage → owning_in r.stage ≡ Some image → a ≡ answer.Header h
+    → snap_named h.snaps r.target.snap ≡ Some listed → ((next : Plan) → rest_of_rolled rolled next ≡ roll_back r.site image h listed next) → IsReadyAt r.stage (record r { rolled = rolled }) a
+rolled_at r rolled listed image h a at owns is named made = subst (IsReadyAt r.stage (record r { rolled = rolled })) (sym is) (ready_at r.stage (record r { rolled = rolled }) h at has)
   where
-    has : HasRollback (record r { rolled = Some b }) h
+    has : HasRollback (record r { rolled = rolled }) h
     has there owning may =
         let same : Some image ≡ Some there = sym owns ∙ owning in
         let one : image ≡ there = cc in
-        subst (λ i. noting (record r { rolled = Some b }) i ≡ roll_back_to r.site r.target.snap i h) one
+        subst (λ i. noting (record r { rolled = rolled }) i ≡ roll_back_to r.site r.target.snap i h) one
         (ap (Note r.site image (event.SnapRollback r.target.snap)) (made (applied r.site image)) ∙ ap (roll_back_listed r.site r.target.snap image h) (sym named))

@@ -17,6 +17,7 @@ use rbd_kinds::{
 use rbd_machine::{Approach, Machine, Progress, Reason, Refuses, non_primary};
 use rbd_zero::Size;
 use std::alloc::Global;
+use std::mem::replace;
 
 /// Sets the size of an image's head.
 ///
@@ -119,7 +120,7 @@ impl ResizeRequest {
             Progress::More => Turn::More,
             Progress::Refused(refusal) => Turn::Done(Reply::Refused(refusal)),
             Progress::Ended(image) => {
-                self.stage = Stage::Noting(image);
+                self.go_to(Stage::Noting(image));
                 Turn::More
             }
         }
@@ -129,11 +130,18 @@ impl ResizeRequest {
     fn begin_size(&mut self, image: ImageId) -> Turn
         ensures { GoesOn Goto (rest_of_sized self.old.sized (applied self.old.site image)) result (without_labels (rest_of_resize self.new)) }
     {
-        self.stage = match self.sized.take() {
-            Some(size) => Stage::Sizing(image, size),
-            None => Stage::Applying(image),
-        };
+        match self.sized.take() {
+            Some(size) => self.go_to(Stage::Sizing(image, size)),
+            None => self.go_to(Stage::Applying(image)),
+        }
         Turn::More
+    }
+
+    /// Goes on to a stage, and lets the old one go.
+    fn go_to(&mut self, stage: Stage)
+        ensures { self.new ≡ record { site = self.old.site; target = self.old.target; stage = stage; sized = self.old.sized } }
+    {
+        drop(replace(&mut self.stage, stage));
     }
 }
 
@@ -226,7 +234,8 @@ impl Machine for ResizeRequest {
                 match size.feed(answer) {
                     Progress::More => Turn::More,
                     Progress::Ended(()) => {
-                        self.stage = Stage::Applying(*image);
+                        let image = *image;
+                        self.go_to(Stage::Applying(image));
                         Turn::More
                     }
                     Progress::Refused(refusal) => Turn::Done(Reply::Refused(refusal)),

@@ -9,7 +9,7 @@ ghost use Rattle.rbd_meaning.specs.Rollbacks.{at_size as head_at_size};
 ghost use Rattle.rbd_resize.specs.Restore.{rest_of_some};
 ghost use Rattle.rbd_resize.specs.Rolling as rolling;
 ghost use Rattle.rbd_resize.specs.Rolling.{rest_of_rollback};
-ghost use Rattle.rbd_resize.specs.Rollback.{roll_back};
+ghost use Rattle.rbd_resize.specs.Rollback.{restore_all, roll_back};
 
 use crate::restore::Restore;
 use rbd_kinds::{
@@ -18,6 +18,7 @@ use rbd_kinds::{
 use rbd_machine::Progress;
 use rbd_zero::Size;
 use std::alloc::Global;
+use std::mem::replace;
 
 /// An image's head that becomes what it was at a snapshot: it gets the snapshot's size, and then
 /// each of its objects the bytes that it had there.
@@ -58,8 +59,7 @@ impl Rollback {
         ensures { IfOk result (λ r. (next : Plan) → rest_of_rollback r next ≡ roll_back site image header.now listed.now next) }
     {
         let size = Size::new(alloc, site, image, header, listed.size)?;
-        let head = at_size(header, listed.size)?;
-        let objects = Restore::new(alloc, site, image, head, listed.id)?;
+        let objects = objects_at(alloc, site, image, header, listed)?;
         Ok(Rollback {
             stage: Stage::Sizing(size, objects),
         })
@@ -121,12 +121,35 @@ impl Rollback {
     {
         match objects {
             Some(objects) => {
-                self.stage = Stage::Restoring(objects);
+                self.go_to(Stage::Restoring(objects));
                 Progress::More
             }
             None => Progress::Ended(()),
         }
     }
+
+    /// Goes on to a stage, and lets the old one go.
+    fn go_to(&mut self, stage: Stage)
+        ensures { self.new ≡ record { stage = stage } }
+    {
+        drop(replace(&mut self.stage, stage));
+    }
+}
+
+/// The objects of the head at the size of a snapshot, which become what they were there.
+fn objects_at(
+    alloc: Global,
+    site: SiteId,
+    image: ImageId,
+    header: &HeaderView,
+    listed: &SnapView,
+) -> Result<Option<Restore>, NoMemory>
+    requires form { IsHeaderInForm header.now }
+    requires listed { IsSnapInForm header.now.layout listed.now }
+    ensures { IfOk result (λ made. (next : Plan) → rest_of_some made next ≡ restore_all site image (head_at_size listed.now.size header.now) listed.now.id next) }
+{
+    let head = at_size(header, listed.size)?;
+    Restore::new(alloc, site, image, head, listed.id)
 }
 
 /// A header with another size of its head. The overlap ends there at the latest.

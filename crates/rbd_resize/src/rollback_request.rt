@@ -1,22 +1,24 @@
 //! `snap rollback`
-ghost use Rattle.std.specs.Prelude.{◌≡◌, true, OnOk};
+ghost use Rattle.std.specs.Prelude.{◌≡◌, true, Some, OnOk};
 ghost use Rattle.rbd_kinds.specs.declared.machine.Fed.TheVariants as fed_with;
+ghost use Rattle.rbd_kinds.specs.Form.{IsHeaderInForm, IsSnapInForm};
 ghost use Rattle.rbd_kinds.specs.Header.{snap_named};
 ghost use Rattle.rbd_machine.specs.Answers.{CanBeFed};
-ghost use Rattle.rbd_machine.specs.Plan.{GoesOn, Goto, plan_after, without_labels};
+ghost use Rattle.rbd_machine.specs.Plan.{Plan, GoesOn, Goto, plan_after, without_labels};
 ghost use Rattle.rbd_machine.specs.Ready.{IsReadyFor};
 ghost use Rattle.rbd_machine.specs.Steps.{applied};
 ghost use Rattle.rbd_meaning.specs.Rollbacks.{listing_refusal, rollback_refuses};
-ghost use Rattle.rbd_resize.specs.Rollback.{is_rollback, rollback_plan};
+ghost use Rattle.rbd_resize.specs.Rollback.{is_rollback, roll_back, rollback_plan};
 ghost use Rattle.rbd_resize.specs.Rolling.{rest_of_rollback_request, rest_of_rolled, IsApproaching, IsReady, owning_in};
 
 use crate::rollback::Rollback;
 use rbd_kinds::{
     Answer, Command, Event, Fed, HeaderView, ImageId, Name, NoMemory, Op, Refusal, Reply, Sharing,
-    SiteId, TryClone, Turn, Want,
+    SiteId, SnapView, TryClone, Turn, Want,
 };
 use rbd_machine::{Approach, Machine, Progress, Reason, Refuses, non_primary};
 use std::alloc::Global;
+use std::mem::replace;
 
 /// Makes an image's head what it was at a snapshot.
 ///
@@ -106,8 +108,39 @@ impl RollbackRequest {
         let Some(listed) = header.named(&self.target.snap) else {
             unreachable!()
         };
-        self.rolled = Some(Rollback::new(alloc, self.site, image, header, listed)?);
+        self.make_rollback(alloc, image, header, listed)
+    }
+
+    /// Makes the rollback to a snapshot that the own look lists.
+    fn make_rollback(
+        &mut self,
+        alloc: Global,
+        image: ImageId,
+        header: &HeaderView,
+        listed: &SnapView,
+    ) -> Result<(), NoMemory>
+        requires form { IsHeaderInForm header.now }
+        requires listed { IsSnapInForm header.now.layout listed.now }
+        ensures others { self.new ≡ record { site = self.old.site; target = self.old.target; stage = self.old.stage; rolled = self.new.rolled } }
+        ensures rolled { OnOk result ((next : Plan) → rest_of_rolled self.new.rolled next ≡ roll_back self.old.site image header.now listed.now next) }
+    {
+        let rollback = Rollback::new(alloc, self.site, image, header, listed)?;
+        self.keep(rollback);
         Ok(())
+    }
+
+    /// Puts the rollback beside the stage. What stood there is let go by a call, and not in place.
+    fn keep(&mut self, rollback: Rollback)
+        ensures { self.new ≡ record { site = self.old.site; target = self.old.target; stage = self.old.stage; rolled = Some rollback } }
+    {
+        drop(replace(&mut self.rolled, Some(rollback)));
+    }
+
+    /// Goes on to a stage, and lets the old one go.
+    fn go_to(&mut self, stage: Stage)
+        ensures { self.new ≡ record { site = self.old.site; target = self.old.target; stage = stage; rolled = self.old.rolled } }
+    {
+        drop(replace(&mut self.stage, stage));
     }
 
     /// Goes on with its way to its own look, and from there.
@@ -124,7 +157,7 @@ impl RollbackRequest {
             Progress::More => Turn::More,
             Progress::Refused(refusal) => Turn::Done(Reply::Refused(refusal)),
             Progress::Ended(image) => {
-                self.stage = Stage::Noting(image);
+                self.go_to(Stage::Noting(image));
                 Turn::More
             }
         }
@@ -134,10 +167,10 @@ impl RollbackRequest {
     fn begin_rollback(&mut self, image: ImageId) -> Turn
         ensures { GoesOn Goto (rest_of_rolled self.old.rolled (applied self.old.site image)) result (without_labels (rest_of_rollback_request self.new)) }
     {
-        self.stage = match self.rolled.take() {
-            Some(rollback) => Stage::Rolling(image, rollback),
-            None => Stage::Applying(image),
-        };
+        match self.rolled.take() {
+            Some(rollback) => self.go_to(Stage::Rolling(image, rollback)),
+            None => self.go_to(Stage::Applying(image)),
+        }
         Turn::More
     }
 }
@@ -233,7 +266,8 @@ impl Machine for RollbackRequest {
                 match rollback.feed(answer) {
                     Progress::More => Turn::More,
                     Progress::Ended(()) => {
-                        self.stage = Stage::Applying(*image);
+                        let image = *image;
+                        self.go_to(Stage::Applying(image));
                         Turn::More
                     }
                     Progress::Refused(refusal) => Turn::Done(Reply::Refused(refusal)),
