@@ -8,6 +8,7 @@ pub(crate) fn next_call(calls: u64) -> u64
     calls.saturating_add(1)
 }
 
+/// Whether a call is among those that are to fail, by its number.
 pub(crate) fn is_listed(fail: &[u64], call: u64) -> bool
     ensures { IsTrue result ↔ Contains fail.now call }
 {

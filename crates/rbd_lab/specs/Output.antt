@@ -38,11 +38,11 @@ text_of mode script w = told_text mode script w.history (site_in A w.sites).log 
 
 -- The text tells a world that the script's schedule led to, from a new one on: its history, its
 -- logs and its replies. Each reply in this history is the flat-copy machine's, at its place. No
--- operation of a fenced instance changes anything; who changes an image has its lock, or makes the
--- map of one without a header, and nobody loses a lock who isn't fenced. The commands of a session
--- that wait for each other come one after another. At the end nothing goes on any more: each
--- command that was begun has its reply, or is lost, or is held up at a lock, or stands behind such
--- a one; and where one session alone changes images, each command has its reply. Unless all the
+-- operation of a fenced instance changes anything; who changes an image that has a header has its
+-- lock, and no lock is broken whose owner isn't fenced. The commands of a session that wait for
+-- each other come one after another. At the end nothing goes on any more: each command that was
+-- begun has its reply, or is lost, or is held up at a lock, or stands behind such a one; and where
+-- one session alone changes images (`HasOneChanger`), each command has its reply. Unless all the
 -- rounds that close a script were played, more than any machine plays.
 pub record IsTold (mode : Mode) (script : Script) (text : List ℕ) : Type 0 where
   pub world : WorldView Requests

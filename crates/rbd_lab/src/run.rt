@@ -18,7 +18,7 @@ use std::thread::Threads;
 /// How a run ended.
 #[derive(Clone, Copy, Debug, PartialEq, Eq, Hash)]
 pub enum Status {
-    /// The script was played, and each command's reply is printed.
+    /// The script was played, and what became of each command is printed.
     Done,
     /// The words aren't understood. The usage line is printed.
     Usage,

@@ -167,8 +167,8 @@ pub fn changes_are_the_owners()
 {}
 
 /// So it is in each world, whatever events came: at the place of each operation, one of an instance
-/// that is fenced at its site changes nothing; and who changes an image has its lock, or makes the
-/// map of one without a header, and nobody loses a lock who isn't fenced.
+/// that is fenced at its site changes nothing; and who changes an image that has a header has its
+/// lock, and no lock is broken whose owner isn't fenced.
 pub fn fences_and_locks_hold_in_worlds<R: Request>()
     ensures fences { (w : WorldView R) (sound : IsSoundWorld R.stands w) → AtEachOperation IsStoppedByTheFence sound.run }
     ensures locks { (w : WorldView R) (sound : IsSoundWorld R.stands w) → AtEachOperation IsTheOwners sound.run }

@@ -12,7 +12,7 @@
 //! c1 create d 8192 object 4096
 //! @settle 8                        c1's create is done
 //! c1 write d 4094 11111111         begun, in slot 1 of c1
-//! @poll c1 1 4                     dir-find, two looks, and the piece in object 0
+//! @poll c1 1 7                     by its way to the lock, up to the piece in object 0
 //! c2 read d 4094 4                 begun, in slot 1 of c2
 //! @settle 8                        rounds: c1 writes object 1, while c2 reads; each has its reply
 //! ```

@@ -5,7 +5,8 @@
 //! let mut world: World<Follower> = World::new(alloc, &[SiteId::A, SiteId::A])?;   // sessions 0, 1
 //! world.step(alloc, &submit(0, 3, create))?;    // Submitted(1): line 3, in slot 1 of session 0
 //! world.step(alloc, &poll(0, 1))?;              // Step, number 1 at site A: dir-add
-//! world.step(alloc, &poll(0, 1))?;              // Step, number 2: header-create; it has its reply
+//! world.step(alloc, &poll(0, 1))?;              // Step, number 2: map-resize
+//! world.step(alloc, &poll(0, 1))?;              // Step, number 3: header-create; it has its reply
 //! world.step(alloc, &submit(0, 5, write))?;     // Submitted(1)
 //! world.step(alloc, &poll(0, 1))?;              // Step: dir-find, and so on: its way to the lock ..
 //! world.step(alloc, &Event::Stop { session })?; // Stopped: line 5 is lost, the lock is still c1.0's
@@ -102,8 +103,7 @@
 //! Room for the call and for two entries is taken first. A poll asks the client for its operation
 //! and the site for its answer, makes the client ready for it, does the operation, and feeds the
 //! client; only the last two change anything, and the last takes no memory. So a step that is
-//! refused memory has done nothing. A stop makes its lists, and room for them, before the client
-//! goes.
+//! refused memory has done nothing. A stop makes its lists, and their room, before the client goes.
 #![tactic(auto)]
 
 mod begun;

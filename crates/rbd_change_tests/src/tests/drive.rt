@@ -37,6 +37,7 @@ pub struct Log {
 }
 
 impl Log {
+    /// One of a request that was fed nothing yet.
     pub fn new(alloc: Global) -> Self {
         Log {
             wants: String::new(alloc),

@@ -30,6 +30,7 @@ use std::process::Abort;
 
 // ---- words
 
+/// The number that a word spells, and 0 where it spells none.
 pub fn number(word: &str) -> u64 {
     word.parse::<u64>().unwrap_or(0)
 }
@@ -46,6 +47,7 @@ pub fn behind<'t>(text: &'t str, key: &str) -> Option<&'t str> {
     None
 }
 
+/// Whether a word stands in a text.
 pub fn has(text: &str, key: &str) -> bool {
     for word in text.split(' ') {
         if word == key {

@@ -11,6 +11,7 @@ use std::test::Fail;
 /// Values of the type may be sent to another thread, and seen by several.
 fn crosses_threads<T: Send + Sync>() {}
 
+/// The bounds of `crosses_threads` are what it asserts: a type that doesn't meet them isn't built.
 #[test]
 fn values_cross_threads(_rt: HostRuntime) {
     crosses_threads::<Bytes>();

@@ -29,6 +29,7 @@ fn front(alloc: Global, len: u64) -> Result<Parts, NoMemory>
     Ok(Parts::from_vec(parts))
 }
 
+/// Takes a snapshot of the image, for client 1.
 pub fn take_snap(bench: &mut Bench, name: Name) -> Result<Answer, NoMemory> {
     bench.apply(
         C1,
@@ -52,6 +53,7 @@ pub fn context(alloc: Global, number: u32) -> Result<SnapContext, NoMemory> {
     })
 }
 
+/// Does an operation on an object of the image, for client 1.
 pub fn on_object(bench: &mut Bench, object: u64, op: DataOp) -> Result<Answer, NoMemory>
     requires { MayDoOnData op }
 {
@@ -101,6 +103,7 @@ fn read(
 
 // Each of these lets the answer go that it looks at, so that no caller does.
 
+/// Whether an answer is `Done`.
 pub fn is_done(answer: Answer) -> bool {
     let same = matches!(&answer, Answer::Done);
     drop(answer);
