@@ -7,7 +7,6 @@ use Rattle.rbd_client.specs.declared.actor.Actor.{Actor}
 use Rattle.rbd_client.specs.declared.actor.Actor.TheVariants as actor
 use Rattle.rbd_client.specs.declared.slot_state.Way.TheVariants as way
 use Rattle.rbd_client.specs.Actor.{actor_at, actor_on, any_taken, due_release, is_at_rest, kind_by, kind_wanted, may_release, op_by, op_wanted, releasing}
-use Rattle.rbd_client.specs.declared.slot_state.Quiescing.TheVariants as quiescing
 use Rattle.rbd_client.specs.Feeding.{DropsAtRest, IsAtRest, IsFedBy}
 use Rattle.rbd_client.proofs.Owning.{ends_by, keeps_owned, relied_lasts, relies}
 use Rattle.rbd_kinds.specs.declared.machine.Fed.{Fed}
@@ -20,6 +19,7 @@ use Rattle.rbd_client.specs.Client.{ClientView, state_in}
 use Rattle.rbd_client.specs.Laws.{DropsALock, IsHeldBack, removes_header}
 use Rattle.rbd_client.specs.Sound.{IsOwned, IsSoundClient, IsTelling}
 use Rattle.rbd_client.proofs.OnWay.{found_may, is_telling, release_rests, released_at_zero, way_rests}
+use Rattle.rbd_commands.specs.declared.quiescing.Quiescing.TheVariants as quiescing
 use Rattle.rbd_kinds.specs.declared.id.SiteId.{SiteId}
 use Rattle.rbd_kinds.specs.declared.image_at.ImageAt.{ImageAt}
 use Rattle.rbd_locks.specs.declared.lock_state.LockState.{LockState}

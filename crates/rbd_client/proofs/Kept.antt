@@ -1,7 +1,6 @@
 -- What holds of each client is kept, whatever one slot does.
 use Rattle.std.proofs.Common.{◌≡◌, ◌≢◌, ◌⊎◌, inl, inr, ℕ, true, length, Option, Some, None, refl, sym, ap, ◌∙◌, subst}
 use Rattle.std.proofs.lemmas.Bool.{cases_eq}
-use Rattle.rbd_client.specs.declared.slot_state.Quiescing.{Quiescing}
 use Rattle.rbd_client.specs.declared.slot_state.SlotState.{SlotState}
 use Rattle.rbd_client.specs.declared.slot_state.Way.{Way}
 use Rattle.rbd_client.specs.declared.slot_state.Way.TheVariants as way
@@ -10,6 +9,7 @@ use Rattle.rbd_client.specs.Client.{ClientView, blank, state_in}
 use Rattle.rbd_client.specs.Feeding.{comings_of, CountsAll, IsAtRest}
 use Rattle.rbd_client.specs.Sound.{IsOwned, IsSoundClient, IsTelling, IsWellOnWay, WaitsForLook}
 use Rattle.rbd_client.proofs.Owning.{keeps_owned, taken_at, taken_lasts}
+use Rattle.rbd_commands.specs.declared.quiescing.Quiescing.{Quiescing}
 use Rattle.rbd_kinds.specs.declared.id.SiteId.{SiteId}
 use Rattle.rbd_kinds.specs.declared.machine.Fed.{Fed}
 use Rattle.rbd_kinds.specs.declared.operation.Op.{Op}

@@ -5,7 +5,6 @@ use Rattle.std.specs.List.{find}
 use Rattle.std.specs.Option.{is_some}
 use Rattle.rbd_client.specs.declared.actor.Actor.{Actor}
 use Rattle.rbd_client.specs.declared.actor.Actor.TheVariants as actor
-use Rattle.rbd_client.specs.declared.slot_state.Quiescing.TheVariants as quiescing
 use Rattle.rbd_client.specs.declared.slot_state.SlotState.{SlotState}
 use Rattle.rbd_client.specs.declared.slot_state.Way.{Way}
 use Rattle.rbd_client.specs.declared.slot_state.Way.TheVariants as way
@@ -15,6 +14,7 @@ use Rattle.rbd_client.specs.Feeding.{comings_of, released_by, state_on_way, Coun
 use Rattle.rbd_client.specs.Sound.{IsOwned, IsSoundClient, IsTelling, IsWellOnWay, WaitsForLook}
 use Rattle.rbd_client.proofs.Kept.{sound_behind, LeavesSlots}
 use Rattle.rbd_client.proofs.Looks.{looks_there}
+use Rattle.rbd_commands.specs.declared.quiescing.Quiescing.TheVariants as quiescing
 use Rattle.rbd_kinds.specs.declared.answer.Answer.TheVariants as answer
 use Rattle.rbd_kinds.specs.declared.header_op.HeaderOp.TheVariants as header
 use Rattle.rbd_kinds.specs.declared.id.SiteId.{SiteId}

@@ -3,13 +3,13 @@ use Rattle.std.specs.Option.{is_some}
 use Rattle.std.specs.Prelude.{◌≡◌, ℕ, ◌<◌, Bool, true, false, if◌then◌else◌, List, [], ◌∷◌, Option, Some, None, IsSome}
 use Rattle.rbd_client.specs.declared.actor.Actor.{Actor}
 use Rattle.rbd_client.specs.declared.actor.Actor.TheVariants as actor
-use Rattle.rbd_client.specs.declared.slot_state.Quiescing.{Quiescing}
-use Rattle.rbd_client.specs.declared.slot_state.Quiescing.TheVariants as quiescing
 use Rattle.rbd_client.specs.declared.slot_state.SlotState.{SlotState}
 use Rattle.rbd_client.specs.declared.slot_state.Way.{Way}
 use Rattle.rbd_client.specs.declared.slot_state.Way.TheVariants as way
 use Rattle.rbd_client.specs.Actor.{actor_at, any_taken, is_at_rest}
 use Rattle.rbd_client.specs.Client.{ClientView, blank, state_in}
+use Rattle.rbd_commands.specs.declared.quiescing.Quiescing.{Quiescing}
+use Rattle.rbd_commands.specs.declared.quiescing.Quiescing.TheVariants as quiescing
 use Rattle.rbd_kinds.specs.declared.answer.Answer.{Answer}
 use Rattle.rbd_kinds.specs.declared.answer.Answer.TheVariants as answer
 use Rattle.rbd_kinds.specs.declared.directory_op.DirectoryOp.TheVariants as directory

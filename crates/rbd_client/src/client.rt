@@ -15,8 +15,9 @@ ghost use Rattle.rbd_session.specs.Session.{free_slot, held_in, op_at, refusal_i
 use crate::actor::{Actor, for_release, for_request, release_kind, way_kind};
 use crate::counting::count;
 use crate::going::{go_on, let_go, settle};
-use crate::slot_state::{Quiescing, SlotState, Way};
+use crate::slot_state::{SlotState, Way};
 use crate::slots::{blank_slots, is_any_taken, set_state, state_of};
+use rbd_commands::Quiescing;
 use rbd_course::Request;
 use rbd_kinds::{
     Fed, ImageAt, Instance, NoMemory, Notice, NoticeKind, Op, OpKind, Reply, SiteId, Slot, TryClone,

@@ -2,7 +2,7 @@
 ghost use Rattle.std.specs.Prelude.{◌<◌};
 ghost use Rattle.rbd_client.specs.Feeding.{comings_of, quiesces, resumes, CountsAll};
 
-use crate::slot_state::Quiescing;
+use rbd_commands::Quiescing;
 use rbd_kinds::{Answer, DirectoryOp, Fed, ImageAt, ImageId, Op, SiteId};
 use rbd_locks::Locks;
 

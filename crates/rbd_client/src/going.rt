@@ -8,7 +8,8 @@ ghost use Rattle.rbd_session.specs.Lines.{lines_of};
 ghost use Rattle.rbd_session.specs.OnTrack.{LeavesOthers};
 ghost use Rattle.rbd_session.specs.Session.{held_in, IsSoundSession};
 
-use crate::slot_state::{Quiescing, SlotState, Way};
+use crate::slot_state::{SlotState, Way};
+use rbd_commands::Quiescing;
 use rbd_course::Request;
 use rbd_kinds::{Fed, ImageAt, Reply, Slot};
 use rbd_machine::Progress;

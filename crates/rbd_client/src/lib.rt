@@ -93,4 +93,4 @@ mod slot_state;
 mod slots;
 
 pub use client::Client;
-pub use slot_state::{Quiescing, SlotState, Way};
+pub use slot_state::{SlotState, Way};

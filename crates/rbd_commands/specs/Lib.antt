@@ -1,3 +1,4 @@
 pub mod Command
 pub mod CommandCopy
+pub mod Quiescing
 pub mod Refusal

@@ -15,7 +15,9 @@
 
 mod command;
 mod command_copy;
+mod quiescing;
 mod refusal;
 
 pub use command::{Command, FillLength, Payload, ReadLength, Shape};
+pub use quiescing::Quiescing;
 pub use refusal::Refusal;

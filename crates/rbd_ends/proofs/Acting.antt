@@ -7,13 +7,13 @@ use Rattle.rbd_client.specs.declared.actor.Actor.TheVariants as actor
 use Rattle.rbd_client.specs.Actor.{actor_at, actor_by, actor_on, due_release, releasing}
 use Rattle.rbd_client.specs.Client.{ClientView, newcomer, state_in}
 use Rattle.rbd_client.specs.Feeding.{ReleaseIsFed, RequestIsFed, WayIsFed}
-use Rattle.rbd_client.specs.declared.slot_state.Quiescing.{Quiescing}
-use Rattle.rbd_client.specs.declared.slot_state.Quiescing.TheVariants as quiescing
 use Rattle.rbd_client.specs.declared.slot_state.SlotState.{SlotState}
 use Rattle.rbd_client.specs.declared.slot_state.Way.{Way}
 use Rattle.rbd_client.specs.declared.slot_state.Way.TheVariants as way
 use Rattle.rbd_commands.specs.declared.command.Command.{Command}
 use Rattle.rbd_commands.specs.declared.command.Command.TheVariants as command
+use Rattle.rbd_commands.specs.declared.quiescing.Quiescing.{Quiescing}
+use Rattle.rbd_commands.specs.declared.quiescing.Quiescing.TheVariants as quiescing
 use Rattle.rbd_kinds.specs.declared.answer.Answer.{Answer}
 use Rattle.rbd_kinds.specs.declared.id.SiteId.{SiteId}
 use Rattle.rbd_kinds.specs.declared.image_at.ImageAt.{ImageAt}

@@ -9,9 +9,10 @@ use Rattle.rbd_client.specs.declared.actor.Actor.TheVariants as actor
 use Rattle.rbd_client.specs.Actor.{actor_at}
 use Rattle.rbd_client.specs.Client.{ClientView, state_in}
 use Rattle.rbd_client.specs.Feeding.{IsFedBy, ReleaseIsFed, RequestIsFed, WayIsFed, comings_of}
-use Rattle.rbd_client.specs.declared.slot_state.Quiescing.TheVariants as quiescing
 use Rattle.rbd_commands.specs.declared.command.Command.{Command}
 use Rattle.rbd_commands.specs.declared.command.Command.TheVariants as command
+use Rattle.rbd_commands.specs.declared.quiescing.Quiescing.TheVariants as quiescing
+use Rattle.rbd_commands.specs.Quiescing.{quiescing_of}
 use Rattle.rbd_fence.specs.Instances.{instance_cmp}
 use Rattle.rbd_kinds.specs.declared.answer.Answer.{Answer}
 use Rattle.rbd_kinds.specs.declared.answer.Answer.TheVariants as answer
@@ -54,7 +55,7 @@ use Rattle.rbd_world.specs.declared.event.Event.TheVariants as event
 use Rattle.rbd_world.specs.declared.event.Outcome.{Outcome}
 use Rattle.rbd_world.specs.Run.{Began, Did, Expired, Happening, Heard, House, Itself, Nothing, OnWay, Refused, Trimmed, Waited}
 use Rattle.rbd_world.specs.Sound.{IsNewWorld}
-use Rattle.rbd_world.specs.Step.{BeginsIn, Does, Goes, IsStep, begins_of, come, delivered, done_by, ended_watch, goes_on_by, heard_by, is_begun, next_number, operation_at, polled, polled_in, quiescing_of, releases, reply_at, reply_on_way, restarted, restarted_of, submitted}
+use Rattle.rbd_world.specs.Step.{BeginsIn, Does, Goes, IsStep, begins_of, come, delivered, done_by, ended_watch, goes_on_by, heard_by, is_begun, next_number, operation_at, polled, polled_in, releases, reply_at, reply_on_way, restarted, restarted_of, submitted}
 use Rattle.rbd_world.specs.World.{LivesView, WorldView, client_in, late_of, lives_in, records_in, running_of, sent_in, site_in}
 use Rattle.rbd_schedule.specs.Starts.{is_ended}
 use Rattle.rbd_ends.specs.OneChanger.{holds_back, is_replied, takes_the_lock}

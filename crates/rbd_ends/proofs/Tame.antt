@@ -5,10 +5,10 @@ use Rattle.std.proofs.lemmas.Bool.{cases_eq, true≢false}
 use Rattle.std.proofs.lemmas.Option.{none-some, same_Some}
 use Rattle.rbd_client.specs.Client.{ClientView, state_in}
 use Rattle.rbd_client.specs.Feeding.{GoesItsWay, ReleaseIsFed, RequestIsFed, WayComesTo, WayIsFed, state_behind, state_on_way}
-use Rattle.rbd_client.specs.declared.slot_state.Quiescing.TheVariants as quiescing
 use Rattle.rbd_client.specs.declared.slot_state.SlotState.{SlotState}
 use Rattle.rbd_client.specs.declared.slot_state.Way.{Way}
 use Rattle.rbd_client.specs.declared.slot_state.Way.TheVariants as way
+use Rattle.rbd_commands.specs.declared.quiescing.Quiescing.TheVariants as quiescing
 use Rattle.rbd_course.specs.Course.{is_own_at}
 use Rattle.rbd_kinds.specs.OperationKind.{kind_of}
 use Rattle.rbd_kinds.specs.declared.answer.Answer.{Answer}

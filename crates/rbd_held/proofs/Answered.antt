@@ -4,7 +4,6 @@ use Rattle.std.specs.Prelude.{IsSome}
 use Rattle.std.proofs.lemmas.Bool.{cases_eq, eq-eqb, ne_eqb}
 use Rattle.rbd_client.specs.declared.actor.Actor.{Actor}
 use Rattle.rbd_client.specs.declared.actor.Actor.TheVariants as actor
-use Rattle.rbd_client.specs.declared.slot_state.Quiescing.TheVariants as quiescing
 use Rattle.rbd_client.specs.declared.slot_state.SlotState.{SlotState}
 use Rattle.rbd_client.specs.declared.slot_state.Way.{Way}
 use Rattle.rbd_client.specs.declared.slot_state.Way.TheVariants as way
@@ -16,6 +15,7 @@ use Rattle.rbd_flat.specs.Flat.{Flat}
 use Rattle.rbd_held.specs.Knowing.{known_on_way, known_to, known_to_release, knows_fed, knows_on_way, plan_of}
 use Rattle.rbd_held.specs.Truth.{IsTrueOf, IsWayTrue}
 use Rattle.rbd_client.proofs.Follows.{counted_by}
+use Rattle.rbd_commands.specs.declared.quiescing.Quiescing.TheVariants as quiescing
 use Rattle.rbd_held.proofs.Acts.{release_may_act, way_may_act}
 use Rattle.rbd_held.proofs.Counted.{counted_nothing, counted_others, counted_own, counted_unless, release_removes_none, way_removes_none}
 use Rattle.rbd_held.proofs.Fed.{less_known}

@@ -1,11 +1,11 @@
 -- A lock that counts as the client's behind an answer is the client's, unless it is fenced.
 use Rattle.std.proofs.Common.{◌≡◌, ◌⊎◌, inl, inr, ℕ, ◌==◌, ◌&&◌, cond, Bool, true, false, Option, Some, None, refl, sym, ap, ◌∙◌, subst, true≢false}
 use Rattle.std.proofs.lemmas.Bool.{eqb-true}
-use Rattle.rbd_client.specs.declared.slot_state.Quiescing.{Quiescing}
-use Rattle.rbd_client.specs.declared.slot_state.Quiescing.TheVariants as quiescing
 use Rattle.rbd_client.specs.Feeding.{comings_of, quiesced_by, resumes, CountsAll}
 use Rattle.rbd_client.specs.Sound.{IsOwned}
 use Rattle.rbd_client.proofs.Owning.{ends_by, is_end}
+use Rattle.rbd_commands.specs.declared.quiescing.Quiescing.{Quiescing}
+use Rattle.rbd_commands.specs.declared.quiescing.Quiescing.TheVariants as quiescing
 use Rattle.rbd_kinds.specs.declared.answer.Answer.{Answer}
 use Rattle.rbd_kinds.specs.declared.answer.Answer.TheVariants as answer
 use Rattle.rbd_kinds.specs.declared.directory_op.DirectoryOp.TheVariants as directory

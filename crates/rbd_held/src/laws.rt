@@ -4,7 +4,7 @@ ghost use Rattle.rbd_client.specs.Actor.{actor_at, op_wanted};
 ghost use Rattle.rbd_client.specs.Client.{ClientView, newcomer, state_in};
 ghost use Rattle.rbd_client.specs.Feeding.{AreStatesAlike, CanGet, DropsAtRest, IsFedBy};
 ghost use Rattle.rbd_client.specs.Sound.{IsSoundClient};
-ghost use Rattle.rbd_client.specs.declared.slot_state.Quiescing.{Quiescing as Quiesces};
+ghost use Rattle.rbd_commands.specs.declared.quiescing.Quiescing.{Quiescing as Quiesces};
 ghost use Rattle.rbd_flat.specs.Flat.{Flat};
 ghost use Rattle.rbd_held.specs.Knowing.{known_to, knows_fed, plan_of};
 ghost use Rattle.rbd_held.specs.Truth.{IsTrueOf};

@@ -1,9 +1,10 @@
 -- A command that begins, as the client tells it and as the world does.
 use Rattle.std.proofs.Common.{◌≡◌, ◌≢◌, ◌||◌, ℕ, Bool, false, cond, Option, Some, None, sym, ap, ◌∙◌, subst}
 use Rattle.std.specs.Prelude.{nat_lt}
-use Rattle.rbd_client.specs.declared.slot_state.Quiescing.{Quiescing}
 use Rattle.rbd_client.specs.Client.{ClientView, newcomer, state_in}
 use Rattle.rbd_commands.specs.declared.command.Command.{Command}
+use Rattle.rbd_commands.specs.declared.quiescing.Quiescing.{Quiescing}
+use Rattle.rbd_commands.specs.Quiescing.{quiescing_of}
 use Rattle.rbd_machine.specs.Plan.{Standing}
 use Rattle.rbd_requests.specs.declared.request.SessionRequest.{SessionRequest}
 use Rattle.rbd_requests.specs.declared.work.Work.TheVariants as work
@@ -16,7 +17,7 @@ use Rattle.rbd_machine.specs.declared.seat.Seat.{Seat}
 use Rattle.rbd_session.specs.Session.{IsNewcomer, held_in, seat_of}
 use Rattle.rbd_world.specs.declared.event.Event.TheVariants as event
 use Rattle.rbd_world.specs.Run.{Nothing, Began}
-use Rattle.rbd_world.specs.Step.{Becomes, begins_of, quiescing_of, submitted}
+use Rattle.rbd_world.specs.Step.{Becomes, begins_of, submitted}
 
 module _ {E : Type 0} (extra : E → Standing) where
   -- a command's work stands where its plan begins, and changes its extent

@@ -3,14 +3,12 @@ use Rattle.std.specs.Prelude.{◌≡◌, ◌≢◌, ℕ, ◌+◌, ◌==◌, ◌|
 use Rattle.std.specs.List.{list_any, flat_map, range_with_len}
 use Rattle.rbd_client.specs.declared.actor.Actor.{Actor}
 use Rattle.rbd_client.specs.declared.actor.Actor.TheVariants as actor
-use Rattle.rbd_client.specs.declared.slot_state.Quiescing.{Quiescing}
-use Rattle.rbd_client.specs.declared.slot_state.Quiescing.TheVariants as quiescing
 use Rattle.rbd_client.specs.Actor.{actor_at, op_wanted}
 use Rattle.rbd_client.specs.Client.{ClientView, heard_with, newcomer, state_in}
 use Rattle.rbd_client.specs.Feeding.{DropsAtRest, IsClientAlike, IsFedBy}
 use Rattle.rbd_client.specs.Sound.{IsSoundClient}
 use Rattle.rbd_commands.specs.declared.command.Command.{Command}
-use Rattle.rbd_commands.specs.declared.command.Command.TheVariants as command
+use Rattle.rbd_commands.specs.Quiescing.{quiescing_of}
 use Rattle.rbd_flat.specs.Flat.{Flat}
 use Rattle.rbd_flat.specs.declared.entry.Entry.{Entry}
 use Rattle.rbd_flat.specs.declared.entry.Entry.TheVariants as entry
@@ -146,12 +144,6 @@ abbrev pub submitted : {R : Type 0} → (is_begun : Bool) → (line : ℕ) → C
 submitted begun line c None = Nothing
 submitted begun line c (Some client) =
     if begun || nat_lt 64 client.session.lowest then Nothing else Began (begins_of client.session.instance line c) client.session.lowest
-
--- what a command does to a quiesce of its image
-abbrev pub quiescing_of : Command → Quiescing
-quiescing_of (command.Quiesce image) = quiescing.Begins
-quiescing_of (command.Resume image) = quiescing.Ends
-quiescing_of c = quiescing.Leaves
 
 -- ---- a notice
 

@@ -7,14 +7,14 @@ ghost use Rattle.rbd_requests.specs.Session.{stands_of};
 ghost use Rattle.rbd_world.specs.Begun.{has_line};
 ghost use Rattle.rbd_world.specs.Noted.{is_start, noted_by};
 ghost use Rattle.rbd_world.specs.Run.{outcome_of};
-ghost use Rattle.rbd_world.specs.Step.{Becomes, DoesToLives, IsSoundIf, LivesOn, begun_behind, quiescing_of, submitted};
+ghost use Rattle.rbd_world.specs.Step.{Becomes, DoesToLives, IsSoundIf, LivesOn, begun_behind, submitted};
 ghost use Rattle.rbd_world.specs.World.{client_in};
 ghost use Rattle.rbd_world.specs.declared.event.Event.TheVariants as of_event;
 
 use crate::begun::BegunLines;
 use crate::event::Outcome;
 use crate::lives::Lives;
-use rbd_client::{Client, Quiescing};
+use rbd_client::Client;
 use rbd_flat::Entry;
 use rbd_kinds::{Command, NoMemory, SessionNo, TryClone};
 use rbd_machine::Machine;
@@ -129,20 +129,9 @@ fn begin<E: Machine + Drop>(
     }
     let instance = client.instance();
     let work = Work::Plain(command.try_clone()?);
-    let slot = client.submit(alloc, line, work, quiescing_of(command))?;
+    let slot = client.submit(alloc, line, work, command.quiescing())?;
     history.push_reserved(Entry::Start { line, instance });
     Ok(Outcome::Submitted(slot))
-}
-
-/// What a command does to a quiesce of its image.
-fn quiescing_of(command: &Command) -> Quiescing
-    ensures { result ≡ quiescing_of command.now }
-{
-    match command {
-        Command::Quiesce { image: _ } => Quiescing::Begins,
-        Command::Resume { image: _ } => Quiescing::Ends,
-        _ => Quiescing::Leaves,
-    }
 }
 
 /// Whether a client began a command.

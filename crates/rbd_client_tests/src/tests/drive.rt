@@ -11,8 +11,9 @@ ghost use Rattle.rbd_machine.specs.Answers.{CanGive, IsHeaderToldInForm};
 
 use super::operations::is_operation;
 use super::told::BITS;
-use rbd_client::{Client, Quiescing};
+use rbd_client::Client;
 use rbd_close::CloseRequest;
+use rbd_commands::Quiescing;
 use rbd_course::Request;
 use rbd_kinds::{
     Answer, Command, Fed, HeaderOp, ImageAt, ImageId, Instance, MapOp, NoMemory, Op, Reply,

@@ -1,5 +1,5 @@
 //! The requests of these tests, each of a word.
-use rbd_client::Quiescing;
+use rbd_commands::Quiescing;
 use rbd_kinds::{
     AskedName, Bytes, Command, FillLength, NoMemory, Number, Payload, ReadLength, Shape,
 };

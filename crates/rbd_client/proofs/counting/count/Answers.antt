@@ -1,11 +1,11 @@
 use Rattle.std.proofs.Common.{◌≡◌, ◌∙◌, ap, sym}
-use Rattle.rbd_client.specs.declared.slot_state.Quiescing.TheVariants as quiescing
 use Rattle.rbd_client.specs.Feeding.{comings_of, quiesces, resumes}
 use Rattle.rbd_kinds.specs.declared.answer.Answer.TheVariants as answer
 use Rattle.rbd_kinds.specs.declared.machine.Fed.TheVariants as fed
 use Rattle.rbd_locks.specs.Comings.{after_all}
 use Rattle.rbd_locks.specs.Locks.{counted, state_at}
 use Rattle.rbd_client.proofs.counting.count.Goals as goal
+use Rattle.rbd_commands.specs.declared.quiescing.Quiescing.TheVariants as quiescing
 
 pub returns-in-Begins-Header : goal.returns-in-Begins-Header
 returns-in-Begins-Header c = λ s i.

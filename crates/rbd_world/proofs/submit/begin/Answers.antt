@@ -7,4 +7,4 @@ pub returns-clause-becomes : goal.returns-clause-becomes
 returns-clause-becomes g c =
     let room : nat_lt 64 c.args.client.now.session.lowest ≡ false = search rules in
     λ session. begins g.E.Machine.stands session c.args.line c.args.command.now c.in_ok-try_clone.field-0 c.in_ok-try_clone.ensures c.args.is_begun c.if-is_begun.false c.args.client.now c.submit.new.self room
-    c.in_ok-slot.ensures.held c.quiescing_of.result c.quiescing_of.ensures c.in_ok-slot.ensures.state c.submit.ensures.others c.submit.ensures.lines c.submit.ensures.rest
+    c.in_ok-slot.ensures.held c.quiescing.result c.quiescing.ensures c.in_ok-slot.ensures.state c.submit.ensures.others c.submit.ensures.lines c.submit.ensures.rest

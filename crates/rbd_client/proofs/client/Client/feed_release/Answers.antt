@@ -1,13 +1,13 @@
 use Rattle.std.proofs.Common.{◌≡◌, ◌∙◌, Some, None, refl, sym, ap, subst}
 use Rattle.std.specs.Option.{unwrap_or}
 use Rattle.rbd_client.specs.declared.actor.Actor.TheVariants as actor
-use Rattle.rbd_client.specs.declared.slot_state.Quiescing.TheVariants as quiescing
 use Rattle.rbd_client.specs.Actor.{actor_at, op_by, op_wanted}
 use Rattle.rbd_client.specs.Client.{ClientView}
 use Rattle.rbd_client.specs.Feeding.{comings_of, CountsAll}
 use Rattle.rbd_owner.specs.Release.{release_op}
 use Rattle.rbd_client.proofs.OnWay.{release_sound}
 use Rattle.rbd_client.proofs.client.Client.feed_release.Goals as goal
+use Rattle.rbd_commands.specs.declared.quiescing.Quiescing.TheVariants as quiescing
 
 abbrev before : (g : _) → goal.After-self-1 g → ClientView g.row.R.Denot
 before g c = record { session = c.self.inside.session; locks = c.self.inside.locks; slots = c.self.inside.slots.items; release = c.self.inside.release; heard = c.self.inside.heard.items }

@@ -1,13 +1,13 @@
 use Rattle.std.proofs.Common.{◌≡◌, ◌∙◌, Some, None, refl, sym, ap, subst}
 use Rattle.std.specs.Option.{is_some, unwrap_or}
 use Rattle.rbd_client.specs.declared.actor.Actor.TheVariants as actor
-use Rattle.rbd_client.specs.declared.slot_state.Quiescing.TheVariants as quiescing
 use Rattle.rbd_client.specs.Actor.{actor_at, op_by, op_wanted}
 use Rattle.rbd_client.specs.Client.{ClientView, state_in}
 use Rattle.rbd_client.specs.Feeding.{comings_of, state_on_way, CountsAll}
 use Rattle.rbd_owner.specs.Acquire.{op_of}
 use Rattle.rbd_client.proofs.OnWay.{way_after, way_sound}
 use Rattle.rbd_client.proofs.client.Client.feed_way.Goals as goal
+use Rattle.rbd_commands.specs.declared.quiescing.Quiescing.TheVariants as quiescing
 
 abbrev before : (g : _) → goal.After-set_state g → ClientView g.row.R.Denot
 before g c = record { session = c.self.inside.session; locks = c.self.inside.locks; slots = c.self.inside.slots.items; release = c.self.inside.release; heard = c.self.inside.heard.items }
