@@ -8,6 +8,7 @@ pub mod Fairness
 pub mod GivenUp
 pub mod Going
 pub mod Members
+pub mod NoLook
 pub mod OwnLooks
 pub mod OwnLooksStay
 pub mod Others

@@ -151,11 +151,7 @@ impl<R: Request> Session<R> {
         ensures look { result ≡ own_look_at R.stands slot self.now }
         ensures sound { IsSoundSession R.stands self.now }
     {
-        own_look(
-            going(self.slots.as_slice(), &self.lines, slot)?,
-            &self.lines,
-            slot,
-        )
+        own_look(self.slots.as_slice(), &self.lines, slot)
     }
 
     /// Whether no request of an image is past its own look (own). It takes no memory.

@@ -4,7 +4,7 @@ ghost use Rattle.std.specs.Option.{option_map};
 ghost use Rattle.rbd_machine.specs.Plan.{IsAsking};
 ghost use Rattle.rbd_session.specs.Advance.{track_of};
 ghost use Rattle.rbd_session.specs.OnTrack.{HasNext};
-ghost use Rattle.rbd_session.specs.Session.{held_in, running_in, going_in, kind_asked, op_asked, is_look_at, own_look_of};
+ghost use Rattle.rbd_session.specs.Session.{held_in, running_in, going_in, kind_asked, op_asked, is_look_at, own_look_in, own_look_of};
 
 use crate::lines::Lines;
 use crate::prepare::is_at_own;
@@ -79,8 +79,9 @@ fn is_look_at(site: SiteId, wanted: Option<(SiteId, OpKind)>) -> bool
     }
 }
 
-/// The image at whose own look a request stands.
-pub fn own_look<R: Request>(running: &Running<R>, lines: &Lines, slot: Slot) -> Option<ImageAt>
+/// The image at whose own look a request stands. Only one that wants a look at a header is looked up
+/// in a line.
+fn own_look_of<R: Request>(running: &Running<R>, lines: &Lines, slot: Slot) -> Option<ImageAt>
     requires { IsAsking (R.stands running.now.request).plan }
     ensures { result ≡ own_look_of slot (kind_asked (R.stands running.now.request).plan) running.now.place lines.now }
 {
@@ -89,6 +90,28 @@ pub fn own_look<R: Request>(running: &Running<R>, lines: &Lines, slot: Slot) -> 
         return None;
     }
     if !is_at_own(lines.stage(running.place, slot)) {
+        return None;
+    }
+    Some(place)
+}
+
+/// The image at whose own look the request in a slot stands, where it doesn't wait.
+pub fn own_look<R: Request>(
+    slots: &[Option<Occupant<R>>],
+    lines: &Lines,
+    slot: Slot,
+) -> Option<ImageAt>
+    requires next { (r : _) → running_in (held_in slot slots.now) ≡ Some r → HasNext slot (track_of r lines.now) }
+    requires asks { (r : _) → running_in (held_in slot slots.now) ≡ Some r → IsAsking (R.stands r.request).plan }
+    ensures { result ≡ own_look_in R.stands slot lines.now (going_in slot (held_in slot slots.now) lines.now) }
+{
+    let Some(running) = running_in(slots, slot) else {
+        return None;
+    };
+    let Some(place) = own_look_of(running, lines, slot) else {
+        return None;
+    };
+    if is_waiting(running, lines, slot) {
         return None;
     }
     Some(place)

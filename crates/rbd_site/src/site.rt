@@ -142,12 +142,13 @@ impl Site {
             mail,
         ) {
             Ok(()) => {
-                self.log.push_reserved(Done {
+                let line = Done {
                     number,
                     instance: Some(instance),
                     op: DoneOp::Op(op),
                     answer: logged,
-                });
+                };
+                note(&mut self.log, line);
                 Ok(())
             }
             Err(fault) => {
@@ -186,7 +187,7 @@ impl Site {
             op: DoneOp::Trim { image, object },
             answer: Answer::Done,
         };
-        self.log.push_reserved(line);
+        note(&mut self.log, line);
         Ok(true)
     }
 
@@ -217,7 +218,7 @@ impl Site {
             },
             answer: Answer::Done,
         };
-        self.log.push_reserved(line);
+        note(&mut self.log, line);
         Ok(true)
     }
 
@@ -227,6 +228,14 @@ impl Site {
     {
         self.log.len() as u64 + 1
     }
+}
+
+/// Puts a line at the end of a log that has room for it.
+fn note(log: &mut Vec<Done>, line: Done)
+    requires room { vec_len log.old + 1 ≤ vec_capacity log.old }
+    ensures { log.new.items ≡ log.old.items ++ line ∷ [] }
+{
+    log.push_reserved(line);
 }
 
 /// Makes room for one more line, and does an operation on the records. Refused memory, nothing is

@@ -107,7 +107,7 @@ fn prepare<R: Request>(
     ensures sound { IsSoundClient R.stands client.new }
 {
     // (it is asked for its clause that the client is sound)
-    let _acts = client.is_acquiring(slot);
+    let _free = client.free();
     let foreseen = foresee(alloc, sites.at(due.site), due)?;
     client.ready(alloc, slot, &foreseen.fed)?;
     Ok(foreseen)

@@ -19,7 +19,7 @@ use crate::noting::{Book, keep_call, reserve};
 use crate::poll::poll;
 use crate::sites::Sites;
 use crate::stop::{restart, stop};
-use crate::submit::submit;
+use crate::submit::{SessionLine, submit};
 use crate::trim::{expire, trim};
 use rbd_flat::Entry;
 use rbd_kinds::{NoMemory, SessionNo, Slot, TryClone};
@@ -84,7 +84,13 @@ fn happen<E: Machine + Drop>(
             session,
             line,
             command,
-        } => submit(alloc, lives, begun, history, *session, *line, command),
+        } => {
+            let at = SessionLine {
+                session: *session,
+                line: *line,
+            };
+            submit(alloc, lives, begun, history, &at, command)
+        }
         Event::Poll { session, slot } => poll(alloc, sites, lives, history, *session, *slot),
         Event::Deliver { number } => deliver(&sites.mail, lives, *number),
         Event::Expire {

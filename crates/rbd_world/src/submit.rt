@@ -21,6 +21,13 @@ use rbd_machine::Machine;
 use rbd_requests::{SessionRequest, Work};
 use std::alloc::Global;
 
+/// A line of a script, with the session whose command it is.
+#[derive(Clone, Copy, Debug)]
+pub struct SessionLine {
+    pub session: SessionNo,
+    pub line: u32,
+}
+
 /// A client begins the command of a line, in its lowest free slot: nothing where no client of the
 /// session runs, where it has no free slot, or where the line was begun before. Refused memory,
 /// nothing changes.
@@ -29,27 +36,26 @@ pub fn submit<E: Machine + Drop>(
     lives: &mut Vec<Lives<SessionRequest<E>>>,
     begun: &mut BegunLines,
     history: &mut Vec<Entry>,
-    session: SessionNo,
-    line: u32,
+    at: &SessionLine,
     command: &Command,
 ) -> Result<Outcome, NoMemory>
     requires built { is_built command.now ≡ true }
     requires room { vec_len history.old + 2 ≤ vec_capacity history.old }
-    ensures outcome { IfOk result (λ o. o ≡ outcome_of (submitted (has_line line begun.old) line command.now (client_in session lives.old.items))) }
-    ensures history { OnOk result (history.new.items ≡ noted_by history.old.items (submitted (has_line line begun.old) line command.now (client_in session lives.old.items))) }
-    ensures lives { let h = submitted (has_line line begun.old) line command.now (client_in session lives.old.items) in
-        OnOk result (DoesToLives (stands_of E.stands) (of_event.Submit session line command.now) h lives.old.items lives.new.items) }
-    ensures begun { let h = submitted (has_line line begun.old) line command.now (client_in session lives.old.items) in
+    ensures outcome { IfOk result (λ o. o ≡ outcome_of (submitted (has_line at.now.line begun.old) at.now.line command.now (client_in at.now.session lives.old.items))) }
+    ensures history { OnOk result (history.new.items ≡ noted_by history.old.items (submitted (has_line at.now.line begun.old) at.now.line command.now (client_in at.now.session lives.old.items))) }
+    ensures lives { let h = submitted (has_line at.now.line begun.old) at.now.line command.now (client_in at.now.session lives.old.items) in
+        OnOk result (DoesToLives (stands_of E.stands) (of_event.Submit at.now.session at.now.line command.now) h lives.old.items lives.new.items) }
+    ensures begun { let h = submitted (has_line at.now.line begun.old) at.now.line command.now (client_in at.now.session lives.old.items) in
         OnOk result ((l : ℕ) → has_line l begun.new ≡ begun_behind (λ l. has_line l begun.old) h l) }
     ensures err { OnErr result (lives.new.items ≡ lives.old.items) }
     ensures same { OnErr result ((l : ℕ) → has_line l begun.new ≡ has_line l begun.old) }
     ensures unnoted { OnErr result (history.new.items ≡ history.old.items) }
 {
     begun.reserve()?;
-    let is_begun = begun.has(line);
-    let outcome = submit_to(alloc, lives, history, session, line, command, is_begun)?;
+    let is_begun = begun.has(at.line);
+    let outcome = submit_to(alloc, lives, history, at, command, is_begun)?;
     if has_begun(&outcome) {
-        begun.add(line);
+        begun.add(at.line);
     }
     Ok(outcome)
 }
@@ -59,21 +65,20 @@ fn submit_to<E: Machine + Drop>(
     alloc: Global,
     lives: &mut Vec<Lives<SessionRequest<E>>>,
     history: &mut Vec<Entry>,
-    session: SessionNo,
-    line: u32,
+    at: &SessionLine,
     command: &Command,
     is_begun: bool,
 ) -> Result<Outcome, NoMemory>
     requires built { is_built command.now ≡ true }
     requires room { vec_len history.old + 2 ≤ vec_capacity history.old }
-    ensures outcome { IfOk result (λ o. o ≡ outcome_of (submitted is_begun line command.now (client_in session lives.old.items))) }
-    ensures history { OnOk result (history.new.items ≡ noted_by history.old.items (submitted is_begun line command.now (client_in session lives.old.items))) }
-    ensures lives { OnOk result (DoesToLives (stands_of E.stands) (of_event.Submit session line command.now) (submitted is_begun line command.now (client_in session lives.old.items)) lives.old.items lives.new.items) }
+    ensures outcome { IfOk result (λ o. o ≡ outcome_of (submitted is_begun at.now.line command.now (client_in at.now.session lives.old.items))) }
+    ensures history { OnOk result (history.new.items ≡ noted_by history.old.items (submitted is_begun at.now.line command.now (client_in at.now.session lives.old.items))) }
+    ensures lives { OnOk result (DoesToLives (stands_of E.stands) (of_event.Submit at.now.session at.now.line command.now) (submitted is_begun at.now.line command.now (client_in at.now.session lives.old.items)) lives.old.items lives.new.items) }
     ensures err { OnErr result (lives.new.items ≡ lives.old.items) }
     ensures unnoted { OnErr result (history.new.items ≡ history.old.items) }
 {
-    match lives.get_mut(session.0 as usize) {
-        Some(life) => submit_in(alloc, life, history, line, command, is_begun),
+    match lives.get_mut(at.session.0 as usize) {
+        Some(life) => submit_in(alloc, life, history, at.line, command, is_begun),
         None => Ok(Outcome::Nothing),
     }
 }

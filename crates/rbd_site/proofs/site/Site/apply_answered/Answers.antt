@@ -14,7 +14,7 @@ invariant_of-self c =
     let me = c.args.instance in
     let stands : r ≡ records_of c.args.self.now = c.self.invariant.kept ∙ ap records_of c.self.view_is in
     let may : MayDo r me c.args.op = subst (λ x. MayDo x me c.args.op) (sym stands) c.requires.may in
-    rw (c.push_reserved.ensures.items, c.perform.ensures.log)
+    rw (c.note.ensures, c.perform.ensures.log)
     (sound_more r (kept c.perform.new.store) c.self.inside.log.items
     (record { number = c.next_number-number.result; instance = Some me; op = done.Op c.args.op; answer = c.in-Ok.logged })
     c.self.invariant

@@ -16,7 +16,7 @@ invariant_of-self-2 c =
     let image = c.args.image in
     let oldest = c.in-Some.oldest in
     let is : oldest_of c.args.session (r.watchers image) ≡ Some oldest = sym c.oldest_watch.ensures ∙ c.in-Some.is in
-    rw (c.push_reserved.ensures.items, c.in_ok-reserve.ensures.items)
+    rw (c.note.ensures, c.in_ok-reserve.ensures.items)
     (sound_more r (kept c.expire.new.self) c.self.inside.log.items (expire_line c.next_number-number.result image oldest) c.self.invariant
     c.expire.ensures (refl, oldest_itself c.args.session (r.watchers image) oldest is, refl)
     (c.next_number-number.ensures ∙ ap (λ (s : SiteLog). length s.log + 1) (sym c.self.view_is))

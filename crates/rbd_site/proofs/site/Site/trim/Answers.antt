@@ -18,7 +18,7 @@ invariant_of-self-2 c =
     let done : kept c.trim.new.self ≡ trimmed image object r =
     c.trim.ensures
     ∙ ap (λ (live : List ℕ). with_object image object (option_map (mapped_trim live) (r.objects image object)) r) (c.as_slice.ensures.value ∙ c.in_ok-live.ensures) in
-    rw (c.push_reserved.ensures.items, c.in_ok-reserve.ensures.items)
+    rw (c.note.ensures, c.in_ok-reserve.ensures.items)
     (sound_more r (kept c.trim.new.self) c.self.inside.log.items (trim_line (c.next_number-number.result) image object) c.self.invariant
     done (refl, there, refl) (c.next_number-number.ensures ∙ ap (λ (s : SiteLog). length s.log + 1) (sym c.self.view_is))
     (subst (λ x. AreInForm x (length c.self.inside.log.items + 1)) (sym done)

@@ -1,0 +1,26 @@
+-- Who doesn't stand at its own look doesn't, whether it waits or not.
+use Rattle.std.proofs.Common.{◌≡◌, ℕ, Bool, true, false, Option, Some, None, refl, sym, ap, ◌∙◌, cond}
+use Rattle.rbd_kinds.specs.declared.image_at.ImageAt.{ImageAt}
+use Rattle.rbd_machine.specs.Plan.{Standing}
+use Rattle.rbd_session.specs.Advance.{track_of}
+use Rattle.rbd_session.specs.Lines.{LinesView}
+use Rattle.rbd_session.specs.Session.{going_in, kind_asked, own_look_in, own_look_of, running_in}
+use Rattle.rbd_session.specs.Waits.{waits}
+use Rattle.rbd_session.specs.declared.running.Occupant.{Occupant}
+use Rattle.rbd_session.specs.declared.running.Occupant.TheVariants as occupant
+use Rattle.rbd_session.specs.declared.running.Running.{Running}
+
+pub no_own_look : {R : Type 0} (stands : R → Standing) (slot : ℕ) (lines : LinesView) (o : Option (Occupant R)) (r : Running R) → running_in o ≡ Some r
+    → own_look_of slot (kind_asked (stands r.request).plan) r.place lines ≡ None → None ≡ own_look_in stands slot lines (going_in slot o lines)
+no_own_look {R} stands slot lines o r runs none = by o runs
+  where
+    goes : (q : Running R) → own_look_of slot (kind_asked (stands q.request).plan) q.place lines ≡ None → (w : Bool) → own_look_in stands slot lines (cond w None (Some q)) ≡ None
+    goes q none true = refl
+    goes q none false = none
+
+    by : (o : Option (Occupant R)) → running_in o ≡ Some r → None ≡ own_look_in stands slot lines (going_in slot o lines)
+    by None runs = refl
+    by (Some (occupant.Refused line refusal)) runs = refl
+    by (Some (occupant.Running q)) runs =
+        let same : q ≡ r = cc in
+        sym (goes q (ap (λ (x : Running R). own_look_of slot (kind_asked (stands x.request).plan) x.place lines) same ∙ none) (waits slot (track_of q lines)))
