@@ -1,6 +1,6 @@
 //! What one step leaves and what it does not touch: laws of the definition `after`, each the
 //! contract of a function that does nothing. They say no more than `after`, and say it of one byte,
-//! one image or one snapshot, as the proofs that stand on this crate need it.
+//! one image or one snapshot, as the proofs that depend on this crate need it.
 ghost use Rattle.std.specs.Prelude.{◌≡◌, ◌≢◌, ℕ, ◌+◌, ◌-◌, ◌<◌, ◌≤◌, ◌++◌, length, drop, slice_index, List, false, Some, ◌==◌, if◌then◌else◌};
 ghost use Rattle.std.specs.Option.{option_map};
 ghost use Rattle.std.specs.List.{range_with_len};
