@@ -32,4 +32,4 @@ returns-in-Ok-perform-clause-records c =
 pub returns-in-Ok-perform-clause-form : goal.returns-in-Ok-perform-clause-form
 returns-in-Ok-perform-clause-form c =
     let sound = invariant_of-self c in
-    subst (λ x. AreInForm x (length c.push_reserved.new.self.items)) sound.kept sound.form
+    subst (λ x. AreInForm x (length c.note.new.log.items)) sound.kept sound.form
