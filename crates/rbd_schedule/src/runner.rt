@@ -242,7 +242,9 @@ impl<E: Machine + Drop> Runner<E> {
         ensures sound { IsSoundWorld (stands_of E.stands) self.new.world }
         ensures rest { self.new ≡ record self.old { world = self.new.world } }
     {
-        self.world.step(alloc, &event)
+        let outcome = self.world.step(alloc, &event);
+        drop(event);
+        outcome
     }
 
     /// What came of an event is noted: the lines that have ended by it, from this place of the
