@@ -1,5 +1,5 @@
 pub mod About
-pub mod Acting
+pub mod Named
 pub mod Bounds
 pub mod Closed
 pub mod Decided

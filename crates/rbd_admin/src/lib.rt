@@ -68,7 +68,8 @@
 //! `specs/Snap.antt` also has the plans of the parts, `copying` and `removing`. The parts have the
 //! form of those of `rbd_zero`: their clauses hold for every plan that comes next, and a step tells
 //! a [`Progress`](rbd_machine::Progress). `specs/SnapParts.antt` says what is left of a part, and
-//! `specs/Snapping.antt` what is left of a request.
+//! `specs/Snapping.antt` what is left of a request of `snap create` or `snap rm`, in the words of
+//! `rbd_change`. `specs/SnapLaws.antt` has lemmas, and defines nothing.
 //!
 //! [`laws`] says how many operations each plan has at most, that none begins a part again, that the
 //! header of a new image is in form, that each plan is lawful from nothing known (`rbd_machine`),
@@ -95,9 +96,9 @@
 //!
 //! Each request has the step at which it stands, and each of its calls is a `match` on the step.
 //! [`ListRequest`] also serves `rename`, which like an `ls` has one operation and holds nothing.
-//! `snap create` and `snap rm` are one machine, since they differ only in what they refuse, in
-//! their event and in their part behind it. At the own look `ready` makes the part, and puts it
-//! beside the stage; it is taken from there once the event is noted.
+//! `snap create` and `snap rm` are the machine of `rbd_change`
+//! ([`ChangeRequest`](rbd_change::ChangeRequest)): a [`SnapChange`] says what they refuse, their
+//! event, and their part behind it, a [`SnapPart`].
 #![tactic(auto)]
 
 mod create;
@@ -112,5 +113,5 @@ mod used;
 pub use create::CreateRequest;
 pub use listing::ListRequest;
 pub use remove_snap::RemoveSnap;
-pub use snap::SnapRequest;
+pub use snap::{SnapChange, SnapPart, SnapRequest};
 pub use take_snap::TakeSnap;

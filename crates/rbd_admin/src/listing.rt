@@ -98,7 +98,7 @@ impl ListRequest {
     }
 
     /// Goes on with the answer to its operation.
-    #[tactic(auto, using(crate::proofs::Tells::list_tells, crate::proofs::Tells::states_tell, crate::proofs::Tells::rename_tells, rbd_machine::proofs::Tells::find_tells, rbd_machine::proofs::Tells::look_tells))]
+    #[tactic(auto, using(crate::proofs::Tells::list_tells, crate::specs::SnapLaws::states_tell, crate::proofs::Tells::rename_tells, rbd_machine::proofs::Tells::find_tells, rbd_machine::proofs::Tells::look_tells))]
     fn answer(&mut self, answer: &Answer) -> Turn
         requires can { CanBeFed (rest_of_list self.old) (fed_with.Answer answer.now) }
         requires ready { HasReply self.old answer.now }

@@ -1,24 +1,21 @@
 //! `snap create` and `snap rm`
-ghost use Rattle.std.specs.Prelude.{◌≡◌, true, Some, None, is_some, if◌then◌else◌, IfOk, OnOk};
-ghost use Rattle.rbd_kinds.specs.declared.machine.Fed.TheVariants as fed_with;
+ghost use Rattle.std.specs.Prelude.{◌≡◌, Some, None, is_some, if◌then◌else◌};
 ghost use Rattle.rbd_kinds.specs.Header.{snap_named};
 ghost use Rattle.rbd_header.specs.Header.{is_full as lists_all};
-ghost use Rattle.rbd_machine.specs.Answers.{CanBeFed};
-ghost use Rattle.rbd_machine.specs.Plan.{GoesOn, Goto, Note, Plan, Wants, Asks, plan_after, without_labels};
-ghost use Rattle.rbd_machine.specs.Ready.{IsReadyFor};
-ghost use Rattle.rbd_machine.specs.Steps.{Progresses, applied, change as change_of};
 ghost use Rattle.rbd_meaning.specs.Snaps.{removal_refusal, is_unprotected};
 ghost use Rattle.rbd_admin.specs.Snap.{is_snap, snap_plan};
-ghost use Rattle.rbd_admin.specs.Snapping.{rest_of_snap, rest_of_act, rest_of_acted, refuses_by, does_by, refuses_of, does, event_of, owning_in, IsApproaching, IsActReady, IsReady, TellsAct};
+ghost use Rattle.rbd_admin.specs.Snapping.{rest_of_part, TellsPart, IsPartReady, refuses_of, event_of, does};
+ghost use Rattle.rbd_admin.specs.SnapLaws.{part_asks, part_tells};
 
 use crate::remove_snap::RemoveSnap;
 use crate::take_snap::TakeSnap;
+use rbd_change::{Change, ChangeRequest, Part};
 use rbd_header::is_full;
 use rbd_kinds::{
-    Answer, Command, Event, Fed, HeaderView, ImageId, Name, NoMemory, Op, Refusal, Reply, Sharing,
-    SiteId, SnapStatus, TryClone, Turn, Want,
+    Answer, Command, Event, HeaderView, ImageId, Name, NoMemory, Op, Refusal, SiteId, SnapStatus,
+    TryClone, Want,
 };
-use rbd_machine::{Approach, Machine, Progress, Reason, Refuses, non_primary};
+use rbd_machine::{Progress, Refuses, non_primary};
 use std::alloc::Global;
 
 /// Takes a snapshot of an image, or removes one.
@@ -37,27 +34,11 @@ use std::alloc::Global;
 /// ```
 ///
 /// Each operation may be answered `fenced`, which ends the request with Fenced.
-#[derive(Debug, Drop)]
-pub struct SnapRequest {
-    site: SiteId,
-    change: SnapChange,
-    stage: Stage,
-    /// What is done behind the event, once the own look told the header.
-    act: Option<Act>,
-}
-
-/// A stage of it, with its image once it is found.
-#[derive(Debug, Drop)]
-enum Stage {
-    Approaching(Approach),
-    Noting(ImageId),
-    Acting(ImageId, Act),
-    Applying(ImageId),
-}
+pub type SnapRequest = ChangeRequest<SnapChange, SnapPart>;
 
 /// What is to be done to the snapshot of a name.
 #[derive(Debug, Drop)]
-struct SnapChange {
+pub struct SnapChange {
     kind: ChangeKind,
     snap: Name,
 }
@@ -68,143 +49,71 @@ enum ChangeKind {
     Remove,
 }
 
-/// What is done behind the event.
+/// What is done behind the event of a change of a snapshot.
 #[derive(Debug, Drop)]
-enum Act {
+pub enum SnapPart {
     Take(TakeSnap),
     Remove(RemoveSnap),
 }
 
-impl SnapRequest {
-    /// The request of a `snap create` or a `snap rm` at a site. It takes no memory.
-    pub fn new(home: SiteId, command: Command) -> Self
-        requires { is_snap command ≡ true }
-        ensures { rest_of_snap result ≡ snap_plan home command }
-    {
+impl Change for SnapChange {
+    type Part = SnapPart;
+
+    ghost serves = { is_snap };
+
+    ghost plan = { snap_plan };
+
+    ghost noted = { event_of };
+
+    ghost does = { does };
+
+    fn from_command(command: Command) -> (Name, Self) {
         match command {
             Command::SnapCreate { image, snap } => {
-                Self::begin(
-                    home,
-                    image.into_name(),
-                    ChangeKind::Create,
-                    snap.into_name(),
-                )
+                let change = SnapChange {
+                    kind: ChangeKind::Create,
+                    snap: snap.into_name(),
+                };
+                (image.into_name(), change)
             }
             Command::SnapRemove { image, snap } => {
-                Self::begin(
-                    home,
-                    image.into_name(),
-                    ChangeKind::Remove,
-                    snap.into_name(),
-                )
+                let change = SnapChange {
+                    kind: ChangeKind::Remove,
+                    snap: snap.into_name(),
+                };
+                (image.into_name(), change)
             }
             _ => unreachable!(),
         }
     }
 
-    /// Begins a change of a snapshot of an image.
-    fn begin(site: SiteId, image: Name, kind: ChangeKind, snap: Name) -> Self
-        ensures { rest_of_snap result ≡ change_of site image Sharing.Alone (refuses_by kind snap) (does_by kind site snap) }
-    {
-        SnapRequest {
-            site,
-            change: SnapChange { kind, snap },
-            stage: Stage::Approaching(Approach::new(site, image, Sharing::Alone)),
-            act: None,
-        }
-    }
-
-    /// The image, where it approaches and is at its own look.
-    fn owning(&self) -> Option<ImageId>
-        ensures { result ≡ owning_in self.now.stage }
-    {
-        match &self.stage {
-            Stage::Approaching(way) => way.owning(),
-            _ => None,
-        }
-    }
-
-    /// Takes the memory for its own look.
-    fn ready_act(&mut self, answer: &Answer) -> Result<(), NoMemory>
-        requires at { IsApproaching self.old.stage }
-        requires can { CanBeFed (rest_of_snap self.old) (fed_with.Answer answer.now) }
-        ensures rest { rest_of_snap self.new ≡ rest_of_snap self.old }
-        ensures ready { OnOk result (IsReady self.new answer.now) }
-    {
-        let Some(image) = self.owning() else {
-            return Ok(());
-        };
-        let Answer::Header(header) = answer else {
-            return Ok(());
-        };
-        if self.change.refusal(header).is_some() {
-            return Ok(());
-        }
-        self.act = Some(self.change.act(self.site, image, header)?);
-        Ok(())
-    }
-
-    /// Goes on with its way to its own look, and from there.
-    fn approach(&mut self, fed: &Fed) -> Turn
-        requires at { IsApproaching self.old.stage }
-        requires can { CanBeFed (rest_of_snap self.old) fed.now }
-        requires ready { IsReadyFor (IsReady self.old) fed.now }
-        ensures { GoesOn Goto (plan_after (rest_of_snap self.old) fed.now) result (without_labels (rest_of_snap self.new)) }
-    {
-        let Stage::Approaching(way) = &mut self.stage else {
-            unreachable!()
-        };
-        match way.feed(&self.change, fed) {
-            Progress::More => Turn::More,
-            Progress::Refused(refusal) => Turn::Done(Reply::Refused(refusal)),
-            Progress::Ended(image) => {
-                self.stage = Stage::Noting(image);
-                Turn::More
-            }
-        }
-    }
-
-    /// Goes on behind its event, with what its own look made.
-    fn begin_act(&mut self, image: ImageId) -> Turn
-        ensures { GoesOn Goto (rest_of_acted self.old.act (applied self.old.site image)) result (without_labels (rest_of_snap self.new)) }
-    {
-        self.stage = match self.act.take() {
-            Some(act) => Stage::Acting(image, act),
-            None => Stage::Applying(image),
-        };
-        Turn::More
-    }
-}
-
-impl SnapChange {
-    /// What is done behind the event, by a header that refuses nothing.
-    fn act(&self, site: SiteId, image: ImageId, header: &HeaderView) -> Result<Act, NoMemory>
-        requires { refuses_of self.now header.now ≡ None }
-        ensures { IfOk result (λ act. Note site image (event_of self.now) (rest_of_act act (applied site image)) ≡ does site self.now image header.now) }
-    {
-        match self.kind {
-            ChangeKind::Create => {
-                let name = self.snap.try_clone()?;
-                Ok(Act::Take(TakeSnap::new(site, image, header, name)))
-            }
-            ChangeKind::Remove => {
-                let Some(listed) = header.named(&self.snap) else {
-                    unreachable!()
-                };
-                Ok(Act::Remove(RemoveSnap::new(site, image, header, listed)))
-            }
-        }
-    }
-
-    /// Its event.
-    fn event(&self) -> Result<Event, NoMemory>
-        ensures { IfOk result (λ event. event ≡ event_of self.now) }
-    {
+    fn event(&self) -> Result<Event, NoMemory> {
         let name = self.snap.try_clone()?;
         Ok(match self.kind {
             ChangeKind::Create => Event::SnapCreate { name },
             ChangeKind::Remove => Event::SnapRemove { name },
         })
+    }
+
+    fn part(
+        &self,
+        _alloc: Global,
+        site: SiteId,
+        image: ImageId,
+        header: &HeaderView,
+    ) -> Result<SnapPart, NoMemory> {
+        match self.kind {
+            ChangeKind::Create => {
+                let name = self.snap.try_clone()?;
+                Ok(SnapPart::Take(TakeSnap::new(site, image, header, name)))
+            }
+            ChangeKind::Remove => {
+                let Some(listed) = header.named(&self.snap) else {
+                    unreachable!()
+                };
+                Ok(SnapPart::Remove(RemoveSnap::new(site, image, header, listed)))
+            }
+        }
     }
 }
 
@@ -259,121 +168,42 @@ fn protection(status: SnapStatus) -> Option<Refusal>
     }
 }
 
-impl Act {
-    fn wants(&self) -> Want
-        ensures { (next : Plan) → Wants (rest_of_act self.now next) result }
-    {
-        match self {
-            Act::Take(take) => take.wants(),
-            Act::Remove(remove) => remove.wants(),
-        }
-    }
+impl Part for SnapPart {
+    ghost rest = { rest_of_part };
 
-    fn next(&self) -> Result<Op, NoMemory>
-        ensures { (next : Plan) → IfOk result (Asks (rest_of_act self.now next)) }
-    {
-        match self {
-            Act::Take(take) => take.next(),
-            Act::Remove(remove) => remove.next(),
-        }
-    }
+    ghost tells = { TellsPart };
 
-    fn ready(&mut self, answer: &Answer) -> Result<(), NoMemory>
-        ensures rest { (next : Plan) → rest_of_act self.new next ≡ rest_of_act self.old next }
-        ensures ready { OnOk result (IsActReady self.new answer.now) }
-    {
-        match self {
-            Act::Take(take) => take.ready(answer),
-            Act::Remove(_) => Ok(()),
-        }
-    }
-
-    fn feed(&mut self, answer: &Answer) -> Progress<()>
-        requires tells { TellsAct self.old answer.now }
-        requires ready { IsActReady self.old answer.now }
-        ensures { (next : Plan) → Progresses next (plan_after (rest_of_act self.old next) (fed_with.Answer answer.now)) result (rest_of_act self.new next) }
-    {
-        match self {
-            Act::Take(take) => take.feed(answer),
-            Act::Remove(remove) => remove.feed(answer),
-        }
-    }
-}
-
-impl Machine for SnapRequest {
-    ghost stands = { λ r. without_labels (rest_of_snap r) };
-
-    ghost is_ready = { IsReady };
+    ghost is_ready = { IsPartReady };
 
     fn wants(&self) -> Want {
-        let site = self.site;
-        match &self.stage {
-            Stage::Approaching(way) => way.wants(),
-            Stage::Noting(image) => Want::Note {
-                site,
-                image: *image,
-            },
-            Stage::Acting(_, act) => act.wants(),
-            Stage::Applying(image) => Want::Applied {
-                site,
-                image: *image,
-            },
+        match self {
+            SnapPart::Take(take) => take.wants(),
+            SnapPart::Remove(remove) => remove.wants(),
         }
     }
 
-    fn next(&self, _alloc: Global) -> Result<Op, NoMemory> {
-        match &self.stage {
-            Stage::Approaching(way) => way.next(),
-            Stage::Noting(_) => unreachable!(),
-            Stage::Acting(_, act) => act.next(),
-            Stage::Applying(_) => unreachable!(),
+    fn next(&self) -> Result<Op, NoMemory> {
+        match self {
+            SnapPart::Take(take) => take.next(),
+            SnapPart::Remove(remove) => remove.next(),
         }
     }
 
-    fn reason(&self) -> Reason {
-        Reason::Own
-    }
-
-    fn event(&self, _alloc: Global) -> Result<Option<Event>, NoMemory> {
-        match &self.stage {
-            Stage::Noting(_) => Ok(Some(self.change.event()?)),
-            _ => Ok(None),
+    fn ready(&mut self, _alloc: Global, answer: &Answer) -> Result<(), NoMemory> {
+        match self {
+            SnapPart::Take(take) => take.ready(answer),
+            SnapPart::Remove(_) => Ok(()),
         }
     }
 
-    fn ready(&mut self, _alloc: Global, fed: &Fed) -> Result<(), NoMemory> {
-        let Fed::Answer(answer) = fed else {
-            return Ok(());
-        };
-        match &mut self.stage {
-            Stage::Approaching(_) => self.ready_act(answer),
-            Stage::Acting(_, act) => act.ready(answer),
-            _ => Ok(()),
+    fn feed(&mut self, answer: &Answer) -> Progress<()> {
+        match self {
+            SnapPart::Take(take) => take.feed(answer),
+            SnapPart::Remove(remove) => remove.feed(answer),
         }
     }
 
-    #[tactic(auto, using(crate::proofs::Tells::act_tells))]
-    fn feed(&mut self, fed: &Fed) -> Turn {
-        match &mut self.stage {
-            Stage::Approaching(_) => self.approach(fed),
-            Stage::Noting(image) => {
-                let image = *image;
-                self.begin_act(image)
-            }
-            Stage::Acting(image, act) => {
-                let Fed::Answer(answer) = fed else {
-                    unreachable!()
-                };
-                match act.feed(answer) {
-                    Progress::More => Turn::More,
-                    Progress::Ended(()) => {
-                        self.stage = Stage::Applying(*image);
-                        Turn::More
-                    }
-                    Progress::Refused(refusal) => Turn::Done(Reply::Refused(refusal)),
-                }
-            }
-            Stage::Applying(_) => Turn::Done(Reply::Done),
-        }
-    }
+    ghost asks = { part_asks };
+
+    ghost told = { part_tells };
 }

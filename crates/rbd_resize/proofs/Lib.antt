@@ -9,6 +9,5 @@ pub mod Owned
 pub mod Refusing
 pub mod Restored
 pub mod Rolled
-pub mod Sized
 pub mod Splits
 pub mod Whole

@@ -1,12 +1,14 @@
 -- Where a rollback stands, as a part of a request and as a request.
-use Rattle.std.specs.Prelude.{◌≡◌, ℕ, Option, Some, None}
+use Rattle.std.specs.Prelude.{ℕ, Option}
+use Rattle.rbd_commands.specs.declared.refusal.Refusal.{Refusal}
 use Rattle.rbd_kinds.specs.declared.answer.Answer.{Answer}
-use Rattle.rbd_kinds.specs.declared.answer.Answer.TheVariants as answer
 use Rattle.rbd_kinds.specs.declared.header.HeaderView.{HeaderView}
+use Rattle.rbd_kinds.specs.declared.id.SiteId.{SiteId}
+use Rattle.rbd_kinds.specs.declared.journal.Event.{Event}
 use Rattle.rbd_kinds.specs.declared.journal.Event.TheVariants as event
-use Rattle.rbd_machine.specs.Approach.{rest_of, owning_at}
-use Rattle.rbd_machine.specs.Plan.{Plan, Note}
-use Rattle.rbd_machine.specs.Steps.{applied}
+use Rattle.rbd_machine.specs.Plan.{Plan}
+use Rattle.rbd_change.specs.Request as of_change
+use Rattle.rbd_change.specs.declared.request.ChangeRequest.{ChangeRequest}
 use Rattle.rbd_meaning.specs.Rollbacks.{rollback_refuses}
 use Rattle.rbd_zero.specs.Size as of_size
 use Rattle.rbd_zero.specs.Size.{rest_of_size}
@@ -16,9 +18,7 @@ use Rattle.rbd_resize.specs.Rollback.{roll_back_to}
 use Rattle.rbd_resize.specs.declared.rollback.Rollback.{Rollback}
 use Rattle.rbd_resize.specs.declared.rollback.Stage as part
 use Rattle.rbd_resize.specs.declared.rollback.Stage.TheVariants as part_stage
-use Rattle.rbd_resize.specs.declared.rollback_request.RollbackRequest.{RollbackRequest}
-use Rattle.rbd_resize.specs.declared.rollback_request.Stage.{Stage}
-use Rattle.rbd_resize.specs.declared.rollback_request.Stage.TheVariants as stage
+use Rattle.rbd_resize.specs.declared.rollback_request.RollbackChange.{RollbackChange}
 
 -- ---- the part
 
@@ -46,44 +46,23 @@ IsPartReadyAt (part_stage.Restoring objects) = of_restore.IsReady objects
 abbrev pub IsPartReady : Rollback → Answer → Type 0
 IsPartReady r = IsPartReadyAt r.stage
 
+-- ---- the change of the request: what it refuses, its event, and what it does then
+
+abbrev pub refuses_of : RollbackChange → HeaderView → Option Refusal
+refuses_of change = rollback_refuses change.snap
+
+abbrev pub event_of : RollbackChange → Event
+event_of change = event.SnapRollback change.snap
+
+abbrev pub does : RollbackChange → SiteId → (image : ℕ) → HeaderView → Plan
+does change site = roll_back_to site change.snap
+
 -- ---- the request
 
--- the rollback that is left to do
-abbrev pub rest_of_rolled : Option Rollback → (next : Plan) → Plan
-rest_of_rolled None next = next
-rest_of_rolled (Some rollback) next = rest_of_rollback rollback next
-
-abbrev pub noting : RollbackRequest → (image : ℕ) → Plan
-noting r image = Note r.site image (event.SnapRollback r.target.snap) (rest_of_rolled r.rolled (applied r.site image))
-
-abbrev pub rest_at : Stage → RollbackRequest → Plan
-rest_at (stage.Approaching way) r = rest_of way (rollback_refuses r.target.snap) (roll_back_to r.site r.target.snap)
-rest_at (stage.Noting image) r = noting r image
-rest_at (stage.Rolling image rollback) r = rest_of_rollback rollback (applied r.site image)
-rest_at (stage.Applying image) r = applied r.site image
-
 -- what is left of one
-abbrev pub rest_of_rollback_request : RollbackRequest → Plan
-rest_of_rollback_request r = rest_at r.stage r
+abbrev pub rest_of_rollback_request : ChangeRequest RollbackChange Rollback → Plan
+rest_of_rollback_request r = of_change.rest_of_change refuses_of event_of does rest_of_rollback r
 
-abbrev pub IsApproaching : Stage → Type 0
-IsApproaching (stage.Approaching way) = Unit {0}
-IsApproaching _ = ⊥
-
--- the image, where it approaches and is at its own look
-abbrev pub owning_in : Stage → Option ℕ
-owning_in (stage.Approaching way) = owning_at way.stage
-owning_in _ = None
-
--- ---- the memory that an answer needs: at the own look, the rollback
-
-abbrev pub HasRollback : RollbackRequest → HeaderView → Type 0
-HasRollback r h = (image : ℕ) → owning_in r.stage ≡ Some image → rollback_refuses r.target.snap h ≡ None → noting r image ≡ roll_back_to r.site r.target.snap image h
-
-abbrev pub IsReadyAt : Stage → RollbackRequest → Answer → Type 0
-IsReadyAt (stage.Approaching way) r (answer.Header h) = HasRollback r h
-IsReadyAt (stage.Rolling image rollback) r a = IsPartReady rollback a
-IsReadyAt _ r a = Unit {0}
-
-abbrev pub IsReady : RollbackRequest → Answer → Type 0
-IsReady r a = IsReadyAt r.stage r a
+-- the memory that an answer needs
+abbrev pub IsReady : ChangeRequest RollbackChange Rollback → Answer → Type 0
+IsReady r a = of_change.IsReady refuses_of event_of does rest_of_rollback IsPartReady r a

@@ -49,11 +49,12 @@
 //! # Contracts
 //!
 //! Both requests meet the contract of `Machine` in `rbd_machine`: each step is the next of a *plan*,
-//! a tree of steps, and the definitions here are the plans. [`Rollback`] is a part of a request, in
-//! the form of those of `rbd_zero`: its clauses hold for every plan that comes next, and a step
-//! tells a [`Progress`](rbd_machine::Progress). They are read in this order, after those of
-//! `rbd_zero`; what the commands refuse, what they have done, and what their replies mean stands in
-//! `Resizes` and `Rollbacks` of `rbd_meaning`, and how many objects a size has in its `Count`.
+//! a tree of steps, and the definitions here are the plans. [`NewSize`] and [`Rollback`] are what
+//! they do behind their event ([`Part`](rbd_change::Part)): their clauses hold for every plan that
+//! comes next, and a step tells a [`Progress`](rbd_machine::Progress). The definitions are read in
+//! this order, after those of `rbd_zero` and `rbd_change`; what the commands refuse, what they have
+//! done, and what their replies mean stands in `Resizes` and `Rollbacks` of `rbd_meaning`, and how
+//! many objects a size has in its `Count`.
 //!
 //! | file | what it says |
 //! |---|---|
@@ -61,6 +62,7 @@
 //! | `specs/Rollback.antt` | `roll_back`, the plan of the part, and `rollback`, that of the request |
 //! | `specs/Restore.antt` | where the objects of a head stand that are restored |
 //! | `specs/Rolling.antt` | what is left of a rollback, as a part and as a request |
+//! | `specs/PartLaws.antt` | lemmas on both parts; it defines nothing |
 //! | `specs/Told.antt` | the words of the law on how many operations they have |
 //!
 //! [`laws`] says what such plans come to: what is done where a request is done, that each reply is
@@ -81,11 +83,12 @@
 //!
 //! # How it works
 //!
-//! A request goes through stages: the way to its own look is `Approach` of `rbd_machine`. At that
-//! look `ready` makes what it does then, a `Size` or a [`Rollback`], and puts it beside the stage;
-//! it is taken from there once the event is noted. A [`Rollback`] is a `Size` and then the objects:
-//! these hold the piece that is restored and a queue of those after it, with the header at the new
-//! size, by whose invariant each piece has all bytes that the head has in its object.
+//! Both requests are the machine of `rbd_change` ([`ChangeRequest`](rbd_change::ChangeRequest)): a
+//! [`SizeChange`] and a [`RollbackChange`] say why they are refused, their event, and what is done
+//! behind it. That is a [`NewSize`], which holds a `Size` of `rbd_zero`, or a [`Rollback`]. A
+//! [`Rollback`] is a `Size` and then the objects: these hold the piece that is restored and a queue
+//! of those after it, with the header at the new size, by whose invariant each piece has all bytes
+//! that the head has in its object.
 #![tactic(auto)]
 
 mod few;
@@ -95,6 +98,6 @@ mod restore;
 mod rollback;
 mod rollback_request;
 
-pub use resize::ResizeRequest;
+pub use resize::{NewSize, ResizeRequest, SizeChange};
 pub use rollback::Rollback;
-pub use rollback_request::RollbackRequest;
+pub use rollback_request::{RollbackChange, RollbackRequest};

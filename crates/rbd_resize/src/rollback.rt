@@ -1,17 +1,18 @@
 //! A head that becomes what it was at a snapshot.
-ghost use Rattle.std.specs.Prelude.{◌≡◌, IfOk, OnOk};
-ghost use Rattle.rbd_kinds.specs.declared.machine.Fed.TheVariants as fed_with;
+ghost use Rattle.std.specs.Prelude.{◌≡◌, IfOk};
 ghost use Rattle.rbd_kinds.specs.Form.{IsHeaderInForm, IsSnapInForm};
-ghost use Rattle.rbd_machine.specs.Plan.{Plan, Wants, Asks, plan_after};
+ghost use Rattle.rbd_machine.specs.Plan.{Plan};
 ghost use Rattle.rbd_machine.specs.Steps.{Progresses};
 ghost use Rattle.rbd_header.specs.Header.{cut as cut_link};
 ghost use Rattle.rbd_meaning.specs.Rollbacks.{at_size as head_at_size};
+ghost use Rattle.rbd_resize.specs.PartLaws.{rollback_asks, rollback_tells};
 ghost use Rattle.rbd_resize.specs.Restore.{rest_of_some};
 ghost use Rattle.rbd_resize.specs.Rolling as rolling;
 ghost use Rattle.rbd_resize.specs.Rolling.{rest_of_rollback};
 ghost use Rattle.rbd_resize.specs.Rollback.{restore_all, roll_back};
 
 use crate::restore::Restore;
+use rbd_change::Part;
 use rbd_kinds::{
     Answer, HeaderView, ImageId, NoMemory, Op, ParentLink, SiteId, SnapView, TryClone, Want,
 };
@@ -65,56 +66,6 @@ impl Rollback {
         })
     }
 
-    /// What it wants.
-    pub fn wants(&self) -> Want
-        ensures { (next : Plan) → Wants (rest_of_rollback self.now next) result }
-    {
-        match &self.stage {
-            Stage::Sizing(size, _) => size.wants(),
-            Stage::Restoring(objects) => objects.wants(),
-        }
-    }
-
-    /// The operation that it wants.
-    pub fn next(&self) -> Result<Op, NoMemory>
-        ensures { (next : Plan) → IfOk result (Asks (rest_of_rollback self.now next)) }
-    {
-        match &self.stage {
-            Stage::Sizing(size, _) => size.next(),
-            Stage::Restoring(objects) => objects.next(),
-        }
-    }
-
-    /// Takes the memory for an answer.
-    pub fn ready(&mut self, alloc: Global, answer: &Answer) -> Result<(), NoMemory>
-        ensures rest { (next : Plan) → rest_of_rollback self.new next ≡ rest_of_rollback self.old next }
-        ensures ready { OnOk result (rolling.IsPartReady self.new answer.now) }
-    {
-        match &mut self.stage {
-            Stage::Sizing(size, _) => size.ready(alloc, answer),
-            Stage::Restoring(objects) => objects.ready(alloc, answer),
-        }
-    }
-
-    /// Goes on with an answer that it has the memory for.
-    pub fn feed(&mut self, answer: &Answer) -> Progress<()>
-        requires tells { rolling.Tells self.old answer.now }
-        requires ready { rolling.IsPartReady self.old answer.now }
-        ensures { (next : Plan) → Progresses next (plan_after (rest_of_rollback self.old next) (fed_with.Answer answer.now)) result (rest_of_rollback self.new next) }
-    {
-        match &mut self.stage {
-            Stage::Sizing(size, objects) => match size.feed(answer) {
-                Progress::More => Progress::More,
-                Progress::Ended(()) => {
-                    let objects = objects.take();
-                    self.begin_objects(objects)
-                }
-                Progress::Refused(refusal) => Progress::Refused(refusal),
-            },
-            Stage::Restoring(objects) => objects.feed(answer),
-        }
-    }
-
     /// Goes on to the objects, if there are some.
     fn begin_objects(&mut self, objects: Option<Restore>) -> Progress<()>
         ensures { (next : Plan) → Progresses next (rest_of_some objects next) result (rest_of_rollback self.new next) }
@@ -134,6 +85,53 @@ impl Rollback {
     {
         drop(replace(&mut self.stage, stage));
     }
+}
+
+impl Part for Rollback {
+    ghost rest = { rest_of_rollback };
+
+    ghost tells = { rolling.Tells };
+
+    ghost is_ready = { rolling.IsPartReady };
+
+    fn wants(&self) -> Want {
+        match &self.stage {
+            Stage::Sizing(size, _) => size.wants(),
+            Stage::Restoring(objects) => objects.wants(),
+        }
+    }
+
+    fn next(&self) -> Result<Op, NoMemory> {
+        match &self.stage {
+            Stage::Sizing(size, _) => size.next(),
+            Stage::Restoring(objects) => objects.next(),
+        }
+    }
+
+    fn ready(&mut self, alloc: Global, answer: &Answer) -> Result<(), NoMemory> {
+        match &mut self.stage {
+            Stage::Sizing(size, _) => size.ready(alloc, answer),
+            Stage::Restoring(objects) => objects.ready(alloc, answer),
+        }
+    }
+
+    fn feed(&mut self, answer: &Answer) -> Progress<()> {
+        match &mut self.stage {
+            Stage::Sizing(size, objects) => match size.feed(answer) {
+                Progress::More => Progress::More,
+                Progress::Ended(()) => {
+                    let objects = objects.take();
+                    self.begin_objects(objects)
+                }
+                Progress::Refused(refusal) => Progress::Refused(refusal),
+            },
+            Stage::Restoring(objects) => objects.feed(answer),
+        }
+    }
+
+    ghost asks = { rollback_asks };
+
+    ghost told = { rollback_tells };
 }
 
 /// The objects of the head at the size of a snapshot, which become what they were there.

@@ -1,5 +1,5 @@
 -- Where a new size stands, and the pieces that it zeros.
-use Rattle.std.proofs.Common.{◌≡◌, ℕ, zero, suc, ◌+◌, ◌≤◌, ◌<◌, true, false, cond, List, [], ◌∷◌, ◌++◌, All, length, get_or, None, refl, ap, ◌∙◌, sym, subst, arith}
+use Rattle.std.proofs.Common.{◌≡◌, ℕ, zero, suc, ◌+◌, ◌≤◌, ◌<◌, true, false, cond, List, [], ◌∷◌, ◌++◌, All, length, get_or, Option, Some, None, refl, ap, ◌∙◌, sym, subst, arith}
 use Rattle.std.specs.Prelude.{filter}
 use Rattle.std.proofs.lemmas.Bool.{le-leb, lt-leb}
 use Rattle.rbd_kinds.specs.declared.header.HeaderView.{HeaderView}
@@ -18,7 +18,7 @@ use Rattle.rbd_machine.specs.Plan.{Plan, AsksBy, IsLive, Notes}
 use Rattle.rbd_machine.specs.declared.reason.Reason.TheVariants as reason
 use Rattle.rbd_zero.specs.Full as full
 use Rattle.rbd_zero.specs.Shrink.{has_bytes}
-use Rattle.rbd_zero.specs.Size.{growing, resize, resize_by, rest_from, rest_of_zeros, shrinking, sizing, zero_pieces}
+use Rattle.rbd_zero.specs.Size.{growing, resize, resize_by, rest_from, rest_of_some, rest_of_zeros, shrinking, sizing, zero_pieces}
 use Rattle.rbd_zero.specs.Zero as zeros
 use Rattle.rbd_zero.specs.declared.full_piece.Way.{Way}
 use Rattle.rbd_zero.specs.declared.full_piece.Way.TheVariants as way
@@ -150,9 +150,13 @@ first_of_head h p pieces each = each 0 p (omega arith)
 pub rest_of_head : (h : HeaderView) (p : Piece) (pieces : List Piece) → All (λ (q : Piece). zeros.IsOfHead h q.object) (p ∷ pieces) → All (λ (q : Piece). zeros.IsOfHead h q.object) pieces
 rest_of_head h p pieces each = λ k d below. each (suc k) d (omega arith)
 
-rest_of_more : (made : List ZeroPiece) (z : ZeroPiece) (next : Plan) → rest_of_zeros (made ++ z ∷ []) next ≡ rest_of_zeros made (zeros.rest_of_zero z next)
+pub rest_of_more : (made : List ZeroPiece) (z : ZeroPiece) (next : Plan) → rest_of_zeros (made ++ z ∷ []) next ≡ rest_of_zeros made (zeros.rest_of_zero z next)
 rest_of_more [] z next = refl
 rest_of_more (y ∷ made) z next = ap (zeros.rest_of_zero y) (rest_of_more made z next)
+
+pub none_is_left : (some : Option ZeroPiece) (next : Plan) → ((z : ZeroPiece) → some ≡ Some z → ⊥) → next ≡ rest_of_some some next
+none_is_left None next none = refl
+none_is_left (Some z) next none = absurd (none z refl)
 
 module _ (site : SiteId) (image : ℕ) (h : HeaderView) (bits : List ℕ) where
   pub passed_over : (made : List ZeroPiece) (p : Piece) (pieces : List Piece) (next : Plan) → has_bytes h bits p ≡ false

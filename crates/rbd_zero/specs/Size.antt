@@ -1,5 +1,5 @@
 -- The size of the head is set.
-use Rattle.std.specs.Prelude.{◌≡◌, ℕ, nat_le, Bool, true, false, List, [], ◌∷◌, ◌++◌}
+use Rattle.std.specs.Prelude.{◌≡◌, ℕ, nat_le, Bool, true, false, List, [], ◌∷◌, ◌++◌, Option, Some, None}
 use Rattle.rbd_kinds.specs.declared.answer.Answer.{Answer}
 use Rattle.rbd_kinds.specs.declared.answer.Answer.TheVariants as answer
 use Rattle.rbd_kinds.specs.declared.header.HeaderView.{HeaderView}
@@ -51,6 +51,11 @@ resize site image h to objects next = resize_by (nat_le h.size to) site image h 
 abbrev pub rest_of_zeros : List ZeroPiece → (next : Plan) → Plan
 rest_of_zeros [] next = next
 rest_of_zeros (z ∷ pieces) next = rest_of_zero z (rest_of_zeros pieces next)
+
+-- a piece, where there is one
+abbrev pub rest_of_some : Option ZeroPiece → (next : Plan) → Plan
+rest_of_some None next = next
+rest_of_some (Some z) next = rest_of_zero z next
 
 abbrev pub rest_from : Stage → Size → (next : Plan) → Plan
 rest_from (stage.Growing objects to) s next = growing s.site s.image to objects next

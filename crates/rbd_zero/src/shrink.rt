@@ -1,11 +1,11 @@
 //! What a shrink zeros before it sets the size.
-ghost use Rattle.std.specs.Prelude.{◌≡◌, ◌<◌, ◌≤◌, List, ◌∷◌, filter, IfOk, OnOk};
+ghost use Rattle.std.specs.Prelude.{◌≡◌, ◌<◌, ◌≤◌, List, ◌∷◌, filter, IfOk};
 ghost use Rattle.rbd_kinds.specs.Form.{IsHeaderInForm};
 ghost use Rattle.rbd_header.specs.Header as of_header;
 ghost use Rattle.rbd_layout.specs.declared.types.Piece as of_piece;
 ghost use Rattle.rbd_machine.specs.Plan.{Plan};
 ghost use Rattle.rbd_zero.specs.Shrink as of_shrink;
-ghost use Rattle.rbd_zero.specs.Size.{rest_of_zeros, zero_pieces};
+ghost use Rattle.rbd_zero.specs.Size.{rest_of_some, rest_of_zeros, zero_pieces};
 ghost use Rattle.rbd_zero.specs.Zero.{IsOfHead};
 
 use crate::states::state_in;
@@ -89,7 +89,9 @@ fn zeros(
     let listed = pieces(alloc, &header.layout, &extent)?;
     let mut made = VecDeque::new(alloc);
     for piece in listed {
-        add(alloc, &mut made, target, header, &context, bits, piece)?;
+        if let Some(zeros) = zeros_of(alloc, target, header, &context, bits, piece)? {
+            made.push_back(zeros)?;
+        }
     }
     Ok(made)
 }
@@ -105,30 +107,28 @@ fn head_from(header: &HeaderView, to: u64) -> Extent
     }
 }
 
-/// Adds the zeros of a piece, or passes it over.
-fn add(
+/// The zeros of a piece, and `None` where its object has no bytes.
+fn zeros_of(
     alloc: Global,
-    made: &mut VecDeque<ZeroPiece>,
     target: &ImageAt,
     header: &HeaderView,
     context: &SnapContext,
     bits: &[u8],
     piece: Piece,
-) -> Result<(), NoMemory>
+) -> Result<Option<ZeroPiece>, NoMemory>
     requires form { IsHeaderInForm header.now }
     requires head { IsOfHead header.now piece.object }
     requires context { context.now ≡ of_header.context_of header.now }
-    ensures { OnOk result ((pieces : List of_piece.Piece) (next : Plan)
-        → rest_of_zeros made.new.items (zero_pieces target.now.site target.now.image header.now (filter (of_shrink.has_bytes header.now bits.now) pieces) next)
-        ≡ rest_of_zeros made.old.items (zero_pieces target.now.site target.now.image header.now (filter (of_shrink.has_bytes header.now bits.now) (piece ∷ pieces)) next)) }
+    ensures { IfOk result (λ made. (pieces : List of_piece.Piece) (next : Plan)
+        → rest_of_some made (zero_pieces target.now.site target.now.image header.now (filter (of_shrink.has_bytes header.now bits.now) pieces) next)
+        ≡ zero_pieces target.now.site target.now.image header.now (filter (of_shrink.has_bytes header.now bits.now) (piece ∷ pieces)) next) }
 {
     if !has_bytes(header, bits, &piece) {
-        return Ok(());
+        return Ok(None);
     }
     let context = context.try_clone()?;
     let zeros = ZeroPiece::under(alloc, target.site, target.image, header, context, piece)?;
-    made.push_back(zeros)?;
-    Ok(())
+    Ok(Some(zeros))
 }
 
 /// Whether the object of a piece has bytes: it is inside the overlap, or isn't in state 0.

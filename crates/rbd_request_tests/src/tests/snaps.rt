@@ -31,7 +31,7 @@ fn name_of(rt: &impl Abort, alloc: Global, snap: &[u8]) -> Result<Name, NoMemory
 // ---- a snapshot is taken
 
 /// It wants an operation of a kind, is told an answer, and wants more.
-#[tactic(auto, using(rbd_admin::proofs::Tells::take_tells))]
+#[tactic(auto, using(rbd_admin::specs::SnapLaws::take_tells))]
 fn take_on(
     rt: &impl Abort,
     take: &mut TakeSnap,
@@ -50,7 +50,7 @@ fn take_on(
 }
 
 /// Whether it wants an operation of a kind, and an answer ends it well.
-#[tactic(auto, using(rbd_admin::proofs::Tells::take_tells))]
+#[tactic(auto, using(rbd_admin::specs::SnapLaws::take_tells))]
 fn take_ends(take: &mut TakeSnap, kind: OpKind, answer: &Answer) -> Result<bool, NoMemory>
     requires { CanBeFed (rest_of_taking take.old (Return reply.Done)) (fed_with.Answer answer.now) }
 {
@@ -135,7 +135,7 @@ fn a_snapshot_is_taken_behind_its_map(rt: HostRuntime) -> Result<(), Fail> {
 // ---- a snapshot is removed
 
 /// It wants an operation of a kind, is told an answer, and wants more.
-#[tactic(auto, using(rbd_admin::proofs::Tells::remove_tells))]
+#[tactic(auto, using(rbd_admin::specs::SnapLaws::remove_tells))]
 fn remove_on(rt: &impl Abort, remove: &mut RemoveSnap, kind: OpKind, answer: &Answer)
     requires { CanBeFed (rest_of_removing remove.old (Return reply.Done)) (fed_with.Answer answer.now) }
     ensures { IsGoing (plan_after (rest_of_removing remove.old (Return reply.Done)) (fed_with.Answer answer.now)) (rest_of_removing remove.new (Return reply.Done)) }
@@ -148,7 +148,7 @@ fn remove_on(rt: &impl Abort, remove: &mut RemoveSnap, kind: OpKind, answer: &An
 }
 
 /// Whether it wants an operation of a kind, and an answer ends it well.
-#[tactic(auto, using(rbd_admin::proofs::Tells::remove_tells))]
+#[tactic(auto, using(rbd_admin::specs::SnapLaws::remove_tells))]
 fn remove_ends(remove: &mut RemoveSnap, kind: OpKind, answer: &Answer) -> bool
     requires { CanBeFed (rest_of_removing remove.old (Return reply.Done)) (fed_with.Answer answer.now) }
 {

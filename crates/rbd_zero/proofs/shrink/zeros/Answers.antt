@@ -6,9 +6,9 @@ use Rattle.rbd_kinds.specs.declared.layout.Extent.{Extent}
 use Rattle.rbd_layout.specs.Pieces.{IsPieces}
 use Rattle.rbd_layout.specs.declared.types.Piece.{Piece}
 use Rattle.rbd_zero.specs.Shrink.{has_bytes, head_from}
-use Rattle.rbd_zero.specs.Size.{rest_of_zeros, zero_pieces}
+use Rattle.rbd_zero.specs.Size.{rest_of_some, rest_of_zeros, zero_pieces}
 use Rattle.rbd_zero.specs.Zero.{IsOfHead}
-use Rattle.rbd_zero.proofs.Sizes.{first_of_head, pieces_of_head, rest_of_head}
+use Rattle.rbd_zero.proofs.Sizes.{first_of_head, none_is_left, pieces_of_head, rest_of_head, rest_of_more}
 use Rattle.rbd_zero.proofs.shrink.zeros.Goals as goal
 
 pub pieces-requires-clause-end : goal.pieces-requires-clause-end
@@ -34,19 +34,41 @@ loop-piece-init c =
       head = subst (All (λ (p : Piece). IsOfHead h p.object)) (sym given) (pieces_of_head h e c.in_ok-listed.listed.items c.requires.form.layout within listed);
     }
 
-pub add-requires-clause-head : goal.add-requires-clause-head
-add-requires-clause-head c =
+pub zeros_of-requires-clause-head : goal.zeros_of-requires-clause-head
+zeros_of-requires-clause-head c =
     let h = c.args.header.now in
     first_of_head h c.in-Some.piece c.next.new.self.rest.items (subst (All (λ (p : Piece). IsOfHead h p.object)) c.in-Some.ensures.steps.0 c.loop-piece.invariant.head)
+
+pub loop-piece-preserved-in-Continue-branch-5 : goal.loop-piece-preserved-in-Continue-branch-5
+loop-piece-preserved-in-Continue-branch-5 c =
+    let t = c.args.target.now in
+    let h = c.args.header.now in
+    let bits = c.args.bits.now in
+    let made = c.loop-piece.made.items in
+    let left = c.next.new.self.rest.items in
+    record {
+      made = λ next.
+          let then = zero_pieces t.site t.image h (filter (has_bytes h bits) left) next in
+          ap (λ items. rest_of_zeros items then) c.in_ok-push_back.ensures.items
+          ∙ rest_of_more made c.in-Some-2.zeros then
+          ∙ ap (rest_of_zeros made) (ap (λ some. rest_of_some some then) (sym c.in-Some-2.is) ∙ c.in_ok-zeros.ensures left next)
+          ∙ ap (λ pieces. rest_of_zeros made (zero_pieces t.site t.image h (filter (has_bytes h bits) pieces) next)) (sym c.in-Some.ensures.steps.0)
+          ∙ c.loop-piece.invariant.made next;
+      head = rest_of_head h c.in-Some.piece left (subst (All (λ (p : Piece). IsOfHead h p.object)) c.in-Some.ensures.steps.0 c.loop-piece.invariant.head);
+    }
 
 pub loop-piece-preserved : goal.loop-piece-preserved
 loop-piece-preserved c =
     let t = c.args.target.now in
     let h = c.args.header.now in
+    let bits = c.args.bits.now in
+    let made = c.loop-piece.made.items in
+    let left = c.next.new.self.rest.items in
     record {
       made = λ next.
-          c.in_ok-add.ensures c.next.new.self.rest.items next
-          ∙ ap (λ pieces. rest_of_zeros c.loop-piece.made.items (zero_pieces t.site t.image h (filter (has_bytes h c.args.bits.now) pieces) next)) (sym c.in-Some.ensures.steps.0)
+          let then = zero_pieces t.site t.image h (filter (has_bytes h bits) left) next in
+          ap (rest_of_zeros made) (none_is_left c.in_ok-zeros.field-0 then c.in_default.not-Some ∙ c.in_ok-zeros.ensures left next)
+          ∙ ap (λ pieces. rest_of_zeros made (zero_pieces t.site t.image h (filter (has_bytes h bits) pieces) next)) (sym c.in-Some.ensures.steps.0)
           ∙ c.loop-piece.invariant.made next;
-      head = rest_of_head h c.in-Some.piece c.next.new.self.rest.items (subst (All (λ (p : Piece). IsOfHead h p.object)) c.in-Some.ensures.steps.0 c.loop-piece.invariant.head);
+      head = rest_of_head h c.in-Some.piece left (subst (All (λ (p : Piece). IsOfHead h p.object)) c.in-Some.ensures.steps.0 c.loop-piece.invariant.head);
     }

@@ -1,7 +1,7 @@
 use Rattle.std.proofs.Common.{◌≡◌, Some, sym}
 use Rattle.rbd_kinds.specs.Header.{snap_named}
-use Rattle.rbd_admin.proofs.Acting.{named_is_listed}
-use Rattle.rbd_admin.proofs.snap.SnapChange.act.Goals as goal
+use Rattle.rbd_admin.proofs.Named.{named_is_listed}
+use Rattle.rbd_admin.proofs.snap.SnapChangeChange.part.Goals as goal
 
 pub new-requires-in-Remove : goal.new-requires-in-Remove
 new-requires-in-Remove c =

@@ -1,0 +1,57 @@
+-- Where a request stands that changes an image alone, and notes an event.
+use Rattle.std.specs.Prelude.{◌≡◌, ℕ, Option, Some, None}
+use Rattle.rbd_commands.specs.declared.refusal.Refusal.{Refusal}
+use Rattle.rbd_kinds.specs.declared.answer.Answer.{Answer}
+use Rattle.rbd_kinds.specs.declared.answer.Answer.TheVariants as answer
+use Rattle.rbd_kinds.specs.declared.header.HeaderView.{HeaderView}
+use Rattle.rbd_kinds.specs.declared.id.SiteId.{SiteId}
+use Rattle.rbd_kinds.specs.declared.journal.Event.{Event}
+use Rattle.rbd_machine.specs.Approach.{rest_of, owning_at}
+use Rattle.rbd_machine.specs.Plan.{Plan, Note}
+use Rattle.rbd_machine.specs.Steps.{applied}
+use Rattle.rbd_change.specs.declared.request.ChangeRequest.{ChangeRequest}
+use Rattle.rbd_change.specs.declared.request.Stage.{Stage}
+use Rattle.rbd_change.specs.declared.request.Stage.TheVariants as stage
+
+abbrev pub IsApproaching : {P : Type 0} → Stage P → Type 0
+IsApproaching (stage.Approaching way) = Unit {0}
+IsApproaching _ = ⊥
+
+-- the image, where it approaches and is at its own look
+abbrev pub owning_in : {P : Type 0} → Stage P → Option ℕ
+owning_in (stage.Approaching way) = owning_at way.stage
+owning_in _ = None
+
+-- what is left of a part, where there is one
+abbrev pub rest_of_some : {P : Type 0} → (rest : P → (next : Plan) → Plan) → Option P → (next : Plan) → Plan
+rest_of_some rest None next = next
+rest_of_some rest (Some part) next = rest part next
+
+-- By what a change refuses, its event, the plan from its event on, and what is left of its part.
+module _ {C P : Type 0} (refuses : C → HeaderView → Option Refusal) (noted : C → Event) (does : C → SiteId → (image : ℕ) → HeaderView → Plan) (rest : P → (next : Plan) → Plan) where
+  -- its event is noted, then its part is done, and then the event counts as applied
+  abbrev pub noting : ChangeRequest C P → (image : ℕ) → Plan
+  noting r image = Note r.site image (noted r.change) (rest_of_some rest r.part (applied r.site image))
+
+  abbrev pub rest_at : Stage P → ChangeRequest C P → Plan
+  rest_at (stage.Approaching way) r = rest_of way (refuses r.change) (does r.change r.site)
+  rest_at (stage.Noting image) r = noting r image
+  rest_at (stage.Acting image part) r = rest part (applied r.site image)
+  rest_at (stage.Applying image) r = applied r.site image
+
+  -- what is left of one
+  abbrev pub rest_of_change : ChangeRequest C P → Plan
+  rest_of_change r = rest_at r.stage r
+
+  -- ---- the memory that an answer needs: at the own look, the part
+
+  abbrev pub HasPart : ChangeRequest C P → HeaderView → Type 0
+  HasPart r h = (image : ℕ) → owning_in r.stage ≡ Some image → refuses r.change h ≡ None → noting r image ≡ does r.change r.site image h
+
+  abbrev pub IsReadyAt : (is_ready : P → Answer → Type 0) → Stage P → ChangeRequest C P → Answer → Type 0
+  IsReadyAt is_ready (stage.Approaching way) r (answer.Header h) = HasPart r h
+  IsReadyAt is_ready (stage.Acting image part) r a = is_ready part a
+  IsReadyAt is_ready _ r a = Unit {0}
+
+  abbrev pub IsReady : (is_ready : P → Answer → Type 0) → ChangeRequest C P → Answer → Type 0
+  IsReady is_ready r a = IsReadyAt is_ready r.stage r a

@@ -1,0 +1,54 @@
+//! What a request changes.
+ghost use Rattle.std.specs.Prelude.{◌≡◌, ℕ, Bool, true, None, IfOk};
+ghost use Rattle.rbd_commands.specs.declared.command.Command.{Command};
+ghost use Rattle.rbd_kinds.specs.declared.header.HeaderView.{HeaderView};
+ghost use Rattle.rbd_kinds.specs.declared.id.SiteId.{SiteId};
+ghost use Rattle.rbd_kinds.specs.declared.journal.Event.{Event};
+ghost use Rattle.rbd_kinds.specs.Form.{IsHeaderInForm};
+ghost use Rattle.rbd_machine.specs.Plan.{Plan, Note};
+ghost use Rattle.rbd_machine.specs.Steps.{applied, change};
+
+use crate::part::Part;
+use rbd_kinds::{Command, Event, HeaderView, ImageId, Name, NoMemory, Sharing, SiteId};
+use rbd_machine::Refuses;
+use std::alloc::Global;
+
+/// What a request changes of an image, alone on it: why it is refused at its looks ([`Refuses`]),
+/// the event that it notes, and the part that it does behind that event.
+pub trait Change: Refuses + Drop {
+    /// What is done behind the event.
+    type Part: Part;
+
+    /// The commands that ask for it.
+    ghost serves: { Command → Bool };
+
+    /// The plan of such a command at a site.
+    ghost plan: { SiteId → Command → Plan };
+
+    /// Its event.
+    ghost noted: { Self → Event };
+
+    /// The plan from its event on, by the header of its own look.
+    ghost does: { Self → SiteId → (image : ℕ) → HeaderView → Plan };
+
+    /// What a command asks for: the name of the image, and the change. It takes no memory.
+    fn from_command(command: Command) -> (Name, Self)
+        requires { serves command ≡ true }
+        ensures { (site : SiteId) → change site result.0 Sharing.Alone (Self.refuses result.1) (does result.1 site) ≡ plan site command };
+
+    /// Its event.
+    fn event(&self) -> Result<Event, NoMemory>
+        ensures { IfOk result (λ event. event ≡ noted self.now) };
+
+    /// What is done behind the event, by a header that it doesn't refuse.
+    fn part(
+        &self,
+        alloc: Global,
+        site: SiteId,
+        image: ImageId,
+        header: &HeaderView,
+    ) -> Result<Self::Part, NoMemory>
+        requires form { IsHeaderInForm header.now }
+        requires may { Self.refuses self.now header.now ≡ None }
+        ensures { IfOk result (λ part. Note site image (noted self.now) (Self.Part.rest part (applied site image)) ≡ does self.now site image header.now) };
+}

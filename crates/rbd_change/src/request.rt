@@ -1,0 +1,223 @@
+//! A request that changes an image alone, and notes an event.
+ghost use Rattle.std.specs.Prelude.{◌≡◌, true, Some, OnOk};
+ghost use Rattle.rbd_kinds.specs.declared.machine.Fed.TheVariants as fed_with;
+ghost use Rattle.rbd_machine.specs.Answers.{CanBeFed};
+ghost use Rattle.rbd_machine.specs.Plan.{GoesOn, Goto, plan_after, without_labels};
+ghost use Rattle.rbd_machine.specs.Ready.{IsReadyFor};
+ghost use Rattle.rbd_machine.specs.Steps.{applied};
+ghost use Rattle.rbd_change.specs.Request.{rest_of_change, rest_of_some, owning_in, IsApproaching, IsReady};
+
+use crate::change::Change;
+use crate::part::Part;
+use rbd_kinds::{
+    Answer, Command, Event, Fed, ImageId, NoMemory, Op, Reply, Sharing, SiteId, Turn, Want,
+};
+use rbd_machine::{Approach, Machine, Progress, Reason};
+use std::alloc::Global;
+use std::mem::replace;
+
+/// A request that changes an image alone, and notes an event.
+///
+/// ```text
+/// Approaching   to its own look, alone in the image's line   (see `Approach`)
+///    │             refused: by what the change refuses
+/// Noting        its event, in the image's journal
+///    │
+/// Acting        its part, one operation after another
+///    │
+/// Applying      the event counts as applied
+///    │
+///    ▼
+/// Done
+/// ```
+///
+/// Each operation may be answered `fenced`, which ends the request with Fenced.
+#[derive(Debug, Drop)]
+pub struct ChangeRequest<C, P> {
+    site: SiteId,
+    change: C,
+    stage: Stage<P>,
+    /// What is done behind the event, once the own look told the header.
+    part: Option<P>,
+}
+
+/// A stage of it, with its image once it is found.
+#[derive(Debug, Drop)]
+enum Stage<P> {
+    Approaching(Approach),
+    Noting(ImageId),
+    Acting(ImageId, P),
+    Applying(ImageId),
+}
+
+impl<C: Change> ChangeRequest<C, C::Part> {
+    /// The request of a command at a site. It takes no memory.
+    pub fn new(home: SiteId, command: Command) -> Self
+        requires { C.serves command ≡ true }
+        ensures { rest_of_change C.refuses C.noted C.does C.Part.rest result ≡ C.plan home command }
+    {
+        let (image, change) = C::from_command(command);
+        ChangeRequest {
+            site: home,
+            change,
+            stage: Stage::Approaching(Approach::new(home, image, Sharing::Alone)),
+            part: None,
+        }
+    }
+
+    /// The image, where it approaches and is at its own look.
+    fn owning(&self) -> Option<ImageId>
+        ensures { result ≡ owning_in self.now.stage }
+    {
+        match &self.stage {
+            Stage::Approaching(way) => way.owning(),
+            _ => None,
+        }
+    }
+
+    /// Takes the memory for its own look: there its part is made.
+    fn ready_part(&mut self, alloc: Global, answer: &Answer) -> Result<(), NoMemory>
+        requires at { IsApproaching self.old.stage }
+        requires can { CanBeFed (rest_of_change C.refuses C.noted C.does C.Part.rest self.old) (fed_with.Answer answer.now) }
+        ensures rest { rest_of_change C.refuses C.noted C.does C.Part.rest self.new ≡ rest_of_change C.refuses C.noted C.does C.Part.rest self.old }
+        ensures ready { OnOk result (IsReady C.refuses C.noted C.does C.Part.rest C.Part.is_ready self.new answer.now) }
+    {
+        let Some(image) = self.owning() else {
+            return Ok(());
+        };
+        let Answer::Header(header) = answer else {
+            return Ok(());
+        };
+        if self.change.refusal(header).is_some() {
+            return Ok(());
+        }
+        let part = self.change.part(alloc, self.site, image, header)?;
+        self.keep(part);
+        Ok(())
+    }
+
+    /// Puts a part beside the stage. What stood there is let go by a call, and not in place.
+    fn keep(&mut self, part: C::Part)
+        ensures { self.new ≡ record { site = self.old.site; change = self.old.change; stage = self.old.stage; part = Some part } }
+    {
+        drop(replace(&mut self.part, Some(part)));
+    }
+
+    /// Goes on to a stage, and lets the old one go.
+    fn go_to(&mut self, stage: Stage<C::Part>)
+        ensures { self.new ≡ record { site = self.old.site; change = self.old.change; stage = stage; part = self.old.part } }
+    {
+        drop(replace(&mut self.stage, stage));
+    }
+
+    /// Goes on with its way to its own look, and from there.
+    fn approach(&mut self, fed: &Fed) -> Turn
+        requires at { IsApproaching self.old.stage }
+        requires can { CanBeFed (rest_of_change C.refuses C.noted C.does C.Part.rest self.old) fed.now }
+        requires ready { IsReadyFor (IsReady C.refuses C.noted C.does C.Part.rest C.Part.is_ready self.old) fed.now }
+        ensures { GoesOn Goto (plan_after (rest_of_change C.refuses C.noted C.does C.Part.rest self.old) fed.now) result
+            (without_labels (rest_of_change C.refuses C.noted C.does C.Part.rest self.new)) }
+    {
+        let Stage::Approaching(way) = &mut self.stage else {
+            unreachable!()
+        };
+        match way.feed(&self.change, fed) {
+            Progress::More => Turn::More,
+            Progress::Refused(refusal) => Turn::Done(Reply::Refused(refusal)),
+            Progress::Ended(image) => {
+                self.go_to(Stage::Noting(image));
+                Turn::More
+            }
+        }
+    }
+
+    /// Goes on behind its event, with the part that its own look made.
+    fn begin_part(&mut self, image: ImageId) -> Turn
+        ensures { GoesOn Goto (rest_of_some C.Part.rest self.old.part (applied self.old.site image)) result
+            (without_labels (rest_of_change C.refuses C.noted C.does C.Part.rest self.new)) }
+    {
+        match self.part.take() {
+            Some(part) => self.go_to(Stage::Acting(image, part)),
+            None => self.go_to(Stage::Applying(image)),
+        }
+        Turn::More
+    }
+}
+
+impl<C: Change> Machine for ChangeRequest<C, C::Part> {
+    ghost stands = { λ r. without_labels (rest_of_change C.refuses C.noted C.does C.Part.rest r) };
+
+    ghost is_ready = { IsReady C.refuses C.noted C.does C.Part.rest C.Part.is_ready };
+
+    fn wants(&self) -> Want {
+        let site = self.site;
+        match &self.stage {
+            Stage::Approaching(way) => way.wants(),
+            Stage::Noting(image) => Want::Note {
+                site,
+                image: *image,
+            },
+            Stage::Acting(_, part) => part.wants(),
+            Stage::Applying(image) => Want::Applied {
+                site,
+                image: *image,
+            },
+        }
+    }
+
+    fn next(&self, _alloc: Global) -> Result<Op, NoMemory> {
+        match &self.stage {
+            Stage::Approaching(way) => way.next(),
+            Stage::Noting(_) => unreachable!(),
+            Stage::Acting(_, part) => part.next(),
+            Stage::Applying(_) => unreachable!(),
+        }
+    }
+
+    fn reason(&self) -> Reason {
+        Reason::Own
+    }
+
+    fn event(&self, _alloc: Global) -> Result<Option<Event>, NoMemory> {
+        match &self.stage {
+            Stage::Noting(_) => Ok(Some(self.change.event()?)),
+            _ => Ok(None),
+        }
+    }
+
+    fn ready(&mut self, alloc: Global, fed: &Fed) -> Result<(), NoMemory> {
+        let Fed::Answer(answer) = fed else {
+            return Ok(());
+        };
+        match &mut self.stage {
+            Stage::Approaching(_) => self.ready_part(alloc, answer),
+            Stage::Acting(_, part) => part.ready(alloc, answer),
+            _ => Ok(()),
+        }
+    }
+
+    fn feed(&mut self, fed: &Fed) -> Turn {
+        match &mut self.stage {
+            Stage::Approaching(_) => self.approach(fed),
+            Stage::Noting(image) => {
+                let image = *image;
+                self.begin_part(image)
+            }
+            Stage::Acting(image, part) => {
+                let Fed::Answer(answer) = fed else {
+                    unreachable!()
+                };
+                match part.feed(answer) {
+                    Progress::More => Turn::More,
+                    Progress::Ended(()) => {
+                        let image = *image;
+                        self.go_to(Stage::Applying(image));
+                        Turn::More
+                    }
+                    Progress::Refused(refusal) => Turn::Done(Reply::Refused(refusal)),
+                }
+            }
+            Stage::Applying(_) => Turn::Done(Reply::Done),
+        }
+    }
+}
