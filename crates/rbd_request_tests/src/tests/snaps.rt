@@ -206,7 +206,7 @@ fn listing(alloc: Global, name: Name) -> Result<HeaderView, NoMemory> {
 }
 
 /// Whether the snapshot that a header lists under a name is removed.
-#[tactic(auto, using(rbd_admin::proofs::Acting::named_is_listed))]
+#[tactic(auto, using(rbd_admin::proofs::Named::named_is_listed))]
 fn listed_goes(rt: &impl Abort, header: &HeaderView, name: &Name) -> Result<bool, NoMemory> {
     let Some(listed) = header.named(name) else {
         return Ok(false);
