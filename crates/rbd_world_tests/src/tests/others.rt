@@ -12,7 +12,7 @@
 //! | `heard:2=hi+yo` | nothing: c2 heard these words, one after another |
 //! | `heard:2=` | nothing: it heard none |
 //! | `client:1=runs,0,2,3,new` | nothing: see `clients` |
-//! | `answer:held` | nothing: site A answered so to the last step, or `-` if that was no operation |
+//! | `answer:held` | nothing: site A answered the last step so, or `-` if it was no operation |
 //! | `entries:64` | nothing: the history has so many entries |
 //! | `filled:9.4.2` | nothing: the last reply has 9 bytes, of which two from 4 on are a fill's |
 use super::clients::is_client;
