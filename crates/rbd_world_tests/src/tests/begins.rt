@@ -41,11 +41,11 @@ o a12 c1.0 data-write rbd_data.1.0000000000000001 done
 ";
 
 /// How a history or a log begins behind line 3, or behind line 5.
-pub fn begin_of(kind: &str, behind: &str) -> &'static str {
-    match (kind, behind) {
-        ("history", "3") => CREATED,
-        ("history", "5") => WRITTEN,
-        ("a", "5") => WRITTEN_LOG,
+pub fn begin_of(key: &str) -> &'static str {
+    match key {
+        "history+3" => CREATED,
+        "history+5" => WRITTEN,
+        "a+5" => WRITTEN_LOG,
         _ => "",
     }
 }

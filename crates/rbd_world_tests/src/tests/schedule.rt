@@ -81,7 +81,7 @@ fn poll(
     rt: &impl Abort,
     alloc: Global,
     world: &mut Clients,
-    at: (SessionNo, Slot),
+    at: &(SessionNo, Slot),
 ) -> Result<Outcome, NoMemory> {
     let event = Event::Poll {
         session: at.0,
@@ -94,7 +94,7 @@ fn poll_times(
     rt: &impl Abort,
     alloc: Global,
     world: &mut Clients,
-    at: (SessionNo, Slot),
+    at: &(SessionNo, Slot),
     times: u32,
 ) -> Result<bool, NoMemory> {
     for _ in 0..times {
@@ -121,7 +121,7 @@ fn poll_to(
     rt: &impl Abort,
     alloc: Global,
     world: &mut Clients,
-    at: (SessionNo, Slot),
+    at: &(SessionNo, Slot),
     kind: &str,
 ) -> Result<bool, NoMemory> {
     for _ in 0..ENOUGH {
@@ -148,14 +148,14 @@ fn slot_goes(
         return Ok(wanted(world, session, Slot(small_number(slot))) == kind);
     }
     if let Some((slot, kind)) = rest.split_once('>') {
-        return poll_to(rt, alloc, world, (session, Slot(small_number(slot))), kind);
+        return poll_to(rt, alloc, world, &(session, Slot(small_number(slot))), kind);
     }
     let (slot, times) = rest.split_once('*').unwrap_or((rest, "1"));
     poll_times(
         rt,
         alloc,
         world,
-        (session, Slot(small_number(slot))),
+        &(session, Slot(small_number(slot))),
         number(times),
     )
 }

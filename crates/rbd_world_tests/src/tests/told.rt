@@ -124,14 +124,11 @@ pub fn is_told(
     part: &str,
 ) -> Result<bool, NoMemory> {
     let (key, want) = part.split_once(' ').unwrap_or((part, ""));
-    let (kind, behind) = key.split_once('+').unwrap_or((key, ""));
+    let (kind, _) = key.split_once('+').unwrap_or((key, ""));
     let mut text = Vec::new(alloc);
     push_told(alloc, &mut text, world, sessions, kind)?;
     end(&mut text)?;
-    match text
-        .as_slice()
-        .strip_prefix(begin_of(kind, behind).as_bytes())
-    {
+    match text.as_slice().strip_prefix(begin_of(key).as_bytes()) {
         Some(told) => Ok(told == want.as_bytes()),
         None => Ok(false),
     }
