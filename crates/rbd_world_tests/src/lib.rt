@@ -2,19 +2,27 @@
 //! operation at a time, in an order that each test chooses. They stand apart from the crate that
 //! they test, since a crate that has tests is proved twice: once as it is, and once with its tests.
 //!
-//! The commands are lines of one script (`script`), and a schedule says by its words what happens
-//! (`schedule`). A row has a schedule, what came of each event, and the replies (`rows`):
+//! The commands are lines of one script (`script`). A test plays a row: its parts say what happens,
+//! by the words of a schedule (`schedule`), what came of each event, the replies, and whatever else
+//! is asked of the world then (`rows`):
 //!
 //! ```text
-//! 3 1.1>end 1.1=none trim:1.0|slot1 a1 a2 a3! nothing|3 ok
-//! │ │       │        │        │     │  │  │   └ the object 0 of image 1 isn't there
-//! │ │       │        │        │     └──┴──┴ the operations 1 to 3 of site A; the third ends it
-//! │ │       │        │        └ the line 3 has slot 1
-//! │ │       │        └ the store trims the object 0 of image 1
-//! │ │       └ it wants nothing, since nobody is in the slot
-//! │ └ slot 1 of the client c1 is polled until its request has its reply
-//! └ the client of line 3 begins its command
+//! goes 3 1.1>end 1.1=none trim:1.0
+//! │    │ │       │        └ the store trims the object 0 of image 1
+//! │    │ │       └ it wants nothing, since nobody is in the slot
+//! │    │ └ slot 1 of the client c1 is polled until its request has its reply
+//! │    └ the client of line 3 begins its command
+//! └ this happens
+//! |came slot1 a1 a2 a3! nothing
+//! │     │     │  │  │   └ the object 0 of image 1 isn't there
+//! │     │     └──┴──┴ the operations 1 to 3 of site A; the third ends it
+//! │     └ the line 3 has slot 1
+//! └ this came of it
+//! |replies 3 ok
 //! ```
+//!
+//! Rows of one form are a table (`tables`). One function owns the world and the script of a row,
+//! and a test is a call with a text: so the crate is proved in minutes.
 //!
 //! What a row wants was worked out from the rules in prose: how many operations each command has
 //! (`rbd_request`, `rbd_admin`, `rbd_close`), who waits (`rbd_session`), how a lock is taken and

@@ -16,13 +16,11 @@ use std::process::Abort;
 pub type Clients = World<CreateRequest>;
 
 /// A world of the clients c1, c2 and c4 at site A, and c3 at site B.
-pub fn new_world(alloc: Global) -> Result<Clients, NoMemory> {
-    World::new(alloc, &[SiteId::A, SiteId::A, SiteId::B, SiteId::A])
-}
-
-/// Whether what is asked holds, and there was memory to find it out.
-pub fn holds(found_out: Result<bool, NoMemory>) -> bool {
-    found_out.unwrap_or(false)
+pub fn new_world(rt: &impl Abort, alloc: Global) -> Clients {
+    match World::new(alloc, &[SiteId::A, SiteId::A, SiteId::B, SiteId::A]) {
+        Ok(world) => world,
+        Err(_) => panic!(rt; "there is no memory"),
+    }
 }
 
 /// Whether an event's command is served.

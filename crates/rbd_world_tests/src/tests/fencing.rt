@@ -1,35 +1,17 @@
 //! An owner that doesn't watch is fenced, and loses the lock.
-use super::rows::{goes_as, keeps_as, posts_as};
-use std::test::Fail;
+use super::rows::row_holds;
 
 /// c1 stops when line 7 has written one of its two objects. As long as its watch is there c2 asks
 /// it, in vain. Behind the end of the watch c2 fences it (a28), breaks the lock and takes it. What
 /// line 7 wanted comes late, and changes nothing: the byte 4096 is c2's.
-const STOPPED: &str = "3 1.1>end 5 1.1>end 7 1.1*6 1.1=data-write stop:1
+const STOPPED: &str = "goes 3 1.1>end 5 1.1>end 7 1.1*6 1.1=data-write stop:1
 26 2.1>notify 2.1 deliver:1 expire:1.1 2.1*2 2.1=block-add 2.1 2.1=lock-break 2.1 2.1=lock-take
 2.1>end late:1.1 6 2.1>end
-|slot1 a1 a2 a3! slot1 a4 a5 a6 a7 a8 a9 a10 a11 a12! slot1 a13 a14 a15 a16 a17 a18 stopped slot1
-a19 a20 a21 a22~ a23~ a24~ nothing stored a26~ a27~ a28 a29 a30 a31 a32 a33 a34 a35! a36 slot1 a37
-a38 a39 a40 a41!
-|3 ok;5 ok;26 ok;6 ok 11cccc44";
-
-const STOPPED_HISTORY: &str = "h 1 start 3 c1.0
-h 2 effect 3 a1 name
-h 3 look 3 a2
-h 4 effect 3 a3 create
-h 5 reply 3
-h 6 start 5 c1.0
-h 7 look 5 a4
-h 8 look 5 a5
-h 9 look 5 a6
-h 10 look 5 a7
-h 11 look 5 a8
-h 12 look 5 a9
-h 13 effect 5 a10 piece
-h 14 look 5 a11
-h 15 effect 5 a12 piece
-h 16 reply 5
-h 17 start 7 c1.0
+|came slot1 a1 a2 a3! slot1 a4 a5 a6 a7 a8 a9 a10 a11 a12! slot1 a13 a14 a15 a16 a17 a18 stopped \
+slot1 a19 a20 a21 a22~ a23~ a24~ nothing stored a26~ a27~ a28 a29 a30 a31 a32 a33 a34 a35! a36 \
+slot1 a37 a38 a39 a40 a41!
+|replies 3 ok;5 ok;26 ok;6 ok 11cccc44
+|history+5 h 17 start 7 c1.0
 h 18 look 7 a13
 h 19 look 7 a14
 h 20 look 7 a15
@@ -64,21 +46,7 @@ h 48 look 6 a39
 h 49 look 6 a40
 h 50 look 6 a41
 h 51 reply 6
-";
-
-const STOPPED_LOGS: &str = "o a1 c1.0 dir-add rbd_directory id
-o a2 c1.0 map-resize rbd_object_map.1 done
-o a3 c1.0 header-create rbd_header.1 done
-o a4 c1.0 dir-find rbd_directory id
-o a5 c1.0 header-get rbd_header.1 header
-o a6 c1.0 watch rbd_header.1 done
-o a7 c1.0 lock-take rbd_header.1 done
-o a8 c1.0 header-get rbd_header.1 header
-o a9 c1.0 map-set rbd_object_map.1 done
-o a10 c1.0 data-write rbd_data.1.0000000000000000 done
-o a11 c1.0 map-set rbd_object_map.1 done
-o a12 c1.0 data-write rbd_data.1.0000000000000001 done
-o a13 c1.0 dir-find rbd_directory id
+|a+5 o a13 c1.0 dir-find rbd_directory id
 o a14 c1.0 header-get rbd_header.1 header
 o a15 c1.0 header-get rbd_header.1 header
 o a16 c1.0 map-set rbd_object_map.1 done
@@ -107,51 +75,42 @@ o a38 c2.0 header-get rbd_header.1 header
 o a39 c2.0 data-read rbd_data.1.0000000000000000 bytes
 o a40 c2.0 data-read rbd_data.1.0000000000000001 bytes
 o a41 c2.0 header-get rbd_header.1 header
-|";
+|b -
+|mail 1 c2.0>c1.0 a1 RequestLock
+";
 
 #[test]
-fn a_stopped_owner_is_fenced_and_its_late_write_changes_nothing(
-    rt: HostRuntime,
-) -> Result<(), Fail> {
-    keeps_as(&rt, rt.alloc(), STOPPED, STOPPED_HISTORY, STOPPED_LOGS)?;
-    Ok(())
-}
-
-#[test]
-fn a_stopped_owner_is_asked_as_long_as_it_watches(rt: HostRuntime) -> Result<(), Fail> {
-    let mail = "1 c2.0>c1.0 a1 RequestLock";
-    posts_as(&rt, rt.alloc(), STOPPED, mail)?;
-    Ok(())
+fn a_stopped_owner_is_fenced_and_its_late_write_changes_nothing(rt: HostRuntime) {
+    row_holds(&rt, rt.alloc(), STOPPED);
 }
 
 /// c1 runs, and isn't told that its watch has ended. Its next command is refused at its first
 /// operation.
-const ALIVE: &str =
-    "3 1.1>end 5 1.1>end expire:1.1 26 2.1>end 12 1.1=dir-find 1.1 1.1=none 6 2.1>end
-|slot1 a1 a2 a3! slot1 a4 a5 a6 a7 a8 a9 a10 a11 a12! stored slot1 a14 a15 a16 a17~ a18~ a19 a20
-a21 a22 a23 a24 a25 a26! slot1 a27! slot1 a28 a29 a30 a31 a32!
-|3 ok;5 ok;26 ok;12 error 108 Fenced;6 ok 11cccc44";
+const ALIVE: &str = "\
+goes 3 1.1>end 5 1.1>end expire:1.1 26 2.1>end 12 1.1=dir-find 1.1 1.1=none 6 2.1>end
+|came slot1 a1 a2 a3! slot1 a4 a5 a6 a7 a8 a9 a10 a11 a12! stored slot1 a14 a15 a16 a17~ a18~ a19 \
+a20 a21 a22 a23 a24 a25 a26! slot1 a27! slot1 a28 a29 a30 a31 a32!
+|replies 3 ok;5 ok;26 ok;12 error 108 Fenced;6 ok 11cccc44
+";
 
 #[test]
-fn an_owner_that_runs_and_is_fenced_learns_it_by_its_next_operation(
-    rt: HostRuntime,
-) -> Result<(), Fail> {
-    goes_as(&rt, rt.alloc(), ALIVE)?;
-    Ok(())
+fn an_owner_that_runs_and_is_fenced_learns_it_by_its_next_operation(rt: HostRuntime) {
+    row_holds(&rt, rt.alloc(), ALIVE);
 }
 
 /// c2 and c4 both find that c1 doesn't watch. c2 is faster: c4 finds the lock changed (a27), then
 /// held by c2, and asks that.
-const BOTH_BREAK: &str = "3 1.1>end 5 1.1>end stop:1 expire:1.1 26 2.1>block-add 27 4.1>block-add
+const BOTH_BREAK: &str = "\
+goes 3 1.1>end 5 1.1>end stop:1 expire:1.1 26 2.1>block-add 27 4.1>block-add
 2.1*2 4.1*2 2.1 4.1*2 4.1=notify 2.1>end 4.1 deliver:1 2.0*2 4.1>end 28 4.1>end
-|slot1 a1 a2 a3! slot1 a4 a5 a6 a7 a8 a9 a10 a11 a12! stopped stored slot1 a14 a15 a16 a17~ a18~
-slot1 a19 a20 a21 a22~ a23~ a24 a25 a26 a27 a28 a29~ a30~ a31 a32 a33 a34 a35! a36~ heard a37 a38
-a39 a40 a41 a42! slot1 a43 a44 a45 a46 a47!
-|3 ok;5 ok;26 ok;27 ok;28 ok 11ccccee";
+|came slot1 a1 a2 a3! slot1 a4 a5 a6 a7 a8 a9 a10 a11 a12! stopped stored slot1 a14 a15 a16 a17~ \
+a18~ slot1 a19 a20 a21 a22~ a23~ a24 a25 a26 a27 a28 a29~ a30~ a31 a32 a33 a34 a35! a36~ heard a37 \
+a38 a39 a40 a41 a42! slot1 a43 a44 a45 a46 a47!
+|replies 3 ok;5 ok;26 ok;27 ok;28 ok 11ccccee
+|mail 1 c4.0>c2.0 a1 RequestLock;2 c2.0>c4.0 a1 ReleasedLock
+";
 
 #[test]
-fn who_breaks_a_lock_second_asks_who_was_faster(rt: HostRuntime) -> Result<(), Fail> {
-    let mail = "1 c4.0>c2.0 a1 RequestLock;2 c2.0>c4.0 a1 ReleasedLock";
-    posts_as(&rt, rt.alloc(), BOTH_BREAK, mail)?;
-    Ok(())
+fn who_breaks_a_lock_second_asks_who_was_faster(rt: HostRuntime) {
+    row_holds(&rt, rt.alloc(), BOTH_BREAK);
 }

@@ -1,4 +1,5 @@
-//! The words of a schedule with a colon: events that aren't a poll or the beginning of a line.
+//! The words of a schedule with a colon: events that aren't a poll or the beginning of a line, and
+//! what is so of clients, of the history and of the last step.
 //!
 //! | word | what happens |
 //! |---|---|
@@ -10,100 +11,47 @@
 //! | `restart:1` | c1 begins its next life |
 //! | `heard:2=hi+yo` | nothing: c2 heard these words, one after another |
 //! | `heard:2=` | nothing: it heard none |
+//! | `client:1=runs,0,2,3,new` | nothing: see `clients` |
+//! | `answer:held` | nothing: site A answered the last step so, or `-` if it was no operation |
+//! | `entries:64` | nothing: the history has so many entries |
+//! | `filled:9.4.2` | nothing: the last reply has 9 bytes, of which two from 4 on are a fill's |
+use super::clients::is_client;
 use super::drive::{Clients, comes};
+use super::fills::shows_fill;
 use super::schedule::{number, session_of, small_number};
 use rbd_kinds::{ImageId, NoMemory, Notice, NoticeKind, SessionNo, SiteId, Slot};
-use rbd_world::Event;
+use rbd_world::{Event, Outcome};
 use std::alloc::Global;
 use std::process::Abort;
 
-/// The store trims an object.
-fn trim(
-    rt: &impl Abort,
-    alloc: Global,
-    world: &mut Clients,
-    image: &str,
-    object: &str,
-) -> Result<bool, NoMemory> {
-    let event = Event::Trim {
-        site: SiteId::A,
-        image: ImageId(number(image)),
-        object: u64::from(number(object)),
-    };
-    comes(rt, alloc, world, event)?;
-    Ok(true)
-}
-
-/// The store ends a client's watch.
-fn expire(
-    rt: &impl Abort,
-    alloc: Global,
-    world: &mut Clients,
-    client: &str,
-    image: &str,
-) -> Result<bool, NoMemory> {
-    let event = Event::Expire {
-        session: session_of(client),
-        site: SiteId::A,
-        image: ImageId(number(image)),
-    };
-    comes(rt, alloc, world, event)?;
-    Ok(true)
-}
-
-fn deliver(
-    rt: &impl Abort,
-    alloc: Global,
-    world: &mut Clients,
-    notice: &str,
-) -> Result<bool, NoMemory> {
-    let event = Event::Deliver {
-        number: u64::from(number(notice)),
-    };
-    comes(rt, alloc, world, event)?;
-    Ok(true)
-}
-
-fn stop(
-    rt: &impl Abort,
-    alloc: Global,
-    world: &mut Clients,
-    client: &str,
-) -> Result<bool, NoMemory> {
-    let event = Event::Stop {
-        session: session_of(client),
-    };
-    comes(rt, alloc, world, event)?;
-    Ok(true)
-}
-
-/// What a slot wanted comes.
-fn come_late(
-    rt: &impl Abort,
-    alloc: Global,
-    world: &mut Clients,
-    client: &str,
-    slot: &str,
-) -> Result<bool, NoMemory> {
-    let event = Event::Late {
-        session: session_of(client),
-        slot: Slot(small_number(slot)),
-    };
-    comes(rt, alloc, world, event)?;
-    Ok(true)
-}
-
-fn restart(
-    rt: &impl Abort,
-    alloc: Global,
-    world: &mut Clients,
-    client: &str,
-) -> Result<bool, NoMemory> {
-    let event = Event::Restart {
-        session: session_of(client),
-    };
-    comes(rt, alloc, world, event)?;
-    Ok(true)
+/// The event of a word, by its kind and its numbers, where it is one.
+fn event_of(kind: &str, first: &str, second: &str) -> Option<Event> {
+    match kind {
+        "trim" => Some(Event::Trim {
+            site: SiteId::A,
+            image: ImageId(number(first)),
+            object: u64::from(number(second)),
+        }),
+        "expire" => Some(Event::Expire {
+            session: session_of(first),
+            site: SiteId::A,
+            image: ImageId(number(second)),
+        }),
+        "deliver" => Some(Event::Deliver {
+            number: u64::from(number(first)),
+        }),
+        "stop" => Some(Event::Stop {
+            session: session_of(first),
+        }),
+        "late" => Some(Event::Late {
+            session: session_of(first),
+            slot: Slot(small_number(second)),
+        }),
+        "restart" => Some(Event::Restart {
+            session: session_of(first),
+        }),
+        _ => None,
+    }
 }
 
 /// Appends what a notice tells, and a `+` between any two.
@@ -132,6 +80,29 @@ fn has_heard(
     Ok(text.as_slice() == words.as_bytes())
 }
 
+/// What site A answered last, where the last step was an operation.
+fn answered(world: &Clients) -> &'static str {
+    match (world.calls().last(), world.operations(SiteId::A).last()) {
+        (Some(call), Some(done)) if matches!(&call.outcome, Outcome::Step { .. }) => {
+            done.answer.word()
+        }
+        _ => "-",
+    }
+}
+
+/// Whether what a word says is so.
+fn holds_now(alloc: Global, world: &Clients, kind: &str, rest: &str) -> Result<bool, NoMemory> {
+    let (client, words) = rest.split_once('=').unwrap_or(("", rest));
+    match kind {
+        "heard" => has_heard(alloc, world, session_of(client), words),
+        "client" => is_client(alloc, world, session_of(client), words),
+        "answer" => Ok(answered(world) == rest),
+        "filled" => Ok(shows_fill(world.history(), rest)),
+        "entries" => Ok(world.history().len() as u64 == u64::from(number(rest))),
+        _ => Ok(false),
+    }
+}
+
 /// What a word says happens, by its parts before and behind the colon. It is false where what it
 /// says isn't so.
 pub fn other_goes(
@@ -141,17 +112,12 @@ pub fn other_goes(
     kind: &str,
     rest: &str,
 ) -> Result<bool, NoMemory> {
-    if let Some((client, words)) = rest.split_once('=') {
-        return Ok(kind == "heard" && has_heard(alloc, world, session_of(client), words)?);
-    }
     let (first, second) = rest.split_once('.').unwrap_or((rest, ""));
-    match kind {
-        "trim" => trim(rt, alloc, world, first, second),
-        "expire" => expire(rt, alloc, world, first, second),
-        "deliver" => deliver(rt, alloc, world, first),
-        "stop" => stop(rt, alloc, world, first),
-        "late" => come_late(rt, alloc, world, first, second),
-        "restart" => restart(rt, alloc, world, first),
-        _ => Ok(false),
+    match event_of(kind, first, second) {
+        Some(event) => {
+            comes(rt, alloc, world, event)?;
+            Ok(true)
+        }
+        None => holds_now(alloc, world, kind, rest),
     }
 }

@@ -1,4 +1,20 @@
-//! What a new world does by a schedule, as a row `SCHEDULE|OUTCOMES|REPLIES`.
+//! What a new world does, as a row: parts with `|` before all but the first. Each part is a word, a
+//! space and a text, and ends with its line.
+//!
+//! | part | what it says |
+//! |---|---|
+//! | `goes 3 1.1>end` | a schedule: what happens (`schedule`) |
+//! | `came slot1 a1` | what came of each event so far |
+//! | `events 3:c1 1.1` | the events so far |
+//! | `replies 3 ok;6 ok 1122` | the replies so far, each behind its line, in their order |
+//! | `history`, `a`, `b` | the history, or the log of a site, a line for each entry (`rbd_text`) |
+//! | `mail` | the notices that were posted (`mail`) |
+//! | `lost 5,7`, `fenced c2.0` | the lines that were lost, and the instances that were fenced |
+//! | `maps`, `bits` | what site A was asked of object maps, and what it told last (`map_texts`) |
+//! | `not came slot1` | the other part isn't so |
+//!
+//! A text is `-` where there is nothing. Where a `history+5` or an `a+5` stands, what lines 3 and 5
+//! add where they are played alone is left out (`begins`), and line 3 alone with `+3`.
 //!
 //! | outcome | what came of an event |
 //! |---|---|
@@ -11,219 +27,130 @@
 //! | `heard` | an instance heard a notice |
 //! | `stored` | the store did a step of its own |
 //! | `stopped`, `restarted` | the client was stopped, or began its next life |
-//!
-//! A line may end before each `|`, and between words. Replies stand in the order in which they
-//! came, each behind its line: `3 ok;6 ok 11220000`.
-use super::drive::{Clients, holds, new_world};
-use super::mail::mail_is;
-use super::schedule::{goes, play};
+use super::drive::{Clients, new_world};
+use super::schedule::play;
 use super::script::{SCRIPT, script};
-use super::texts::{
-    events_are, history_is, log_is, numbers_are_of_logs, outcomes_are, replies_are,
-};
-use rbd_kinds::{NoMemory, SiteId};
-use rbd_script::{Declared, Line};
+use super::tables::table_holds;
+use super::told::is_told;
+use rbd_kinds::NoMemory;
+use rbd_script::Script;
 use std::alloc::Global;
+use std::mem::forget;
 use std::process::Abort;
-use std::test::Fail;
 
-/// Whether these are a world's replies, and each operation of its history stands in the log of its
-/// site.
-fn has_replies(alloc: Global, world: &Clients, replies: &str) -> Result<bool, NoMemory> {
-    let (a, b) = (world.operations(SiteId::A), world.operations(SiteId::B));
-    Ok(numbers_are_of_logs(world.history(), a, b) && replies_are(alloc, world.history(), replies)?)
+/// Stops the test where what a part or a word of a row says isn't so.
+pub fn is_so(rt: &impl Abort, row: &str, what: &str, found_out: Result<bool, NoMemory>) {
+    assert!(rt; found_out.unwrap_or(false), "{what} in {row}");
 }
 
-/// Whether a world came to what a row says behind its schedule.
-fn came_to(alloc: Global, world: &Clients, told: &str) -> Result<bool, NoMemory> {
-    let Some((outcomes, replies)) = told.split_once('|') else {
-        return Ok(false);
-    };
-    Ok(outcomes_are(alloc, world.calls(), outcomes)? && has_replies(alloc, world, replies)?)
-}
-
-fn goes_by(rt: &impl Abort, alloc: Global, world: &mut Clients, lines: &[Line], row: &str) {
-    let (schedule, told) = row.split_once('|').unwrap_or((row, ""));
-    play(rt, alloc, world, lines, schedule);
-    assert!(rt; holds(came_to(alloc, world, told)), "{row}");
-}
-
-fn mixes_by(rt: &impl Abort, alloc: Global, world: &mut Clients, lines: &[Line], row: &str) {
-    let (schedule, replies) = row.split_once('|').unwrap_or((row, ""));
-    play(rt, alloc, world, lines, schedule);
-    assert!(rt; holds(has_replies(alloc, world, replies)), "{row}");
-}
-
-/// A new world goes by a schedule, and then does what a row `SCHEDULE|REPLIES` says.
-pub fn mixes_as(rt: &impl Abort, alloc: Global, before: &str, row: &str) -> Result<(), NoMemory> {
-    let script = script(rt, alloc, SCRIPT.as_bytes());
-    let mut world = new_world(alloc)?;
-    play(rt, alloc, &mut world, script.lines.as_slice(), before);
-    mixes_by(rt, alloc, &mut world, script.lines.as_slice(), row);
-    Ok(())
-}
-
-fn tells(rt: &impl Abort, alloc: Global, world: &Clients, sessions: &[Declared], history: &str) {
-    assert!(rt;
-        holds(history_is(alloc, sessions, world.history(), history)),
-        "{history}"
-    );
-}
-
-fn keeps(rt: &impl Abort, alloc: Global, world: &Clients, sessions: &[Declared], log: &str) {
-    let (a, b) = log.split_once('|').unwrap_or((log, ""));
-    assert!(rt;
-        holds(log_is(alloc, sessions, SiteId::A, world.operations(SiteId::A), a)),
-        "{a}"
-    );
-    assert!(rt;
-        holds(log_is(alloc, sessions, SiteId::B, world.operations(SiteId::B), b)),
-        "{b}"
-    );
-}
-
-fn posts(rt: &impl Abort, alloc: Global, world: &Clients, mail: &str) {
-    assert!(rt; holds(mail_is(alloc, world, mail)), "{mail}");
-}
-
-/// What is asked of a world behind a row: its history, its logs with `|` between them, and its
-/// mail.
-#[derive(Clone, Copy, Debug)]
-struct Asked<'a> {
-    history: Option<&'a str>,
-    logs: Option<&'a str>,
-    mail: Option<&'a str>,
-}
-
-fn meets(
+fn part_holds(
     rt: &impl Abort,
     alloc: Global,
-    world: &Clients,
-    sessions: &[Declared],
-    asked: &Asked<'_>,
-) {
-    if let Some(history) = asked.history {
-        tells(rt, alloc, world, sessions, history);
-    }
-    if let Some(logs) = asked.logs {
-        keeps(rt, alloc, world, sessions, logs);
-    }
-    if let Some(mail) = asked.mail {
-        posts(rt, alloc, world, mail);
-    }
-}
-
-/// A new world does what a row says, and then is as it is asked.
-fn does(rt: &impl Abort, alloc: Global, row: &str, asked: &Asked<'_>) -> Result<(), NoMemory> {
-    let script = script(rt, alloc, SCRIPT.as_bytes());
-    let mut world = new_world(alloc)?;
-    goes_by(rt, alloc, &mut world, script.lines.as_slice(), row);
-    meets(rt, alloc, &world, script.sessions.as_slice(), asked);
-    Ok(())
-}
-
-/// A new world does what a row says.
-pub fn goes_as(rt: &impl Abort, alloc: Global, row: &str) -> Result<(), NoMemory> {
-    let asked = Asked {
-        history: None,
-        logs: None,
-        mail: None,
-    };
-    does(rt, alloc, row, &asked)
-}
-
-/// The same, and then it has this history, a line for each entry.
-pub fn tells_as(rt: &impl Abort, alloc: Global, row: &str, history: &str) -> Result<(), NoMemory> {
-    let asked = Asked {
-        history: Some(history),
-        logs: None,
-        mail: None,
-    };
-    does(rt, alloc, row, &asked)
-}
-
-/// The same, and its sites have these logs, with `|` between them.
-pub fn keeps_as<'a>(
-    rt: &impl Abort,
-    alloc: Global,
+    world: &mut Clients,
+    script: &Script,
     row: &str,
-    history: &'a str,
-    logs: &'a str,
-) -> Result<(), NoMemory> {
-    let asked = Asked {
-        history: Some(history),
-        logs: Some(logs),
-        mail: None,
-    };
-    does(rt, alloc, row, &asked)
+    part: &str,
+) -> Result<bool, NoMemory> {
+    let (kind, told) = part.split_once(' ').unwrap_or((part, ""));
+    match kind {
+        "goes" => {
+            play(rt, alloc, world, script.lines.as_slice(), row, told);
+            Ok(true)
+        }
+        "not" => Ok(!is_told(alloc, world, script.sessions.as_slice(), told)?),
+        _ => is_told(alloc, world, script.sessions.as_slice(), part),
+    }
 }
 
-/// A new world does what a row says, and this is its mail then.
-pub fn posts_as(rt: &impl Abort, alloc: Global, row: &str, mail: &str) -> Result<(), NoMemory> {
-    let asked = Asked {
-        history: None,
-        logs: None,
-        mail: Some(mail),
-    };
-    does(rt, alloc, row, &asked)
-}
-
-/// A new world goes by a schedule, and its calls then have these events.
-pub fn calls_as(
+fn parts_hold(
     rt: &impl Abort,
     alloc: Global,
-    schedule: &str,
-    events: &str,
-) -> Result<(), NoMemory> {
-    let script = script(rt, alloc, SCRIPT.as_bytes());
-    let mut world = new_world(alloc)?;
-    play(rt, alloc, &mut world, script.lines.as_slice(), schedule);
-    assert!(rt; holds(events_are(alloc, world.calls(), events)), "{events}");
-    Ok(())
+    world: &mut Clients,
+    script: &Script,
+    name: &str,
+    row: &str,
+) {
+    for part in row.split('|') {
+        is_so(
+            rt,
+            name,
+            part,
+            part_holds(rt, alloc, world, script, name, part),
+        );
+    }
 }
 
-/// What isn't so of a world in which line 3 has had its first poll: words of a schedule.
-const NOT_SO: &str =
-    "4 2 99 1.1=dir-add 1.1=none 2.1=header-create 1.2>end 1.2>data-read trims:1.0 1.1>ls
-heard:1=hi heard:1=+ told:1=";
+/// A new world with the clients of a script goes by a row. No other function owns a world or a
+/// script, since each that does is dear to prove. The world isn't let go: each test is a process,
+/// which ends.
+pub fn named_row_holds(rt: &impl Abort, alloc: Global, text: &str, name: &str, row: &str) {
+    let script = script(rt, alloc, text.as_bytes());
+    let mut world = new_world(rt, alloc);
+    parts_hold(rt, alloc, &mut world, &script, name, row);
+    forget(world);
+    drop(script);
+}
+
+/// The same with the clients of `SCRIPT`.
+pub fn row_holds(rt: &impl Abort, alloc: Global, row: &str) {
+    named_row_holds(rt, alloc, SCRIPT, row, row);
+}
+
+/// What isn't so of a world in which line 3 has had its first poll. Each word has a world of its
+/// own, since a poll changes it.
+const NOT_SO: &str = "goes 3 1.1 !$0$
+";
+
+const NOT_SO_WORDS: &str = "4
+2
+99
+1.1=dir-add
+1.1=none
+2.1=header-create
+1.2>end
+1.2>data-read
+trims:1.0
+1.1>ls
+heard:1=hi
+heard:1=+
+told:1=
+client:1=runs,0,1,3,new
+client:2=runs,0,2,3,new
+answer:done
+answer:-
+entries:1
+entries:3
+filled:0.0.0";
 
 /// And what didn't come of that.
-const NOT_CAME: &str = "slot1|
-slot1 a1 a2!|
-slot1 a2|
-slot1 b1|
-slot1 a1!|
-slot1 a1~|
-slot1 heard|
-slot1 stopped|
-slot2 a1|
-a1 slot1|
-nothing a1|
-slot1 a1|3 ok
-slot1 a1";
-
-/// Each word is tried in a world of its own, since a poll changes it.
-fn is_not_so(rt: &impl Abort, alloc: Global, word: &str) -> Result<bool, NoMemory> {
-    let script = script(rt, alloc, SCRIPT.as_bytes());
-    let mut world = new_world(alloc)?;
-    play(rt, alloc, &mut world, script.lines.as_slice(), "3 1.1");
-    Ok(!goes(rt, alloc, &mut world, script.lines.as_slice(), word)?)
-}
-
-fn did_not_come(rt: &impl Abort, alloc: Global, told: &str) -> Result<bool, NoMemory> {
-    let script = script(rt, alloc, SCRIPT.as_bytes());
-    let mut world = new_world(alloc)?;
-    play(rt, alloc, &mut world, script.lines.as_slice(), "3 1.1");
-    Ok(!came_to(alloc, &world, told)?)
-}
+const NOT_CAME: &str = "goes 3 1.1 answer:id entries:2
+|not came slot1
+|not came slot1 a1 a2!
+|not came slot1 a2
+|not came slot1 b1
+|not came slot1 a1!
+|not came slot1 a1~
+|not came slot1 heard
+|not came slot1 stopped
+|not came slot2 a1
+|not came a1 slot1
+|not came nothing a1
+|not replies 3 ok
+|not slot1 a1
+|not events 3:c1 1.2
+|not history h 1 start 3 c1.0
+|not a -
+|not b o b1 c1.0 dir-add rbd_directory id
+|not mail 1 c1.0>c2.0 a1 hi
+|not lost 3
+|not fenced c1.0
+|not maps resize 2 done
+|not bits 00
+|came slot1 a1
+";
 
 #[test]
-fn what_is_not_so_does_not_hold(rt: HostRuntime) -> Result<(), Fail> {
-    for word in NOT_SO.split_whitespace() {
-        assert!(rt; holds(is_not_so(&rt, rt.alloc(), word)), "{word}");
-    }
-    for told in NOT_CAME.split('\n') {
-        assert!(rt; holds(did_not_come(&rt, rt.alloc(), told)), "{told}");
-    }
-    Ok(())
+fn what_is_not_so_does_not_hold(rt: HostRuntime) {
+    table_holds(&rt, rt.alloc(), SCRIPT, NOT_SO, NOT_SO_WORDS);
+    row_holds(&rt, rt.alloc(), NOT_CAME);
 }

@@ -9,8 +9,10 @@
 //! | `1.2>end` | it is polled until its request has its reply |
 //! | `1.2=none` | nothing: this is what it wants |
 //! | `stop:1`, and others with a colon | see `others` |
-use super::drive::{Clients, comes, holds, wanted};
+//! | `!1.2=none` | what the word behind the `!` says isn't so |
+use super::drive::{Clients, comes, wanted};
 use super::others::other_goes;
+use super::rows::is_so;
 use rbd_kinds::{NoMemory, SessionNo, Slot, TryClone};
 use rbd_script::{Line, Said};
 use rbd_world::{Event, Outcome};
@@ -41,63 +43,49 @@ fn begin(
     alloc: Global,
     world: &mut Clients,
     line: &Line,
-) -> Result<Option<Outcome>, NoMemory> {
+) -> Result<bool, NoMemory> {
     let Said::Command {
         session,
         beside: _,
         command,
     } = &line.said
     else {
-        return Ok(None);
+        return Ok(false);
     };
     let event = Event::Submit {
         session: *session,
         line: line.number,
         command: command.try_clone()?,
     };
-    Ok(Some(comes(rt, alloc, world, event)?))
+    comes(rt, alloc, world, event)?;
+    Ok(true)
 }
 
-/// The line of this number is begun. What came of it, where there is such a line.
-pub fn begin_line(
+/// The line of this number is begun, where there is such a line.
+fn begin_line(
     rt: &impl Abort,
     alloc: Global,
     world: &mut Clients,
     lines: &[Line],
     wanted: u32,
-) -> Result<Option<Outcome>, NoMemory> {
+) -> Result<bool, NoMemory> {
     for line in lines {
         if line.number == wanted {
             return begin(rt, alloc, world, line);
         }
     }
-    Ok(None)
-}
-
-/// The place of a poll.
-#[derive(Clone, Copy, Debug)]
-struct Place {
-    session: SessionNo,
-    slot: Slot,
-}
-
-/// The slot of a word, as `1.2`.
-fn slot_of(client: &str, slot: &str) -> Place {
-    Place {
-        session: session_of(client),
-        slot: Slot(small_number(slot)),
-    }
+    Ok(false)
 }
 
 fn poll(
     rt: &impl Abort,
     alloc: Global,
     world: &mut Clients,
-    at: &Place,
+    at: &(SessionNo, Slot),
 ) -> Result<Outcome, NoMemory> {
     let event = Event::Poll {
-        session: at.session,
-        slot: at.slot,
+        session: at.0,
+        slot: at.1,
     };
     comes(rt, alloc, world, event)
 }
@@ -106,7 +94,7 @@ fn poll_times(
     rt: &impl Abort,
     alloc: Global,
     world: &mut Clients,
-    at: &Place,
+    at: &(SessionNo, Slot),
     times: u32,
 ) -> Result<bool, NoMemory> {
     for _ in 0..times {
@@ -127,34 +115,22 @@ fn has_replied(outcome: Outcome) -> bool {
     }
 }
 
-/// Polls a slot until its request has its reply. It is false where none comes.
-fn poll_to_end(
-    rt: &impl Abort,
-    alloc: Global,
-    world: &mut Clients,
-    at: &Place,
-) -> Result<bool, NoMemory> {
-    for _ in 0..ENOUGH {
-        if has_replied(poll(rt, alloc, world, at)?) {
-            return Ok(true);
-        }
-    }
-    Ok(false)
-}
-
-/// Polls a slot until it wants an operation of this kind. It is false where it never does.
+/// Polls a slot until it wants an operation of this kind, or, where that is `end`, until its
+/// request has its reply. It is false where the other comes first, or neither does.
 fn poll_to(
     rt: &impl Abort,
     alloc: Global,
     world: &mut Clients,
-    at: &Place,
+    at: &(SessionNo, Slot),
     kind: &str,
 ) -> Result<bool, NoMemory> {
     for _ in 0..ENOUGH {
-        if wanted(world, at.session, at.slot) == kind {
+        if wanted(world, at.0, at.1) == kind {
             return Ok(true);
         }
-        poll(rt, alloc, world, at)?;
+        if has_replied(poll(rt, alloc, world, at)?) {
+            return Ok(kind == "end");
+        }
     }
     Ok(false)
 }
@@ -167,22 +143,25 @@ fn slot_goes(
     client: &str,
     rest: &str,
 ) -> Result<bool, NoMemory> {
+    let session = session_of(client);
     if let Some((slot, kind)) = rest.split_once('=') {
-        let at = slot_of(client, slot);
-        return Ok(wanted(world, at.session, at.slot) == kind);
+        return Ok(wanted(world, session, Slot(small_number(slot))) == kind);
     }
-    if let Some((slot, times)) = rest.split_once('*') {
-        return poll_times(rt, alloc, world, &slot_of(client, slot), number(times));
+    if let Some((slot, kind)) = rest.split_once('>') {
+        return poll_to(rt, alloc, world, &(session, Slot(small_number(slot))), kind);
     }
-    match rest.split_once('>') {
-        Some((slot, "end")) => poll_to_end(rt, alloc, world, &slot_of(client, slot)),
-        Some((slot, kind)) => poll_to(rt, alloc, world, &slot_of(client, slot), kind),
-        None => poll_times(rt, alloc, world, &slot_of(client, rest), 1),
-    }
+    let (slot, times) = rest.split_once('*').unwrap_or((rest, "1"));
+    poll_times(
+        rt,
+        alloc,
+        world,
+        &(session, Slot(small_number(slot))),
+        number(times),
+    )
 }
 
 /// What a word says happens. It is false where what it says isn't so.
-pub fn goes(
+fn goes(
     rt: &impl Abort,
     alloc: Global,
     world: &mut Clients,
@@ -195,12 +174,33 @@ pub fn goes(
     if let Some((client, rest)) = word.split_once('.') {
         return slot_goes(rt, alloc, world, client, rest);
     }
-    Ok(begin_line(rt, alloc, world, lines, number(word))?.is_some())
+    begin_line(rt, alloc, world, lines, number(word))
 }
 
-/// All that a schedule says happens.
-pub fn play(rt: &impl Abort, alloc: Global, world: &mut Clients, lines: &[Line], schedule: &str) {
+/// The same, where a word with a `!` may stand too.
+fn goes_or_not(
+    rt: &impl Abort,
+    alloc: Global,
+    world: &mut Clients,
+    lines: &[Line],
+    word: &str,
+) -> Result<bool, NoMemory> {
+    match word.split_once('!') {
+        Some((_, word)) => Ok(!goes(rt, alloc, world, lines, word)?),
+        None => goes(rt, alloc, world, lines, word),
+    }
+}
+
+/// All that the schedule of a row says happens.
+pub fn play(
+    rt: &impl Abort,
+    alloc: Global,
+    world: &mut Clients,
+    lines: &[Line],
+    row: &str,
+    schedule: &str,
+) {
     for word in schedule.split_whitespace() {
-        assert!(rt; holds(goes(rt, alloc, world, lines, word)), "{word}");
+        is_so(rt, row, word, goes_or_not(rt, alloc, world, lines, word));
     }
 }

@@ -1,67 +1,31 @@
 //! A client has 64 slots.
-use super::drive::{Clients, new_world};
-use super::schedule::{begin_line, play};
-use super::script::script;
-use rbd_kinds::{NoMemory, Slot};
-use rbd_script::Line;
-use rbd_world::Outcome;
-use std::alloc::Global;
-use std::process::Abort;
-use std::test::Fail;
+use super::rows::named_row_holds;
 
 /// The lines 2 to 67 list the images, each of them.
-fn listings(alloc: Global) -> Result<Vec<u8>, NoMemory> {
-    let mut text = Vec::from_slice(alloc, b"client c1 a\n")?;
-    for _ in 2..68 {
-        text.extend_from_slice(b"c1 ls\n")?;
-    }
-    Ok(text)
-}
+const LISTINGS: &str = "client c1 a\n\
+c1 ls\nc1 ls\nc1 ls\nc1 ls\nc1 ls\nc1 ls\nc1 ls\nc1 ls\nc1 ls\nc1 ls\nc1 ls\n\
+c1 ls\nc1 ls\nc1 ls\nc1 ls\nc1 ls\nc1 ls\nc1 ls\nc1 ls\nc1 ls\nc1 ls\nc1 ls\n\
+c1 ls\nc1 ls\nc1 ls\nc1 ls\nc1 ls\nc1 ls\nc1 ls\nc1 ls\nc1 ls\nc1 ls\nc1 ls\n\
+c1 ls\nc1 ls\nc1 ls\nc1 ls\nc1 ls\nc1 ls\nc1 ls\nc1 ls\nc1 ls\nc1 ls\nc1 ls\n\
+c1 ls\nc1 ls\nc1 ls\nc1 ls\nc1 ls\nc1 ls\nc1 ls\nc1 ls\nc1 ls\nc1 ls\nc1 ls\n\
+c1 ls\nc1 ls\nc1 ls\nc1 ls\nc1 ls\nc1 ls\nc1 ls\nc1 ls\nc1 ls\nc1 ls\nc1 ls\n";
 
-/// Whether this comes of the beginning of a line.
-fn begins(
-    rt: &impl Abort,
-    alloc: Global,
-    world: &mut Clients,
-    lines: &[Line],
-    line: u32,
-    want: Outcome,
-) -> bool {
-    match begin_line(rt, alloc, world, lines, line) {
-        Ok(Some(outcome)) => outcome == want,
-        _ => false,
-    }
-}
-
-/// The line 2 has slot 1, and so on to the line 65 and slot 64.
-fn fill(rt: &impl Abort, alloc: Global, world: &mut Clients, lines: &[Line]) {
-    for slot in 1..65u8 {
-        let want = Outcome::Submitted(Slot(slot));
-        assert!(rt;
-            begins(rt, alloc, world, lines, u32::from(slot) + 1, want),
-            "{slot}"
-        );
-    }
-}
-
-/// The line 66 finds no slot until slot 17 is free, and the line 67 none behind it.
-fn overflow(rt: &impl Abort, alloc: Global, world: &mut Clients, lines: &[Line]) {
-    assert!(rt; begins(rt, alloc, world, lines, 66, Outcome::Nothing));
-    assert!(rt; world.history().len() == 64);
-    assert!(rt; world.calls().len() == 65);
-    play(rt, alloc, world, lines, "1.17>end 1.17=none");
-    assert!(rt; begins(rt, alloc, world, lines, 66, Outcome::Submitted(Slot(17))));
-    assert!(rt; begins(rt, alloc, world, lines, 67, Outcome::Nothing));
-    assert!(rt; world.history().len() == 67);
-    assert!(rt; world.calls().len() == 68);
-}
+/// The line 2 has slot 1, and so on to the line 65 and slot 64. The line 66 finds no slot until
+/// slot 17 is free, and the line 67 none behind it.
+const FULL: &str = "\
+goes 2 3 4 5 6 7 8 9 10 11 12 13 14 15 16 17 18 19 20 21 22 23 24 25 26 27 28 29 30 31 32 33 34
+35 36 37 38 39 40 41 42 43 44 45 46 47 48 49 50 51 52 53 54 55 56 57 58 59 60 61 62 63 64 65 66
+entries:64
+1.17>end 1.17=none 66 67 entries:67
+|came slot1 slot2 slot3 slot4 slot5 slot6 slot7 slot8 slot9 slot10 slot11 slot12 slot13 slot14 \
+slot15 slot16 slot17 slot18 slot19 slot20 slot21 slot22 slot23 slot24 slot25 slot26 slot27 \
+slot28 slot29 slot30 slot31 slot32 slot33 slot34 slot35 slot36 slot37 slot38 slot39 slot40 \
+slot41 slot42 slot43 slot44 slot45 slot46 slot47 slot48 slot49 slot50 slot51 slot52 slot53 \
+slot54 slot55 slot56 slot57 slot58 slot59 slot60 slot61 slot62 slot63 slot64 nothing a1! slot17 \
+nothing
+";
 
 #[test]
-fn no_line_is_begun_where_64_slots_are_held(rt: HostRuntime) -> Result<(), Fail> {
-    let text = listings(rt.alloc())?;
-    let script = script(&rt, rt.alloc(), text.as_slice());
-    let mut world = new_world(rt.alloc())?;
-    fill(&rt, rt.alloc(), &mut world, script.lines.as_slice());
-    overflow(&rt, rt.alloc(), &mut world, script.lines.as_slice());
-    Ok(())
+fn no_line_is_begun_where_64_slots_are_held(rt: HostRuntime) {
+    named_row_holds(&rt, rt.alloc(), LISTINGS, FULL, FULL);
 }

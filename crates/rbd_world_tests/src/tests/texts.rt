@@ -1,10 +1,8 @@
-//! What a world shows, as texts.
+//! What events, outcomes and entries are, as texts.
 use rbd_flat::Entry;
-use rbd_kinds::{ImageId, NoMemory, Reply, SessionNo, SiteId, Slot};
-use rbd_script::Declared;
-use rbd_site::Done;
-use rbd_text::{push_line, push_log, push_reply};
-use rbd_world::{Call, Event, Outcome};
+use rbd_kinds::{Instance, NoMemory, Reply, SessionNo, SiteId};
+use rbd_text::push_reply;
+use rbd_world::{Event, Outcome};
 use std::alloc::Global;
 
 /// Appends a word and a number.
@@ -19,6 +17,24 @@ pub fn push_numbered(
     Ok(())
 }
 
+/// Appends a word and a number, and once more.
+pub fn push_pair(
+    alloc: Global,
+    text: &mut Vec<u8>,
+    word: &str,
+    number: u64,
+    next: &str,
+    second: u64,
+) -> Result<(), NoMemory> {
+    push_numbered(alloc, text, word, number)?;
+    push_numbered(alloc, text, next, second)
+}
+
+/// The number of a client's name: 1 for c1.
+fn client(session: SessionNo) -> u64 {
+    u64::from(session.0) + 1
+}
+
 /// The letter of a site.
 pub fn letter(site: SiteId) -> &'static str {
     match site {
@@ -26,6 +42,19 @@ pub fn letter(site: SiteId) -> &'static str {
         SiteId::B => "b",
     }
 }
+
+/// Appends a word that ends with a `c`, and an instance: `c1.0`.
+pub fn push_instance(
+    alloc: Global,
+    text: &mut Vec<u8>,
+    word: &str,
+    who: &Instance,
+) -> Result<(), NoMemory> {
+    let life = u64::from(who.life);
+    push_pair(alloc, text, word, client(who.session), ".", life)
+}
+
+// ---- calls
 
 fn push_step(
     alloc: Global,
@@ -45,16 +74,12 @@ fn push_step(
     Ok(())
 }
 
-fn push_slot(alloc: Global, text: &mut Vec<u8>, slot: Slot) -> Result<(), NoMemory> {
-    push_numbered(alloc, text, "slot", u64::from(slot.0))
-}
-
 /// Appends what came of an event: `nothing`, `waits`, `slot1`, `a5`, one that asks again `a5~`,
 /// with its reply `a5!`, `heard`, `stored`, `stopped` or `restarted`.
-fn push_outcome(alloc: Global, text: &mut Vec<u8>, outcome: &Outcome) -> Result<(), NoMemory> {
+pub fn push_outcome(alloc: Global, text: &mut Vec<u8>, outcome: &Outcome) -> Result<(), NoMemory> {
     match outcome {
         Outcome::Nothing => text.extend_from_slice(b"nothing")?,
-        Outcome::Submitted(slot) => push_slot(alloc, text, *slot)?,
+        Outcome::Submitted(slot) => push_numbered(alloc, text, "slot", u64::from(slot.0))?,
         Outcome::Waits => text.extend_from_slice(b"waits")?,
         Outcome::Step {
             site,
@@ -70,131 +95,76 @@ fn push_outcome(alloc: Global, text: &mut Vec<u8>, outcome: &Outcome) -> Result<
     Ok(())
 }
 
-/// The words of a text, with one space between any two.
-fn spaced(alloc: Global, words: &str) -> Result<Vec<u8>, NoMemory> {
-    let mut text = Vec::new(alloc);
-    for word in words.split_whitespace() {
-        if !text.is_empty() {
-            text.push(b' ')?;
-        }
-        text.extend_from_slice(word.as_bytes())?;
-    }
-    Ok(text)
-}
-
-/// Whether this came of the calls, a word for each.
-pub fn outcomes_are(alloc: Global, calls: &[Call], want: &str) -> Result<bool, NoMemory> {
-    let mut text = Vec::new(alloc);
-    for call in calls {
-        if !text.is_empty() {
-            text.push(b' ')?;
-        }
-        push_outcome(alloc, &mut text, &call.outcome)?;
-    }
-    Ok(text.as_slice() == spaced(alloc, want)?.as_slice())
-}
-
-/// Appends a word, a client's number, and the number of one of its slots.
-fn push_at_slot(
-    alloc: Global,
-    text: &mut Vec<u8>,
-    word: &str,
-    session: SessionNo,
-    slot: Slot,
-) -> Result<(), NoMemory> {
-    let told = format!(in alloc; "{word}{}.{}", u32::from(session.0) + 1, slot.0)?;
-    text.extend_from_slice(told.as_bytes())?;
-    Ok(())
-}
-
-/// Appends a word and a client.
-fn push_client(
-    alloc: Global,
-    text: &mut Vec<u8>,
-    word: &str,
-    session: SessionNo,
-) -> Result<(), NoMemory> {
-    push_numbered(alloc, text, word, u64::from(session.0) + 1)
-}
-
-fn push_begun(
+fn push_expired(
     alloc: Global,
     text: &mut Vec<u8>,
     session: SessionNo,
-    line: u32,
+    site: SiteId,
+    image: u32,
 ) -> Result<(), NoMemory> {
-    let told = format!(in alloc; "{line}:c{}", u32::from(session.0) + 1)?;
-    text.extend_from_slice(told.as_bytes())?;
-    Ok(())
+    push_numbered(alloc, text, "expire:c", client(session))?;
+    text.push(b'.')?;
+    push_numbered(alloc, text, letter(site), u64::from(image))
 }
 
 fn push_trimmed(
     alloc: Global,
     text: &mut Vec<u8>,
     site: SiteId,
-    image: ImageId,
+    image: u32,
     object: u64,
 ) -> Result<(), NoMemory> {
-    let told = format!(in alloc; "trim:{}{}.{object}", letter(site), image.0)?;
-    text.extend_from_slice(told.as_bytes())?;
-    Ok(())
-}
-
-fn push_expired(
-    alloc: Global,
-    text: &mut Vec<u8>,
-    session: SessionNo,
-    site: SiteId,
-    image: ImageId,
-) -> Result<(), NoMemory> {
-    let client = u32::from(session.0) + 1;
-    let told = format!(in alloc; "expire:c{client}.{}{}", letter(site), image.0)?;
-    text.extend_from_slice(told.as_bytes())?;
-    Ok(())
+    text.extend_from_slice(b"trim:")?;
+    push_pair(alloc, text, letter(site), u64::from(image), ".", object)
 }
 
 /// Appends an event: `3:c1`, `1.2`, `deliver:1`, `expire:c1.a1`, `stop:c1`, `late:1.2`,
 /// `restart:c1` or `trim:a1.0`.
-fn push_event(alloc: Global, text: &mut Vec<u8>, event: &Event) -> Result<(), NoMemory> {
+pub fn push_event(alloc: Global, text: &mut Vec<u8>, event: &Event) -> Result<(), NoMemory> {
     match event {
         Event::Submit {
             session,
             line,
             command: _,
-        } => push_begun(alloc, text, *session, *line)?,
-        Event::Poll { session, slot } => push_at_slot(alloc, text, "", *session, *slot)?,
-        Event::Deliver { number } => push_numbered(alloc, text, "deliver:", *number)?,
+        } => push_pair(alloc, text, "", u64::from(*line), ":c", client(*session)),
+        Event::Poll { session, slot } => {
+            push_pair(alloc, text, "", client(*session), ".", u64::from(slot.0))
+        }
+        Event::Deliver { number } => push_numbered(alloc, text, "deliver:", *number),
         Event::Expire {
             session,
             site,
             image,
-        } => push_expired(alloc, text, *session, *site, *image)?,
-        Event::Stop { session } => push_client(alloc, text, "stop:c", *session)?,
-        Event::Late { session, slot } => push_at_slot(alloc, text, "late:", *session, *slot)?,
-        Event::Restart { session } => push_client(alloc, text, "restart:c", *session)?,
+        } => push_expired(alloc, text, *session, *site, image.0),
+        Event::Stop { session } => push_numbered(alloc, text, "stop:c", client(*session)),
+        Event::Late { session, slot } => {
+            push_pair(
+                alloc,
+                text,
+                "late:",
+                client(*session),
+                ".",
+                u64::from(slot.0),
+            )
+        }
+        Event::Restart { session } => push_numbered(alloc, text, "restart:c", client(*session)),
         Event::Trim {
             site,
             image,
             object,
-        } => push_trimmed(alloc, text, *site, *image, *object)?,
+        } => push_trimmed(alloc, text, *site, image.0, *object),
     }
-    Ok(())
 }
 
-/// Whether these are the events of the calls, a word for each.
-pub fn events_are(alloc: Global, calls: &[Call], want: &str) -> Result<bool, NoMemory> {
-    let mut text = Vec::new(alloc);
-    for call in calls {
-        if !text.is_empty() {
-            text.push(b' ')?;
-        }
-        push_event(alloc, &mut text, &call.event)?;
-    }
-    Ok(text.as_slice() == spaced(alloc, want)?.as_slice())
+// ---- entries
+
+/// What stands between a text and what is appended to it.
+pub fn between<'a>(text: &[u8], mark: &'a str) -> &'a str {
+    if text.is_empty() { "" } else { mark }
 }
 
 /// Appends a reply: done, bytes, names or a refusal. Of others only that there is one.
-pub fn push_plain(text: &mut Vec<u8>, reply: &Reply) -> Result<(), NoMemory> {
+fn push_plain(text: &mut Vec<u8>, reply: &Reply) -> Result<(), NoMemory> {
     match reply {
         Reply::Done => push_reply(text, &[], reply)?,
         Reply::Bytes(_) => push_reply(text, &[], reply)?,
@@ -205,100 +175,49 @@ pub fn push_plain(text: &mut Vec<u8>, reply: &Reply) -> Result<(), NoMemory> {
     Ok(())
 }
 
-/// Appends a reply behind its line, and a `;` between any two.
-fn push_answered(
+fn push_line_reply(
     alloc: Global,
     text: &mut Vec<u8>,
     line: u32,
     reply: &Reply,
 ) -> Result<(), NoMemory> {
-    let between = if text.is_empty() { "" } else { ";" };
-    push_numbered(alloc, text, between, u64::from(line))?;
+    let mark = between(text.as_slice(), ";");
+    push_numbered(alloc, text, mark, u64::from(line))?;
     text.push(b' ')?;
     push_plain(text, reply)
 }
 
-/// Whether these are the replies of a history, in their order.
-pub fn replies_are(alloc: Global, history: &[Entry], want: &str) -> Result<bool, NoMemory> {
-    let mut text = Vec::new(alloc);
-    for entry in history {
-        if let Entry::Reply { line, reply } = entry {
-            push_answered(alloc, &mut text, *line, reply)?;
-        }
-    }
-    Ok(text.as_slice() == want.as_bytes())
-}
-
-/// Whether this is the text of a history, a line for each entry (`rbd_text`).
-pub fn history_is(
-    alloc: Global,
-    sessions: &[Declared],
-    history: &[Entry],
-    want: &str,
-) -> Result<bool, NoMemory> {
-    let mut text = Vec::new(alloc);
-    for (index, entry) in history.iter().enumerate() {
-        push_line(&mut text, sessions, index + 1, entry)?;
-    }
-    Ok(text.as_slice() == want.as_bytes())
-}
-
-/// Whether this is the text of a site's log, a line for each operation (`rbd_text`).
-pub fn log_is(
-    alloc: Global,
-    sessions: &[Declared],
-    site: SiteId,
-    log: &[Done],
-    want: &str,
-) -> Result<bool, NoMemory> {
-    let mut text = Vec::new(alloc);
-    push_log(&mut text, sessions, site, log)?;
-    Ok(text.as_slice() == want.as_bytes())
-}
-
-/// The operation of an entry: its site and its number.
-fn operation(entry: &Entry) -> Option<(SiteId, u64)> {
+/// Appends the reply of an entry behind its line, and a `;` between any two.
+pub fn push_answered(alloc: Global, text: &mut Vec<u8>, entry: &Entry) -> Result<(), NoMemory> {
     match entry {
-        Entry::Effect {
-            cause: _,
-            site,
-            number,
-            effect: _,
-        } => Some((*site, *number)),
-        Entry::Look {
-            cause: _,
-            site,
-            number,
-        } => Some((*site, *number)),
+        Entry::Reply { line, reply } => push_line_reply(alloc, text, *line, reply),
+        _ => Ok(()),
+    }
+}
+
+/// Appends the line that an entry loses, and a `,` between any two.
+pub fn push_lost(alloc: Global, text: &mut Vec<u8>, entry: &Entry) -> Result<(), NoMemory> {
+    match entry {
+        Entry::Lost { line } => {
+            let mark = between(text.as_slice(), ",");
+            push_numbered(alloc, text, mark, u64::from(*line))
+        }
+        _ => Ok(()),
+    }
+}
+
+/// Appends who an entry fences, and a `,` between any two.
+pub fn push_fenced(alloc: Global, text: &mut Vec<u8>, entry: &Entry) -> Result<(), NoMemory> {
+    match entry {
         Entry::Fence {
             cause: _,
-            site,
-            number,
-            instance: _,
-        } => Some((*site, *number)),
-        _ => None,
-    }
-}
-
-/// Whether a log has an operation of an instance with this number at this place.
-fn has_operation(log: &[Done], number: u64) -> bool {
-    match log.get((number as usize).wrapping_sub(1)) {
-        Some(done) => done.number == number && done.instance.is_some(),
-        None => false,
-    }
-}
-
-/// Whether each operation that a history tells stands in the log of its site under its number.
-pub fn numbers_are_of_logs(history: &[Entry], a: &[Done], b: &[Done]) -> bool {
-    for entry in history {
-        let is_there = match operation(entry) {
-            Some((SiteId::A, number)) => has_operation(a, number),
-            Some((SiteId::B, number)) => has_operation(b, number),
-            None => true,
-        };
-        if !is_there {
-            return false;
+            site: _,
+            number: _,
+            instance,
+        } => {
+            let word = if text.is_empty() { "c" } else { ",c" };
+            push_instance(alloc, text, word, instance)
         }
+        _ => Ok(()),
     }
-    true
 }

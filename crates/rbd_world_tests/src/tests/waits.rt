@@ -1,20 +1,14 @@
 //! Requests that wait: a poll then is a call, and adds nothing to history and logs.
-use super::rows::{goes_as, tells_as};
-use std::test::Fail;
+use super::rows::row_holds;
 
 /// Line 13 waits before its own look until line 9 has its reply.
-const SECOND_SNAP: &str =
-    "3 1.1>end 9 13 1.1 1.2*2 1.2=none 1.2*2 1.1>header-snap-add 1.2=none 1.2 1.1 1.2=header-get
+const SECOND_SNAP: &str = "\
+goes 3 1.1>end 9 13 1.1 1.2*2 1.2=none 1.2*2 1.1>header-snap-add 1.2=none 1.2 1.1 1.2=header-get
 1.2>end
-|slot1 a1 a2 a3! slot1 slot2 a4 a5 a6 waits waits a7 a8 a9 a10 a11 a12 waits a13! a14 a15 a16 a17!
-|3 ok;9 ok;13 ok";
-
-const SECOND_SNAP_HISTORY: &str = "h 1 start 3 c1.0
-h 2 effect 3 a1 name
-h 3 look 3 a2
-h 4 effect 3 a3 create
-h 5 reply 3
-h 6 start 9 c1.0
+|came slot1 a1 a2 a3! slot1 slot2 a4 a5 a6 waits waits a7 a8 a9 a10 a11 a12 waits a13! a14 a15 a16 \
+a17!
+|replies 3 ok;9 ok;13 ok
+|history+3 h 6 start 9 c1.0
 h 7 start 13 c1.0
 h 8 look 9 a4
 h 9 look 13 a5
@@ -35,18 +29,18 @@ h 23 reply 13
 ";
 
 #[test]
-fn a_second_snapshot_waits_behind_the_first(rt: HostRuntime) -> Result<(), Fail> {
-    tells_as(&rt, rt.alloc(), SECOND_SNAP, SECOND_SNAP_HISTORY)?;
-    Ok(())
+fn a_second_snapshot_waits_behind_the_first(rt: HostRuntime) {
+    row_holds(&rt, rt.alloc(), SECOND_SNAP);
 }
 
 /// Line 9 waits until line 5 has its reply, also between the pieces.
-const BEHIND_A_WRITE: &str = "3 1.1>end 5 9 1.1 1.2*3 1.1*6 1.2 1.1*2 1.2>end
-|slot1 a1 a2 a3! slot1 slot2 a4 a5 a6 waits a7 a8 a9 a10 a11 a12 waits a13 a14! a15 a16 a17 a18!
-|3 ok;5 ok;9 ok";
+const BEHIND_A_WRITE: &str = "goes 3 1.1>end 5 9 1.1 1.2*3 1.1*6 1.2 1.1*2 1.2>end
+|came slot1 a1 a2 a3! slot1 slot2 a4 a5 a6 waits a7 a8 a9 a10 a11 a12 waits a13 a14! a15 a16 a17 \
+a18!
+|replies 3 ok;5 ok;9 ok
+";
 
 #[test]
-fn a_snapshot_waits_behind_a_write(rt: HostRuntime) -> Result<(), Fail> {
-    goes_as(&rt, rt.alloc(), BEHIND_A_WRITE)?;
-    Ok(())
+fn a_snapshot_waits_behind_a_write(rt: HostRuntime) {
+    row_holds(&rt, rt.alloc(), BEHIND_A_WRITE);
 }

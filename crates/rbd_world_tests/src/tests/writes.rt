@@ -5,21 +5,16 @@
 //! object in the head's object map, and writes it: three operations and four. Before the second
 //! look the first change of a client watches the image and takes its lock: two more. A read finds
 //! it, looks at the header, reads each object, and looks again. A state alone shows in no read.
-use super::rows::{goes_as, mixes_as, tells_as};
-use std::test::Fail;
+use super::rows::row_holds;
+use super::script::SCRIPT;
+use super::tables::table_holds;
 
 /// c1 has written two of the four bytes when c2 reads, which are the object 0's.
-const ONE_PIECE: &str = "3 1.1>end 5 1.1>data-write 1.1 6 2.1>end 1.1>end 10 2.1>end
-|slot1 a1 a2 a3! slot1 a4 a5 a6 a7 a8 a9 a10 slot1 a11 a12 a13 a14 a15! a16 a17! slot1 a18 a19 a20
-a21 a22!
-|3 ok;6 ok 11220000;5 ok;10 ok 11223344";
-
-const ONE_PIECE_HISTORY: &str = "h 1 start 3 c1.0
-h 2 effect 3 a1 name
-h 3 look 3 a2
-h 4 effect 3 a3 create
-h 5 reply 3
-h 6 start 5 c1.0
+const ONE_PIECE: &str = "goes 3 1.1>end 5 1.1>data-write 1.1 6 2.1>end 1.1>end 10 2.1>end
+|came slot1 a1 a2 a3! slot1 a4 a5 a6 a7 a8 a9 a10 slot1 a11 a12 a13 a14 a15! a16 a17! slot1 a18 \
+a19 a20 a21 a22!
+|replies 3 ok;6 ok 11220000;5 ok;10 ok 11223344
+|history+3 h 6 start 5 c1.0
 h 7 look 5 a4
 h 8 look 5 a5
 h 9 look 5 a6
@@ -47,20 +42,21 @@ h 30 reply 10
 ";
 
 #[test]
-fn a_read_shows_one_piece_of_a_write(rt: HostRuntime) -> Result<(), Fail> {
-    tells_as(&rt, rt.alloc(), ONE_PIECE, ONE_PIECE_HISTORY)?;
-    Ok(())
+fn a_read_shows_one_piece_of_a_write(rt: HostRuntime) {
+    row_holds(&rt, rt.alloc(), ONE_PIECE);
 }
 
 /// Both writes are about to change the object 0, line 5 ahead of line 7, and both reads are about
 /// to read it.
-const FIFTH_AHEAD: &str = "3 1.1>end 5 7 1.1*5 1.2*3 6 10 2.1*2 2.2*2";
+const FIFTH_AHEAD: &str = "goes 3 1.1>end 5 7 1.1*5 1.2*3 6 10 2.1*2 2.2*2 $0$
+|replies $1$
+";
 
 /// The bytes 4094 to 4097 are at first 0000 0000, the first two of them the object 0's. Line 5
 /// makes them 1122 3344, object by object, and line 7 the two in the middle aa and bb: behind line
 /// 5 the object 0 has 11aa, and the object 1 bb44. A third poll of a read is its last look.
-const MIXED_BEHIND_FIFTH: &str =
-    "1.1 2.1 1.1*3 2.1*2 1.2 2.2 1.2*3 2.2*2|3 ok;5 ok;6 ok 00003344;7 ok;10 ok 1122bb44
+const MIXED_BEHIND_FIFTH: &str = "\
+1.1 2.1 1.1*3 2.1*2 1.2 2.2 1.2*3 2.2*2|3 ok;5 ok;6 ok 00003344;7 ok;10 ok 1122bb44
 2.1*3 1.1*4 1.2*4 2.2*3|3 ok;6 ok 00000000;5 ok;7 ok;10 ok 11aabb44
 1.1*2 2.1 1.1*2 2.1*2 1.2*2 2.2 1.2*2 2.2*2|3 ok;5 ok;6 ok 11223344;7 ok;10 ok 11aabb44
 2.1 1.1*2 1.2*2 1.1*2 1.2*2 2.1*2 2.2*3|3 ok;5 ok;7 ok;6 ok 0000bb44;10 ok 11aabb44
@@ -70,47 +66,35 @@ const MIXED_BEHIND_FIFTH: &str =
 1.1*4 2.1*2 1.2*4 2.2*2 2.2 2.1|3 ok;5 ok;7 ok;10 ok 11aabb44;6 ok 11223344";
 
 #[test]
-fn reads_show_each_object_between_two_writes(rt: HostRuntime) -> Result<(), Fail> {
-    for row in MIXED_BEHIND_FIFTH.split('\n') {
-        mixes_as(&rt, rt.alloc(), FIFTH_AHEAD, row)?;
-    }
-    Ok(())
+fn reads_show_each_object_between_two_writes(rt: HostRuntime) {
+    table_holds(&rt, rt.alloc(), SCRIPT, FIFTH_AHEAD, MIXED_BEHIND_FIFTH);
 }
 
 /// The same, with line 7 ahead of line 5.
-const SEVENTH_AHEAD: &str = "3 1.1>end 5 7 1.2*5 1.1*3 6 10 2.1*2 2.2*2";
+const SEVENTH_AHEAD: &str = "goes 3 1.1>end 5 7 1.2*5 1.1*3 6 10 2.1*2 2.2*2 $0$
+|replies $1$
+";
 
 /// Line 7 makes the bytes 00aa bb00, object by object, and line 5 behind it 1122 3344.
-const MIXED_BEHIND_SEVENTH: &str =
-    "1.1*2 1.2*2 1.1*2 2.1 1.1*2 1.2*2 2.1 1.1*2 2.1 2.2*3|3 ok;7 ok;5 ok;6 ok 1122bb00;10 ok 11223344
+const MIXED_BEHIND_SEVENTH: &str = "\
+1.1*2 1.2*2 1.1*2 2.1 1.1*2 1.2*2 2.1 1.1*2 2.1 2.2*3|3 ok;7 ok;5 ok;6 ok 1122bb00;10 ok 11223344
 1.2*2 2.1 2.2 1.2*2 1.1*2 2.1 2.2 1.1*2 2.1 2.2|3 ok;7 ok;5 ok;6 ok 00aabb00;10 ok 00aabb00
 1.2*2 1.1*2 1.2*2 2.1*2 1.1*2 2.2*3 2.1|3 ok;7 ok;5 ok;10 ok 11223344;6 ok 1122bb00
 1.2*4 2.1 1.1*2 2.2 2.1 1.1*2 2.2 2.1 2.2|3 ok;7 ok;5 ok;6 ok 00aabb00;10 ok 11223344";
 
 #[test]
-fn writes_change_each_object_in_the_order_in_which_they_joined(
-    rt: HostRuntime,
-) -> Result<(), Fail> {
-    for row in MIXED_BEHIND_SEVENTH.split('\n') {
-        mixes_as(&rt, rt.alloc(), SEVENTH_AHEAD, row)?;
-    }
-    Ok(())
+fn writes_change_each_object_in_the_order_in_which_they_joined(rt: HostRuntime) {
+    table_holds(&rt, rt.alloc(), SCRIPT, SEVENTH_AHEAD, MIXED_BEHIND_SEVENTH);
 }
 
 /// Line 7 waits at each object until line 5 has written it, also where its state is raised.
-const TURNS: &str =
-    "3 1.1>end 5 7 1.1*5 1.2*3 1.2 1.2=none 1.1 1.2=none 1.1=data-write 1.1 1.2=map-set 1.2*3
+const TURNS: &str = "\
+goes 3 1.1>end 5 7 1.1*5 1.2*3 1.2 1.2=none 1.1 1.2=none 1.1=data-write 1.1 1.2=map-set 1.2*3
 1.1*2 1.2*2
-|slot1 a1 a2 a3! slot1 slot2 a4 a5 a6 a7 a8 a9 a10 a11 waits a12 a13 a14 a15 waits a16 a17! a18
-a19!
-|3 ok;5 ok;7 ok";
-
-const TURNS_HISTORY: &str = "h 1 start 3 c1.0
-h 2 effect 3 a1 name
-h 3 look 3 a2
-h 4 effect 3 a3 create
-h 5 reply 3
-h 6 start 5 c1.0
+|came slot1 a1 a2 a3! slot1 slot2 a4 a5 a6 a7 a8 a9 a10 a11 waits a12 a13 a14 a15 waits a16 a17! \
+a18 a19!
+|replies 3 ok;5 ok;7 ok
+|history+3 h 6 start 5 c1.0
 h 7 start 7 c1.0
 h 8 look 5 a4
 h 9 look 5 a5
@@ -133,21 +117,20 @@ h 25 reply 7
 ";
 
 #[test]
-fn a_write_waits_for_its_turn_at_each_object(rt: HostRuntime) -> Result<(), Fail> {
-    tells_as(&rt, rt.alloc(), TURNS, TURNS_HISTORY)?;
-    Ok(())
+fn a_write_waits_for_its_turn_at_each_object(rt: HostRuntime) {
+    row_holds(&rt, rt.alloc(), TURNS);
 }
 
 /// Line 7 waits before its own look until line 5 has had its own, which is its second. Line 5 goes
 /// the way to the lock for both.
-const OWN_LOOKS: &str = "3 1.1>end 5 7 1.1*2 1.2*2 1.2=none 1.2 1.1=watch 1.1*2 1.2=none 1.2
+const OWN_LOOKS: &str = "goes 3 1.1>end 5 7 1.1*2 1.2*2 1.2=none 1.2 1.1=watch 1.1*2 1.2=none 1.2
 1.1=header-get 1.1 1.2=header-get 1.2*2 1.1>end 1.2>end
-|slot1 a1 a2 a3! slot1 slot2 a4 a5 a6 a7 waits a8 a9 waits a10 a11 waits a12 a13 a14 a15! a16 a17
-a18 a19!
-|3 ok;5 ok;7 ok";
+|came slot1 a1 a2 a3! slot1 slot2 a4 a5 a6 a7 waits a8 a9 waits a10 a11 waits a12 a13 a14 a15! a16 \
+a17 a18 a19!
+|replies 3 ok;5 ok;7 ok
+";
 
 #[test]
-fn a_write_looks_behind_the_own_look_of_the_one_ahead(rt: HostRuntime) -> Result<(), Fail> {
-    goes_as(&rt, rt.alloc(), OWN_LOOKS)?;
-    Ok(())
+fn a_write_looks_behind_the_own_look_of_the_one_ahead(rt: HostRuntime) {
+    row_holds(&rt, rt.alloc(), OWN_LOOKS);
 }
