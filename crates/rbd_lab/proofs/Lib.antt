@@ -1,4 +1,5 @@
 mod Built
+mod Complete
 mod Shown
 mod Taken
 mod Told

@@ -6,7 +6,7 @@ use Rattle.rbd_script.specs.declared.fault.LineFault.{LineFault}
 use Rattle.rbd_script.specs.declared.script.Script.{Script}
 use Rattle.rbd_script.specs.Reading.{limit}
 use Rattle.rbd_text.specs.Text.{usage_text}
-use Rattle.rbd_lab.specs.Script.{judged, fault_text}
+use Rattle.rbd_lab.specs.Script.{IsBuiltScript, judged, fault_text}
 use Rattle.rbd_lab.specs.Output.{IsTold}
 use Rattle.rbd_lab.specs.declared.mode.Mode.{Mode}
 use Rattle.rbd_lab.specs.declared.mode.Mode.TheVariants.{Replies, Trace}
@@ -126,6 +126,25 @@ pub record IsRun {S : Type 0} (words : List (List ℕ)) (status : Status) (sourc
   pub unread : status ≡ ReadFault → IsSilent words old.held new.held
   pub cut : status ≡ WriteFault → IsCut words old.left old.held new.held
   pub no_memory : status ≡ NoMemory → IsSilent words old.held new.held
+
+-- ---- where nothing is in a run's way
+
+-- The words ask for it, the source shows that it has a script of built forms, and no device counted
+-- a fault.
+pub record IsUnhindered (words : List (List ℕ)) (old new : Devices) : Type 0 where
+  pub asked : AreRun words
+  pub bytes : List ℕ
+  pub shown : old.left ≡ Some bytes
+  pub script : Script
+  pub is_script : IsBuiltScript bytes script
+  pub reads : new.read_faults ≡ old.read_faults
+  pub writes : new.write_faults ≡ old.write_faults
+
+-- it is done, or memory was refused
+abbrev pub IsDoneOrRefused : Status → Type 0
+IsDoneOrRefused status = (status ≡ Done) ⊎ (status ≡ NoMemory)
+
+-- ---- statuses
 
 -- the exit statuses
 abbrev pub code_of : Status → ℕ

@@ -1,5 +1,5 @@
 -- Which bytes are a script of built forms, and which fault is told of others.
-use Rattle.std.specs.Prelude.{ℕ, Bool, true, false, if◌then◌else◌, List, [], ◌∷◌, ◌++◌, codes, decimal, Option, Some, None, Result, Ok, Err}
+use Rattle.std.specs.Prelude.{◌≡◌, ℕ, All, Bool, true, false, if◌then◌else◌, List, [], ◌∷◌, ◌++◌, codes, decimal, Option, Some, None, Result, Ok, Err}
 use Rattle.rbd_requests.specs.Served.{is_built}
 use Rattle.rbd_script.specs.declared.fault.LineCause.TheVariants.{UnknownWord}
 use Rattle.rbd_script.specs.declared.fault.LineFault.{LineFault}
@@ -16,6 +16,15 @@ use Rattle.rbd_script.specs.Reading.{reading}
 abbrev pub is_said : Said → Bool
 is_said (said.Command session beside command) = is_built command
 is_said s = true
+
+-- each of these lines is
+abbrev pub AreBuilt : List Line → Type 0
+AreBuilt lines = All (λ (line : Line). is_said line.said ≡ true) lines
+
+-- The bytes are a script by the grammar, and each of its forms is built.
+pub record IsBuiltScript (bytes : List ℕ) (script : Script) : Type 0 where
+  pub reads : reading false bytes ≡ Ok script
+  pub built : AreBuilt script.lines
 
 -- the first line with a form that isn't built, by its number
 abbrev pub unbuilt_line : List Line → Option ℕ

@@ -45,6 +45,7 @@ use std::process::ExitCode;
 use std::rt::Env;
 use std::{env, io};
 
+mod laws;
 mod mode;
 mod play;
 mod run;

@@ -1,4 +1,5 @@
 pub mod AtPlaces
+pub mod Below
 pub mod ChangesDone
 pub mod ChangesLike
 pub mod ChangesWhole
@@ -11,6 +12,7 @@ pub mod InLine
 pub mod KeepsOwn
 pub mod Led
 pub mod LineBounds
+pub mod LinesBelow
 pub mod ListingsTold
 pub mod LookFirst
 pub mod LooksFirst

@@ -68,7 +68,7 @@ module _ (site : SiteId) (name : List ℕ) (snap : Option (List ℕ)) (e : Exten
       let all : length steps ≡ suc (suc (length p.reads + 1)) = ap length p.are ∙ ap (λ n. suc (suc n)) (length-append p.reads (_ ∷ [])) in
       omega arith
 
-  passes_within : (passes : List (List Answered)) (rest : List Answered) → AreGiven (joined passes ++ rest) → SeeOthers site name snap e passes → HaveAtMost (most + 3) passes × AreGiven rest
+  pub passes_within : (passes : List (List Answered)) (rest : List Answered) → AreGiven (joined passes ++ rest) → SeeOthers site name snap e passes → HaveAtMost (most + 3) passes × AreGiven rest
   passes_within [] rest given see = (tt, given)
   passes_within (p ∷ passes) rest given (sees, see) =
       let both : AreGiven (p ++ (joined passes ++ rest)) = subst AreGiven (append_assoc p (joined passes) rest) given in
@@ -92,7 +92,7 @@ module _ (site : SiteId) (name : List ℕ) (snap : Option (List ℕ)) (e : Exten
 -- ---- any command
 
 -- but for a read no command goes to a label
-unlabelled : (seat : Seat) (c : Command) (s : Standing) → IsPlanFor seat c s → (IsReadOf seat.home c s → ⊥) → s ≡ without_labels s.plan
+pub unlabelled : (seat : Seat) (c : Command) (s : Standing) → IsPlanFor seat c s → (IsReadOf seat.home c s → ⊥) → s ≡ without_labels s.plan
 unlabelled seat c s (Writes is at_plan) other = at_plan ∙ ap (λ (x : Standing). without_labels x.plan) (sym at_plan)
 unlabelled seat c s (Discards is at_plan) other = at_plan ∙ ap (λ (x : Standing). without_labels x.plan) (sym at_plan)
 unlabelled seat c s (Reads is) other = absurd (other is)
@@ -104,7 +104,7 @@ unlabelled seat c s (Rollbacks is at_plan) other = at_plan ∙ ap (λ (x : Stand
 unlabelled seat c s (Removes is at_plan) other = at_plan ∙ ap (λ (x : Standing). without_labels x.plan) (sym at_plan)
 unlabelled seat c s (Closes is at_plan) other = at_plan ∙ ap (λ (x : Standing). without_labels x.plan) (sym at_plan)
 
-is_that_read : (seat : Seat) (name : List ℕ) (snap : Option (List ℕ)) (at len : ℕ) (s : Standing) → IsPlanFor seat (command.Read name snap at len) s → IsReadOf seat.home (command.Read name snap at len) s
+pub is_that_read : (seat : Seat) (name : List ℕ) (snap : Option (List ℕ)) (at len : ℕ) (s : Standing) → IsPlanFor seat (command.Read name snap at len) s → IsReadOf seat.home (command.Read name snap at len) s
 is_that_read seat name snap at len s (Writes is at_plan) = cc
 is_that_read seat name snap at len s (Discards is at_plan) = cc
 is_that_read seat name snap at len s (Reads is) = is

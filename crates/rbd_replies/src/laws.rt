@@ -1,6 +1,6 @@
 //! What replies say of the flat-copy machine, and what fenced clients can't do: each law is the
 //! contract of a function that does nothing.
-ghost use Rattle.std.specs.Prelude.{◌≡◌, ℕ, true, [], ◌∷◌, ◌++◌, List, All, Option, Some, map};
+ghost use Rattle.std.specs.Prelude.{◌≡◌, ◌⊎◌, ℕ, false, true, [], ◌∷◌, ◌++◌, List, All, Option, Some, map};
 ghost use Rattle.rbd_kinds.specs.declared.answer.Answer.TheVariants as answer;
 ghost use Rattle.rbd_kinds.specs.declared.header_op.HeaderOp.TheVariants as header;
 ghost use Rattle.rbd_kinds.specs.declared.id.Instance.{Instance as Who};
@@ -11,11 +11,13 @@ ghost use Rattle.rbd_kinds.specs.declared.reply.Reply.{Reply};
 ghost use Rattle.rbd_requests.specs.Touched.{HasAtMost, bound_of, touched_by};
 ghost use Rattle.rbd_site.specs.Step.{is_fenced};
 ghost use Rattle.rbd_stands.specs.Owned.{changes_image, was_done};
-ghost use Rattle.rbd_world.specs.Run.{Asked, Happening, Operation, Did, Refused, Stopped, asked_by, fence_of, is_among, is_on_way, records_after, replies_to, step_of, steps_of};
+ghost use Rattle.rbd_world.specs.Run.{Asked, Happening, Operation, Did, Refused, Stopped, Waited, asked_by, fence_of, is_among, is_on_way, records_after, replies_to, step_of, steps_of};
 ghost use Rattle.rbd_world.specs.Sound.{IsRight, IsSoundWorld, has_ended, line_at};
+ghost use Rattle.rbd_world.specs.Step.{happening};
 ghost use Rattle.rbd_world.specs.World.{WorldView};
 ghost use Rattle.rbd_world.specs.declared.event.Call.{Call};
-ghost use Rattle.rbd_replies.specs.Bounds.{KeepsBound};
+ghost use Rattle.rbd_world.specs.declared.event.Event.TheVariants as event;
+ghost use Rattle.rbd_replies.specs.Bounds.{IsStepFor, KeepsBound, StaysBelow};
 ghost use Rattle.rbd_replies.specs.Fenced.{AtEachOperation, ChangesNothing, IsStoppedByTheFence, IsTheOwners, OwnsOrNone};
 ghost use Rattle.rbd_replies.specs.Home.{AreDoneAt};
 ghost use Rattle.rbd_replies.specs.Places.{Placed, effects_of, places_of};
@@ -109,6 +111,32 @@ pub fn lines_keep_their_bounds<R: Request>()
     ensures begun { (w : WorldView R) (sound : IsSoundWorld R.stands w) (line : ℕ) (asked : Asked) (most : ℕ)
         → asked_by line sound.run ≡ Some asked → HasAtMost most (touched_by asked.command)
         → KeepsBound (sound.homes asked.who.session) asked.command (bound_of asked.command most) (steps_of line sound.run) }
+{}
+
+/// The command of a line that was begun, has no reply yet and isn't lost has had fewer operations
+/// itself than its bound, a read in the pass that it is in: at least one more is due. So a line that
+/// has had as many as its bound has its reply, or is lost.
+pub fn open_lines_stay_below_their_bounds<R: Request>()
+    ensures under_way { (w : WorldView R) (sound : IsSoundWorld R.stands w) (session slot line : ℕ) (asked : Asked) (most : ℕ)
+        → line_at session slot w.lives ≡ Some line → asked_by line sound.run ≡ Some asked → HasAtMost most (touched_by asked.command)
+        → StaysBelow (sound.homes asked.who.session) asked.command (bound_of asked.command most) (steps_of line sound.run) }
+    ensures open { (w : WorldView R) (sound : IsSoundWorld R.stands w) (line : ℕ) (asked : Asked) (most : ℕ)
+        → asked_by line sound.run ≡ Some asked → has_ended line sound.run ≡ false → HasAtMost most (touched_by asked.command)
+        → StaysBelow (sound.homes asked.who.session) asked.command (bound_of asked.command most) (steps_of line sound.run) }
+    ensures at_bound { (w : WorldView R) (sound : IsSoundWorld R.stands w) (line : ℕ) (asked : Asked) (most : ℕ)
+        → asked_by line sound.run ≡ Some asked → HasAtMost most (touched_by asked.command)
+        → (StaysBelow (sound.homes asked.who.session) asked.command (bound_of asked.command most) (steps_of line sound.run) → ⊥)
+        → has_ended line sound.run ≡ true }
+{}
+
+/// A poll of the slot that a line is in either waits, or does a step of the line: an operation of
+/// its command itself, or on its way to the lock of its image; or it is refused before any. So with
+/// `open_lines_stay_below_their_bounds` a line has its reply after as many polls of its slot as its
+/// bound allows, other than those that wait and those on its way. What bounds the latter, but for
+/// those that ask again, is said by `ways_lead_to_locks` of `rbd_world`.
+pub fn polls_are_steps_of_lines<R: Request>()
+    ensures { (w : WorldView R) (session slot line : ℕ) → IsSoundWorld R.stands w → line_at session slot w.lives ≡ Some line
+        → (happening R.stands (event.Poll session slot) w ≡ Waited) ⊎ IsStepFor line (happening R.stands (event.Poll session slot) w) }
 {}
 
 /// Each reply in the history of a world, whatever events came, is the one of its line's command: it

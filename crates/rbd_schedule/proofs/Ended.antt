@@ -297,7 +297,7 @@ module _ {R : Type 0} (stands : R → Standing) (given : (session : ℕ) → Lis
     skip_turn true session old new at none turn = absurd (true≢false (sym at ∙ none))
     skip_turn false session old new at none same = same
 
-    skip_turns : (n : ℕ) (old new : Pace R) → Deeds (TurnOf stands given lost) n old new → NoneRuns n old.world → new ≡ old
+    pub skip_turns : (n : ℕ) (old new : Pace R) → Deeds (TurnOf stands given lost) n old new → NoneRuns n old.world → new ≡ old
     unfolding Deeds
     skip_turns zero old new done none = done
     skip_turns (suc n) old new (between, first, it) none =

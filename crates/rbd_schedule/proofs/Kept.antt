@@ -41,7 +41,7 @@ module _ {R : Type 0} (stands : R → Standing) (P : WorldView R → Type 0) (Ma
     kept_by_start : (k : ℕ) (old new : WorldView R) → Starts stands given old new → P old → P new
     kept_by_start k old new starts is = start starts.session old new starts.submits is
 
-    kept_by_starts : (old new : WorldView R) → StartsAll stands given old new → P old → P new
+    pub kept_by_starts : (old new : WorldView R) → StartsAll stands given old new → P old → P new
     kept_by_starts old new starts is = kept_by_deeds P (λ k. Starts stands given) kept_by_start starts.count old new starts.starts is
 
     kept_by_coming : (e : Event) (result : Outcome) (old new : WorldView R) → May e → Comes stands given e result old new → P old → P new
@@ -53,11 +53,11 @@ module _ {R : Type 0} (stands : R → Standing) (P : WorldView R → Type 0) (Ma
     kept_in_round : (session slot : ℕ) (old new : Pace R) → PollsIn stands given session slot old new → P old.world → P new.world
     kept_in_round session slot old new polls is = kept_by_coming (event.Poll session slot) polls.result old.world new.world (polls_may session slot) polls.comes is
 
-    kept_where : (held : Bool) (session slot : ℕ) (old new : Pace R) → PollsWhere stands given held session slot old new → P old.world → P new.world
+    pub kept_where : (held : Bool) (session slot : ℕ) (old new : Pace R) → PollsWhere stands given held session slot old new → P old.world → P new.world
     kept_where true session slot old new polls is = kept_in_round session slot old new polls is
     kept_where false session slot old new same is = subst (λ (p : Pace R). P p.world) (sym same) is
 
-    kept_where_due : (due : Bool) (number : ℕ) (old new : WorldView R) → DeliversWhere stands given due number old new → P old → P new
+    pub kept_where_due : (due : Bool) (number : ℕ) (old new : WorldView R) → DeliversWhere stands given due number old new → P old → P new
     kept_where_due true number old new delivers is = kept_by_event (event.Deliver number) old new (deliveries_may number) delivers is
     kept_where_due false number old new same is = subst P (sym same) is
 
@@ -74,7 +74,7 @@ module _ {R : Type 0} (stands : R → Standing) (P : WorldView R → Type 0) (Ma
           (kept_by_deeds P (λ k. DeliversWhere stands given (is_due lost session (k + 1) old.world) (k + 1)) (λ k. kept_where_due (is_due lost session (k + 1) old.world) (k + 1))
           (length old.world.sites.mail) old.world turn.told turn.notices is)
 
-      kept_where_runs : (running : Bool) (session : ℕ) (old new : Pace R) → TurnWhere stands given lost running session old new → P old.world → P new.world
+      pub kept_where_runs : (running : Bool) (session : ℕ) (old new : Pace R) → TurnWhere stands given lost running session old new → P old.world → P new.world
       kept_where_runs true session old new turn is = kept_by_turn session old new turn is
       kept_where_runs false session old new same is = subst (λ (p : Pace R). P p.world) (sym same) is
 

@@ -4,6 +4,7 @@ pub mod Before
 pub mod Begins
 pub mod Calmed
 pub mod Clients
+pub mod Counted
 pub mod Delivered
 pub mod Done
 pub mod Earliest

@@ -1,6 +1,6 @@
 //! What holds of each script that was read, of each session, and of each play: each law is the
 //! contract of a function that does nothing.
-ghost use Rattle.std.specs.Prelude.{◌≡◌, ◌⊎◌, ℕ, ◌≤◌, Bool, List, length, Ok, Some};
+ghost use Rattle.std.specs.Prelude.{◌≡◌, ◌⊎◌, ℕ, ◌+◌, ◌^◌, ◌<◌, ◌≤◌, Bool, List, length, Ok, Some};
 ghost use Rattle.rbd_script.specs.Reading.{reading};
 ghost use Rattle.rbd_script.specs.declared.script.Script.{Script};
 ghost use Rattle.rbd_session.specs.Session.{SessionView, IsSoundSession, held_in};
@@ -35,6 +35,14 @@ pub fn somebody_goes_on<R: Request>()
 /// script were played, `2^60` for each command and once more, and never were eight in a row idle.
 pub fn plays_come_to_rest<R: Request>()
     ensures { (script : Script) (w : WorldView R) → IsPlayable script → (play : IsPlay R.stands script w) → HasCalmed R.stands script w ⊎ IsSpent R.stands script w play }
+{}
+
+/// The rounds that close a script are no more than the events of its play, and eight: in a round in
+/// which a session runs there is an event at least, and where none runs, eight rounds end it. So a
+/// play with fewer than `2^59` events never came to the end of its rounds: there are `2^60` and more.
+pub fn closing_rounds_suffice<R: Request>()
+    ensures rounds { (script : Script) (w : WorldView R) → (play : IsPlay R.stands script w) → play.plays.closing.count ≤ length w.calls + 8 }
+    ensures unspent { (script : Script) (w : WorldView R) → (play : IsPlay R.stands script w) → length w.calls < 2 ^ 59 → IsSpent R.stands script w play → ⊥ }
 {}
 
 /// In each play the commands of a session that wait for each other come one after another: one

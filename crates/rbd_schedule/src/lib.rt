@@ -56,8 +56,9 @@
 //! that was read that its lines ascend and name declared sessions; of each session with a request
 //! that one of its requests may go on, as long as no lock holds it; and so of each play that at its
 //! end each command that was begun has its reply, or is lost, or is held up at a lock, or stands
-//! behind such a one in the line of its image; or all the closing rounds were played. And of each
-//! play that a command without `&` begins when all before it of its session have ended.
+//! behind such a one in the line of its image; or all the closing rounds were played, which comes
+//! in no play with fewer than `2^59` events. And of each play that a command without `&` begins when
+//! all before it of its session have ended.
 //!
 //! # Cost
 //!

@@ -1,0 +1,14 @@
+//! What follows for each run: each law is the contract of a function that does nothing.
+ghost use Rattle.std.specs.Prelude.{ℕ, List};
+ghost use Rattle.rbd_lab.specs.Run.{Devices, IsDoneOrRefused, IsRun, IsUnhindered};
+ghost use Rattle.rbd_lab.specs.declared.run.Status.{Status};
+
+use rbd_edge::Source;
+
+/// Where the words are built, the source shows a script of built forms, and no device counted a
+/// fault in the run, it is done, or memory was refused. So no other end is left to a run that
+/// nothing outside hinders.
+pub fn runs_end_done<S: Source>()
+    ensures { (words : List (List ℕ)) (status : Status) (source source' : S) (old new : Devices)
+        → IsRun words status source source' old new → IsUnhindered words old new → IsDoneOrRefused status }
+{}
