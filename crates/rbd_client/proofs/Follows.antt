@@ -1,6 +1,6 @@
 -- What follows for every client.
 use Rattle.std.proofs.Common.{◌≡◌, ℕ, ◌==◌, ◌&&◌, ◌||◌, not, cond, Bool, true, false, List, [], ◌∷◌, Option, Some, None, refl, sym, ap, ◌∙◌, subst, true≢false}
-use Rattle.std.proofs.lemmas.Bool.{and_parts, eqb-true}
+use Rattle.std.proofs.lemmas.Bool.{and_parts, eqb-true, or_right}
 use Rattle.std.specs.List.{find}
 use Rattle.std.specs.Prelude.{IsTrue, IsFalse}
 use Rattle.rbd_client.specs.declared.actor.Actor.{Actor}
@@ -104,15 +104,11 @@ module _ {R : Type 0} (stands : R → Standing) where
   found_among f [] p is = absurd (no_some p is)
   found_among f (q ∷ ps) p is = go (f q) is (found_among f ps p)
     where
-      or_true : (a b : Bool) → b ≡ true → (a || b) ≡ true
-      or_true true b is = refl
-      or_true false b is = is
-
       go : (b : Bool) → cond b (Some q) (find f ps) ≡ Some p → (find f ps ≡ Some p → is_among p.site p.image ps ≡ true) → (is_at p.site p.image q.site q.image || is_among p.site p.image ps) ≡ true
       go true is rest =
           ap (λ b. b || is_among p.site p.image ps)
           (subst (λ (x : ImageAt). is_at p.site p.image x.site x.image ≡ true) (sym (some_same q p is)) (same_itself p.site p.image))
-      go false is rest = or_true (is_at p.site p.image q.site q.image) (is_among p.site p.image ps) (rest is)
+      go false is rest = or_right (is_at p.site p.image q.site q.image) (is_among p.site p.image ps) (rest is)
 
   not_true : (b : Bool) → not b ≡ true → b ≡ false
   not_true true is = absurd (true≢false (sym is))

@@ -81,7 +81,7 @@ abbrev pub is_taking : Stage → Bool
 is_taking stage.Taking = true
 is_taking x = false
 
-releases_no_way : (r : Option Release) (due : Option ImageAt) → is_way (releasing r due) ≡ false
+pub releases_no_way : (r : Option Release) (due : Option ImageAt) → is_way (releasing r due) ≡ false
 releases_no_way (Some r) due = refl
 releases_no_way None (Some p) = refl
 releases_no_way None None = refl
@@ -96,7 +96,7 @@ look_no_release (Some p) locks = go ((state_at p.site p.image locks).quiesced ||
     go false true = refl
     go false false = refl
 
-on_way_no_release : (w : Way) (look : Option ImageAt) (locks : LocksView) → is_release (actor_on w look locks) ≡ false
+pub on_way_no_release : (w : Way) (look : Option ImageAt) (locks : LocksView) → is_release (actor_on w look locks) ≡ false
 on_way_no_release way.Unbegun look locks = look_no_release look locks
 on_way_no_release (way.On a) look locks = refl
 on_way_no_release (way.Taken p) look locks = refl

@@ -34,9 +34,9 @@ use Rattle.rbd_piece.specs.Write.{writing, write_piece}
 use Rattle.rbd_request.specs.Read.{IsReadOf, pass, looking, reading, viewing, gathering, closing, on_closing}
 use Rattle.rbd_request.specs.Seen.{Seen, seen_at, shown}
 use Rattle.rbd_request.specs.Write.{write_pieces, put, write, write_plan}
-use Rattle.rbd_admin.specs.Create.{IsCreate, IsCreatePlan, on_drawn, making, mapping, drawing}
-use Rattle.rbd_admin.specs.Listing.{counting, listing_plan, measuring, on_names, on_renamed, showing, show_header, show_used}
-use Rattle.rbd_admin.specs.Snap.{on_snap, on_gone, putting, take, unmapping, remove, remove_listed, snap_plan, taking}
+use Rattle.rbd_admin.specs.Create.{IsCreate, IsCreatePlan, making, mapping, drawing}
+use Rattle.rbd_admin.specs.Listing.{counting, listing_plan, measuring, showing, show_header, show_used}
+use Rattle.rbd_admin.specs.Snap.{putting, take, unmapping, remove, remove_listed, snap_plan, taking}
 use Rattle.rbd_admin.proofs.Decided.{limits_or_not}
 use Rattle.rbd_close.specs.Close.{done, unwatching, on_dropped, joining as joining_to_close, quiesced, resumed, saying, close_plan}
 use Rattle.rbd_discard.specs.Discard.{discard_plan}
@@ -44,10 +44,11 @@ use Rattle.rbd_remove.specs.Remove.{remove_plan}
 use Rattle.rbd_resize.specs.Resize.{resize_plan}
 use Rattle.rbd_resize.specs.Rollback.{rollback_plan}
 use Rattle.rbd_requests.specs.Served.{IsPlanFor, Writes, Discards, Reads, Creates, Lists, Snaps, Resizes, Rollbacks, Removes, Closes}
+use Rattle.rbd_requests.proofs.PlanSteps.{at_not_there, at_done, at_unless, at_bits, at_drawn, at_names, at_renamed, at_snap, at_gone}
 use Rattle.rbd_exact.specs.Owed.{Made, PaysItsStates, PaysFrom, owed_by}
 use Rattle.rbd_exact.proofs.PaysChanges.{pays_discard, pays_resize_plan, pays_rollback}
 use Rattle.rbd_exact.proofs.PaysRemoval.{pays_removal}
-use Rattle.rbd_exact.proofs.PaysSteps.{Pays, pays_change, pays_find, pays_gather, pays_look, pays_not_there, pays_on_bits, pays_on_done, pays_unless}
+use Rattle.rbd_exact.proofs.PaysSteps.{Pays, pays_change, pays_find, pays_gather, pays_look, pays_ends}
 
 -- ---- write: an object is written directly behind its state
 
@@ -56,11 +57,11 @@ pays_piece site image h p bytes next pays = (tt, λ a given told. raised a)
   where
     written : (a : Answer) → PaysItsStates (owed_by (Some (record { site = site; image = image; object = p.object; due = Made })) site (data_write image (context_of h) p bytes) a) (on_done next a)
     written answer.Done = pays
-    written a = pays_not_there a
+    written a = at_not_there Pays pays_ends a
 
     raised : (a : Answer) → PaysItsStates (owed_by None site (map_exists image p.object) a) (on_done (writing site image (context_of h) p bytes next) a)
     raised answer.Done = ((refl, (refl, refl, refl)), λ a given told. written a)
-    raised a = pays_not_there a
+    raised a = at_not_there Pays pays_ends a
 
 pays_pieces : (pieces : List Piece) (site : SiteId) (image : ℕ) (h : HeaderView) (from : ℕ) (bytes : List ℕ) (next : Plan) → Pays next
     → Pays (write_pieces site image h from bytes pieces next)
@@ -87,12 +88,12 @@ pays_on_closing seen read (answer.Header h) = go (eqb h.generation seen.generati
     go true = tt
     go false = tt
 pays_on_closing seen read answer.Absent = tt
-pays_on_closing seen read a = pays_not_there a
+pays_on_closing seen read a = at_not_there Pays pays_ends a
 
 pays_viewing : (site : SiteId) (image : ℕ) (h : HeaderView) (extent : Extent) (view : Option View) → Pays (viewing site image h extent view)
 pays_viewing site image h extent None = tt
 pays_viewing site image h extent (Some view) =
-    pays_unless (out_of_range extent view.size) (gathering site image h extent view)
+    at_unless Pays pays_ends (out_of_range extent view.size) (gathering site image h extent view)
     (pays_gather (pieces_of h.layout extent) site image view.snap [] (closing site image (seen_at h extent))
     (λ read. (tt, λ a given told. pays_on_closing (seen_at h extent) read a)))
 
@@ -109,20 +110,14 @@ pays_read site _ s is = absurd is
 
 -- ---- create
 
-pays_on_drawn : (next : ℕ → Plan) → ((image : ℕ) → Pays (next image)) → (a : Answer) → Pays (on_drawn next a)
-pays_on_drawn next pays (answer.Id image) = pays image
-pays_on_drawn next pays answer.Exists = tt
-pays_on_drawn next pays answer.Full = tt
-pays_on_drawn next pays a = pays_not_there a
-
 pays_making : (site : SiteId) (h : HeaderView) (image : ℕ) → Pays (making site h image)
-pays_making site h image = (tt, λ a given told. pays_on_done (Return reply.Done) tt a)
+pays_making site h image = (tt, λ a given told. at_done Pays pays_ends (Return reply.Done) tt a)
 
 pays_mapping : (site : SiteId) (objects : ℕ) (h : HeaderView) (image : ℕ) → Pays (mapping site objects h image)
-pays_mapping site objects h image = (tt, λ a given told. pays_on_done (making site h image) (pays_making site h image) a)
+pays_mapping site objects h image = (tt, λ a given told. at_done Pays pays_ends (making site h image) (pays_making site h image) a)
 
 pays_drawing : (site : SiteId) (name : List ℕ) (objects : ℕ) (h : HeaderView) → Pays (drawing site name objects h)
-pays_drawing site name objects h = (tt, λ a given told. pays_on_drawn (mapping site objects h) (pays_mapping site objects h) a)
+pays_drawing site name objects h = (tt, λ a given told. at_drawn Pays pays_ends (mapping site objects h) (pays_mapping site objects h) a)
 
 pays_is_create : (site : SiteId) (name : List ℕ) (size : ℕ) (shape : Shape) (plan : Plan) → IsCreate site name size shape plan → Pays plan
 pays_is_create site name size shape plan is = go (limits_or_not (layout_of shape) size)
@@ -137,10 +132,6 @@ pays_create site _ plan is = absurd is
 
 -- ---- ls, info, snap ls, du, rename
 
-pays_on_names : (next : List (List ℕ) → Plan) → ((names : List (List ℕ)) → Pays (next names)) → (a : Answer) → Pays (on_names next a)
-pays_on_names next pays (answer.Names names) = pays names
-pays_on_names next pays a = pays_not_there a
-
 pays_show_header : (site : SiteId) (name : List ℕ) (shows : HeaderView → Reply) → Pays (show_header site name shows)
 pays_show_header site name shows =
     pays_find site name (showing site shows) (λ image. pays_look site image (λ h. Return (shows h)) (λ h standalone. tt))
@@ -149,50 +140,36 @@ pays_used : (site : SiteId) (name : List ℕ) → Pays (show_used site name)
 pays_used site name =
     pays_find site name (measuring site) (λ image.
     pays_look site image (λ h. counting site image (object_count h.layout h.size)) (λ h standalone.
-    (tt, λ a given told. pays_on_bits (λ bits. Return (reply.Used (used_among (object_count h.layout h.size) bits) (object_count h.layout h.size))) (λ bits. tt) a)))
-
-pays_on_renamed : (a : Answer) → Pays (on_renamed a)
-pays_on_renamed answer.Done = tt
-pays_on_renamed answer.Exists = tt
-pays_on_renamed a = pays_not_there a
+    (tt, λ a given told. at_bits Pays pays_ends (λ bits. Return (reply.Used (used_among (object_count h.layout h.size) bits) (object_count h.layout h.size))) (λ bits. tt) a)))
 
 pays_listing : (site : SiteId) (c : Command) → Pays (listing_plan site c)
-pays_listing site command.List = (tt, λ a given told. pays_on_names (λ names. Return (reply.Names names)) (λ names. tt) a)
+pays_listing site command.List = (tt, λ a given told. at_names Pays pays_ends (λ names. Return (reply.Names names)) (λ names. tt) a)
 pays_listing site (command.Info image) = pays_show_header site image reply.Info
 pays_listing site (command.SnapList image) = pays_show_header site image shown_snaps
 pays_listing site (command.Used image) = pays_used site image
-pays_listing site (command.Rename from to) = (tt, λ a given told. pays_on_renamed a)
+pays_listing site (command.Rename from to) = (tt, λ a given told. at_renamed Pays pays_ends a)
 pays_listing site _ = tt
 
 -- ---- snap create, snap rm
 
-pays_on_snap : (next : Plan) → Pays next → (a : Answer) → Pays (on_snap next a)
-pays_on_snap next pays (answer.Snap snap) = pays
-pays_on_snap next pays a = pays_not_there a
-
-pays_on_gone : (next : Plan) → Pays next → (a : Answer) → Pays (on_gone next a)
-pays_on_gone next pays answer.Done = pays
-pays_on_gone next pays answer.Absent = pays
-pays_on_gone next pays a = pays_not_there a
-
 pays_taking : (site : SiteId) (snap : List ℕ) (image : ℕ) → Pays (taking site snap image (applied site image))
-pays_taking site snap image = (tt, λ a given told. pays_on_snap (applied site image) tt a)
+pays_taking site snap image = (tt, λ a given told. at_snap Pays pays_ends (applied site image) tt a)
 
 pays_putting : (site : SiteId) (snap : List ℕ) (image next : ℕ) (bits : List ℕ) → Pays (putting site snap image next (applied site image) bits)
-pays_putting site snap image next bits = (tt, λ a given told. pays_on_done (taking site snap image (applied site image)) (pays_taking site snap image) a)
+pays_putting site snap image next bits = (tt, λ a given told. at_done Pays pays_ends (taking site snap image (applied site image)) (pays_taking site snap image) a)
 
 pays_take : (site : SiteId) (snap : List ℕ) (image : ℕ) (h : HeaderView) → Pays (take site snap image h)
 pays_take site snap image h =
     let next = h.snap_seq + 1 in
-    (tt, λ a given told. pays_on_bits (putting site snap image next (applied site image)) (pays_putting site snap image next) a)
+    (tt, λ a given told. at_bits Pays pays_ends (putting site snap image next (applied site image)) (pays_putting site snap image next) a)
 
 pays_unmapping : (site : SiteId) (image snap : ℕ) → Pays (unmapping site image snap (applied site image))
-pays_unmapping site image snap = (tt, λ a given told. pays_on_gone (applied site image) tt a)
+pays_unmapping site image snap = (tt, λ a given told. at_gone Pays pays_ends (applied site image) tt a)
 
 pays_remove_listed : (site : SiteId) (snap : List ℕ) (image : ℕ) (listed : Option SnapView) → Pays (remove_listed site snap image listed)
 pays_remove_listed site snap image None = tt
 pays_remove_listed site snap image (Some listed) =
-    (tt, λ a given told. pays_on_done (unmapping site image listed.id (applied site image)) (pays_unmapping site image listed.id) a)
+    (tt, λ a given told. at_done Pays pays_ends (unmapping site image listed.id (applied site image)) (pays_unmapping site image listed.id) a)
 
 pays_snap : (site : SiteId) (c : Command) → Pays (snap_plan site c)
 pays_snap site (command.SnapCreate image snap) = pays_change site image sharing.Alone (create_refuses snap) (take site snap) (λ i h standalone. pays_take site snap i h)
@@ -203,18 +180,18 @@ pays_snap site _ = tt
 -- ---- close, quiesce, resume, tell
 
 pays_unwatching : (site : SiteId) (image : ℕ) → Pays (unwatching site image)
-pays_unwatching site image = (tt, λ a given told. pays_on_done done tt a)
+pays_unwatching site image = (tt, λ a given told. at_done Pays pays_ends done tt a)
 
 pays_on_dropped : (site : SiteId) (image : ℕ) (a : Answer) → Pays (on_dropped site image a)
-pays_on_dropped site image answer.Done = (tt, λ told given also. pays_on_done (unwatching site image) (pays_unwatching site image) told)
+pays_on_dropped site image answer.Done = (tt, λ told given also. at_done Pays pays_ends (unwatching site image) (pays_unwatching site image) told)
 pays_on_dropped site image answer.Changed = pays_unwatching site image
-pays_on_dropped site image a = pays_not_there a
+pays_on_dropped site image a = at_not_there Pays pays_ends a
 
 pays_close : (site : SiteId) (c : Command) → Pays (close_plan site c)
 pays_close site (command.Close image) = pays_find site image (joining_to_close site) (λ i. (tt, λ dropped given also. pays_on_dropped site i dropped))
 pays_close site (command.Quiesce image) = pays_change site image sharing.Alone refuses_none quiesced (λ i h standalone. tt)
 pays_close site (command.Resume image) = pays_find site image resumed (λ i. tt)
-pays_close site (command.Tell image bytes) = pays_find site image (saying site bytes) (λ i. (tt, λ told given also. pays_on_done done tt told))
+pays_close site (command.Tell image bytes) = pays_find site image (saying site bytes) (λ i. (tt, λ told given also. at_done Pays pays_ends done tt told))
 pays_close site _ = tt
 
 -- ---- all of them

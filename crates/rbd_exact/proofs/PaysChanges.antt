@@ -33,7 +33,8 @@ use Rattle.rbd_meaning.specs.Count.{object_count}
 use Rattle.rbd_resize.specs.Resize.{resize_plan, set_size}
 use Rattle.rbd_resize.specs.Rollback.{restore_all, restore_pieces, roll_back_listed, roll_back_to, rollback_plan}
 use Rattle.rbd_exact.specs.Owed.{Due, Made, Gone, Lowered, PaysItsStates, Spot, owed_by}
-use Rattle.rbd_exact.proofs.PaysSteps.{Pays, pays_change, pays_gather, pays_not_there, pays_on_bits, pays_on_done}
+use Rattle.rbd_exact.proofs.PaysSteps.{Pays, pays_change, pays_gather, pays_ends}
+use Rattle.rbd_requests.proofs.PlanSteps.{at_not_there, at_done, at_bits}
 
 -- ---- one object
 
@@ -47,21 +48,21 @@ module _ (site : SiteId) (image : ℕ) (context : SnapContext) (p : Piece) (next
     where
       by : (a : Answer) → PaysItsStates (owed_by (Some (spot Lowered)) site (map_set image p.object 0) a) (on_done next a)
       by answer.Done = pays
-      by a = pays_not_there a
+      by a = at_not_there Pays pays_ends a
 
   pays_removing : PaysItsStates (Some (spot Gone)) (removing site image context p (setting site image context p 0 next))
   pays_removing = ((refl, (refl, refl, refl)), λ a given told. by a)
     where
       by : (a : Answer) → PaysItsStates (owed_by (Some (spot Gone)) site (data_remove image context p.object) a) (on_done (setting site image context p 0 next) a)
       by answer.Done = pays_lowering
-      by a = pays_not_there a
+      by a = at_not_there Pays pays_ends a
 
   pays_emptying : PaysItsStates (Some (spot Made)) (emptying site image context p next)
   pays_emptying = ((refl, (refl, refl, refl)), λ a given told. by a)
     where
       by : (a : Answer) → PaysItsStates (owed_by (Some (spot Made)) site (data_empty image context p.object) a) (on_done next a)
       by answer.Done = pays
-      by a = pays_not_there a
+      by a = at_not_there Pays pays_ends a
 
   -- all bytes of it
   pub pays_zero_all : (inside : Bool) → Pays (zero_all site image context p inside next)
@@ -69,16 +70,16 @@ module _ (site : SiteId) (image : ℕ) (context : SnapContext) (p : Piece) (next
     where
       by : (a : Answer) → PaysItsStates (owed_by None site (map_set image p.object 2) a) (on_done (removing site image context p (setting site image context p 0 next)) a)
       by answer.Done = pays_removing
-      by a = pays_not_there a
+      by a = at_not_there Pays pays_ends a
   pays_zero_all true = (tt, λ a given told. by a)
     where
       by : (a : Answer) → PaysItsStates (owed_by None site (map_set image p.object 1) a) (on_done (emptying site image context p next) a)
       by answer.Done = pays_emptying
-      by a = pays_not_there a
+      by a = at_not_there Pays pays_ends a
 
   -- of an image without a parent
   pays_zero_by : (whole : Bool) → Pays (zero_by site image context p whole false next)
-  pays_zero_by false = (tt, λ a given told. pays_on_done next pays a)
+  pays_zero_by false = (tt, λ a given told. at_done Pays pays_ends next pays a)
   pays_zero_by true = pays_zero_all false
 
   pays_full : (bytes : List ℕ) → Pays (replacing site image context p.object bytes next)
@@ -86,11 +87,11 @@ module _ (site : SiteId) (image : ℕ) (context : SnapContext) (p : Piece) (next
     where
       written : (a : Answer) → PaysItsStates (owed_by (Some (spot Made)) site (data_write_full image context p.object bytes) a) (on_done next a)
       written answer.Done = pays
-      written a = pays_not_there a
+      written a = at_not_there Pays pays_ends a
 
       by : (a : Answer) → PaysItsStates (owed_by None site (map_set image p.object 1) a) (on_done (writing_full site image context p.object bytes next) a)
       by answer.Done = ((refl, (refl, refl, refl)), λ a given told. written a)
-      by a = pays_not_there a
+      by a = at_not_there Pays pays_ends a
 
 outside : (h : HeaderView) (number : ℕ) → IsStandalone h → is_inside h number ≡ false
 outside h number standalone = ap (λ parent. is_below parent (byte_at h.layout number 0)) standalone.no_parent
@@ -123,7 +124,7 @@ pays_discard site _ = tt
 -- ---- resize
 
 pays_sizing : (site : SiteId) (image to : ℕ) (next : Plan) → Pays next → Pays (sizing site image to next)
-pays_sizing site image to next pays = (tt, λ a given told. pays_on_done next pays a)
+pays_sizing site image to next pays = (tt, λ a given told. at_done Pays pays_ends next pays a)
 
 pays_zeros : (pieces : List Piece) (site : SiteId) (image : ℕ) (h : HeaderView) (next : Plan) → IsStandalone h → Pays next → Pays (of_size.zero_pieces site image h pieces next)
 pays_zeros [] site image h next standalone pays = pays
@@ -134,11 +135,11 @@ pays_resize : (site : SiteId) (image : ℕ) (h : HeaderView) (to objects : ℕ) 
 pays_resize site image h to objects next standalone pays = by (nat_le h.size to)
   where
     by : (grows : Bool) → Pays (resize_by grows site image h to objects next)
-    by true = (tt, λ a given told. pays_on_done (sizing site image to next) (pays_sizing site image to next pays) a)
+    by true = (tt, λ a given told. at_done Pays pays_ends (sizing site image to next) (pays_sizing site image to next pays) a)
     by false = (
       tt,
       λ a given told.
-          pays_on_bits (cutting site image h to next)
+          at_bits Pays pays_ends (cutting site image h to next)
           (λ bits. pays_zeros (pieces_from h to bits) site image h (sizing site image to next) standalone (pays_sizing site image to next pays)) a,
     )
 

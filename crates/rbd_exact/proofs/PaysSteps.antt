@@ -1,55 +1,34 @@
 -- Steps that requests share pay what they owe, where what comes next does.
-use Rattle.std.proofs.Common.{ℕ, List, [], ◌∷◌, ◌++◌, replicate, Option, Some, None}
+use Rattle.std.proofs.Common.{ℕ, List, [], ◌∷◌, ◌++◌, Option, None}
 use Rattle.rbd_kinds.specs.declared.sharing.Sharing.{Sharing}
 use Rattle.rbd_commands.specs.declared.refusal.Refusal.{Refusal}
 use Rattle.rbd_kinds.specs.declared.answer.Answer.{Answer}
 use Rattle.rbd_kinds.specs.declared.answer.Answer.TheVariants as answer
 use Rattle.rbd_kinds.specs.declared.header.HeaderView.{HeaderView}
 use Rattle.rbd_kinds.specs.declared.id.SiteId.{SiteId}
-use Rattle.rbd_kinds.specs.declared.layout.Part.{Part}
-use Rattle.rbd_kinds.specs.Parts.{parts_len}
+use Rattle.rbd_kinds.specs.declared.reply.Reply.{Reply}
 use Rattle.rbd_layout.specs.declared.types.Piece.{Piece}
-use Rattle.rbd_machine.specs.Plan.{Plan}
+use Rattle.rbd_machine.specs.Plan.{Plan, Return}
 use Rattle.rbd_machine.specs.Standalone.{IsStandalone, TellsStandalone}
-use Rattle.rbd_machine.specs.Steps.{unless, not_there, on_id, on_header, on_done, find, look, change, looked, holding, owned, joining, on_bits}
-use Rattle.rbd_piece.specs.Gather.{gather, on_bytes}
+use Rattle.rbd_machine.specs.Steps.{on_header, find, look, change, looked, holding, owned, joining}
+use Rattle.rbd_piece.specs.Gather.{gather}
 use Rattle.rbd_exact.specs.Owed.{PaysItsStates}
+use Rattle.rbd_requests.proofs.PlanSteps.{at_not_there, at_id, at_unless, at_bytes}
 
 -- it pays, and owes nothing yet
 abbrev pub Pays : Plan → Type 0
 Pays plan = PaysItsStates None plan
 
-pub pays_not_there : (a : Answer) → Pays (not_there a)
-pays_not_there answer.Fenced = tt
-pays_not_there _ = tt
-
-pub pays_on_id : (next : ℕ → Plan) → ((image : ℕ) → Pays (next image)) → (a : Answer) → Pays (on_id next a)
-pays_on_id next pays (answer.Id image) = pays image
-pays_on_id next pays a = pays_not_there a
+-- a reply owes nothing
+pub pays_ends : (r : Reply) → Pays (Return r)
+pays_ends r = tt
 
 pub pays_on_header : (next : HeaderView → Plan) → ((h : HeaderView) → IsStandalone h → Pays (next h)) → (a : Answer) → TellsStandalone a → Pays (on_header next a)
 pays_on_header next pays (answer.Header h) told = pays h told
-pays_on_header next pays a told = pays_not_there a
-
-pub pays_on_done : (next : Plan) → Pays next → (a : Answer) → Pays (on_done next a)
-pays_on_done next pays answer.Done = pays
-pays_on_done next pays a = pays_not_there a
-
-pub pays_on_bits : (next : List ℕ → Plan) → ((bits : List ℕ) → Pays (next bits)) → (a : Answer) → Pays (on_bits next a)
-pays_on_bits next pays (answer.Bits bits) = pays bits
-pays_on_bits next pays a = pays_not_there a
-
-pub pays_on_bytes : (parts : List Part) (next : List ℕ → Plan) → ((bytes : List ℕ) → Pays (next bytes)) → (a : Answer) → Pays (on_bytes parts next a)
-pays_on_bytes parts next pays (answer.Bytes bytes) = pays bytes
-pays_on_bytes parts next pays answer.Absent = pays (replicate (parts_len parts) 0)
-pays_on_bytes parts next pays a = pays_not_there a
-
-pub pays_unless : (r : Option Refusal) (next : Plan) → Pays next → Pays (unless r next)
-pays_unless None next pays = pays
-pays_unless (Some r) next pays = tt
+pays_on_header next pays a told = at_not_there Pays pays_ends a
 
 pub pays_find : (site : SiteId) (name : List ℕ) (next : ℕ → Plan) → ((image : ℕ) → Pays (next image)) → Pays (find site name next)
-pays_find site name next pays = (tt, λ a given told. pays_on_id next pays a)
+pays_find site name next pays = (tt, λ a given told. at_id Pays pays_ends next pays a)
 
 pub pays_look : (site : SiteId) (image : ℕ) (next : HeaderView → Plan) → ((h : HeaderView) → IsStandalone h → Pays (next h)) → Pays (look site image next)
 pays_look site image next pays = (tt, λ a given told. pays_on_header next pays a told)
@@ -59,8 +38,8 @@ pub pays_change : (site : SiteId) (name : List ℕ) (sharing : Sharing) (refuses
 pays_change site name sharing refuses act acts =
     pays_find site name (joining site sharing refuses act) (λ image.
     pays_look site image (looked site refuses act image) (λ h standalone.
-    pays_unless (refuses h) (holding site refuses act image)
-    (pays_look site image (owned refuses act image) (λ own alone. pays_unless (refuses own) (act image own) (acts image own alone)))))
+    at_unless Pays pays_ends (refuses h) (holding site refuses act image)
+    (pays_look site image (owned refuses act image) (λ own alone. at_unless Pays pays_ends (refuses own) (act image own) (acts image own alone)))))
 
 -- the pieces of a view are read, one after another
 pub pays_gather : (pieces : List Piece) (site : SiteId) (image : ℕ) (snap : Option ℕ) (read : List ℕ) (next : List ℕ → Plan) → ((bytes : List ℕ) → Pays (next bytes))
@@ -69,5 +48,5 @@ pays_gather [] site image snap read next pays = pays read
 pays_gather (p ∷ pieces) site image snap read next pays = (
   tt,
   λ a given told.
-      pays_on_bytes p.parts (λ bytes. gather site image snap pieces (read ++ bytes) next) (λ bytes. pays_gather pieces site image snap (read ++ bytes) next pays) a,
+      at_bytes Pays pays_ends p.parts (λ bytes. gather site image snap pieces (read ++ bytes) next) (λ bytes. pays_gather pieces site image snap (read ++ bytes) next pays) a,
 )

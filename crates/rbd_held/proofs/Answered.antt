@@ -61,7 +61,8 @@ use Rattle.rbd_stands.specs.Site.{StandsFor}
 abbrev pub OfTwo : (P : (k j : Knowledge) → Type 0) → (knows : ℕ → Knowledge) → Type 0
 OfTwo P knows = (slot other : ℕ) → slot ≢ other → P (knows slot) (knows other)
 
-unless_over : (P : Knowledge → Type 0) (result : Option Reply) (k : Knowledge) → P nothing_known → P k → P (unless_ended result k)
+-- who has ended knows nothing
+pub unless_over : (P : Knowledge → Type 0) (result : Option Reply) (k : Knowledge) → P nothing_known → P k → P (unless_ended result k)
 unless_over P None k nothing goes = goes
 unless_over P (Some reply) k nothing goes = nothing
 

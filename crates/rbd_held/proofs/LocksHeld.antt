@@ -78,7 +78,7 @@ pub owned_elsewhere : (s t : SiteId) (image : ℕ) (o : Op) (a : Answer) (b : Bo
 owned_elsewhere s t image (op.Header on o) a b differ is = sym (ap (λ x. cond x (owns_after b (op.Header on o) a) b) (never_elsewhere s t on image differ)) ∙ is
 owned_elsewhere s t image _ a b differ is = is
 
-and_false : (b : Bool) → (b && false) ≡ false
+pub and_false : (b : Bool) → (b && false) ≡ false
 and_false true = refl
 and_false false = refl
 

@@ -1,6 +1,6 @@
 -- The plans of looks, of listings, of `create`, `rename`, `resume` and `tell` wait for nothing, step
 -- by step.
-use Rattle.std.proofs.Common.{◌≡◌, ◌⊎◌, inl, inr, ℕ, List, [], ◌∷◌, ◌++◌, replicate, Bool, true, false, cond, eqb, Option, Some, None, sym, ◌∙◌, subst}
+use Rattle.std.proofs.Common.{◌≡◌, ◌⊎◌, inl, inr, ℕ, List, [], ◌∷◌, ◌++◌, Bool, true, false, cond, eqb, Option, Some, None, sym, ◌∙◌, subst}
 use Rattle.std.specs.Prelude.{◌||◌}
 use Rattle.std.proofs.lemmas.Bool.{true≢false, or_parts}
 use Rattle.rbd_kinds.specs.declared.answer.Answer.{Answer}
@@ -11,11 +11,8 @@ use Rattle.rbd_commands.specs.declared.command.Shape.{Shape}
 use Rattle.rbd_kinds.specs.declared.header.HeaderView.{HeaderView}
 use Rattle.rbd_kinds.specs.declared.id.SiteId.{SiteId}
 use Rattle.rbd_kinds.specs.declared.layout.Extent.{Extent}
-use Rattle.rbd_kinds.specs.declared.layout.Part.{Part}
-use Rattle.rbd_commands.specs.declared.refusal.Refusal.{Refusal}
 use Rattle.rbd_kinds.specs.declared.reply.Reply.{Reply}
 use Rattle.rbd_kinds.specs.declared.reply.Reply.TheVariants as reply
-use Rattle.rbd_kinds.specs.Parts.{parts_len}
 use Rattle.rbd_layout.specs.Asked.{layout_of, KeepsLimits}
 use Rattle.rbd_layout.specs.Pieces.{pieces_of}
 use Rattle.rbd_layout.specs.declared.types.Piece.{Piece}
@@ -23,17 +20,16 @@ use Rattle.rbd_header.specs.Header.{new_header, view_of}
 use Rattle.rbd_header.specs.declared.view.View.{View}
 use Rattle.rbd_machine.specs.Label as label
 use Rattle.rbd_machine.specs.Plan.{Plan, Return, Goto, Standing, without_labels}
-use Rattle.rbd_machine.specs.Steps.{unless, not_there, on_bits, on_id, on_header, on_done}
 use Rattle.rbd_machine.specs.declared.seat.Seat.{Seat}
 use Rattle.rbd_meaning.specs.Count.{object_count}
 use Rattle.rbd_meaning.specs.Listings.{shown_snaps, used_among}
 use Rattle.rbd_meaning.specs.Range.{out_of_range}
-use Rattle.rbd_piece.specs.Gather.{gather, on_bytes}
+use Rattle.rbd_piece.specs.Gather.{gather}
 use Rattle.rbd_request.specs.Read.{IsReadOf, pass, looking, reading, viewing, gathering, closing, on_closing}
 use Rattle.rbd_request.specs.Seen.{Seen, seen_at, shown}
 use Rattle.rbd_request.specs.Write.{is_write}
-use Rattle.rbd_admin.specs.Create.{IsCreate, IsCreatePlan, on_drawn, making, mapping, drawing}
-use Rattle.rbd_admin.specs.Listing.{counting, listing_plan, measuring, on_names, on_renamed, show_header, show_used, showing}
+use Rattle.rbd_admin.specs.Create.{IsCreate, IsCreatePlan, making, mapping, drawing}
+use Rattle.rbd_admin.specs.Listing.{counting, listing_plan, measuring, show_header, show_used, showing}
 use Rattle.rbd_admin.specs.Snap.{is_snap}
 use Rattle.rbd_admin.proofs.Decided.{limits_or_not}
 use Rattle.rbd_close.specs.Close.{done, resumed, saying, close_plan}
@@ -42,46 +38,22 @@ use Rattle.rbd_remove.specs.Remove.{is_remove}
 use Rattle.rbd_resize.specs.Resize.{is_resize}
 use Rattle.rbd_resize.specs.Rollback.{is_rollback}
 use Rattle.rbd_requests.specs.Served.{IsPlanFor, Writes, Discards, Reads, Creates, Lists, Snaps, Resizes, Rollbacks, Removes, Closes}
+use Rattle.rbd_requests.proofs.PlanSteps.{at_not_there, at_id, at_header, at_done, at_unless, at_bits, at_bytes, at_drawn, at_names, at_renamed}
 use Rattle.rbd_known.specs.Calm.{IsCalm, IsCalmRequest, closes_in_line, is_change}
 
 -- ---- steps
 
-calm_not_there : (a : Answer) → IsCalm (not_there a)
-calm_not_there answer.Fenced = tt
-calm_not_there _ = tt
-
-calm_on_id : (next : ℕ → Plan) → ((image : ℕ) → IsCalm (next image)) → (a : Answer) → IsCalm (on_id next a)
-calm_on_id next calm (answer.Id image) = calm image
-calm_on_id next calm a = calm_not_there a
-
-calm_on_header : (next : HeaderView → Plan) → ((h : HeaderView) → IsCalm (next h)) → (a : Answer) → IsCalm (on_header next a)
-calm_on_header next calm (answer.Header h) = calm h
-calm_on_header next calm a = calm_not_there a
-
-calm_on_done : (next : Plan) → IsCalm next → (a : Answer) → IsCalm (on_done next a)
-calm_on_done next calm answer.Done = calm
-calm_on_done next calm a = calm_not_there a
-
-calm_unless : (r : Option Refusal) (next : Plan) → IsCalm next → IsCalm (unless r next)
-calm_unless None next calm = calm
-calm_unless (Some r) next calm = tt
-
-calm_on_bits : (next : List ℕ → Plan) → ((bits : List ℕ) → IsCalm (next bits)) → (a : Answer) → IsCalm (on_bits next a)
-calm_on_bits next calm (answer.Bits bits) = calm bits
-calm_on_bits next calm a = calm_not_there a
+-- a reply waits for nothing
+calm_ends : (r : Reply) → IsCalm (Return r)
+calm_ends r = tt
 
 -- ---- read
-
-calm_on_bytes : (parts : List Part) (next : List ℕ → Plan) → ((bytes : List ℕ) → IsCalm (next bytes)) → (a : Answer) → IsCalm (on_bytes parts next a)
-calm_on_bytes parts next calm (answer.Bytes bytes) = calm bytes
-calm_on_bytes parts next calm answer.Absent = calm (replicate (parts_len parts) 0)
-calm_on_bytes parts next calm a = calm_not_there a
 
 calm_gather : (pieces : List Piece) (site : SiteId) (image : ℕ) (snap : Option ℕ) (read : List ℕ) (next : List ℕ → Plan) → ((bytes : List ℕ) → IsCalm (next bytes))
     → IsCalm (gather site image snap pieces read next)
 calm_gather [] site image snap read next calm = calm read
 calm_gather (p ∷ pieces) site image snap read next calm = λ a.
-    calm_on_bytes p.parts (λ bytes. gather site image snap pieces (read ++ bytes) next) (λ bytes. calm_gather pieces site image snap (read ++ bytes) next calm) a
+    at_bytes IsCalm calm_ends p.parts (λ bytes. gather site image snap pieces (read ++ bytes) next) (λ bytes. calm_gather pieces site image snap (read ++ bytes) next calm) a
 
 calm_closing : (seen : Seen) (read : List ℕ) (a : Answer) → IsCalm (on_closing seen read a)
 calm_closing seen read (answer.Header h) = go (eqb h.generation seen.generation)
@@ -90,18 +62,18 @@ calm_closing seen read (answer.Header h) = go (eqb h.generation seen.generation)
     go true = tt
     go false = tt
 calm_closing seen read answer.Absent = tt
-calm_closing seen read a = calm_not_there a
+calm_closing seen read a = at_not_there IsCalm calm_ends a
 
 calm_viewing : (site : SiteId) (image : ℕ) (h : HeaderView) (extent : Extent) (view : Option View) → IsCalm (viewing site image h extent view)
 calm_viewing site image h extent None = tt
 calm_viewing site image h extent (Some view) =
-    calm_unless (out_of_range extent view.size) (gathering site image h extent view)
+    at_unless IsCalm calm_ends (out_of_range extent view.size) (gathering site image h extent view)
     (calm_gather (pieces_of h.layout extent) site image view.snap [] (closing site image (seen_at h extent)) (λ read a. calm_closing (seen_at h extent) read a))
 
 calm_pass : (site : SiteId) (name : List ℕ) (snap : Option (List ℕ)) (extent : Extent) → IsCalm (pass site name snap extent)
 calm_pass site name snap extent = λ found.
-    calm_on_id (looking site snap extent) (λ image.
-    calm_on_header (reading site snap extent image) (λ h. calm_viewing site image h extent (view_of h snap))) found
+    at_id IsCalm calm_ends (looking site snap extent) (λ image.
+    at_header IsCalm calm_ends (reading site snap extent image) (λ h. calm_viewing site image h extent (view_of h snap))) found
 
 calm_read : (site : SiteId) (c : Command) (s : Standing) → IsReadOf site c s → IsCalmRequest s
 calm_read site (command.Read image snap from len) s is =
@@ -111,17 +83,11 @@ calm_read site _ s is = absurd is
 
 -- ---- create
 
-calm_on_drawn : (next : ℕ → Plan) → ((image : ℕ) → IsCalm (next image)) → (a : Answer) → IsCalm (on_drawn next a)
-calm_on_drawn next calm (answer.Id image) = calm image
-calm_on_drawn next calm answer.Exists = tt
-calm_on_drawn next calm answer.Full = tt
-calm_on_drawn next calm a = calm_not_there a
-
 calm_mapping : (site : SiteId) (objects : ℕ) (h : HeaderView) (image : ℕ) → IsCalm (mapping site objects h image)
-calm_mapping site objects h image = λ a. calm_on_done (making site h image) (λ b. calm_on_done (Return reply.Done) tt b) a
+calm_mapping site objects h image = λ a. at_done IsCalm calm_ends (making site h image) (λ b. at_done IsCalm calm_ends (Return reply.Done) tt b) a
 
 calm_drawing : (site : SiteId) (name : List ℕ) (objects : ℕ) (h : HeaderView) → IsCalm (drawing site name objects h)
-calm_drawing site name objects h = λ drawn. calm_on_drawn (mapping site objects h) (calm_mapping site objects h) drawn
+calm_drawing site name objects h = λ drawn. at_drawn IsCalm calm_ends (mapping site objects h) (calm_mapping site objects h) drawn
 
 calm_is_create : (site : SiteId) (name : List ℕ) (size : ℕ) (shape : Shape) (plan : Plan) → IsCreate site name size shape plan → IsCalm plan
 calm_is_create site name size shape plan is = go (limits_or_not (layout_of shape) size)
@@ -136,29 +102,20 @@ calm_create site _ plan is = absurd is
 
 -- ---- ls, info, snap ls, du, rename
 
-calm_on_names : (next : List (List ℕ) → Plan) → ((names : List (List ℕ)) → IsCalm (next names)) → (a : Answer) → IsCalm (on_names next a)
-calm_on_names next calm (answer.Names names) = calm names
-calm_on_names next calm a = calm_not_there a
-
 calm_show_header : (site : SiteId) (name : List ℕ) (shows : HeaderView → Reply) → IsCalm (show_header site name shows)
 calm_show_header site name shows = λ found.
-    calm_on_id (showing site shows) (λ image. calm_on_header (λ h. Return (shows h)) (λ h. tt)) found
+    at_id IsCalm calm_ends (showing site shows) (λ image. at_header IsCalm calm_ends (λ h. Return (shows h)) (λ h. tt)) found
 
 calm_show_used : (site : SiteId) (name : List ℕ) → IsCalm (show_used site name)
 calm_show_used site name = λ found.
-    calm_on_id (measuring site) (λ image. calm_on_header (λ h. counting site image (object_count h.layout h.size)) (λ h told. calm_on_bits (λ bits. Return (reply.Used (used_among (object_count h.layout h.size) bits) (object_count h.layout h.size))) (λ bits. tt) told)) found
-
-calm_on_renamed : (a : Answer) → IsCalm (on_renamed a)
-calm_on_renamed answer.Done = tt
-calm_on_renamed answer.Exists = tt
-calm_on_renamed a = calm_not_there a
+    at_id IsCalm calm_ends (measuring site) (λ image. at_header IsCalm calm_ends (λ h. counting site image (object_count h.layout h.size)) (λ h told. at_bits IsCalm calm_ends (λ bits. Return (reply.Used (used_among (object_count h.layout h.size) bits) (object_count h.layout h.size))) (λ bits. tt) told)) found
 
 calm_listing : (site : SiteId) (c : Command) → IsCalm (listing_plan site c)
-calm_listing site command.List = λ a. calm_on_names (λ names. Return (reply.Names names)) (λ names. tt) a
+calm_listing site command.List = λ a. at_names IsCalm calm_ends (λ names. Return (reply.Names names)) (λ names. tt) a
 calm_listing site (command.Info image) = calm_show_header site image reply.Info
 calm_listing site (command.SnapList image) = calm_show_header site image shown_snaps
 calm_listing site (command.Used image) = calm_show_used site image
-calm_listing site (command.Rename from to) = λ a. calm_on_renamed a
+calm_listing site (command.Rename from to) = λ a. at_renamed IsCalm calm_ends a
 calm_listing site _ = tt
 
 -- ---- resume, tell
@@ -166,8 +123,8 @@ calm_listing site _ = tt
 calm_close : (site : SiteId) (c : Command) → closes_in_line c ≡ false → IsCalm (close_plan site c)
 calm_close site (command.Close image) apart = cc
 calm_close site (command.Quiesce image) apart = cc
-calm_close site (command.Resume image) apart = λ found. calm_on_id resumed (λ i. tt) found
-calm_close site (command.Tell image bytes) apart = λ found. calm_on_id (saying site bytes) (λ i a. calm_on_done done tt a) found
+calm_close site (command.Resume image) apart = λ found. at_id IsCalm calm_ends resumed (λ i. tt) found
+calm_close site (command.Tell image bytes) apart = λ found. at_id IsCalm calm_ends (saying site bytes) (λ i a. at_done IsCalm calm_ends done tt a) found
 calm_close site _ apart = tt
 
 -- ---- all of them

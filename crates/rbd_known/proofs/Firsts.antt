@@ -1,8 +1,7 @@
 -- Who is first at an object in a line stays so, whatever becomes of another member.
-use Rattle.std.proofs.Common.{◌≡◌, ◌≢◌, ℕ, cond, not, ◌||◌, eqb, Bool, true, false, List, [], ◌∷◌, ◌++◌, drop, refl, sym, ap, ◌∙◌, subst}
+use Rattle.std.proofs.Common.{◌≡◌, ◌≢◌, ℕ, cond, not, eqb, Bool, true, false, List, [], ◌∷◌, ◌++◌, drop, refl, sym, ap, ◌∙◌, subst}
 use Rattle.std.specs.List.{filter, list_all}
 use Rattle.std.proofs.lemmas.Bool.{true≢false, and_parts, eqb-true, or_parts}
-use Rattle.std.proofs.lemmas.List.Folds.{list_any-append}
 use Rattle.rbd_kinds.specs.Sharing.{is_alone}
 use Rattle.rbd_guard.specs.Order.{is_in}
 use Rattle.rbd_line.specs.Line.{Member, behind, changed, has_turn, holds, is_past, none_past_behind, slots, without, Each, IsFairMember}
@@ -112,6 +111,3 @@ joined_first n object new (m ∷ ms) is = by (holds object m) refl is (joined_fi
 pub no_more_first : (object : ℕ) (objects : List ℕ) → is_in object objects ≡ false → is_in object (drop 1 objects) ≡ false
 no_more_first object [] out = refl
 no_more_first object (x ∷ objects) out = (or_parts (eqb x object) (is_in object objects) out).1
-
-pub still_in : (object : ℕ) (objects more : List ℕ) → is_in object objects ≡ true → is_in object (objects ++ more) ≡ true
-still_in object objects more is = list_any-append (λ n. eqb n object) objects more ∙ ap (λ b. b || is_in object more) is

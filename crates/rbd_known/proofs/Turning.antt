@@ -6,6 +6,7 @@ use Rattle.std.proofs.lemmas.List.{append-nil}
 use Rattle.rbd_kinds.specs.declared.sharing.Sharing.{Sharing}
 use Rattle.rbd_course.specs.Course.{is_own_at}
 use Rattle.rbd_guard.specs.Order.{is_in}
+use Rattle.rbd_guard.proofs.Apart.{in_left}
 use Rattle.rbd_kinds.specs.declared.answer.Answer.{Answer}
 use Rattle.rbd_kinds.specs.declared.answer.Answer.TheVariants as answer
 use Rattle.rbd_kinds.specs.declared.header_op.HeaderOp.TheVariants as header
@@ -25,7 +26,7 @@ use Rattle.rbd_session.specs.Waits.{awaits_line, awaits_turn, lacks_turn, waits}
 use Rattle.rbd_session.proofs.Sound.{some_same}
 use Rattle.rbd_session.proofs.Track.{changed_here}
 use Rattle.rbd_known.specs.Knowing.{KeepsTurns}
-use Rattle.rbd_known.proofs.Firsts.{before_first, joined_first, left_first, no_more_first, others_first, own_first, still_in}
+use Rattle.rbd_known.proofs.Firsts.{before_first, joined_first, left_first, no_more_first, others_first, own_first}
 
 -- ---- in all lines
 
@@ -111,7 +112,7 @@ module _ (slot object : ℕ) where
   own_held t there of = own_at held (λ m. refl) (λ m holding. holding) t.place t.lines
 
   pub own_noted : (t : Track) (site : SiteId) (image : ℕ) → has_turn slot object (t.lines site image) ≡ true → has_turn slot object ((noted_by slot t).lines site image) ≡ true
-  own_noted t = own_at (given t.due) (λ m. refl) (λ m holding. still_in object m.objects t.due holding) t.place t.lines
+  own_noted t = own_at (given t.due) (λ m. refl) (λ m holding. in_left object m.objects t.due holding) t.place t.lines
 
 -- the turn that it has is that of the object of its piece, where it may go on
 pub turn_of_goes : (slot : ℕ) (t : Track) → waits slot t ≡ false → (object : ℕ) → t.turn ≡ Some object → has_turn slot object (line_in t.place t.lines) ≡ true

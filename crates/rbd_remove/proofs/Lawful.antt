@@ -22,16 +22,13 @@ use Rattle.rbd_machine.specs.Lawful.{IsLawful}
 use Rattle.rbd_machine.specs.Permits.{IsLeftOver, Permits}
 use Rattle.rbd_machine.specs.Plan.{Plan, Return}
 use Rattle.rbd_machine.specs.Standalone.{IsStandalone}
-use Rattle.rbd_machine.specs.Steps.{non_primary, on_bits, owned, own}
+use Rattle.rbd_machine.specs.Steps.{on_bits, owned, own}
 use Rattle.rbd_machine.specs.Wait as wait
 use Rattle.rbd_machine.proofs.Gone.{gone_is_known, map_is_there}
-use Rattle.rbd_machine.proofs.Lawful.{at_itself, holding_known, lawful_not_there, lawful_on_header, lawful_on_id, lawful_unless, left_here, or_else_none, own_at, unlooked}
-use Rattle.rbd_meaning.specs.Removals.{first_link, image_removal_refuses, link_of, may_be_gone, parent_in, removal, removing_journal, removing_map_of, removing_object, snaps_refuse, unlinking, used_objects, watchers_refuse}
+use Rattle.rbd_machine.proofs.Lawful.{at_itself, holding_known, lawful_not_there, lawful_on_header, lawful_on_id, lawful_unless, left_here, own_at, unlooked}
+use Rattle.rbd_meaning.specs.Removals.{first_link, image_removal_refuses, link_of, may_be_gone, parent_in, removal, removing_journal, removing_map_of, removing_object, unlinking, used_objects, watchers_refuse}
+use Rattle.rbd_meaning.proofs.Allowed.{no_snapshots_listed}
 use Rattle.rbd_remove.specs.Remove.{holding_it, joining_its_line, looked_at_it, on_gone, on_watchers, remove, remove_each, remove_image, remove_owned, remove_plan, unless_watched}
-
-no_snaps : (snaps : List SnapView) → snaps_refuse snaps ≡ None → snaps ≡ []
-no_snaps [] none = refl
-no_snaps (s ∷ snaps) none = cc
 
 module _ (at : Label → Knowledge) (site : SiteId) (image : ℕ) (next : Plan) (ends : (k : Knowledge) → IsLawful at k next) where
   -- one operation, by which something goes or is gone
@@ -158,10 +155,6 @@ module _ (at : Label → Knowledge) (site : SiteId) (session image : ℕ) where
           lawful_unwatched (record nothing_known { alone = true }) (holding_it site session image) lawful_holding)),
     )
 
--- a header that refuses nothing lists no snapshot
-lists_none : (h : HeaderView) → image_removal_refuses h ≡ None → h.snaps ≡ []
-lists_none h may = no_snaps h.snaps (or_else_none (non_primary h.role) (snaps_refuse h.snaps) may)
-
 no_link : (h : HeaderView) → h.snaps ≡ [] → h.parent ≡ None → link_of h ≡ None
 no_link h none unlinked = ap (λ snaps. first_link h.parent (parent_in snaps)) none ∙ ap (λ link. first_link link None) unlinked
 
@@ -171,7 +164,7 @@ module _ (at : Label → Knowledge) (site : SiteId) (session : ℕ) where
     tt,
     λ found can. lawful_on_id at (learned nothing_known site (op.Directory (directory.Find name))) (joining_its_line site session) (λ i.
         lawful_joining at site session i (λ k h owns standalone may.
-        let none = lists_none h may in
+        let none = no_snapshots_listed h may in
         lawful_remove at site i (Return reply.Done) (λ known. tt) k h owns none (no_link h none standalone.no_parent) standalone.no_journal)) found,
   )
 

@@ -4,7 +4,7 @@ use Rattle.std.specs.Prelude.{◌==◌, not, slice_index}
 use Rattle.std.specs.List.{filter, range_with_len}
 use Rattle.std.proofs.Math.Nat.{zero-div}
 use Rattle.std.proofs.Math.Path.{fun_ext}
-use Rattle.std.proofs.lemmas.List.{append_assoc, map-append, map-id}
+use Rattle.std.proofs.lemmas.List.{append_assoc, map-append, map-id, append-nil}
 use Rattle.std.proofs.lemmas.List.FromFn.{filter_of_map_range_with_len_more}
 use Rattle.rbd_kinds.specs.declared.header.HeaderView.{HeaderView}
 use Rattle.rbd_kinds.specs.declared.header.ParentLink.{ParentLink}
@@ -18,7 +18,7 @@ use Rattle.rbd_machine.specs.Plan.{Plan}
 use Rattle.rbd_machine.specs.Steps.{on_bits, own}
 use Rattle.rbd_meaning.specs.Removals.{link_of, removal, removing_journal, removing_map_of, removing_object, unlinking, used_objects}
 use Rattle.rbd_remove.specs.Part.{looking, IsOutlineOf}
-use Rattle.rbd_remove.specs.Remnants.{contents, is_in_use, journal_remnants, link_remnants, map_remnant, object_remnant, op_of, ops_of, remnants}
+use Rattle.rbd_remove.specs.Remnants.{is_in_use, journal_remnants, link_remnants, map_remnant, object_remnant, op_of, ops_of, remnants}
 use Rattle.rbd_remove.specs.Remove.{remove, remove_each}
 use Rattle.rbd_remove.specs.declared.outline.Outline.{Outline}
 use Rattle.rbd_remove.specs.declared.remnant.Remnant.{Remnant}
@@ -50,12 +50,8 @@ module _ (start : List Remnant) (bits : List ℕ) where
       go true some = let same : o ≡ n = cc in ap (λ m. remnant.Object m ∷ []) same
       go false some = cc
 
-  append_none : (made : List Remnant) → made ≡ made ++ []
-  append_none [] = refl
-  append_none (r ∷ made) = ap (λ rest. r ∷ rest) (append_none made)
-
   pub object_passed : (n : ℕ) (made : List Remnant) → made ≡ added_up_to n → cond (is_in_use bits n) (Some n) None ≡ None → made ≡ added_up_to (n + 1)
-  object_passed n made before none = before ∙ append_none (added_up_to n) ∙ ap (λ last. added_up_to n ++ last) (go (is_in_use bits n) none) ∙ next_added n
+  object_passed n made before none = before ∙ sym (append-nil (added_up_to n)) ∙ ap (λ last. added_up_to n ++ last) (go (is_in_use bits n) none) ∙ next_added n
     where
       go : (b : Bool) → cond b (Some n) None ≡ None → [] ≡ map object_remnant (cond b (n ∷ []) [])
       go true none = cc
@@ -83,28 +79,8 @@ with_link None l made more there are = cc
 with_link (Some k) l made more there are = let same : l ≡ k = cc in are ∙ ap (λ m. made ++ remnant.Link m ∷ []) same
 
 pub without_link : (link : Option ParentLink) (made : List Remnant) → link ≡ None → made ≡ made ++ link_remnants link
-without_link None made none = append_none [] [] made
+without_link None made none = sym (append-nil made)
 without_link (Some l) made none = cc
-
-pub with_journal : (journal : Bool) (made more : List Remnant) → journal ≡ true → more ≡ made ++ remnant.Journal ∷ [] → more ≡ made ++ journal_remnants journal
-with_journal true made more there are = are
-with_journal false made more there are = cc
-
-pub without_journal : (journal : Bool) (made : List Remnant) → journal ≡ false → made ≡ made ++ journal_remnants journal
-without_journal false made none = append_none [] [] made
-without_journal true made none = cc
-
-pub contents_made : (snaps : List SnapView) (journal : Bool) (bits : List ℕ) (start m0 m1 m2 m3 : List Remnant) → m0 ≡ start ++ map object_remnant (used_objects bits)
-    → m1 ≡ m0 ++ remnant.Map None ∷ [] → m2 ≡ m1 ++ map map_remnant snaps → m3 ≡ m2 ++ journal_remnants journal → m3 ≡ start ++ contents snaps journal bits
-contents_made snaps journal bits start m0 m1 m2 m3 is0 is1 is2 is3 =
-    let objects = map object_remnant (used_objects bits) in
-    let maps = map map_remnant snaps in
-    let journals = journal_remnants journal in
-    let front : m2 ≡ ((start ++ objects) ++ remnant.Map None ∷ []) ++ maps = is2 ∙ ap (λ m. m ++ maps) (is1 ∙ ap (λ m. m ++ remnant.Map None ∷ []) is0) in
-    is3 ∙ ap (λ m. m ++ journals) front
-    ∙ append_assoc ((start ++ objects) ++ remnant.Map None ∷ []) maps journals
-    ∙ append_assoc (start ++ objects) (remnant.Map None ∷ []) (maps ++ journals)
-    ∙ append_assoc start objects (remnant.Map None ∷ (maps ++ journals))
 
 pub all_made : (link : Option ParentLink) (behind m0 m1 m2 m3 m4 : List Remnant) → m0 ≡ [] → m1 ≡ m0 ++ remnant.Name ∷ [] → m2 ≡ m1 ++ remnant.Header ∷ []
     → m3 ≡ m2 ++ link_remnants link → m4 ≡ m3 ++ behind → m4 ≡ remnant.Name ∷ remnant.Header ∷ (link_remnants link ++ behind)

@@ -35,7 +35,7 @@ use Rattle.rbd_zero.specs.Shrink.{pieces_from}
 use Rattle.rbd_zero.specs.Size.{cutting, resize_by, sizing, zero_pieces}
 use Rattle.rbd_zero.specs.Zero.{emptying, head_of, is_inside, is_whole, removing, setting, zero_all, zero_by, zero_piece, zero_some, zeroing}
 use Rattle.rbd_replies.proofs.LooksFirst.{NoLook}
-use Rattle.rbd_replies.proofs.PlanSteps.{at_bits, at_bytes, at_done}
+use Rattle.rbd_requests.proofs.PlanSteps.{at_bits, at_bytes, at_done}
 
 -- an operation on objects or maps, or one that sets the image's size
 abbrev pub IsOnImage : (image : ℕ) → Op → Type 0

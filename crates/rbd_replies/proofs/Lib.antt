@@ -28,7 +28,6 @@ pub mod PlacedRight
 pub mod Places
 pub mod PlacesTaken
 pub mod PlacesTold
-pub mod PlanSteps
 pub mod ReadKept
 pub mod ReadNames
 pub mod ReadOrder

@@ -56,7 +56,7 @@ use Rattle.rbd_world.specs.Sound.{IsLedTo}
 use Rattle.rbd_replies.proofs.LooksFirst.{LooksFirst, NoLook, ends, looks_before, no_more, none_first}
 use Rattle.rbd_replies.proofs.KeepsOwn.{keeps_rollback, keeps_set_size, keeps_zeroing, looks_no_more}
 use Rattle.rbd_replies.proofs.NoLooks.{no_look_remove}
-use Rattle.rbd_replies.proofs.PlanSteps.{at_bits, at_bytes, at_done, at_drawn, at_either, at_gone, at_header, at_id, at_names, at_not_there, at_renamed, at_snap, at_unless, at_watchers}
+use Rattle.rbd_requests.proofs.PlanSteps.{at_bits, at_bytes, at_done, at_drawn, at_either, at_gone, at_header, at_id, at_names, at_not_there, at_renamed, at_snap, at_unless, at_watchers}
 
 -- ---- changes
 

@@ -11,7 +11,7 @@ use Rattle.rbd_meaning.specs.Removals.{link_of, removal, removing_journal, remov
 use Rattle.rbd_remove.specs.Remove.{remove, remove_each}
 use Rattle.rbd_session.specs.Session.{is_look_at}
 use Rattle.rbd_replies.proofs.LooksFirst.{NoLook, no_more}
-use Rattle.rbd_replies.proofs.PlanSteps.{at_bits, at_removed}
+use Rattle.rbd_requests.proofs.PlanSteps.{at_bits, at_removed}
 
 -- ---- rm
 

@@ -43,7 +43,7 @@ use Rattle.rbd_resize.specs.Rollback.{is_rollback}
 use Rattle.rbd_requests.specs.Served.{IsPlanFor, Writes, Discards, Reads, Creates, Lists, Snaps, Resizes, Rollbacks, Removes, Closes}
 use Rattle.rbd_stands.specs.Effect.{effect_of_op}
 use Rattle.rbd_world.specs.Sound.{IsLedTo}
-use Rattle.rbd_replies.proofs.PlanSteps.{at_bits, at_bytes, at_done, at_either, at_header, at_id, at_names, at_not_there, at_unless}
+use Rattle.rbd_requests.proofs.PlanSteps.{at_bits, at_bytes, at_done, at_either, at_header, at_id, at_names, at_not_there, at_unless}
 use Rattle.rbd_replies.proofs.RefusalsNothing.{look_does_nothing}
 use Rattle.rbd_replies.proofs.Silent.{AreSilent}
 use Rattle.rbd_replies.specs.Replies.{changes_no_image}

@@ -5,19 +5,6 @@ use Rattle.std.proofs.Math.Nat.{eq-or-lt_of_le}
 use Rattle.rbd_kinds.specs.declared.layout.Layout.{Layout}
 use Rattle.rbd_kinds.specs.Striping.{IsObjectCount, object_of}
 
-no_more : (l : Layout) (size few many : ℕ) → IsObjectCount l size few → IsObjectCount l size many → few ≤ many
-no_more l zero few many counts also = let none = counts.none refl in omega arith
-no_more l (suc n) few many counts also =
-    let (x, below, is) = counts.greatest (omega arith) in
-    let within = also.each x below in
-    omega arith
-
-pub one_count : (l : Layout) (size one other : ℕ) → IsObjectCount l size one → IsObjectCount l size other → other ≡ one
-one_count l size one other counts also =
-    let less = no_more l size one other counts also in
-    let more = no_more l size other one also counts in
-    omega arith
-
 pub record HasCount (l : Layout) (size : ℕ) : Type 0 where
   pub count : ℕ
   pub is : IsObjectCount l size count

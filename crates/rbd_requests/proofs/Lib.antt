@@ -6,9 +6,9 @@ pub mod Begun
 pub mod Given
 pub mod Told
 pub mod Looks
-pub mod LooksEnd
+pub mod LooksWell
 pub mod LooksOf
 pub mod OnePlan
 pub mod LooksNone
-pub mod LooksOnce
+pub mod PlanSteps
 pub mod InLine

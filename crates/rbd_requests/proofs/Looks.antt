@@ -23,51 +23,57 @@ use Rattle.rbd_discard.specs.Discard.{discard_plan}
 use Rattle.rbd_remove.specs.Remove.{remove_plan}
 use Rattle.rbd_resize.specs.Resize.{resize_plan}
 use Rattle.rbd_resize.specs.Rollback.{rollback_plan}
-use Rattle.rbd_requests.proofs.LooksEnd.{LooksEnd}
+use Rattle.rbd_requests.specs.Looking.{LooksOnce}
+use Rattle.rbd_requests.proofs.LooksWell.{LooksWell, once_of}
 use Rattle.rbd_requests.proofs.LooksOf.{at_close_plan, at_create, at_discard_plan, at_listing, at_remove_plan, at_resize_plan, at_rollback_plan, at_snap_plan, at_write_plan}
 use Rattle.rbd_requests.specs.Served.{IsPlanFor, Writes, Discards, Reads, Creates, Lists, Snaps, Resizes, Rollbacks, Removes, Closes}
 
 -- ---- along a walk of a request without labels
 
-at_settled : (plan : Plan) → LooksEnd plan → LooksEnd (settled Goto plan)
-at_settled plan ends = subst LooksEnd (sym (settled_goto plan)) ends
+at_settled : (plan : Plan) → LooksWell plan → LooksWell (settled Goto plan)
+at_settled plan well = subst LooksWell (sym (settled_goto plan)) well
 
-at_end : (feds : List Fed) (plan : Plan) (steps : List Answered) (last : Plan) → LooksEnd plan → IsWalk Goto plan feds steps last → LooksEnd last
-at_end [] plan steps last ends walk = subst LooksEnd (sym walk.1) ends
-at_end (fed.Answer a ∷ more) (Ask site why o next) steps last ends (first, walk) = at_end more (settled Goto (next a)) first.rest last (at_settled (next a) (ends.1 a)) walk
-at_end (fed.Passed ∷ more) (Ask site why o next) steps last ends walk = absurd walk
-at_end (fed.Passed ∷ more) (Await wait next) steps last ends walk = at_end more (settled Goto next) steps last (at_settled next ends) walk
-at_end (fed.Answer a ∷ more) (Await wait next) steps last ends walk = absurd walk
-at_end (fed.Passed ∷ more) (Note site image event next) steps last ends walk = at_end more (settled Goto next) steps last (at_settled next ends) walk
-at_end (fed.Answer a ∷ more) (Note site image event next) steps last ends walk = absurd walk
-at_end (f ∷ more) (Return reply) steps last ends walk = absurd walk
-at_end (f ∷ more) (Goto label) steps last ends walk = absurd walk
+at_end : (feds : List Fed) (plan : Plan) (steps : List Answered) (last : Plan) → LooksWell plan → IsWalk Goto plan feds steps last → LooksWell last
+at_end [] plan steps last well walk = subst LooksWell (sym walk.1) well
+at_end (fed.Answer a ∷ more) (Ask site why o next) steps last well (first, walk) = at_end more (settled Goto (next a)) first.rest last (at_settled (next a) (well.1 a).1) walk
+at_end (fed.Passed ∷ more) (Ask site why o next) steps last well walk = absurd walk
+at_end (fed.Passed ∷ more) (Await wait next) steps last well walk = at_end more (settled Goto next) steps last (at_settled next well) walk
+at_end (fed.Answer a ∷ more) (Await wait next) steps last well walk = absurd walk
+at_end (fed.Passed ∷ more) (Note site image event next) steps last well walk = at_end more (settled Goto next) steps last (at_settled next well) walk
+at_end (fed.Answer a ∷ more) (Note site image event next) steps last well walk = absurd walk
+at_end (f ∷ more) (Return reply) steps last well walk = absurd walk
+at_end (f ∷ more) (Goto label) steps last well walk = absurd walk
 
 -- ---- all of them
 
-from_plan : (plan : Plan) (s : Standing) (feds : List Fed) (steps : List Answered) (last : Plan) → s ≡ without_labels plan → LooksEnd plan → IsWalk s.labels s.plan feds steps last → LooksEnd last
-from_plan plan s feds steps last is ends walk = at_end feds plan steps last ends (subst (λ (at : Standing). IsWalk at.labels at.plan feds steps last) is walk)
+from_plan : (plan : Plan) (s : Standing) (feds : List Fed) (steps : List Answered) (last : Plan) → s ≡ without_labels plan → LooksWell plan → IsWalk s.labels s.plan feds steps last → LooksWell last
+from_plan plan s feds steps last is well walk = at_end feds plan steps last well (subst (λ (at : Standing). IsWalk at.labels at.plan feds steps last) is walk)
 
 is_one_read : (home : SiteId) (c : Command) (s : Standing) → IsReadOf home c s → is_read c ≡ true
 is_one_read home (command.Read image snap at len) s is = refl
 is_one_read home _ s is = absurd is
 
-looks_end : (seat : Seat) (c : Command) (s : Standing) (feds : List Fed) (steps : List Answered) (last : Plan)
-    → IsPlanFor seat c s → is_read c ≡ false → IsWalk s.labels s.plan feds steps last → LooksEnd last
-looks_end seat c s feds steps last (Writes is at_plan) other walk = from_plan (write_plan seat.home c) s feds steps last at_plan (at_write_plan seat.home c) walk
-looks_end seat c s feds steps last (Discards is at_plan) other walk = from_plan (discard_plan seat.home c) s feds steps last at_plan (at_discard_plan seat.home c) walk
-looks_end seat c s feds steps last (Reads is) other walk = let no : false ≡ true = sym other ∙ is_one_read seat.home c s is in cc
-looks_end seat c s feds steps last (Creates is at_plan) other walk = from_plan s.plan s feds steps last at_plan (at_create seat.home c s.plan is) walk
-looks_end seat c s feds steps last (Lists is at_plan) other walk = from_plan (listing_plan seat.home c) s feds steps last at_plan (at_listing seat.home c) walk
-looks_end seat c s feds steps last (Snaps is at_plan) other walk = from_plan (snap_plan seat.home c) s feds steps last at_plan (at_snap_plan seat.home c) walk
-looks_end seat c s feds steps last (Resizes is at_plan) other walk = from_plan (resize_plan seat.home c) s feds steps last at_plan (at_resize_plan seat.home c) walk
-looks_end seat c s feds steps last (Rollbacks is at_plan) other walk = from_plan (rollback_plan seat.home c) s feds steps last at_plan (at_rollback_plan seat.home c) walk
-looks_end seat c s feds steps last (Removes is at_plan) other walk =
+looks_well : (seat : Seat) (c : Command) (s : Standing) (feds : List Fed) (steps : List Answered) (last : Plan)
+    → IsPlanFor seat c s → is_read c ≡ false → IsWalk s.labels s.plan feds steps last → LooksWell last
+looks_well seat c s feds steps last (Writes is at_plan) other walk = from_plan (write_plan seat.home c) s feds steps last at_plan (at_write_plan seat.home c) walk
+looks_well seat c s feds steps last (Discards is at_plan) other walk = from_plan (discard_plan seat.home c) s feds steps last at_plan (at_discard_plan seat.home c) walk
+looks_well seat c s feds steps last (Reads is) other walk = let no : false ≡ true = sym other ∙ is_one_read seat.home c s is in cc
+looks_well seat c s feds steps last (Creates is at_plan) other walk = from_plan s.plan s feds steps last at_plan (at_create seat.home c s.plan is) walk
+looks_well seat c s feds steps last (Lists is at_plan) other walk = from_plan (listing_plan seat.home c) s feds steps last at_plan (at_listing seat.home c) walk
+looks_well seat c s feds steps last (Snaps is at_plan) other walk = from_plan (snap_plan seat.home c) s feds steps last at_plan (at_snap_plan seat.home c) walk
+looks_well seat c s feds steps last (Resizes is at_plan) other walk = from_plan (resize_plan seat.home c) s feds steps last at_plan (at_resize_plan seat.home c) walk
+looks_well seat c s feds steps last (Rollbacks is at_plan) other walk = from_plan (rollback_plan seat.home c) s feds steps last at_plan (at_rollback_plan seat.home c) walk
+looks_well seat c s feds steps last (Removes is at_plan) other walk =
     from_plan (remove_plan seat.home seat.session c) s feds steps last at_plan (at_remove_plan seat.home seat.session c) walk
-looks_end seat c s feds steps last (Closes is at_plan) other walk = from_plan (close_plan seat.home c) s feds steps last at_plan (at_close_plan seat.home c) walk
+looks_well seat c s feds steps last (Closes is at_plan) other walk = from_plan (close_plan seat.home c) s feds steps last at_plan (at_close_plan seat.home c) walk
 
 -- where a request that isn't a read looks at a header, what isn't there and the fence end it
 pub looks_refuse : (seat : Seat) (c : Command) (s : Standing) (feds : List Fed) (steps : List Answered) (site : SiteId) (why : Reason) (image : ℕ) (next : Answer → Plan) (a : Answer)
     → IsPlanFor seat c s → is_read c ≡ false → IsWalk s.labels s.plan feds steps (Ask site why (op.Header image header.Get) next)
     → EndsIt a → next a ≡ not_there a
-looks_refuse seat c s feds steps site why image next a is other walk ends = (looks_end seat c s feds steps (Ask site why (op.Header image header.Get) next) is other walk).0 a ends
+looks_refuse seat c s feds steps site why image next a is other walk ends = (looks_well seat c s feds steps (Ask site why (op.Header image header.Get) next) is other walk).0 a ends
+
+-- and behind its look it waits for the lock, or looks at none any more
+pub looks_once : (seat : Seat) (c : Command) (s : Standing) (feds : List Fed) (steps : List Answered) (last : Plan)
+    → IsPlanFor seat c s → is_read c ≡ false → IsWalk s.labels s.plan feds steps last → LooksOnce last
+looks_once seat c s feds steps last is other walk = once_of last (looks_well seat c s feds steps last is other walk)

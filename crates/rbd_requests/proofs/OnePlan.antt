@@ -22,10 +22,11 @@ use Rattle.rbd_discard.specs.Discard.{is_discard, discard_plan}
 use Rattle.rbd_remove.specs.Remove.{is_remove, remove_plan}
 use Rattle.rbd_resize.specs.Resize.{is_resize, resize_plan}
 use Rattle.rbd_resize.specs.Rollback.{is_rollback, rollback_plan}
-use Rattle.rbd_requests.proofs.Counts.{has_count, one_count}
+use Rattle.rbd_requests.proofs.Counts.{has_count}
 use Rattle.rbd_requests.specs.Served.{is_built, HasOnePlan, IsPlanFor, Writes, Discards, Reads, Creates, Lists, Snaps, Resizes, Rollbacks, Removes, Closes}
 use Rattle.rbd_requests.specs.declared.kind.Kind.{Kind}
 use Rattle.rbd_requests.specs.declared.kind.Kind.TheVariants as kind
+use Rattle.rbd_meaning.proofs.Counts.{one_count}
 
 -- ---- a command is of one kind
 
@@ -149,7 +150,7 @@ one_create home name size shape one other is also = go (limits_or_not (layout_of
   where
     go : KeepsLimits (layout_of shape) size ⊎ (KeepsLimits (layout_of shape) size → ⊥) → other ≡ one
     go (inl keeps) =
-        let same = one_count (layout_of shape) size is.objects also.objects (is.counted keeps) (also.counted keeps) in
+        let same = one_count (layout_of shape) size also.objects is.objects (also.counted keeps) (is.counted keeps) in
         also.within keeps ∙ ap (λ objects. drawing home name objects (new_header (layout_of shape) size)) same ∙ sym (is.within keeps)
     go (inr fails) = also.outside fails ∙ sym (is.outside fails)
 

@@ -18,7 +18,7 @@ is_eq-then Less b = refl
 is_eq-then Equal b = refl
 is_eq-then Greater b = refl
 
-eqb_swapped : (a b : ℕ) → eqb a b ≡ eqb b a
+pub eqb_swapped : (a b : ℕ) → eqb a b ≡ eqb b a
 eqb_swapped a b = grind arith
 
 pub is_eq-nat_cmp : (a b : ℕ) → is_eq (nat_cmp a b) ≡ eqb b a

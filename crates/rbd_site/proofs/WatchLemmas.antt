@@ -81,7 +81,8 @@ older_of session (Some x) (Some y) p q i is = go (nat_le x.life y.life) is
     go true e = p i e
     go false e = q i e
 
-oldest_session : (session : ℕ) (w : List Instance) (i : Instance) → oldest_of session w ≡ Some i → i.session ≡ session
+-- the oldest instance of a session is one of it
+pub oldest_session : (session : ℕ) (w : List Instance) (i : Instance) → oldest_of session w ≡ Some i → i.session ≡ session
 oldest_session session [] i is = cc
 oldest_session session (x ∷ w) i is = older_of session (cond (eqb x.session session) (Some x) None) (oldest_of session w) (go (eqb x.session session) refl) (oldest_session session w) i is
   where

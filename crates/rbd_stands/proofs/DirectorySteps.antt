@@ -24,7 +24,8 @@ use Rattle.rbd_stands.proofs.Served.{free_answer, was_there, where_served}
 
 -- ---- a name is added
 
-drawn_next : (held : Option ℕ) (full : Bool) (next image : ℕ) → name_added held full next ≡ answer.Id image → next ≡ image
+-- an id that is told was the next
+pub drawn_next : (held : Option ℕ) (full : Bool) (next image : ℕ) → name_added held full next ≡ answer.Id image → next ≡ image
 drawn_next (Some other) full next image e = absurd (cc)
 drawn_next None true next image e = absurd (cc)
 drawn_next None false next image e = cc

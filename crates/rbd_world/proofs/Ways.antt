@@ -10,7 +10,7 @@ use Rattle.rbd_client.specs.Actor.{actor_at, actor_at_look, actor_by, actor_on, 
 use Rattle.rbd_client.specs.Client.{ClientView, state_in}
 use Rattle.rbd_client.specs.Feeding.{GoesOnItsWay, RefusesIt, TakesTheLock, WayComesTo, state_behind}
 use Rattle.rbd_client.specs.Sound.{IsSoundClient, IsWellOnWay, WaitsForLook}
-use Rattle.rbd_client.proofs.OnWay.{is_way, way_or, way_waits}
+use Rattle.rbd_client.proofs.OnWay.{is_way, way_or, way_waits, releases_no_way}
 use Rattle.rbd_client.proofs.Requests.{acts_by_way, is_request, stands_at_look}
 use Rattle.rbd_course.specs.Course.{Course, answered, is_newcomer_at, has_just_joined, is_own_at, looked, past}
 use Rattle.rbd_course.specs.Orderly.{IsOrderly}
@@ -62,7 +62,8 @@ use Rattle.rbd_world.specs.Run.{Happening, steps_of}
 use Rattle.rbd_world.specs.Sound.{IsUnderWay, KeepsToItsWay}
 use Rattle.rbd_world.specs.Ways.{AsksNext, GoesWith, IsOfRelease, IsOver, IsWayThere, TookTheLock, WasRefused}
 use Rattle.rbd_requests.specs.Looking.{LooksNoMore}
-use Rattle.rbd_requests.proofs.LooksOnce.{looks_once, none_at_operation}
+use Rattle.rbd_requests.proofs.Looks.{looks_once}
+use Rattle.rbd_requests.proofs.LooksNone.{none_at_operation}
 use Rattle.rbd_requests.specs.Looking.{Holds, HoldsNext, IsLast, Looked}
 use Rattle.rbd_world.proofs.Quiet.{IsQuiet, way_on}
 use Rattle.rbd_known.proofs.NoReads.{changes_are_no_reads}
@@ -172,11 +173,6 @@ begins_by s p a = go (s.quiesced || s.asked) s.owned
     go false true is = absurd (true≢false (sym (ap is_way is)))
     go false false is = subst (λ (x : Acquire). IsWayThere x.site x.image [] (rest_of_acquire x end)) (ap (way_or a) is) (begins_there p.site p.image s.watched)
 
-releases_go_no_way : (r : Option Release) (due : Option ImageAt) → is_way (releasing r due) ≡ false
-releases_go_no_way (Some r) due = refl
-releases_go_no_way None (Some p) = refl
-releases_go_no_way None None = refl
-
 -- who wants a look isn't past its own
 looks_still : (site : SiteId) (p : Plan) → is_look_at site (kind_asked p) ≡ true → LooksNoMore p → ⊥
 looks_still site p wants none = let look = looks_at site p wants in (subst LooksNoMore look.is none).0
@@ -207,7 +203,7 @@ module _ {R : Type 0} (stands : R → Standing) (slot : ℕ) (c : ClientView R) 
 
       by : (b : Bool) → cond b (releasing c.release (due_release c)) (actor_on (state_in slot c.slots).way (own_look_at stands slot c.session) c.locks) ≡ actor.Way a
           → IsWayThere a.site a.image steps (rest_of_acquire a end)
-      by true is = absurd (true≢false (sym (ap is_way is) ∙ releases_go_no_way c.release (due_release c)))
+      by true is = absurd (true≢false (sym (ap is_way is) ∙ releases_no_way c.release (due_release c)))
       by false is = on (state_in slot c.slots).way keeps is
 
   -- ---- it acts itself

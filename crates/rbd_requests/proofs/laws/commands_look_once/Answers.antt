@@ -1,4 +1,4 @@
-use Rattle.rbd_requests.proofs.LooksOnce.{looks_once}
+use Rattle.rbd_requests.proofs.Looks.{looks_once}
 use Rattle.rbd_requests.proofs.laws.commands_look_once.Goals as goal
 
 pub returns : goal.returns
