@@ -23,16 +23,11 @@ use Rattle.rbd_stands.proofs.Served.{fenced_after, fenced_answer}
 use Rattle.rbd_stands.specs.Effect.{effect_of}
 use Rattle.rbd_world.specs.Run.{Happening, Nothing, Waited, Began, Did, Refused, Trimmed, Expired, Heard, Stopped, Restarted, Operation, fence_of, flat_after, mail_of, records_after, records_behind}
 use Rattle.rbd_world.specs.Sound.{IsDone, IsRight}
-use Rattle.rbd_replies.proofs.PlacedRight.{done_of}
+use Rattle.rbd_world.proofs.Runs.{done_of}
+use Rattle.rbd_world.proofs.Debts.{site_is}
 use Rattle.rbd_replies.specs.Fenced.{ChangesNothing}
 
 -- ---- what a fenced instance does
-
-pub one_site : (s t : SiteId) → same_site s t ≡ true → s ≡ t
-one_site site.A site.A same = refl
-one_site site.A site.B same = cc
-one_site site.B site.A same = cc
-one_site site.B site.B same = refl
 
 module _ (o : Operation) (reply : Option Reply) (run : List Happening) (is : IsDone o run) (fenced : is_fenced (records_after o.site run) o.instance ≡ true) where
   told : o.answer ≡ answer.Fenced
@@ -54,7 +49,7 @@ module _ (o : Operation) (reply : Option Reply) (run : List Happening) (is : IsD
       by : (b : Bool) → same_site o.site s ≡ b → cond b (after (records_after s run) o.instance o.op) (records_after s run) ≡ records_after s run
       by true here =
           fenced_after (records_after s run) o.instance o.op
-          (subst (λ t. is_fenced (records_after t run) o.instance ≡ true) (one_site o.site s here) fenced)
+          (subst (λ t. is_fenced (records_after t run) o.instance ≡ true) (site_is o.site s here) fenced)
       by false elsewhere = refl
 
   mail_stays : mail_of (Did o reply ∷ run) ≡ mail_of run

@@ -3,7 +3,6 @@
 use Rattle.std.proofs.Common.{◌≡◌, ℕ, ◌<◌, Bool, true, false, cond, eqb, List, [], ◌∷◌, length, map, Option, Some, None, option_map, refl, sym, ap, ◌∙◌, subst, arith, eq-eqb}
 use Rattle.std.specs.Prelude.{nat_eq}
 use Rattle.std.specs.Cmp.Lexicographic.{pointwise}
-use Rattle.std.proofs.lemmas.Bool.Decides.{nat_tests}
 use Rattle.std.proofs.lemmas.Option.{none-some, same_Some}
 use Rattle.rbd_flat.specs.Flat.{FlatImage, FlatSnap, snap_in as flat_snap_in}
 use Rattle.rbd_header.specs.Header.{snap_in}
@@ -14,13 +13,10 @@ use Rattle.rbd_kinds.specs.Header.{snap_named}
 use Rattle.rbd_site.proofs.SnapLists.{are_rising}
 use Rattle.rbd_stands.specs.Image.{SnapLine, line_of_flat, line_of_snap}
 use Rattle.rbd_stands.specs.Reading.{IsToldBy, flat_snap_named}
-use Rattle.rbd_replies.proofs.ReadNames.{named_has_id}
+use Rattle.rbd_replies.proofs.ReadNames.{named_has_id, differs}
 
 abbrev AreAlike : List FlatSnap → List SnapView → Type 0
 AreAlike flats snaps = map line_of_flat flats ≡ map line_of_snap snaps
-
-differs : (a b : ℕ) → a < b → eqb a b ≡ false
-differs a b less = grind (arith, nat_tests)
 
 one_id : (f : FlatSnap) (s : SnapView) → line_of_flat f ≡ line_of_snap s → f.id ≡ s.id
 one_id f s same = ap (λ (l : SnapLine). l.id) same

@@ -1,7 +1,7 @@
 -- Each line's command was led where it is by a walk of its plan: once it has its reply or is lost,
 -- and while its request is in a slot.
 use Rattle.std.proofs.Common.{◌≡◌, inl, inr, ◌⊎◌, ℕ, ◌==◌, ◌||◌, cond, Bool, true, false, List, [], ◌∷◌, ◌++◌, Option, Some, None, refl, sym, ap, ◌∙◌, subst}
-use Rattle.std.proofs.lemmas.Bool.{true≢false, eqb-true}
+use Rattle.std.proofs.lemmas.Bool.{true≢false, eqb-true, ne_eqb}
 use Rattle.std.proofs.lemmas.List.{append-nil}
 use Rattle.std.proofs.lemmas.Option.{same_Some, none-some}
 use Rattle.rbd_client.specs.Client.{ClientView}
@@ -19,7 +19,7 @@ use Rattle.rbd_world.specs.Run.{Asked, Doer, Itself, OnWay, House, AfterStop, Ha
 use Rattle.rbd_world.specs.Seats.{seat_at}
 use Rattle.rbd_world.specs.Sound.{GoesOnBehind, IsHeldRightly, IsLedTo, IsOpen, IsReplyMeant, IsRight, IsSoundWorld, has_ended, held_of, line_at}
 use Rattle.rbd_world.specs.World.{WorldView, client_in, session_of}
-use Rattle.rbd_world.proofs.Quiet.{IsQuiet, lines_differ, quiet_began, quiet_did, quiet_expired, quiet_heard, quiet_nothing, quiet_refused, quiet_restarted, quiet_stopped, quiet_trimmed, quiet_waited}
+use Rattle.rbd_world.proofs.Quiet.{IsQuiet, quiet_began, quiet_did, quiet_expired, quiet_heard, quiet_nothing, quiet_refused, quiet_restarted, quiet_stopped, quiet_trimmed, quiet_waited}
 use Rattle.rbd_world.proofs.Runs.{unheard}
 use Rattle.rbd_replies.proofs.OnWay.{EndsOnWay, ends_so}
 
@@ -46,7 +46,7 @@ module _ (homes : ℕ → SiteId) (line : ℕ) where
 
   -- a line is open at another line's happening alone
   another : (other : ℕ) (run : List Happening) → has_ended line run ≡ true → IsOpen other run → (other == line) ≡ false
-  another other run ended begun = lines_differ other line (λ same. true≢false (sym ended ∙ sym (ap (λ l. has_ended l run) same) ∙ begun.unended))
+  another other run ended begun = ne_eqb other line (λ same. true≢false (sym ended ∙ sym (ap (λ l. has_ended l run) same) ∙ begun.unended))
 
   for_another : (s : SiteId) (doer : Doer) (run : List Happening) → has_ended line run ≡ true → GoesOnBehind homes s doer run → is_for line doer ≡ false
   for_another s (Itself other) run ended begun = ap (λ b. b || false) (another other run ended begun)
@@ -78,7 +78,7 @@ module _ (homes : ℕ → SiteId) (line : ℕ) where
   ended_by (Began other slot) run asked right rest = λ ended asks. more (Began other slot) run asked (quiet_began line other slot (differ ended)) rest ended asks
     where
       differ : has_ended line run ≡ true → (other.line == line) ≡ false
-      differ ended = lines_differ other.line line (λ same. true≢false (sym ended ∙ (unheard homes line run right.2 (ap (λ l. asked_by l run) (sym same) ∙ right.1.new)).unended))
+      differ ended = ne_eqb other.line line (λ same. true≢false (sym ended ∙ (unheard homes line run right.2 (ap (λ l. asked_by l run) (sym same) ∙ right.1.new)).unended))
   ended_by (Did o None) run asked right rest = λ ended asks. more (Did o None) run asked (quiet_did line o None (for_another o.site o.by run ended right.1.1)) rest ended asks
   ended_by (Did o (Some reply)) run asked right rest = by (is_for line o.by) refl
     where

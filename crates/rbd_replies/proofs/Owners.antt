@@ -27,7 +27,7 @@ use Rattle.rbd_site.specs.Step.{answer_served, answer_to, is_fenced}
 use Rattle.rbd_stands.specs.Owned.{IsOwner, changes_data, changes_header, changes_image, changes_map, was_done}
 use Rattle.rbd_world.specs.Run.{Happening, Did, Operation, records_after}
 use Rattle.rbd_world.specs.Sound.{IsDone, IsRight}
-use Rattle.rbd_replies.proofs.PlacedRight.{done_of}
+use Rattle.rbd_world.proofs.Runs.{done_of}
 use Rattle.rbd_replies.specs.Fenced.{MakesMap, OwnsOrNone, RemovesRest, removes_part}
 
 -- ---- the header is there

@@ -1,10 +1,10 @@
 -- Each operation of a line in a run that is right: at its place the run is right, its site stands
 -- for its flat site, and what was done is what the site does there.
-use Rattle.std.proofs.Common.{ℕ, cond, Bool, true, false, List, [], ◌∷◌, ◌++◌, Option, Some, None}
+use Rattle.std.proofs.Common.{ℕ, cond, Bool, true, false, List, [], ◌∷◌, ◌++◌}
 use Rattle.rbd_kinds.specs.declared.id.SiteId.{SiteId}
-use Rattle.rbd_kinds.specs.declared.reply.Reply.{Reply}
-use Rattle.rbd_world.specs.Run.{Happening, Nothing, Waited, Began, Did, Refused, Trimmed, Expired, Heard, Stopped, Restarted, Operation, is_own}
-use Rattle.rbd_world.specs.Sound.{AreStanding, IsDone, IsDue, IsRight, IsStanding}
+use Rattle.rbd_world.specs.Run.{Happening, Nothing, Waited, Began, Did, Refused, Trimmed, Expired, Heard, Stopped, Restarted, is_own}
+use Rattle.rbd_world.specs.Sound.{IsDone, IsDue, IsRight, IsStanding}
+use Rattle.rbd_world.proofs.Runs.{done_of, standing_at}
 use Rattle.rbd_replies.specs.Places.{Placed, places_in, places_of}
 
 pub record IsPlacedRight (homes : ℕ → SiteId) (p : Placed) : Type 0 where
@@ -28,15 +28,6 @@ right_front homes (p ∷ front) back (here, both) = (here, right_front homes fro
 pub right_back : (homes : ℕ → SiteId) (front back : List Placed) → ArePlacedRight homes (front ++ back) → ArePlacedRight homes back
 right_back homes [] back both = both
 right_back homes (p ∷ front) back (here, both) = right_back homes front back both
-
--- both sites stand at the end of a run that is right
-pub standing_at : (homes : ℕ → SiteId) (run : List Happening) → IsRight homes run → AreStanding run
-standing_at homes [] right = right
-standing_at homes (h ∷ run) right = right.0
-
-pub done_of : (homes : ℕ → SiteId) (o : Operation) (reply : Option Reply) (run : List Happening) → IsDue homes (Did o reply) run → IsDone o run
-done_of homes o None run due = due.0
-done_of homes o (Some reply) run due = due.0
 
 right_in : (homes : ℕ → SiteId) (line : ℕ) (h : Happening) (run : List Happening) → IsDue homes h run → IsRight homes run → ArePlacedRight homes (places_in line h run)
 right_in homes line Nothing run due right = tt

@@ -17,7 +17,7 @@ use Rattle.rbd_site.proofs.SnapLists.{are_rising}
 
 -- ---- ids rise, so the snapshot with a name is the one with its id
 
-differs : (a b : ℕ) → a < b → eqb a b ≡ false
+pub differs : (a b : ℕ) → a < b → eqb a b ≡ false
 differs a b less = grind (arith, nat_tests)
 
 named_above : (below most : ℕ) (snaps : List SnapView) (name : List ℕ) (s : SnapView) → RiseFrom below most snaps → snap_named snaps name ≡ Some s → below < s.id

@@ -21,7 +21,7 @@ use Rattle.rbd_stands.specs.View.{EachView, Shape}
 use Rattle.rbd_stands.proofs.Views.{each_added, each_removed}
 use Rattle.rbd_world.specs.Run.{Happening, Nothing, Waited, Began, Did, Refused, Trimmed, Expired, Heard, Stopped, Restarted, records_after, records_behind}
 use Rattle.rbd_world.specs.Sound.{IsDone, IsDue, IsRight}
-use Rattle.rbd_replies.proofs.PlacedRight.{done_of}
+use Rattle.rbd_world.proofs.Runs.{done_of}
 
 abbrev pub HasNoParent : Option ℕ → Shape → Type 0
 HasNoParent v shape = shape.parent ≡ None

@@ -22,10 +22,9 @@ use Rattle.rbd_kinds.specs.declared.reply.Reply.{Reply}
 use Rattle.rbd_machine.proofs.Lawful.{same_site_itself}
 use Rattle.rbd_machine.specs.Knowledge.{same_site}
 use Rattle.rbd_machine.specs.Path.{Answered, found, looked_at}
-use Rattle.rbd_machine.specs.Steps.{non_primary}
-use Rattle.rbd_machine.proofs.Lawful.{or_else_none}
-use Rattle.rbd_meaning.specs.Removals.{AreRemovals, IsRemovedBy, RemovesImage, first_link, link_of, parent_in, removal, removing_journal, removing_map_of, removing_object, snaps_refuse, unlinking, used_objects, watchers_told}
+use Rattle.rbd_meaning.specs.Removals.{AreRemovals, IsRemovedBy, RemovesImage, first_link, link_of, parent_in, removal, removing_journal, removing_map_of, removing_object, unlinking, used_objects, watchers_told}
 use Rattle.rbd_meaning.specs.Snaps.{map_told}
+use Rattle.rbd_meaning.proofs.Allowed.{no_snapshots_listed}
 use Rattle.rbd_registry.specs.Directory.{Listing, holds}
 use Rattle.rbd_site.specs.Found.{done_where}
 use Rattle.rbd_site.specs.HeaderStep.{header_after}
@@ -154,10 +153,6 @@ header_goes image _ gone = absurd gone
 
 -- ---- all of it
 
-no_snaps_left : (snaps : List SnapView) → snaps_refuse snaps ≡ None → snaps ≡ []
-no_snaps_left [] none = refl
-no_snaps_left (s ∷ snaps) none = absurd (cc)
-
 alone_is_unlinked : (h : HeaderView) → h.parent ≡ None → h.snaps ≡ [] → link_of h ≡ None
 alone_is_unlinked h no_parent none = ap (λ parent. first_link parent (parent_in h.snaps)) no_parent ∙ ap parent_in none
 
@@ -249,4 +244,4 @@ module _ (homes : ℕ → SiteId) (home : SiteId) (name : List ℕ) (session : �
   pub remove_removes : (places : List Placed) → ArePlacedRight homes places → AreOrdered places → RemovesImage home session name (map step_at places) → RemovesAll name places
   remove_removes places right ordered removes =
       looked_first removes.image removes.first removes.own removes.watchers removes.others removes.bits removes.removed removes.are_removed
-      (no_snaps_left removes.own.snaps (or_else_none (non_primary removes.own.role) (snaps_refuse removes.own.snaps) removes.may)) places right ordered removes.are
+      (no_snapshots_listed removes.own removes.may) places right ordered removes.are

@@ -1,7 +1,7 @@
 -- Who acts at a slot of a client has an operation done: what is known then, by everybody.
 use Rattle.std.proofs.Common.{◌≡◌, ◌≢◌, ◌⊎◌, inl, inr, ℕ, ◌<◌, cond, false, ◌∷◌, length, Option, Some, None, refl, sym, ap, ◌∙◌, subst, arith, ◌==◌, Bool, true}
 use Rattle.std.specs.Prelude.{IsSome}
-use Rattle.std.proofs.lemmas.Bool.{true≢false, eq-eqb}
+use Rattle.std.proofs.lemmas.Bool.{true≢false, eq-eqb, ne_eqb}
 use Rattle.rbd_client.specs.declared.actor.Actor.{Actor}
 use Rattle.rbd_client.specs.declared.actor.Actor.TheVariants as actor
 use Rattle.rbd_client.specs.Actor.{actor_at, op_by, op_wanted}
@@ -10,7 +10,7 @@ use Rattle.rbd_client.specs.Sound.{IsSoundClient}
 use Rattle.rbd_client.proofs.Wanted.{can_get}
 use Rattle.rbd_held.specs.Knowing.{known_to, knows_fed, plan_of}
 use Rattle.rbd_held.specs.Truth.{IsTrueOf}
-use Rattle.rbd_held.proofs.Answered.{answers_are_true, answers_are_true_elsewhere}
+use Rattle.rbd_held.proofs.Answered.{answers_are_true, answers_are_true_elsewhere, unless_over}
 use Rattle.rbd_held.proofs.Fed.{feeding_is_known}
 use Rattle.rbd_held.proofs.Acts.{acts_beside_others, acts_beside_own}
 use Rattle.rbd_held.proofs.Owned.{acts_by_lock, knows_by_lock}
@@ -47,10 +47,9 @@ use Rattle.rbd_world.specs.Sound.{AreStrangers, Holder, InSlot, Sending, IsDone,
 use Rattle.rbd_world.specs.Step.{DoesAtSites, Goes, operation_at}
 use Rattle.rbd_world.specs.World.{LateView, LivesView, WorldView, client_in, late_at, late_of, lives_in, records_in, sent_in, site_in}
 use Rattle.rbd_world.proofs.Unborn.{IsNew, acted_drawn, learned_drawn, never_born, new_is_past, way_drawn}
-use Rattle.rbd_world.proofs.AtSites.{at_either, beside_then, can_give, elsewhere_now, here_now, is_done, others_true, sending_then, stands_in, stands_then, tells_alone, unless_over, whole_then}
+use Rattle.rbd_world.proofs.AtSites.{at_either, beside_then, can_give, elsewhere_now, here_now, is_done, others_true, sending_then, stands_in, stands_then, tells_alone, whole_then}
 use Rattle.rbd_world.proofs.Carried.{HasWholeImages, StandFlat}
 use Rattle.rbd_world.proofs.Changed.{lives_there, same_or_other}
-use Rattle.rbd_world.proofs.Quiet.{lines_differ}
 
 below_itself : (n : ℕ) → n < n → ⊥
 below_itself n less = omega (arith, less)
@@ -304,10 +303,10 @@ module _ {R : Type 0} (stands : R → Standing) (old new : WorldView R) (w : IsS
           by : (m : Actor) → m ≡ acts → (x ≡ slot) ⊎ (x ≢ slot) → Beside t (knows_fed knew slot result (plan_of stands (running_at slot c.session)) (fed.Answer a) m x)
           by actor.Nobody is either = still t
           by (actor.Release r) is either = still t
-          by (actor.Way y) is (inr apart) = subst (λ b. Beside t (cond b (unless_ended result (knew x)) (knew x))) (sym (lines_differ x slot apart)) (still t)
+          by (actor.Way y) is (inr apart) = subst (λ b. Beside t (cond b (unless_ended result (knew x)) (knew x))) (sym (ne_eqb x slot apart)) (still t)
           by (actor.Way y) is (inl same) = subst (λ b. Beside t (cond b (unless_ended result (knew x)) (knew x))) (sym (eq-eqb x slot same)) (over t (knew x) (still t))
           by actor.Request is (inr apart) =
-              subst (λ b. Beside t (cond b (unless_ended result (known_behind (knew slot) (plan_of stands (running_at slot c.session)) (fed.Answer a))) (knew x))) (sym (lines_differ x slot apart)) (still t)
+              subst (λ b. Beside t (cond b (unless_ended result (known_behind (knew slot) (plan_of stands (running_at slot c.session)) (fed.Answer a))) (knew x))) (sym (ne_eqb x slot apart)) (still t)
           by actor.Request is (inl same) =
               subst (λ b. Beside t (cond b (unless_ended result (known_behind (knew slot) (plan_of stands (running_at slot c.session)) (fed.Answer a))) (knew x))) (sym (eq-eqb x slot same))
               (over t (known_behind (knew slot) (plan_of stands (running_at slot c.session)) (fed.Answer a)) (goes_there is same t))
@@ -329,7 +328,7 @@ module _ {R : Type 0} (stands : R → Standing) (old new : WorldView R) (w : IsS
 
     -- those in other slots know what they knew
     pub others_know : (x : ℕ) → x ≢ slot → knows_now x ≡ knew x
-    others_know x apart = known_so x acts ∙ ap (known_by x acts) (lines_differ x slot apart) ∙ by acts
+    others_know x apart = known_so x acts ∙ ap (known_by x acts) (ne_eqb x slot apart) ∙ by acts
       where
         by : (m : Actor) → known_by x m false ≡ knew x
         by actor.Nobody = refl

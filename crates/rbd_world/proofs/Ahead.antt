@@ -1,8 +1,7 @@
 -- Who stands ahead of whom in a line, and who holds no ticket for an object any more.
-use Rattle.std.proofs.Common.{◌≡◌, ℕ, ◌==◌, ◌||◌, cond, not, Bool, true, false, List, [], ◌∷◌, ◌++◌, drop, Option, Some, None, refl, sym, ap, ◌∙◌, subst}
+use Rattle.std.proofs.Common.{◌≡◌, ℕ, ◌==◌, ◌||◌, cond, not, Bool, true, false, List, [], ◌∷◌, ◌++◌, Option, Some, None, refl, sym, ap, ◌∙◌, subst}
 use Rattle.std.specs.Option.{option_map}
 use Rattle.std.proofs.lemmas.Bool.{true≢false, eq-eqb, eqb-true}
-use Rattle.rbd_guard.specs.Order.{is_in}
 use Rattle.rbd_line.specs.Line.{Member, member_of, is_member, ahead, holds, is_past, changed, without, EachPair}
 use Rattle.rbd_line.specs.Steady.{IsSteady}
 use Rattle.rbd_line.proofs.Keeping.{same_some, some_none, found_has}
@@ -119,12 +118,3 @@ without_changed slot object f steady takes ms is m found = by (member_of slot ms
 
 pub without_gone : (slot object : ℕ) (ms : List Member) → IsPastWithout slot object (without slot ms)
 without_gone slot object ms m found = absurd (some_none m (sym (gone ms slot) ∙ found))
-
--- fewer tickets
-pub fewer : (object : ℕ) (objects : List ℕ) → is_in object objects ≡ false → is_in object (drop 1 objects) ≡ false
-fewer object [] is = is
-fewer object (x ∷ objects) is = by (x == object) is
-  where
-    by : (b : Bool) → (b || is_in object objects) ≡ false → is_in object objects ≡ false
-    by true is = absurd (true≢false is)
-    by false is = is

@@ -49,7 +49,8 @@ calm_place slot (Note s image event next) t calm = absurd calm
 calm_place slot (Return reply) t calm = refl
 calm_place slot (Goto label) t calm = refl
 
-answered_place : (slot : ℕ) (e : Option Extent) (t : Track) (s : SiteId) (o : Op) (a : Answer) → (answered_by slot e t s o a).place ≡ t.place
+-- an answer leaves the place
+pub answered_place : (slot : ℕ) (e : Option Extent) (t : Track) (s : SiteId) (o : Op) (a : Answer) → (answered_by slot e t s o a).place ≡ t.place
 answered_place slot e t s (op.Header image header.Get) (answer.Header h) = by (is_own_at s image (course_of slot t).place)
   where
     by : (b : Bool) → (cond b (looked_by slot e h t) t).place ≡ t.place

@@ -1,7 +1,7 @@
 -- What an operation that is permitted does to both sites: they stand, and what others know stays
 -- true.
 use Rattle.std.specs.Prelude.{IsFalse, IsSome}
-use Rattle.std.proofs.Common.{◌≡◌, ◌≢◌, ℕ, cond, false, [], ◌∷◌, length, ◌+◌, Option, Some, None, refl, sym, ap, ◌∙◌, subst, true}
+use Rattle.std.proofs.Common.{◌≡◌, ◌≢◌, ℕ, cond, false, [], ◌∷◌, length, ◌+◌, Option, refl, sym, ap, ◌∙◌, subst, true}
 use Rattle.rbd_client.specs.Client.{ClientView}
 use Rattle.rbd_held.specs.Truth.{IsTrueOf}
 use Rattle.rbd_held.proofs.Others.{others_leave_it_true}
@@ -11,12 +11,12 @@ use Rattle.rbd_kinds.specs.declared.id.SiteId.{SiteId}
 use Rattle.rbd_kinds.specs.declared.id.SiteId.TheVariants as site
 use Rattle.rbd_kinds.specs.declared.operation.Op.{Op}
 use Rattle.rbd_kinds.specs.declared.reply.Reply.{Reply}
-use Rattle.rbd_known.specs.Knowing.{unless_ended}
-use Rattle.rbd_machine.specs.Knowledge.{Knowledge, nothing_known, same_site, is_drawn}
+use Rattle.rbd_machine.specs.Knowledge.{Knowledge, same_site, is_drawn}
 use Rattle.rbd_machine.specs.Permits.{Permits}
 use Rattle.rbd_machine.specs.Plan.{Standing}
 use Rattle.rbd_machine.specs.Refused.{IsGiven}
 use Rattle.rbd_machine.specs.Standalone.{TellsStandalone}
+use Rattle.rbd_machine.proofs.Lawful.{same_site_itself}
 use Rattle.rbd_rely.specs.Beside.{AreBeside, MayAct}
 use Rattle.rbd_rely.specs.Locks.{KnowsByLock, gives_up}
 use Rattle.rbd_rely.specs.Truth.{IsTrueAt, changed_by, known_header}
@@ -39,7 +39,6 @@ use Rattle.rbd_world.specs.Past.{HadNoHeader}
 use Rattle.rbd_world.specs.Sound.{IsDone, IsNextOf, IsOf, IsSoundWorld, MayStillCome, RecallsBy}
 use Rattle.rbd_world.specs.Step.{DoesAtSites, operation_at}
 use Rattle.rbd_world.specs.World.{WorldView, records_in, site_in}
-use Rattle.rbd_world.proofs.BothSites.{same_site_itself}
 use Rattle.rbd_world.proofs.Carried.{HasWholeImages, StandFlat, whole_in}
 use Rattle.rbd_world.proofs.Owned.{is_owned}
 use Rattle.rbd_world.proofs.Rest.{where_standing}
@@ -50,11 +49,6 @@ at_either site.A P here other site.A = here
 at_either site.A P here other site.B = other site.B refl
 at_either site.B P here other site.A = other site.A refl
 at_either site.B P here other site.B = here
-
--- who has ended knows nothing
-pub unless_over : (P : Knowledge → Type 0) (result : Option Reply) (k : Knowledge) → P nothing_known → P k → P (unless_ended result k)
-unless_over P None k nothing goes = goes
-unless_over P (Some reply) k nothing goes = nothing
 
 -- `who` does the operation `o` at the site `s` for `by`, by what it knows: `k`
 module _ {R : Type 0} (stands : R → Standing) (old new : WorldView R) (w : IsSoundWorld stands old) (who : Instance) (by : Doer) (s : SiteId) (o : Op) (result : Option Reply) (k : Knowledge)

@@ -1,5 +1,5 @@
 -- What is done at one site is done to both, as nothing is to the other.
-use Rattle.std.proofs.Common.{◌≡◌, ◌⊎◌, inl, inr, true, false, [], length, refl, sym, ap, ◌∙◌, subst}
+use Rattle.std.proofs.Common.{◌≡◌, ◌⊎◌, inl, inr, false, [], length, refl, sym, ap, ◌∙◌, subst}
 use Rattle.std.proofs.lemmas.List.{append-nil}
 use Rattle.rbd_kinds.specs.declared.id.SiteId.{SiteId}
 use Rattle.rbd_kinds.specs.declared.id.SiteId.TheVariants as site
@@ -18,10 +18,6 @@ this_or_other site.A site.A = inl refl
 this_or_other site.A site.B = inr refl
 this_or_other site.B site.A = inr refl
 this_or_other site.B site.B = inl refl
-
-pub same_site_itself : (s : SiteId) → same_site s s ≡ true
-same_site_itself site.A = refl
-same_site_itself site.B = refl
 
 no_lines : (s : SiteLog) → with_lines [] s ≡ s
 no_lines s = ap (λ log. record s { log = log }) (append-nil s.log)

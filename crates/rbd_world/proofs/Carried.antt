@@ -1,5 +1,5 @@
 -- What has to be shown of a happening: calls, history, logs, mail and records go with any.
-use Rattle.std.proofs.Common.{◌≡◌, ◌≢◌, ℕ, ◌||◌, ◌==◌, nat_le, nat_lt, cond, Bool, true, false, List, [], ◌∷◌, ◌++◌, length, ◌+◌, is_some, Option, Some, None, refl, sym, ap, ◌∙◌, subst}
+use Rattle.std.proofs.Common.{◌≡◌, ◌≢◌, ℕ, ◌||◌, ◌==◌, nat_lt, cond, Bool, true, false, List, [], ◌∷◌, ◌++◌, length, ◌+◌, is_some, Option, Some, None, refl, sym, ap, ◌∙◌, subst}
 use Rattle.std.proofs.lemmas.Bool.{true≢false, eqb-true}
 use Rattle.rbd_client.specs.declared.actor.Actor.{Actor}
 use Rattle.rbd_client.specs.declared.actor.Actor.TheVariants as actor
@@ -26,9 +26,10 @@ use Rattle.rbd_site.specs.InForm.{AreInForm}
 use Rattle.rbd_site.specs.Log.{SiteLog, records_of}
 use Rattle.rbd_site.specs.Records.{Records}
 use Rattle.rbd_site.specs.Step.{mail_after}
+use Rattle.rbd_site.proofs.WatchLemmas.{oldest_session}
 use Rattle.rbd_stands.specs.Site.{StandsFor}
 use Rattle.rbd_watch.specs.Posting.{numbered}
-use Rattle.rbd_watch.specs.Watching.{older, oldest_of}
+use Rattle.rbd_watch.specs.Watching.{oldest_of}
 use Rattle.rbd_world.specs.declared.event.Event.{Event}
 use Rattle.rbd_world.specs.declared.event.Event.TheVariants as event
 use Rattle.rbd_world.specs.declared.sites.Sites.{Sites}
@@ -66,19 +67,6 @@ done_of session slot sites who line labels (Await w next) mine = tt
 done_of session slot sites who line labels (Note s image e next) mine = tt
 done_of session slot sites who line labels (Return reply) mine = tt
 done_of session slot sites who line labels (Goto label) mine = tt
-
-pub oldest_is : (session : ℕ) (watchers : List Instance) (i : Instance) → oldest_of session watchers ≡ Some i → i.session ≡ session
-oldest_is session [] i is = absurd (no_some i is)
-oldest_is session (w ∷ watchers) i is = by (w.session == session) refl (oldest_of session watchers) (oldest_is session watchers) is
-  where
-    by : (b : Bool) → (w.session == session) ≡ b → (o : Option Instance) → ((v : Instance) → o ≡ Some v → v.session ≡ session) → older (cond b (Some w) None) o ≡ Some i → i.session ≡ session
-    by false differ o rest is = rest i is
-    by true mine None rest is = ap (λ (x : Instance). x.session) (sym (some_same w i is)) ∙ eqb-true w.session session mine
-    by true mine (Some v) rest is = go (nat_le w.life v.life) is
-      where
-        go : (c : Bool) → cond c (Some w) (Some v) ≡ Some i → i.session ≡ session
-        go true is = ap (λ (x : Instance). x.session) (sym (some_same w i is)) ∙ eqb-true w.session session mine
-        go false is = rest i is
 
 pub numbered_is : (number : ℕ) (mail : List Notice) (n : Notice) → numbered number mail ≡ Some n → n.number ≡ number
 numbered_is number [] n is = absurd (no_some n is)
@@ -154,7 +142,7 @@ module _ {R : Type 0} (stands : R → Standing) where
   expired_of_it : (session : ℕ) (s : SiteId) (image : ℕ) (at_site : SiteLog) (o : Option Instance) → oldest_of session ((records_of at_site).watchers image) ≡ o
       → IsOfEvent (event.Expire session s image) (ended_watch at_site s image o)
   expired_of_it session s image at_site None is = tt
-  expired_of_it session s image at_site (Some i) is = (oldest_is session ((records_of at_site).watchers image) i is, refl, refl)
+  expired_of_it session s image at_site (Some i) is = (oldest_session session ((records_of at_site).watchers image) i is, refl, refl)
 
   pub of_event : (e : Event) (w : WorldView R) → IsSoundWorld stands w → IsOfEvent e (happening stands e w)
   of_event (event.Submit session line c) w sound =

@@ -1,6 +1,6 @@
 -- Where the client of one session goes on: the other sessions stay, and so do all lives.
 use Rattle.std.proofs.Common.{◌≡◌, ◌≢◌, ◌⊎◌, inl, inr, ℕ, ◌==◌, ◌<◌, ◌≤◌, Bool, true, false, List, ◌∷◌, is_some, Option, Some, None, refl, sym, ap, ◌∙◌, subst}
-use Rattle.std.proofs.lemmas.Bool.{true≢false, eq-eqb, eqb-true}
+use Rattle.std.proofs.lemmas.Bool.{true≢false, eq-eqb, eqb-true, ne_eqb}
 use Rattle.rbd_client.specs.declared.slot_state.SlotState.{SlotState}
 use Rattle.rbd_client.specs.Client.{ClientView, state_in}
 use Rattle.rbd_client.specs.Sound.{IsSoundClient}
@@ -20,7 +20,7 @@ use Rattle.rbd_machine.specs.declared.seat.Seat.{Seat}
 use Rattle.rbd_world.specs.Sound.{HasLearnedIf, AreApart, AreLivesOf, IsHeldRightly, IsLiving, IsOpen, IsRunning, IsSoundWorld, KeepsToItsWay, held_of, line_at}
 use Rattle.rbd_world.specs.Step.{AreSlotsBut, AreStatesBut, Becomes, BecomesOf, Does, IsSameClient, LivesOnIf, RunsOn, late_behind, latest_behind, names_session}
 use Rattle.rbd_world.specs.World.{LateView, LivesView, WorldView, client_in, late_at, late_of, lives_in, running_of, sent_in, session_of}
-use Rattle.rbd_world.proofs.Quiet.{IsQuiet, held_on, learned_on, lines_differ}
+use Rattle.rbd_world.proofs.Quiet.{IsQuiet, held_on, learned_on}
 use Rattle.rbd_world.proofs.Ways.{ways_on}
 
 -- ---- this slot, or another one
@@ -96,7 +96,7 @@ module _ {R : Type 0} (stands : R → Standing) where
   has_become e h old new session c there names runs_on latest late does = at (lives_there session old.lives c there)
     where
       others : (m : ℕ) → m ≢ session → lives_in m new.lives ≡ lives_in m old.lives
-      others m differ = does.others m (names m ∙ lines_differ session m (λ same. differ (sym same)))
+      others m differ = does.others m (names m ∙ ne_eqb session m (λ same. differ (sym same)))
 
       named : LivesOnIf stands e h (lives_in session old.lives) (lives_in session new.lives)
       named = does.named session (names session ∙ eq-eqb session session refl)
@@ -169,7 +169,7 @@ module _ {R : Type 0} (old new : WorldView R) (session : ℕ) (c d : ClientView 
     -- another slot has another line
     pub line_apart : AreApart old.lives → (line : ℕ) → script_line (held_in slot c.session.slots) ≡ Some line → (m x other : ℕ) → IsElsewhere session slot m x → line_at m x old.lives ≡ Some other
         → (line == other) ≡ false
-    line_apart apart line own m x other where_else is = lines_differ line other (λ same. by (apart other session slot m x (line_was slot ∙ own ∙ ap Some same) is) where_else)
+    line_apart apart line own m x other where_else is = ne_eqb line other (λ same. by (apart other session slot m x (line_was slot ∙ own ∙ ap Some same) is) where_else)
       where
         by : (session ≡ m) × (slot ≡ x) → IsElsewhere session slot m x → ⊥
         by both (inl differ) = differ (sym both.0)

@@ -2,7 +2,7 @@
 -- and the slot knows nothing then.
 use Rattle.std.proofs.Common.{◌≡◌, ◌≢◌, ◌⊎◌, inl, inr, ℕ, ◌≤◌, ◌<◌, ◌==◌, ◌&&◌, cond, Bool, true, false, List, ◌∷◌, length, slice_set, is_some, Option, Some, None, refl, sym, ap, ◌∙◌, subst, arith}
 use Rattle.std.specs.Prelude.{IsFalse, IsSome}
-use Rattle.std.proofs.lemmas.Bool.{true≢false, cases_lt, eq-eqb, eqb-true}
+use Rattle.std.proofs.lemmas.Bool.{true≢false, cases_lt, eq-eqb, eqb-true, ne_eqb}
 use Rattle.std.proofs.lemmas.List.{length-set, get_or-set_same, get_or-set_other, get_or_past}
 use Rattle.rbd_client.specs.Client.{ClientView}
 use Rattle.rbd_held.specs.Truth.{IsTrueOf}
@@ -40,7 +40,7 @@ use Rattle.rbd_world.proofs.Changed.{IsElsewhere, here_or_elsewhere, lives_there
 use Rattle.rbd_world.proofs.Debts.{none_sent}
 use Rattle.rbd_world.proofs.Elsewhere.{IsAs, Same, Silent, beside_still, unknown_looks, new_still}
 use Rattle.rbd_world.proofs.OrderedWorld.{no_turn, order_on}
-use Rattle.rbd_world.proofs.Quiet.{IsQuiet, lines_differ, quiet_did}
+use Rattle.rbd_world.proofs.Quiet.{IsQuiet, quiet_did}
 use Rattle.rbd_world.proofs.Slots.{open_back, same_slots}
 
 -- ---- slots that are let go
@@ -286,8 +286,8 @@ module _ {R : Type 0} (stands : R → Standing) (old new : WorldView R) (w : IsS
   it_is m y one two = ap (λ b. b && y == slot) (eq-eqb m session one) ∙ eq-eqb y slot two
 
   it_isnt : (m y : ℕ) → IsElsewhere session slot m y → (m == session && y == slot) ≡ false
-  it_isnt m y (inl differ) = ap (λ b. b && y == slot) (lines_differ m session differ)
-  it_isnt m y (inr differ) = ap (λ b. m == session && b) (lines_differ y slot differ) ∙ none (m == session)
+  it_isnt m y (inl differ) = ap (λ b. b && y == slot) (ne_eqb m session differ)
+  it_isnt m y (inr differ) = ap (λ b. m == session && b) (ne_eqb y slot differ) ∙ none (m == session)
     where
       none : (b : Bool) → (b && false) ≡ false
       none true = refl
@@ -425,7 +425,7 @@ module _ {R : Type 0} (stands : R → Standing) (old new : WorldView R) (w : IsS
             where
               go : (n ≡ i) ⊎ (n ≢ i) → (n == i) ≡ (i == n)
               go (inl same) = eq-eqb n i same ∙ sym (eq-eqb i n (sym same))
-              go (inr differ) = lines_differ n i differ ∙ sym (lines_differ i n (λ e. differ (sym e)))
+              go (inr differ) = ne_eqb n i differ ∙ sym (ne_eqb i n (λ e. differ (sym e)))
 
           flipped : (session == m && slot == y) ≡ (m == session && y == slot)
           flipped = ap (λ c. c && slot == y) (flip session m) ∙ ap (λ c. m == session && c) (flip slot y)
@@ -497,5 +497,5 @@ module _ {R : Type 0} (stands : R → Standing) where
       → IsCarried stands old new w (come old.sites slot (Some x))
   came_keeps old new w session slot x sent does at_sites =
       let has = late_there session slot old.lives x sent in
-      coming_keeps stands old new w session slot x sent (λ m differ. does.others m (lines_differ session m (λ same. differ (sym same)))) at_sites has.lives_are has.there
+      coming_keeps stands old new w session slot x sent (λ m differ. does.others m (ne_eqb session m (λ same. differ (sym same)))) at_sites has.lives_are has.there
       (goes_without old new session slot x has.lives_are has.there does)

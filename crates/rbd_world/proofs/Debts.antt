@@ -25,6 +25,7 @@ use Rattle.rbd_machine.specs.Knowledge.{same_site}
 use Rattle.rbd_machine.specs.Path.{Answered}
 use Rattle.rbd_machine.specs.Plan.{Plan, Ask, Await, Note, Return, Goto}
 use Rattle.rbd_machine.specs.declared.seat.Seat.{Seat}
+use Rattle.rbd_machine.proofs.Lawful.{same_site_itself}
 use Rattle.rbd_session.specs.Session.{is_look_at, kind_asked}
 use Rattle.rbd_session.proofs.Sound.{no_some, some_same}
 use Rattle.rbd_site.specs.Records.{Records}
@@ -34,8 +35,8 @@ use Rattle.rbd_world.specs.Owing.{IsUnhindered, has_worked, is_hindrance, is_of,
 use Rattle.rbd_world.specs.Run.{Doer, Itself, OnWay, House, AfterStop, Happening, Nothing, Waited, Began, Did, Refused, Trimmed, Expired, Heard, Stopped, Restarted, Asked, Operation, asked_by, comes_of, fence_of, is_for, is_own, records_after, sent_after, step_of, steps_in, steps_of}
 use Rattle.rbd_world.specs.Seats.{seat_at}
 use Rattle.rbd_world.specs.Sound.{EndsWith, GoesOnBehind, IsDone, IsDue, IsLedTo, IsOpen, IsRight}
-use Rattle.rbd_world.proofs.BothSites.{same_site_itself}
 use Rattle.rbd_world.proofs.Quiet.{IsQuiet, open_on, quiet_began, quiet_did, quiet_expired, quiet_heard, quiet_nothing, quiet_refused, quiet_restarted, quiet_trimmed, quiet_waited}
+use Rattle.rbd_world.proofs.Runs.{done_of}
 
 -- ---- what an operation leaves
 
@@ -216,10 +217,6 @@ site_is site.A site.B same = absurd (true≢false (sym same))
 site_is site.B site.A same = absurd (true≢false (sym same))
 site_is site.B site.B same = refl
 
-pub done_in : (homes : ℕ → SiteId) (o : Operation) (reply : Option Reply) (run : List Happening) → IsDue homes (Did o reply) run → IsDone o run
-done_in homes o None run due = due.0
-done_in homes o (Some reply) run due = due.0
-
 pub none_fenced : (homes : ℕ → SiteId) (run : List Happening) → IsRight homes run → IsUnhindered run → (s : SiteId) (i : Instance) → is_fenced (records_after s run) i ≡ false
 none_fenced homes [] right calm s i = contains-empty _ i
 none_fenced homes (h ∷ run) (standing, due, right) calm s i = by h due calm.0 (none_fenced homes run right calm.1)
@@ -232,7 +229,7 @@ none_fenced homes (h ∷ run) (standing, due, right) calm s i = by h due calm.0 
     by (Did o reply) due calm before = go (same_site o.site s) refl
       where
         done : IsDone o run
-        done = done_in homes o reply run due
+        done = done_of homes o reply run due
 
         there : is_fenced (after (records_after o.site run) o.instance o.op) i ≡ false
         there =

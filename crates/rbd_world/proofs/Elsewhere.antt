@@ -1,6 +1,6 @@
 -- What begins or ends a life of one session leaves the other sessions as they are.
 use Rattle.std.proofs.Common.{◌≡◌, ◌≢◌, ℕ, ◌==◌, cond, List, ◌∷◌, is_some, None, Some, refl, sym, ap, ◌∙◌, subst, true}
-use Rattle.std.proofs.lemmas.Bool.{true≢false, eq-eqb}
+use Rattle.std.proofs.lemmas.Bool.{true≢false, eq-eqb, ne_eqb}
 use Rattle.rbd_client.specs.Client.{ClientView, state_in}
 use Rattle.rbd_kinds.specs.declared.data_op.DataOp.TheVariants as object
 use Rattle.rbd_kinds.specs.declared.header_op.HeaderOp.TheVariants as header
@@ -21,7 +21,7 @@ use Rattle.rbd_world.specs.Run.{Happening, Life, life_after, life_behind}
 use Rattle.rbd_world.specs.Seats.{seat_of_home}
 use Rattle.rbd_world.specs.Sound.{AreLivesOf, AreStrangers, Holder, InSlot, IsLiving, known_in}
 use Rattle.rbd_world.specs.World.{LivesView}
-use Rattle.rbd_world.proofs.Quiet.{IsQuiet, held_on, learned_on, lines_differ}
+use Rattle.rbd_world.proofs.Quiet.{IsQuiet, held_on, learned_on}
 use Rattle.rbd_world.proofs.Ways.{ways_on}
 
 -- ---- lives
@@ -61,7 +61,7 @@ pub nothing_here : (knows : Holder → Knowledge) (session : ℕ) → known_but 
 nothing_here knows session = ap (λ b x. cond b nothing_known (knows (InSlot session x))) (eq-eqb session session refl)
 
 pub known_there : (knows : Holder → Knowledge) (session m : ℕ) → m ≢ session → known_but knows session m ≡ known_in knows m
-known_there knows session m differ = ap (λ b x. cond b nothing_known (knows (InSlot m x))) (lines_differ m session differ)
+known_there knows session m differ = ap (λ b x. cond b nothing_known (knows (InSlot m x))) (ne_eqb m session differ)
 
 -- ---- who is beside whom
 

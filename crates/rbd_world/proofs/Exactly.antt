@@ -10,6 +10,7 @@ use Rattle.rbd_kinds.specs.declared.id.SiteId.{SiteId}
 use Rattle.rbd_kinds.specs.declared.reply.Reply.{Reply}
 use Rattle.rbd_machine.specs.Knowledge.{same_site}
 use Rattle.rbd_machine.specs.Plan.{Standing}
+use Rattle.rbd_machine.proofs.Lawful.{same_site_itself}
 use Rattle.rbd_rely.specs.Truth.{IsTrueAt}
 use Rattle.rbd_site.specs.Log.{expired, trimmed}
 use Rattle.rbd_site.specs.Records.{Records, object_at}
@@ -17,11 +18,12 @@ use Rattle.rbd_site.specs.Step.{after, is_fenced}
 use Rattle.rbd_stands.specs.Site.{StandsFor}
 use Rattle.rbd_world.specs.Owing.{IsUnhindered, owed_in}
 use Rattle.rbd_world.specs.Run.{Happening, Did, Trimmed, Expired, Stopped, Operation, flat_after, records_after, steps_in}
-use Rattle.rbd_world.specs.Sound.{AreStanding, IsDone, IsDue, IsRight, IsSoundWorld}
+use Rattle.rbd_world.specs.Sound.{IsDone, IsDue, IsSoundWorld}
 use Rattle.rbd_world.specs.Step.{DoesAtSites}
 use Rattle.rbd_world.specs.World.{WorldView, records_in, site_in}
-use Rattle.rbd_world.proofs.BothSites.{same_site_itself, this_or_other}
-use Rattle.rbd_world.proofs.Debts.{done_in, no_steps_owe, none_fenced}
+use Rattle.rbd_world.proofs.BothSites.{this_or_other}
+use Rattle.rbd_world.proofs.Debts.{no_steps_owe, none_fenced}
+use Rattle.rbd_world.proofs.Runs.{done_of, standing_at}
 
 -- Who sets another state than 0 owes the object, what is owed stays so until it is paid, an object of
 -- an image that has a header is removed only by who owes that, and no object of an image is owed
@@ -40,10 +42,6 @@ pub record OwesAsItGoes (o : Operation) (reply : Option Reply) (run : List Happe
 abbrev pub IsOwedFor : Happening → (before : List Happening) → Type 0
 IsOwedFor (Did o reply) run = IsUnhindered (Did o reply ∷ run) → OwesAsItGoes o reply run
 IsOwedFor h run = Unit {0}
-
-standing_then : (homes : ℕ → SiteId) (run : List Happening) → IsRight homes run → AreStanding run
-standing_then homes [] right = right
-standing_then homes (h ∷ run) right = right.0
 
 module _ {R : Type 0} (stands : R → Standing) (old new : WorldView R) (w : IsSoundWorld stands old) where
   -- an operation, at its site and at the other
@@ -74,7 +72,7 @@ module _ {R : Type 0} (stands : R → Standing) (old new : WorldView R) (w : IsS
     exact_here =
         subst (IsExactBut (now o.site)) (sym here_now)
         (exact_stays o.site (records_in o.site old.sites) (flat_after o.site w.run) done.knows o.instance o.op (length (site_in o.site old.sites).log) (was o.site) (now o.site)
-        (subst (λ r. StandsFor [] r (flat_after o.site w.run)) (sym (w.records o.site)) (standing_then w.homes w.run w.right o.site).stands)
+        (subst (λ r. StandsFor [] r (flat_after o.site w.run)) (sym (w.records o.site)) (standing_at w.homes w.run w.right o.site).stands)
         (w.form o.site) (w.mapped o.site) (subst (λ r. IsTrueAt o.site r o.instance done.knows) (sym (w.records o.site)) done.truth) done.permits
         (ap (λ r. is_fenced r o.instance) (w.records o.site) ∙ none_fenced w.homes w.run w.right calm o.site o.instance)
         goes (w.exact calm o.site))
@@ -124,7 +122,7 @@ module _ {R : Type 0} (stands : R → Standing) (old new : WorldView R) (w : IsS
 
   pub exact_then : (h : Happening) → DoesAtSites h old.sites new.sites → IsDue w.homes h w.run → IsOwedFor h w.run → IsUnhindered (h ∷ w.run)
       → (s : SiteId) → IsExactBut (IsOwed (owed_in (h ∷ w.run)) s) (records_in s new.sites)
-  exact_then (Did o reply) at_sites due owed calm s = exact_did o reply at_sites (done_in w.homes o reply w.run due) calm.1 (owed calm) s
+  exact_then (Did o reply) at_sites due owed calm s = exact_did o reply at_sites (done_of w.homes o reply w.run due) calm.1 (owed calm) s
   exact_then (Trimmed site number image object) at_sites due owed calm s =
       let h : Happening = Trimmed site number image object in
       exact_then_too h (λ line. refl) s (records_in s new.sites)

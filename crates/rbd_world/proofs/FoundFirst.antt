@@ -1,6 +1,6 @@
 -- Who found an image first, one happening after another.
 use Rattle.std.proofs.Common.{◌≡◌, ℕ, ◌==◌, ◌&&◌, ◌||◌, not, cond, Bool, true, false, List, [], ◌∷◌, ◌++◌, Some, None, refl, sym, ap, ◌∙◌, subst}
-use Rattle.std.proofs.lemmas.Bool.{true≢false, eqb-true, and_parts}
+use Rattle.std.proofs.lemmas.Bool.{true≢false, eqb-true, and_parts, or_parts}
 use Rattle.rbd_kinds.specs.declared.id.Instance.{Instance}
 use Rattle.rbd_kinds.specs.declared.id.SiteId.{SiteId}
 use Rattle.rbd_machine.specs.Knowledge.{same_site}
@@ -61,10 +61,6 @@ never_written line s image number (h ∷ run) none =
 
 -- ---- who found it first
 
-or_of : (a b : Bool) → (a || b) ≡ false → (a ≡ false) × (b ≡ false)
-or_of true b is = absurd (true≢false is)
-or_of false b is = (refl, is)
-
 not_true : (b : Bool) → not b ≡ true → b ≡ false
 not_true true is = absurd (true≢false (sym is))
 not_true false is = refl
@@ -109,7 +105,7 @@ pub found_earlier : (one other : ℕ) (s : SiteId) (image : ℕ) (h : Happening)
     → found_before one other s image run ≡ true
 found_earlier one other s image h run none is =
     now_or_before one other s image h run is
-    (λ now. now_is_before one other s image run (sym (ap (λ b. b || has_found one s image run) none) ∙ now.found) (or_of (finds_in other s image h) (has_found other s image run) now.unfound).1)
+    (λ now. now_is_before one other s image run (sym (ap (λ b. b || has_found one s image run) none) ∙ now.found) (or_parts (finds_in other s image h) (has_found other s image run) now.unfound).1)
     (λ before. before)
 
 -- it had found it before already
@@ -117,7 +113,7 @@ pub found_in_rest : (one other : ℕ) (s : SiteId) (image : ℕ) (h : Happening)
     → found_before one other s image run ≡ true
 found_in_rest one other s image h run found is =
     now_or_before one other s image h run is
-    (λ now. now_is_before one other s image run found (or_of (finds_in other s image h) (has_found other s image run) now.unfound).1)
+    (λ now. now_is_before one other s image run found (or_parts (finds_in other s image h) (has_found other s image run) now.unfound).1)
     (λ before. before)
 
 -- its find: the other hasn't found it
@@ -125,7 +121,7 @@ pub other_unfound : (one other : ℕ) (s : SiteId) (image : ℕ) (h : Happening)
     → has_found other s image run ≡ false
 other_unfound one other s image h run none is =
     now_or_before one other s image h run is
-    (λ now. (or_of (finds_in other s image h) (has_found other s image run) now.unfound).1)
+    (λ now. (or_parts (finds_in other s image h) (has_found other s image run) now.unfound).1)
     (λ before. absurd (true≢false (sym (found_has one other s image run before) ∙ none)))
 
 -- ---- who writes it

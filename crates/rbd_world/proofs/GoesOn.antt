@@ -1,6 +1,6 @@
 -- What has to be shown where the client of one session goes on in its life, put together.
 use Rattle.std.proofs.Common.{◌≡◌, ◌≢◌, ◌⊎◌, inl, inr, ℕ, true, ◌==◌, cond, [], ◌∷◌, Some, None, refl, sym, ap, ◌∙◌, subst}
-use Rattle.std.proofs.lemmas.Bool.{eq-eqb}
+use Rattle.std.proofs.lemmas.Bool.{eq-eqb, ne_eqb}
 use Rattle.rbd_client.specs.Client.{ClientView}
 use Rattle.rbd_held.specs.Truth.{IsTrueOf}
 use Rattle.rbd_kinds.specs.declared.id.SiteId.{SiteId}
@@ -19,7 +19,7 @@ use Rattle.rbd_world.proofs.Carried.{HasWholeImages, IsCarried, StandFlat}
 use Rattle.rbd_world.proofs.Changed.{GoesOnAs, IsLifeless, SendsNothing, client_is, clients_stay, late_stays, lives_go_on, living_on, same_or_other}
 use Rattle.rbd_world.proofs.Exactly.{IsOwedFor}
 use Rattle.rbd_world.proofs.OrderedWorld.{orders_of}
-use Rattle.rbd_world.proofs.Quiet.{IsQuiet, lines_differ}
+use Rattle.rbd_world.proofs.Quiet.{IsQuiet}
 
 module _ {R : Type 0} (stands : R → Standing) (old new : WorldView R) (w : IsSoundWorld stands old) (h : Happening) (session : ℕ) (c d : ClientView R) (goes : GoesOnAs old new session c d)
     (there : client_in session old.lives ≡ Some c) (instance : d.session.instance ≡ c.session.instance) (lifeless : IsLifeless h) (sends : SendsNothing h) (knows_now : ℕ → Knowledge) where
@@ -33,7 +33,7 @@ module _ {R : Type 0} (stands : R → Standing) (old new : WorldView R) (w : IsS
   known_here = ap (λ b x. cond b (knows_now x) (w.knows (InSlot session x))) (eq-eqb session session refl)
 
   known_there : (m : ℕ) → m ≢ session → known_in knows_then m ≡ known_in w.knows m
-  known_there m differ = ap (λ b x. cond b (knows_now x) (w.knows (InSlot m x))) (lines_differ m session differ)
+  known_there m differ = ap (λ b x. cond b (knows_now x) (w.knows (InSlot m x))) (ne_eqb m session differ)
 
   -- who knows: a request of the client, or somebody else, who knows what he did
   data Whose (g : Holder) : Type 0 where

@@ -24,7 +24,9 @@ use Rattle.rbd_session.specs.Track.{Track, Lines, answered_by, changed_at, cours
 use Rattle.rbd_session.proofs.Track.{changed_here, done_steady, given_steady}
 use Rattle.rbd_world.specs.InLine.{IsPastWithout}
 use Rattle.rbd_requests.specs.InLine.{KeepsTo}
-use Rattle.rbd_world.proofs.Ahead.{TakesNone, ahead_changed, ahead_left, fewer, member_changed, member_left, without_changed}
+use Rattle.rbd_world.proofs.Ahead.{TakesNone, ahead_changed, ahead_left, member_changed, member_left, without_changed}
+use Rattle.rbd_known.proofs.Firsts.{no_more_first}
+use Rattle.rbd_held.proofs.LocksHeld.{and_false}
 
 -- ---- the same members, in the same order
 
@@ -66,7 +68,7 @@ held_takes number m past none = (held_is_steady.past m past, none)
 
 done_takes : (number : ℕ) (turn : Option ℕ) → TakesNone number (done_with turn)
 done_takes number None m past none = (past, none)
-done_takes number (Some object) m past none = (past, fewer number m.objects none)
+done_takes number (Some object) m past none = (past, no_more_first number m.objects none)
 
 given_takes : (number : ℕ) (due : List ℕ) → due ≡ [] → TakesNone number (given due)
 given_takes number due nothing m past none = (
@@ -140,10 +142,6 @@ module _ (slot : ℕ) (p : ImageAt) where
       (run_stays next (noted_by slot t) there keeps)
 
   -- ---- an answer
-
-  and_false : (b : Bool) → (b && false) ≡ false
-  and_false true = refl
-  and_false false = refl
 
   not_waiting : (s : Stage) → is_past s ≡ true → is_waiting s ≡ false
   not_waiting stage.Joined past = refl

@@ -1,5 +1,5 @@
 -- The writes of a session stay in order where one of its requests has an operation done.
-use Rattle.std.proofs.Common.{◌≡◌, ℕ, ◌==◌, ◌&&◌, Bool, true, false, List, Option, Some, None, refl, sym, ap, ◌∙◌, subst}
+use Rattle.std.proofs.Common.{◌≡◌, ℕ, ◌==◌, true, false, List, Option, Some, None, refl, sym, ap, ◌∙◌, subst}
 use Rattle.std.proofs.lemmas.Bool.{true≢false, eqb-true, and_parts}
 use Rattle.std.specs.Prelude.{IsSome}
 use Rattle.rbd_kinds.specs.declared.sharing.Sharing.{Sharing}
@@ -97,10 +97,6 @@ module _ {R : Type 0} (stands : R → Standing) (slot : ℕ) (c d : SessionView 
   others_ahead (Ended none left) = subst (KeepsAhead slot (lines_of c.lines)) (sym left) (end_keeps slot r.extent before s o a (next a))
 
 -- ---- it is no look-up
-
-and_false : (b : Bool) → (b && false) ≡ false
-and_false true = refl
-and_false false = refl
 
 pub turn_tells_none : (site : SiteId) (image : ℕ) (turn : Option ℕ) (s : SiteId) (o : Op) (a : Answer) → IsAtTurn site image turn s o → (i : ℕ) → tells_image i o a ≡ false
 turn_tells_none site image turn s (op.Header j header.Get) a at i = refl

@@ -2,7 +2,7 @@
 use Rattle.std.proofs.Common.{◌≡◌, ◌≢◌, ◌⊎◌, inl, inr, ℕ, zero, suc, ◌+◌, ◌<◌, ◌≤◌, ◌==◌, ◌||◌, nat_lt, cond, Bool, true, false, List, [], ◌∷◌, ◌++◌, slice_index, Option, Some, None, refl, sym, ap, ◌∙◌, subst, arith}
 use Rattle.std.specs.List.{flat_map, range_with_len}
 use Rattle.std.specs.List.Sorted.{IsStrictlyIncreasing}
-use Rattle.std.proofs.lemmas.Bool.{true≢false, eq-eqb, eqb-true, ltb-true, ltb-false, or_parts}
+use Rattle.std.proofs.lemmas.Bool.{true≢false, eq-eqb, eqb-true, ltb-true, ltb-false, or_parts, or_right}
 use Rattle.rbd_world.specs.Run.{is_among}
 use Rattle.rbd_world.specs.Step.{ascending, insert_line, listed}
 use Rattle.rbd_world.proofs.Changed.{same_or_other}
@@ -34,10 +34,6 @@ found_from f from (suc count) line is = by (f from) refl (λ rest. later (found_
         go true same is = record { slot = from; above = omega arith; is = at ∙ ap Some (eqb-true other line same) }
         go false differ is = rest is
 
-or_true : (b c : Bool) → c ≡ true → (b || c) ≡ true
-or_true true c is = refl
-or_true false c is = is
-
 pub is_found : (f : ℕ → Option ℕ) (from count slot line : ℕ) → from ≤ slot → slot < from + count → f slot ≡ Some line → is_among line (lines_in f (range_with_len from count)) ≡ true
 is_found f from zero slot line above below is = absurd (omega (arith, above, below))
 is_found f from (suc count) slot line above below is =
@@ -45,7 +41,7 @@ is_found f from (suc count) slot line above below is =
   where
     behind : (o : Option ℕ) → is_among line (lines_in f (range_with_len (from + 1) count)) ≡ true → is_among line (listed o ++ lines_in f (range_with_len (from + 1) count)) ≡ true
     behind None more = more
-    behind (Some other) more = or_true (other == line) (is_among line (lines_in f (range_with_len (from + 1) count))) more
+    behind (Some other) more = or_right (other == line) (is_among line (lines_in f (range_with_len (from + 1) count))) more
 
     by : (slot ≡ from) ⊎ (slot ≢ from) → (from + 1 ≤ slot → is_among line (lines_in f (range_with_len (from + 1) count)) ≡ true)
         → is_among line (listed (f from) ++ lines_in f (range_with_len (from + 1) count)) ≡ true

@@ -1,6 +1,6 @@
 -- A client begins a command whose line is new: its request stands where the command's plan begins.
-use Rattle.std.proofs.Common.{◌≡◌, ◌≢◌, ◌⊎◌, inl, inr, ℕ, ◌==◌, Bool, cond, true, false, is_some, [], ◌∷◌, ◌++◌, Option, Some, None, refl, sym, ap, ◌∙◌, subst}
-use Rattle.std.proofs.lemmas.Bool.{true≢false, eq-eqb, eqb-true}
+use Rattle.std.proofs.Common.{◌≡◌, ◌≢◌, ◌⊎◌, inl, inr, ℕ, ◌==◌, Bool, cond, true, false, [], ◌∷◌, ◌++◌, Option, Some, None, refl, sym, ap, ◌∙◌, subst}
+use Rattle.std.proofs.lemmas.Bool.{eq-eqb, eqb-true, ne_eqb}
 use Rattle.rbd_client.specs.declared.slot_state.SlotState.{SlotState}
 use Rattle.rbd_client.specs.declared.slot_state.Way.TheVariants as way
 use Rattle.rbd_client.specs.Client.{ClientView}
@@ -40,14 +40,11 @@ use Rattle.rbd_world.proofs.Changed.{GoesOnAs, IsElsewhere, all_but, client_is, 
 use Rattle.rbd_world.proofs.GoesOn.{goes_carries}
 use Rattle.rbd_world.proofs.OneMoreWrite.{begun_order}
 use Rattle.rbd_world.proofs.OrderedWorld.{freed_order, order_beside}
-use Rattle.rbd_world.proofs.Quiet.{IsQuiet, lines_differ, quiet_began}
+use Rattle.rbd_world.proofs.Quiet.{IsQuiet, quiet_began}
 use Rattle.rbd_world.proofs.Rest.{StaysTrue, same_true, still_may_come, where_standing}
 use Rattle.rbd_world.proofs.Runs.{IsUnheard, begun_is_asked, unheard}
 use Rattle.rbd_world.proofs.Slots.{in_this_slot, open_back, other_slots}
-
-none_of : {T : Type 0} (o : Option T) → is_some o ≡ false → o ≡ None
-none_of None is = refl
-none_of (Some x) is = absurd (true≢false is)
+use Rattle.rbd_site.proofs.OneChange.{none_from_test}
 
 module _ {R : Type 0} (stands : R → Standing) (old new : WorldView R) (w : IsSoundWorld stands old) (session line : ℕ) (command : Command) (built : is_built command ≡ true)
     (c : ClientView R) (there : client_in session old.lives ≡ Some c) (fresh : is_begun line old.history ≡ false) where
@@ -76,7 +73,7 @@ module _ {R : Type 0} (stands : R → Standing) (old new : WorldView R) (w : IsS
   living = w.clients session c there
 
   unasked : asked_by line w.run ≡ None
-  unasked = none_of (asked_by line w.run) (sym (begun_is_asked line w.run) ∙ ap (is_begun line) (sym w.history) ∙ fresh)
+  unasked = none_from_test (asked_by line w.run) (sym (begun_is_asked line w.run) ∙ ap (is_begun line) (sym w.history) ∙ fresh)
 
   unknown : IsUnheard line w.run
   unknown = unheard w.homes line w.run w.right unasked
@@ -213,10 +210,10 @@ module _ {R : Type 0} (stands : R → Standing) (old new : WorldView R) (w : IsS
         (w.slots l (open_back l does_begin w.run (quiet_began l is_asked lowest other) now))
 
     quiet : (x other : ℕ) → script_line (held_in x c.session.slots) ≡ Some other → IsQuiet other does_begin
-    quiet x other is = quiet_began other is_asked lowest (lines_differ line other (differs session x other (ap (λ o. script_line (held_of x (session_of o))) there ∙ is)))
+    quiet x other is = quiet_began other is_asked lowest (ne_eqb line other (differs session x other (ap (λ o. script_line (held_of x (session_of o))) there ∙ is)))
 
     quiet_others : (m : ℕ) (q : ClientView R) → m ≢ session → client_in m old.lives ≡ Some q → (x other : ℕ) → script_line (held_in x q.session.slots) ≡ Some other → IsQuiet other does_begin
-    quiet_others m q apart at x other is = quiet_began other is_asked lowest (lines_differ line other (differs m x other (ap (λ o. script_line (held_of x (session_of o))) at ∙ is)))
+    quiet_others m q apart at x other is = quiet_began other is_asked lowest (ne_eqb line other (differs m x other (ap (λ o. script_line (held_of x (session_of o))) at ∙ is)))
 
     order_then : (o : Option (Occupant R)) → held_in lowest d.session.slots ≡ o → IsNew o → IsInOrder stands home me (does_begin ∷ w.run) c.session → IsInOrder stands home me (does_begin ∷ w.run) d.session
     order_then None at is keeps = absurd is

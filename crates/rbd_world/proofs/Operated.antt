@@ -1,6 +1,6 @@
 -- A poll that has an operation of a request itself done keeps a world sound.
 use Rattle.std.proofs.Common.{◌≡◌, ◌≢◌, inl, inr, ℕ, ◌==◌, ◌||◌, Bool, cond, true, false, List, [], ◌∷◌, ◌++◌, is_some, Option, Some, None, refl, sym, ap, ◌∙◌, subst}
-use Rattle.std.proofs.lemmas.Bool.{true≢false, eq-eqb, eqb-true}
+use Rattle.std.proofs.lemmas.Bool.{true≢false, eq-eqb, eqb-true, ne_eqb}
 use Rattle.std.proofs.lemmas.List.{append-nil}
 use Rattle.rbd_client.specs.declared.actor.Actor.TheVariants as actor
 use Rattle.rbd_client.specs.Actor.{actor_at, op_by, op_wanted}
@@ -48,7 +48,7 @@ use Rattle.rbd_world.proofs.InOrder.{came, line_stays}
 use Rattle.rbd_world.proofs.Ordered.{did_order, in_turn}
 use Rattle.rbd_world.proofs.OrderedWorld.{running_line}
 use Rattle.rbd_world.proofs.Owes.{own_owes}
-use Rattle.rbd_world.proofs.Quiet.{IsQuiet, lines_differ, quiet_did}
+use Rattle.rbd_world.proofs.Quiet.{IsQuiet, quiet_did}
 use Rattle.rbd_world.proofs.Slots.{in_this_slot, not_open, open_back, other_slots}
 use Rattle.rbd_world.proofs.Ways.{goes_on_itself, way_is_over}
 
@@ -215,7 +215,7 @@ module _ {R : Type 0} (stands : R → Standing) (old new : WorldView R) (w : IsS
     foreign : (m : ℕ) (q : ClientView R) → m ≢ session → client_in m old.lives ≡ Some q → (other : ℕ) → IsWriterOf q.session.instance other (does_it ∷ w.run) → steps_in other does_it ≡ []
     foreign m q differ at other writer =
         ap (λ b. cond b (step_of operation ∷ []) [])
-        (lines_differ r.line other
+        (ne_eqb r.line other
         (λ same. differ
         (sym (w.clients m q at).whose ∙ ap (λ (i : Instance). i.session) (sym writer.mine ∙ is_mine writer.asked (ap (λ l. asked_by l w.run) same ∙ writer.is)) ∙ living.whose)))
 

@@ -47,11 +47,9 @@ use Rattle.rbd_world.proofs.InOrder.{Came, Further, Ended, LooksUp, Told, after,
 use Rattle.rbd_world.proofs.KeptAhead.{member_left_alone}
 use Rattle.rbd_world.proofs.Orderly.{comes_still, written_before}
 use Rattle.rbd_world.proofs.Turned.{HasTicket, earlier_past, ticket_of, turn_of}
+use Rattle.rbd_world.proofs.Runs.{or_false}
 use Rattle.rbd_requests.proofs.InLine.{look_keeps}
-
-and_false : (b : Bool) → (b && false) ≡ false
-and_false true = refl
-and_false false = refl
+use Rattle.rbd_held.proofs.LocksHeld.{and_false}
 
 same_place : (a b : ImageAt) → Some a ≡ Some b → a ≡ b
 same_place a b is = some_same a b is
@@ -244,13 +242,9 @@ module _ {R : Type 0} (stands : R → Standing) (homes : ℕ → SiteId) (home :
 
         found_only : (t : SiteId) (i : ℕ) → has_found r.line t i (does ∷ rn) ≡ true → (t ≡ home) × (i ≡ image)
         found_only t i is =
-            let now : finds_in r.line t i does ≡ true = sym (ap (λ f. finds_in r.line t i does || f) (b.unfound t i) ∙ or_none (finds_in r.line t i does)) ∙ is in
+            let now : finds_in r.line t i does ≡ true = sym (ap (λ f. finds_in r.line t i does || f) (b.unfound t i) ∙ or_false (finds_in r.line t i does)) ∙ is in
             let by = done_by_line r.line t done (tells_image i o a) now in
             (sym by.site_is ∙ (up b).site_is, sym (eqb-true image i (sym (tells i) ∙ by.so)))
-          where
-            or_none : (f : Bool) → (f || false) ≡ f
-            or_none true = refl
-            or_none false = refl
 
         found_then : IsBehindFinding stands (does ∷ rn) q
         found_then = record {

@@ -32,6 +32,7 @@ use Rattle.rbd_machine.specs.Plan.{Plan, Ask, Await, Note, Return, Goto, Standin
 use Rattle.rbd_machine.specs.Refused.{IsGiven}
 use Rattle.rbd_machine.specs.declared.reason.Reason.{Reason}
 use Rattle.rbd_machine.specs.declared.seat.Seat.{Seat}
+use Rattle.rbd_machine.proofs.Lawful.{same_site_itself}
 use Rattle.rbd_owner.specs.Acquire.{op_at, op_of}
 use Rattle.rbd_owner.specs.Release.{release_op, release_op_at}
 use Rattle.rbd_owner.specs.declared.acquire.Acquire.{Acquire}
@@ -57,7 +58,6 @@ use Rattle.rbd_world.specs.Seats.{seat_at}
 use Rattle.rbd_world.specs.Sound.{InSlot, IsHeldRightly, IsInSlot, IsOpen, IsRefusedAtOnce, IsSoundWorld, IsUnderWay, held_of}
 use Rattle.rbd_world.specs.Step.{operation_at}
 use Rattle.rbd_world.specs.World.{WorldView, client_in, records_in, session_of, site_in}
-use Rattle.rbd_world.proofs.BothSites.{same_site_itself}
 use Rattle.rbd_world.proofs.Changed.{same_or_other}
 use Rattle.rbd_world.proofs.Debts.{debt_open, none_fenced, others_owe, own_steps, worked}
 use Rattle.rbd_world.proofs.Exactly.{OwesAsItGoes}

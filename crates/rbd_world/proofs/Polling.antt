@@ -9,22 +9,22 @@ use Rattle.rbd_client.specs.Actor.{actor_at, actor_on, due_release, op_by, op_wa
 use Rattle.rbd_client.specs.Client.{ClientView, state_in}
 use Rattle.rbd_client.specs.Feeding.{IsFedBy, WayComesTo, RefusesIt}
 use Rattle.rbd_client.specs.Sound.{IsSoundClient}
+use Rattle.rbd_client.proofs.OnWay.{on_way_no_release, releases_no_way, is_release, is_way}
 use Rattle.rbd_flat.specs.declared.entry.Entry.{Entry}
 use Rattle.rbd_kinds.specs.declared.answer.Answer.{Answer}
 use Rattle.rbd_kinds.specs.declared.id.Instance.{Instance}
 use Rattle.rbd_kinds.specs.declared.id.SiteId.{SiteId}
-use Rattle.rbd_kinds.specs.declared.image_at.ImageAt.{ImageAt}
 use Rattle.rbd_kinds.specs.declared.machine.Fed.{Fed}
 use Rattle.rbd_kinds.specs.declared.machine.Fed.TheVariants as fed
 use Rattle.rbd_kinds.specs.declared.operation.Op.{Op}
 use Rattle.rbd_kinds.specs.declared.reply.Reply.{Reply}
 use Rattle.rbd_kinds.specs.declared.reply.Reply.TheVariants as reply_is
-use Rattle.rbd_locks.specs.Locks.{LocksView}
 use Rattle.rbd_machine.specs.Knowledge.{same_site}
 use Rattle.rbd_machine.specs.Label.{Label, Lock}
 use Rattle.rbd_machine.specs.Path.{at_operation}
 use Rattle.rbd_machine.specs.Plan.{Plan, Ask, Await, Note, Return, Goto, Standing, IsAsking, IsLive, plan_after, settled}
 use Rattle.rbd_machine.specs.Steps.{IsGoing}
+use Rattle.rbd_machine.proofs.Lawful.{same_site_itself}
 use Rattle.rbd_owner.specs.Acquire.{lock_of, op_of, rest_at, rest_of_acquire, taking}
 use Rattle.rbd_owner.specs.declared.acquire.Acquire.{Acquire}
 use Rattle.rbd_owner.specs.declared.acquire.Stage.{Stage}
@@ -50,7 +50,7 @@ use Rattle.rbd_world.specs.Run.{Doer, Itself, OnWay, House, Happening, Nothing, 
 use Rattle.rbd_world.specs.Sending.{ActsAt, IsHeldUp, doer_at}
 use Rattle.rbd_world.specs.Step.{Becomes, DoesAt, DoesAtSites, Goes, done_by, goes_on_by, gone_by, operation_at, polled_in, released_by, releases, reply_at, reply_on_way, with_lines}
 use Rattle.rbd_world.specs.World.{records_in, site_in}
-use Rattle.rbd_world.proofs.BothSites.{IsNothingAt, done_at, left_sites, same_site_itself}
+use Rattle.rbd_world.proofs.BothSites.{IsNothingAt, done_at, left_sites}
 
 -- ---- the sites
 
@@ -106,32 +106,6 @@ way_reply a told (Some r) w comes = by r comes.1
     by : (r : Reply) → RefusesIt a (fed.Answer told) r → Some r ≡ reply_on_way a told
     by (reply_is.Refused x) refuses = sym (ap reply_at (refuses (Goto Lock)))
     by _ refuses = elim refuses [ ]
-
--- ---- who acts where
-
-abbrev is_release : Actor → Bool
-is_release (actor.Release r) = true
-is_release _ = false
-
-abbrev is_way : Actor → Bool
-is_way (actor.Way a) = true
-is_way _ = false
-
-chosen_no_release : (b owned : Bool) (a : Acquire) → is_release (cond b actor.Nobody (cond owned actor.Request (actor.Way a))) ≡ false
-chosen_no_release true owned a = refl
-chosen_no_release false true a = refl
-chosen_no_release false false a = refl
-
-no_release : (w : Way) (look : Option ImageAt) (locks : LocksView) → is_release (actor_on w look locks) ≡ false
-no_release way.Unbegun None locks = refl
-no_release way.Unbegun (Some p) locks = chosen_no_release _ _ _
-no_release (way.On a) look locks = refl
-no_release (way.Taken p) look locks = refl
-
-no_way : (begun : Option Release) (due : Option ImageAt) → is_way (releasing begun due) ≡ false
-no_way (Some r) due = refl
-no_way None (Some p) = refl
-no_way None None = refl
 
 module _ {R : Type 0} (stands : R → Standing) where
   -- ---- the reply is that of the plan
@@ -239,7 +213,7 @@ module _ {R : Type 0} (stands : R → Standing) where
       acts_by (actor.Way a) is asking acts = subst (λ (l : ℕ). Polls (gone_by before c.session.instance l a)) line_is (way_acts line a is acts)
       acts_by (actor.Release x) is asking acts =
           absurd (true≢false (sym (ap is_release is) ∙ ap (λ b. is_release (cond b (releasing c.release (due_release c)) (actor_on (state_in slot c.slots).way (own_look_at stands slot c.session) c.locks))) place
-          ∙ no_release (state_in slot c.slots).way (own_look_at stands slot c.session) c.locks))
+          ∙ on_way_no_release (state_in slot c.slots).way (own_look_at stands slot c.session) c.locks))
 
     pub polled_so : (line : ℕ) (by : Doer) → (slot == 0) ≡ false → Some line ≡ script_line (held_in slot c.session.slots) → None ≡ reply_of (refusal_in (held_in slot c.session.slots))
         → by ≡ doer_at line (actor_at stands slot c) → IsSoundClient stands c → Acts by (op_wanted stands slot c) → Polls (polled_in stands before c slot (held_in slot c.session.slots))
@@ -269,7 +243,7 @@ module _ {R : Type 0} (stands : R → Standing) where
         by actor.Request acts_is a = held_up (subst (λ (o : Option (Occupant R)). Acts House (of_going stands op_asked (going_in slot o c.session.lines))) free a)
         by (actor.Way w) acts_is a =
             absurd (true≢false (sym (ap is_way acts_is) ∙ ap (λ b. is_way (cond b (releasing c.release (due_release c)) (actor_on (state_in slot c.slots).way (own_look_at stands slot c.session) c.locks))) place
-            ∙ no_way c.release (due_release c)))
+            ∙ releases_no_way c.release (due_release c)))
         by (actor.Release r) acts_is a = release_acts r acts_is a
 
 pub not_zero : (n : ℕ) → (n ≡ 0 → ⊥) → (n == 0) ≡ false

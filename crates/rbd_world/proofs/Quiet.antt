@@ -1,6 +1,6 @@
 -- A happening says nothing of another line: what a slot holds under way stays so behind it.
-use Rattle.std.proofs.Common.{◌≡◌, ◌≢◌, ℕ, ◌==◌, ◌||◌, cond, Bool, true, false, List, [], ◌∷◌, ◌++◌, Option, Some, None, refl, sym, ap, ◌∙◌, subst}
-use Rattle.std.proofs.lemmas.Bool.{true≢false, eqb-true}
+use Rattle.std.proofs.Common.{◌≡◌, ℕ, ◌==◌, ◌||◌, cond, Bool, true, false, List, [], ◌∷◌, ◌++◌, Option, Some, None, refl, sym, ap, ◌∙◌, subst}
+use Rattle.std.proofs.lemmas.Bool.{true≢false}
 use Rattle.std.proofs.lemmas.List.{append-nil}
 use Rattle.rbd_commands.specs.declared.refusal.Refusal.{Refusal}
 use Rattle.rbd_kinds.specs.declared.id.Instance.{Instance}
@@ -84,13 +84,6 @@ quiet_did line o reply none = by reply
     by : (r : Option Reply) → IsQuiet line (Did o r)
     by None = record { steps = own; way = on_way; silent = refl; asked = λ before. refl }
     by (Some told) = record { steps = own; way = on_way; silent = or_false (is_for line o.by) none; asked = λ before. refl }
-
-pub lines_differ : (line other : ℕ) → line ≢ other → (line == other) ≡ false
-lines_differ line other differ = by (line == other) refl
-  where
-    by : (b : Bool) → (line == other) ≡ b → (line == other) ≡ false
-    by true is = absurd (differ (eqb-true line other is))
-    by false is = is
 
 -- ---- so what is held stays
 

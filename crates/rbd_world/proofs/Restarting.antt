@@ -1,7 +1,7 @@
 -- Where a stopped session begins its next life: the new client knows nothing, and its instance is
 -- another than any that was stopped.
 use Rattle.std.proofs.Common.{◌≡◌, ◌≢◌, ◌⊎◌, inl, inr, ℕ, ◌+◌, ◌≤◌, ◌<◌, ◌==◌, cond, true, ◌∷◌, is_some, Option, Some, None, refl, sym, ap, ◌∙◌, subst, arith}
-use Rattle.std.proofs.lemmas.Bool.{eq-eqb}
+use Rattle.std.proofs.lemmas.Bool.{eq-eqb, ne_eqb}
 use Rattle.rbd_client.specs.Client.{ClientView}
 use Rattle.rbd_held.specs.Truth.{IsTrueOf}
 use Rattle.rbd_kinds.specs.declared.id.Instance.{Instance}
@@ -22,13 +22,13 @@ use Rattle.rbd_world.proofs.Carried.{IsCarried, whole_in}
 use Rattle.rbd_world.proofs.Changed.{same_or_other}
 use Rattle.rbd_world.proofs.Elsewhere.{IsAs, Same, Silent, beside_still, known_but, known_there, lives_still, living_still, nothing_here, new_still}
 use Rattle.rbd_world.proofs.OrderedWorld.{none_in_order, order_on}
-use Rattle.rbd_world.proofs.Quiet.{lines_differ, quiet_restarted}
+use Rattle.rbd_world.proofs.Quiet.{quiet_restarted}
 use Rattle.rbd_world.proofs.Rest.{StaysTrue, same_true, still_may_come, where_standing}
 use Rattle.rbd_world.proofs.Slots.{open_back, same_slots}
 
 -- it begins a life of its own session alone
 pub begins_elsewhere : (who : Instance) (m : ℕ) (l : Life) → m ≢ who.session → life_behind m (Restarted who) l ≡ l
-begins_elsewhere who m l differ = ap (λ b. cond b (record { number = who.life; runs = true }) l) (lines_differ who.session m (λ same. differ (sym same)))
+begins_elsewhere who m l differ = ap (λ b. cond b (record { number = who.life; runs = true }) l) (ne_eqb who.session m (λ same. differ (sym same)))
 
 -- the life of the session that begins again
 pub record IsReborn {R : Type 0} (stands : R → Standing) (new : WorldView R) (session : ℕ) (l : LivesView R) : Type 0 where
@@ -146,7 +146,7 @@ module _ {R : Type 0} (stands : R → Standing) (old new : WorldView R) (w : IsS
       by : (m ≡ session) ⊎ (m ≢ session) → IsAs w.who who_then w.knows knows_then (InSlot m x)
       by (inl same) = Silent (ap (λ b. cond b nothing_known (w.knows (InSlot m x))) (eq-eqb m session same))
       by (inr differ) =
-          Same (ap (λ b. cond b next (w.who (InSlot m x))) (lines_differ m session differ)) (ap (λ b. cond b nothing_known (w.knows (InSlot m x))) (lines_differ m session differ))
+          Same (ap (λ b. cond b next (w.who (InSlot m x))) (ne_eqb m session differ)) (ap (λ b. cond b nothing_known (w.knows (InSlot m x))) (ne_eqb m session differ))
 
   clients_now : (m : ℕ) (q : ClientView R) → client_in m new.lives ≡ Some q → (m ≡ session) ⊎ (m ≢ session) → IsLiving stands (w.homes m) m (h ∷ w.run) (known_but w.knows session m) q
   clients_now m q is (inr differ) =
@@ -170,14 +170,14 @@ module _ {R : Type 0} (stands : R → Standing) (old new : WorldView R) (w : IsS
       (fresh_true stands next l.home born.client born.fresh s (records_in s new.sites) q.session.instance)))
 
   slot_now : (m x : ℕ) (q : ClientView R) → client_in m new.lives ≡ Some q → (m ≡ session) ⊎ (m ≢ session) → who_then (InSlot m x) ≡ q.session.instance
-  slot_now m x q is (inr differ) = ap (λ b. cond b next (w.who (InSlot m x))) (lines_differ m session differ) ∙ w.in_slots m x q (was m q differ is)
+  slot_now m x q is (inr differ) = ap (λ b. cond b next (w.who (InSlot m x))) (ne_eqb m session differ) ∙ w.in_slots m x q (was m q differ is)
   slot_now m x q is (inl same) =
       ap (λ b. cond b next (w.who (InSlot m x))) (eq-eqb m session same) ∙ sym born.fresh.instance ∙ ap (λ (v : ClientView R). v.session.instance) (is_it m q same is)
 
   nobody_now : (m : ℕ) → client_in m new.lives ≡ None → (x : ℕ) → (m ≡ session) ⊎ (m ≢ session) → knows_then (InSlot m x) ≡ nothing_known
   nobody_now m is x (inl same) = ap (λ b. cond b nothing_known (w.knows (InSlot m x))) (eq-eqb m session same)
   nobody_now m is x (inr differ) =
-      ap (λ b. cond b nothing_known (w.knows (InSlot m x))) (lines_differ m session differ) ∙ w.nobody m (sym (ap running_of (others m differ)) ∙ is) x
+      ap (λ b. cond b nothing_known (w.knows (InSlot m x))) (ne_eqb m session differ) ∙ w.nobody m (sym (ap running_of (others m differ)) ∙ is) x
 
   order_now : (m : ℕ) (q : ClientView R) → client_in m new.lives ≡ Some q → (m ≡ session) ⊎ (m ≢ session) → IsInOrder stands (w.homes m) q.session.instance (h ∷ w.run) q.session
   order_now m q is (inr differ) = order_on stands old new w h due m q (was m q differ is) (λ x line at. quiet_restarted line next) (λ other writer. refl)
@@ -234,4 +234,4 @@ module _ {R : Type 0} (stands : R → Standing) where
       → Does stands (event.Restart session) (Restarted (next_life l.latest)) old new → DoesAtSites (Restarted (next_life l.latest)) old.sites new.sites
       → IsCarried stands old new w (Restarted (next_life l.latest))
   restarted_keeps old new w session l there none does at_sites =
-      reborn_keeps stands old new w session l there none (λ m differ. does.others m (lines_differ session m (λ same. differ (sym same)))) at_sites (is_reborn old new session l there does)
+      reborn_keeps stands old new w session l there none (λ m differ. does.others m (ne_eqb session m (λ same. differ (sym same)))) at_sites (is_reborn old new session l there does)

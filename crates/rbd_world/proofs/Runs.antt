@@ -1,8 +1,8 @@
 -- What a run tells of a line, one happening after another.
 use Rattle.std.proofs.Common.{◌≡◌, ℕ, ◌==◌, ◌||◌, cond, Bool, true, false, List, [], ◌∷◌, ◌++◌, map, is_some, Option, Some, None, refl, sym, ap, ◌∙◌}
-use Rattle.std.specs.List.{list_any}
 use Rattle.std.proofs.lemmas.Bool.{eqb-true}
 use Rattle.std.proofs.lemmas.Option.{none-some}
+use Rattle.std.proofs.lemmas.List.Folds.{list_any-append}
 use Rattle.rbd_flat.specs.declared.effect.Effect.{Effect}
 use Rattle.rbd_kinds.specs.declared.id.SiteId.{SiteId}
 use Rattle.rbd_kinds.specs.declared.reply.Reply.{Reply}
@@ -10,19 +10,23 @@ use Rattle.rbd_flat.specs.declared.entry.Cause.{Cause}
 use Rattle.rbd_flat.specs.declared.entry.Entry.TheVariants as entry
 use Rattle.rbd_kinds.specs.declared.id.Instance.{Instance}
 use Rattle.rbd_world.specs.Run.{Asked, Doer, Itself, OnWay, House, AfterStop, Happening, Nothing, Waited, Began, Did, Refused, Trimmed, Expired, Heard, Stopped, Restarted, Operation, asked_by, ending_entries, ends, entries_of, entry_by, entry_unfenced, history_of, is_among, is_for, or_asked, reply_entries, steps_in, steps_of, way_in, way_of}
-use Rattle.rbd_world.specs.Sound.{EndsWith, GoesOnBehind, IsDue, IsOpen, IsRight, has_ended}
+use Rattle.rbd_world.specs.Sound.{EndsWith, GoesOnBehind, IsDue, IsOpen, IsRight, has_ended, AreStanding, IsDone}
 use Rattle.rbd_world.specs.Step.{is_begun, is_start_of}
 use Rattle.rbd_world.proofs.Quiet.{IsQuiet, quiet_began, quiet_did, quiet_expired, quiet_heard, quiet_nothing, quiet_refused, quiet_restarted, quiet_stopped, quiet_trimmed, quiet_waited}
 
--- ---- lines that were begun
+-- ---- a run that is right
 
-pub any_append : {T : Type 0} (test : T → Bool) (xs ys : List T) → list_any test (xs ++ ys) ≡ (list_any test xs || list_any test ys)
-any_append test [] ys = refl
-any_append test (x ∷ xs) ys = by (test x) (any_append test xs ys)
-  where
-    by : (b : Bool) → list_any test (xs ++ ys) ≡ (list_any test xs || list_any test ys) → (b || list_any test (xs ++ ys)) ≡ ((b || list_any test xs) || list_any test ys)
-    by true rest = refl
-    by false rest = rest
+-- both sites stand at its end
+pub standing_at : (homes : ℕ → SiteId) (run : List Happening) → IsRight homes run → AreStanding run
+standing_at homes [] right = right
+standing_at homes (h ∷ run) right = right.0
+
+-- an operation that is due is done, with a reply or without
+pub done_of : (homes : ℕ → SiteId) (o : Operation) (reply : Option Reply) (run : List Happening) → IsDue homes (Did o reply) run → IsDone o run
+done_of homes o None run due = due.0
+done_of homes o (Some reply) run due = due.0
+
+-- ---- lines that were begun
 
 pub or_false : (b : Bool) → (b || false) ≡ b
 or_false true = refl
@@ -74,7 +78,7 @@ begun_by line (Restarted who) before = or_false (is_some before)
 pub begun_is_asked : (line : ℕ) (run : List Happening) → is_begun line (history_of run) ≡ is_some (asked_by line run)
 begun_is_asked line [] = refl
 begun_is_asked line (h ∷ run) =
-    any_append (is_start_of line) (history_of run) (entries_of h) ∙ ap (λ b. b || is_begun line (entries_of h)) (begun_is_asked line run)
+    list_any-append (is_start_of line) (history_of run) (entries_of h) ∙ ap (λ b. b || is_begun line (entries_of h)) (begun_is_asked line run)
     ∙ begun_by line h (asked_by line run)
 
 -- ---- lines that weren't

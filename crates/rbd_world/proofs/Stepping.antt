@@ -2,6 +2,7 @@
 -- again.
 use Rattle.std.proofs.Common.{◌≡◌, ℕ, ◌||◌, Bool, true, false, Option, Some, None, refl, sym, ap, ◌∙◌, subst}
 use Rattle.std.proofs.Math.Path.{fun_ext}
+use Rattle.std.proofs.lemmas.List.Folds.{list_any-append}
 use Rattle.rbd_client.specs.Client.{ClientView}
 use Rattle.rbd_kinds.specs.declared.id.SiteId.TheVariants as site
 use Rattle.rbd_machine.specs.Plan.{Standing}
@@ -13,7 +14,6 @@ use Rattle.rbd_world.specs.Run.{Happening, entries_of}
 use Rattle.rbd_world.specs.Sound.{IsKept, IsSoundWorld}
 use Rattle.rbd_world.specs.Step.{AreSameSites, Does, IsBuiltEvent, IsSoundIf, IsStep, IsUndone, LeavesParts, StepsParts, happening, happens, is_begun, is_start_of, names_session}
 use Rattle.rbd_world.specs.World.{WorldView, client_in, running_of}
-use Rattle.rbd_world.proofs.Runs.{any_append}
 use Rattle.rbd_world.proofs.Steps.{steps_keep}
 use Rattle.rbd_world.proofs.Undone.{undone_is_sound}
 
@@ -52,7 +52,7 @@ module _ {R : Type 0} (stands : R → Standing) where
     lines_kept : (line : ℕ) → has_line line after ≡ is_begun line new.history
     lines_kept line =
         steps.parts.begun line ∙ ap (λ c. c || is_begun line (entries_of what)) (k.lines line)
-        ∙ sym (any_append (is_start_of line) old.history (entries_of what)) ∙ sym (ap (is_begun line) steps.history)
+        ∙ sym (list_any-append (is_start_of line) old.history (entries_of what)) ∙ sym (ap (is_begun line) steps.history)
 
     pub lives_sound : (session : ℕ) → IsSoundIf stands (client_in session new.lives)
     lives_sound session = by (names_session e what session) refl

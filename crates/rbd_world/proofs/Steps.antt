@@ -26,7 +26,7 @@ use Rattle.rbd_world.specs.Run.{Happening, Nothing, Waited, Began, Trimmed, Expi
 use Rattle.rbd_world.specs.Sound.{IsSoundWorld}
 use Rattle.rbd_world.specs.Step.{Becomes, BecomesOf, Does, DoesAtSites, IsBuiltEvent, IsSoundIf, LivesOn, RunsOn, begins_of, come, delivered, done_by, ended_watch, goes_on_by, happening, heard_by, is_begun, late_behind, latest_behind, next_life, next_number, polled, polled_in, releases, restarted, restarted_of, stopped, submitted, trimmed_at}
 use Rattle.rbd_world.specs.World.{LateView, LivesView, WorldView, client_in, late_at, lives_in, records_in, site_in}
-use Rattle.rbd_world.proofs.Carried.{IsCarried, carried, of_event, oldest_is}
+use Rattle.rbd_world.proofs.Carried.{IsCarried, carried, of_event}
 use Rattle.rbd_world.proofs.Coming.{came_keeps}
 use Rattle.rbd_world.proofs.Hearing.{heard_keeps}
 use Rattle.rbd_world.proofs.Newcomer.{began_keeps}
@@ -37,6 +37,7 @@ use Rattle.rbd_world.proofs.Releasing.{release_keeps}
 use Rattle.rbd_world.proofs.Rest.{expired_keeps, nothing_keeps, trimmed_keeps, waited_keeps}
 use Rattle.rbd_world.proofs.Restarting.{restarted_keeps}
 use Rattle.rbd_world.proofs.Stopping.{stopped_keeps}
+use Rattle.rbd_site.proofs.WatchLemmas.{oldest_session}
 
 -- ---- an event that leaves a session's lives as they were
 
@@ -164,7 +165,7 @@ module _ {R : Type 0} (stands : R → Standing) (old new : WorldView R) (w : IsS
     expiry None is = nothing_keeps stands old new w expire (leaves stands expire Nothing (λ x y is. is) (λ at o n is. is) (λ l. refl) (λ l. refl))
     expiry (Some who) is =
         expired_keeps stands old new w expire s image who
-        (subst (λ i. oldest_of i ((records_in s old.sites).watchers image) ≡ Some who) (sym (oldest_is session ((records_in s old.sites).watchers image) who is)) is)
+        (subst (λ i. oldest_of i ((records_in s old.sites).watchers image) ≡ Some who) (sym (oldest_session session ((records_in s old.sites).watchers image) who is)) is)
         (leaves stands expire (Expired s (next_number (site_in s old.sites)) image who) (λ x y is. is) (λ at o n is. is) (λ l. refl) (λ l. refl))
 
   trim : (s : SiteId) (image object : ℕ) → Keeps (event.Trim s image object) (trimmed_at old.sites s image object)

@@ -2,7 +2,7 @@
 -- what who acted there knew; and its lines that have no reply are lost.
 use Rattle.std.specs.List.{range_with_len}
 use Rattle.std.proofs.Common.{◌≡◌, ◌≢◌, ◌⊎◌, inl, inr, ℕ, ◌≤◌, ◌<◌, ◌==◌, cond, Bool, true, false, List, [], ◌∷◌, map, is_some, Option, Some, None, refl, sym, ap, ◌∙◌, subst, arith}
-use Rattle.std.proofs.lemmas.Bool.{cases_lt, eq-eqb, true≢false}
+use Rattle.std.proofs.lemmas.Bool.{cases_lt, eq-eqb, true≢false, ne_eqb}
 use Rattle.std.proofs.lemmas.List.{get_or_past}
 use Rattle.std.proofs.lemmas.List.FromFn.{get_or-map-range_with_len, length-map-range_with_len}
 use Rattle.rbd_client.specs.declared.actor.Actor.{Actor}
@@ -48,7 +48,7 @@ use Rattle.rbd_world.proofs.Changed.{lives_there, same_or_other}
 use Rattle.rbd_world.proofs.Elsewhere.{beside_as, known_but, known_there, lives_still, living_still, nothing_beside, unknown_looks}
 use Rattle.rbd_world.proofs.Lost.{among_ascending, are_distinct, ascending_increases, found_from, is_found, lines_in}
 use Rattle.rbd_world.proofs.OrderedWorld.{order_on}
-use Rattle.rbd_world.proofs.Quiet.{IsQuiet, lines_differ, quiet_stopped}
+use Rattle.rbd_world.proofs.Quiet.{IsQuiet, quiet_stopped}
 use Rattle.rbd_world.proofs.Rest.{StaysTrue, same_true, still_may_come, where_standing}
 use Rattle.rbd_world.proofs.Slots.{not_open, open_back}
 
@@ -244,7 +244,7 @@ module _ {R : Type 0} (stands : R → Standing) (old new : WorldView R) (w : IsS
 
   still_elsewhere : (m : ℕ) → m ≢ session → (x : Life) → life_behind m h x ≡ x
   still_elsewhere m differ x =
-      ap (λ b. cond b (record { number = x.number; runs = false }) x) (lines_differ who.session m (λ same. differ (sym same ∙ living.whose)))
+      ap (λ b. cond b (record { number = x.number; runs = false }) x) (ne_eqb who.session m (λ same. differ (sym same ∙ living.whose)))
 
   lives_now : (m : ℕ) (k : LivesView R) → lives_in m new.lives ≡ Some k → AreLivesOf (h ∷ w.run) (w.homes m) m k
   lives_now m k is = by (same_or_other m session)
@@ -298,10 +298,10 @@ module _ {R : Type 0} (stands : R → Standing) (old new : WorldView R) (w : IsS
   knows_here m x same = ap (λ b. cond b (knows_sent x) (w.knows (Sending m x))) (eq-eqb m session same)
 
   who_elsewhere : (m x : ℕ) → m ≢ session → who_then (Sending m x) ≡ w.who (Sending m x)
-  who_elsewhere m x differ = ap (λ b. cond b who (w.who (Sending m x))) (lines_differ m session differ)
+  who_elsewhere m x differ = ap (λ b. cond b who (w.who (Sending m x))) (ne_eqb m session differ)
 
   knows_elsewhere : (m x : ℕ) → m ≢ session → knows_then (Sending m x) ≡ w.knows (Sending m x)
-  knows_elsewhere m x differ = ap (λ b. cond b (knows_sent x) (w.knows (Sending m x))) (lines_differ m session differ)
+  knows_elsewhere m x differ = ap (λ b. cond b (knows_sent x) (w.knows (Sending m x))) (ne_eqb m session differ)
 
   -- ---- what may still come
 
@@ -321,7 +321,7 @@ module _ {R : Type 0} (stands : R → Standing) (old new : WorldView R) (w : IsS
       by (inl same) = late_at_it m x same ∙ sym (ap (λ b. cond b (sent_of who (wanted x)) (sent_after m x w.run)) (eq-eqb who.session m (living.whose ∙ sym same)))
       by (inr differ) =
           late_elsewhere m x differ ∙ w.late m x
-          ∙ sym (ap (λ b. cond b (sent_of who (wanted x)) (sent_after m x w.run)) (lines_differ who.session m (λ same. differ (sym same ∙ living.whose))))
+          ∙ sym (ap (λ b. cond b (sent_of who (wanted x)) (sent_after m x w.run)) (ne_eqb who.session m (λ same. differ (sym same ∙ living.whose))))
 
   -- who goes by a header has its lock
   locks_by : (x : ℕ) (s : SiteId) (a : Actor) → KnowsByLock s (records_in s old.sites) who (known_to (knew x) a)
@@ -416,7 +416,7 @@ module _ {R : Type 0} (stands : R → Standing) (old new : WorldView R) (w : IsS
     where
       by : (m ≡ session) ⊎ (m ≢ session) → Whose (InSlot m x)
       by (inl same) = Silent (ap (λ b. cond b nothing_known (w.knows (InSlot m x))) (eq-eqb m session same))
-      by (inr differ) = Theirs refl (ap (λ b. cond b nothing_known (w.knows (InSlot m x))) (lines_differ m session differ)) (λ y same. differ (sym same))
+      by (inr differ) = Theirs refl (ap (λ b. cond b nothing_known (w.knows (InSlot m x))) (ne_eqb m session differ)) (λ y same. differ (sym same))
   whose (Sending m x) = by (same_or_other m session)
     where
       by : (m ≡ session) ⊎ (m ≢ session) → Whose (Sending m x)
@@ -500,7 +500,7 @@ module _ {R : Type 0} (stands : R → Standing) (old new : WorldView R) (w : IsS
   nobody_now : (m : ℕ) → client_in m new.lives ≡ None → (x : ℕ) → (m ≡ session) ⊎ (m ≢ session) → knows_then (InSlot m x) ≡ nothing_known
   nobody_now m is x (inl same) = ap (λ b. cond b nothing_known (w.knows (InSlot m x))) (eq-eqb m session same)
   nobody_now m is x (inr differ) =
-      ap (λ b. cond b nothing_known (w.knows (InSlot m x))) (lines_differ m session differ) ∙ w.nobody m (sym (ap running_of (others m differ)) ∙ is) x
+      ap (λ b. cond b nothing_known (w.knows (InSlot m x))) (ne_eqb m session differ) ∙ w.nobody m (sym (ap running_of (others m differ)) ∙ is) x
 
   order_now : (m : ℕ) (q : ClientView R) → client_in m new.lives ≡ Some q → IsInOrder stands (w.homes m) q.session.instance (h ∷ w.run) q.session
   order_now m q is =
@@ -570,5 +570,5 @@ module _ {R : Type 0} (stands : R → Standing) where
       → Does stands (event.Stop session) (stopped stands (Some c)) old new → DoesAtSites (stopped stands (Some c)) old.sites new.sites → IsCarried stands old new w (stopped stands (Some c))
   stopped_keeps old new w session c there does at_sites =
       let has = lives_there session old.lives c there in
-      stopping_keeps stands old new w session c there (λ m differ. does.others m (lines_differ session m (λ same. differ (sym same)))) at_sites has.lives_are has.there has.runs
+      stopping_keeps stands old new w session c there (λ m differ. does.others m (ne_eqb session m (λ same. differ (sym same)))) at_sites has.lives_are has.there has.runs
       (is_gone old new session c has.lives_are has.there does)

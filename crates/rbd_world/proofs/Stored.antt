@@ -4,6 +4,7 @@ use Rattle.rbd_kinds.specs.declared.id.Instance.{Instance}
 use Rattle.rbd_kinds.specs.declared.id.SiteId.{SiteId}
 use Rattle.rbd_kinds.specs.declared.id.SiteId.TheVariants as site
 use Rattle.rbd_machine.specs.Knowledge.{same_site}
+use Rattle.rbd_machine.proofs.Lawful.{same_site_itself}
 use Rattle.rbd_site.specs.InForm.{AreInForm}
 use Rattle.rbd_site.specs.Log.{SiteLog, expire_line, expired, expired_by, records_of, trimmed, trim_line, watch_ended}
 use Rattle.rbd_site.specs.Records.{Records}
@@ -14,7 +15,7 @@ use Rattle.rbd_world.specs.declared.sites.Sites.{Sites}
 use Rattle.rbd_world.specs.Run.{Happening, Nothing, Trimmed}
 use Rattle.rbd_world.specs.Step.{DoesAt, DoesAtSites, ended_watch, expired_at, expired_of, mail_then, next_number, trimmed_at, trimmed_of, with_lines}
 use Rattle.rbd_world.specs.World.{site_in}
-use Rattle.rbd_world.proofs.BothSites.{IsNothingAt, done_at, left_at, nothing_done, same_site_itself}
+use Rattle.rbd_world.proofs.BothSites.{IsNothingAt, done_at, left_at, nothing_done}
 
 -- it is of one site, and posts no notice
 pub record IsOfStore (s : SiteId) (h : Happening) : Type 0 where

@@ -35,6 +35,7 @@ use Rattle.rbd_site.specs.Log.{expired, trimmed}
 use Rattle.rbd_site.specs.Records.{Records}
 use Rattle.rbd_site.specs.Step.{after, answer_to, is_fenced}
 use Rattle.rbd_stands.proofs.EditSteps.{drawn_stays}
+use Rattle.rbd_stands.proofs.DirectorySteps.{drawn_next}
 use Rattle.rbd_world.specs.Run.{Happening, Nothing, Waited, Began, Did, Refused, Trimmed, Expired, Heard, Stopped, Restarted, records_after, records_behind}
 use Rattle.rbd_world.specs.Past.{HadNoHeader}
 use Rattle.rbd_world.specs.Sound.{IsRight}
@@ -74,15 +75,6 @@ never_born homes (h ∷ run) right s image past =
     (((right.0 s).stands.fresh image past).header, never_born homes run right.2 s image (omega arith))
 
 -- ---- a new id
-
-drawn_next : (held : Option ℕ) (full : Bool) (next image : ℕ) → name_added held full next ≡ answer.Id image → next ≡ image
-drawn_next (Some other) full next image is = cc
-drawn_next None true next image is = cc
-drawn_next None false next image is = ap (told_or next) is
-  where
-    told_or : ℕ → Answer → ℕ
-    told_or other (answer.Id i) = i
-    told_or other _ = other
 
 -- ---- who knows that an id is drawn
 

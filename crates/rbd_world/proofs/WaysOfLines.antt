@@ -20,15 +20,12 @@ use Rattle.rbd_owner.proofs.Behind.{ends_with, step_in_order}
 use Rattle.rbd_owner.proofs.Bounded.{all_bounded, take_bounded}
 use Rattle.rbd_owner.proofs.Ordered.{ordered_acquire, ordered_walk}
 use Rattle.rbd_world.specs.Run.{Doer, Itself, OnWay, House, AfterStop, Happening, Nothing, Waited, Began, Did, Refused, Trimmed, Expired, Heard, Stopped, Restarted, Operation, is_on_way, step_of, way_of}
-use Rattle.rbd_world.specs.Sound.{EndsWith as Ends, GoesOnBehind, IsDone, IsDue, IsNextOf, IsRight, StandsAtLook}
+use Rattle.rbd_world.specs.Sound.{EndsWith as Ends, GoesOnBehind, IsDue, IsNextOf, IsRight, StandsAtLook}
 use Rattle.rbd_world.specs.Ways.{AreAWay, AsksNext, IsOfRelease, IsOver, WasRefused}
 use Rattle.rbd_world.proofs.Ways.{one_step_more}
+use Rattle.rbd_world.proofs.Runs.{done_of}
 
 -- ---- at each place of a run
-
-pub done_of : (homes : ℕ → SiteId) (o : Operation) (r : Option Reply) (run : List Happening) → IsDue homes (Did o r) run → IsDone o run
-done_of homes o None run due = due.0
-done_of homes o (Some told) run due = due.0
 
 module _ (homes : ℕ → SiteId) (line : ℕ) (o : Operation) (r : Option Reply) (run : List Happening) (right : IsRight homes (Did o r ∷ run)) where
   next_of : (by : Doer) → o.by ≡ by → IsNextOf by o.site o.op run
