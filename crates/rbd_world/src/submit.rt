@@ -77,7 +77,8 @@ fn submit_to<E: Machine + Drop>(
     ensures err { OnErr result (lives.new.items ≡ lives.old.items) }
     ensures unnoted { OnErr result (history.new.items ≡ history.old.items) }
 {
-    match lives.get_mut(at.session.0 as usize) {
+    let session = at.session;
+    match lives.get_mut(session.0 as usize) {
         Some(life) => submit_in(alloc, life, history, at.line, command, is_begun),
         None => Ok(Outcome::Nothing),
     }
