@@ -34,14 +34,11 @@ mod slots;
 mod text;
 mod words;
 
-pub use answers::told;
 pub use cases::{cases_hold, none_holds};
-pub use commands::{asked, command, hello, name, payload};
+pub use commands::{asked, hello, name, payload};
 pub use drive::{Answers, play};
 pub use giving::can_give;
 pub use headers::header;
-pub use maps::states;
-pub use replies::{is_of, reply_into};
 pub use rows::plays;
 pub use scene::Scene;
 pub use slots::Slots;

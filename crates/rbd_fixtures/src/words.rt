@@ -101,8 +101,14 @@ fn snap_into(log: &mut String, snap: Option<SnapId>) -> Result<(), NoMemory> {
     Ok(())
 }
 
-/// Writes the snapshots that a change keeps an object's contents for.
+/// Writes the snapshots that a change keeps an object's contents for, newest first, as ` for 1`;
+/// and in front of them the context's number, where it isn't the newest's, as ` seq 4`.
 fn context_into(log: &mut String, context: &SnapContext) -> Result<(), NoMemory> {
+    let newest = context.snaps.as_slice().first().copied();
+    if context.seq != newest.unwrap_or(SnapId(0)) {
+        log.push_str(" seq")?;
+        number_into(log, u64::from(context.seq.0))?;
+    }
     for snap in context.snaps.as_slice() {
         log.push_str(" for")?;
         number_into(log, u64::from(snap.0))?;
