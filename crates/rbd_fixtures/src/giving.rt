@@ -5,7 +5,7 @@ ghost use Rattle.rbd_fixtures.specs.Fit.{IsFit};
 ghost use Rattle.rbd_kinds.specs.declared.answer.Answer.TheVariants as of_answer;
 ghost use Rattle.rbd_kinds.specs.Parts.{parts_len};
 ghost use Rattle.rbd_kinds.specs.States.{HoldStates};
-ghost use Rattle.rbd_machine.specs.Answers.{CanGive, IsHeaderToldInForm};
+ghost use Rattle.rbd_machine.specs.Answers.{CanGive};
 
 use rbd_kinds::{Answer, Bytes, DataOp, JournalOp, MapOp, Op, Part};
 use rbd_machine::gives;

@@ -8,12 +8,11 @@
 //! | `watch 0.1,3.0` | who watches: lives of sessions |
 //! | `exists` | the name that an image is to get is held |
 //! | `none WORD` | operations of this word are answered `none`; `map-remove-snap` for a snapshot's map |
-ghost use Rattle.std.specs.Prelude.{◌≡◌, ℕ, List, Option, IfOk, IfSome};
+ghost use Rattle.std.specs.Prelude.{ℕ, List, Option, IfOk, IfSome};
 ghost use Rattle.rbd_kinds.specs.declared.data_op.DataOp.TheVariants as object;
 ghost use Rattle.rbd_kinds.specs.declared.directory_op.DirectoryOp.TheVariants as directory;
 ghost use Rattle.rbd_kinds.specs.declared.header_op.HeaderOp.TheVariants as header_op;
 ghost use Rattle.rbd_kinds.specs.declared.operation.Op.TheVariants as of_op;
-ghost use Rattle.rbd_kinds.specs.Parts.{parts_len};
 ghost use Rattle.rbd_machine.specs.Answers.{CanGive};
 
 use crate::giving::{can_be_absent, can_be_done, total};

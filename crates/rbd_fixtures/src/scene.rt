@@ -1,5 +1,5 @@
 //! A scene answers a machine by looks at an image, and writes down all that the machine wants.
-ghost use Rattle.std.specs.Prelude.{IfOk, IfSome};
+ghost use Rattle.std.specs.Prelude.{IfSome};
 ghost use Rattle.rbd_machine.specs.Answers.{CanGive};
 
 use crate::drive::Answers;
