@@ -1,6 +1,6 @@
 -- What a session counts of locks where nobody asks for one, and no image is quiesced.
 use Rattle.std.proofs.Common.{◌≡◌, ℕ, ◌==◌, ◌&&◌, Bool, true, false, cond, Option, None, refl, ap}
-use Rattle.std.proofs.lemmas.Bool.{eq-eqb, true≢false}
+use Rattle.std.proofs.lemmas.Bool.{true≢false}
 use Rattle.rbd_client.specs.Feeding.{comings_of, quiesced_by}
 use Rattle.rbd_commands.specs.declared.quiescing.Quiescing.{Quiescing}
 use Rattle.rbd_commands.specs.declared.quiescing.Quiescing.TheVariants as quiescing
@@ -11,7 +11,6 @@ use Rattle.rbd_kinds.specs.declared.directory_op.DirectoryOp.TheVariants as dire
 use Rattle.rbd_kinds.specs.declared.header_op.HeaderOp.{HeaderOp}
 use Rattle.rbd_kinds.specs.declared.header_op.HeaderOp.TheVariants as header
 use Rattle.rbd_kinds.specs.declared.id.SiteId.{SiteId}
-use Rattle.rbd_kinds.specs.declared.id.SiteId.TheVariants as site_is
 use Rattle.rbd_kinds.specs.declared.image_at.ImageAt.{ImageAt}
 use Rattle.rbd_kinds.specs.declared.machine.Fed.TheVariants as fed
 use Rattle.rbd_kinds.specs.declared.notice.Notice.{Notice}
@@ -24,6 +23,7 @@ use Rattle.rbd_locks.specs.Comings.{ByAnswer, ByResume, after_all, after_one}
 use Rattle.rbd_locks.specs.Locks.{heard}
 use Rattle.rbd_locks.specs.States.{answered, resumed, told}
 use Rattle.rbd_ends.proofs.Owners.{asks_for_lock, ends_lock, gives_up}
+use Rattle.rbd_machine.proofs.Lawful.{at_itself}
 
 -- neither quiesced nor asked for
 pub record IsFree (s : LockState) : Type 0 where
@@ -136,10 +136,6 @@ pub fed_owned : (q : Quiescing) (look : Option ImageAt) (site : SiteId) (o : Op)
     → (after_all (comings_of q look site o (fed.Answer a)) there image s).owned ≡ true
 fed_owned q look site o a there image s may keeps is =
     behind_owned q look site o a there image (after_one (ByAnswer site o a) there image s) may (counted_owned site o a there image s keeps is)
-
-at_itself : (site : SiteId) (image : ℕ) → is_at site image site image ≡ true
-at_itself site_is.A image = eq-eqb image image refl
-at_itself site_is.B image = eq-eqb image image refl
 
 -- a lock that was taken counts
 pub taken_owned : (site : SiteId) (on : ℕ) (s : LockState) → (after_all (comings_of quiescing.Leaves None site (op.Header on header.LockTake) (fed.Answer answer.Done)) site on s).owned ≡ true

@@ -1,5 +1,5 @@
 -- Where one session alone changes images, all is over at the end.
-use Rattle.std.proofs.Common.{◌≡◌, ◌⊎◌, inl, inr, ℕ, zero, suc, ◌+◌, ◌<◌, ◌≤◌, ◌==◌, ◌&&◌, ◌||◌, not, cond, Bool, true, false, List, [], ◌∷◌, ◌++◌, All, append-nil, length, is_some, slice_get, Option, Some, None, refl, sym, ap, ◌∙◌, subst, arith}
+use Rattle.std.proofs.Common.{◌≡◌, ◌⊎◌, inl, inr, ℕ, zero, suc, ◌+◌, ◌<◌, ◌≤◌, ◌==◌, ◌||◌, cond, Bool, true, false, List, [], ◌∷◌, ◌++◌, All, append-nil, length, is_some, slice_get, Option, Some, None, refl, sym, ap, ◌∙◌, subst, arith}
 use Rattle.std.proofs.lemmas.Bool.{eq-eqb, false≢true, true≢false}
 use Rattle.std.proofs.lemmas.List.Elements.{All-cons, All-filter, All-head, All-nil, All-tail, All-weaker}
 use Rattle.std.proofs.lemmas.Option.{none-some, same_Some}
@@ -27,11 +27,12 @@ use Rattle.rbd_schedule.specs.InOrder.{AreDeclared, NamesDeclared}
 use Rattle.rbd_schedule.specs.Notices.{runs}
 use Rattle.rbd_schedule.specs.Playing.{IsPlay, IsPlayable}
 use Rattle.rbd_schedule.specs.Schedule.{Calm, Pace, Submits, closing_rounds, most_idle}
-use Rattle.rbd_schedule.specs.Starts.{earliest, is_ended}
+use Rattle.rbd_schedule.specs.Starts.{is_ended}
 use Rattle.rbd_schedule.proofs.Calmed.{IsAtRest, IsLastRound, last_round, plays_rest, runs_below, sessions_there}
 use Rattle.rbd_schedule.proofs.Ended.{holds_turns, none_still}
 use Rattle.rbd_schedule.proofs.Entries.{start_is_earliest}
 use Rattle.rbd_schedule.proofs.Kept.{MayComeBy, kept_by_deeds, kept_by_lines, kept_by_rounds, kept_to_closing}
+use Rattle.rbd_schedule.proofs.Goes.{earliest_is_given}
 use Rattle.rbd_ends.specs.OneChanger.{AreAllReplied, HasOneChanger, LeavesChangesTo, is_replied}
 use Rattle.rbd_ends.proofs.Counts.{IsFree}
 use Rattle.rbd_ends.proofs.Idling.{ActsItself, idle_acts, idle_keeps, polls_act}
@@ -88,15 +89,6 @@ module _ (changer : ℕ) where
   commands_may : (lines : List Line) → All Leaves lines → All MayBegin (commands_of lines)
   commands_may [] all = All-nil MayBegin
   commands_may (x ∷ lines) all = given_may x.number x.said (commands_of lines) (All-head Leaves x lines all) (commands_may lines (All-tail Leaves x lines all))
-
--- what holds of all commands holds of the one that starts
-of_earliest : (P : Given → Type 0) (b a : (line : ℕ) → Bool) (before : Bool) (given : List Given) (c : Given) → All P given → earliest b a before given ≡ Some c → P c
-of_earliest P b a before [] c all is = absurd (none-some c is)
-of_earliest P b a before (x ∷ given) c all is = by (not (b x.line) && (x.beside || before)) (of_earliest P b a (before && a x.line) given c (All-tail P x given all)) is
-  where
-    by : (t : Bool) → (earliest b a (before && a x.line) given ≡ Some c → P c) → cond t (Some x) (earliest b a (before && a x.line) given) ≡ Some c → P c
-    by true rest is = subst P (same_Some x c is) (All-head P x given all)
-    by false rest is = rest is
 
 -- ---- commands by their sessions
 
@@ -159,7 +151,7 @@ module _ {R : Type 0} (stands : R → Standing) (script : Script) (w : WorldView
   start lines more is session old new submits was =
       let leaves = first_lines (Leaves changer) lines more (subst (All (Leaves changer)) is one.lines) in
       let all = All-filter (λ (c : Given). c.session == session) (MayBegin changer) (commands_of lines) (commands_may changer lines leaves) in
-      let begins = of_earliest (MayBegin changer) (λ line. is_begun line old.history) (λ line. is_ended line old.history) true (given_in lines session) submits.command all
+      let begins = earliest_is_given (MayBegin changer) (λ line. is_begun line old.history) (λ line. is_ended line old.history) true (given_in lines session) submits.command all
       (start_is_earliest (given_in lines session) old session submits.command submits.may) in
       step_keeps stands changer submits.command.submission submits.result old new begins submits.step was
 

@@ -9,10 +9,8 @@ use Rattle.rbd_client.specs.declared.slot_state.SlotState.{SlotState}
 use Rattle.rbd_client.specs.declared.slot_state.Way.{Way}
 use Rattle.rbd_client.specs.declared.slot_state.Way.TheVariants as way
 use Rattle.rbd_commands.specs.declared.quiescing.Quiescing.TheVariants as quiescing
-use Rattle.rbd_course.specs.Course.{is_own_at}
 use Rattle.rbd_kinds.specs.OperationKind.{kind_of}
 use Rattle.rbd_kinds.specs.declared.answer.Answer.{Answer}
-use Rattle.rbd_kinds.specs.declared.answer.Answer.TheVariants as answer
 use Rattle.rbd_kinds.specs.declared.children_op.ChildrenOp.TheVariants as children
 use Rattle.rbd_kinds.specs.declared.data_op.DataOp.TheVariants as object
 use Rattle.rbd_kinds.specs.declared.directory_op.DirectoryOp.TheVariants as directory
@@ -36,7 +34,7 @@ use Rattle.rbd_owner.specs.declared.release.Release.{Release}
 use Rattle.rbd_session.specs.Advance.{ComesTo, fed_by, track_of}
 use Rattle.rbd_session.specs.Lines.{LinesView}
 use Rattle.rbd_session.specs.Session.{ComesToIn, OfRunning, SessionView, going_in, held_in, is_look_at, kind_asked, own_look_at, own_look_in, own_look_of, running_at, running_in}
-use Rattle.rbd_session.specs.Track.{Track, answered_by, course_of, looked_by, run}
+use Rattle.rbd_session.specs.Track.{Track, answered_by, run}
 use Rattle.rbd_session.specs.Waits.{waits}
 use Rattle.rbd_session.specs.declared.running.Occupant.{Occupant}
 use Rattle.rbd_session.specs.declared.running.Occupant.TheVariants as occupant
@@ -44,6 +42,7 @@ use Rattle.rbd_session.specs.declared.running.Running.{Running}
 use Rattle.rbd_ends.proofs.Asking.{AsksOnly, DoesOnly, IsNoLook, TakesNoLock, only_after}
 use Rattle.rbd_ends.proofs.Counts.{IsFree, IsNoQuiesce, fed_free}
 use Rattle.rbd_ends.proofs.Ways.{IsEarly, IsFreeFor, is_early, way_stays_early}
+use Rattle.rbd_world.proofs.Answered.{answered_place}
 
 -- ---- a request that comes to no own look
 
@@ -146,14 +145,6 @@ run_place slot (Await wait next) t calm = absurd calm
 run_place slot (Note site image event next) t calm = absurd calm
 run_place slot (Return reply) t calm = refl
 run_place slot (Goto label) t calm = refl
-
-answered_place : (slot : ℕ) (e : Option Extent) (t : Track) (site : SiteId) (o : Op) (a : Answer) → (answered_by slot e t site o a).place ≡ t.place
-answered_place slot e t site (op.Header image header.Get) (answer.Header h) = by (is_own_at site image (course_of slot t).place)
-  where
-    by : (b : Bool) → (cond b (looked_by slot e h t) t).place ≡ t.place
-    by true = refl
-    by false = refl
-answered_place slot e t site o a = refl
 
 fed_place : (slot : ℕ) (e : Option Extent) (t : Track) (plan : Plan) (a : Answer) → IsCalm plan → (run slot (plan_after plan (fed.Answer a)) (fed_by slot e t plan (fed.Answer a))).place ≡ t.place
 fed_place slot e t (Ask site why o next) a calm = run_place slot (next a) (answered_by slot e t site o a) (calm a) ∙ answered_place slot e t site o a

@@ -3,6 +3,7 @@
 use Rattle.std.proofs.Common.{◌≡◌, ◌⊎◌, inl, inr, ℕ, ◌==◌, ◌&&◌, ◌||◌, cond, Bool, true, false, [], ◌∷◌, append-nil, is_some, Option, Some, None, refl, sym, ap, ◌∙◌, subst}
 use Rattle.std.proofs.lemmas.Bool.{cases_eq, eq-eqb, eqb-true, false≢true, ne_eqb, true≢false}
 use Rattle.std.proofs.lemmas.Option.{none-some, same_Some}
+use Rattle.std.proofs.lemmas.List.Folds.{list_any-append}
 use Rattle.rbd_client.specs.Client.{ClientView}
 use Rattle.rbd_client.specs.Sound.{IsOwned}
 use Rattle.rbd_kinds.specs.Images.{same_site as is_there}
@@ -13,6 +14,7 @@ use Rattle.rbd_kinds.specs.declared.operation.Op.{Op}
 use Rattle.rbd_kinds.specs.declared.reply.Reply.{Reply}
 use Rattle.rbd_machine.specs.Knowledge.{same_site}
 use Rattle.rbd_machine.specs.Plan.{Standing}
+use Rattle.rbd_machine.proofs.Lawful.{same_site_itself}
 use Rattle.rbd_site.specs.Log.{SiteLog, after_all, expire_line, expired, line_of, records_of, trim_line, trimmed}
 use Rattle.rbd_site.specs.Records.{Records, no_records}
 use Rattle.rbd_site.specs.Step.{after, after_served, is_fenced}
@@ -24,8 +26,7 @@ use Rattle.rbd_world.specs.declared.sites.Sites.{Sites}
 use Rattle.rbd_world.specs.Run.{Began, Did, Doer, Expired, Happening, Heard, Nothing, Operation, Refused, Restarted, Stopped, Trimmed, Waited, entries_of, lines_at, records_behind}
 use Rattle.rbd_world.specs.Step.{Becomes, BecomesOf, Does, Goes, LivesOnIf, RunsOn, late_behind, mail_then, names_session, operation_at, with_lines}
 use Rattle.rbd_world.specs.World.{LivesView, WorldView, client_in, lives_in, records_in, running_of, site_in}
-use Rattle.rbd_world.proofs.BothSites.{same_site_itself, this_or_other}
-use Rattle.rbd_world.proofs.Runs.{any_append}
+use Rattle.rbd_world.proofs.BothSites.{this_or_other}
 use Rattle.rbd_schedule.specs.Starts.{is_end_of, is_ended}
 use Rattle.rbd_ends.specs.OneChanger.{is_replied, is_reply_of}
 use Rattle.rbd_ends.proofs.Counts.{gives_up_at}
@@ -222,10 +223,10 @@ module _ {R : Type 0} (stands : R → Standing) (changer : ℕ) where
 
       replies_then : (line : ℕ) → is_ended line new.history ≡ is_replied line new.history
       replies_then line =
-          ap (is_ended line) does.history ∙ any_append (is_end_of line) old.history (entries_of h)
+          ap (is_ended line) does.history ∙ list_any-append (is_end_of line) old.history (entries_of h)
           ∙ ap (λ b. b || is_ended line (entries_of h)) (was.replies line)
           ∙ ap (λ b. is_replied line old.history || b) (ends_by_replies line h goes)
-          ∙ sym (any_append (is_reply_of line) old.history (entries_of h)) ∙ sym (ap (is_replied line) does.history)
+          ∙ sym (list_any-append (is_reply_of line) old.history (entries_of h)) ∙ sym (ap (is_replied line) does.history)
 
       records_now : (s : SiteId) → records_in s new.sites ≡ records_behind s (records_in s old.sites) h
       records_now s = ap records_of (does.sites s) ∙ records_then s h (site_in s old.sites)

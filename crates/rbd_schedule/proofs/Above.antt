@@ -28,18 +28,14 @@ use Rattle.rbd_schedule.specs.Playing.{IsNoStart, highest_after}
 use Rattle.rbd_schedule.specs.Schedule.{is_held}
 use Rattle.rbd_schedule.proofs.Clients.{client_then, no_way}
 use Rattle.rbd_schedule.proofs.Quiet.{line_held}
-
--- what isn't held
-free_there : {T : Type 0} (o : Option T) → is_some o ≡ false → o ≡ None
-free_there None is = refl
-free_there (Some x) is = absurd (true≢false is)
+use Rattle.rbd_site.proofs.OneChange.{none_from_test}
 
 module _ {R : Type 0} where
   held_tells : (session slot : ℕ) (w : WorldView R) → is_held session slot w ≡ is_some (held_of slot (session_in session w.lives))
   held_tells session slot w = line_held (held_of slot (session_in session w.lives))
 
   not_held : (session slot : ℕ) (w : WorldView R) → is_held session slot w ≡ false → held_of slot (session_in session w.lives) ≡ None
-  not_held session slot w is = free_there (held_of slot (session_in session w.lives)) (sym (held_tells session slot w) ∙ is)
+  not_held session slot w is = none_from_test (held_of slot (session_in session w.lives)) (sym (held_tells session slot w) ∙ is)
 
   is_free : (session slot : ℕ) (w : WorldView R) → held_of slot (session_in session w.lives) ≡ None → is_held session slot w ≡ false
   is_free session slot w is = held_tells session slot w ∙ ap is_some is

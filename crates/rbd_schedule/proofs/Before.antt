@@ -1,11 +1,11 @@
 -- Lines that began behind the end of another, as the history goes on.
 use Rattle.std.proofs.Common.{◌≡◌, ℕ, ◌==◌, ◌⊎◌, inl, inr, true, false, List, [], ◌∷◌, ◌++◌, refl, sym, ap, ◌∙◌}
 use Rattle.std.proofs.lemmas.Bool.{cases_eq, eq-eqb, false≢true, ne_eqb, or_left, or_right}
+use Rattle.std.proofs.lemmas.List.Folds.{list_any-append}
 use Rattle.rbd_flat.specs.declared.entry.Entry.{Entry}
 use Rattle.rbd_flat.specs.declared.entry.Entry.TheVariants as entry
 use Rattle.rbd_kinds.specs.declared.id.Instance.{Instance}
 use Rattle.rbd_world.specs.Step.{is_begun, is_start_of}
-use Rattle.rbd_world.proofs.Runs.{any_append}
 use Rattle.rbd_schedule.specs.InTurn.{IsEndedBefore}
 use Rattle.rbd_schedule.specs.Starts.{is_ended, is_end_of}
 
@@ -27,7 +27,7 @@ stands_in {X} (x ∷ xs) ys (y ∷ before) after e is =
 
 begun_there : (line : ℕ) (before after : List Entry) (who : Instance) → is_begun line (before ++ entry.Start line who ∷ after) ≡ true
 begun_there line before after who =
-    any_append (is_start_of line) before (entry.Start line who ∷ after)
+    list_any-append (is_start_of line) before (entry.Start line who ∷ after)
     ∙ or_right (is_begun line before) (is_begun line (entry.Start line who ∷ after)) (or_left (line == line) (is_begun line after) (eq-eqb line line refl))
 
 -- nothing began yet
@@ -49,7 +49,7 @@ ended_before a b old more answered was before after who is = by (stands_in old m
   where
     by : StandsIn old more before after (entry.Start b who) → is_ended a before ≡ true
     by (inl at) = was before at.0 who at.1
-    by (inr at) = ap (is_ended a) at.1 ∙ any_append (is_end_of a) old at.0 ∙ or_left (is_ended a old) (is_ended a at.0) answered
+    by (inr at) = ap (is_ended a) at.1 ∙ list_any-append (is_end_of a) old at.0 ∙ or_left (is_ended a old) (is_ended a at.0) answered
 
 -- Only this line begins by what comes; and where it is b, a ended before.
 pub begins_in_turn : (a b line : ℕ) (old more : List Entry) → ((other : ℕ) → (line == other) ≡ false → is_begun other more ≡ false) → (line ≡ b → is_ended a old ≡ true)

@@ -1,8 +1,9 @@
 -- At the end of a play nothing goes on any more: who isn't over is held up at a lock.
 use Rattle.std.proofs.Common.{◌≡◌, ℕ, zero, suc, ◌+◌, ◌<◌, ◌≤◌, ◌==◌, ◌&&◌, ◌||◌, ◌⊎◌, inl, inr, cond, not, nat_lt, Bool, true, false, List, [], ◌∷◌, map, All, length, is_some, slice_get, Option, Some, None, refl, sym, ap, ◌∙◌, subst, arith}
-use Rattle.std.proofs.lemmas.Bool.{cases_eq, cases_lt, eq-eqb, false≢true, ne_eqb, true≢false}
+use Rattle.std.proofs.lemmas.Bool.{cases_lt, false≢true, true≢false}
 use Rattle.std.proofs.lemmas.List.Elements.{All-cons, All-nil}
 use Rattle.std.proofs.lemmas.Option.{none-some}
+use Rattle.std.proofs.lemmas.List.Folds.{list_any-append}
 use Rattle.rbd_client.specs.Client.{ClientView}
 use Rattle.rbd_client.specs.Sound.{IsSoundClient}
 use Rattle.rbd_flat.specs.declared.entry.Entry.TheVariants as entry
@@ -19,7 +20,7 @@ use Rattle.rbd_world.specs.Run.{Asked, Doer, Itself, OnWay, House, AfterStop, Ha
 use Rattle.rbd_world.specs.Sound.{IsAtHome, IsInSlot, has_ended, held_of, line_at}
 use Rattle.rbd_world.specs.Step.{Does, IsStep, LivesOnIf, happening, is_begun, names_session}
 use Rattle.rbd_world.specs.World.{LivesView, WorldView, client_in, free_in, lives_in, running_of, session_of}
-use Rattle.rbd_world.proofs.Runs.{any_append, begun_is_asked, or_false}
+use Rattle.rbd_world.proofs.Runs.{begun_is_asked, or_false}
 use Rattle.rbd_session.proofs.Sound.{held_range}
 use Rattle.rbd_schedule.specs.declared.given.Given.{Given}
 use Rattle.rbd_schedule.specs.Deeds.{Deeds}
@@ -32,17 +33,11 @@ use Rattle.rbd_schedule.specs.Starts.{IsQuiet, earliest, is_end_of, is_ended}
 use Rattle.rbd_schedule.proofs.Ended.{AreSoundSessions, HasRequestsOf, NoneRuns, free_there, keeps_turns, none_still, quiet_turns, requests_step, sound_again, still_turns}
 use Rattle.rbd_schedule.proofs.Idle.{IsStill}
 use Rattle.rbd_schedule.proofs.Kept.{kept_by_play}
-use Rattle.rbd_schedule.proofs.Quiet.{no_end}
+use Rattle.rbd_schedule.proofs.Quiet.{no_end, endings_end}
 use Rattle.rbd_schedule.proofs.Stuck.{stuck}
+use Rattle.rbd_site.proofs.OneChange.{eqb_swapped, none_from_test}
 
 -- ---- the end of a line in the history is one in the run
-
-eq_swap : (a b : ℕ) → (a == b) ≡ (b == a)
-eq_swap a b = by (cases_eq a b)
-  where
-    by : (a ≡ b) ⊎ (a ≡ b → ⊥) → (a == b) ≡ (b == a)
-    by (inl same) = eq-eqb a b same ∙ sym (eq-eqb b a (sym same))
-    by (inr other) = ne_eqb a b other ∙ sym (ne_eqb b a (λ same. other (sym same)))
 
 or_swap : (a b : Bool) → (a || b) ≡ (b || a)
 or_swap true true = refl
@@ -51,29 +46,23 @@ or_swap false true = refl
 or_swap false false = refl
 
 ended_entries : (line : ℕ) (by : Doer) (reply : Reply) → is_ended line (ending_entries by (Some reply)) ≡ (is_for line by || false)
-ended_entries line (Itself other) reply = ap (λ b. b || false) (eq_swap line other ∙ sym (or_false (other == line)))
-ended_entries line (OnWay other) reply = ap (λ b. b || false) (eq_swap line other)
+ended_entries line (Itself other) reply = ap (λ b. b || false) (eqb_swapped line other ∙ sym (or_false (other == line)))
+ended_entries line (OnWay other) reply = ap (λ b. b || false) (eqb_swapped line other)
 ended_entries line House reply = refl
 ended_entries line (AfterStop slot) reply = refl
 
-open_entries : (line : ℕ) (by : Doer) → is_ended line (ending_entries by None) ≡ false
-open_entries line (Itself other) = refl
-open_entries line (OnWay other) = refl
-open_entries line House = refl
-open_entries line (AfterStop slot) = refl
-
 lost_entries : (line : ℕ) (lost : List ℕ) → is_ended line (map entry.Lost lost) ≡ is_among line lost
 lost_entries line [] = refl
-lost_entries line (other ∷ lost) = ap (λ b. b || is_ended line (map entry.Lost lost)) (eq_swap line other) ∙ ap (λ b. (other == line) || b) (lost_entries line lost)
+lost_entries line (other ∷ lost) = ap (λ b. b || is_ended line (map entry.Lost lost)) (eqb_swapped line other) ∙ ap (λ b. (other == line) || b) (lost_entries line lost)
 
 ended_by : (line : ℕ) (h : Happening) → is_ended line (entries_of h) ≡ ends line h
 ended_by line Nothing = refl
 ended_by line Waited = refl
 ended_by line (Began asked slot) = refl
-ended_by line (Did o None) = ap (λ b. b || is_ended line (ending_entries o.by None)) (no_end line (cause_of o.instance o.by) o.site o.number (fence_of o.op o.answer) o.effect) ∙ open_entries line o.by
+ended_by line (Did o None) = ap (λ b. b || is_ended line (ending_entries o.by None)) (no_end line (cause_of o.instance o.by) o.site o.number (fence_of o.op o.answer) o.effect) ∙ endings_end line o.by
 ended_by line (Did o (Some reply)) =
     ap (λ b. b || is_ended line (ending_entries o.by (Some reply))) (no_end line (cause_of o.instance o.by) o.site o.number (fence_of o.op o.answer) o.effect) ∙ ended_entries line o.by reply
-ended_by line (Refused s other reply) = ap (λ b. b || false) (eq_swap line other)
+ended_by line (Refused s other reply) = ap (λ b. b || false) (eqb_swapped line other)
 ended_by line (Trimmed s number image object) = refl
 ended_by line (Expired s number image who) = refl
 ended_by line (Heard notice) = refl
@@ -83,7 +72,7 @@ ended_by line (Restarted who) = refl
 ended_is_ended : (line : ℕ) (run : List Happening) → is_ended line (history_of run) ≡ has_ended line run
 ended_is_ended line [] = refl
 ended_is_ended line (h ∷ run) =
-    any_append (is_end_of line) (history_of run) (entries_of h) ∙ or_swap (is_ended line (history_of run)) (is_ended line (entries_of h))
+    list_any-append (is_end_of line) (history_of run) (entries_of h) ∙ or_swap (is_ended line (history_of run)) (is_ended line (entries_of h))
     ∙ ap (λ b. b || is_ended line (history_of run)) (ended_by line h) ∙ ap (λ b. ends line h || b) (ended_is_ended line run)
 
 -- ---- all are over
@@ -105,10 +94,6 @@ pub record AreSessions {R : Type 0} (n : ℕ) (w : WorldView R) : Type 0 where
   pub there : (session : ℕ) → session < n → is_some (lives_in session w.lives) ≡ true
   pub past : (session : ℕ) → n ≤ session → lives_in session w.lives ≡ None
 
-none_there : {T : Type 0} (o : Option T) → is_some o ≡ false → o ≡ None
-none_there None is = refl
-none_there (Some c) is = absurd (true≢false is)
-
 module _ {R : Type 0} (stands : R → Standing) where
   there_stays : (e : Event) (h : Happening) (old new : Option (LivesView R)) → LivesOnIf stands e h old new → is_some new ≡ is_some old
   there_stays e h None new on = ap is_some on
@@ -124,7 +109,7 @@ module _ {R : Type 0} (stands : R → Standing) where
       let h = happening stands e old in
       record {
         there = λ s below. same_there e h old new does s (names_session e h s) refl ∙ are.there s below;
-        past = λ s past. none_there (lives_in s new.lives) (same_there e h old new does s (names_session e h s) refl ∙ ap is_some (are.past s past));
+        past = λ s past. none_from_test (lives_in s new.lives) (same_there e h old new does s (names_session e h s) refl ∙ ap is_some (are.past s past));
       }
 
 home_there : {R : Type 0} (home : Option SiteId) (l : Option (LivesView R)) → IsAtHome home l → is_some l ≡ is_some home
@@ -163,7 +148,7 @@ module _ {R : Type 0} (stands : R → Standing) (script : Script) (w : WorldView
   sessions_there =
       kept_by_play stands (AreSessions (length script.sessions)) (sessions_stay stands (length script.sessions)) script play.first w play.plays (record {
         there = λ s below. home_there (slice_get (homes_of script.sessions) s) (lives_in s play.first.lives) (play.homes s) ∙ homes_within script.sessions s below;
-        past = λ s past. none_there (lives_in s play.first.lives) (home_there (slice_get (homes_of script.sessions) s) (lives_in s play.first.lives) (play.homes s) ∙ homes_past script.sessions s past);
+        past = λ s past. none_from_test (lives_in s play.first.lives) (home_there (slice_get (homes_of script.sessions) s) (lives_in s play.first.lives) (play.homes s) ∙ homes_past script.sessions s past);
       })
 
   sound_there : (s : ℕ) (c : ClientView R) → client_in s w.lives ≡ Some c → IsSoundClient stands c

@@ -3,6 +3,7 @@ use Rattle.std.proofs.Common.{◌≡◌, ℕ, ◌&&◌, ◌||◌, not, cond, zer
 use Rattle.std.proofs.lemmas.Bool.{true≢false, false≢true, ltb-true}
 use Rattle.std.proofs.lemmas.Option.{none-some, same_Some, slice_get-get_or}
 use Rattle.std.proofs.lemmas.List.Elements.{All-head, All-same, All-tail, All-weaker}
+use Rattle.std.proofs.lemmas.List.{append-nil}
 use Rattle.rbd_schedule.specs.declared.given.Given.{Given}
 use Rattle.rbd_schedule.specs.Playing.{is_beside, is_over}
 use Rattle.rbd_schedule.specs.Starts.{earliest}
@@ -96,14 +97,10 @@ module _ (b a : (line : ℕ) → Bool) where
   past_end zero (x ∷ xs) is = absurd (none-some x (sym is))
   past_end (suc n) (x ∷ xs) is = ap (λ ys. x ∷ ys) (past_end n xs is)
 
-  no_rest : (xs : List Given) → xs ++ [] ≡ xs
-  no_rest [] = refl
-  no_rest (x ∷ xs) = ap (λ ys. x ∷ ys) (no_rest xs)
-
   -- all are over
   pub earliest_none : (n : ℕ) (xs : List Given) → All (λ c. is_over b a c ≡ true) (take n xs) → slice_get xs n ≡ None → earliest b a true xs ≡ None
   earliest_none n xs over end =
-      ap (earliest b a true) (sym (no_rest xs))
+      ap (earliest b a true) (sym (append-nil xs))
       ∙ over_all xs [] (All-same (λ c. is_over b a c ≡ true) xs (take n xs) (sym (past_end n xs end)) over)
 
   -- the first that isn't over wasn't begun
@@ -124,7 +121,7 @@ module _ (b a : (line : ℕ) → Bool) where
 
   pub none_beside : (n : ℕ) (xs : List Given) → All (λ x. is_beside b x ≡ false) (take n xs) → slice_get xs n ≡ None → earliest b a false xs ≡ None
   none_beside n xs none end =
-      ap (earliest b a false) (sym (no_rest xs)) ∙ none_all xs [] (All-same (λ c. is_beside b c ≡ false) xs (take n xs) (sym (past_end n xs end)) none)
+      ap (earliest b a false) (sym (append-nil xs)) ∙ none_all xs [] (All-same (λ c. is_beside b c ≡ false) xs (take n xs) (sym (past_end n xs end)) none)
 
 -- what stands at a place of a list that is this one
 pub found_there : (ys xs : List Given) (n : ℕ) (x : Given) → ys ≡ xs → true ≡ nat_lt n (length ys) → x ≡ get_or ys n x → slice_get xs n ≡ Some x

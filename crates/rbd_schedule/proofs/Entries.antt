@@ -3,6 +3,7 @@ use Rattle.std.proofs.Common.{◌≡◌, ℕ, ◌&&◌, ◌||◌, nat_lt, not, c
 use Rattle.std.proofs.Math.Seq.{drop-append_seam}
 use Rattle.std.proofs.lemmas.Bool.{false≢true, or_left, or_right, eq-eqb}
 use Rattle.std.proofs.lemmas.Option.{none-some, same_Some}
+use Rattle.std.proofs.lemmas.List.Folds.{list_any-append}
 use Rattle.rbd_client.specs.Client.{ClientView}
 use Rattle.rbd_commands.specs.declared.command.Command.{Command}
 use Rattle.rbd_machine.specs.Plan.{Standing}
@@ -12,7 +13,7 @@ use Rattle.rbd_world.specs.declared.event.Outcome.{Outcome}
 use Rattle.rbd_world.specs.Run.{Happening, Nothing, Began, entries_of}
 use Rattle.rbd_world.specs.Step.{Does, IsStep, begins_of, is_begun, submitted}
 use Rattle.rbd_world.specs.World.{WorldView, client_in, free_in}
-use Rattle.rbd_world.proofs.Runs.{any_append, or_false}
+use Rattle.rbd_world.proofs.Runs.{or_false}
 use Rattle.rbd_schedule.specs.declared.given.Given.{Given}
 use Rattle.rbd_schedule.specs.Starts.{earliest, is_ended, to_start}
 
@@ -21,16 +22,16 @@ use Rattle.rbd_schedule.specs.Starts.{earliest, is_ended, to_start}
 pub begun_stays : {R : Type 0} (stands : R → Standing) (e : Event) (h : Happening) (old new : WorldView R) → Does stands e h old new
     → (line : ℕ) → is_begun line old.history ≡ true → is_begun line new.history ≡ true
 begun_stays stands e h old new does line is =
-    ap (is_begun line) does.history ∙ any_append _ old.history (entries_of h) ∙ or_left (is_begun line old.history) (is_begun line (entries_of h)) is
+    ap (is_begun line) does.history ∙ list_any-append _ old.history (entries_of h) ∙ or_left (is_begun line old.history) (is_begun line (entries_of h)) is
 
 pub ended_stays : {R : Type 0} (stands : R → Standing) (e : Event) (h : Happening) (old new : WorldView R) → Does stands e h old new
     → (line : ℕ) → is_ended line old.history ≡ true → is_ended line new.history ≡ true
 ended_stays stands e h old new does line is =
-    ap (is_ended line) does.history ∙ any_append _ old.history (entries_of h) ∙ or_left (is_ended line old.history) (is_ended line (entries_of h)) is
+    ap (is_ended line) does.history ∙ list_any-append _ old.history (entries_of h) ∙ or_left (is_ended line old.history) (is_ended line (entries_of h)) is
 
 ended_then : {R : Type 0} (stands : R → Standing) (e : Event) (h : Happening) (old new : WorldView R) → Does stands e h old new
     → (line : ℕ) → is_ended line new.history ≡ (is_ended line old.history || is_ended line (entries_of h))
-ended_then stands e h old new does line = ap (is_ended line) does.history ∙ any_append _ old.history (entries_of h)
+ended_then stands e h old new does line = ap (is_ended line) does.history ∙ list_any-append _ old.history (entries_of h)
 
 -- the history has more at its end, in which these lines end
 pub ended_by_step : {R : Type 0} (stands : R → Standing) (e : Event) (h : Happening) (old new : WorldView R) → Does stands e h old new
@@ -96,7 +97,7 @@ module _ {R : Type 0} where
       let found = start_is_new given old session c may in
       let was = earliest_is_new (λ line. is_begun line old.history) (λ line. is_ended line old.history) true given c found.1 in (
         was,
-        ap (is_begun c.line) does.history ∙ any_append _ old.history _
+        ap (is_begun c.line) does.history ∙ list_any-append _ old.history _
             ∙ or_right (is_begun c.line old.history) _ (begins (is_begun c.line old.history) c.line command (client_in session old.lives) was found.0),
       )
 

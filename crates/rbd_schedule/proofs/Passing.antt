@@ -28,6 +28,7 @@ use Rattle.rbd_world.specs.Sound.{IsSoundWorld}
 use Rattle.rbd_world.specs.Step.{IsStep, LivesOnIf, happening, latest_behind, mail_then, names_session, next_life, restarted, restarted_of}
 use Rattle.rbd_world.specs.World.{LivesView, WorldView, client_in, lives_in, records_in, running_of}
 use Rattle.rbd_world.proofs.Carried.{of_event}
+use Rattle.rbd_world.proofs.Runs.{or_false}
 use Rattle.rbd_schedule.specs.Notices.{hears, is_due, is_to, was_heard}
 use Rattle.rbd_schedule.specs.Playing.{IsPassed, is_past, is_settled}
 
@@ -69,11 +70,7 @@ pub heard_then : {R : Type 0} (stands : R → Standing) (e : Event) (result : Ou
     → (number : ℕ) → was_heard number new.calls ≡ (was_heard number old.calls || hears number e result)
 heard_then stands e result old new (is, does) number =
     ap (was_heard number) does.calls ∙ list_any-append (λ (c : Call). hears number c.event c.outcome) old.calls _
-    ∙ ap (λ b. was_heard number old.calls || b) (or_end (hears number e (outcome_of (happening stands e old))) ∙ ap (hears number e) (sym is))
-  where
-    or_end : (b : Bool) → (b || false) ≡ b
-    or_end true = refl
-    or_end false = refl
+    ∙ ap (λ b. was_heard number old.calls || b) (or_false (hears number e (outcome_of (happening stands e old))) ∙ ap (hears number e) (sym is))
 
 -- ---- lives follow one another
 

@@ -1,6 +1,4 @@
-use Rattle.std.proofs.Common.{◌≡◌, ℕ, ◌==◌, ◌||◌, Bool, true, false, take, refl, sym, ap, ◌∙◌}
-use Rattle.std.proofs.lemmas.Bool.{cases_eq, eq-eqb, ne_eqb}
-use Rattle.std.proofs.Common.{◌⊎◌, inl, inr}
+use Rattle.std.proofs.Common.{◌≡◌, ℕ, ◌||◌, Bool, true, false, take, refl, sym, ap, ◌∙◌}
 use Rattle.std.proofs.lemmas.List.{take_all}
 use Rattle.std.proofs.lemmas.List.Folds.{list_any_more}
 use Rattle.rbd_flat.specs.declared.entry.Entry.{Entry}
@@ -8,29 +6,20 @@ use Rattle.rbd_flat.specs.declared.entry.Entry.TheVariants as entry
 use Rattle.rbd_schedule.specs.Playing.{ended_by, has_line, is_one_of}
 use Rattle.rbd_schedule.specs.Starts.{is_end_of, is_ended}
 use Rattle.rbd_schedule.proofs.runner.note_ends.Goals as goal
-
-eq_swap : (a b : ℕ) → (a == b) ≡ (b == a)
-eq_swap a b = by (cases_eq a b)
-  where
-    by : (a ≡ b) ⊎ (a ≡ b → ⊥) → (a == b) ≡ (b == a)
-    by (inl same) = eq-eqb a b same ∙ sym (eq-eqb b a (sym same))
-    by (inr other) = ne_eqb a b other ∙ sym (ne_eqb b a (λ same. other (sym same)))
+use Rattle.rbd_world.proofs.Runs.{or_false}
+use Rattle.rbd_site.proofs.OneChange.{eqb_swapped}
 
 ends_it : (line : ℕ) (e : Entry) → is_one_of line (ended_by e) ≡ is_end_of line e
-ends_it line (entry.Reply other reply) = eq_swap other line
-ends_it line (entry.Lost other) = eq_swap other line
+ends_it line (entry.Reply other reply) = eqb_swapped other line
+ends_it line (entry.Lost other) = eqb_swapped other line
 ends_it line _ = refl
-
-or_none : (b : Bool) → b ≡ (b || false)
-or_none true = refl
-or_none false = refl
 
 or_more : (a b c : Bool) → ((a || b) || c) ≡ (a || (b || c))
 or_more true b c = refl
 or_more false b c = refl
 
 pub loop-entry-init : goal.loop-entry-init
-loop-entry-init c = λ line. or_none (has_line line c.args.over.now)
+loop-entry-init c = λ line. sym (or_false (has_line line c.args.over.now))
 
 pub loop-entry-preserved : goal.loop-entry-preserved
 loop-entry-preserved c = λ line.
