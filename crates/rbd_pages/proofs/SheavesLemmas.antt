@@ -298,9 +298,6 @@ stocked_set items sheets after i s sound below counts free =
 pub pages_read : (items : List Sheet) (i : ℕ) (r s : Sheet) → i < length items → r ≡ get_or items i r → s.bytes ≡ r.bytes → s.bytes ≡ bytes_at items i
 pages_read items i r s below read same = same ∙ ap (λ (t : Sheet). t.bytes) (sheaf_read items i r below read)
 
-pub count_of_read : (items : List Sheet) (i : ℕ) (r : Sheet) → i < length items → r ≡ get_or items i r → r.count ≡ count_at items i
-count_of_read items i r below read = ap (λ (t : Sheet). t.count) (sheaf_read items i r below read)
-
 -- another count alone
 pub stocked_count : (items sheets : List Sheet) (i : ℕ) (s : Sheet)
     → AreStocked (record { sheaves = items; sheets = sheets }) × (length items < 4294967296) → i < length items

@@ -2,8 +2,8 @@ use Rattle.std.proofs.Common.{ap, set, subst, arith}
 use Rattle.rbd_pages.specs.Paging.{Prepared}
 use Rattle.rbd_pages.specs.Sheaves.{IsSame, Stock}
 use Rattle.rbd_pages.specs.Sheets.{bytes_at, count_at}
-use Rattle.rbd_pages.proofs.SheetLemmas.{changed_at, within_items}
-use Rattle.rbd_pages.proofs.SheavesLemmas.{counted_read, kept_prepared, moved_read, prepared_set, stocked_set, count_of_read}
+use Rattle.rbd_pages.proofs.SheetLemmas.{changed_at, within_items, count_read}
+use Rattle.rbd_pages.proofs.SheavesLemmas.{counted_read, kept_prepared, moved_read, prepared_set, stocked_set}
 use Rattle.rbd_pages.proofs.sheaves.Sheaves.prepare_page.Goals as goal
 
 pub prepare_page-requires-clause-counted : goal.prepare_page-requires-clause-counted
@@ -20,7 +20,7 @@ invariant_of-self c =
     (moved_read c.self.inside.sheaves.items c.self.inside.arena c.prepare_page.new.arena c.args.index _ c.prepare_page.new.self below
     c.index_mut.ensures.value c.prepare_page.ensures.prepared.moved)
     (λ none. absurd (let alone = ap (λ sheaves. count_at sheaves c.args.index) is in let one = c.requires.alone in
-    let count = c.prepare_page.ensures.count in let read = count_of_read c.self.inside.sheaves.items c.args.index _ below c.index_mut.ensures.value in
+    let count = c.prepare_page.ensures.count in let read = count_read c.self.inside.sheaves.items c.args.index _ below c.index_mut.ensures.value in
     let f : ⊥ = omega arith in f))
 
 pub returns-clause-changed : goal.returns-clause-changed
