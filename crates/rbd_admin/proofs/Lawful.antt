@@ -1,6 +1,6 @@
 -- The plans do what they may.
 use Rattle.std.proofs.Common.{◌≡◌, ◌≢◌, ◌⊎◌, inl, inr, ℕ, ◌+◌, ◌<◌, ◌≤◌, List, [], ◌∷◌, Bool, true, false, cond, eqb, Option, Some, None, refl, ap, sym, ◌∙◌, subst, arith}
-use Rattle.std.specs.Prelude.{nat_eq, not, filter}
+use Rattle.std.specs.Prelude.{nat_eq}
 use Rattle.std.specs.Cmp.Lexicographic.{pointwise}
 use Rattle.std.proofs.lemmas.Bool.Decides.{eqb_tells}
 use Rattle.rbd_kinds.specs.declared.sharing.Sharing.TheVariants as sharing
@@ -24,13 +24,14 @@ use Rattle.rbd_kinds.specs.Header.{snap_named}
 use Rattle.rbd_kinds.specs.States.{HoldStates}
 use Rattle.rbd_kinds.specs.Striping.{IsObjectCount}
 use Rattle.rbd_header.specs.Header.{new_header, snap_in, without_snap}
+use Rattle.rbd_header.proofs.Changed.{removed_is_unlisted}
 use Rattle.rbd_layout.specs.Asked.{layout_of, KeepsLimits}
-use Rattle.rbd_machine.specs.Knowledge.{Knowledge, ImageMaps, MapsKnown, nothing_known, own_of, is_drawn, learned, maps_of, maps_told, with_drawn}
+use Rattle.rbd_machine.specs.Knowledge.{Knowledge, MapsKnown, nothing_known, own_of, is_drawn, learned, maps_of, with_drawn}
 use Rattle.rbd_machine.specs.Label.{Label}
 use Rattle.rbd_machine.specs.Lawful.{CanTell, IsLawful, IsLawfulRequest}
 use Rattle.rbd_machine.specs.Plan.{Plan, Return, without_labels}
 use Rattle.rbd_machine.specs.Steps.{applied, non_primary, on_bits}
-use Rattle.rbd_machine.proofs.Lawful.{at_itself, or_else_none, own_at, owning_known, own_is_found, lawful_not_there, lawful_on_id, lawful_on_header, lawful_on_done, lawful_change}
+use Rattle.rbd_machine.proofs.Lawful.{at_itself, or_else_none, own_at, owning_known, own_is_found, lawful_not_there, lawful_on_id, lawful_on_header, lawful_on_done, lawful_change, told_first}
 use Rattle.rbd_meaning.specs.Count.{object_count}
 use Rattle.rbd_meaning.specs.Listings.{shown_snaps, used_among}
 use Rattle.rbd_meaning.specs.Snaps.{removal_refusal, create_refuses, remove_refuses, IsGone}
@@ -71,18 +72,6 @@ named_by_id : (snaps : List SnapView) (most : ℕ) (name : List ℕ) (s : SnapVi
 named_by_id [] most name s rise is = cc
 named_by_id (u ∷ snaps) most name s rise is = (named_first u snaps name s (named_above snaps u.id most name s rise) is).1
 
--- a snapshot that was removed isn't listed
-removed_is_unlisted : (snaps : List SnapView) (t : ℕ) → snap_in (filter (λ s. not (eqb s.id t)) snaps) t ≡ None
-removed_is_unlisted [] t = refl
-removed_is_unlisted (s ∷ snaps) t = go (removed_is_unlisted snaps t) (eqb s.id t) refl
-  where
-    later : List SnapView
-    later = filter (λ u. not (eqb u.id t)) snaps
-
-    go : snap_in later t ≡ None → (b : Bool) → eqb s.id t ≡ b → snap_in (cond (not (eqb s.id t)) (s ∷ later) later) t ≡ None
-    go none true is = ap (λ b. snap_in (cond (not b) (s ∷ later) later) t) is ∙ none
-    go none false is = ap (λ b. snap_in (cond (not b) (s ∷ later) later) t) is ∙ ap (λ b. cond b (Some s) (snap_in later t)) is ∙ none
-
 -- ---- create
 
 new_in_form : (layout : Layout) (size : ℕ) → KeepsLimits layout size → IsNewHeader (new_header layout size)
@@ -102,10 +91,6 @@ new_in_form layout size keeps = record {
   snaps = refl;
   owner = refl;
 }
-
--- what was told of an image's maps last is what is known of them
-told_first : (site : SiteId) (image : ℕ) (m : MapsKnown) (maps : List ImageMaps) → maps_of (maps_told site image m maps) site image ≡ m
-told_first site image m maps = ap (λ b. cond b m (maps_of maps site image)) (at_itself site image)
 
 -- an id was drawn
 abbrev drawn_known : SiteId → (image : ℕ) → Knowledge

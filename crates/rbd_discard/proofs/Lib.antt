@@ -2,7 +2,6 @@ pub mod About
 pub mod Bounded
 pub mod Closed
 pub mod Discards
-pub mod Early
 pub mod Ended
 pub mod Lawful
 pub mod Meant

@@ -25,7 +25,7 @@ use Rattle.rbd_meaning.proofs.Ends.{same_front}
 use Rattle.rbd_zero.specs.Size.{pieces_zeroed}
 use Rattle.rbd_discard.specs.Discard.{discard, zero, zero_pieces}
 use Rattle.rbd_discard.proofs.About.{discard_is_own}
-use Rattle.rbd_discard.proofs.Early.{IsEarly, change_ends}
+use Rattle.rbd_meaning.proofs.ChangeEnds.{IsEarly, change_ends, refused_early}
 use Rattle.rbd_discard.proofs.Ended.{Does, IsCutOff, pieces_end}
 use Rattle.rbd_discard.proofs.Refusing.{IsDone, refusing_pieces}
 
@@ -107,12 +107,12 @@ module _ (site : SiteId) (name : List ℕ) (e : Extent) where
   -- ---- the whole
 
   refused_means : (x : Refusal) (steps : List Answered) → AreOwn site (look_up name) steps → AreGiven steps → AreParentless steps
-      → IsEarly (write_refuses e) by_fence steps x ⊎ Changed (Return (reply.Refused x)) site name (write_refuses e) (zero site e) steps → RefusesDiscard site name e steps x
-  refused_means x steps own given parentless (inl early) = record {
-    refused = record { own = own; by = early.by };
+      → Changed (Return (reply.Refused x)) site name (write_refuses e) (zero site e) steps ⊎ IsEarly (write_refuses e) steps (reply.Refused x) → RefusesDiscard site name e steps x
+  refused_means x steps own given parentless (inl c) = refused_late x steps c own given parentless
+  refused_means x steps own given parentless (inr early) = record {
+    refused = record { own = own; by = refused_early (write_refuses e) by_fence steps x given early };
     so_far = inl early.looks;
   }
-  refused_means x steps own given parentless (inr c) = refused_late x steps c own given parentless
 
 pub discard_means : (site : SiteId) (image : List ℕ) (at len : ℕ) (feds : List Fed) (steps : List Answered) (r : Reply) → AreGiven steps → AreParentless steps
     → IsWalk Goto (discard site image (record { at = at; len = len })) feds steps (Return r) → DiscardMeans site image at len steps r
@@ -120,5 +120,5 @@ discard_means site image at len feds steps reply.Done given parentless walk = di
 discard_means site image at len feds steps (reply.Refused x) given parentless walk =
     let e : Extent = record { at = at; len = len } in
     refused_means site image e x steps (discard_is_own site image e feds steps (Return (reply.Refused x)) walk) given parentless
-    (change_ends x site image sharing.Discard (write_refuses e) (zero site e) by_fence feds steps given walk)
+    (change_ends (reply.Refused x) site image sharing.Discard (write_refuses e) (zero site e) steps feds walk)
 discard_means site image at len feds steps r given parentless walk = other_reply site image (record { at = at; len = len }) r tt (λ all steps does. does) feds steps walk

@@ -1,10 +1,9 @@
 -- The image bytes of parts, as extents.
-use Rattle.std.proofs.Common.{Bool, true, false, ◌≡◌, ◌≢◌, ℕ, ◌+◌, ◌-◌, ◌*◌, ◌/◌, ◌%◌, ◌<◌, ◌≤◌, ◌⊎◌, inl, inr, refl, sym, ap, subst, ◌∙◌, cond, eqb, arith, zero, suc, List, [], ◌∷◌, ◌++◌, map, min, append_assoc}
+use Rattle.std.proofs.Common.{Bool, true, false, ◌≡◌, ◌≢◌, ℕ, ◌+◌, ◌-◌, ◌*◌, ◌%◌, ◌<◌, ◌≤◌, ◌⊎◌, inl, inr, refl, sym, ap, subst, ◌∙◌, cond, eqb, arith, zero, suc, List, [], ◌∷◌, ◌++◌, map, min, append_assoc}
 use Rattle.std.specs.List.{range_with_len}
 use Rattle.std.proofs.lemmas.Bool.{eq-eqb, ne_eqb}
 use Rattle.std.proofs.lemmas.List.{map-append}
-use Rattle.std.proofs.lemmas.Nat.{div-add-mod'}
-use Rattle.std.proofs.Math.Nat.{mul-le-mul_right, div-one, mod-one, mod-lt}
+use Rattle.std.proofs.Math.Nat.{mul-le-mul_right, mod-lt}
 use Rattle.rbd_kinds.specs.declared.layout.Extent.{Extent}
 use Rattle.rbd_kinds.specs.declared.layout.Layout.{Layout}
 use Rattle.rbd_kinds.specs.declared.layout.Part.{Part}
@@ -13,7 +12,7 @@ use Rattle.rbd_layout.specs.Pieces.{IsHeld, part_at, parts_at, with_place}
 use Rattle.rbd_layout.proofs.Cover.{cover, range_append, map-range}
 use Rattle.rbd_layout.proofs.Limits.{Shape, shape_of}
 use Rattle.rbd_layout.proofs.Mixed.{cases_lt}
-use Rattle.rbd_layout.proofs.Walk.{next_row, same_row}
+use Rattle.rbd_layout.proofs.Walk.{next_row, same_row, whole_object}
 use Rattle.rbd_stands.specs.Condition.{extents_of}
 use Rattle.rbd_stands.specs.Effect.{joined, places_below, whole_object}
 use Rattle.rbd_effect.specs.Kept.{IsHeldBelow, extents_between, kept_len, run_from}
@@ -65,15 +64,10 @@ one_extent l at (suc len) ys some apart = ap extents_of (one_part l at len ys ap
 
 -- ---- runs of an object
 
-linear : (l : Layout) → l.count ≡ 1 → (n o : ℕ) → byte_at l n o ≡ n * units_per_object l * l.unit + o
-linear l one n o =
-    let rest : o / l.unit * l.unit + o % l.unit ≡ o = div-add-mod' o l.unit in
-    rw (one, div-one n, mod-one n) (omega (arith, rest))
-
 along_all : (l : Layout) → l.count ≡ 1 → (n o k : ℕ) → byte_at l n (o + k) ≡ byte_at l n o + k
 along_all l one n o k =
-    let a : byte_at l n (o + k) ≡ n * units_per_object l * l.unit + (o + k) = linear l one n (o + k) in
-    let b : byte_at l n o ≡ n * units_per_object l * l.unit + o = linear l one n o in
+    let a : byte_at l n (o + k) ≡ n * units_per_object l * l.unit + (o + k) = whole_object l one n (o + k) in
+    let b : byte_at l n o ≡ n * units_per_object l * l.unit + o = whole_object l one n o in
     omega arith
 
 along_unit : (l : Layout) (n o k : ℕ) → o % l.unit + k < l.unit → byte_at l n (o + k) ≡ byte_at l n o + k

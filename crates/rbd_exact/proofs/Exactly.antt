@@ -9,6 +9,7 @@ use Rattle.rbd_kinds.specs.declared.header.SnapContext.{SnapContext}
 use Rattle.rbd_kinds.specs.declared.header.SnapView.{SnapView}
 use Rattle.rbd_kinds.specs.declared.id.Instance.{Instance}
 use Rattle.rbd_header.specs.Header.{snap_in, snap_taken, with_size, with_snap, without_snap}
+use Rattle.rbd_header.proofs.Changed.{removed_is_unlisted}
 use Rattle.rbd_object.specs.Mapped.{Mapped, looked, mapped_blank, mapped_change}
 use Rattle.rbd_object.specs.Versioned.{IsTidy, view}
 use Rattle.rbd_object.proofs.MappedLemmas.{looked-mapped_change}
@@ -16,7 +17,7 @@ use Rattle.rbd_object.proofs.StepLemmas.{view-change}
 use Rattle.rbd_site.specs.Records.{or_blank, put}
 use Rattle.rbd_stands.specs.Condition.{IsContextOf}
 use Rattle.rbd_stands.specs.Covering.{Maps, exists_at}
-use Rattle.rbd_stands.proofs.Lookups.{header_gone, header_left, older_or_last}
+use Rattle.rbd_stands.proofs.Lookups.{header_left, older_or_last}
 use Rattle.rbd_stands.proofs.ObjectSteps.{put_both}
 use Rattle.rbd_rely.specs.Truth.{HasNoStates, IsPutAs, map_len, state_in}
 use Rattle.rbd_rely.proofs.MapsBehind.{with_view}
@@ -84,7 +85,7 @@ module _ (owed : ℕ → ℕ → Type 0) (maps : Maps) (objects : ℕ → Mapped
   exact_removed snap h all = exact_relisted h (without_snap snap h) (λ t s is. by t s is (cases_eq t snap)) all
     where
       by : (t : ℕ) (s : SnapView) → snap_in (without_snap snap h).snaps t ≡ Some s → (t ≡ snap) ⊎ (t ≢ snap) → snap_in h.snaps t ≡ Some s
-      by t s is (inl same) = absurd (none-some s (sym (header_gone h.snaps snap) ∙ ap (snap_in (without_snap snap h).snaps) (sym same) ∙ is))
+      by t s is (inl same) = absurd (none-some s (sym (removed_is_unlisted h.snaps snap) ∙ ap (snap_in (without_snap snap h).snaps) (sym same) ∙ is))
       by t s is (inr other) = sym (header_left h.snaps snap t other) ∙ is
 
   pub exact_added : (name : List ℕ) (h : HeaderView) → ((n : ℕ) → IsExactAt (maps (Some (h.snap_seq + 1))) (exists_at objects (Some (h.snap_seq + 1))) n)

@@ -27,7 +27,7 @@ run_positive l h run (inl (one, e)) = let s = shape_of l h in omega (arith, s.ob
 run_positive l h run (inr (more, e)) = let s = shape_of l h in omega (arith, s.unit_least)
 
 -- with a stripe count of 1 the bytes of an object lie one after another
-whole_object : (l : Layout) → l.count ≡ 1 → (n o : ℕ) → byte_at l n o ≡ n * units_per_object l * l.unit + o
+pub whole_object : (l : Layout) → l.count ≡ 1 → (n o : ℕ) → byte_at l n o ≡ n * units_per_object l * l.unit + o
 whole_object l one n o =
     let rest : o / l.unit * l.unit + o % l.unit ≡ o = div-add-mod' o l.unit in
     rw (one, div-one n, mod-one n) (omega (arith, rest))

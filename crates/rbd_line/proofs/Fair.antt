@@ -215,11 +215,11 @@ held_fair slot ms fair =
 
 -- ---- one goes past its own look
 
-and_left : (a b : Bool) → (a && b) ≡ true → a ≡ true
+pub and_left : (a b : Bool) → (a && b) ≡ true → a ≡ true
 and_left true b h = refl
 and_left false b h = h
 
-and_right : (a b : Bool) → (a && b) ≡ true → b ≡ true
+pub and_right : (a b : Bool) → (a && b) ≡ true → b ≡ true
 and_right true b h = h
 and_right false b h = absurd (true≢false (sym h))
 
@@ -355,7 +355,7 @@ entered_fair slot object ms fair may new =
     (λ m both. entered_put slot object m both.0 both.1)
     (each_both IsFairMember (λ m. eqb m.slot slot ≡ true → (is_shared_past m ≡ true) × (is_in object m.objects ≡ false)) ms fair.each (may_take slot object ms fair may new)))
 
-in_rest : (n : ℕ) (xs : List ℕ) → is_in n (drop 1 xs) ≡ true → is_in n xs ≡ true
+pub in_rest : (n : ℕ) (xs : List ℕ) → is_in n (drop 1 xs) ≡ true → is_in n xs ≡ true
 in_rest n [] here = here
 in_rest n (x ∷ xs) here = or_right (eqb x n) (is_in n xs) here
 

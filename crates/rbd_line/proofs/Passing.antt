@@ -3,7 +3,7 @@ use Rattle.std.proofs.Common.{◌≡◌, ℕ, ◌≤◌, Bool, true, false, cond
 use Rattle.std.specs.Prelude.{◌⊎◌}
 use Rattle.std.specs.List.{filter, list_all, list_any}
 use Rattle.std.specs.Option.{is_some, option_map}
-use Rattle.std.proofs.lemmas.Bool.{eq-eqb, ne_eqb, eqb-true, cond-true, cond-false, or_left, or_right}
+use Rattle.std.proofs.lemmas.Bool.{eq-eqb, ne_eqb, eqb-true, cond-true, cond-false, or_left, or_right, and_from}
 use Rattle.std.proofs.lemmas.List.{length-map}
 use Rattle.rbd_course.specs.declared.stage.Stage.{Stage}
 use Rattle.rbd_course.specs.declared.stage.Stage.TheVariants as stage
@@ -15,22 +15,10 @@ use Rattle.rbd_kinds.specs.declared.sharing.Sharing.{Sharing}
 use Rattle.rbd_line.specs.Line.{Member, member_of, is_member, ahead, behind, is_past, lets_pass, is_let_pass, may_pass, holds, slots, none_past_behind, has_turn, joined, held, passed, entered, next_piece, changed, without, Each, EachPair, LetsPass, IsFairLine, is_shared_past, is_shared_past_in, may_enter, objects_in, objects_of, IsFairMember}
 use Rattle.rbd_line.specs.Steady.{IsSteady}
 use Rattle.rbd_line.specs.Turns.{begins_with}
-use Rattle.rbd_line.proofs.Fair.{put, put_is, put_keeps, absent_change, rest_out, in_slots, each_true}
+use Rattle.rbd_line.proofs.Fair.{put, put_is, put_keeps, absent_change, rest_out, in_slots, each_true, and_left, and_right}
 use Rattle.rbd_line.proofs.Few.{few}
 use Rattle.rbd_line.proofs.Keeping.{same_some, some_none, found_has, is_found}
 use Rattle.rbd_line.proofs.Together.{alone_with_none, flips}
-
-and_left : (a b : Bool) → (a && b) ≡ true → a ≡ true
-and_left true b h = refl
-and_left false b h = h
-
-and_right : (a b : Bool) → (a && b) ≡ true → b ≡ true
-and_right true b h = h
-and_right false b h = absurd (true≢false (sym h))
-
-and_both : (a b : Bool) → a ≡ true → b ≡ true → (a && b) ≡ true
-and_both true b h k = k
-and_both false b h k = absurd (true≢false (sym h))
 
 -- ---- two members, one ahead of the other
 
@@ -90,7 +78,7 @@ some_turn object (x ∷ ms) some = by (holds object x) refl some (λ more. some_
         ap (λ b. list_any (λ (m : Member). holds object m && begins_with m.slot (slots (cond b (x ∷ filter (holds object) ms) (filter (holds object) ms)))) (x ∷ ms)) e
         ∙ or_left (holds object x && eqb x.slot x.slot)
         (list_any (λ (m : Member). holds object m && begins_with m.slot (x.slot ∷ slots (filter (holds object) ms))) ms)
-        (and_both (holds object x) (eqb x.slot x.slot) e (eq-eqb x.slot x.slot refl))
+        (and_from (holds object x) (eqb x.slot x.slot) e (eq-eqb x.slot x.slot refl))
     by false e some rest =
         ap (λ b. list_any (λ (m : Member). holds object m && begins_with m.slot (slots (cond b (x ∷ filter (holds object) ms) (filter (holds object) ms)))) (x ∷ ms)) e
         ∙ or_right (holds object x && has_turn x.slot object ms) (list_any (λ (m : Member). holds object m && has_turn m.slot object ms) ms) (rest some)
@@ -149,7 +137,7 @@ raised false q a more h = absurd (true≢false (sym h))
 let_map : (h : Member → Member) (sharing : Sharing) (ms : List Member) → IsSteady h → list_all (lets_pass sharing) ms ≡ true → list_all (lets_pass sharing) (map h ms) ≡ true
 let_map h sharing [] steady all = refl
 let_map h sharing (x ∷ ms) steady all =
-    and_both (lets_pass sharing (h x)) (list_all (lets_pass sharing) (map h ms))
+    and_from (lets_pass sharing (h x)) (list_all (lets_pass sharing) (map h ms))
     (ap (λ a. is_past (h x).stage && go_together a sharing) (steady.sharing x)
     ∙ raised (is_past x.stage) (is_past (h x).stage) (go_together x.sharing sharing) (steady.past x) (and_left (lets_pass sharing x) (list_all (lets_pass sharing) ms) all))
     (let_map h sharing ms steady (and_right (lets_pass sharing x) (list_all (lets_pass sharing) ms) all))
@@ -207,7 +195,7 @@ none_behind_changed ms slot f steady fair = ap (list_all (λ (m : Member). not (
 all_wait : (x : Member) (ms : List Member) → is_past x.stage ≡ false → Each (LetsPass x) ms → list_all (λ (m : Member). not (is_past m.stage)) ms ≡ true
 all_wait x [] waits lets = refl
 all_wait x (m ∷ ms) waits lets =
-    and_both (not (is_past m.stage)) (list_all (λ (m : Member). not (is_past m.stage)) ms) (by (is_past m.stage) refl) (all_wait x ms waits lets.1)
+    and_from (not (is_past m.stage)) (list_all (λ (m : Member). not (is_past m.stage)) ms) (by (is_past m.stage) refl) (all_wait x ms waits lets.1)
   where
     by : (b : Bool) → is_past m.stage ≡ b → not b ≡ true
     by true e = absurd (true≢false (sym (and_left (is_past x.stage) (go_together x.sharing m.sharing) (lets.0 e)) ∙ waits))
@@ -270,7 +258,7 @@ all_filter p q [] all = refl
 all_filter p q (x ∷ ms) all = by (q x) (all_filter p q ms (and_right (p x) (list_all p ms) all))
   where
     by : (b : Bool) → list_all p (filter q ms) ≡ true → list_all p (cond b (x ∷ filter q ms) (filter q ms)) ≡ true
-    by true rest = and_both (p x) (list_all p (filter q ms)) (and_left (p x) (list_all p ms) all) rest
+    by true rest = and_from (p x) (list_all p (filter q ms)) (and_left (p x) (list_all p ms) all) rest
     by false rest = rest
 
 pub may_left : (ms : List Member) (slot other : ℕ) → (other ≡ slot → ⊥) → may_pass slot ms ≡ true → may_pass slot (without other ms) ≡ true

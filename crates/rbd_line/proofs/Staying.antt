@@ -1,12 +1,12 @@
 -- Turns that stay while others change.
 use Rattle.std.proofs.Common.{◌≡◌, ℕ, Bool, true, false, cond, not, eqb, List, [], ◌∷◌, ◌++◌, drop, refl, sym, ap, ◌∙◌, true≢false}
 use Rattle.std.specs.List.{filter, list_all}
-use Rattle.std.proofs.lemmas.Bool.{ne_eqb, eqb-true, cond-false, or_right}
+use Rattle.std.proofs.lemmas.Bool.{ne_eqb, eqb-true, cond-false}
 use Rattle.rbd_guard.specs.Order.{is_in}
 use Rattle.rbd_kinds.specs.declared.sharing.Sharing.{Sharing}
 use Rattle.rbd_line.specs.Line.{Member, behind, is_past, holds, slots, none_past_behind, has_turn, joined, held, passed, entered, next_piece, changed, without, Each, IsFairMember, IsFairLine}
 use Rattle.rbd_line.specs.Turns.{begins_with}
-use Rattle.rbd_line.proofs.Fair.{put, put_is, each_true}
+use Rattle.rbd_line.proofs.Fair.{put, put_is, each_true, in_rest}
 use Rattle.rbd_line.proofs.Keeping.{holding, filter_push, left_turns, none_holds}
 
 -- ---- changes that leave each one's objects
@@ -40,10 +40,6 @@ still_first slot other (x ∷ xs) differ first =
 pub turn_left : (ms : List Member) (slot object other : ℕ) → (other ≡ slot → ⊥) → has_turn slot object ms ≡ true → has_turn slot object (without other ms) ≡ true
 turn_left ms slot object other differ turn =
     ap (begins_with slot) (left_turns other (holds object) ms) ∙ still_first slot other (slots (filter (holds object) ms)) differ turn
-
-in_rest : (n : ℕ) (xs : List ℕ) → is_in n (drop 1 xs) ≡ true → is_in n xs ≡ true
-in_rest n [] here = here
-in_rest n (x ∷ xs) here = or_right (eqb x n) (is_in n xs) here
 
 holds_less : (object other : ℕ) (m : Member) → holds object m ≡ false → holds object (put other next_piece m) ≡ false
 holds_less object other m none = by (eqb m.slot other)

@@ -19,7 +19,7 @@ use Rattle.rbd_kinds.specs.declared.operation.Op.TheVariants as op
 use Rattle.rbd_commands.specs.declared.refusal.Refusal.{Refusal}
 use Rattle.rbd_kinds.specs.Form.{IsHeaderInForm}
 use Rattle.rbd_machine.specs.Answers.{CanGive, CanBeFed}
-use Rattle.rbd_machine.specs.Knowledge.{Knowledge, Own, nothing_known, same_site, is_at, is_gone, own_of, header_told, first_told, left, looked_owning, learned, passed, maps_told, unmapped}
+use Rattle.rbd_machine.specs.Knowledge.{Knowledge, Own, nothing_known, same_site, is_at, is_gone, own_of, header_told, first_told, left, looked_owning, learned, passed, maps_told, unmapped, ImageMaps, MapsKnown, maps_of}
 use Rattle.rbd_machine.specs.Label.{Label}
 use Rattle.rbd_machine.specs.Lawful.{CanTell, IsLawful, known_after}
 use Rattle.rbd_machine.specs.Permits.{IsLeftOver, OwnsBy}
@@ -40,6 +40,10 @@ at_itself s image = rw (same_site_itself s) (go (eqb_tells image image))
     go : ((eqb image image ≡ true) × (image ≡ image)) ⊎ ((eqb image image ≡ false) × (image ≢ image)) → eqb image image ≡ true
     go (inl same) = same.0
     go (inr other) = absurd (other.1 refl)
+
+-- what was told of an image's maps last is what is known of them
+pub told_first : (s : SiteId) (image : ℕ) (m : MapsKnown) (maps : List ImageMaps) → maps_of (maps_told s image m maps) s image ≡ m
+told_first s image m maps = ap (λ b. cond b m (maps_of maps s image)) (at_itself s image)
 
 -- it owns nothing more of an image that it left
 pub left_here : (s : SiteId) (image : ℕ) (owns : List Own) → own_of (left s image owns) s image ≡ None

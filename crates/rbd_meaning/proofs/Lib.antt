@@ -1,4 +1,5 @@
 pub mod Allowed
+pub mod ChangeEnds
 pub mod Counts
 pub mod Ends
 pub mod Meant

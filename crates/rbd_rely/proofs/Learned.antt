@@ -23,7 +23,7 @@ use Rattle.rbd_machine.specs.Knowledge.{Knowledge, Own, Place, afresh, first_tol
 use Rattle.rbd_machine.specs.Permits.{Permits, PermitsOnHeader, OwnsBy, OwnsAlone, MayMake, MaySize, MayTake, MayRemove}
 use Rattle.rbd_kinds.specs.Header.{snap_named}
 use Rattle.rbd_header.specs.Header.{with_size, with_snap, without_snap, snap_in, is_full}
-use Rattle.rbd_machine.proofs.Lawful.{at_itself, left_here}
+use Rattle.rbd_machine.proofs.Lawful.{at_itself, left_here, told_first}
 use Rattle.rbd_registry.specs.Directory.{added, id_of}
 use Rattle.rbd_registry.specs.Directory as listing
 use Rattle.rbd_flat.specs.Flat.{Flat}
@@ -47,7 +47,7 @@ use Rattle.rbd_rely.proofs.Headers.{own_known, owned_there, not_waiting, unknown
 use Rattle.rbd_rely.proofs.Kept.{kept_by}
 use Rattle.rbd_rely.proofs.Less.{afresh_less, left_there, less_true, nothing_of, unfenced_less}
 use Rattle.rbd_rely.proofs.MapsBehind.{nothing_mapped}
-use Rattle.rbd_rely.proofs.MapsLearned.{at_no_other, map_taught, told_of_it, told_of_others}
+use Rattle.rbd_rely.proofs.MapsLearned.{at_no_other, map_taught, told_of_others}
 use Rattle.rbd_rely.proofs.ObjectsLearned.{object_taught}
 use Rattle.rbd_rely.proofs.Told.{header_changed, told_alone, told_apart, told_here}
 
@@ -246,7 +246,7 @@ module _ (site : SiteId) (r : Records) (me : Instance) (k : Knowledge) (t : IsTr
       first : (o : Own) → o.header ≡ None → (v : HeaderView) → first_told h o.header ≡ Some v → IsTold site r (afresh site image k) image o.alone v
       first o unknown v told =
           let same : h ≡ v = same_Some h v (sym (ap (first_told h) unknown) ∙ told) in
-          let unmapped_now : maps_of (afresh site image k).maps site image ≡ unmapped = told_of_it site image unmapped (unmarked k.maps) in
+          let unmapped_now : maps_of (afresh site image k).maps site image ≡ unmapped = told_first site image unmapped (unmarked k.maps) in
           record {
             still = subst (λ q. IsStill (Some q) (r.headers image)) same (subst (IsStill (Some h)) (sym is) refl);
             mapped = subst (AreMapsTrue o.alone (r.maps image)) (sym unmapped_now) (nothing_mapped o.alone (r.maps image));
@@ -432,7 +432,7 @@ module _ (site : SiteId) (r : Records) (me : Instance) (k : Knowledge) (t : IsTr
         objects = λ f v known. absurd (unknown v known);
         gone = λ g. record { drawn = drawn; header = put_there r.headers image (header_after me (r.headers image) header.Remove) ∙ ap (λ q. header_after me q header.Remove) is };
         apart = λ g. unlisted (is_drawn k.drawn site image) refl;
-        counted = λ without. subst (λ m. IsCountTrue m.count (r.maps image None)) (sym (told_of_it site image only_there k.maps)) (at_least (r.maps image None) has_map);
+        counted = λ without. subst (λ m. IsCountTrue m.count (r.maps image None)) (sym (told_first site image only_there k.maps)) (at_least (r.maps image None) has_map);
       }
         where
           unlisted : (b : Bool) → is_drawn k.drawn site image ≡ b → b ≡ false

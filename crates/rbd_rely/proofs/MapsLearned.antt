@@ -16,7 +16,7 @@ use Rattle.rbd_kinds.specs.declared.operation.Op.TheVariants as op
 use Rattle.rbd_machine.specs.Knowledge.{ImageMaps, Knowledge, MapsKnown, is_at, is_drawn, is_fenced_by, learned_of_map, maps_of, maps_told, marked, objects_of, states_set, unmapped}
 use Rattle.rbd_machine.specs.Permits.{HasRoomFor, PermitsOnMap, OwnsBy, OwnsAlone, MayPut, MaySet}
 use Rattle.rbd_object.specs.Mapped.{Mapped}
-use Rattle.rbd_machine.proofs.Lawful.{at_itself}
+use Rattle.rbd_machine.proofs.Lawful.{told_first}
 use Rattle.rbd_map.specs.States.{bits_of, states_of}
 use Rattle.rbd_site.specs.InForm.{AreInForm}
 use Rattle.rbd_site.specs.MapStep.{lengthened}
@@ -37,9 +37,6 @@ use Rattle.rbd_rely.proofs.States.{IsMarked, IsNew, WasThere, count_kept, length
 pub at_no_other : (site : SiteId) (image other : ℕ) → other ≢ image → is_at site other site image ≡ false
 at_no_other sites.A image other differ = ne_eqb image other (λ same. differ (sym same))
 at_no_other sites.B image other differ = ne_eqb image other (λ same. differ (sym same))
-
-pub told_of_it : (site : SiteId) (image : ℕ) (m : MapsKnown) (maps : List ImageMaps) → maps_of (maps_told site image m maps) site image ≡ m
-told_of_it site image m maps = ap (λ b. cond b m (maps_of maps site image)) (at_itself site image)
 
 pub told_of_others : (site : SiteId) (image : ℕ) (m : MapsKnown) (maps : List ImageMaps) (other : ℕ) → other ≢ image → maps_of (maps_told site image m maps) site other ≡ maps_of maps site other
 told_of_others site image m maps other differ = ap (λ b. cond b m (maps_of maps site other)) (at_no_other site image other differ)
@@ -63,7 +60,7 @@ maps_are_true site r new me k image m t was fences headers objects drawn others 
     learnt = record k { maps = maps_told site image m k.maps }
 
     told : maps_of learnt.maps site image ≡ m
-    told = told_of_it site image m k.maps
+    told = told_first site image m k.maps
 
     it : IsTrueOfImage site new me learnt image
     it = record {

@@ -30,7 +30,7 @@ use Rattle.rbd_meaning.specs.Count.{object_count}
 use Rattle.rbd_resize.specs.Resize.{set_size, size_change}
 use Rattle.rbd_resize.specs.Rollback.{restore_all, restore_pieces, roll_back, roll_back_listed, roll_back_to, rollback}
 use Rattle.rbd_resize.specs.Told.{HasFewToCut, HasFewToRestore, HoldsOfTold}
-use Rattle.rbd_resize.proofs.Ended.{IsEarly, change_ends}
+use Rattle.rbd_meaning.proofs.ChangeEnds.{IsEarly, change_ends}
 
 -- ---- a size
 

@@ -1,7 +1,6 @@
 pub mod Bounded
 pub mod Built
 pub mod Closed
-pub mod Ended
 pub mod Hopes
 pub mod Lawful
 pub mod Means

@@ -27,7 +27,7 @@ use Rattle.rbd_meaning.specs.Count.{object_count}
 use Rattle.rbd_resize.specs.Resize.{set_size, size_change}
 use Rattle.rbd_resize.specs.Rollback.{roll_back_listed, roll_back_to, rollback}
 use Rattle.rbd_resize.proofs.Built.{built_resize, built_roll_back}
-use Rattle.rbd_resize.proofs.Ended.{IsEarly, change_ends}
+use Rattle.rbd_meaning.proofs.ChangeEnds.{IsEarly, change_ends, refused_early}
 use Rattle.rbd_resize.proofs.Hopes.{Hopes, IsCutOff, IsHopeful, cut_off, hopes_rules}
 use Rattle.rbd_resize.proofs.Owned.{resize_is_own, rollback_is_own}
 use Rattle.rbd_resize.proofs.Refusing.{IsDone, IsDoneOrFenced, IsOutside, Refusing, outside, refusing_rules}
@@ -46,20 +46,9 @@ module _ (site : SiteId) (name : List ℕ) (refuses : HeaderView → Option Refu
   -- on its way
   early_so : (steps : List Answered) (x : Refusal) → AreGiven steps → IsEarly refuses steps (reply.Refused x) → IsRefusedSo steps x
   early_so steps x given e = record {
-    by = record {
-      before = e.before;
-      last = e.last;
-      are = e.are;
-      refused = e.refused (last_given e.before (subst AreGiven e.are given)).0 ∙ ap Some (same_refusal x e.why e.is);
-      allowed = e.allowed;
-      unchanged = λ late. e.looks;
-    };
+    by = refused_early refuses by_fence steps x given e;
     so_far = inl e.looks;
   }
-    where
-      last_given : (before : List Answered) → AreGiven (before ++ e.last ∷ []) → AreGiven (e.last ∷ [])
-      last_given [] given = given
-      last_given (s ∷ before) given = last_given before given.1
 
   module _ (image : ℕ) (first own : HeaderView) (may_wait : refuses first ≡ None) (may : refuses own ≡ None) where
     abbrev looks : List Answered → List Answered

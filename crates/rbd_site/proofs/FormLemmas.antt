@@ -13,7 +13,8 @@ use Rattle.rbd_kinds.specs.declared.id.Instance.{Instance}
 use Rattle.rbd_kinds.specs.declared.layout.Layout.{Layout}
 use Rattle.rbd_kinds.specs.Header.{snap_named}
 use Rattle.rbd_kinds.specs.Form.{HasFewObjects, IsOverlapWithin, IsSnapInForm, IsHeaderInForm}
-use Rattle.rbd_header.specs.Header.{cut, is_full, snap_in, snap_taken, marked, with_size, with_snap, with_status, without_snap}
+use Rattle.rbd_header.specs.Header.{is_full, snap_in, snap_taken, marked, with_size, with_snap, with_status, without_snap}
+use Rattle.rbd_header.proofs.Changed.{cut_within}
 use Rattle.rbd_site.specs.HeaderStep.{MayDoOnHeader, header_then, header_after, is_owner, where_made}
 use Rattle.rbd_kinds.specs.declared.operation.Op.{Op}
 use Rattle.rbd_kinds.specs.declared.operation.Op.TheVariants as on
@@ -28,10 +29,6 @@ use Rattle.std.specs.List.{IsDistinct}
 use Rattle.rbd_site.proofs.MapLemmas.{map_form_after, put_map_each}
 use Rattle.rbd_site.proofs.WatchLemmas.{distinct_after, distinct_none, distinct_without, for_each, unwatched_after, watched_at}
 use Rattle.rbd_site.proofs.SnapLists.{each_appended, each_mapped, each_filtered, fewer, risen_appended, risen_filtered, risen_marked}
-
-cut_within : (size : ℕ) (parent : Option ParentLink) → IsOverlapWithin size (cut size parent)
-cut_within size None = tt
-cut_within size (Some p) = omega arith
 
 sized : (size : ℕ) (h : HeaderView) → HasFewObjects h.layout size → IsHeaderInForm h → IsHeaderInForm (with_size size h)
 sized size h few form = record {

@@ -11,6 +11,7 @@ use Rattle.rbd_kinds.specs.Form.{IsOverlapWithin}
 use Rattle.rbd_kinds.specs.Striping.{object_of, offset_of, byte_at}
 use Rattle.rbd_layout.proofs.Places.{first_below}
 use Rattle.rbd_header.specs.Header.{cut, with_size, with_status, with_role, detached}
+use Rattle.rbd_header.proofs.Changed.{cut_within}
 use Rattle.rbd_object.specs.Mapped.{Mapped}
 use Rattle.rbd_flat.specs.Flat.{FlatImage, resized}
 use Rattle.rbd_flat.specs.Flat as flat
@@ -53,10 +54,6 @@ cut_parent : (below : Snapshots) (linked : Links) (parent : Option ParentLink) (
 cut_parent below linked None size has = tt
 cut_parent below linked (Some link) size has = record { snap = has.snap; is = has.is; long = (let l = has.long in omega arith); kept = has.kept; child = has.child }
 
-cut_within : (parent : Option ParentLink) (size : ℕ) → IsOverlapWithin size (cut size parent)
-cut_within None size = tt
-cut_within (Some link) size = omega arith
-
 cut_inside : (parent : Option ParentLink) (size x : ℕ) → IsInOverlap (cut size parent) x → IsInOverlap parent x
 cut_inside None size x inside = inside
 cut_inside (Some link) size x inside = omega arith
@@ -96,7 +93,7 @@ module _ (below : Snapshots) (linked : Links) (h : HeaderView) (objects : ℕ �
     long = record { head = length-map-range_with_len (λ y. get_or i.bytes y 0) 0 size; snap = stands.long.snap };
     bytes = record { head = λ x within. resized_shown size x within; snap = stands.bytes.snap };
     parents = record { head = cut_parent below linked h.parent size stands.parents.head; snap = stands.parents.snap };
-    within = record { head = cut_within h.parent size; snap = stands.within.snap };
+    within = record { head = cut_within size h.parent; snap = stands.within.snap };
     untouched = λ n inside absent. stands.untouched n (cut_inside h.parent size (byte_at h.layout n 0) inside) absent;
     alike = record {
       head = λ x inside absent. refl;

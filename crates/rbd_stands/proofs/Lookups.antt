@@ -5,6 +5,7 @@ use Rattle.std.proofs.lemmas.Option.{none-some, same_Some}
 use Rattle.rbd_kinds.specs.declared.header.SnapView.{SnapView}
 use Rattle.rbd_kinds.specs.declared.header.SnapStatus.{SnapStatus}
 use Rattle.rbd_header.specs.Header.{snap_in, marked}
+use Rattle.rbd_header.proofs.Changed.{marked_id}
 use Rattle.rbd_flat.specs.Flat.{FlatSnap}
 use Rattle.rbd_flat.specs.Flat as flat
 use Rattle.rbd_stands.specs.View.{shape_of_snap}
@@ -157,12 +158,6 @@ skipped_first true false x o e none = absurd (true≢false e)
 skipped_first false true x o e none = none
 skipped_first false false x o e none = none
 
-pub header_gone : (snaps : List SnapView) (snap : ℕ) → snap_in (filter (λ s. not (eqb s.id snap)) snaps) snap ≡ None
-header_gone [] snap = refl
-header_gone (s ∷ snaps) snap =
-    push_in (λ xs. snap_in xs snap) (not (eqb s.id snap)) s (filter (λ u. not (eqb u.id snap)) snaps)
-    ∙ skipped_first (eqb s.id snap) (eqb s.id snap) s _ refl (header_gone snaps snap)
-
 -- ---- one marked with a status
 
 map_map : {X Y : Type 0} (g : X → Y) (p : X → X) (q : Y → Y) → ((x : X) → g (p x) ≡ q (g x)) → (xs : List X) → map g (map p xs) ≡ map q (map g xs)
@@ -190,9 +185,6 @@ either false x = refl
 
 pub marked_shape : (t : ℕ) (status : SnapStatus) (s : SnapView) → shape_of_snap (marked t status s) ≡ shape_of_snap s
 marked_shape t status s = apart shape_of_snap (eqb s.id t) (record s { status = status }) s ∙ either (eqb s.id t) (shape_of_snap s)
-
-marked_id : (t : ℕ) (status : SnapStatus) (s : SnapView) → (marked t status s).id ≡ s.id
-marked_id t status s = apart (λ (u : SnapView). u.id) (eqb s.id t) (record s { status = status }) s ∙ either (eqb s.id t) s.id
 
 flat_marked_id : (t : ℕ) (status : SnapStatus) (s : FlatSnap) → (flat.with_status t status s).id ≡ s.id
 flat_marked_id t status s = apart (λ (u : FlatSnap). u.id) (eqb s.id t) (record s { status = status }) s ∙ either (eqb s.id t) s.id

@@ -6,8 +6,9 @@ use Rattle.rbd_kinds.specs.declared.header.HeaderView.{HeaderView}
 use Rattle.rbd_kinds.specs.declared.header.SnapStatus.{SnapStatus}
 use Rattle.rbd_kinds.specs.declared.header.SnapView.{SnapView}
 use Rattle.rbd_header.specs.Header.{snap_in, with_snap, snap_taken, without_snap, with_status, marked}
+use Rattle.rbd_header.proofs.Changed.{removed_is_unlisted}
 use Rattle.rbd_stands.specs.View.{Shape, EachView, shape_of_head, shape_of_snap}
-use Rattle.rbd_stands.proofs.Lookups.{a_value, older_or_last, header_left, header_gone, header_marked, marked_shape}
+use Rattle.rbd_stands.proofs.Lookups.{a_value, older_or_last, header_left, header_marked, marked_shape}
 
 -- a snapshot is added
 pub each_added : {P Q : Option ℕ → Shape → Type 0} (name : List ℕ) (h : HeaderView)
@@ -35,7 +36,7 @@ each_removed {P} {Q} snap h head old all = record {
 }
   where
     go : (t : ℕ) (s : SnapView) → snap_in (filter (λ u. not (eqb u.id snap)) h.snaps) t ≡ Some s → (t ≡ snap) ⊎ (t ≢ snap) → Q (Some t) (shape_of_snap s)
-    go t s is (inl same) = absurd (none-some s (sym (header_gone h.snaps snap) ∙ ap (snap_in (filter (λ (u : SnapView). not (eqb u.id snap)) h.snaps)) (sym same) ∙ is))
+    go t s is (inl same) = absurd (none-some s (sym (removed_is_unlisted h.snaps snap) ∙ ap (snap_in (filter (λ (u : SnapView). not (eqb u.id snap)) h.snaps)) (sym same) ∙ is))
     go t s is (inr other) =
         let was : snap_in h.snaps t ≡ Some s = sym (header_left h.snaps snap t other) ∙ is in
         old t s was other (all.snap t s was)

@@ -1,14 +1,13 @@
 -- Where a new size stands, and the pieces that it zeros.
-use Rattle.std.proofs.Common.{◌≡◌, ℕ, zero, suc, ◌+◌, ◌≤◌, ◌<◌, true, false, cond, List, [], ◌∷◌, ◌++◌, All, length, get_or, Option, Some, None, refl, ap, ◌∙◌, sym, subst, arith}
+use Rattle.std.proofs.Common.{◌≡◌, ℕ, suc, ◌+◌, ◌≤◌, ◌<◌, true, false, cond, List, [], ◌∷◌, ◌++◌, All, length, get_or, Option, Some, None, refl, ap, ◌∙◌, sym, subst, arith}
 use Rattle.std.specs.Prelude.{filter}
 use Rattle.std.proofs.lemmas.Bool.{le-leb, lt-leb}
 use Rattle.rbd_kinds.specs.declared.header.HeaderView.{HeaderView}
 use Rattle.rbd_kinds.specs.declared.id.SiteId.{SiteId}
 use Rattle.rbd_kinds.specs.declared.layout.Extent.{Extent}
-use Rattle.rbd_kinds.specs.declared.layout.Layout.{Layout}
 use Rattle.rbd_kinds.specs.declared.layout.Part.{Part}
 use Rattle.rbd_kinds.specs.declared.machine.Fed.TheVariants as fed
-use Rattle.rbd_kinds.specs.Striping.{IsLayout, IsObjectCount, byte_at, object_of}
+use Rattle.rbd_kinds.specs.Striping.{IsLayout, byte_at, object_of}
 use Rattle.rbd_layout.specs.declared.types.Piece.{Piece}
 use Rattle.rbd_layout.specs.Pieces.{IsPart, IsPieces}
 use Rattle.rbd_layout.proofs.Places.{first_below}
@@ -110,19 +109,6 @@ notes_nothing (stage.Zeroing piece to) z next = zero_notes_nothing piece.stage p
 notes_nothing (stage.Sizing to) z next = refl
 
 -- ---- objects of a size
-
-count_at_most : (l : Layout) (size one other : ℕ) → IsObjectCount l size one → IsObjectCount l size other → one ≤ other
-count_at_most l zero one other first second = let none : one ≡ 0 = first.none refl in omega arith
-count_at_most l (suc size) one other first second =
-    let (x, below, is) = first.greatest (omega arith) in
-    let more : object_of l x < other = second.each x below in
-    omega (arith, is)
-
-pub counted_once : (l : Layout) (size one other : ℕ) → IsObjectCount l size one → IsObjectCount l size other → one ≡ other
-counted_once l size one other first second =
-    let most : one ≤ other = count_at_most l size one other first second in
-    let least : other ≤ one = count_at_most l size other one second first in
-    omega arith
 
 -- ---- pieces that are made
 

@@ -1,5 +1,5 @@
 -- How a change ends: on its way, or by what it does at its own look.
-use Rattle.std.proofs.Common.{◌≡◌, ◌⊎◌, inl, inr, ℕ, ◌≤◌, List, [], ◌∷◌, ◌++◌, length, Option, Some, None, refl, ap, ◌∙◌, arith}
+use Rattle.std.proofs.Common.{◌≡◌, ◌⊎◌, inl, inr, ℕ, ◌≤◌, List, [], ◌∷◌, ◌++◌, length, Option, Some, None, refl, ap, ◌∙◌, subst, arith}
 use Rattle.rbd_kinds.specs.declared.sharing.Sharing.{Sharing}
 use Rattle.rbd_kinds.specs.declared.answer.Answer.{Answer}
 use Rattle.rbd_kinds.specs.declared.answer.Answer.TheVariants as answer
@@ -16,7 +16,8 @@ use Rattle.rbd_kinds.specs.declared.reply.Reply.TheVariants as reply
 use Rattle.rbd_machine.specs.About.{look_up}
 use Rattle.rbd_machine.specs.Path.{Answered, IsWalk, found, looked_at}
 use Rattle.rbd_machine.specs.Plan.{Plan, Return, Goto}
-use Rattle.rbd_machine.specs.Refused.{AreAllowed, AreLooks, IsGiven, refusal_by}
+use Rattle.rbd_machine.specs.Refused.{AreAllowed, AreGiven, AreLooks, IsGiven, IsRefusedBy, refusal_by}
+use Rattle.rbd_kinds.proofs.Results.{same_refusal}
 use Rattle.rbd_machine.specs.Steps.{on_id, on_header, unless, change, joining, looking, looked, holding, owning, owned}
 use Rattle.rbd_machine.specs.Wait as wait
 use Rattle.rbd_machine.specs.declared.reason.Reason.TheVariants as reason
@@ -33,6 +34,22 @@ pub record IsEarly (refuses : HeaderView → Option Refusal) (steps : List Answe
   pub allowed : AreAllowed refuses before
   pub refused : IsGiven last.op last.answer → refusal_by refuses last.op last.answer ≡ Some why
   pub few : length before ≤ 2
+
+last_given : (before : List Answered) (last : Answered) → AreGiven (before ++ last ∷ []) → IsGiven last.op last.answer
+last_given [] last given = given.0
+last_given (s ∷ before) last given = last_given before last given.1
+
+-- so its refusal is that of its last operation, whatever may be refused late
+abbrev pub refused_early : (refuses : HeaderView → Option Refusal) (late : Refusal → Type 0) (steps : List Answered) (x : Refusal) → AreGiven steps → IsEarly refuses steps (reply.Refused x)
+    → IsRefusedBy refuses late steps x
+refused_early refuses late steps x given e = record {
+  before = e.before;
+  last = e.last;
+  are = e.are;
+  refused = e.refused (last_given e.before e.last (subst AreGiven e.are given)) ∙ ap Some (same_refusal x e.why e.is);
+  allowed = e.allowed;
+  unchanged = λ not_late. e.looks;
+}
 
 module _ (r : Reply) (site : SiteId) (name : List ℕ) (sharing : Sharing) (refuses : HeaderView → Option Refusal) (act : ℕ → HeaderView → Plan) (steps : List Answered) where
   abbrev Left : Type 0
