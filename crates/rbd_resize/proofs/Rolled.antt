@@ -1,26 +1,21 @@
 -- The header and the snapshot by which a rollback is made at its own look.
-use Rattle.std.proofs.Common.{◌≡◌, ℕ, ◌≤◌, min, suc, true, false, Bool, cond, List, [], ◌∷◌, Option, Some, None, sym, ap, ◌∙◌, arith}
+use Rattle.std.proofs.Common.{◌≡◌, ℕ, suc, true, false, Bool, cond, List, [], ◌∷◌, Some, sym, ap, ◌∙◌}
 use Rattle.std.specs.Prelude.{nat_eq, slice_get}
 use Rattle.std.specs.Cmp.Lexicographic.{pointwise}
 use Rattle.rbd_kinds.specs.declared.header.HeaderView.{HeaderView}
-use Rattle.rbd_kinds.specs.declared.header.ParentLink.{ParentLink}
 use Rattle.rbd_kinds.specs.declared.header.SnapView.{SnapView}
 use Rattle.rbd_kinds.specs.declared.id.SiteId.{SiteId}
 use Rattle.rbd_kinds.specs.declared.journal.Event.TheVariants as event
 use Rattle.rbd_kinds.specs.declared.layout.Layout.{Layout}
-use Rattle.rbd_kinds.specs.Form.{HasFewObjects, IsHeaderInForm, IsOverlapWithin, IsSnapInForm}
+use Rattle.rbd_kinds.specs.Form.{HasFewObjects, IsHeaderInForm, IsSnapInForm}
 use Rattle.rbd_kinds.specs.Header.{snap_named}
-use Rattle.rbd_header.specs.Header.{cut}
+use Rattle.rbd_header.proofs.Changed.{cut_within}
 use Rattle.rbd_machine.specs.Plan.{Plan, Note}
 use Rattle.rbd_machine.specs.Steps.{applied}
 use Rattle.rbd_meaning.specs.Rollbacks.{at_size}
 use Rattle.rbd_resize.specs.Rollback.{roll_back, roll_back_listed, roll_back_to}
 
 -- ---- headers in form
-
-cut_within : (size : ℕ) (parent : Option ParentLink) → IsOverlapWithin size (cut size parent)
-cut_within size None = tt
-cut_within size (Some link) = let less : min link.overlap size ≤ size = omega arith in less
 
 -- a head at the size of a snapshot
 pub sized_in_form : (h : HeaderView) (size : ℕ) → IsHeaderInForm h → HasFewObjects h.layout size → IsHeaderInForm (at_size size h)
