@@ -35,7 +35,7 @@ pub record IsEarly (refuses : HeaderView → Option Refusal) (steps : List Answe
   pub refused : IsGiven last.op last.answer → refusal_by refuses last.op last.answer ≡ Some why
   pub few : length before ≤ 2
 
-last_given : (before : List Answered) (last : Answered) → AreGiven (before ++ last ∷ []) → IsGiven last.op last.answer
+pub last_given : (before : List Answered) (last : Answered) → AreGiven (before ++ last ∷ []) → IsGiven last.op last.answer
 last_given [] last given = given.0
 last_given (s ∷ before) last given = last_given before last given.1
 
