@@ -12,7 +12,7 @@ use Rattle.rbd_layout.specs.Pieces.{IsHeld, part_at, parts_at, with_place}
 use Rattle.rbd_layout.proofs.Cover.{cover, range_append, map-range}
 use Rattle.rbd_layout.proofs.Limits.{Shape, shape_of}
 use Rattle.rbd_layout.proofs.Mixed.{cases_lt}
-use Rattle.rbd_layout.proofs.Walk.{next_row, same_row, whole_object}
+use Rattle.rbd_layout.proofs.Walk.{next_row, same_row, whole_object as linear}
 use Rattle.rbd_stands.specs.Condition.{extents_of}
 use Rattle.rbd_stands.specs.Effect.{joined, places_below, whole_object}
 use Rattle.rbd_effect.specs.Kept.{IsHeldBelow, extents_between, kept_len, run_from}
@@ -66,8 +66,8 @@ one_extent l at (suc len) ys some apart = ap extents_of (one_part l at len ys ap
 
 along_all : (l : Layout) → l.count ≡ 1 → (n o k : ℕ) → byte_at l n (o + k) ≡ byte_at l n o + k
 along_all l one n o k =
-    let a : byte_at l n (o + k) ≡ n * units_per_object l * l.unit + (o + k) = whole_object l one n (o + k) in
-    let b : byte_at l n o ≡ n * units_per_object l * l.unit + o = whole_object l one n o in
+    let a : byte_at l n (o + k) ≡ n * units_per_object l * l.unit + (o + k) = linear l one n (o + k) in
+    let b : byte_at l n o ≡ n * units_per_object l * l.unit + o = linear l one n o in
     omega arith
 
 along_unit : (l : Layout) (n o k : ℕ) → o % l.unit + k < l.unit → byte_at l n (o + k) ≡ byte_at l n o + k
