@@ -1,4 +1,4 @@
-//! What the tests of machines, sessions and clients share. Only crates of tests stand on it. Each
+//! What the tests of machines, sessions and clients share. Only crates of tests depend on it. Each
 //! of them is then tables of rows alone, and what reads the rows is proved once, here.
 //!
 //! | module | what it has |
