@@ -1,6 +1,8 @@
 mod asked;
 mod closing;
 mod counting;
+mod drive;
+mod log;
 mod order;
 mod quiescing;
 mod releasing;

@@ -1,10 +1,11 @@
 //! Operations by their words.
-use rbd_fixtures::OWNER;
+use super::drive::OWNER;
+use super::rows::number;
 use rbd_kinds::{DataOp, HeaderOp, ImageId, MapOp, NoticeKind, Op};
 
 /// The image of a number.
 pub fn image(word: &str) -> ImageId {
-    ImageId(word.parse::<u32>().unwrap_or(0))
+    ImageId(u32::from(number(word)))
 }
 
 /// Whether a notice that is posted has this word.
