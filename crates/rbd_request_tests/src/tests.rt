@@ -1,6 +1,8 @@
 mod admin;
-mod commands;
+mod drive;
+mod header;
 mod machine;
+mod order;
 mod piece;
 mod read;
 mod snaps;

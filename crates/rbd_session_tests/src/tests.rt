@@ -1,4 +1,7 @@
 mod drive;
 mod lines;
 mod looks;
+mod rows;
 mod slots;
+mod told;
+mod work;

@@ -1,1 +1,3 @@
+mod drive;
 mod tables;
+mod words;
