@@ -4,7 +4,7 @@ use Rattle.std.specs.Prelude.{◌==◌, ◌&&◌, not, nat_lt}
 use Rattle.std.specs.List.{filter, range_with_len}
 use Rattle.std.proofs.lemmas.Bool.{cases_lt, le-ltb, lt-ltb}
 use Rattle.rbd_kinds.specs.States.{state_at, weight}
-use Rattle.rbd_layout.proofs.Cover.{range_append}
+use Rattle.rbd_kinds.proofs.Plain.{range_append}
 use Rattle.rbd_meaning.specs.Listings.{used_among}
 use Rattle.rbd_admin.specs.Used.{one_used}
 

@@ -23,6 +23,7 @@ use Rattle.rbd_kinds.specs.Form.{RiseFrom, AreRising, IsHeaderInForm, IsNewHeade
 use Rattle.rbd_kinds.specs.Header.{snap_named}
 use Rattle.rbd_kinds.specs.States.{HoldStates}
 use Rattle.rbd_kinds.specs.Striping.{IsObjectCount}
+use Rattle.rbd_kinds.proofs.Images.{at_itself}
 use Rattle.rbd_header.specs.Header.{new_header, snap_in, without_snap}
 use Rattle.rbd_header.proofs.Changed.{removed_is_unlisted}
 use Rattle.rbd_layout.specs.Asked.{layout_of, KeepsLimits}
@@ -31,7 +32,7 @@ use Rattle.rbd_machine.specs.Label.{Label}
 use Rattle.rbd_machine.specs.Lawful.{CanTell, IsLawful, IsLawfulRequest}
 use Rattle.rbd_machine.specs.Plan.{Plan, Return, without_labels}
 use Rattle.rbd_machine.specs.Steps.{applied, non_primary, on_bits}
-use Rattle.rbd_machine.proofs.Lawful.{at_itself, or_else_none, own_at, owning_known, own_is_found, lawful_not_there, lawful_on_id, lawful_on_header, lawful_on_done, lawful_change, told_first}
+use Rattle.rbd_machine.proofs.Lawful.{or_else_none, own_at, owning_known, own_is_found, lawful_not_there, lawful_on_id, lawful_on_header, lawful_on_done, lawful_change, told_first}
 use Rattle.rbd_meaning.specs.Count.{object_count}
 use Rattle.rbd_meaning.specs.Listings.{shown_snaps, used_among}
 use Rattle.rbd_meaning.specs.Snaps.{removal_refusal, create_refuses, remove_refuses, IsGone}

@@ -2,6 +2,7 @@
 use Rattle.std.proofs.Common.{◌≡◌, ℕ, ◌<◌, ◌==◌, ◌&&◌, not, cond, Bool, true, false, List, [], ◌∷◌, length, Option, Some, None, Result, Ok, Err, OnOk, refl, sym, ap, ◌∙◌, subst}
 use Rattle.std.specs.List.{find}
 use Rattle.std.specs.Option.{option_map}
+use Rattle.std.proofs.lemmas.Option.{none-some, same_Some}
 use Rattle.rbd_client.specs.declared.actor.Actor.{Actor}
 use Rattle.rbd_client.specs.declared.actor.Actor.TheVariants as actor
 use Rattle.rbd_client.specs.declared.slot_state.Way.{Way}
@@ -28,7 +29,6 @@ use Rattle.rbd_session.specs.Session.{SessionView, IsAlike, IsAlikeIn, IsReadied
 use Rattle.rbd_session.specs.Track.{Lines}
 use Rattle.rbd_session.specs.Waits.{waits, waits_at}
 use Rattle.rbd_session.proofs.Readied.{same_track}
-use Rattle.rbd_session.proofs.Sound.{no_some, some_same}
 
 look_by : (slot : ℕ) (wanted : Option (SiteId × OpKind)) (place : Option ImageAt) (old new : LinesView) → lines_of new ≡ lines_of old → own_look_of slot wanted place new ≡ own_look_of slot wanted place old
 look_by slot wanted None old new lines = refl
@@ -52,17 +52,17 @@ module _ {R : Type 0} (stands : R → Standing) where
     where
       go : (o n : Option (Occupant R)) → held_in slot old.slots ≡ o → held_in slot new.slots ≡ n → IsAlikeIn stands o n → running_in o ≡ Some r → RunsAlike slot r new
       go (Some (occupant.Running p)) (Some (occupant.Running q)) was is same at =
-          record { request = q; runs = ap running_in is; same = subst (λ x. IsSameStand stands x q) (some_same p r at) same }
-      go (Some (occupant.Running p)) (Some (occupant.Refused line x)) was is same at = absurd (no_some p (ap running_in same))
-      go (Some (occupant.Running p)) None was is same at = absurd (no_some p (ap running_in same))
-      go (Some (occupant.Refused line x)) n was is same at = absurd (no_some r at)
-      go None n was is same at = absurd (no_some r at)
+          record { request = q; runs = ap running_in is; same = subst (λ x. IsSameStand stands x q) (same_Some p r at) same }
+      go (Some (occupant.Running p)) (Some (occupant.Refused line x)) was is same at = absurd (none-some p (ap running_in same))
+      go (Some (occupant.Running p)) None was is same at = absurd (none-some p (ap running_in same))
+      go (Some (occupant.Refused line x)) n was is same at = absurd (none-some r at)
+      go None n was is same at = absurd (none-some r at)
 
   pub free_alike : (slot : ℕ) (old new : SessionView R) → IsAlike stands old new → held_in slot new.slots ≡ None → held_in slot old.slots ≡ None
   free_alike slot old new alike none = go (held_in slot old.slots) (held_in slot new.slots) (alike.slots slot) none
     where
       go : (o n : Option (Occupant R)) → IsAlikeIn stands o n → n ≡ None → o ≡ None
-      go (Some (occupant.Running p)) (Some (occupant.Running q)) same at = absurd (no_some (occupant.Running q) (sym at))
+      go (Some (occupant.Running p)) (Some (occupant.Running q)) same at = absurd (none-some (occupant.Running q) (sym at))
       go (Some (occupant.Running p)) (Some (occupant.Refused line x)) same at = sym same ∙ at
       go (Some (occupant.Running p)) None same at = sym same ∙ at
       go (Some (occupant.Refused line x)) n same at = sym same ∙ at
@@ -90,12 +90,12 @@ module _ {R : Type 0} (stands : R → Standing) where
       none_of : (o : Option (Occupant R)) → running_in o ≡ None → (lines : LinesView) → own_look_in stands slot lines (going_in slot o lines) ≡ None
       none_of None is lines = refl
       none_of (Some (occupant.Refused line x)) is lines = refl
-      none_of (Some (occupant.Running r)) is lines = absurd (no_some r (sym is))
+      none_of (Some (occupant.Running r)) is lines = absurd (none-some r (sym is))
 
       go : (o n : Option (Occupant R)) → IsAlikeIn stands o n → own_look_in stands slot new.lines (going_in slot n new.lines) ≡ own_look_in stands slot old.lines (going_in slot o old.lines)
       go (Some (occupant.Running p)) (Some (occupant.Running q)) same = look_running slot p q old.lines new.lines same alike.lines
-      go (Some (occupant.Running p)) (Some (occupant.Refused line x)) same = absurd (no_some p (ap running_in same))
-      go (Some (occupant.Running p)) None same = absurd (no_some p (ap running_in same))
+      go (Some (occupant.Running p)) (Some (occupant.Refused line x)) same = absurd (none-some p (ap running_in same))
+      go (Some (occupant.Running p)) None same = absurd (none-some p (ap running_in same))
       go (Some (occupant.Refused line x)) n same = none_of n (ap running_in same) new.lines
       go None n same = none_of n (ap running_in same) new.lines
 

@@ -2,6 +2,7 @@
 use Rattle.std.proofs.Common.{◌≡◌, ◌≢◌, ◌⊎◌, inl, inr, ℕ, zero, suc, Bool, true, false, cond, [], length, replicate, Option, Some, None, refl, sym, ap, ◌∙◌, subst}
 use Rattle.std.proofs.lemmas.Bool.{cases_eq}
 use Rattle.std.proofs.lemmas.List.{length-replicate}
+use Rattle.std.proofs.lemmas.Option.{none-some}
 use Rattle.rbd_client.specs.declared.slot_state.SlotState.{SlotState}
 use Rattle.rbd_client.specs.declared.slot_state.Way.TheVariants as way
 use Rattle.rbd_client.specs.Client.{ClientView, blank, state_in}
@@ -22,7 +23,6 @@ use Rattle.rbd_machine.specs.declared.seat.Seat.{Seat}
 use Rattle.rbd_session.specs.Lines.{LinesView, lines_of}
 use Rattle.rbd_session.specs.declared.running.Occupant.{Occupant}
 use Rattle.rbd_session.specs.Session.{SessionView, IsNewcomer, IsSoundSession, going_in, held_in, own_look_in}
-use Rattle.rbd_session.proofs.Sound.{no_some}
 
 all_blank : (n slot : ℕ) → state_in slot (replicate n blank) ≡ blank
 all_blank zero zero = refl
@@ -105,4 +105,4 @@ module _ {R : Type 0} (stands : R → Standing) where
   pub newcomer_held : {W : Type 0} (stands_for : Seat → W → Standing → Type 0) (extent_for : W → Option Extent) (seat : Seat) (line : ℕ) (work : W) (o : Option (Occupant R))
       → IsNewcomer stands stands_for extent_for seat line work o → o ≡ None → ⊥
   newcomer_held stands_for extent_for seat line work None new is = elim new [ ]
-  newcomer_held stands_for extent_for seat line work (Some x) new is = no_some x (sym is)
+  newcomer_held stands_for extent_for seat line work (Some x) new is = none-some x (sym is)

@@ -3,6 +3,7 @@ use Rattle.std.proofs.Common.{◌≡◌, ℕ, ◌==◌, ◌&&◌, ◌||◌, not,
 use Rattle.std.proofs.lemmas.Bool.{and_parts, eqb-true, or_right}
 use Rattle.std.specs.List.{find}
 use Rattle.std.specs.Prelude.{IsTrue, IsFalse}
+use Rattle.std.proofs.lemmas.Option.{none-some, same_Some}
 use Rattle.rbd_client.specs.declared.actor.Actor.{Actor}
 use Rattle.rbd_client.specs.declared.actor.Actor.TheVariants as actor
 use Rattle.rbd_client.specs.declared.slot_state.Way.TheVariants as way
@@ -25,15 +26,14 @@ use Rattle.rbd_kinds.specs.declared.image_at.ImageAt.{ImageAt}
 use Rattle.rbd_locks.specs.declared.lock_state.LockState.{LockState}
 use Rattle.rbd_locks.specs.Locks.{state_at}
 use Rattle.rbd_kinds.specs.Images.{is_at}
+use Rattle.rbd_kinds.proofs.Images.{at_itself}
 use Rattle.rbd_locks.specs.Places.{is_among}
-use Rattle.rbd_locks.proofs.Lasting.{same_itself}
 use Rattle.rbd_machine.specs.Plan.{Standing}
 use Rattle.rbd_owner.specs.Acquire.{begun}
 use Rattle.rbd_owner.specs.declared.release.Release.{Release}
 use Rattle.rbd_session.specs.Lines.{lines_of}
 use Rattle.rbd_session.specs.Session.{held_in, own_look_at, running_in}
 use Rattle.rbd_session.proofs.OwnLooks.{at_own_look}
-use Rattle.rbd_session.proofs.Sound.{no_some, some_same}
 
 module _ {R : Type 0} (stands : R → Standing) where
   -- ---- a lock lasts while somebody relies on it
@@ -48,12 +48,12 @@ module _ {R : Type 0} (stands : R → Standing) where
 
   at_rest_where : (slot : ℕ) (c : ClientView R) (site : SiteId) (o : Op) → IsSoundClient stands c → (who : Actor) → actor_at stands slot c ≡ who → op_by stands slot c.session who ≡ Some (site, o)
       → DropsAtRest who site o c → IsAtRest site o c
-  at_rest_where slot c site o sound actor.Nobody acts is rest = absurd (no_some (site, o) is)
+  at_rest_where slot c site o sound actor.Nobody acts is rest = absurd (none-some (site, o) is)
   at_rest_where slot c site o sound actor.Request acts is rest = rest
   at_rest_where slot c site o sound (actor.Way a) acts is rest =
-      subst (λ (p : SiteId × Op). IsAtRest p.0 p.1 c) (some_same (a.site, op_of a) (site, o) is) (way_rests stands a.site a c)
+      subst (λ (p : SiteId × Op). IsAtRest p.0 p.1 c) (same_Some (a.site, op_of a) (site, o) is) (way_rests stands a.site a c)
   at_rest_where slot c site o sound (actor.Release r) acts is rest =
-      subst (λ (p : SiteId × Op). IsAtRest p.0 p.1 c) (some_same (r.site, release_op r) (site, o) is) (release_rests stands c r sound (released_at_zero stands c slot r acts))
+      subst (λ (p : SiteId × Op). IsAtRest p.0 p.1 c) (same_Some (r.site, release_op r) (site, o) is) (release_rests stands c r sound (released_at_zero stands c slot r acts))
 
   pub counted_by : (slot : ℕ) (site : SiteId) (o : Op) (f : Fed) (result : Option Reply) (c d : ClientView R) (there : SiteId) (image : ℕ) → (who : Actor) → IsFedBy stands slot site o f result c d who
       → ends_by site o f there image ≡ false → IsOwned there image c.locks → IsOwned there image d.locks
@@ -86,7 +86,7 @@ module _ {R : Type 0} (stands : R → Standing) where
 
       none_at_zero : slot ≡ 0 → ⊥
       none_at_zero is =
-          no_some (at_own_look stands c.session slot p at).running
+          none-some (at_own_look stands c.session slot p at).running
           (sym (ap running_in (ap (λ k. held_in k c.session.slots) is ∙ sound.session.zero)) ∙ (at_own_look stands c.session slot p at).runs)
 
       by : (b : Bool) → (slot == 0) ≡ b → kind_by stands slot c.session (cond b (releasing c.release (due_release c)) (actor_on (state_in slot c.slots).way (own_look_at stands slot c.session) c.locks)) ≡ None
@@ -101,13 +101,13 @@ module _ {R : Type 0} (stands : R → Standing) where
     pub rest : is_at_rest r.site r.image c ≡ true
 
   found_among : (f : ImageAt → Bool) (ps : List ImageAt) (p : ImageAt) → find f ps ≡ Some p → is_among p.site p.image ps ≡ true
-  found_among f [] p is = absurd (no_some p is)
+  found_among f [] p is = absurd (none-some p is)
   found_among f (q ∷ ps) p is = go (f q) is (found_among f ps p)
     where
       go : (b : Bool) → cond b (Some q) (find f ps) ≡ Some p → (find f ps ≡ Some p → is_among p.site p.image ps ≡ true) → (is_at p.site p.image q.site q.image || is_among p.site p.image ps) ≡ true
       go true is rest =
           ap (λ b. b || is_among p.site p.image ps)
-          (subst (λ (x : ImageAt). is_at p.site p.image x.site x.image ≡ true) (sym (some_same q p is)) (same_itself p.site p.image))
+          (subst (λ (x : ImageAt). is_at p.site p.image x.site x.image ≡ true) (sym (same_Some q p is)) (at_itself p.site p.image))
       go false is rest = or_right (is_at p.site p.image q.site q.image) (is_among p.site p.image ps) (rest is)
 
   not_true : (b : Bool) → not b ≡ true → b ≡ false

@@ -3,6 +3,7 @@ use Rattle.std.proofs.Common.{◌≡◌, ◌≢◌, ℕ, ◌==◌, ◌||◌, not
 use Rattle.std.proofs.lemmas.Bool.{and_parts}
 use Rattle.std.specs.List.{find}
 use Rattle.std.specs.Option.{is_some}
+use Rattle.std.proofs.lemmas.Option.{none-some, same_Some}
 use Rattle.rbd_client.specs.declared.actor.Actor.{Actor}
 use Rattle.rbd_client.specs.declared.actor.Actor.TheVariants as actor
 use Rattle.rbd_client.specs.declared.slot_state.SlotState.{SlotState}
@@ -23,10 +24,10 @@ use Rattle.rbd_kinds.specs.declared.machine.Fed.TheVariants as fed
 use Rattle.rbd_kinds.specs.declared.reply.Reply.{Reply}
 use Rattle.rbd_line.specs.Line.{member_of}
 use Rattle.rbd_kinds.specs.declared.image_at.ImageAt.{ImageAt}
+use Rattle.rbd_kinds.proofs.Images.{at_itself}
 use Rattle.rbd_locks.specs.declared.lock_state.LockState.{LockState}
 use Rattle.rbd_locks.specs.Comings.{after_all}
 use Rattle.rbd_locks.specs.Locks.{LocksView, state_at}
-use Rattle.rbd_locks.proofs.Lasting.{same_itself}
 use Rattle.rbd_locks.specs.States.{answered}
 use Rattle.rbd_machine.specs.Plan.{Standing}
 use Rattle.rbd_owner.specs.Acquire.{begun, op_at, op_of}
@@ -44,7 +45,6 @@ use Rattle.rbd_session.specs.Track.{ended_by}
 use Rattle.rbd_session.specs.Session.{SessionView, IsSoundSession, held_in, own_look_at, running_at, running_in}
 use Rattle.rbd_session.proofs.OwnLooks.{at_own_look}
 use Rattle.rbd_session.proofs.OwnLooksStay.{stays_behind_end}
-use Rattle.rbd_session.proofs.Sound.{no_some, some_same}
 
 -- ---- what a way comes to is what is kept of its slot
 
@@ -172,7 +172,7 @@ module _ {R : Type 0} (stands : R → Standing) where
           → (after_all (comings_of quiescing.Leaves None a.site (op_at s a.image) (fed.Answer answer.Done)) a.site a.image (state_at a.site a.image old)).owned ≡ true
       taking stage.Watching is = absurd (true≢false (sym (ap is_taking is)))
       taking stage.Taking is =
-          ap (λ b. (cond b (answered header.LockTake answer.Done (state_at a.site a.image old)) (state_at a.site a.image old)).owned) (same_itself a.site a.image)
+          ap (λ b. (cond b (answered header.LockTake answer.Done (state_at a.site a.image old)) (state_at a.site a.image old)).owned) (at_itself a.site a.image)
       taking (stage.Looking owner) is = absurd (true≢false (sym (ap is_taking is)))
       taking stage.Asking is = absurd (true≢false (sym (ap is_taking is)))
       taking (stage.Fencing owner) is = absurd (true≢false (sym (ap is_taking is)))
@@ -200,7 +200,7 @@ module _ {R : Type 0} (stands : R → Standing) where
           → held_in slot new.session.slots ≡ None → state_in slot new.slots ≡ blank
       free (Some r) stays state none = state
       free None stays state none =
-          absurd (no_some waiting.request (
+          absurd (none-some waiting.request (
           sym (ap running_in (ap (λ (s : SessionView R). held_in slot s.slots) (sym (stays refl)) ∙ none)) ∙ waiting.runs))
 
       looks : (r : Option Reply) → (is_some r ≡ false → new.session ≡ old.session)
@@ -228,11 +228,11 @@ module _ {R : Type 0} (stands : R → Standing) where
   -- ---- a release
 
   pub found_may : (f : ImageAt → Bool) (ps : List ImageAt) (p : ImageAt) → find f ps ≡ Some p → f p ≡ true
-  found_may f [] p is = absurd (no_some p is)
+  found_may f [] p is = absurd (none-some p is)
   found_may f (q ∷ ps) p is = go (f q) refl is (found_may f ps p)
     where
       go : (b : Bool) → f q ≡ b → cond b (Some q) (find f ps) ≡ Some p → (find f ps ≡ Some p → f p ≡ true) → f p ≡ true
-      go true may is rest = ap f (sym (some_same q p is)) ∙ may
+      go true may is rest = ap f (sym (same_Some q p is)) ∙ may
       go false may is rest = rest is
 
   -- a release acts at slot 0 alone

@@ -26,9 +26,9 @@ use Rattle.rbd_locks.specs.declared.lock_state.LockState.{LockState}
 use Rattle.rbd_locks.specs.Comings.{after_all}
 use Rattle.rbd_locks.specs.Locks.{LocksView, counted, state_at}
 use Rattle.rbd_kinds.specs.Images.{is_at}
+use Rattle.rbd_kinds.proofs.Images.{at_itself}
 use Rattle.rbd_locks.specs.States.{answered, quieted, resumed}
 use Rattle.rbd_locks.proofs.Keys.{where_same}
-use Rattle.rbd_locks.proofs.Lasting.{same_itself}
 use Rattle.rbd_session.specs.Lines.{lines_of}
 
 -- ---- one image
@@ -104,7 +104,7 @@ taken_at slot [] p is = absurd (true≢false (sym (ap is_taken is)))
     is_taken (way.Taken q) = true
     is_taken w = false
 taken_at zero (s ∷ slots) p is =
-    ap (λ b. b || any_taken p.site p.image slots) (ap (has_taken p.site p.image) is ∙ same_itself p.site p.image)
+    ap (λ b. b || any_taken p.site p.image slots) (ap (has_taken p.site p.image) is ∙ at_itself p.site p.image)
 taken_at (suc slot) (s ∷ slots) p is = or_true (has_taken p.site p.image s.way) (taken_at slot slots p is)
   where
     or_true : (b : Bool) → any_taken p.site p.image slots ≡ true → (b || any_taken p.site p.image slots) ≡ true

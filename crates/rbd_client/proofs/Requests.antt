@@ -1,6 +1,7 @@
 -- What an answer to a request leaves of a client.
 use Rattle.std.proofs.Common.{◌≡◌, ℕ, ◌==◌, ◌&&◌, ◌||◌, cond, Bool, true, false, length, Option, Some, None, refl, sym, ap, ◌∙◌, subst, true≢false}
 use Rattle.std.specs.Option.{is_some, option_map}
+use Rattle.std.proofs.lemmas.Option.{none-some, same_Some}
 use Rattle.rbd_client.specs.declared.actor.Actor.{Actor}
 use Rattle.rbd_client.specs.declared.actor.Actor.TheVariants as actor
 use Rattle.rbd_client.specs.declared.slot_state.SlotState.{SlotState}
@@ -38,7 +39,6 @@ use Rattle.rbd_session.specs.Session.{SessionView, ComesToIn, IsAtOwnLook, IsFed
 use Rattle.rbd_session.specs.Waits.{waits, waits_at}
 use Rattle.rbd_session.proofs.OwnLooks.{at_own_look}
 use Rattle.rbd_session.proofs.OwnLooksStay.{stays_behind_feeding}
-use Rattle.rbd_session.proofs.Sound.{no_some, some_same}
 
 -- ---- who acts
 
@@ -74,8 +74,8 @@ module _ {R : Type 0} (stands : R → Standing) where
   -- two images at whose own look one request waits are one
   one_place : (slot : ℕ) (site : SiteId) (image : ℕ) (p : ImageAt) (s : SessionView R) → WaitsForLook stands slot site image s → IsAtOwnLook slot p s → record { site = site; image = image } ≡ p
   one_place slot site image p s w look =
-      let same : w.request ≡ look.running = some_same w.request look.running (sym w.runs ∙ look.runs) in
-      some_same (record { site = site; image = image }) p (sym w.place ∙ ap (λ (r : Running R). r.place) same ∙ look.place)
+      let same : w.request ≡ look.running = same_Some w.request look.running (sym w.runs ∙ look.runs) in
+      same_Some (record { site = site; image = image }) p (sym w.place ∙ ap (λ (r : Running R). r.place) same ∙ look.place)
 
   -- A request at its own look acts only where the lock counts as owned.
   pub request_owns : (slot : ℕ) (c : ClientView R) → IsSoundClient stands c → actor_at stands slot c ≡ actor.Request → (p : ImageAt) → own_look_at stands slot c.session ≡ Some p
@@ -105,11 +105,11 @@ module _ {R : Type 0} (stands : R → Standing) where
           ∙ ap (λ (g : Stage). cond (waits_at (Some g)) here None) w.waits
 
       by : (o : Option (Occupant R)) → running_in o ≡ Some w.request → OfRunning (λ r. waits slot (track_of r s.lines) ≡ false) o → own_look_in stands slot s.lines (going_in slot o s.lines) ≡ here
-      by None is goes = absurd (no_some w.request is)
-      by (Some (occupant.Refused line x)) is goes = absurd (no_some w.request is)
+      by None is goes = absurd (none-some w.request is)
+      by (Some (occupant.Refused line x)) is goes = absurd (none-some w.request is)
       by (Some (occupant.Running r)) is goes =
           ap (λ b. own_look_in stands slot s.lines (cond b None (Some r))) goes
-          ∙ ap (λ (q : Running R). own_look_of slot (kind_asked (stands q.request).plan) q.place s.lines) (some_same r w.request is)
+          ∙ ap (λ (q : Running R). own_look_of slot (kind_asked (stands q.request).plan) q.place s.lines) (same_Some r w.request is)
           ∙ placed
 
   -- ---- the operation of an own look ends no lock
@@ -122,10 +122,10 @@ module _ {R : Type 0} (stands : R → Standing) where
 
   asked_kind : (plan : Plan) (site : SiteId) (o : Op) → op_asked plan ≡ Some (site, o) → kind_asked plan ≡ Some (site, kind_of o)
   asked_kind (Ask s why w next) site o is = ap (option_map (λ (x : SiteId × Op). (x.0, kind_of x.1))) is
-  asked_kind (Await w next) site o is = absurd (no_some (site, o) is)
-  asked_kind (Note s i e next) site o is = absurd (no_some (site, o) is)
-  asked_kind (Return r) site o is = absurd (no_some (site, o) is)
-  asked_kind (Goto l) site o is = absurd (no_some (site, o) is)
+  asked_kind (Await w next) site o is = absurd (none-some (site, o) is)
+  asked_kind (Note s i e next) site o is = absurd (none-some (site, o) is)
+  asked_kind (Return r) site o is = absurd (none-some (site, o) is)
+  asked_kind (Goto l) site o is = absurd (none-some (site, o) is)
 
   pub look_ends_nothing : (slot : ℕ) (site : SiteId) (o : Op) (s : SessionView R) (p : ImageAt) → own_look_at stands slot s ≡ Some p → op_at stands slot s ≡ Some (site, o)
       → (a : Answer) (there : SiteId) (image : ℕ) → ends site o a there image ≡ false
@@ -136,14 +136,14 @@ module _ {R : Type 0} (stands : R → Standing) where
         where
           go : (b : Bool) → cond (b && k) (Some q) None ≡ Some p → b ≡ true
           go true is = refl
-          go false is = absurd (no_some p is)
+          go false is = absurd (none-some p is)
 
       by : (g : Option (Running R)) → own_look_in stands slot s.lines g ≡ Some p → of_going stands op_asked g ≡ Some (site, o) → ends site o a there image ≡ false
-      by None at wanted = absurd (no_some p at)
+      by None at wanted = absurd (none-some p at)
       by (Some r) at wanted = go r.place at
         where
           go : (place : Option ImageAt) → own_look_of slot (kind_asked (stands r.request).plan) place s.lines ≡ Some p → ends site o a there image ≡ false
-          go None at = absurd (no_some p at)
+          go None at = absurd (none-some p at)
           go (Some q) at =
               look_ends_none q.site site o a there image
               (sym (ap (is_look_at q.site) (asked_kind (stands r.request).plan site o wanted))
@@ -179,7 +179,7 @@ module _ {R : Type 0} (stands : R → Standing) where
         unlooked none (way.On a) is =
             absurd (true≢false (sym (acts_by_way slot c acts) ∙ ap (λ w. is_request (actor_on w (own_look_at stands slot c.session) c.locks)) is))
         unlooked none (way.Taken p) is =
-            absurd (no_some (record { site = p.site; image = p.image }) (
+            absurd (none-some (record { site = p.site; image = p.image }) (
             sym none ∙ stands_at_look slot p.site p.image c.session (subst (λ w. IsWellOnWay stands slot w c.session c.locks) is (sound.ways slot)).0 (goes_on slot f c.session ready)))
 
         go : (look : Option ImageAt) → own_look_at stands slot c.session ≡ look → IsWellOnWay stands slot (cond (is_some look) (record { way = way.Unbegun; quiescing = (state_in slot c.slots).quiescing }) (state_in slot c.slots)).way t locks

@@ -1,5 +1,6 @@
 -- Who wants an operation may be fed what it can give, and wants it still once all is ready.
 use Rattle.std.proofs.Common.{◌≡◌, ℕ, ◌&&◌, not, cond, Bool, true, false, Option, Some, None, refl, sym, ap, ◌∙◌, subst}
+use Rattle.std.proofs.lemmas.Option.{none-some}
 use Rattle.rbd_client.specs.declared.actor.Actor.{Actor}
 use Rattle.rbd_client.specs.declared.actor.Actor.TheVariants as actor
 use Rattle.rbd_client.specs.Actor.{actor_at, any_taken, is_at_rest, op_by, op_wanted}
@@ -30,7 +31,6 @@ use Rattle.rbd_session.specs.Session.{SessionView, IsAlike, IsAlikeIn, IsAnswere
 use Rattle.rbd_session.specs.Track.{Lines}
 use Rattle.rbd_session.specs.Waits.{waits}
 use Rattle.rbd_session.proofs.Readied.{same_track}
-use Rattle.rbd_session.proofs.Sound.{no_some}
 use Rattle.rbd_client.proofs.Alike.{actor_alike}
 
 -- ---- what it can be fed
@@ -42,10 +42,10 @@ op_in other (Some (site, o)) = o
 
 plan_can : (plan : Plan) (site : SiteId) (o : Op) (a : Answer) → op_asked plan ≡ Some (site, o) → CanGive o a → CanBeFed plan (fed.Answer a)
 plan_can (Ask s why wanted next) site o a is can = subst (λ o. CanGive o a) (sym (ap (op_in o) is)) can
-plan_can (Await w next) site o a is can = absurd (no_some (site, o) is)
-plan_can (Note s image event next) site o a is can = absurd (no_some (site, o) is)
-plan_can (Return r) site o a is can = absurd (no_some (site, o) is)
-plan_can (Goto label) site o a is can = absurd (no_some (site, o) is)
+plan_can (Await w next) site o a is can = absurd (none-some (site, o) is)
+plan_can (Note s image event next) site o a is can = absurd (none-some (site, o) is)
+plan_can (Return r) site o a is can = absurd (none-some (site, o) is)
+plan_can (Goto label) site o a is can = absurd (none-some (site, o) is)
 
 way_can : (s : WayStage) (site : SiteId) (image : ℕ) (a : Answer) → CanGive (way_op s image) a → CanBeFed (way_rest s site image (Return reply.Done)) (fed.Answer a)
 way_can way_stage.Watching site image a can = can
@@ -62,17 +62,17 @@ release_can release_stage.Telling site image a can = can
 module _ {R : Type 0} (stands : R → Standing) where
   running_can : (slot : ℕ) (r : Running R) (lines : LinesView) (site : SiteId) (o : Op) (a : Answer) (b : Bool) → waits slot (track_of r lines) ≡ b
       → of_going stands op_asked (cond b None (Some r)) ≡ Some (site, o) → CanGive o a → IsAnswered stands slot lines (fed.Answer a) r
-  running_can slot r lines site o a true held is can = absurd (no_some (site, o) is)
+  running_can slot r lines site o a true held is can = absurd (none-some (site, o) is)
   running_can slot r lines site o a false held is can = record { goes = held; can = plan_can (stands r.request).plan site o a is can }
 
   request_can : (slot : ℕ) (held : Option (Occupant R)) (lines : LinesView) (site : SiteId) (o : Op) (a : Answer) → of_going stands op_asked (going_in slot held lines) ≡ Some (site, o) → CanGive o a
       → OfRunning (IsAnswered stands slot lines (fed.Answer a)) held
-  request_can slot None lines site o a is can = absurd (no_some (site, o) is)
-  request_can slot (Some (occupant.Refused line refusal)) lines site o a is can = absurd (no_some (site, o) is)
+  request_can slot None lines site o a is can = absurd (none-some (site, o) is)
+  request_can slot (Some (occupant.Refused line refusal)) lines site o a is can = absurd (none-some (site, o) is)
   request_can slot (Some (occupant.Running r)) lines site o a is can = running_can slot r lines site o a (waits slot (track_of r lines)) refl is can
 
   actor_can : (slot : ℕ) (s : SessionView R) (site : SiteId) (o : Op) (a : Answer) (who : Actor) → op_by stands slot s who ≡ Some (site, o) → CanGive o a → CanGet stands slot s (fed.Answer a) who
-  actor_can slot s site o a actor.Nobody is can = absurd (no_some (site, o) is)
+  actor_can slot s site o a actor.Nobody is can = absurd (none-some (site, o) is)
   actor_can slot s site o a actor.Request is can = request_can slot (held_in slot s.slots) s.lines site o a is can
   actor_can slot s site o a (actor.Way w) is can = way_can w.stage w.site w.image a (subst (λ o. CanGive o a) (sym (ap (op_in o) is)) can)
   actor_can slot s site o a (actor.Release r) is can = release_can r.stage r.site r.image a (subst (λ o. CanGive o a) (sym (ap (op_in o) is)) can)
@@ -98,12 +98,12 @@ module _ {R : Type 0} (stands : R → Standing) where
       none_of : (o : Option (Occupant R)) → running_in o ≡ None → (lines : LinesView) → of_going stands op_asked (going_in slot o lines) ≡ None
       none_of None is lines = refl
       none_of (Some (occupant.Refused line x)) is lines = refl
-      none_of (Some (occupant.Running r)) is lines = absurd (no_some r (sym is))
+      none_of (Some (occupant.Running r)) is lines = absurd (none-some r (sym is))
 
       go : (o n : Option (Occupant R)) → IsAlikeIn stands o n → of_going stands op_asked (going_in slot n new.lines) ≡ of_going stands op_asked (going_in slot o old.lines)
       go (Some (occupant.Running p)) (Some (occupant.Running q)) same = running_alike slot p q old.lines new.lines same alike.lines
-      go (Some (occupant.Running p)) (Some (occupant.Refused line x)) same = absurd (no_some p (ap running_in same))
-      go (Some (occupant.Running p)) None same = absurd (no_some p (ap running_in same))
+      go (Some (occupant.Running p)) (Some (occupant.Refused line x)) same = absurd (none-some p (ap running_in same))
+      go (Some (occupant.Running p)) None same = absurd (none-some p (ap running_in same))
       go (Some (occupant.Refused line x)) n same = none_of n (ap running_in same) new.lines
       go None n same = none_of n (ap running_in same) new.lines
 

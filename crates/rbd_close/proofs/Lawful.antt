@@ -6,6 +6,7 @@ use Rattle.rbd_kinds.specs.declared.answer.Answer.TheVariants as answer
 use Rattle.rbd_commands.specs.declared.command.Command.{Command}
 use Rattle.rbd_commands.specs.declared.command.Command.TheVariants as command
 use Rattle.rbd_kinds.specs.declared.id.SiteId.{SiteId}
+use Rattle.rbd_kinds.proofs.Images.{at_itself}
 use Rattle.rbd_machine.specs.About.{look_up}
 use Rattle.rbd_machine.specs.Knowledge.{Knowledge, nothing_known, learned}
 use Rattle.rbd_machine.specs.Label.{Label}
@@ -13,7 +14,7 @@ use Rattle.rbd_machine.specs.Lawful.{IsLawful, IsLawfulRequest}
 use Rattle.rbd_machine.specs.Permits.{HoldsUnlooked}
 use Rattle.rbd_machine.specs.Plan.{without_labels}
 use Rattle.rbd_machine.specs.Refused.{refuses_none}
-use Rattle.rbd_machine.proofs.Lawful.{at_itself, holding_known, lawful_not_there, lawful_on_id, lawful_on_done, lawful_change}
+use Rattle.rbd_machine.proofs.Lawful.{holding_known, lawful_not_there, lawful_on_id, lawful_on_done, lawful_change}
 use Rattle.rbd_close.specs.Close.{close, close_plan, done, dropping, joining, on_dropped, quiesced, resumed, saying, unwatching}
 
 abbrev known_nowhere : Label → Knowledge

@@ -10,10 +10,10 @@ use Rattle.rbd_kinds.specs.declared.answer.Answer.TheVariants as answer
 use Rattle.rbd_commands.specs.declared.command.Command.{Command}
 use Rattle.rbd_commands.specs.declared.command.Command.TheVariants as command
 use Rattle.rbd_kinds.specs.declared.id.SiteId.{SiteId}
+use Rattle.rbd_kinds.proofs.Images.{at_itself}
 use Rattle.rbd_machine.specs.Label.{Label}
 use Rattle.rbd_machine.specs.Plan.{without_labels}
 use Rattle.rbd_machine.specs.Refused.{refuses_none}
-use Rattle.rbd_machine.proofs.Lawful.{at_itself}
 use Rattle.rbd_close.specs.Close.{done, unwatching, on_dropped, joining, close, quiesced, resumed, saying, close_plan}
 use Rattle.rbd_close.proofs.Labels.{closed_plan}
 

@@ -8,8 +8,9 @@ use Rattle.rbd_kinds.specs.declared.layout.Extent.{Extent}
 use Rattle.rbd_kinds.specs.declared.layout.Layout.{Layout}
 use Rattle.rbd_kinds.specs.declared.layout.Part.{Part}
 use Rattle.rbd_kinds.specs.Striping.{IsLayout, byte_at, units_per_object}
+use Rattle.rbd_kinds.proofs.Plain.{range_append}
 use Rattle.rbd_layout.specs.Pieces.{IsHeld, part_at, parts_at, with_place}
-use Rattle.rbd_layout.proofs.Cover.{cover, range_append, map-range}
+use Rattle.rbd_layout.proofs.Cover.{cover, map-range}
 use Rattle.rbd_layout.proofs.Limits.{Shape, shape_of}
 use Rattle.rbd_layout.proofs.Mixed.{cases_lt}
 use Rattle.rbd_layout.proofs.Walk.{next_row, same_row, whole_object as linear}

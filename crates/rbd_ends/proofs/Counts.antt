@@ -18,12 +18,12 @@ use Rattle.rbd_kinds.specs.declared.notice.NoticeKind.{NoticeKind}
 use Rattle.rbd_kinds.specs.declared.notice.NoticeKind.TheVariants as notice
 use Rattle.rbd_kinds.specs.declared.operation.Op.{Op}
 use Rattle.rbd_kinds.specs.declared.operation.Op.TheVariants as op
+use Rattle.rbd_kinds.proofs.Images.{at_itself}
 use Rattle.rbd_locks.specs.declared.lock_state.LockState.{LockState}
 use Rattle.rbd_locks.specs.Comings.{ByAnswer, ByResume, after_all, after_one}
 use Rattle.rbd_locks.specs.Locks.{heard}
 use Rattle.rbd_locks.specs.States.{answered, resumed, told}
 use Rattle.rbd_ends.proofs.Owners.{asks_for_lock, ends_lock, gives_up}
-use Rattle.rbd_machine.proofs.Lawful.{at_itself}
 
 -- neither quiesced nor asked for
 pub record IsFree (s : LockState) : Type 0 where

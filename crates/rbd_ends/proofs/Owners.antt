@@ -15,12 +15,13 @@ use Rattle.rbd_kinds.specs.declared.notice.NoticeKind.TheVariants as notice
 use Rattle.rbd_kinds.specs.declared.operation.Op.{Op}
 use Rattle.rbd_kinds.specs.declared.operation.Op.TheVariants as op
 use Rattle.rbd_kinds.specs.Header.{snap_named}
+use Rattle.rbd_kinds.specs.Instances.{same_instance}
+use Rattle.rbd_kinds.proofs.Instances.{same_instance_itself}
 use Rattle.rbd_header.specs.Header.{is_full, snap_in, with_snap, with_status, without_snap}
-use Rattle.rbd_site.specs.HeaderStep.{header_after, header_answer, is_owner, lock_taken, same_instance, where_made}
+use Rattle.rbd_site.specs.HeaderStep.{header_after, header_answer, is_owner, lock_taken, where_made}
 use Rattle.rbd_site.specs.Records.{Records}
 use Rattle.rbd_site.specs.Step.{after, after_served, answer_served, answer_to, is_fenced, mail_after, mail_served}
 use Rattle.rbd_site.specs.WatchStep.{notified, receivers}
-use Rattle.rbd_stands.proofs.Locks.{is_same}
 use Rattle.rbd_watch.specs.Posting.{notices, numbered}
 use Rattle.rbd_ends.proofs.Asking.{TakesNoLock}
 
@@ -85,7 +86,7 @@ header_keeps me (Some h) image header.LockDrop who may is = by (is_owner me h.ow
   where
     mine : h.owner ≡ Some who → is_owner me h.owner ≡ false → who ≡ me → ⊥
     mine had not_mine same =
-        false≢true (sym not_mine ∙ ap (is_owner me) had ∙ ap (same_instance who) (sym same) ∙ is_same who)
+        false≢true (sym not_mine ∙ ap (is_owner me) had ∙ ap (same_instance who) (sym same) ∙ same_instance_itself who)
 
     by : (b : Bool) → is_owner me h.owner ≡ b → (cond b (record h { owner = None }) h).owner ≡ Some who → Keeps me true h.owner who
     by true at is = absurd (none-some who is)
@@ -173,7 +174,7 @@ there_held me (Some owner) who is = by (same_instance owner me) refl is
     by true at is = absurd (none-some who (ap holder is))
     by false at is =
         let same : Some owner ≡ Some who = ap holder is in
-        (same, λ mine. false≢true (sym at ∙ ap (λ x. same_instance x me) (same_Some owner who same ∙ mine) ∙ is_same me))
+        (same, λ mine. false≢true (sym at ∙ ap (λ x. same_instance x me) (same_Some owner who same ∙ mine) ∙ same_instance_itself me))
 
 pub held_by_another : (r : Records) (me : Instance) (on : ℕ) (who : Instance) → answer_served r me (op.Header on header.LockTake) ≡ answer.Held who → (owner_at r on ≡ Some who) × (who ≡ me → ⊥)
 held_by_another r me on who is = by (r.headers on) refl is

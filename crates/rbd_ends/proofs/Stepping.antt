@@ -24,10 +24,10 @@ use Rattle.rbd_kinds.specs.declared.notice.Notice.{Notice}
 use Rattle.rbd_kinds.specs.declared.operation.Op.{Op}
 use Rattle.rbd_kinds.specs.declared.operation.Op.TheVariants as op
 use Rattle.rbd_kinds.specs.declared.reply.Reply.{Reply}
+use Rattle.rbd_kinds.specs.Instances.{same_instance}
 use Rattle.rbd_locks.specs.declared.lock_state.LockState.{LockState}
 use Rattle.rbd_locks.specs.Comings.{after_all}
 use Rattle.rbd_locks.specs.Locks.{state_at}
-use Rattle.rbd_machine.specs.Knowledge.{same_instance}
 use Rattle.rbd_machine.specs.Path.{at_operation}
 use Rattle.rbd_machine.specs.Plan.{Ask, Await, Goto, Note, Plan, Return, Standing}
 use Rattle.rbd_owner.specs.Acquire.{op_at, op_of}

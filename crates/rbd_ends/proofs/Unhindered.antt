@@ -12,9 +12,9 @@ use Rattle.rbd_kinds.specs.declared.id.SiteId.{SiteId}
 use Rattle.rbd_kinds.specs.declared.id.SiteId.TheVariants as site_is
 use Rattle.rbd_kinds.specs.declared.operation.Op.{Op}
 use Rattle.rbd_kinds.specs.declared.reply.Reply.{Reply}
+use Rattle.rbd_kinds.proofs.Images.{same_site_itself}
 use Rattle.rbd_machine.specs.Knowledge.{same_site}
 use Rattle.rbd_machine.specs.Plan.{Standing}
-use Rattle.rbd_machine.proofs.Lawful.{same_site_itself}
 use Rattle.rbd_site.specs.Log.{SiteLog, after_all, expire_line, expired, line_of, records_of, trim_line, trimmed}
 use Rattle.rbd_site.specs.Records.{Records, no_records}
 use Rattle.rbd_site.specs.Step.{after, after_served, is_fenced}

@@ -1,10 +1,11 @@
 -- Bytes painted at places, seen at one place.
-use Rattle.std.proofs.Common.{◌≡◌, ◌≢◌, ℕ, zero, suc, ◌+◌, ◌-◌, min, ◌<◌, ◌≤◌, Bool, true, false, cond, eqb, ltb, leb, ◌&&◌, ◌||◌, List, [], ◌∷◌, ◌++◌, length, get_or, set, drop, refl, sym, ◌∙◌, ap, subst, arith, inl, inr, ◌⊎◌, length-set, zero-add, add-zero}
+use Rattle.std.proofs.Common.{◌≡◌, ◌≢◌, ℕ, zero, suc, ◌+◌, ◌-◌, min, ◌<◌, ◌≤◌, Bool, true, false, cond, eqb, ltb, leb, ◌&&◌, ◌||◌, List, [], ◌∷◌, ◌++◌, length, get_or, set, drop, refl, sym, ◌∙◌, ap, subst, arith, inl, inr, ◌⊎◌, length-set, add-zero}
 use Rattle.std.specs.List.{range_with_len}
 use Rattle.std.proofs.lemmas.List.{drop-drop, get_or-drop, set_past, get_or-set_same, get_or-set_other, at_drop_more}
 use Rattle.std.proofs.lemmas.Bool.{cases_lt, cases_eq, ltb-true, ltb-false, leb-true, leb-false, eq-eqb, ne_eqb}
 use Rattle.std.proofs.lemmas.List.FromFn.{length-range_with_len}
 use Rattle.rbd_kinds.specs.declared.layout.Extent.{Extent}
+use Rattle.rbd_kinds.proofs.Plain.{range_append}
 use Rattle.rbd_flat.specs.Flat.{painted, places_of, places_of_one}
 use Rattle.rbd_flat.specs.Laws.{covers, covered, painted_at, painted_byte}
 
@@ -21,18 +22,10 @@ painted_append (p ∷ ps) qs new old =
     let rest : drop (length ps) (drop 1 new) ≡ drop (length (p ∷ ps)) new = drop-drop (length ps) 1 new ∙ ap (λ n. drop n new) (let e : 1 + length ps ≡ length (p ∷ ps) = omega arith in e) in
     painted_append ps qs (drop 1 new) now ∙ ap (λ n. painted qs n (painted ps (drop 1 new) now)) rest
 
--- an extent cut in two
-pub range_add : (at m n : ℕ) → range_with_len at (m + n) ≡ range_with_len at m ++ range_with_len (at + m) n
-range_add at zero n = ap (range_with_len at) (zero-add n) ∙ ap (λ a. range_with_len a n) (sym (add-zero at))
-range_add at (suc m) n =
-    let e : suc m + n ≡ suc (m + n) = omega arith in
-    let s : (at + 1) + m ≡ at + suc m = omega arith in
-    ap (range_with_len at) e ∙ ap (λ xs. at ∷ xs) (range_add (at + 1) m n ∙ ap (λ a. range_with_len (at + 1) m ++ range_with_len a n) s)
-
 -- two neighbours painted one after the other are the whole
 pub painted_neighbours : (at m n : ℕ) (new old : List ℕ) → painted (range_with_len at (m + n)) new old ≡ painted (range_with_len (at + m) n) (drop m new) (painted (range_with_len at m) new old)
 painted_neighbours at m n new old =
-    ap (λ ps. painted ps new old) (range_add at m n) ∙ painted_append (range_with_len at m) (range_with_len (at + m) n) new old
+    ap (λ ps. painted ps new old) (range_append at m n) ∙ painted_append (range_with_len at m) (range_with_len (at + m) n) new old
     ∙ ap (λ k. painted (range_with_len (at + m) n) (drop k new) (painted (range_with_len at m) new old)) (length-range_with_len at m)
 
 -- places past the end are passed over

@@ -3,7 +3,7 @@ use Rattle.std.proofs.Common.{◌≡◌, ◌≢◌, ℕ, Bool, true, false, cond
 use Rattle.std.specs.List.{filter}
 use Rattle.std.specs.Option.{option_map, option_or}
 use Rattle.std.proofs.lemmas.Option.{none-some, same_Some}
-use Rattle.std.proofs.lemmas.Bool.{true≢false, cases_eq, cases_lt, eqb-true, eq-eqb, ne_eqb, ltb-true, ltb-false, leb-true, leb-false, le-ltb}
+use Rattle.std.proofs.lemmas.Bool.{true≢false, cases_lt, eqb-true, ne_eqb, ltb-true, ltb-false, leb-true, leb-false, le-ltb}
 use Rattle.std.proofs.lemmas.List.{get_or_past, length-replicate, get_or-replicate}
 use Rattle.std.proofs.lemmas.List.FromFn.{length-map-range_with_len, get_or-map-range_with_len}
 use Rattle.rbd_kinds.specs.declared.header.Role.{Role}
@@ -11,6 +11,7 @@ use Rattle.rbd_kinds.specs.declared.header.Role.TheVariants.{Plain}
 use Rattle.rbd_kinds.specs.declared.header.SnapStatus.{SnapStatus}
 use Rattle.rbd_kinds.specs.declared.header.SnapStatus.TheVariants.{Unprotected}
 use Rattle.rbd_kinds.specs.declared.layout.Extent.{Extent}
+use Rattle.rbd_kinds.proofs.Plain.{eqb_flip}
 use Rattle.rbd_flat.specs.declared.effect.Effect.{Effect}
 use Rattle.rbd_flat.specs.declared.effect.Effect.TheVariants as effect
 use Rattle.rbd_flat.specs.Flat.{Flat, FlatImage, FlatSnap, image_at, snap_of, snap_in, painted, places_of, resized, with_status, after, after_all, id_of, renamed, changed, cloned}
@@ -207,12 +208,6 @@ role_law f e i = ap role_in (image_law f e i) ∙ role_of_image e f i
 
 -- ---- snapshots
 
-eqb_comm : (a b : ℕ) → eqb a b ≡ eqb b a
-eqb_comm a b = elim (cases_eq a b) [
-  | inl e ↦ eq-eqb a b e ∙ sym (eq-eqb b a (sym e))
-  | inr ne ↦ ne_eqb a b ne ∙ sym (ne_eqb b a (λ e. ne (sym e)))
-]
-
 -- two tests that both hold are of one number
 eqb_shared : (a b c : ℕ) → eqb a b ≡ true → eqb a c ≡ eqb b c
 eqb_shared a b c e = ap (λ x. eqb x c) (eqb-true a b e)
@@ -305,7 +300,7 @@ taken_snap true snap name None t = nothing (eqb t snap)
     nothing false = refl
 taken_snap true snap name (Some j) t =
     let s : FlatSnap = record { id = snap; name = name; bytes = j.bytes; status = Unprotected } in
-    snap_push j.snaps s t ∙ or_none (eqb snap t) (snap_in j.snaps t) s ∙ ap (λ (x : Bool). cond x (option_or (snap_in j.snaps t) (Some s)) (snap_in j.snaps t)) (eqb_comm snap t)
+    snap_push j.snaps s t ∙ or_none (eqb snap t) (snap_in j.snaps t) s ∙ ap (λ (x : Bool). cond x (option_or (snap_in j.snaps t) (Some s)) (snap_in j.snaps t)) (eqb_flip snap t)
 
 dropped_snap : (b : Bool) (snap : ℕ) (o : Option FlatImage) (t : ℕ)
     → snap_of (cond b (option_map {T = FlatImage} (λ j. record j { snaps = filter (λ s. not (eqb s.id snap)) j.snaps }) o) o) t ≡ cond (b && eqb t snap) None (snap_of o t)

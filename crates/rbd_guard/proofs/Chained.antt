@@ -3,14 +3,13 @@ use Rattle.std.proofs.Common.{◌≡◌, ℕ, zero, suc, ◌+◌, ◌-◌, ◌<�
 use Rattle.std.specs.Prelude.{◌⊎◌}
 use Rattle.std.specs.List.{slice_get}
 use Rattle.std.specs.Option.{is_some}
-use Rattle.std.proofs.lemmas.Option.{slice_get_within}
+use Rattle.std.proofs.lemmas.Option.{slice_get_within, none-some, same_Some}
 use Rattle.std.proofs.lemmas.Bool.{or_cases, eq-eqb, ne_eqb, eqb-true, eqb-false, cond-true, cond-false, cases_Bool}
 use Rattle.rbd_guard.specs.declared.link.Place.{Place}
 use Rattle.rbd_guard.specs.Order.{is_in, without, AreApart}
 use Rattle.rbd_guard.specs.Links.{front}
 use Rattle.rbd_guard.specs.Slab.{if_used, if_free, used_at, free_at, or_end, walk_free, AreChained, IsChain, AreFree}
 use Rattle.rbd_guard.proofs.Apart.{head_in, tail_in, others, out, apart_without}
-use Rattle.rbd_guard.proofs.Linking.{some_is, none_isnt}
 use Rattle.rbd_guard.proofs.Leaving.{one_leaves}
 
 -- ---- a chain over any places
@@ -54,7 +53,7 @@ not_in_chain : (free : ℕ → Option (Option ℕ)) (chain : List ℕ) (m : ℕ)
 not_in_chain free chain m l used = by (is_in m chain) refl
   where
     no : HasNext free m → ⊥
-    no h = none_isnt h.next (sym used ∙ h.is)
+    no h = none-some h.next (sym used ∙ h.is)
 
     by : (b : Bool) → is_in m chain ≡ b → is_in m chain ≡ false
     by true e = absurd (no (in_chain free chain m l e))
@@ -95,7 +94,7 @@ free_within : (places : List Place) (p : ℕ) (next : Option ℕ) → free_at pl
 free_within places p next is = by (slice_get places p) refl is
   where
     by : (o : Option Place) → slice_get places p ≡ o → if_free o ≡ Some next → p < length places
-    by None e free = absurd (none_isnt next free)
+    by None e free = absurd (none-some next free)
     by (Some place) e free = slice_get_within places p place e
 
 free_isnt_used : (o : Option Place) (next : Option ℕ) → if_free o ≡ Some next → if_used o ≡ None
@@ -103,7 +102,7 @@ free_isnt_used None next e = refl
 free_isnt_used (Some p) next e = by p.used e
   where
     by : (b : Bool) → cond b None (Some p.free) ≡ Some next → cond b (Some p) None ≡ None
-    by true e = absurd (none_isnt next e)
+    by true e = absurd (none-some next e)
     by false e = refl
 
 used_isnt_free : (o : Option Place) → is_some (if_used o) ≡ true → if_free o ≡ None
@@ -131,7 +130,7 @@ module _ (places : List Place) (head : Option ℕ) (size : ℕ) (are : AreFree p
     where
       by : (chain : List ℕ) → None ≡ front chain None → chain ≡ []
       by [] e = refl
-      by (p ∷ chain) e = absurd (none_isnt p e)
+      by (p ∷ chain) e = absurd (none-some p e)
 
   -- where the list of free places is empty, no place is free
   pub all_used : head ≡ None → (p : ℕ) → is_some (free_at places p) ≡ true → ⊥
@@ -139,7 +138,7 @@ module _ (places : List Place) (head : Option ℕ) (size : ℕ) (are : AreFree p
     where
       no : (chain : List ℕ) → None ≡ front chain None → is_in p chain ≡ true → ⊥
       no [] e h = true≢false (sym h)
-      no (q ∷ chain) e h = none_isnt q e
+      no (q ∷ chain) e h = none-some q e
 
       by : (o : Option (Option ℕ)) → free_at places p ≡ o → is_some o ≡ true → ⊥
       by None e some = true≢false (sym some)
@@ -199,7 +198,7 @@ module _ (places others : List Place) (at size : ℕ) (changed : (p : ℕ) → f
       other p h = ne_eqb at p (λ same. true≢false (sym h ∙ (ap (λ k. is_in k rest) (sym same) ∙ is.apart.0)))
 
       in_rest : (p : ℕ) (next : Option ℕ) → (eqb at p ≡ true) ⊎ (eqb at p ≡ false) → free_at others p ≡ Some next → is_in p rest ≡ true
-      in_rest p next (inl e) free = absurd (none_isnt next (sym (changed p ∙ cond-true (eqb at p) _ _ e) ∙ free))
+      in_rest p next (inl e) free = absurd (none-some next (sym (changed p ∙ cond-true (eqb at p) _ _ e) ∙ free))
       in_rest p next (inr e) free =
           sym (ap (λ b. b || is_in p rest) e) ∙ is.all p next (sym (changed p ∙ cond-false (eqb at p) _ _ e) ∙ free)
 
@@ -207,10 +206,10 @@ module _ (places others : List Place) (at size : ℕ) (changed : (p : ℕ) → f
   less_free are = by (walk_free (free_at places) size (Some at)) are
     where
       by : (chain : List ℕ) → IsChain (free_at places) (Some at) size chain → AreFree others (or_end (free_at places at)) (size - 1)
-      by [] is = absurd (none_isnt at (sym is.first))
+      by [] is = absurd (none-some at (sym is.first))
       by (p ∷ rest) is =
           walked_chain (free_at others) (or_end (free_at places at)) (size - 1) rest
-          (rest_free rest (subst (λ q. IsChain (free_at places) (Some at) size (q ∷ rest)) (sym (some_is at p is.first)) is))
+          (rest_free rest (subst (λ q. IsChain (free_at places) (Some at) size (q ∷ rest)) (sym (same_Some at p is.first)) is))
 
 -- ---- one place changed
 

@@ -3,13 +3,13 @@ use Rattle.std.proofs.Common.{◌≡◌, ℕ, Bool, true, false, cond, eqb, Opti
 use Rattle.std.specs.Prelude.{◌⊎◌}
 use Rattle.std.specs.Option.{option_map}
 use Rattle.std.proofs.lemmas.Bool.{ne_eqb, eqb-false, cond-true, cond-false, cases_Bool}
+use Rattle.std.proofs.lemmas.Option.{none-some, same_Some}
 use Rattle.rbd_guard.specs.declared.link.Link.{Link}
 use Rattle.rbd_guard.specs.declared.link.Ends.{Ends}
 use Rattle.rbd_guard.specs.Order.{is_in, without, walked}
 use Rattle.rbd_guard.specs.Links.{AreLines, with_after, with_before, shorter, or_none}
 use Rattle.rbd_guard.specs.Tickets.{numbers, key_at}
 use Rattle.rbd_guard.proofs.Apart.{out}
-use Rattle.rbd_guard.proofs.Linking.{some_is, none_isnt}
 use Rattle.rbd_guard.proofs.Pushed.{AreLinesOf}
 use Rattle.rbd_guard.proofs.Removed.{removed, removed_key}
 use Rattle.rbd_guard.proofs.Numbered.{HasNumber, AreKnown, numbers_same, numbers_without, in_line_has}
@@ -51,7 +51,7 @@ module _ (links one rest : ℕ → Option Link) (ends other_ends : ℕ → Ends)
       by false None other e = refl
       by false (Some p) other e =
           moved p
-          ∙ cond-false (eqb n p) _ _ (ne_eqb n p (λ same. eqb-false t u other (some_is t u (sym mine ∙ (ap number same ∙ are.found u p e)))))
+          ∙ cond-false (eqb n p) _ _ (ne_eqb n p (λ same. eqb-false t u other (same_Some t u (sym mine ∙ (ap number same ∙ are.found u p e)))))
 
 -- numbers stay known, where one goes
 module _ (number other_number place other_place : ℕ → Option ℕ) (n t : ℕ) (are : AreKnown number place) (mine : number n ≡ Some t)
@@ -65,15 +65,15 @@ module _ (number other_number place other_place : ℕ → Option ℕ) (n t : ℕ
       }
     where
       found : (u p : ℕ) → (eqb t u ≡ true) ⊎ (eqb t u ≡ false) → cond (eqb t u) None (place u) ≡ Some p → other_number p ≡ Some u
-      found u p (inl e) is = absurd (none_isnt p (sym (cond-true (eqb t u) _ _ e) ∙ is))
+      found u p (inl e) is = absurd (none-some p (sym (cond-true (eqb t u) _ _ e) ∙ is))
       found u p (inr e) is =
           let old : number p ≡ Some u = are.found u p (sym (cond-false (eqb t u) _ _ e) ∙ is) in
-          numbered p ∙ cond-false (eqb n p) _ _ (ne_eqb n p (λ same. eqb-false t u e (some_is t u (sym mine ∙ (ap number same ∙ old))))) ∙ old
+          numbered p ∙ cond-false (eqb n p) _ _ (ne_eqb n p (λ same. eqb-false t u e (same_Some t u (sym mine ∙ (ap number same ∙ old))))) ∙ old
 
       known : (u p : ℕ) → (eqb n p ≡ true) ⊎ (eqb n p ≡ false) → cond (eqb n p) None (number p) ≡ Some u → other_place u ≡ Some p
-      known u p (inl e) is = absurd (none_isnt u (sym (cond-true (eqb n p) _ _ e) ∙ is))
+      known u p (inl e) is = absurd (none-some u (sym (cond-true (eqb n p) _ _ e) ∙ is))
       known u p (inr e) is =
           let mark : number p ≡ Some u = sym (cond-false (eqb n p) _ _ e) ∙ is in
           let old : place u ≡ Some p = are.known u p mark in
           let my : place t ≡ Some n = are.known t n mine in
-          placed u ∙ cond-false (eqb t u) _ _ (ne_eqb t u (λ same. eqb-false n p e (some_is n p (sym my ∙ (ap place same ∙ old))))) ∙ old
+          placed u ∙ cond-false (eqb t u) _ _ (ne_eqb t u (λ same. eqb-false n p e (same_Some n p (sym my ∙ (ap place same ∙ old))))) ∙ old

@@ -3,12 +3,13 @@ use Rattle.std.proofs.Common.{◌≡◌, ℕ, Bool, true, false, cond, eqb, [], 
 use Rattle.std.specs.Prelude.{◌⊎◌}
 use Rattle.std.specs.Option.{option_map}
 use Rattle.std.proofs.lemmas.Bool.{eq-eqb, ne_eqb, eqb-true, cond-true, cond-false, cases_Bool}
+use Rattle.std.proofs.lemmas.Option.{none-some, same_Some}
 use Rattle.rbd_guard.specs.declared.link.Link.{Link}
 use Rattle.rbd_guard.specs.declared.link.Ends.{Ends}
 use Rattle.rbd_guard.specs.Order.{is_in, walked}
 use Rattle.rbd_guard.specs.Links.{link, AreLines, with_after, with_before, longer}
 use Rattle.rbd_guard.specs.Tickets.{numbers, key_at}
-use Rattle.rbd_guard.proofs.Linking.{some_is, none_isnt, HasLink, in_linked, back_in}
+use Rattle.rbd_guard.proofs.Linking.{HasLink, in_linked, back_in}
 use Rattle.rbd_guard.proofs.Pushed.{AreLinesOf, pushed, pushed_key}
 use Rattle.rbd_guard.proofs.Numbered.{HasNumber, AreKnown, numbers_same, numbers_push, in_line_has}
 
@@ -44,7 +45,7 @@ module _ (links one others : ℕ → Option Link) (ends other_ends : ℕ → End
   not_last last = by (in_linked links key None (walked links (ends key)) None n (lines.lines key).linked (back_in (walked links (ends key)) n (sym (lines.lines key).last ∙ last)))
     where
       by : HasLink links key n → ⊥
-      by l = none_isnt l.of (sym fresh ∙ l.is)
+      by l = none-some l.of (sym fresh ∙ l.is)
 
   changed : (m : ℕ) → others m ≡ cond (eqb n m) (Some (link key (ends key).last None)) (with_after links (ends key).last (Some n) m)
   changed m = linked m ∙ by (ends key).last not_last (put m)
@@ -73,7 +74,7 @@ module _ (links one others : ℕ → Option Link) (ends other_ends : ℕ → End
   keeps k p h = numbered p ∙ cond-false (eqb n p) _ _ (ne_eqb n p (λ same. by (in_line_has links ends number place lines are have k p h) same))
     where
       by : HasNumber number p → n ≡ p → ⊥
-      by m same = none_isnt m.of (sym free ∙ (ap number same ∙ m.is))
+      by m same = none-some m.of (sym free ∙ (ap number same ∙ m.is))
 
   pub entered_line : (k : ℕ) → numbers other_number (walked others (other_ends k))
       ≡ cond (eqb key k) (numbers number (walked links (ends k)) ++ t ∷ []) (numbers number (walked links (ends k)))
@@ -98,7 +99,7 @@ module _ (links one others : ℕ → Option Link) (ends other_ends : ℕ → End
       by : (b : Bool) (o : Option ℕ) → place u ≡ o → key_at others (cond b (Some n) o) ≡ cond b (Some key) (key_at links o)
       by true o e = moved n ∙ cond-true (eqb n n) _ _ (eq-eqb n n refl)
       by false None e = refl
-      by false (Some p) e = moved p ∙ cond-false (eqb n p) _ _ (ne_eqb n p (λ same. none_isnt u (sym free ∙ (ap number same ∙ are.found u p e))))
+      by false (Some p) e = moved p ∙ cond-false (eqb n p) _ _ (ne_eqb n p (λ same. none-some u (sym free ∙ (ap number same ∙ are.found u p e))))
 
 -- numbers stay known, where a new one comes
 module _ (number other_number place other_place : ℕ → Option ℕ) (n t : ℕ) (are : AreKnown number place)
@@ -114,16 +115,16 @@ module _ (number other_number place other_place : ℕ → Option ℕ) (n t : ℕ
     where
       found : (u p : ℕ) → (eqb t u ≡ true) ⊎ (eqb t u ≡ false) → cond (eqb t u) (Some n) (place u) ≡ Some p → other_number p ≡ Some u
       found u p (inl e) is =
-          let same : n ≡ p = some_is n p (sym (cond-true (eqb t u) _ _ e) ∙ is) in
+          let same : n ≡ p = same_Some n p (sym (cond-true (eqb t u) _ _ e) ∙ is) in
           numbered p ∙ cond-true (eqb n p) _ _ (eq-eqb n p same) ∙ ap (λ k. Some k) (eqb-true t u e)
       found u p (inr e) is =
           let old : number p ≡ Some u = are.found u p (sym (cond-false (eqb t u) _ _ e) ∙ is) in
-          numbered p ∙ cond-false (eqb n p) _ _ (ne_eqb n p (λ same. none_isnt u (sym free ∙ (ap number same ∙ old)))) ∙ old
+          numbered p ∙ cond-false (eqb n p) _ _ (ne_eqb n p (λ same. none-some u (sym free ∙ (ap number same ∙ old)))) ∙ old
 
       known : (u p : ℕ) → (eqb n p ≡ true) ⊎ (eqb n p ≡ false) → cond (eqb n p) (Some t) (number p) ≡ Some u → other_place u ≡ Some p
       known u p (inl e) is =
-          let same : t ≡ u = some_is t u (sym (cond-true (eqb n p) _ _ e) ∙ is) in
+          let same : t ≡ u = same_Some t u (sym (cond-true (eqb n p) _ _ e) ∙ is) in
           placed u ∙ cond-true (eqb t u) _ _ (eq-eqb t u same) ∙ ap (λ k. Some k) (eqb-true n p e)
       known u p (inr e) is =
           let old : place u ≡ Some p = are.known u p (sym (cond-false (eqb n p) _ _ e) ∙ is) in
-          placed u ∙ cond-false (eqb t u) _ _ (ne_eqb t u (λ same. none_isnt p (sym new ∙ (ap place same ∙ old)))) ∙ old
+          placed u ∙ cond-false (eqb t u) _ _ (ne_eqb t u (λ same. none-some p (sym new ∙ (ap place same ∙ old)))) ∙ old

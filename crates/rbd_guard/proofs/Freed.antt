@@ -3,6 +3,7 @@ use Rattle.std.proofs.Common.{◌≡◌, ℕ, ◌-◌, ◌<◌, ◌≤◌, ◌^�
 use Rattle.std.specs.Prelude.{◌⊎◌}
 use Rattle.std.specs.Option.{option_map}
 use Rattle.std.proofs.lemmas.Bool.{cond-true, cond-false, cases_Bool}
+use Rattle.std.proofs.lemmas.Option.{none-some}
 use Rattle.rbd_guard.specs.declared.link.Link.{Link}
 use Rattle.rbd_guard.specs.declared.link.Ends.{Ends}
 use Rattle.rbd_guard.specs.declared.link.Place.{Place}
@@ -11,7 +12,6 @@ use Rattle.rbd_guard.specs.Links.{with_after, with_before, shorter, or_none}
 use Rattle.rbd_guard.specs.Slab.{used_at, number_at, queue_link, list_link}
 use Rattle.rbd_guard.specs.Tickets.{Tickets, ends_at, place_of, queue, list, object_of, request_of}
 use Rattle.rbd_guard.specs.Held.{AreHeld}
-use Rattle.rbd_guard.proofs.Linking.{none_isnt}
 use Rattle.rbd_guard.proofs.Numbered.{AreKnown}
 use Rattle.rbd_guard.proofs.Entering.{map_cond}
 use Rattle.rbd_guard.proofs.Emptying.{left_sound, left_line, left_key, left_known}
@@ -62,7 +62,7 @@ module _ (old new : Tickets) (one two : List Place) (at ticket : ℕ) (was : Pla
   known = left_known (number_at old.slots) (number_at new.slots) (λ t. place_of t old) (λ t. place_of t new) at ticket (are_known old held) mine number_taken e.places
 
   drawn_all : (t p : ℕ) → (eqb at p ≡ true) ⊎ (eqb at p ≡ false) → number_at new.slots p ≡ Some t → t < new.drawn
-  drawn_all t p (inl same) is = absurd (none_isnt t (sym (number_taken p ∙ cond-true (eqb at p) _ _ same) ∙ is))
+  drawn_all t p (inl same) is = absurd (none-some t (sym (number_taken p ∙ cond-true (eqb at p) _ _ same) ∙ is))
   drawn_all t p (inr other) is =
       subst (λ n. t < n) (sym e.drawn) (held.drawn t p (sym (number_taken p ∙ cond-false (eqb at p) _ _ other) ∙ is))
 

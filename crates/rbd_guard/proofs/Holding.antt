@@ -2,13 +2,13 @@
 use Rattle.std.proofs.Common.{◌≡◌, ℕ, ◌<◌, ◌≤◌, true, List, length, Option, Some, None, refl, sym, ap, subst, ◌∙◌, true≢false}
 use Rattle.std.specs.List.{slice_get}
 use Rattle.std.specs.Option.{option_map, is_some, IfSome}
+use Rattle.std.proofs.lemmas.Option.{none-some}
 use Rattle.rbd_guard.specs.declared.link.Link.{Link}
 use Rattle.rbd_guard.specs.declared.link.Place.{Place}
 use Rattle.rbd_guard.specs.Order.{walked}
 use Rattle.rbd_guard.specs.Slab.{used_at, number_at, queue_link, list_link, number_or_none}
 use Rattle.rbd_guard.specs.Tickets.{Tickets, ends_at, numbers, key_at, place_of, queue, list, object_of, request_of, IsSoundGuard}
 use Rattle.rbd_guard.specs.Held.{AreHeld}
-use Rattle.rbd_guard.proofs.Linking.{none_isnt}
 use Rattle.rbd_guard.proofs.Numbered.{HasNumber, AreKnown, in_order, count_is, first_is, first_found}
 
 pub queue_is : (g : Tickets) (o : ℕ) → queue o g ≡ numbers (number_at g.slots) (walked (queue_link g.slots) (ends_at g.queues o))
@@ -32,14 +32,14 @@ pub queue_has : (slots : List Place) (p : ℕ) (l : Link) → queue_link slots p
 queue_has slots p l is = by (used_at slots p) refl is
   where
     by : (o : Option Place) → used_at slots p ≡ o → option_map (λ (p : Place). p.queue) o ≡ Some l → HasNumber (number_at slots) p
-    by None e is = absurd (none_isnt l is)
+    by None e is = absurd (none-some l is)
     by (Some place) e is = record { of = place.number; is = ap (λ o. option_map (λ (p : Place). p.number) o) e }
 
 pub list_has : (slots : List Place) (p : ℕ) (l : Link) → list_link slots p ≡ Some l → HasNumber (number_at slots) p
 list_has slots p l is = by (used_at slots p) refl is
   where
     by : (o : Option Place) → used_at slots p ≡ o → option_map (λ (p : Place). p.list) o ≡ Some l → HasNumber (number_at slots) p
-    by None e is = absurd (none_isnt l is)
+    by None e is = absurd (none-some l is)
     by (Some place) e is = record { of = place.number; is = ap (λ o. option_map (λ (p : Place). p.number) o) e }
 
 -- a place has a ticket's number exactly where it is used
@@ -47,7 +47,7 @@ used_of : (slots : List Place) (p t : ℕ) → number_at slots p ≡ Some t → 
 used_of slots p t is = by (used_at slots p) is
   where
     by : (o : Option Place) → option_map (λ (p : Place). p.number) o ≡ Some t → is_some o ≡ true
-    by None is = absurd (none_isnt t is)
+    by None is = absurd (none-some t is)
     by (Some place) is = refl
 
 -- the same tables with another room

@@ -3,10 +3,11 @@ use Rattle.std.proofs.Common.{◌≡◌, ℕ, suc, ◌+◌, ◌<◌, ◌≤◌, 
 use Rattle.std.specs.Prelude.{◌⊎◌}
 use Rattle.std.specs.List.{slice_get}
 use Rattle.std.proofs.lemmas.Bool.{cond-true, eq-eqb, ne_eqb, eqb-true, eqb-false, cond-false, cases_Bool}
+use Rattle.std.proofs.lemmas.Option.{none-some, same_Some}
+use Rattle.rbd_kinds.proofs.Plain.{eqb_flip}
 use Rattle.rbd_guard.specs.Order.{is_in, without, AreApart}
 use Rattle.rbd_guard.specs.Tickets.{Tickets, queue, list, object_of, request_of, without_all, is_ahead, IsSoundGuard}
 use Rattle.rbd_guard.proofs.Apart.{tail_in, head_in, in_right, absent, others}
-use Rattle.rbd_guard.proofs.Linking.{some_is, none_isnt}
 
 -- ---- the first of a line
 
@@ -16,12 +17,12 @@ pub record Begins (n : ℕ) (xs : List ℕ) : Type 0 where
   pub is : xs ≡ n ∷ rest
 
 pub begins : (n : ℕ) (xs : List ℕ) → Some n ≡ slice_get xs 0 → Begins n xs
-begins n [] e = absurd (none_isnt n (sym e))
-begins n (x ∷ xs) e = record { rest = xs; is = ap (λ m. m ∷ xs) (sym (some_is n x e)) }
+begins n [] e = absurd (none-some n (sym e))
+begins n (x ∷ xs) e = record { rest = xs; is = ap (λ m. m ∷ xs) (sym (same_Some n x e)) }
 
 pub is_empty : (xs : List ℕ) → None ≡ slice_get xs 0 → xs ≡ []
 is_empty [] e = refl
-is_empty (x ∷ xs) e = absurd (none_isnt x e)
+is_empty (x ∷ xs) e = absurd (none-some x e)
 
 -- ---- one leaves
 
@@ -34,13 +35,6 @@ without_shorter n (x ∷ xs) = by (eqb x n) (without_shorter n xs)
     by false rest = omega (arith, rest)
 
 -- ---- several leave
-
-eqb_flip : (a b : ℕ) → eqb a b ≡ eqb b a
-eqb_flip a b = by (cases_Bool (eqb a b))
-  where
-    by : (eqb a b ≡ true) ⊎ (eqb a b ≡ false) → eqb a b ≡ eqb b a
-    by (inl e) = e ∙ sym (eq-eqb b a (sym (eqb-true a b e)))
-    by (inr e) = e ∙ sym (ne_eqb b a (λ same. eqb-false a b e (sym same)))
 
 pub all_stay : (xs : List ℕ) → without_all [] xs ≡ xs
 all_stay [] = refl
@@ -179,7 +173,7 @@ module _ (request ticket : ℕ) (now later : Tickets) (sound : IsSoundGuard now)
   list_step r = ap (λ l. cond (eqb request r) [] l) (left.list r) ∙ by (eqb request r) refl
     where
       another : (b : Bool) → is_in ticket (list r now) ≡ b → eqb request r ≡ false → without ticket (list r now) ≡ list r now
-      another true e differs = absurd (eqb-false request r differs (some_is request r (sym mine ∙ sound.lists.stands ticket r e)))
+      another true e differs = absurd (eqb-false request r differs (same_Some request r (sym mine ∙ sound.lists.stands ticket r e)))
       another false e differs = absent ticket (list r now) e
 
       by : (b : Bool) → eqb request r ≡ b → cond b [] (without ticket (list r now)) ≡ cond b [] (list r now)
@@ -233,13 +227,13 @@ ahead_other one other (x ∷ tickets) h = by (eqb x one) h (λ rest. ahead_other
     by false there rest = tail_in x other tickets (rest there)
 
 pub first_ahead : (tickets : List ℕ) (first other : ℕ) → slice_get tickets 0 ≡ Some first → is_in other tickets ≡ true → (other ≡ first → ⊥) → is_ahead first other tickets ≡ true
-first_ahead [] first other is here differs = absurd (none_isnt first is)
+first_ahead [] first other is here differs = absurd (none-some first is)
 first_ahead (x ∷ tickets) first other is here differs =
     cond-true (eqb x first) _ _ (eq-eqb x first same)
     ∙ (sym (ap (λ b. b || is_in other tickets) (ne_eqb x other (λ e. differs (sym e ∙ same)))) ∙ here)
   where
     same : x ≡ first
-    same = some_is x first is
+    same = same_Some x first is
 
 pub one_way : (tickets : List ℕ) (one other : ℕ) → AreApart tickets → is_ahead one other tickets ≡ true → is_ahead other one tickets ≡ false
 one_way [] one other apart h = refl

@@ -1,19 +1,14 @@
 -- Links that hold a line, and changes of one link.
 use Rattle.std.proofs.Common.{◌≡◌, ℕ, Bool, true, false, cond, eqb, List, [], ◌∷◌, ◌++◌, length, Option, Some, None, refl, sym, ap, ◌∙◌, inl, inr, true≢false}
 use Rattle.std.specs.Prelude.{◌⊎◌}
-use Rattle.std.specs.Option.{option_map, unwrap_or, is_some}
+use Rattle.std.specs.Option.{option_map}
 use Rattle.std.proofs.lemmas.Bool.{or_cases, eq-eqb, ne_eqb, eqb-true, cond-true, cond-false}
+use Rattle.std.proofs.lemmas.Option.{none-some, same_Some}
 use Rattle.rbd_guard.specs.declared.link.Link.{Link}
 use Rattle.rbd_guard.specs.declared.link.Ends.{Ends}
 use Rattle.rbd_guard.specs.Order.{is_in, AreApart, walk, walked, next_after}
 use Rattle.rbd_guard.specs.Links.{front, back, link, AreLinked, IsLine, with_after, with_before}
 use Rattle.rbd_guard.proofs.Apart.{head_in, tail_in}
-
-pub some_is : {A : Type 0} (a b : A) → Some a ≡ Some b → a ≡ b
-some_is a b e = ap (λ o. unwrap_or o a) e
-
-pub none_isnt : {A : Type 0} (a : A) → None ≡ Some a → ⊥
-none_isnt a e = true≢false (sym (ap is_some e))
 
 -- ---- parts of a line
 
@@ -72,16 +67,16 @@ in_linked links key before (x ∷ line) after m l h = by (or_cases (eqb x m) (is
 -- ---- the last of a line, and its first
 
 back_is_in : (x : ℕ) (line : List ℕ) (m : ℕ) → back (Some x) line ≡ Some m → is_in m (x ∷ line) ≡ true
-back_is_in x [] m e = ap (λ k. is_in k (x ∷ [])) (sym (some_is x m e)) ∙ head_in x []
+back_is_in x [] m e = ap (λ k. is_in k (x ∷ [])) (sym (same_Some x m e)) ∙ head_in x []
 back_is_in x (y ∷ line) m e = tail_in x m (y ∷ line) (back_is_in y line m e)
 
 pub back_in : (line : List ℕ) (m : ℕ) → back None line ≡ Some m → is_in m line ≡ true
-back_in [] m e = absurd (none_isnt m e)
+back_in [] m e = absurd (none-some m e)
 back_in (x ∷ line) m e = back_is_in x line m e
 
 pub front_in : (line : List ℕ) (m : ℕ) → front line None ≡ Some m → is_in m line ≡ true
-front_in [] m e = absurd (none_isnt m e)
-front_in (x ∷ line) m e = ap (λ k. is_in k (x ∷ line)) (sym (some_is x m e)) ∙ head_in x line
+front_in [] m e = absurd (none-some m e)
+front_in (x ∷ line) m e = ap (λ k. is_in k (x ∷ line)) (sym (same_Some x m e)) ∙ head_in x line
 
 -- ---- one link changed
 
@@ -119,7 +114,7 @@ linked_before links key [] old new l apart = tt
 linked_before links key (x ∷ line) old new l apart = (
   before_at links x new (link key old (front line None)) l.0,
   linked_frame links (with_before links (Some x) new) key (Some x) line None
-      (λ m h. before_other links (Some x) new m (λ e. true≢false (sym h ∙ (ap (λ k. is_in k line) (sym (some_is x m e)) ∙ apart.0)))) l.1,
+      (λ m h. before_other links (Some x) new m (λ e. true≢false (sym h ∙ (ap (λ k. is_in k line) (sym (same_Some x m e)) ∙ apart.0)))) l.1,
 )
 
 -- ---- keys stay
@@ -147,5 +142,5 @@ pub has_link : (links : ℕ → Option Link) (m key : ℕ) → option_map (λ (l
 has_link links m key e = by (links m) refl
   where
     by : (o : Option Link) → links m ≡ o → HasLink links key m
-    by None is = absurd (none_isnt key (sym (ap (λ o. option_map (λ (l : Link). l.key) o) is) ∙ e))
-    by (Some l) is = record { of = l; is = is; key_is = some_is l.key key (sym (ap (λ o. option_map (λ (l : Link). l.key) o) is) ∙ e) }
+    by None is = absurd (none-some key (sym (ap (λ o. option_map (λ (l : Link). l.key) o) is) ∙ e))
+    by (Some l) is = record { of = l; is = is; key_is = same_Some l.key key (sym (ap (λ o. option_map (λ (l : Link). l.key) o) is) ∙ e) }

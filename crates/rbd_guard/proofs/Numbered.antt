@@ -5,6 +5,7 @@ use Rattle.std.specs.List.{slice_get}
 use Rattle.std.specs.Option.{option_map, unwrap_or, IfSome}
 use Rattle.std.proofs.lemmas.List.{length-map}
 use Rattle.std.proofs.lemmas.Bool.{or_cases, or_left, or_right, eq-eqb, ne_eqb, eqb-true, eqb-false, cases_Bool}
+use Rattle.std.proofs.lemmas.Option.{none-some, same_Some}
 use Rattle.rbd_guard.specs.declared.link.Link.{Link}
 use Rattle.rbd_guard.specs.declared.link.Ends.{Ends}
 use Rattle.rbd_guard.specs.Order.{is_in, without, AreApart, IsInOrder, walked}
@@ -12,7 +13,7 @@ use Rattle.rbd_guard.specs.Links.{front, AreLines}
 use Rattle.rbd_guard.specs.Tickets.{numbers, key_at}
 use Rattle.rbd_guard.specs.Slab.{number_or_none}
 use Rattle.rbd_guard.proofs.Apart.{head_in, tail_in, differ}
-use Rattle.rbd_guard.proofs.Linking.{some_is, none_isnt, HasLink, in_linked, has_link}
+use Rattle.rbd_guard.proofs.Linking.{HasLink, in_linked, has_link}
 
 -- a ticket stands at a place
 pub record HasNumber (number : ℕ → Option ℕ) (p : ℕ) : Type 0 where
@@ -25,7 +26,7 @@ pub record AreKnown (number place : ℕ → Option ℕ) : Type 0 where
   pub known : (t p : ℕ) → number p ≡ Some t → place t ≡ Some p
 
 one_place : (number place : ℕ → Option ℕ) (p q t : ℕ) → AreKnown number place → number p ≡ Some t → number q ≡ Some t → p ≡ q
-one_place number place p q t are a b = some_is p q (sym (are.known t p a) ∙ are.known t q b)
+one_place number place p q t are a b = same_Some p q (sym (are.known t p a) ∙ are.known t q b)
 
 module _ (number : ℕ → Option ℕ) where
   pub number_is : (p t : ℕ) → number p ≡ Some t → unwrap_or (number p) 0 ≡ t
@@ -143,7 +144,7 @@ module _ (links : ℕ → Option Link) (ends : ℕ → Ends) (number place : ℕ
           by l = ap (λ o. option_map (λ (l : Link). l.key) o) l.is ∙ ap (λ k. Some k) l.key_is
 
       found : (t key : ℕ) (o : Option ℕ) → place t ≡ o → key_at links o ≡ Some key → is_in t (numbers number (walked links (ends key))) ≡ true
-      found t key None e is = absurd (none_isnt key is)
+      found t key None e is = absurd (none-some key is)
       found t key (Some p) e is = by (has_link links p key is)
         where
           by : HasLink links key p → is_in t (numbers number (walked links (ends key))) ≡ true

@@ -4,12 +4,13 @@ use Rattle.std.specs.Prelude.{◌⊎◌}
 use Rattle.std.specs.Option.{option_map}
 use Rattle.std.proofs.lemmas.List.{length_push}
 use Rattle.std.proofs.lemmas.Bool.{eq-eqb, ne_eqb, eqb-true, eqb-false, cond-true, cond-false, cases_Bool}
+use Rattle.std.proofs.lemmas.Option.{none-some, same_Some}
 use Rattle.rbd_guard.specs.declared.link.Link.{Link}
 use Rattle.rbd_guard.specs.declared.link.Ends.{Ends}
 use Rattle.rbd_guard.specs.Order.{is_in, walked}
 use Rattle.rbd_guard.specs.Links.{front, back, link, IsLine, AreLines, with_after, or_else, longer}
 use Rattle.rbd_guard.proofs.Apart.{head_in, in_left, in_right, apart_push}
-use Rattle.rbd_guard.proofs.Linking.{none_isnt, some_is, back_append, linked_frame, linked_join, linked_after, walked_is, HasLink, in_linked, back_in, after_other, after_keeps, has_link}
+use Rattle.rbd_guard.proofs.Linking.{back_append, linked_frame, linked_join, linked_after, walked_is, HasLink, in_linked, back_in, after_other, after_keeps, has_link}
 
 -- what the tables of lines say of other lines than the walked ones
 pub record AreLinesOf (links : ℕ → Option Link) (ends : ℕ → Ends) (line : ℕ → List ℕ) : Type 0 where
@@ -46,7 +47,7 @@ module _ (links others : ℕ → Option Link) (ends other_ends : ℕ → Ends) (
   old k m here same = by (in_linked links k None (walked links (ends k)) None m (sound.lines k).linked here)
     where
       by : HasLink links k m → ⊥
-      by h = none_isnt h.of (sym fresh ∙ (ap links same ∙ h.is))
+      by h = none-some h.of (sym fresh ∙ (ap links same ∙ h.is))
 
   out : (k : ℕ) → is_in n (walked links (ends k)) ≡ false
   out k = by (is_in n (walked links (ends k))) refl
@@ -89,7 +90,7 @@ module _ (links others : ℕ → Option Link) (ends other_ends : ℕ → Ends) (
       apart m here there = by (in_linked links k None _ None m (sound.lines k).linked here) (in_linked links key None _ None m (sound.lines key).linked there)
         where
           by : HasLink links k m → HasLink links key m → ⊥
-          by a b = differs (sym b.key_is ∙ (ap (λ (l : Link). l.key) (some_is b.of a.of (sym b.is ∙ a.is)) ∙ a.key_is))
+          by a b = differs (sym b.key_is ∙ (ap (λ (l : Link). l.key) (same_Some b.of a.of (sym b.is ∙ a.is)) ∙ a.key_is))
 
   line_is : (k : ℕ) → IsLine others k (other_ends k) (pushed_line k)
   line_is k = by (cases_Bool (eqb key k))
@@ -125,7 +126,7 @@ module _ (links others : ℕ → Option Link) (ends other_ends : ℕ → Ends) (
       kept h = in_pushed l.key m (subst (λ k. is_in m (walked links (ends k)) ≡ true) h.key_is (sound.stands m h.of h.is))
 
       by : (eqb n m ≡ true) ⊎ (eqb n m ≡ false) → is_in m (pushed_line l.key) ≡ true
-      by (inl e) = new e (ap (λ (l : Link). l.key) (some_is _ l (sym (changed m ∙ cond-true (eqb n m) _ _ e) ∙ is)))
+      by (inl e) = new e (ap (λ (l : Link). l.key) (same_Some _ l (sym (changed m ∙ cond-true (eqb n m) _ _ e) ∙ is)))
       by (inr e) = kept (has_link links m l.key (sym (after_keeps links (back None (walked links (ends key))) (Some n) m) ∙ ap (λ o. option_map (λ (l : Link). l.key) o) (sym (keeps m (eqb-false n m e)) ∙ is)))
 
   pub pushed : AreLinesOf others other_ends (pushed_line)

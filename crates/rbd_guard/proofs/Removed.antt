@@ -4,12 +4,13 @@ use Rattle.std.specs.Prelude.{◌⊎◌}
 use Rattle.std.specs.Option.{option_map, is_some}
 use Rattle.std.proofs.lemmas.List.{append-nil}
 use Rattle.std.proofs.lemmas.Bool.{eq-eqb, ne_eqb, eqb-true, eqb-false, cond-true, cond-false, cases_Bool}
+use Rattle.std.proofs.lemmas.Option.{none-some, same_Some}
 use Rattle.rbd_guard.specs.declared.link.Link.{Link}
 use Rattle.rbd_guard.specs.declared.link.Ends.{Ends}
 use Rattle.rbd_guard.specs.Order.{is_in, without, AreApart, walked, no_ends, ends_or}
 use Rattle.rbd_guard.specs.Links.{front, back, link, AreLinked, IsLine, AreLines, with_after, with_before, unless, shorter, or_none}
 use Rattle.rbd_guard.proofs.Apart.{in_left, in_right, tail_in, some_length, differ, others, absent, apart_without, Around, around, IsAmid, amid}
-use Rattle.rbd_guard.proofs.Linking.{none_isnt, some_is, back_append, linked_frame, linked_split, linked_join, linked_after, linked_before, HasLink, in_linked, back_in, front_in, after_other, before_other, after_keeps, before_keeps, has_link}
+use Rattle.rbd_guard.proofs.Linking.{back_append, linked_frame, linked_split, linked_join, linked_after, linked_before, HasLink, in_linked, back_in, front_in, after_other, before_other, after_keeps, before_keeps, has_link}
 use Rattle.rbd_guard.proofs.Pushed.{AreLinesOf, lines_of}
 
 unless_back : (x : ℕ) (line : List ℕ) (other kept : Option ℕ) → unless (back (Some x) line) other kept ≡ kept
@@ -90,7 +91,7 @@ module _ (links one two three : ℕ → Option Link) (ends other_ends : ℕ → 
           parts = linked_split links l.key None a.xs (n ∷ a.ys) None (subst (λ xs. AreLinked links l.key None xs None) a.is (sound.lines l.key).linked)
 
           linked_so : l ≡ link l.key (back None a.xs) (front a.ys None)
-          linked_so = some_is l (link l.key (back None a.xs) (front a.ys None)) (sym has ∙ parts.1.0)
+          linked_so = same_Some l (link l.key (back None a.xs) (front a.ys None)) (sym has ∙ parts.1.0)
 
   -- a number outside the line keeps its link, and so do those that aren't next to the one that goes
   keeps : (m : ℕ) → (n ≡ m → ⊥) → (l.before ≡ Some m → ⊥) → (l.after ≡ Some m → ⊥) → three m ≡ links m
@@ -155,7 +156,7 @@ module _ (links one two three : ℕ → Option Link) (ends other_ends : ℕ → 
     elsewhere k m differs a b = by (in_linked links k None _ None m (sound.lines k).linked a) (in_linked links l.key None _ None m (sound.lines l.key).linked b)
       where
         by : HasLink links k m → HasLink links l.key m → ⊥
-        by p q = differs (sym q.key_is ∙ (ap (λ (l : Link). l.key) (some_is q.of p.of (sym q.is ∙ p.is)) ∙ p.key_is))
+        by p q = differs (sym q.key_is ∙ (ap (λ (l : Link). l.key) (same_Some q.of p.of (sym q.is ∙ p.is)) ∙ p.key_is))
 
     out_of : (k : ℕ) → (l.key ≡ k → ⊥) → is_in n (walked links (ends k)) ≡ false
     out_of k differs = by (is_in n (walked links (ends k))) refl
@@ -197,7 +198,7 @@ module _ (links one two three : ℕ → Option Link) (ends other_ends : ℕ → 
       kept differs h = others (walked links (ends k.key)) n m (λ e. differs (sym e)) ∙ subst (λ j. is_in m (walked links (ends j)) ≡ true) h.key_is (sound.stands m h.of h.is)
 
       by : (eqb n m ≡ true) ⊎ (eqb n m ≡ false) → is_in m (without n (walked links (ends k.key))) ≡ true
-      by (inl e) = absurd (none_isnt k (sym gone ∙ (ap three (eqb-true n m e) ∙ is)))
+      by (inl e) = absurd (none-some k (sym gone ∙ (ap three (eqb-true n m e) ∙ is)))
       by (inr e) = kept (eqb-false n m e) (has_link links m k.key (sym (keeps_key m (eqb-false n m e)) ∙ ap (λ o. option_map (λ (l : Link). l.key) o) is))
 
   pub removed : AreLinesOf three other_ends (λ k. without n (walked links (ends k)))

@@ -1,6 +1,7 @@
 -- A guard whose tickets stay where they are, and one with none.
 use Rattle.std.proofs.Common.{◌≡◌, ℕ, ◌<◌, ◌≤◌, ◌^◌, nat_eq, [], Option, None, refl, sym, ap, subst, ◌∙◌, arith}
 use Rattle.std.specs.Map.{lookup}
+use Rattle.std.proofs.lemmas.Option.{none-some}
 use Rattle.rbd_guard.specs.declared.link.Link.{Link}
 use Rattle.rbd_guard.specs.declared.link.Ends.{Ends}
 use Rattle.rbd_guard.specs.Order.{walked, ends_or}
@@ -8,7 +9,7 @@ use Rattle.rbd_guard.specs.Links.{IsLine, AreLines}
 use Rattle.rbd_guard.specs.Slab.{number_at, queue_link, list_link}
 use Rattle.rbd_guard.specs.Tickets.{Tickets, ends_at, numbers, key_at, place_of, queue, list, object_of, request_of, AreSame}
 use Rattle.rbd_guard.specs.Held.{AreHeld}
-use Rattle.rbd_guard.proofs.Linking.{none_isnt, linked_frame}
+use Rattle.rbd_guard.proofs.Linking.{linked_frame}
 use Rattle.rbd_guard.proofs.Pushed.{AreLinesOf, lines_of}
 use Rattle.rbd_guard.proofs.Holding.{queue_is, list_is, object_is, request_is}
 
@@ -79,15 +80,15 @@ nothing_held =
     record {
       queues = record {
         lines = λ k. record { first = refl; last = refl; count = refl; linked = tt; apart = tt };
-        stands = λ n l is. absurd (none_isnt l is);
+        stands = λ n l is. absurd (none-some l is);
       };
       lists = record {
         lines = λ k. record { first = refl; last = refl; count = refl; linked = tt; apart = tt };
-        stands = λ n l is. absurd (none_isnt l is);
+        stands = λ n l is. absurd (none-some l is);
       };
-      found = λ t p is. absurd (none_isnt p is);
-      known = λ t p is. absurd (none_isnt t is);
-      drawn = λ t p is. absurd (none_isnt t is);
+      found = λ t p is. absurd (none-some p is);
+      known = λ t p is. absurd (none-some t is);
+      drawn = λ t p is. absurd (none-some t is);
       queue_fits = λ k. omega arith;
       list_fits = λ k. omega arith;
       fits = omega arith;

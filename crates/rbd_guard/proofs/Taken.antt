@@ -3,13 +3,13 @@ use Rattle.std.proofs.Common.{◌≡◌, ℕ, ◌+◌, ◌-◌, ◌<◌, ◌≤�
 use Rattle.std.specs.Prelude.{◌⊎◌}
 use Rattle.std.specs.Option.{option_map}
 use Rattle.std.proofs.lemmas.Bool.{cond-true, cond-false, cases_Bool}
+use Rattle.std.proofs.lemmas.Option.{same_Some}
 use Rattle.rbd_guard.specs.declared.link.Ends.{Ends}
 use Rattle.rbd_guard.specs.declared.link.Place.{Place}
 use Rattle.rbd_guard.specs.Links.{link, with_after, with_before, longer}
 use Rattle.rbd_guard.specs.Slab.{used_at, number_at, queue_link, list_link, entering}
 use Rattle.rbd_guard.specs.Tickets.{Tickets, ends_at, key_at, place_of, queue, list, object_of, request_of}
 use Rattle.rbd_guard.specs.Held.{AreHeld}
-use Rattle.rbd_guard.proofs.Linking.{some_is}
 use Rattle.rbd_guard.proofs.Numbered.{AreKnown}
 use Rattle.rbd_guard.proofs.Entering.{map_cond, put_before, entered_sound, entered_line, entered_key, entered_known}
 use Rattle.rbd_guard.proofs.Holding.{queue_is, list_is, object_is, request_is, queue_has, list_has, are_known}
@@ -73,7 +73,7 @@ module _ (old new : Tickets) (one two : List Place) (at object request : ℕ) (h
 
   drawn_all : (t p : ℕ) → (eqb at p ≡ true) ⊎ (eqb at p ≡ false) → number_at new.slots p ≡ Some t → t < new.drawn
   drawn_all t p (inl same) is =
-      let t_is : old.drawn ≡ t = some_is old.drawn t (sym (number_put p ∙ cond-true (eqb at p) _ _ same) ∙ is) in
+      let t_is : old.drawn ≡ t = same_Some old.drawn t (sym (number_put p ∙ cond-true (eqb at p) _ _ same) ∙ is) in
       let more = e.drawn in
       omega (arith, t_is, more)
   drawn_all t p (inr other) is =

@@ -4,6 +4,7 @@
 use Rattle.std.proofs.Common.{◌≡◌, ◌≢◌, ℕ, ◌&&◌, not, cond, Bool, true, false, Option, Some, None, refl, sym, ap, ◌∙◌, subst, true≢false}
 use Rattle.std.specs.Prelude.{IsSome, is_some}
 use Rattle.std.specs.Option.{option_map}
+use Rattle.std.proofs.lemmas.Option.{none-some, same_Some}
 use Rattle.rbd_client.specs.declared.actor.Actor.{Actor}
 use Rattle.rbd_client.specs.declared.actor.Actor.TheVariants as actor
 use Rattle.rbd_client.specs.Actor.{actor_at, any_taken, is_at_rest, op_by, op_wanted}
@@ -34,9 +35,9 @@ use Rattle.rbd_known.proofs.There.{IsMemberFor}
 use Rattle.rbd_known.proofs.Wanting.{Wants, wants}
 use Rattle.rbd_line.specs.Line.{Member, any_past, is_past, member_of}
 use Rattle.rbd_kinds.specs.declared.image_at.ImageAt.{ImageAt}
+use Rattle.rbd_kinds.proofs.Images.{same_site_itself}
 use Rattle.rbd_machine.specs.Knowledge.{Knowledge, Own, own_of}
 use Rattle.rbd_machine.specs.Plan.{Standing}
-use Rattle.rbd_machine.proofs.Lawful.{same_site_itself}
 use Rattle.rbd_owner.specs.Acquire.{op_of}
 use Rattle.rbd_owner.specs.Release.{release_op, release_op_at}
 use Rattle.rbd_owner.specs.declared.acquire.Acquire.{Acquire}
@@ -54,11 +55,10 @@ use Rattle.rbd_session.specs.Session.{going_in, held_in, kind_asked, own_look_at
 use Rattle.rbd_session.specs.Track.{image_at}
 use Rattle.rbd_session.specs.Waits.{waits_at}
 use Rattle.rbd_session.proofs.Consequences.{members_run_there}
-use Rattle.rbd_session.proofs.Sound.{no_some, some_same}
 use Rattle.rbd_site.specs.Records.{Records}
 
 told_acts : (r : Records) (me you : Instance) (k j : Knowledge) (site there : SiteId) (o wanted : Op) → asked_at there wanted ≡ asked_at site o → MayAct there r me you k j wanted → MayAct site r me you k j o
-told_acts r me you k j site there o wanted is may = subst (λ (p : SiteId × Op). MayAct p.0 r me you k j p.1) (some_same (there, wanted) (site, o) is) may
+told_acts r me you k j site there o wanted is may = subst (λ (p : SiteId × Op). MayAct p.0 r me you k j p.1) (same_Some (there, wanted) (site, o) is) may
 
 -- a way may do what it does beside anybody
 pub way_may_act : (r : Records) (me you : Instance) (site : SiteId) (o : Op) (a : Acquire) → asked_at a.site (op_of a) ≡ asked_at site o → (j : Knowledge) → MayAct site r me you (known_on_way a) j o
@@ -100,7 +100,7 @@ module _ {R : Type 0} (stands : R → Standing) (c : ClientView R) (knows : ℕ 
     acts_beside_own slot other site o differ is = by (actor_at stands slot c) refl is
       where
         by : (who : Actor) → actor_at stands slot c ≡ who → op_by stands slot c.session who ≡ Some (site, o) → MayAct site r me you (known_to (knows slot) who) (knows other) o
-        by actor.Nobody acts is = absurd (no_some (site, o) is)
+        by actor.Nobody acts is = absurd (none-some (site, o) is)
         by actor.Request acts is = request_acts slot other site o differ is
         by (actor.Way a) acts is = way_may_act r me you site o a is (knows other)
         by (actor.Release x) acts is = release_may_act slot site o x acts is other
@@ -132,7 +132,7 @@ module _ {R : Type 0} (stands : R → Standing) (c : ClientView R) (knows : ℕ 
       placed : (m : Member) → member_of slot (lines_of c.session.lines site image) ≡ Some m → w.request.place ≡ Some (image_at site image)
       placed m found =
           let (q, runs, place) = members_run_there stands c.session slot site image m sound.session found in
-          ap (λ (x : Running R). x.place) (some_same w.request q (sym (ap running_in w.is) ∙ runs)) ∙ place
+          ap (λ (x : Running R). x.place) (same_Some w.request q (sym (ap running_in w.is) ∙ runs)) ∙ place
 
       of_member : (o : Own) → own_of (knows slot).owns site image ≡ Some o → IsMemberFor slot site image o (track_of w.request c.session.lines) → IsOwned site image c.locks
       of_member o owned m = go m.member.stage refl
@@ -166,10 +166,10 @@ module _ {R : Type 0} (stands : R → Standing) (c : ClientView R) (knows : ℕ 
     acts_beside_others slot o is = by (actor_at stands slot c) refl is
       where
         ops : (there : SiteId) (wanted : Op) → asked_at there wanted ≡ asked_at site o → wanted ≡ o
-        ops there wanted same = ap (λ (p : SiteId × Op). p.1) (some_same (there, wanted) (site, o) same)
+        ops there wanted same = ap (λ (p : SiteId × Op). p.1) (same_Some (there, wanted) (site, o) same)
 
         by : (who : Actor) → actor_at stands slot c ≡ who → op_by stands slot c.session who ≡ Some (site, o) → MayAct site r me you (known_to (knows slot) who) j o
-        by actor.Nobody acts is = absurd (no_some (site, o) is)
+        by actor.Nobody acts is = absurd (none-some (site, o) is)
         by actor.Request acts is = request_apart slot o acts is
         by (actor.Way a) acts is =
             subst (MayAct site r me you (known_to (knows slot) (actor.Way a)) j) (ops a.site (op_of a) is)

@@ -2,6 +2,7 @@
 use Rattle.std.proofs.Common.{◌≡◌, ◌≢◌, ◌⊎◌, inl, inr, ℕ, ◌==◌, cond, Bool, true, false, [], Option, Some, None, refl, sym, ap, ◌∙◌, subst, true≢false}
 use Rattle.std.specs.Prelude.{IsSome}
 use Rattle.std.proofs.lemmas.Bool.{cases_eq, eq-eqb, ne_eqb}
+use Rattle.std.proofs.lemmas.Option.{same_Some}
 use Rattle.rbd_client.specs.declared.actor.Actor.{Actor}
 use Rattle.rbd_client.specs.declared.actor.Actor.TheVariants as actor
 use Rattle.rbd_client.specs.declared.slot_state.SlotState.{SlotState}
@@ -49,7 +50,6 @@ use Rattle.rbd_rely.proofs.Learned.{own_learned}
 use Rattle.rbd_rely.proofs.Nothing.{nothing_is_beside, nothing_is_true}
 use Rattle.rbd_rely.proofs.Together.{beside_mutual, beside_stays, learned_beside}
 use Rattle.rbd_session.specs.Session.{held_in, running_at, running_in}
-use Rattle.rbd_session.proofs.Sound.{some_same}
 use Rattle.rbd_site.specs.InForm.{AreInForm}
 use Rattle.rbd_site.specs.Records.{Records}
 use Rattle.rbd_site.specs.Step.{after, answer_to}
@@ -191,7 +191,7 @@ module _ {R : Type 0} (stands : R → Standing) (c d : ClientView R) (knows : �
 
     next_way : (b : Acquire) → asked_at b.site (op_of b) ≡ asked_at site o → (res : Option Reply) (w : Way) → WayComesTo b (fed.Answer a) res w → IsWayTrue site now me w
     next_way b asked None (way.On x) comes =
-        let same : op_of b ≡ o = ap (λ (p : SiteId × Op). p.1) (some_same (b.site, op_of b) (site, o) asked) in
+        let same : op_of b ≡ o = ap (λ (p : SiteId × Op). p.1) (same_Some (b.site, op_of b) (site, o) asked) in
         subst (λ q. IsTrueAt site (after r me q) me (known_on_way x)) same
         (next_is_true r me b x (subst (λ q. GoesOn b q x) (sym same) comes) site)
       where
@@ -295,7 +295,7 @@ module _ {R : Type 0} (stands : R → Standing) (c d : ClientView R) (knows : �
 
     way_next : (b : Acquire) → asked_at b.site (op_of b) ≡ asked_at site o → (res : Option Reply) (w : Way) → WayComesTo b (fed.Answer a) res w → IsWayTrue there q me w
     way_next b asked None (way.On x) comes =
-        true_elsewhere_on_way there q me x (ap (λ s. same_site s there) (comes.site ∙ ap (λ (p : SiteId × Op). p.0) (some_same (b.site, op_of b) (site, o) asked)) ∙ differ)
+        true_elsewhere_on_way there q me x (ap (λ s. same_site s there) (comes.site ∙ ap (λ (p : SiteId × Op). p.0) (same_Some (b.site, op_of b) (site, o) asked)) ∙ differ)
     way_next b asked None (way.Taken p) comes = tt
     way_next b asked None way.Unbegun comes = tt
     way_next b asked (Some reply) w comes = subst (IsWayTrue there q me) (sym comes.0) tt

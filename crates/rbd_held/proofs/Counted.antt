@@ -1,6 +1,7 @@
 -- Where a request knows a header behind an answer, the client counts the lock as its own.
 use Rattle.std.proofs.Common.{◌≡◌, ◌≢◌, inl, inr, ℕ, ◌&&◌, not, Bool, true, false, Option, Some, None, refl, sym, ap, ◌∙◌, subst, true≢false}
 use Rattle.std.specs.Prelude.{IsSome}
+use Rattle.std.proofs.lemmas.Option.{none-some}
 use Rattle.rbd_client.specs.declared.actor.Actor.{Actor}
 use Rattle.rbd_client.specs.declared.actor.Actor.TheVariants as actor
 use Rattle.rbd_client.specs.Actor.{actor_at, any_taken, op_by, op_wanted}
@@ -35,7 +36,6 @@ use Rattle.rbd_machine.specs.Plan.{Plan, Standing}
 use Rattle.rbd_rely.specs.Truth.{known_header}
 use Rattle.rbd_rely.proofs.Headers.{own_known}
 use Rattle.rbd_rely.proofs.Less.{place_of}
-use Rattle.rbd_session.proofs.Sound.{no_some}
 use Rattle.rbd_site.specs.Records.{Records}
 
 -- a header that is removed by an answer
@@ -74,7 +74,7 @@ module _ {R : Type 0} (stands : R → Standing) (c d : ClientView R) (knows : �
       by true is =
           let x = removal site o a image is in
           let owns = subst (Permits (known_to k who) site) x.is may in
-          absurd (no_some owns.header (sym (none x.on) ∙ own_known (known_to k who) site x.on _ owns))
+          absurd (none-some owns.header (sym (none x.on) ∙ own_known (known_to k who) site x.on _ owns))
 
   pub counted_unless : ((image : ℕ) → removes_header site o (fed.Answer a) site image ≡ false) → (x : ℕ) → Counted (knows x)
   counted_unless stays x image some = lasts x image some (stays image)

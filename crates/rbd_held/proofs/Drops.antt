@@ -4,6 +4,7 @@ use Rattle.std.proofs.Common.{◌≡◌, ◌≢◌, ◌⊎◌, inl, inr, ℕ, su
 use Rattle.std.specs.List.{list_all}
 use Rattle.std.specs.Prelude.{IsSome}
 use Rattle.std.proofs.lemmas.Bool.{and_parts, cases_eq, eqb-true, or_parts}
+use Rattle.std.proofs.lemmas.Option.{none-some, same_Some}
 use Rattle.rbd_kinds.specs.Sharing.{go_together, is_alone}
 use Rattle.rbd_line.proofs.Together.{shared_both}
 use Rattle.rbd_client.specs.declared.actor.Actor.{Actor}
@@ -38,8 +39,8 @@ use Rattle.rbd_known.proofs.Wanting.{Wants, wants}
 use Rattle.rbd_line.specs.Line.{Member, ahead, any_past, is_let_pass, is_past, lets_pass, may_pass, member_of}
 use Rattle.rbd_kinds.specs.declared.image_at.ImageAt.{ImageAt}
 use Rattle.rbd_kinds.specs.Images.{is_at}
+use Rattle.rbd_kinds.proofs.Images.{at_itself}
 use Rattle.rbd_locks.proofs.Keys.{where_same}
-use Rattle.rbd_locks.proofs.Lasting.{same_itself}
 use Rattle.rbd_machine.specs.Knowledge.{Knowledge, Own, own_of}
 use Rattle.rbd_machine.specs.Permits.{HoldsUnlooked, OwnsAlone, Permits}
 use Rattle.rbd_rely.specs.Truth.{header_of_own, known_header}
@@ -51,14 +52,13 @@ use Rattle.rbd_session.specs.Track.{Track, course_of, line_in}
 use Rattle.rbd_session.specs.Waits.{awaits_line, awaits_turn, is_at_own, waits}
 use Rattle.rbd_session.proofs.Members.{at_own_slot}
 use Rattle.rbd_session.proofs.OwnLooks.{at_own_look}
-use Rattle.rbd_session.proofs.Sound.{no_some, some_same}
 
 -- ---- in one line
 
 -- One that is alone and may pass is the first. Behind it nobody may, until it is past own.
 alone_goes_first : (line : List Member) (slot other : ℕ) (m n : Member) → slot ≢ other → member_of slot line ≡ Some m → member_of other line ≡ Some n → is_alone m.sharing ≡ true → is_past m.stage ≡ false
     → may_pass slot line ≡ true → may_pass other line ≡ true → ⊥
-alone_goes_first [] slot other m n differ here there alone waits may also = no_some m here
+alone_goes_first [] slot other m n differ here there alone waits may also = none-some m here
 alone_goes_first (x ∷ line) slot other m n differ here there alone waits may also = by (x.slot == slot) refl
   where
     -- it would have to let pass whoever is ahead of it
@@ -81,7 +81,7 @@ alone_goes_first (x ∷ line) slot other m n differ here there alone waits may a
     by true is = go (x.slot == other) refl
       where
         found : x ≡ m
-        found = some_same x m (sym (ap (λ c. cond c (Some x) (member_of slot line)) is) ∙ here)
+        found = same_Some x m (sym (ap (λ c. cond c (Some x) (member_of slot line)) is) ∙ here)
 
         go : (b : Bool) → (x.slot == other) ≡ b → ⊥
         go true also_is = differ (sym (eqb-true x.slot slot is) ∙ eqb-true x.slot other also_is)
@@ -131,7 +131,7 @@ module _ {R : Type 0} (stands : R → Standing) (c : ClientView R) (sound : IsSo
           well = subst (λ w. IsWellOnWay stands t.slot w c.session c.locks) t.way (sound.ways t.slot)
 
           ends_it : ends site (op.Header image o) a site image ≡ true
-          ends_it = ap (λ b. b && is_at site image site image) ended ∙ same_itself site image
+          ends_it = ap (λ b. b && is_at site image site image) ended ∙ at_itself site image
 
           go : (slot ≡ t.slot) ⊎ (slot ≢ t.slot) → ⊥
           go (inl same) =
@@ -188,7 +188,7 @@ module _ {R : Type 0} (stands : R → Standing) (c : ClientView R) (knows : ℕ 
         where
           go : (p.member.slot ≡ slot) ⊎ (p.member.slot ≢ slot) → ⊥
           go (inl same) =
-              let one = some_same m.member p.member (sym m.found ∙ sym (ap (λ n. member_of n line) same) ∙ p.found) in
+              let one = same_Some m.member p.member (sym m.found ∙ sym (ap (λ n. member_of n line) same) ∙ p.found) in
               true≢false (sym p.past ∙ sym (ap (λ (x : Member). is_past x.stage) one) ∙ ap is_past waiting)
           go (inr differ) =
               true≢false (m.alone ∙ (may_shared line slot p.member.slot m.member p.member (sound.session.fair site image) (λ same. differ (sym same)) m.found p.found may p.past).0)

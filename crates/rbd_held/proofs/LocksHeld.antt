@@ -1,6 +1,7 @@
 -- A lock that counts as the client's behind an answer is the client's, unless it is fenced.
 use Rattle.std.proofs.Common.{◌≡◌, ◌⊎◌, inl, inr, ℕ, ◌==◌, ◌&&◌, cond, Bool, true, false, Option, Some, None, refl, sym, ap, ◌∙◌, subst, true≢false}
 use Rattle.std.proofs.lemmas.Bool.{eqb-true}
+use Rattle.std.proofs.Math.Bool.{and-false}
 use Rattle.rbd_client.specs.Feeding.{comings_of, quiesced_by, resumes, CountsAll}
 use Rattle.rbd_client.specs.Sound.{IsOwned}
 use Rattle.rbd_client.proofs.Owning.{ends_by, is_end}
@@ -78,12 +79,8 @@ pub owned_elsewhere : (s t : SiteId) (image : ℕ) (o : Op) (a : Answer) (b : Bo
 owned_elsewhere s t image (op.Header on o) a b differ is = sym (ap (λ x. cond x (owns_after b (op.Header on o) a) b) (never_elsewhere s t on image differ)) ∙ is
 owned_elsewhere s t image _ a b differ is = is
 
-pub and_false : (b : Bool) → (b && false) ≡ false
-and_false true = refl
-and_false false = refl
-
 pub ends_elsewhere : (s t : SiteId) (image : ℕ) (o : Op) (a : Answer) → same_site s t ≡ false → ends_by s o (fed.Answer a) t image ≡ false
-ends_elsewhere s t image (op.Header on o) a differ = ap (λ b. is_end o a && b) (never_elsewhere s t on image differ) ∙ and_false (is_end o a)
+ends_elsewhere s t image (op.Header on o) a differ = ap (λ b. is_end o a && b) (never_elsewhere s t on image differ) ∙ and-false (is_end o a)
 ends_elsewhere s t image _ a differ = refl
 
 abbrev is_done : Answer → Bool

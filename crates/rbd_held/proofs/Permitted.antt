@@ -1,5 +1,6 @@
 -- Whoever acts for a client does only what it may by what it knows, and knows it truly.
 use Rattle.std.proofs.Common.{◌≡◌, ℕ, ◌==◌, ◌||◌, cond, Bool, true, false, Option, Some, None, sym, ap, subst}
+use Rattle.std.proofs.lemmas.Option.{none-some, same_Some}
 use Rattle.rbd_client.specs.declared.actor.Actor.{Actor}
 use Rattle.rbd_client.specs.declared.actor.Actor.TheVariants as actor
 use Rattle.rbd_client.specs.declared.slot_state.Way.{Way}
@@ -29,7 +30,6 @@ use Rattle.rbd_owner.specs.declared.release.Release.{Release}
 use Rattle.rbd_rely.specs.Truth.{IsTrueAt}
 use Rattle.rbd_rely.proofs.Nothing.{nothing_is_true}
 use Rattle.rbd_session.specs.Session.{SessionView, held_in, own_look_at, running_in}
-use Rattle.rbd_session.proofs.Sound.{no_some, some_same}
 use Rattle.rbd_site.specs.Records.{Records}
 
 -- an operation that is asked for at a site
@@ -47,11 +47,11 @@ module _ {R : Type 0} (stands : R → Standing) where
       (subst (IsLawful known.known_at (knows slot)) w.plan known.lawful).0
 
   told : (k : Knowledge) (site there : SiteId) (o wanted : Op) → asked_at there wanted ≡ asked_at site o → Permits k there wanted → Permits k site o
-  told k site there o wanted is permits = subst (λ (p : SiteId × Op). Permits k p.0 p.1) (some_same (there, wanted) (site, o) is) permits
+  told k site there o wanted is permits = subst (λ (p : SiteId × Op). Permits k p.0 p.1) (same_Some (there, wanted) (site, o) is) permits
 
   acts_permits : (slot : ℕ) (s : SessionView R) (knows : ℕ → Knowledge) (site : SiteId) (o : Op) → AllKnow stands knows s → (who : Actor) → op_by stands slot s who ≡ Some (site, o)
       → Permits (known_to (knows slot) who) site o
-  acts_permits slot s knows site o all actor.Nobody is = absurd (no_some (site, o) is)
+  acts_permits slot s knows site o all actor.Nobody is = absurd (none-some (site, o) is)
   acts_permits slot s knows site o all actor.Request is = request_permits slot s knows site o all is
   acts_permits slot s knows site o all (actor.Way a) is = told (known_to (knows slot) (actor.Way a)) site a.site o (op_of a) is (way_permits a)
   acts_permits slot s knows site o all (actor.Release r) is = told (known_to (knows slot) (actor.Release r)) site r.site o (release_op r) is (release_permits r)

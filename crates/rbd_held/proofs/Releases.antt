@@ -5,9 +5,9 @@ use Rattle.std.proofs.lemmas.Option.{none-some}
 use Rattle.rbd_held.specs.Knowing.{known_to_drop, known_to_release, unlooked}
 use Rattle.rbd_kinds.specs.declared.id.Instance.{Instance}
 use Rattle.rbd_kinds.specs.declared.id.SiteId.{SiteId}
+use Rattle.rbd_kinds.proofs.Images.{at_itself}
 use Rattle.rbd_machine.specs.Knowledge.{Knowledge, is_at, is_drawn, is_gone}
 use Rattle.rbd_machine.specs.Permits.{Permits}
-use Rattle.rbd_machine.proofs.Lawful.{at_itself}
 use Rattle.rbd_owner.specs.declared.release.Release.{Release}
 use Rattle.rbd_owner.specs.declared.release.Stage.{Stage as ReleaseStage}
 use Rattle.rbd_owner.specs.declared.release.Stage.TheVariants as releasing

@@ -14,7 +14,9 @@ use Rattle.rbd_kinds.specs.declared.machine.Fed.TheVariants as fed
 use Rattle.rbd_kinds.specs.declared.operation.Op.{Op}
 use Rattle.rbd_kinds.specs.declared.operation.Op.TheVariants as op
 use Rattle.rbd_kinds.specs.declared.reply.Reply.TheVariants as reply
-use Rattle.rbd_machine.specs.Knowledge.{Knowledge, is_drawn, is_fenced_by, is_gone, nothing_known, own_of, same_instance, same_site}
+use Rattle.rbd_kinds.specs.Instances.{same_instance}
+use Rattle.rbd_kinds.proofs.Instances.{same_instance_is}
+use Rattle.rbd_machine.specs.Knowledge.{Knowledge, is_drawn, is_fenced_by, is_gone, nothing_known, own_of, same_site}
 use Rattle.rbd_machine.specs.Permits.{Permits}
 use Rattle.rbd_machine.specs.Plan.{Plan, Ask, Return, plan_after, settled}
 use Rattle.rbd_machine.proofs.Fences.{fence_is_known}
@@ -27,7 +29,6 @@ use Rattle.rbd_rely.specs.Beside.{AreBeside, MayAct}
 use Rattle.rbd_rely.specs.Truth.{IsStill, IsTrueAt, KnowsNoHeader, header_of_own, known_header}
 use Rattle.rbd_site.specs.Records.{Records}
 use Rattle.rbd_site.specs.Step.{after, answer_to, is_fenced}
-use Rattle.rbd_stands.proofs.Locks.{same_is}
 use Rattle.rbd_site.proofs.FenceLemmas.{fence_stays, lists_it}
 
 -- ---- it may
@@ -178,7 +179,7 @@ module _ (r : Records) (me : Instance) (a b : Acquire) (goes : GoesOnItsWay a (f
   fences_now there (stage.Breaking owner) is i known = by (same_site b.site there && same_instance owner i) refl known
     where
       by : (t : Bool) → (same_site b.site there && same_instance owner i) ≡ t → cond t true false ≡ true → is_fenced (after r me (op_of a)) i ≡ true
-      by true same known = subst (λ x. is_fenced (after r me (op_of a)) x ≡ true) (same_is owner i (and_parts (same_site b.site there) (same_instance owner i) same).1) (fenced_now owner is)
+      by true same known = subst (λ x. is_fenced (after r me (op_of a)) x ≡ true) (same_instance_is owner i (and_parts (same_site b.site there) (same_instance owner i) same).1) (fenced_now owner is)
       by false differ known = absurd (true≢false (sym known))
   fences_now there _ is i known = absurd (true≢false (sym known))
 

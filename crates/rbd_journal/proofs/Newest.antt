@@ -1,21 +1,19 @@
 -- The newest span of a list: where it ends, what it bears, and what an extension makes of it.
 use Rattle.std.proofs.Common.{◌≡◌, ℕ, suc, ◌+◌, ◌-◌, ◌≤◌, Bool, true, false, cond, List, [], ◌∷◌, ◌++◌, length, set, Some, refl, sym, ap, subst, ◌∙◌, arith}
 use Rattle.std.specs.Prelude.{slice_get}
+use Rattle.std.proofs.lemmas.Option.{same_Some}
 use Rattle.rbd_kinds.specs.declared.journal.Position.{Position}
 use Rattle.rbd_kinds.specs.declared.journal.Span.{Span}
 use Rattle.rbd_kinds.specs.declared.journal.Tag.{Tag}
 use Rattle.rbd_kinds.specs.Spans.{RunFrom, end_after}
 use Rattle.rbd_journal.specs.Records.{bears_from, extended, extended_from, newest_bears, same_tag, span_at}
 
-same_span : (s x : Span) → Some s ≡ Some x → s ≡ x
-same_span s x e = cc
-
 end_from : (before : ℕ) (s : Span) (spans : List Span) (x : Span) → slice_get (s ∷ spans) (length spans) ≡ Some x → end_after before (s ∷ spans) ≡ x.last
-end_from before s [] x e = ap (λ (y : Span). y.last) (same_span s x e)
+end_from before s [] x e = ap (λ (y : Span). y.last) (same_Some s x e)
 end_from before s (t ∷ spans) x e = end_from s.last t spans x e
 
 bears_newest : (tag : Tag) (s : Span) (spans : List Span) (x : Span) → slice_get (s ∷ spans) (length spans) ≡ Some x → bears_from tag s spans ≡ same_tag x.tag tag
-bears_newest tag s [] x e = ap (λ (y : Span). same_tag y.tag tag) (same_span s x e)
+bears_newest tag s [] x e = ap (λ (y : Span). same_tag y.tag tag) (same_Some s x e)
 bears_newest tag s (t ∷ spans) x e = bears_newest tag t spans x e
 
 one_less : (n : ℕ) → suc n - 1 ≡ n
@@ -37,7 +35,7 @@ goes_on_from : (p : Position) (s : Span) (spans : List Span) (x : Span) → bear
     → extended_from p s spans ≡ set (s ∷ spans) (length spans) (record x { last = p.seq })
 goes_on_from p s [] x bears e =
     ap (λ (b : Bool). cond b (record s { last = p.seq } ∷ []) (s ∷ span_at p ∷ [])) bears
-    ∙ ap (λ (y : Span). record y { last = p.seq } ∷ []) (same_span s x e)
+    ∙ ap (λ (y : Span). record y { last = p.seq } ∷ []) (same_Some s x e)
 goes_on_from p s (t ∷ spans) x bears e = ap (λ (ys : List Span). s ∷ ys) (goes_on_from p t spans x bears e)
 
 pub goes_on : (p : Position) (spans : List Span) (n : ℕ) (x : Span) → newest_bears p.tag spans ≡ true → n ≡ length spans - 1 → slice_get spans n ≡ Some x

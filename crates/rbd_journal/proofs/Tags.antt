@@ -1,27 +1,22 @@
 -- The tag of a number: what an extension by the next position makes of it.
-use Rattle.std.proofs.Common.{◌≡◌, ◌≢◌, ℕ, zero, suc, ◌+◌, ◌<◌, ◌≤◌, Bool, true, false, ◌&&◌, cond, List, [], ◌∷◌, Option, Some, None, refl, sym, ap, subst, ◌∙◌, arith, inl, inr}
+use Rattle.std.proofs.Common.{◌≡◌, ◌≢◌, ℕ, zero, suc, ◌+◌, ◌<◌, ◌≤◌, Bool, true, false, ◌&&◌, cond, List, [], ◌∷◌, Option, Some, None, sym, ap, subst, ◌∙◌, arith, inl, inr}
 use Rattle.std.specs.Prelude.{nat_le, slice_get, ◌==◌}
 use Rattle.std.proofs.lemmas.Bool.{and_from, and_left, and_parts, and_right, cases_Bool, cases_order, cond-true, cond-false, eqb-true, le-leb, lt-leb}
+use Rattle.std.proofs.lemmas.Option.{same_Some}
 use Rattle.rbd_kinds.specs.declared.id.SiteId.{SiteId}
-use Rattle.rbd_kinds.specs.declared.id.SiteId.TheVariants.{A, B}
 use Rattle.rbd_kinds.specs.declared.journal.Position.{Position}
 use Rattle.rbd_kinds.specs.declared.journal.Span.{Span}
 use Rattle.rbd_kinds.specs.declared.journal.Tag.{Tag}
 use Rattle.rbd_kinds.specs.Spans.{RunFrom, end_after}
 use Rattle.rbd_kinds.specs.Images.{same_site}
+use Rattle.rbd_kinds.proofs.Images.{same_site_is}
 use Rattle.rbd_journal.specs.Records.{extended, extended_from, has, same_tag, span_at, tag_of}
-
-site_is : (a b : SiteId) → same_site a b ≡ true → a ≡ b
-site_is A A e = refl
-site_is A B e = absurd cc
-site_is B A e = absurd cc
-site_is B B e = refl
 
 tag_is : (a b : Tag) → same_tag a b ≡ true → a ≡ b
 tag_is a b e =
     let parts = and_parts (same_site a.site b.site && (a.image == b.image)) (a.no == b.no) e in
     let first = and_parts (same_site a.site b.site) (a.image == b.image) parts.0 in
-    ap (λ (s : SiteId). record a { site = s }) (site_is a.site b.site first.0)
+    ap (λ (s : SiteId). record a { site = s }) (same_site_is a.site b.site first.0)
     ∙ ap (λ (n : ℕ). record a { site = b.site; image = n }) (eqb-true a.image b.image first.1)
     ∙ ap (λ (n : ℕ). record b { no = n }) (eqb-true a.no b.no parts.1)
 
@@ -101,13 +96,10 @@ tag_elsewhere p (s ∷ spans) seq at_end other = elsewhere_from p 0 s spans seq 
 
 -- ---- spans that run on have no number twice
 
-some_is : (x y : Span) → Some x ≡ Some y → x ≡ y
-some_is x y e = cc
-
 -- each span of a run begins where the run does, or behind that
 first_from : (next : ℕ) (spans : List Span) (s : Span) (k : ℕ) → RunFrom next spans → slice_get spans k ≡ Some s → next ≤ s.first
 first_from next [] s k run at = absurd cc
-first_from next (t ∷ spans) s zero run at = let same : t.first ≡ s.first = ap (λ (x : Span). x.first) (some_is t s at) in omega (arith, run.0, same)
+first_from next (t ∷ spans) s zero run at = let same : t.first ≡ s.first = ap (λ (x : Span). x.first) (same_Some t s at) in omega (arith, run.0, same)
 first_from next (t ∷ spans) s (suc k) run at =
     let later : t.last + 1 ≤ s.first = first_from (t.last + 1) spans s k run.2 at in
     omega (arith, run.0, run.1, later)
@@ -116,7 +108,7 @@ pub only_tag : (next : ℕ) (spans : List Span) (s : Span) (k seq : ℕ) → Run
     → tag_of spans seq ≡ Some s.tag
 only_tag next [] s k seq run at from to = absurd cc
 only_tag next (t ∷ spans) s zero seq run at from to =
-    let same : t ≡ s = some_is t s at in
+    let same : t ≡ s = same_Some t s at in
     subst (λ (x : Span). tag_of (x ∷ spans) seq ≡ Some s.tag) (sym same) (cond-true (has s seq) (Some s.tag) (tag_of spans seq) (within s seq from to))
 only_tag next (t ∷ spans) s (suc k) seq run at from to =
     let later : t.last + 1 ≤ s.first = first_from (t.last + 1) spans s k run.2 at in

@@ -1,3 +1,5 @@
 mod EachKind
 pub mod Images
+pub mod Instances
+pub mod Plain
 pub mod Results

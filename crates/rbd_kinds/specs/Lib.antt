@@ -5,6 +5,7 @@ pub mod Form
 pub mod Frame
 pub mod Header
 pub mod Images
+pub mod Instances
 pub mod Operation
 pub mod OperationKind
 pub mod Parts

@@ -2,6 +2,7 @@
 use Rattle.std.proofs.Common.{◌≡◌, ℕ, ◌&&◌, cond, Bool, true, false, List, [], Option, Some, None, option_map, refl, sym, ap, ◌∙◌, subst}
 use Rattle.std.specs.Prelude.{IsSome, is_some}
 use Rattle.std.proofs.lemmas.Bool.{true≢false, and_parts}
+use Rattle.std.proofs.lemmas.Option.{none-some, same_Some}
 use Rattle.rbd_kinds.specs.Sharing.{is_alone}
 use Rattle.rbd_course.specs.Course.{Course, Place, answered, waited, noted, looked, past, is_newcomer_at, is_own_at, is_waiting, has_just_joined, held_stage}
 use Rattle.rbd_course.specs.Course as course
@@ -31,7 +32,6 @@ use Rattle.rbd_machine.specs.Wait.{Wait}
 use Rattle.rbd_machine.specs.Wait as wait
 use Rattle.rbd_rely.specs.Truth.{header_of_own}
 use Rattle.rbd_rely.proofs.Told.{header_changed, told_knew}
-use Rattle.rbd_session.proofs.Sound.{no_some, some_same}
 use Rattle.rbd_known.specs.Tied.{IsTied, OwnsAt, OwnsIn}
 use Rattle.rbd_known.proofs.Owned.{meets, at_through, own_there, own_told, from_told, left_before}
 
@@ -140,8 +140,8 @@ by_edit edit None some = some
 by_edit edit (Some h) some = refl
 
 past_alone : (k : Knowledge) (place : Option Place) (p : Place) → ((q : Place) → place ≡ Some q → k.alone ≡ q.alone) → past place ≡ Some p → k.alone ≡ p.alone
-past_alone k None p alone is = absurd (no_some p is)
-past_alone k (Some q) p alone is = alone q refl ∙ ap (λ (x : Place). x.alone) (some_same (record q { stage = stage.Past }) p is)
+past_alone k None p alone is = absurd (none-some p is)
+past_alone k (Some q) p alone is = alone q refl ∙ ap (λ (x : Place). x.alone) (same_Some (record q { stage = stage.Past }) p is)
 
 -- a header that it knows once it left an image it knew before
 left_knew : (k : Knowledge) (s : SiteId) (i : ℕ) (site : SiteId) (image : ℕ) → IsSome (header_of_own (own_of (left s i k.owns) site image)) → IsSome (header_of_own (own_of k.owns site image))
@@ -335,12 +335,12 @@ module _ (k : Knowledge) (c : Course) (t : IsTied k c) (site : SiteId) (image : 
   held_owns in_line new s i o is = by (is_at s i site image) refl is
     where
       by : (b : Bool) → is_at s i site image ≡ b → cond b (Some waiting) (own_of (left site image k.owns) s i) ≡ Some o → OwnsIn s i o (course.held c.place)
-      by true here found = subst (λ x. OwnsIn s i x (course.held c.place)) (some_same waiting o found) (waiting_in s i here c.place refl in_line new)
+      by true here found = subst (λ x. OwnsIn s i x (course.held c.place)) (same_Some waiting o found) (waiting_in s i here c.place refl in_line new)
       by false other found = still_in s i o c.place new (t.owns s i o (left_before site s image i k.owns o found).0)
 
   held_alone : (place : Option Place) (p : Place) → c.place ≡ place → course.held place ≡ Some p → k.alone ≡ p.alone
-  held_alone None p at is = absurd (no_some p is)
-  held_alone (Some q) p at is = t.alone q at ∙ ap (λ (x : Place). x.alone) (some_same (record q { stage = held_stage q.stage }) p is)
+  held_alone None p at is = absurd (none-some p is)
+  held_alone (Some q) p at is = t.alone q at ∙ ap (λ (x : Place). x.alone) (same_Some (record q { stage = held_stage q.stage }) p is)
 
   -- who leaves its line owns nothing any more
   none_else : (s : SiteId) (i : ℕ) (o : Own) (place : Option Place) → IsInLine site image place → OwnsIn s i o place → is_at s i site image ≡ false → ⊥
@@ -370,7 +370,7 @@ module _ (k : Knowledge) (c : Course) (t : IsTied k c) (site : SiteId) (image : 
 pub waited_tied : (fresh : Bool) (k : Knowledge) (c : Course) (w : Wait) → MayWait fresh c w → IsTied k c → IsTied (passed k w) (waited c w)
 waited_tied fresh k c (wait.Join site image sharing) may t = record {
   owns = λ s i o is. absurd (subst (OwnsIn s i o) may.1 (t.owns s i o is));
-  alone = λ p is. ap (λ (x : Place). x.alone) (some_same (record { site = site; image = image; alone = is_alone sharing; stage = stage.Joined }) p is);
+  alone = λ p is. ap (λ (x : Place). x.alone) (same_Some (record { site = site; image = image; alone = is_alone sharing; stage = stage.Joined }) p is);
   turn = t.turn;
 }
 waited_tied fresh k c (wait.Hold site image) may t = record {
@@ -382,7 +382,7 @@ waited_tied fresh k c (wait.Turn object) may t = record { owns = t.owns; alone =
 waited_tied fresh k c (wait.Applied site image) may t = record { owns = t.owns; alone = t.alone; turn = λ s i some. refl }
 waited_tied fresh k c (wait.Leave site image) may t = record {
   owns = λ s i o is. absurd (left_owns k c t site image may s i o is);
-  alone = λ p is. absurd (no_some p is);
+  alone = λ p is. absurd (none-some p is);
   turn = λ s i some. absurd (left_knows_none k c t site image may s i some);
 }
 

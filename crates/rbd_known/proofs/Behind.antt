@@ -1,6 +1,7 @@
 -- What the requests of a session know once one of them was fed, or all are as they were.
 use Rattle.std.proofs.Common.{◌≡◌, ◌≢◌, ℕ, ◌==◌, ◌≤◌, cond, Bool, true, false, [], Option, Some, None, refl, sym, ap, ◌∙◌, subst}
 use Rattle.std.proofs.lemmas.Bool.{true≢false, eqb-true, eq-eqb}
+use Rattle.std.proofs.lemmas.Option.{none-some, same_Some}
 use Rattle.rbd_kinds.specs.declared.id.SiteId.{SiteId}
 use Rattle.rbd_kinds.specs.declared.machine.Fed.{Fed}
 use Rattle.rbd_kinds.specs.declared.reply.Reply.{Reply}
@@ -22,7 +23,7 @@ use Rattle.rbd_session.specs.OnTrack.{IsOnTrack, AreFair, LeavesOthers}
 use Rattle.rbd_session.specs.Session.{SessionView, IsSoundSession, IsAlike, IsAlikeIn, IsFed, ComesToIn, OfRunning, held_in, running_in, running_at}
 use Rattle.rbd_session.specs.Track.{Track, Lines, course_in, course_of, line_in, run}
 use Rattle.rbd_session.specs.Waits.{waits}
-use Rattle.rbd_session.proofs.Sound.{held_range, no_some, some_same}
+use Rattle.rbd_session.proofs.Sound.{held_range}
 use Rattle.rbd_known.specs.Knowing.{KnowsBy, KnowsIn, AllKnow, HasItsTurns, KeepsTurns, knows_after, known_behind, unless_ended}
 use Rattle.rbd_known.specs.Tied.{IsTied}
 use Rattle.rbd_known.proofs.Onward.{behind_has, behind_in_turn, behind_lawful, behind_tied, fed_keeps_turns}
@@ -36,9 +37,9 @@ same_found slot (Some p) old new same = same p.site p.image
 
 module _ {R : Type 0} (stands : R → Standing) where
   of_running : (P : Running R → Type 0) (o : Option (Occupant R)) (r : Running R) → running_in o ≡ Some r → OfRunning P o → P r
-  of_running P (Some (occupant.Running q)) r is holds = subst P (some_same q r is) holds
-  of_running P (Some (occupant.Refused line refusal)) r is holds = absurd (no_some r is)
-  of_running P None r is holds = absurd (no_some r is)
+  of_running P (Some (occupant.Running q)) r is holds = subst P (same_Some q r is) holds
+  of_running P (Some (occupant.Refused line refusal)) r is holds = absurd (none-some r is)
+  of_running P None r is holds = absurd (none-some r is)
 
   pub knows_there : (s : SessionView R) (knows : ℕ → Knowledge) (slot : ℕ) (r : Running R) → running_at slot s ≡ Some r → AllKnow stands knows s → KnowsBy stands slot r s.lines (knows slot)
   knows_there s knows slot r runs all = subst (λ o. KnowsIn stands slot o s.lines (knows slot)) runs (all slot)
@@ -47,7 +48,7 @@ module _ {R : Type 0} (stands : R → Standing) where
 
   goes_further : (slot : ℕ) (labels : Label → Plan) (plan : Plan) (t : Track) (r q : Running R) (lines : LinesView) → ComesTo stands slot labels plan t None r q lines
       → GoesFurther stands slot (record { labels = labels; plan = plan }) t None r q lines
-  goes_further slot labels (Return reply) t r q lines comes = absurd (no_some reply comes.reply)
+  goes_further slot labels (Return reply) t r q lines comes = absurd (none-some reply comes.reply)
   goes_further slot labels (Ask site why o next) t r q lines comes = comes
   goes_further slot labels (Await w next) t r q lines comes = comes
   goes_further slot labels (Note site image event next) t r q lines comes = comes
@@ -83,7 +84,7 @@ module _ {R : Type 0} (stands : R → Standing) where
         further_knows q on fair asks can alone may_go
         (goes_further slot (stands r.request).labels (at_operation (stands r.request).labels (plan_after (stands r.request).plan f))
         (run slot (plan_after (stands r.request).plan f) (fed_by slot r.extent (track_of r lines) (stands r.request).plan f)) r q after comes.1)
-    comes_knows on fair asks can alone may_go (Some reply) (Some (occupant.Running q)) comes = absurd (no_some reply (sym comes.0))
+    comes_knows on fair asks can alone may_go (Some reply) (Some (occupant.Running q)) comes = absurd (none-some reply (sym comes.0))
     comes_knows on fair asks can alone may_go (Some reply) None comes = refl
     comes_knows on fair asks can alone may_go None None comes = absurd (true≢false (sym comes.0))
     comes_knows on fair asks can alone may_go result (Some (occupant.Refused line refusal)) comes = elim comes [ ]
@@ -109,10 +110,10 @@ module _ {R : Type 0} (stands : R → Standing) where
       → ComesTo stands slot labels plan t (Some result) r q after → KeepsTurns slot old (lines_of after)
   ends_keep slot labels (Return reply) t result r q old after keeps comes =
       subst (KeepsTurns slot old) (sym comes.left) (λ other differ site image object is. ended_keeps_turns slot t other differ site image object (keeps other differ site image object is))
-  ends_keep slot labels (Ask site why o next) t result r q old after keeps comes = absurd (no_some result (sym comes.none))
-  ends_keep slot labels (Await w next) t result r q old after keeps comes = absurd (no_some result (sym comes.none))
-  ends_keep slot labels (Note site image event next) t result r q old after keeps comes = absurd (no_some result (sym comes.none))
-  ends_keep slot labels (Goto label) t result r q old after keeps comes = absurd (no_some result (sym comes.none))
+  ends_keep slot labels (Ask site why o next) t result r q old after keeps comes = absurd (none-some result (sym comes.none))
+  ends_keep slot labels (Await w next) t result r q old after keeps comes = absurd (none-some result (sym comes.none))
+  ends_keep slot labels (Note site image event next) t result r q old after keeps comes = absurd (none-some result (sym comes.none))
+  ends_keep slot labels (Goto label) t result r q old after keeps comes = absurd (none-some result (sym comes.none))
 
   module _ (slot : ℕ) (from : 1 ≤ slot) (to : slot ≤ 64) (r : Running R) (lines after : LinesView) (f : Fed) where
     comes_keep : IsOnTrack slot r.extent true (stands r.request) (track_of r lines) → AreFair (lines_of lines) → IsAsking (stands r.request).plan → CanBeFed (stands r.request).plan f
@@ -127,7 +128,7 @@ module _ {R : Type 0} (stands : R → Standing) where
             subst (KeepsTurns slot (lines_of lines))
             (sym (ap (λ (t : Track). t.lines) (goes_further slot (stands r.request).labels (at_operation (stands r.request).labels (plan_after (stands r.request).plan f))
             (run slot (plan_after (stands r.request).plan f) (fed_by slot r.extent (track_of r lines) (stands r.request).plan f)) r q after comes.1).track)) keeps
-        by (Some reply) (Some (occupant.Running q)) comes = absurd (no_some reply (sym comes.0))
+        by (Some reply) (Some (occupant.Running q)) comes = absurd (none-some reply (sym comes.0))
         by (Some reply) None comes =
             ends_keep slot (stands r.request).labels (at_operation (stands r.request).labels (plan_after (stands r.request).plan f))
             (run slot (plan_after (stands r.request).plan f) (fed_by slot r.extent (track_of r lines) (stands r.request).plan f)) reply r r (lines_of lines) after keeps comes.1
@@ -137,7 +138,7 @@ module _ {R : Type 0} (stands : R → Standing) where
   -- whoever runs stands in a slot
   runs_held : (o : Option (Occupant R)) (r : Running R) → running_in o ≡ Some r → (x : Occupant R) × (o ≡ Some x)
   runs_held (Some x) r is = (x, refl)
-  runs_held None r is = absurd (no_some r is)
+  runs_held None r is = absurd (none-some r is)
 
   pub fed_know : (s t : SessionView R) (slot : ℕ) (r : Running R) (f : Fed) (result : Option Reply) (knows : ℕ → Knowledge) → IsSoundSession stands s → running_at slot s ≡ Some r
       → waits slot (track_of r s.lines) ≡ false → CanBeFed (stands r.request).plan f → IsFedStandalone f → IsFed stands slot f result s t → ((other : ℕ) → other ≢ slot → held_in other t.slots ≡ held_in other s.slots)
@@ -187,8 +188,8 @@ module _ {R : Type 0} (stands : R → Standing) where
   alike_in : (slot : ℕ) (o p : Option (Occupant R)) (old new : LinesView) (k : Knowledge) → IsAlikeIn stands o p → lines_of new ≡ lines_of old → KnowsIn stands slot (running_in o) old k
       → KnowsIn stands slot (running_in p) new k
   alike_in slot (Some (occupant.Running r)) (Some (occupant.Running q)) old new k alike lines knows = same_stand_knows slot r q old new k alike lines knows
-  alike_in slot (Some (occupant.Running r)) (Some (occupant.Refused line refusal)) old new k alike lines knows = absurd (no_some r (ap running_in alike))
-  alike_in slot (Some (occupant.Running r)) None old new k alike lines knows = absurd (no_some (occupant.Running r) alike)
+  alike_in slot (Some (occupant.Running r)) (Some (occupant.Refused line refusal)) old new k alike lines knows = absurd (none-some r (ap running_in alike))
+  alike_in slot (Some (occupant.Running r)) None old new k alike lines knows = absurd (none-some (occupant.Running r) alike)
   alike_in slot (Some (occupant.Refused line refusal)) p old new k alike lines knows =
       subst (λ o. KnowsIn stands slot (running_in o) new k) (sym alike) knows
   alike_in slot None p old new k alike lines knows = subst (λ o. KnowsIn stands slot (running_in o) new k) (sym alike) knows

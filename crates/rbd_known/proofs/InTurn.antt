@@ -3,16 +3,16 @@
 use Rattle.std.proofs.Common.{◌≡◌, inl, inr, ℕ, ◌≤◌, Bool, true, false, [], Option, Some, None, is_some, refl, sym, ap, ◌∙◌, subst}
 use Rattle.std.specs.Prelude.{IsSome}
 use Rattle.std.proofs.lemmas.Bool.{true≢false, and_parts}
+use Rattle.std.proofs.lemmas.Option.{none-some}
 use Rattle.rbd_course.specs.Course.{is_own_at, is_waiting}
 use Rattle.rbd_course.specs.Orderly.{MayWait}
-use Rattle.rbd_course.specs.declared.stage.Stage.{Stage}
 use Rattle.rbd_course.specs.declared.stage.Stage.TheVariants as stage
 use Rattle.rbd_kinds.specs.declared.answer.Answer.{Answer}
 use Rattle.rbd_kinds.specs.declared.id.SiteId.{SiteId}
 use Rattle.rbd_kinds.specs.declared.layout.Extent.{Extent}
 use Rattle.rbd_kinds.specs.declared.machine.Want.TheVariants as want
 use Rattle.rbd_kinds.specs.declared.operation.Op.{Op}
-use Rattle.rbd_line.specs.Line.{has_turn, is_past, member_of, objects_in}
+use Rattle.rbd_line.specs.Line.{has_turn, member_of, objects_in}
 use Rattle.rbd_line.specs.Turns.{begins_with}
 use Rattle.rbd_machine.specs.Knowledge.{Knowledge, Own, learned, own_of, passed}
 use Rattle.rbd_machine.specs.Label.{Label}
@@ -27,8 +27,7 @@ use Rattle.rbd_session.specs.OnTrack.{AreFair, HasNext, IsNowhereElse, IsOnTrack
 use Rattle.rbd_session.specs.Track.{Lines, Track, answered_by, course_of, line_in, noted_by, run, waited_by}
 use Rattle.rbd_session.proofs.Behind.{holds_none}
 use Rattle.rbd_session.proofs.Fairness.{passed_by_fair}
-use Rattle.rbd_session.proofs.Sound.{no_some}
-use Rattle.rbd_session.proofs.Way.{noted_on_track, nowhere_course, place_there, waited_on_track}
+use Rattle.rbd_session.proofs.Way.{noted_on_track, nowhere_course, place_there, waited_on_track, waiting_not_past}
 use Rattle.rbd_known.specs.Knowing.{HasItsTurns, KeepsTurns}
 use Rattle.rbd_known.specs.Tied.{IsTied}
 use Rattle.rbd_known.proofs.Along.{left_knows_none}
@@ -36,11 +35,6 @@ use Rattle.rbd_known.proofs.There.{owner_there}
 use Rattle.rbd_known.proofs.Turning.{noted_keeps_turns, own_held, own_joined, own_noted, turn_answered, waited_keeps_turns}
 
 -- ---- no turn before the own look
-
-waiting_not_past : (s : Stage) → is_waiting s ≡ true → is_past s ≡ false
-waiting_not_past stage.Joined waits = refl
-waiting_not_past stage.Waiting waits = refl
-waiting_not_past stage.Past waits = sym waits
 
 pub quiet_before : (slot : ℕ) (t : Track) → IsSomewhere slot t → AreFair t.lines → HasNext slot t → (s : SiteId) (i : ℕ) → is_own_at s i (course_of slot t).place ≡ true → t.turn ≡ None
 quiet_before slot t (inl nowhere) fair next s i own = absurd (true≢false (sym own ∙ ap (is_own_at s i) (nowhere_course slot t nowhere)))
@@ -109,7 +103,7 @@ module _ (slot : ℕ) (from : 1 ≤ slot) (to : slot ≤ 64) (e : Option Extent)
     where
       joins : IsSomewhere slot t → (t.place ≡ None) × (member_of slot (t.lines site image) ≡ None)
       joins (inl nowhere) = (nowhere, subst (λ q. IsNowhereElse slot q t.lines) nowhere on.elsewhere site image refl)
-      joins (inr (p, m, there)) = absurd (no_some _ (sym may.1 ∙ place_there slot p m t there))
+      joins (inr (p, m, there)) = absurd (none-some _ (sym may.1 ∙ place_there slot p m t there))
   waited_fair fresh t old (wait.Hold site image) on may fair = passed_by_fair slot from to t (want.Hold site image) fair tt
   waited_fair fresh t old (wait.Turn object) on may fair = passed_by_fair slot from to t (want.Turn object) fair tt
   waited_fair fresh t old (wait.Applied site image) on may fair = passed_by_fair slot from to t (want.Applied site image) fair tt

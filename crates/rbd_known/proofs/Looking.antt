@@ -4,6 +4,7 @@ use Rattle.std.specs.Prelude.{IsSome}
 use Rattle.std.specs.List.{filter}
 use Rattle.std.specs.Option.{option_map}
 use Rattle.std.proofs.lemmas.Bool.{true≢false, or_parts}
+use Rattle.std.proofs.lemmas.Option.{none-some}
 use Rattle.rbd_kinds.specs.Sharing.{is_alone}
 use Rattle.rbd_course.specs.Course.{is_waiting, has_just_joined}
 use Rattle.rbd_course.specs.declared.stage.Stage.{Stage}
@@ -35,7 +36,6 @@ use Rattle.rbd_session.specs.Session.{SessionView, IsSoundSession, running_at}
 use Rattle.rbd_session.specs.Track.{Track, Lines, line_in, course_of}
 use Rattle.rbd_session.specs.Waits.{waits, awaits_line, awaits_turn, is_at_own}
 use Rattle.rbd_session.proofs.Members.{at_own_slot}
-use Rattle.rbd_session.proofs.Sound.{no_some}
 use Rattle.rbd_site.specs.Records.{Records}
 use Rattle.rbd_known.specs.Knowing.{AllKnow, KnowsBy, KnowsIn}
 use Rattle.rbd_known.proofs.Behind.{knows_there}
@@ -113,7 +113,7 @@ module _ {R : Type 0} (stands : R → Standing) (s : SessionView R) (knows : ℕ
   runs_who_owns slot site image o is = by (running_at slot s) refl (all slot)
     where
       by : (q : Option (Running R)) → running_at slot s ≡ q → KnowsIn stands slot q s.lines (knows slot) → (r : Running R) × (running_at slot s ≡ Some r)
-      by None rests nothing = absurd (no_some o (sym (ap (λ (k : Knowledge). own_of k.owns site image) nothing) ∙ is))
+      by None rests nothing = absurd (none-some o (sym (ap (λ (k : Knowledge). own_of k.owns site image) nothing) ∙ is))
       by (Some r) runs known = (r, runs)
 
   module _ (slot other : ℕ) (differ : slot ≢ other) (r : Running R) (runs : running_at slot s ≡ Some r) (goes : waits slot (track_of r s.lines) ≡ false) (site : SiteId) (image : ℕ) where

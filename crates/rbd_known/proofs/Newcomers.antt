@@ -1,6 +1,7 @@
 -- A request that begins knows nothing, and so goes with its place.
 use Rattle.std.proofs.Common.{◌≡◌, ℕ, Option, None, sym, ◌∙◌}
 use Rattle.std.proofs.lemmas.Bool.{true≢false}
+use Rattle.std.proofs.lemmas.Option.{none-some}
 use Rattle.rbd_kinds.specs.declared.layout.Extent.{Extent}
 use Rattle.rbd_machine.specs.Knowledge.{nothing_known}
 use Rattle.rbd_machine.specs.Lawful.{IsLawfulRequest}
@@ -12,15 +13,14 @@ use Rattle.rbd_session.specs.Advance.{track_of}
 use Rattle.rbd_session.specs.Lines.{LinesView}
 use Rattle.rbd_session.specs.Session.{BeginsAt}
 use Rattle.rbd_session.specs.Track.{Track, course_of}
-use Rattle.rbd_session.proofs.Sound.{no_some}
 use Rattle.rbd_session.proofs.Way.{nowhere_course}
 use Rattle.rbd_known.specs.Knowing.{KnowsBy}
 use Rattle.rbd_known.specs.Tied.{IsTied}
 
 nowhere_tied : (slot : ℕ) (t : Track) → t.place ≡ None → IsTied nothing_known (course_of slot t)
 nowhere_tied slot t nowhere = record {
-  owns = λ site image o is. absurd (no_some o is);
-  alone = λ p is. absurd (no_some p (sym (nowhere_course slot t nowhere) ∙ is));
+  owns = λ site image o is. absurd (none-some o is);
+  alone = λ p is. absurd (none-some p (sym (nowhere_course slot t nowhere) ∙ is));
   turn = λ site image some. absurd (true≢false (sym some));
 }
 

@@ -1,6 +1,7 @@
 -- Up to its next operation a request is lawful by what it knows there, and goes with its place.
 use Rattle.std.proofs.Common.{◌≡◌, inl, inr, ℕ, ◌≤◌, Bool, true, false, [], Option, Some, None, refl, sym, ◌∙◌, subst}
 use Rattle.std.proofs.lemmas.Bool.{true≢false, and_parts, or_parts}
+use Rattle.std.proofs.lemmas.Option.{none-some}
 use Rattle.rbd_kinds.specs.declared.sharing.Sharing.{Sharing}
 use Rattle.rbd_course.specs.Course.{Place, behind, is_own_at, is_waiting, noted, waited}
 use Rattle.rbd_course.specs.Orderly.{BeginsWith, IsInLine, MayWait}
@@ -26,7 +27,6 @@ use Rattle.rbd_session.specs.Track.{Track, course_in, course_of, line_in, run, w
 use Rattle.rbd_rely.specs.Turns.{KnowsInTurn}
 use Rattle.rbd_rely.proofs.Turns.{answered_in_turn, waited_in_turn}
 use Rattle.rbd_session.proofs.Fairness.{answered_by_fair}
-use Rattle.rbd_session.proofs.Sound.{no_some}
 use Rattle.rbd_session.proofs.Track.{course_held, course_turned, course_applied, course_noted, course_joined, course_left, course_answered}
 use Rattle.rbd_session.proofs.Way.{in_line_there, place_there, answered_on_track, waited_on_track, noted_on_track}
 use Rattle.rbd_known.specs.Knowing.{HasItsTurns, KeepsTurns, known_at_operation, known_behind}
@@ -69,7 +69,7 @@ module _ (slot : ℕ) (e : Option Extent) (fresh : Bool) (s : Standing) (t : Tra
   joined_course site image sharing none (inl nowhere) =
       let nowhere_else : IsNowhereElse slot None t.lines = subst (λ q. IsNowhereElse slot q t.lines) nowhere on.elsewhere in
       course_joined slot t site image sharing nowhere (nowhere_else site image refl)
-  joined_course site image sharing none (inr (p, m, there)) = absurd (no_some _ (sym none ∙ place_there slot p m t there))
+  joined_course site image sharing none (inr (p, m, there)) = absurd (none-some _ (sym none ∙ place_there slot p m t there))
 
   turned_course : (object : ℕ) → BeginsWith object (behind (course_of slot t).turn (course_of slot t).objects) → IsSomewhere slot t
       → course_of slot (waited_by slot t (wait.Turn object)) ≡ waited (course_of slot t) (wait.Turn object)

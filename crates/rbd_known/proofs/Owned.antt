@@ -1,12 +1,12 @@
 -- The images that a request owns: where they are, and what becomes of them.
 use Rattle.std.proofs.Common.{◌≡◌, ℕ, cond, Bool, true, false, List, [], ◌∷◌, map, Option, Some, None, option_map, refl, sym, ap, ◌∙◌, subst}
+use Rattle.std.proofs.lemmas.Option.{none-some, same_Some}
 use Rattle.rbd_kinds.specs.declared.header.HeaderView.{HeaderView}
 use Rattle.rbd_kinds.specs.declared.id.SiteId.{SiteId}
+use Rattle.rbd_kinds.proofs.Images.{at_itself}
 use Rattle.rbd_machine.specs.Knowledge.{Own, own_of, is_at, told_of, with_header, left}
-use Rattle.rbd_machine.proofs.Lawful.{at_itself}
 use Rattle.rbd_machine.proofs.Lawful.{left_here}
 use Rattle.rbd_rely.proofs.Less.{place_of, left_there}
-use Rattle.rbd_session.proofs.Sound.{no_some, some_same}
 
 -- ---- places
 
@@ -25,12 +25,12 @@ at_through a b s i j n one other =
 
 -- what is owned is owned at its place
 pub own_there : (owns : List Own) (site : SiteId) (image : ℕ) (o : Own) → own_of owns site image ≡ Some o → is_at site image o.site o.image ≡ true
-own_there [] site image o is = absurd (no_some o is)
+own_there [] site image o is = absurd (none-some o is)
 own_there (x ∷ owns) site image o is = by (is_at site image x.site x.image) refl is (λ found. own_there owns site image o found)
   where
     by : (b : Bool) → is_at site image x.site x.image ≡ b → cond b (Some x) (own_of owns site image) ≡ Some o
         → (own_of owns site image ≡ Some o → is_at site image o.site o.image ≡ true) → is_at site image o.site o.image ≡ true
-    by true here found rest = subst (λ (y : Own). is_at site image y.site y.image ≡ true) (some_same x o found) here
+    by true here found rest = subst (λ (y : Own). is_at site image y.site y.image ≡ true) (same_Some x o found) here
     by false other found rest = rest found
 
 -- ---- what it is told of
@@ -56,8 +56,8 @@ own_told site there image place change (o ∷ owns) = by (is_at site image o.sit
 
 -- what holds of each own once it is told holds of the one that is found
 pub from_told : (told : Own → Own) (was : Option Own) (o : Own) (P : Own → Type 0) → option_map told was ≡ Some o → ((before : Own) → was ≡ Some before → P (told before)) → P o
-from_told told None o P is all = absurd (no_some o is)
-from_told told (Some before) o P is all = subst P (some_same (told before) o is) (all before refl)
+from_told told None o P is all = absurd (none-some o is)
+from_told told (Some before) o P is all = subst P (same_Some (told before) o is) (all before refl)
 
 -- ---- what it leaves
 
@@ -71,5 +71,5 @@ left_before there site place image owns o is = by (is_at site image there place)
         let same = place_of site there image place at in
         let none : own_of (left there place owns) site image ≡ None =
         ap (λ s. own_of (left there place owns) s image) same.0 ∙ ap (λ i. own_of (left there place owns) there i) same.1 ∙ left_here there place owns in
-        absurd (no_some o (sym none ∙ is))
+        absurd (none-some o (sym none ∙ is))
     by false other = (sym (left_there there site place image other owns) ∙ is, other)

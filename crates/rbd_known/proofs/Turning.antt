@@ -3,6 +3,7 @@
 use Rattle.std.proofs.Common.{◌≡◌, ◌≢◌, ◌⊎◌, inl, inr, ℕ, cond, not, Bool, true, false, List, [], ◌∷◌, ◌++◌, Option, Some, None, refl, sym, ap, ◌∙◌, subst}
 use Rattle.std.proofs.lemmas.Bool.{true≢false, or_parts}
 use Rattle.std.proofs.lemmas.List.{append-nil}
+use Rattle.std.proofs.lemmas.Option.{same_Some}
 use Rattle.rbd_kinds.specs.declared.sharing.Sharing.{Sharing}
 use Rattle.rbd_course.specs.Course.{is_own_at}
 use Rattle.rbd_guard.specs.Order.{is_in}
@@ -23,7 +24,6 @@ use Rattle.rbd_rely.proofs.Less.{place_of}
 use Rattle.rbd_session.specs.OnTrack.{AreFair, MayTake}
 use Rattle.rbd_session.specs.Track.{Track, Lines, answered_by, changed_at, course_of, done_with, ended_by, given, image_at, line_in, looked_by, noted_by, waited_by}
 use Rattle.rbd_session.specs.Waits.{awaits_line, awaits_turn, lacks_turn, waits}
-use Rattle.rbd_session.proofs.Sound.{some_same}
 use Rattle.rbd_session.proofs.Track.{changed_here}
 use Rattle.rbd_known.specs.Knowing.{KeepsTurns}
 use Rattle.rbd_known.proofs.Firsts.{before_first, joined_first, left_first, no_more_first, others_first, own_first}
@@ -71,7 +71,7 @@ module _ (slot n object : ℕ) (differ : n ≢ slot) where
   noted_first t fair (inl none) =
       kept_at (given t.due) (λ m out. ap (λ due. is_in object (m.objects ++ due)) none ∙ ap (is_in object) (append-nil m.objects) ∙ out) t.place t.lines
   noted_first t fair (inr may) = first_at n object t.place (changed slot (given t.due)) t.lines (λ p is.
-      let same : may.place ≡ p = some_same may.place p (sym may.there.place ∙ is) in
+      let same : may.place ≡ p = same_Some may.place p (sym may.there.place ∙ is) in
       before_first n object slot (given t.due) differ (t.lines p.site p.image)
       (subst (λ (q : ImageAt). none_past_behind slot (t.lines q.site q.image) ≡ true) same may.behind) (fair p.site p.image).each)
 

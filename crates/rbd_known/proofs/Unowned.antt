@@ -2,6 +2,7 @@
 use Rattle.std.proofs.Common.{◌≡◌, ℕ, List, true, false, Option, Some, None, option_map, refl, sym, ap, ◌∙◌}
 use Rattle.std.specs.Prelude.{is_some}
 use Rattle.std.proofs.lemmas.Bool.{true≢false}
+use Rattle.std.proofs.lemmas.Option.{none-some}
 use Rattle.rbd_kinds.specs.declared.answer.Answer.{Answer}
 use Rattle.rbd_kinds.specs.declared.answer.Answer.TheVariants as answer
 use Rattle.rbd_kinds.specs.declared.data_op.DataOp.{DataOp}
@@ -29,7 +30,6 @@ use Rattle.rbd_machine.specs.Permits.{Permits}
 use Rattle.rbd_machine.specs.Plan.{Plan, Ask, Await, Note, Return, Goto, plan_after}
 use Rattle.rbd_rely.specs.Beside.{AreBeside, LeavesObject, MayAct, SharesLock}
 use Rattle.rbd_rely.specs.Truth.{header_of_own}
-use Rattle.rbd_session.proofs.Sound.{no_some}
 use Rattle.rbd_site.specs.Records.{Records}
 use Rattle.rbd_known.specs.Calm.{IsCalm, OwnsNothing}
 use Rattle.rbd_known.specs.Knowing.{known_at_operation, known_behind}
@@ -42,13 +42,13 @@ module _ (k : Knowledge) (none : OwnsNothing k) where
   -- a look at what it doesn't own
   got_nothing : (s : SiteId) (i : ℕ) (h : HeaderView) (o : Option Own) → own_of k.owns s i ≡ o → OwnsNothing (header_told s i (first_told h) (looked_owning o s i k))
   got_nothing s i h None is = told_nothing s i (first_told h)
-  got_nothing s i h (Some o) is = absurd (no_some o (sym (none.owns s i) ∙ is))
+  got_nothing s i h (Some o) is = absurd (none-some o (sym (none.owns s i) ∙ is))
 
   header_nothing : (s : SiteId) (i : ℕ) (o : HeaderOp) (a : Answer) → Permits k s (op.Header i o) → OwnsNothing (learned_of_header k s i o a)
   header_nothing s i header.Get (answer.Header h) permits = got_nothing s i h (own_of k.owns s i) refl
   header_nothing s i (header.Create view) answer.Done permits = record { owns = none.owns; gone = none.gone }
   header_nothing s i (header.SetSize to) answer.Done permits = told_nothing s i (option_map (with_size to))
-  header_nothing s i header.Remove answer.Done permits = absurd (no_some _ (sym (none.owns s i) ∙ permits.is))
+  header_nothing s i header.Remove answer.Done permits = absurd (none-some _ (sym (none.owns s i) ∙ permits.is))
   header_nothing s i (header.SnapAdd name) (answer.Snap snap) permits = told_nothing s i (option_map (with_snap name))
   header_nothing s i (header.SnapRemove snap) answer.Done permits = told_nothing s i (option_map (without_snap snap))
   header_nothing s i header.Get _ permits = none

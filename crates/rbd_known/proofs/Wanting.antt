@@ -1,5 +1,6 @@
 -- A request that wants an operation and may go on: what a poll of it is, and what it can be fed.
 use Rattle.std.proofs.Common.{◌≡◌, ℕ, cond, Bool, true, false, Option, Some, None, refl, sym, ap, ◌∙◌, subst}
+use Rattle.std.proofs.lemmas.Option.{none-some, same_Some}
 use Rattle.rbd_kinds.specs.declared.answer.Answer.{Answer}
 use Rattle.rbd_kinds.specs.declared.id.SiteId.{SiteId}
 use Rattle.rbd_kinds.specs.declared.machine.Fed.TheVariants as fed
@@ -14,7 +15,6 @@ use Rattle.rbd_session.specs.Advance.{track_of}
 use Rattle.rbd_session.specs.Lines.{LinesView}
 use Rattle.rbd_session.specs.Session.{SessionView, IsAnswered, OfRunning, going_in, held_in, of_going, op_asked, op_at}
 use Rattle.rbd_session.specs.Waits.{waits}
-use Rattle.rbd_session.proofs.Sound.{no_some, some_same}
 
 module _ {R : Type 0} (stands : R → Standing) where
   pub record Wants (slot : ℕ) (lines : LinesView) (site : SiteId) (o : Op) (held : Option (Occupant R)) : Type 0 where
@@ -28,7 +28,7 @@ module _ {R : Type 0} (stands : R → Standing) where
   asks_for : (slot : ℕ) (lines : LinesView) (site : SiteId) (o : Op) (r : Running R) (plan : Plan) → (stands r.request).plan ≡ plan → waits slot (track_of r lines) ≡ false
       → op_asked plan ≡ Some (site, o) → Wants slot lines site o (Some (occupant.Running r))
   asks_for slot lines site o r (Ask there why op next) plan goes is =
-      let same = some_same (there, op) (site, o) is in
+      let same = same_Some (there, op) (site, o) is in
       record {
         request = r;
         is = refl;
@@ -37,19 +37,19 @@ module _ {R : Type 0} (stands : R → Standing) where
         next = next;
         plan = plan ∙ ap (λ (p : SiteId × Op). Ask p.0 why p.1 next) same;
       }
-  asks_for slot lines site o r (Await w next) plan goes is = absurd (no_some (site, o) is)
-  asks_for slot lines site o r (Note there image event next) plan goes is = absurd (no_some (site, o) is)
-  asks_for slot lines site o r (Return reply) plan goes is = absurd (no_some (site, o) is)
-  asks_for slot lines site o r (Goto label) plan goes is = absurd (no_some (site, o) is)
+  asks_for slot lines site o r (Await w next) plan goes is = absurd (none-some (site, o) is)
+  asks_for slot lines site o r (Note there image event next) plan goes is = absurd (none-some (site, o) is)
+  asks_for slot lines site o r (Return reply) plan goes is = absurd (none-some (site, o) is)
+  asks_for slot lines site o r (Goto label) plan goes is = absurd (none-some (site, o) is)
 
   pub wants : (slot : ℕ) (lines : LinesView) (site : SiteId) (o : Op) (held : Option (Occupant R)) → of_going stands op_asked (going_in slot held lines) ≡ Some (site, o)
       → Wants slot lines site o held
-  wants slot lines site o None is = absurd (no_some (site, o) is)
-  wants slot lines site o (Some (occupant.Refused line refusal)) is = absurd (no_some (site, o) is)
+  wants slot lines site o None is = absurd (none-some (site, o) is)
+  wants slot lines site o (Some (occupant.Refused line refusal)) is = absurd (none-some (site, o) is)
   wants slot lines site o (Some (occupant.Running r)) is = by (waits slot (track_of r lines)) refl is
     where
       by : (b : Bool) → waits slot (track_of r lines) ≡ b → of_going stands op_asked (cond b None (Some r)) ≡ Some (site, o) → Wants slot lines site o (Some (occupant.Running r))
-      by true w is = absurd (no_some (site, o) is)
+      by true w is = absurd (none-some (site, o) is)
       by false w is = asks_for slot lines site o r (stands r.request).plan refl w is
 
   -- it can be fed an answer that the operation can give

@@ -1,5 +1,5 @@
 -- The bytes of an extent in an object are those between two offsets.
-use Rattle.std.proofs.Common.{◌≡◌, ◌≢◌, ℕ, zero, suc, ◌+◌, ◌-◌, ◌<◌, ◌≤◌, ◌⊎◌, inl, inr, refl, sym, ap, ◌∙◌, subst, arith, List, [], ◌∷◌, ◌++◌, map, eqb, true, false, Bool}
+use Rattle.std.proofs.Common.{◌≡◌, ◌≢◌, ℕ, zero, suc, ◌+◌, ◌-◌, ◌<◌, ◌≤◌, ◌⊎◌, inl, inr, refl, sym, ap, ◌∙◌, subst, arith, [], ◌∷◌, ◌++◌, map, eqb, true, false, Bool}
 use Rattle.std.specs.Prelude.{filter, ◌==◌}
 use Rattle.std.specs.List.{range_with_len}
 use Rattle.std.proofs.lemmas.List.{map-append, append-nil}
@@ -7,21 +7,12 @@ use Rattle.std.proofs.lemmas.List.Elements.{filter-append}
 use Rattle.std.proofs.lemmas.Bool.Decides.{eqb_tells}
 use Rattle.rbd_kinds.specs.declared.layout.Layout.{Layout}
 use Rattle.rbd_kinds.specs.Striping.{IsLayout, object_of, offset_of, byte_at}
+use Rattle.rbd_kinds.proofs.Plain.{range_append}
 use Rattle.rbd_layout.specs.Pieces.{IsHeld}
 use Rattle.rbd_layout.proofs.Mixed.{cases_lt}
 use Rattle.rbd_layout.proofs.Places.{byte_of_place, object_of_byte, offset_within, ascends, ascends_back}
 
 -- ---- ranges
-
-pub range_append : (a m n : ℕ) → range_with_len a (m + n) ≡ range_with_len a m ++ range_with_len (a + m) n
-range_append a zero n =
-    let e : 0 + n ≡ n = omega arith in
-    let d : a + 0 ≡ a = omega arith in
-    rw (e, d) refl
-range_append a (suc m) n =
-    let e : suc m + n ≡ suc (m + n) = omega arith in
-    let d : a + suc m ≡ a + 1 + m = omega arith in
-    rw (e, d) (ap (λ (xs : List ℕ). a ∷ xs) (range_append (a + 1) m n))
 
 pub range_more : (a n : ℕ) → range_with_len a (suc n) ≡ range_with_len a n ++ (a + n) ∷ []
 range_more a n =

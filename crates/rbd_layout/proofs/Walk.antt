@@ -12,10 +12,11 @@ use Rattle.rbd_kinds.specs.declared.layout.Layout.{Layout}
 use Rattle.rbd_kinds.specs.declared.layout.Part.{Part}
 use Rattle.rbd_kinds.specs.declared.layout.Extent.{Extent}
 use Rattle.rbd_kinds.specs.Striping.{IsLayout, units_per_object, byte_at}
+use Rattle.rbd_kinds.proofs.Plain.{range_append}
 use Rattle.rbd_layout.specs.Pieces.{IsHeld, IsPart, IsPartsOf, places_of}
 use Rattle.rbd_layout.proofs.Limits.{shape_of}
 use Rattle.rbd_layout.proofs.Places.{object_of_byte, offset_of_byte, ascends}
-use Rattle.rbd_layout.proofs.Cover.{range_append, map-range, cover}
+use Rattle.rbd_layout.proofs.Cover.{map-range, cover}
 
 -- how many bytes of an object lie together in the image: all of it, where no other object is in the
 -- stripe, else a unit

@@ -4,6 +4,7 @@ use Rattle.std.specs.Prelude.{◌⊎◌}
 use Rattle.std.specs.List.{filter, list_all}
 use Rattle.std.proofs.lemmas.Bool.{eqb-true, cond-true, cond-false, or_right, or_parts, or_cases}
 use Rattle.std.proofs.lemmas.List.{map-append, length-map}
+use Rattle.std.proofs.lemmas.Option.{same_Some}
 use Rattle.rbd_course.specs.declared.stage.Stage.{Stage}
 use Rattle.rbd_course.specs.declared.stage.Stage.TheVariants as stage
 use Rattle.rbd_course.specs.Course.{held_stage}
@@ -265,13 +266,6 @@ passed_pairs slot sharing (x ∷ ms) apart lets same pairs =
       rest (and_right (lets_pass sharing x) (list_all (lets_pass sharing) (ahead slot ms)) lets),
     )
 
-same_some : (a b : Member) → Some a ≡ Some b → a ≡ b
-same_some a b e = ap (λ o. option_or_member o) e
-  where
-    option_or_member : Option Member → Member
-    option_or_member None = a
-    option_or_member (Some m) = m
-
 pub passed_fair : (slot : ℕ) (ms : List Member) → IsFairLine ms → may_pass slot ms ≡ true → IsFairLine (changed slot passed ms)
 passed_fair slot ms fair may =
     record {
@@ -284,7 +278,7 @@ passed_fair slot ms fair may =
     by None e lets = absurd (true≢false (sym lets))
     by (Some found) e lets =
         passed_pairs slot found.sharing ms fair.apart lets
-        (at_slot (λ m. m.sharing ≡ found.sharing) slot ms fair.apart (λ m is. ap (λ n. n.sharing) (same_some m found (sym is ∙ e)))) fair.passing
+        (at_slot (λ m. m.sharing ≡ found.sharing) slot ms fair.apart (λ m is. ap (λ n. n.sharing) (same_Some m found (sym is ∙ e)))) fair.passing
 
 -- ---- one leaves
 

@@ -3,10 +3,13 @@ use Rattle.std.proofs.Common.{◌≡◌, ℕ, ◌≤◌, Bool, true, false, cond
 use Rattle.std.specs.List.{filter, list_all}
 use Rattle.std.specs.Option.{is_some}
 use Rattle.std.proofs.lemmas.Bool.{eqb-true, eqb-false, cond-true, cond-false}
+use Rattle.std.proofs.lemmas.Option.{none-some, same_Some}
+use Rattle.std.proofs.Math.Bool.{or-false}
 use Rattle.rbd_guard.specs.Order.{is_in, AreApart}
 use Rattle.rbd_guard.proofs.Apart.{head_in, in_right, others}
 use Rattle.rbd_kinds.specs.Sharing.{is_alone}
 use Rattle.rbd_kinds.specs.declared.sharing.Sharing.{Sharing}
+use Rattle.rbd_kinds.proofs.Plain.{cond_same}
 use Rattle.rbd_line.specs.Kept.{IsKept}
 use Rattle.rbd_line.specs.Line.{Member, member_of, is_member, behind, is_past, is_shared_past, may_pass, objects_in, objects_of, holds, slots, is_shared_past_in, may_enter, none_past_behind, has_turn, comes_next, joined, held, passed, entered, next_piece, changed, without, Each, IsFairMember, IsFairLine}
 use Rattle.rbd_line.specs.Turns.{begins_with}
@@ -22,23 +25,13 @@ is_found slot (m ∷ ms) = by (eqb m.slot slot) (is_found slot ms)
     by true rest = refl
     by false rest = rest
 
-pub same_some : (a b : Member) → Some a ≡ Some b → a ≡ b
-same_some a b e = ap or_a e
-  where
-    or_a : Option Member → Member
-    or_a None = a
-    or_a (Some m) = m
-
-pub some_none : (a : Member) → None ≡ Some a → ⊥
-some_none a e = true≢false (sym (ap is_some e))
-
 -- what holds of each member holds of the one that is found, which is at its slot
 pub found_has : (P : Member → Type 0) (slot : ℕ) (ms : List Member) → Each P ms → (m : Member) → member_of slot ms ≡ Some m → P m × (m.slot ≡ slot)
-found_has P slot [] all m is = absurd (some_none m is)
+found_has P slot [] all m is = absurd (none-some m is)
 found_has P slot (x ∷ ms) all m is = by (eqb x.slot slot) refl is (λ found. found_has P slot ms all.1 m found)
   where
     by : (b : Bool) → eqb x.slot slot ≡ b → cond b (Some x) (member_of slot ms) ≡ Some m → (member_of slot ms ≡ Some m → P m × (m.slot ≡ slot)) → P m × (m.slot ≡ slot)
-    by true e is rest = (subst P (same_some x m is) all.0, ap (λ n. n.slot) (sym (same_some x m is)) ∙ eqb-true x.slot slot e)
+    by true e is rest = (subst P (same_Some x m is) all.0, ap (λ n. n.slot) (sym (same_Some x m is)) ∙ eqb-true x.slot slot e)
     by false e is rest = rest is
 
 pub enters_as_member : (slot : ℕ) (ms : List Member) → may_enter slot ms ≡ true → is_member slot ms ≡ true
@@ -99,10 +92,6 @@ pub passed_kept : (held_of holders : ℕ → List ℕ) (slot : ℕ) (ms : List M
 passed_kept held_of holders slot ms may kept = stage_kept held_of holders slot passed ms (λ m. refl) (λ m. refl) (passed_fair slot ms kept.fair may) kept
 
 -- ---- one leaves
-
-cond_same : {X : Type 0} (b : Bool) (x : X) → cond b x x ≡ x
-cond_same true x = refl
-cond_same false x = refl
 
 abbrev others_than : (slot : ℕ) → List ℕ → List ℕ
 others_than slot = filter (λ n. not (eqb n slot))
@@ -169,10 +158,6 @@ each_behind P slot (m ∷ ms) all = by (eqb m.slot slot) (each_behind P slot ms 
     by true rest = all.1
     by false rest = rest
 
-or_nothing : (b : Bool) → (b || false) ≡ b
-or_nothing true = refl
-or_nothing false = refl
-
 pub entered_turns : (slot object : ℕ) (ms : List Member) → AreApart (slots ms) → is_member slot ms ≡ true
     → Each (λ m. eqb m.slot slot ≡ true → (is_shared_past m ≡ true) × (is_in object m.objects ≡ false)) ms → filter (holds object) (behind slot ms) ≡ []
     → slots (filter (holds object) (changed slot (entered object) ms)) ≡ slots (filter (holds object) ms) ++ slot ∷ []
@@ -223,7 +208,7 @@ entered_kept old_held old_holders held_of holders slot object ms holders_are hel
 
     other : (o : ℕ) → eqb object o ≡ false → (m : Member) → (holds o (put slot (entered object) m) ≡ holds o m) × ((put slot (entered object) m).slot ≡ m.slot)
     other o e m = (
-      put_is (holds o) slot (entered object) m (in_push o object m.objects ∙ (ap (λ b. is_in o m.objects || b) e ∙ or_nothing (is_in o m.objects))),
+      put_is (holds o) slot (entered object) m (in_push o object m.objects ∙ (ap (λ b. is_in o m.objects || b) e ∙ or-false (is_in o m.objects))),
       put_is (λ k. k.slot) slot (entered object) m refl,
     )
 

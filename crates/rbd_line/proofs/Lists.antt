@@ -1,18 +1,9 @@
 -- Lists of numbers: what is mapped and left out.
 use Rattle.std.proofs.Common.{◌≡◌, ℕ, Bool, true, false, cond, ◌||◌, eqb, List, [], ◌∷◌, map, refl, sym, ap, ◌∙◌, true≢false}
 use Rattle.std.specs.List.{filter}
-use Rattle.std.proofs.lemmas.Bool.{eq-eqb, ne_eqb, eqb-true, eqb-false, cases_Bool}
-use Rattle.std.specs.Prelude.{◌⊎◌}
-use Rattle.std.proofs.Common.{inl, inr}
+use Rattle.std.proofs.lemmas.Bool.{eqb-true}
 use Rattle.rbd_guard.specs.Order.{is_in, AreApart}
 use Rattle.rbd_guard.proofs.Apart.{head_in, tail_in}
-
-pub eqb_flip : (a b : ℕ) → eqb a b ≡ eqb b a
-eqb_flip a b = by (cases_Bool (eqb a b))
-  where
-    by : (eqb a b ≡ true) ⊎ (eqb a b ≡ false) → eqb a b ≡ eqb b a
-    by (inl e) = e ∙ sym (eq-eqb b a (sym (eqb-true a b e)))
-    by (inr e) = e ∙ sym (ne_eqb b a (λ same. eqb-false a b e (sym same)))
 
 -- two functions that agree on what is in a list
 pub map_same : (f g : ℕ → ℕ) (xs : List ℕ) → ((t : ℕ) → is_in t xs ≡ true → f t ≡ g t) → map f xs ≡ map g xs

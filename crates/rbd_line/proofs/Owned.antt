@@ -5,13 +5,14 @@ use Rattle.std.specs.Option.{is_some}
 use Rattle.std.specs.Prelude.{IsOk, IfOk}
 use Rattle.std.proofs.lemmas.Bool.{eq-eqb, ne_eqb, eqb-true, eqb-false, cond-true, cond-false}
 use Rattle.std.proofs.lemmas.List.{map-append}
+use Rattle.std.proofs.lemmas.Option.{none-some, same_Some}
+use Rattle.rbd_kinds.proofs.Plain.{eqb_flip}
 use Rattle.rbd_guard.specs.Order.{is_in, without, AreApart}
 use Rattle.rbd_guard.specs.Tickets.{Tickets, queue, list, object_of, request_of, without_all, AreSame, IsSoundGuard}
 use Rattle.rbd_guard.proofs.Apart.{head_in, absent}
 use Rattle.rbd_guard.proofs.Leaving.{Begins, begins, is_empty, next_is}
-use Rattle.rbd_guard.proofs.Linking.{some_is, none_isnt}
 use Rattle.rbd_line.specs.Turns.{or_zero, slot_of, object_at, holders, held_by, begins_with}
-use Rattle.rbd_line.proofs.Lists.{eqb_flip, map_same, map_filter, first_alone}
+use Rattle.rbd_line.proofs.Lists.{map_same, map_filter, first_alone}
 
 pub empty_holders : (g : Tickets) (object : ℕ) → queue object g ≡ [] → holders object g ≡ []
 unfolding holders
@@ -77,11 +78,11 @@ module _ (old new : Tickets) (slot object ticket : ℕ) (sound : IsSoundGuard ol
     (fresh : object_of ticket old ≡ None) where
   other_queue : (o t : ℕ) → is_in t (queue o old) ≡ true → eqb ticket t ≡ false
   other_queue o t here =
-      ne_eqb ticket t (λ same. none_isnt o (sym fresh ∙ (ap (λ n. object_of n old) same ∙ object_is old sound o t here)))
+      ne_eqb ticket t (λ same. none-some o (sym fresh ∙ (ap (λ n. object_of n old) same ∙ object_is old sound o t here)))
 
   other_list : (r t : ℕ) → is_in t (list r old) ≡ true → eqb ticket t ≡ false
   other_list r t here =
-      ne_eqb ticket t (λ same. none_isnt (object_at old t) (sym fresh ∙ (ap (λ n. object_of n old) same ∙ object_at_is old sound r t here)))
+      ne_eqb ticket t (λ same. none-some (object_at old t) (sym fresh ∙ (ap (λ n. object_of n old) same ∙ object_at_is old sound r t here)))
 
   slots_stay : (o : ℕ) → map (slot_of new) (queue o old) ≡ map (slot_of old) (queue o old)
   slots_stay o =
@@ -137,7 +138,7 @@ module _ (old new : Tickets) (slot : ℕ) (sound : IsSoundGuard old)
   others_stay r t other here = by (is_in t (list slot old)) refl
     where
       by : (b : Bool) → is_in t (list slot old) ≡ b → is_in t (list slot old) ≡ false
-      by true e = absurd (eqb-false slot r other (some_is slot r (sym (request_is old sound slot t e) ∙ request_is old sound r t here)))
+      by true e = absurd (eqb-false slot r other (same_Some slot r (sym (request_is old sound slot t e) ∙ request_is old sound r t here)))
       by false e = e
 
   pub left_held : (r : ℕ) → held_by r new ≡ cond (eqb slot r) [] (held_by r old)
@@ -238,7 +239,7 @@ module _ (old new : Tickets) (slot ticket : ℕ) (rest : List ℕ) (sound : IsSo
           ∙ ap (λ l. drop 1 (map (object_at old) l)) (sym is)))
 
       outside : (b : Bool) → is_in ticket (list r old) ≡ b → eqb slot r ≡ false → is_in ticket (list r old) ≡ false
-      outside true e other = absurd (eqb-false slot r other (some_is slot r (sym (request_is old sound slot ticket its_place) ∙ request_is old sound r ticket e)))
+      outside true e other = absurd (eqb-false slot r other (same_Some slot r (sym (request_is old sound slot ticket its_place) ∙ request_is old sound r ticket e)))
       outside false e other = e
 
       by : (b : Bool) → eqb slot r ≡ b → map (object_at new) (without ticket (list r old))

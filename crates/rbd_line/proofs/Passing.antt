@@ -5,6 +5,8 @@ use Rattle.std.specs.List.{filter, list_all, list_any}
 use Rattle.std.specs.Option.{is_some, option_map}
 use Rattle.std.proofs.lemmas.Bool.{eq-eqb, ne_eqb, eqb-true, cond-true, cond-false, or_left, or_right, and_from}
 use Rattle.std.proofs.lemmas.List.{length-map}
+use Rattle.std.proofs.lemmas.Option.{none-some, same_Some}
+use Rattle.std.proofs.Math.Bool.{and-false}
 use Rattle.rbd_course.specs.declared.stage.Stage.{Stage}
 use Rattle.rbd_course.specs.declared.stage.Stage.TheVariants as stage
 use Rattle.rbd_course.specs.Course.{held_stage}
@@ -17,14 +19,14 @@ use Rattle.rbd_line.specs.Steady.{IsSteady}
 use Rattle.rbd_line.specs.Turns.{begins_with}
 use Rattle.rbd_line.proofs.Fair.{put, put_is, put_keeps, absent_change, rest_out, in_slots, each_true, and_left, and_right}
 use Rattle.rbd_line.proofs.Few.{few}
-use Rattle.rbd_line.proofs.Keeping.{same_some, some_none, found_has, is_found}
+use Rattle.rbd_line.proofs.Keeping.{found_has, is_found}
 use Rattle.rbd_line.proofs.Together.{alone_with_none, flips}
 
 -- ---- two members, one ahead of the other
 
 pub two : (P : Member → Member → Type 0) (ms : List Member) (one other : Member) → EachPair P ms → member_of one.slot ms ≡ Some one → member_of other.slot ms ≡ Some other
     → (one.slot ≡ other.slot → ⊥) → (P one other) ⊎ (P other one)
-two P [] one other pairs here there differ = absurd (some_none one here)
+two P [] one other pairs here there differ = absurd (none-some one here)
 two P (x ∷ ms) one other pairs here there differ =
     by (eqb x.slot one.slot) refl (eqb x.slot other.slot) refl here there (λ h t. two P ms one other pairs.1 h t differ)
   where
@@ -32,8 +34,8 @@ two P (x ∷ ms) one other pairs here there differ =
         → cond a (Some x) (member_of one.slot ms) ≡ Some one → cond b (Some x) (member_of other.slot ms) ≡ Some other
         → (member_of one.slot ms ≡ Some one → member_of other.slot ms ≡ Some other → (P one other) ⊎ (P other one)) → (P one other) ⊎ (P other one)
     by true e true f h t rest = absurd (differ (sym (eqb-true x.slot one.slot e) ∙ eqb-true x.slot other.slot f))
-    by true e false f h t rest = inl (subst (λ m. P m other) (same_some x one h) (found_has (P x) other.slot ms pairs.0 other t).0)
-    by false e true f h t rest = inr (subst (λ m. P m one) (same_some x other t) (found_has (P x) one.slot ms pairs.0 one h).0)
+    by true e false f h t rest = inl (subst (λ m. P m other) (same_Some x one h) (found_has (P x) other.slot ms pairs.0 other t).0)
+    by false e true f h t rest = inr (subst (λ m. P m one) (same_Some x other t) (found_has (P x) one.slot ms pairs.0 one h).0)
     by false e false f h t rest = rest h t
 
 pub apart_past : (ms : List Member) (one other : Member) → IsFairLine ms → member_of one.slot ms ≡ Some one → member_of other.slot ms ≡ Some other → (one.slot ≡ other.slot → ⊥)
@@ -64,7 +66,7 @@ ahead_first (x ∷ ms) object other one here before held_it =
         → begins_with other (slots (cond b (x ∷ filter (holds object) ms) (filter (holds object) ms))) ≡ false
     by true e b f c g h before rest = absurd (true≢false (sym before))
     by false e true f c g h before rest = e
-    by false e false f true g h before rest = absurd (true≢false (sym held_it ∙ (ap (holds object) (sym (same_some x one h)) ∙ f)))
+    by false e false f true g h before rest = absurd (true≢false (sym held_it ∙ (ap (holds object) (sym (same_Some x one h)) ∙ f)))
     by false e false f false g h before rest = rest h (sym (ap (λ c. c || is_member one.slot (ahead other ms)) g) ∙ before)
 
 pub some_turn : (object : ℕ) (ms : List Member) → list_any (holds object) ms ≡ true → list_any (λ (m : Member). holds object m && has_turn m.slot object ms) ms ≡ true
@@ -207,7 +209,7 @@ wait_behind (x ∷ ms) m pairs here waits = by (eqb x.slot m.slot) here (λ ther
   where
     by : (b : Bool) → cond b (Some x) (member_of m.slot ms) ≡ Some m → (member_of m.slot ms ≡ Some m → none_past_behind m.slot ms ≡ true)
         → list_all (λ (m : Member). not (is_past m.stage)) (cond b ms (behind m.slot ms)) ≡ true
-    by true h rest = all_wait x ms (ap (λ n. is_past n.stage) (same_some x m h) ∙ waits) pairs.0
+    by true h rest = all_wait x ms (ap (λ n. is_past n.stage) (same_Some x m h) ∙ waits) pairs.0
     by false h rest = rest h
 
 pub in_order : (ms : List Member) (m : Member) → IsFairLine ms → member_of m.slot ms ≡ Some m → is_past m.stage ≡ false → none_past_behind m.slot ms ≡ true
@@ -271,7 +273,7 @@ may_left ms slot other differ may =
     by (Some m) h = all_filter (lets_pass m.sharing) (λ n. not (eqb n.slot other)) (ahead slot ms) h
 
 some_push : (ms : List Member) (slot : ℕ) (n m : Member) → member_of slot ms ≡ Some m → (member_of slot (ms ++ n ∷ []) ≡ Some m) × (ahead slot (ms ++ n ∷ []) ≡ ahead slot ms)
-some_push [] slot n m here = absurd (some_none m here)
+some_push [] slot n m here = absurd (none-some m here)
 some_push (x ∷ ms) slot n m here = by (eqb x.slot slot) here (λ there. some_push ms slot n m there)
   where
     by : (b : Bool) → cond b (Some x) (member_of slot ms) ≡ Some m
@@ -310,13 +312,9 @@ few_members ms fair =
 
 -- ---- nobody passes one with which it doesn't go together
 
-and_false : (b : Bool) → (b && false) ≡ false
-and_false true = refl
-and_false false = refl
-
 held_back : (ms : List Member) (one : Member) (other : ℕ) (sharing : Sharing) → member_of one.slot ms ≡ Some one → go_together one.sharing sharing ≡ false
     → is_member one.slot (ahead other ms) ≡ true → list_all (lets_pass sharing) (ahead other ms) ≡ false
-held_back [] one other sharing here is before = absurd (some_none one here)
+held_back [] one other sharing here is before = absurd (none-some one here)
 held_back (x ∷ ms) one other sharing here is before =
     by (eqb x.slot other) refl (eqb x.slot one.slot) refl here before (λ h b. held_back ms one other sharing h is b)
   where
@@ -327,9 +325,9 @@ held_back (x ∷ ms) one other sharing here is before =
     by true e c g h before rest = absurd (true≢false (sym before))
     by false e true g h before rest =
         ap (λ b. b && list_all (lets_pass sharing) (ahead other ms))
-        (ap (λ b. is_past x.stage && b) (ap (λ m. go_together m.sharing sharing) (same_some x one h) ∙ is) ∙ and_false (is_past x.stage))
+        (ap (λ b. is_past x.stage && b) (ap (λ m. go_together m.sharing sharing) (same_Some x one h) ∙ is) ∙ and-false (is_past x.stage))
     by false e false g h before rest =
-        ap (λ b. lets_pass sharing x && b) (rest h (sym (ap (λ c. c || is_member one.slot (ahead other ms)) g) ∙ before)) ∙ and_false (lets_pass sharing x)
+        ap (λ b. lets_pass sharing x && b) (rest h (sym (ap (λ c. c || is_member one.slot (ahead other ms)) g) ∙ before)) ∙ and-false (lets_pass sharing x)
 
 pub none_passes : (ms : List Member) (one : Member) (other : ℕ) → member_of one.slot ms ≡ Some one → is_alone one.sharing ≡ true → is_member one.slot (ahead other ms) ≡ true
     → may_pass other ms ≡ false

@@ -2,10 +2,11 @@
 use Rattle.std.proofs.Common.{◌≡◌, ℕ, eqb, Bool, true, false, cond, ◌||◌, List, [], ◌∷◌, Some, refl, sym, ap, ◌∙◌, true≢false}
 use Rattle.std.proofs.lemmas.Bool.{eq-eqb}
 use Rattle.std.specs.Option.{is_some}
+use Rattle.std.proofs.lemmas.Option.{none-some, same_Some}
 use Rattle.rbd_guard.specs.Order.{AreApart}
 use Rattle.rbd_line.specs.Line.{Member, any_past, is_past, member_of, slots}
 use Rattle.rbd_line.proofs.Fair.{rest_out, slots_in}
-use Rattle.rbd_line.proofs.Keeping.{is_found, same_some, some_none}
+use Rattle.rbd_line.proofs.Keeping.{is_found}
 
 -- somebody is past own, and is found
 pub record IsPastIn (ms : List Member) : Type 0 where
@@ -30,7 +31,7 @@ past_found (m ∷ ms) apart any = by (is_past m.stage) refl any (past_found ms a
     by false is any rest = later (rest any)
 
 pub found_past : (slot : ℕ) (ms : List Member) (m : Member) → member_of slot ms ≡ Some m → is_past m.stage ≡ true → any_past ms ≡ true
-found_past slot [] m found past = absurd (some_none m found)
+found_past slot [] m found past = absurd (none-some m found)
 found_past slot (n ∷ ms) m found past = by (eqb n.slot slot) found (λ is. found_past slot ms m is past)
   where
     or_true : (b : Bool) → any_past ms ≡ true → (b || any_past ms) ≡ true
@@ -38,5 +39,5 @@ found_past slot (n ∷ ms) m found past = by (eqb n.slot slot) found (λ is. fou
     or_true false is = is
 
     by : (b : Bool) → cond b (Some n) (member_of slot ms) ≡ Some m → (member_of slot ms ≡ Some m → any_past ms ≡ true) → (is_past n.stage || any_past ms) ≡ true
-    by true is rest = ap (λ b. b || any_past ms) (ap (λ (x : Member). is_past x.stage) (same_some n m is) ∙ past)
+    by true is rest = ap (λ b. b || any_past ms) (ap (λ (x : Member). is_past x.stage) (same_Some n m is) ∙ past)
     by false is rest = or_true (is_past n.stage) (rest is)

@@ -5,13 +5,13 @@ use Rattle.std.proofs.lemmas.List.{map-append, length-map}
 use Rattle.rbd_course.specs.declared.stage.Stage.TheVariants as stage
 use Rattle.rbd_guard.specs.Order.{is_in, AreApart}
 use Rattle.rbd_kinds.specs.declared.sharing.Sharing.{Sharing}
+use Rattle.rbd_kinds.proofs.Plain.{eqb_flip}
 use Rattle.rbd_line.specs.declared.standing.Standing.{Standing}
 use Rattle.rbd_line.specs.Kept.{member, held_at, passed_at, IsKept}
 use Rattle.rbd_line.specs.Line.{Member, is_member, is_past, any_past, may_pass, may_enter, none_past_behind, objects_of, has_turn, comes_next, joined, held, passed, entered, next_piece, changed, without, Each}
 use Rattle.rbd_line.specs.Turns.{begins_with}
 use Rattle.rbd_line.proofs.Fair.{put, room_for_one}
 use Rattle.rbd_line.proofs.Keeping.{joined_kept, held_kept, passed_kept, left_kept, entered_kept, next_kept, held_once, turn_kept}
-use Rattle.rbd_line.proofs.Lists.{eqb_flip}
 
 abbrev pub members_of : (ℕ → List ℕ) → List Standing → List Member
 members_of held_of items = map (member held_of) items

@@ -1,6 +1,6 @@
 -- What lasts of what is counted of one image, whatever comes.
 use Rattle.std.proofs.Common.{◌≡◌, ℕ, Bool, true, false, cond, ◌||◌, List, [], ◌∷◌, refl, sym, ap, subst, ◌∙◌}
-use Rattle.std.proofs.lemmas.Bool.{true≢false, eq-eqb}
+use Rattle.std.proofs.lemmas.Bool.{true≢false}
 use Rattle.std.specs.List.{list_any}
 use Rattle.std.specs.Prelude.{IsTrue}
 use Rattle.rbd_kinds.specs.declared.answer.Answer.{Answer}
@@ -16,11 +16,9 @@ use Rattle.rbd_kinds.specs.declared.operation.Op.TheVariants as op
 use Rattle.rbd_locks.specs.declared.lock_state.LockState.{LockState}
 use Rattle.rbd_locks.specs.Comings.{Coming, ByAnswer, ByNotice, ByQuiesce, ByResume, after_all, after_one, is_end, is_of, is_take, owned_since, owns_after}
 use Rattle.rbd_kinds.specs.Images.{is_at}
+use Rattle.rbd_kinds.proofs.Images.{at_itself}
+use Rattle.rbd_kinds.proofs.Plain.{cond_same}
 use Rattle.rbd_locks.specs.States.{answered, quieted, resumed, told}
-
-either : {A : Type 0} (b : Bool) (x : A) → cond b x x ≡ x
-either true x = refl
-either false x = refl
 
 not_first : (a b : Bool) → (a || b) ≡ false → a ≡ false
 not_first true b is = is
@@ -29,10 +27,6 @@ not_first false b is = refl
 not_second : (a b : Bool) → (a || b) ≡ false → b ≡ false
 not_second true b is = absurd (true≢false is)
 not_second false b is = is
-
-pub same_itself : (s : SiteId) (i : ℕ) → is_at s i s i ≡ true
-same_itself site.A i = eq-eqb i i refl
-same_itself site.B i = eq-eqb i i refl
 
 -- ---- whether the lock counts as owned
 
@@ -80,8 +74,8 @@ module _ (site : SiteId) (image : ℕ) where
       → cond (is_at there on site image) (owns_after true (op.Header on o) a) true ≡ true
   keeps_owned there on header.LockDrop a none = ap (λ b. cond b false true) none
   keeps_owned there on header.Remove answer.Done none = ap (λ b. cond b false true) none
-  keeps_owned there on header.LockTake answer.Done none = either (is_at there on site image) true
-  keeps_owned there on o a none = either (is_at there on site image) true
+  keeps_owned there on header.LockTake answer.Done none = cond_same (is_at there on site image) true
+  keeps_owned there on o a none = cond_same (is_at there on site image) true
 
   stays_owned : (comings : List Coming) → list_any (is_end site image) comings ≡ false → owned_since site image true comings ≡ true
   stays_owned [] none = refl
@@ -98,9 +92,9 @@ module _ (site : SiteId) (image : ℕ) where
   keeps_free : (there : SiteId) (on : ℕ) (o : HeaderOp) (a : Answer) → is_take site image (ByAnswer there (op.Header on o) a) ≡ false
       → cond (is_at there on site image) (owns_after false (op.Header on o) a) false ≡ false
   keeps_free there on header.LockTake answer.Done none = ap (λ b. cond b true false) none
-  keeps_free there on header.LockDrop a none = either (is_at there on site image) false
-  keeps_free there on header.Remove answer.Done none = either (is_at there on site image) false
-  keeps_free there on o a none = either (is_at there on site image) false
+  keeps_free there on header.LockDrop a none = cond_same (is_at there on site image) false
+  keeps_free there on header.Remove answer.Done none = cond_same (is_at there on site image) false
+  keeps_free there on o a none = cond_same (is_at there on site image) false
 
   stays_free : (comings : List Coming) → list_any (is_take site image) comings ≡ false → owned_since site image false comings ≡ false
   stays_free [] none = refl
@@ -118,21 +112,21 @@ module _ (site : SiteId) (image : ℕ) where
       → (after_all (ByAnswer site (op.Header image header.LockTake) answer.Done ∷ between) site image s).owned ≡ true
   taken_stays s between none =
       owned_is (ByAnswer site (op.Header image header.LockTake) answer.Done ∷ between) s
-      ∙ ap (λ b. owned_since site image (cond b true s.owned) between) (same_itself site image)
+      ∙ ap (λ b. owned_since site image (cond b true s.owned) between) (at_itself site image)
       ∙ stays_owned between none
 
   pub dropped_stays : (s : LockState) (a : Answer) (between : List Coming) → list_any (is_take site image) between ≡ false
       → (after_all (ByAnswer site (op.Header image header.LockDrop) a ∷ between) site image s).owned ≡ false
   dropped_stays s a between none =
       owned_is (ByAnswer site (op.Header image header.LockDrop) a ∷ between) s
-      ∙ ap (λ b. owned_since site image (cond b false s.owned) between) (same_itself site image)
+      ∙ ap (λ b. owned_since site image (cond b false s.owned) between) (at_itself site image)
       ∙ stays_free between none
 
   pub removed_stays : (s : LockState) (between : List Coming) → list_any (is_take site image) between ≡ false
       → (after_all (ByAnswer site (op.Header image header.Remove) answer.Done ∷ between) site image s).owned ≡ false
   removed_stays s between none =
       owned_is (ByAnswer site (op.Header image header.Remove) answer.Done ∷ between) s
-      ∙ ap (λ b. owned_since site image (cond b false s.owned) between) (same_itself site image)
+      ∙ ap (λ b. owned_since site image (cond b false s.owned) between) (at_itself site image)
       ∙ stays_free between none
 
 -- ---- whether it was asked for
@@ -161,7 +155,7 @@ told_asked notice.RequestLock s holds = owned_if_asked s.owned s.asked holds
 told_asked k s holds = holds
 
 asked_if_told : (k : NoticeKind) (s : LockState) → IsTrue s.asked → IsTrue (told k s).asked
-asked_if_told notice.RequestLock s is = ap (λ asked. cond s.owned true asked) is ∙ either s.owned true
+asked_if_told notice.RequestLock s is = ap (λ asked. cond s.owned true asked) is ∙ cond_same s.owned true
 asked_if_told k s is = is
 
 passed_over : (k : NoticeKind) (s : LockState) → s.owned ≡ false → told k s ≡ s
@@ -169,7 +163,7 @@ passed_over notice.RequestLock s none = λ j. record { owned = s.owned; watched 
 passed_over k s none = refl
 
 pub missed : (n : Notice) (s : LockState) (site : SiteId) (image : ℕ) → s.owned ≡ false → after_one (ByNotice n) site image s ≡ s
-missed n s site image none = ap (λ x. cond (is_at n.site n.image site image) x s) (passed_over n.kind s none) ∙ either (is_at n.site n.image site image) s
+missed n s site image none = ap (λ x. cond (is_at n.site n.image site image) x s) (passed_over n.kind s none) ∙ cond_same (is_at n.site n.image site image) s
 
 module _ (site : SiteId) (image : ℕ) where
   one_asked : (c : Coming) (s : LockState) → IsAskedOwned s → IsAskedOwned (after_one c site image s)
@@ -218,7 +212,7 @@ pub heard_stays : (n : Notice) (s : LockState) (between : List Coming) → n.kin
     → IsTrue (after_all (ByNotice n ∷ between) n.site n.image s).asked
 heard_stays n s between kind owned no_take no_end =
     stays_asked n.site n.image between (after_one (ByNotice n) n.site n.image s) no_take no_end
-    (ap (λ b. (cond b (told n.kind s) s).asked) (same_itself n.site n.image) ∙ ap (λ k. (told k s).asked) kind ∙ ap (λ b. cond b true s.asked) owned)
+    (ap (λ b. (cond b (told n.kind s) s).asked) (at_itself n.site n.image) ∙ ap (λ k. (told k s).asked) kind ∙ ap (λ b. cond b true s.asked) owned)
 
 -- ---- other images
 

@@ -7,14 +7,15 @@ use Rattle.std.specs.Cmp.{IsTotalOrder, nat_cmp_total, tied_itself}
 use Rattle.std.specs.List.{AllByRecursion}
 use Rattle.std.specs.Ordering.{is_lt, ordering_reverse}
 use Rattle.std.specs.declared.cmp.Ordering.TheVariants.{Less}
-use Rattle.std.specs.Option.{unwrap_or, is_some}
+use Rattle.std.specs.Option.{unwrap_or}
 use Rattle.std.specs.Prelude.{IsTrue, IsFalse}
+use Rattle.std.proofs.lemmas.Option.{none-some}
 use Rattle.rbd_kinds.specs.declared.image_at.ImageAt.{ImageAt}
 use Rattle.rbd_locks.specs.Locks.{AreInOrder}
 use Rattle.rbd_kinds.specs.Images.{image_cmp, is_at, number_of}
+use Rattle.rbd_kinds.proofs.Images.{at_itself}
 use Rattle.rbd_locks.specs.Places.{is_among, is_behind, next_behind}
 use Rattle.rbd_locks.proofs.Keys.{where_same}
-use Rattle.rbd_locks.proofs.Lasting.{same_itself}
 
 total : IsTotalOrder image_cmp
 total = then_total (on_total (λ (p : ImageAt). number_of p.site) nat_cmp_total) (on_total (λ (p : ImageAt). p.image) nat_cmp_total)
@@ -28,9 +29,6 @@ not_below_first first other is = ap is_lt (total.antisymm other first) ∙ not_b
 
 not_below_itself : (p : ImageAt) → is_lt (image_cmp p p) ≡ false
 not_below_itself p = ap is_lt (tied_itself total p)
-
-not_some : {X : Type 0} (x : X) → None ≡ Some x → ⊥
-not_some x is = true≢false (sym (ap is_some is))
 
 -- one of some places that begin with this one is this one, or one of the others
 split : {P : Type 0} (first other : ImageAt) (places : List ImageAt) → IsTrue (is_among other.site other.image (first ∷ places))
@@ -52,12 +50,12 @@ later first other (p ∷ places) all is =
     (λ there. found there)
   where
     turned : (a b : ImageAt) → IsTrue (is_at a.site a.image b.site b.image) → IsTrue (is_at b.site b.image a.site a.image)
-    turned a b same = where_same (λ s i. IsTrue (is_at s i a.site a.image)) a.site a.image b.site b.image same (same_itself a.site a.image)
+    turned a b same = where_same (λ s i. IsTrue (is_at s i a.site a.image)) a.site a.image b.site b.image same (at_itself a.site a.image)
 
 module _ (behind : Option ImageAt) where
   pub found : (places : List ImageAt) (next : ImageAt) → next_behind behind places ≡ Some next
       → IsTrue (is_among next.site next.image places) × IsTrue (is_behind behind next)
-  found [] next is = absurd (not_some next is)
+  found [] next is = absurd (none-some next is)
   found (p ∷ places) next is = go (is_behind behind p) refl is (found places next)
     where
       among : (b : Bool) → is_at next.site next.image p.site p.image ≡ b → IsTrue (is_among next.site next.image places) → (b || is_among next.site next.image places) ≡ true
@@ -70,7 +68,7 @@ module _ (behind : Option ImageAt) where
       go true comes is rest =
           let same : p ≡ next = ap (λ (o : Option ImageAt). unwrap_or o p) is in
           subst (λ (q : ImageAt). IsTrue (is_among q.site q.image (p ∷ places)) × IsTrue (is_behind behind q)) same
-          (ap (λ b. b || is_among p.site p.image places) (same_itself p.site p.image), comes)
+          (ap (λ b. b || is_among p.site p.image places) (at_itself p.site p.image), comes)
       go false comes is rest =
           let both = rest is in (among (is_at next.site next.image p.site p.image) refl both.0, both.1)
 
@@ -82,16 +80,16 @@ module _ (behind : Option ImageAt) where
       go : (b : Bool) → is_behind behind p ≡ b → cond b (Some p) (next_behind behind places) ≡ None
           → (next_behind behind places ≡ None → IsTrue (is_among other.site other.image places) → IsFalse (is_behind behind other))
           → IsFalse (is_behind behind other)
-      go true comes is rest = absurd (not_some p (sym is))
+      go true comes is rest = absurd (none-some p (sym is))
       go false comes is rest =
           split p other places among
           (λ same. where_same (λ s i. IsFalse (is_behind behind (record { site = s; image = i }))) p.site p.image other.site other.image
-          (where_same (λ s i. IsTrue (is_at s i other.site other.image)) other.site other.image p.site p.image same (same_itself other.site other.image)) comes)
+          (where_same (λ s i. IsTrue (is_at s i other.site other.image)) other.site other.image p.site p.image same (at_itself other.site other.image)) comes)
           (λ there. rest is there)
 
   pub least : (places : List ImageAt) (next other : ImageAt) → AreInOrder places → next_behind behind places ≡ Some next
       → IsTrue (is_among other.site other.image places) → IsTrue (is_behind behind other) → IsFalse (is_lt (image_cmp other next))
-  least [] next other order is among comes = absurd (not_some next is)
+  least [] next other order is among comes = absurd (none-some next is)
   least (p ∷ places) next other order is among comes = go (is_behind behind p) refl is (least places next other (sorted_tail image_cmp p places order))
     where
       go : (b : Bool) → is_behind behind p ≡ b → cond b (Some p) (next_behind behind places) ≡ Some next

@@ -1,17 +1,16 @@
 -- What is known of a fence: whose it is, and that it is forgotten once it was used.
-use Rattle.std.proofs.Common.{◌≡◌, ◌≢◌, ℕ, ◌==◌, ◌&&◌, cond, Bool, true, false, ◌∷◌, Option, Some, None, refl, sym, ap, ◌∙◌}
+use Rattle.std.proofs.Common.{◌≡◌, ◌≢◌, ℕ, ◌&&◌, cond, Bool, true, false, ◌∷◌, Option, Some, None, refl, sym, ap, ◌∙◌}
 use Rattle.std.specs.Prelude.{IsFalse}
-use Rattle.std.proofs.lemmas.Bool.{true≢false, and_parts, eqb-true, eq-eqb}
+use Rattle.std.proofs.lemmas.Bool.{true≢false, and_parts}
 use Rattle.std.proofs.lemmas.Option.{none-some}
 use Rattle.rbd_kinds.specs.declared.header.HeaderView.{HeaderView}
 use Rattle.rbd_kinds.specs.declared.id.Instance.{Instance}
 use Rattle.rbd_kinds.specs.declared.id.SiteId.{SiteId}
-use Rattle.rbd_machine.specs.Knowledge.{Knowledge, Own, Fence, own_of, is_fence_of, is_fenced_by, same_instance, same_site, unfenced, with_fence, without_fence}
+use Rattle.rbd_kinds.specs.Instances.{same_instance}
+use Rattle.rbd_kinds.proofs.Images.{same_site_itself}
+use Rattle.rbd_kinds.proofs.Instances.{same_instance_is, same_instance_itself}
+use Rattle.rbd_machine.specs.Knowledge.{Knowledge, Own, Fence, own_of, is_fence_of, is_fenced_by, same_site, unfenced, with_fence, without_fence}
 use Rattle.rbd_machine.specs.Permits.{HoldsUnlooked}
-use Rattle.rbd_machine.proofs.Lawful.{same_site_itself}
-
-pub same_instance_itself : (i : Instance) → same_instance i i ≡ true
-same_instance_itself i = ap (λ b. b && (i.life == i.life)) (eq-eqb i.session i.session refl) ∙ eq-eqb i.life i.life refl
 
 abbrev pub fence : SiteId → Instance → Fence
 fence site i = record { site = site; instance = i }
@@ -25,11 +24,6 @@ fence_is_known k site i = ap (λ b. cond b true (is_fenced_by k.fenced site i)) 
 unknown : (k : Knowledge) (site there : SiteId) (i other : Instance) → is_fence_of there other (fence site i) ≡ false
     → is_fenced_by (with_fence site i k).fenced there other ≡ is_fenced_by k.fenced there other
 unknown k site there i other differ = ap (λ b. cond b true (is_fenced_by k.fenced there other)) differ
-
-same_instance_is : (a b : Instance) → same_instance a b ≡ true → a ≡ b
-same_instance_is a b same =
-    let parts = and_parts (a.session == b.session) (a.life == b.life) same in
-    ap (λ s. record { session = s; life = a.life }) (eqb-true a.session b.session parts.0) ∙ ap (λ l. record { session = b.session; life = l }) (eqb-true a.life b.life parts.1)
 
 pub fence_is_of_no_other : (k : Knowledge) (site there : SiteId) (i other : Instance) → other ≢ i
     → is_fenced_by (with_fence site i k).fenced there other ≡ is_fenced_by k.fenced there other

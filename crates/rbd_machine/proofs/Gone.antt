@@ -3,8 +3,8 @@ use Rattle.std.proofs.Common.{◌≡◌, ℕ, cond, true, is_some, sym, ap, ◌�
 use Rattle.std.specs.Prelude.{IsSome}
 use Rattle.std.proofs.lemmas.Bool.{true≢false}
 use Rattle.rbd_kinds.specs.declared.id.SiteId.{SiteId}
+use Rattle.rbd_kinds.proofs.Images.{at_itself}
 use Rattle.rbd_machine.specs.Knowledge.{Knowledge, is_gone, maps_of, maps_told, only_there, removed_header, unmapped}
-use Rattle.rbd_machine.proofs.Lawful.{at_itself}
 
 pub gone_is_known : (k : Knowledge) (s : SiteId) (image : ℕ) → is_gone (removed_header s image k).gone s image ≡ true
 gone_is_known k s image = ap (λ b. cond b true (is_gone k.gone s image)) (at_itself s image)

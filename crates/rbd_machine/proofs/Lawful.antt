@@ -1,8 +1,7 @@
 -- Plans that are lawful, step by step.
-use Rattle.std.proofs.Common.{◌≡◌, ◌≢◌, ◌⊎◌, inl, inr, ℕ, List, [], ◌∷◌, Bool, true, false, cond, eqb, not, Option, Some, None, refl, ap, ◌∙◌, subst, sym}
+use Rattle.std.proofs.Common.{◌≡◌, ◌⊎◌, inl, inr, ℕ, List, [], ◌∷◌, Bool, true, false, cond, not, Option, Some, None, refl, ap, ◌∙◌, subst, sym}
 use Rattle.std.specs.Prelude.{unwrap_or}
 use Rattle.std.proofs.lemmas.Bool.{true≢false}
-use Rattle.std.proofs.lemmas.Bool.Decides.{eqb_tells}
 use Rattle.rbd_kinds.specs.Sharing.{is_alone}
 use Rattle.rbd_kinds.specs.declared.sharing.Sharing.{Sharing}
 use Rattle.rbd_kinds.specs.declared.answer.Answer.{Answer}
@@ -18,8 +17,9 @@ use Rattle.rbd_kinds.specs.declared.operation.Op.{Op}
 use Rattle.rbd_kinds.specs.declared.operation.Op.TheVariants as op
 use Rattle.rbd_commands.specs.declared.refusal.Refusal.{Refusal}
 use Rattle.rbd_kinds.specs.Form.{IsHeaderInForm}
+use Rattle.rbd_kinds.proofs.Images.{at_itself}
 use Rattle.rbd_machine.specs.Answers.{CanGive, CanBeFed}
-use Rattle.rbd_machine.specs.Knowledge.{Knowledge, Own, nothing_known, same_site, is_at, is_gone, own_of, header_told, first_told, left, looked_owning, learned, passed, maps_told, unmapped, ImageMaps, MapsKnown, maps_of}
+use Rattle.rbd_machine.specs.Knowledge.{Knowledge, Own, nothing_known, is_at, is_gone, own_of, header_told, first_told, left, looked_owning, learned, passed, maps_told, unmapped, ImageMaps, MapsKnown, maps_of}
 use Rattle.rbd_machine.specs.Label.{Label}
 use Rattle.rbd_machine.specs.Lawful.{CanTell, IsLawful, known_after}
 use Rattle.rbd_machine.specs.Permits.{IsLeftOver, OwnsBy}
@@ -29,17 +29,6 @@ use Rattle.rbd_machine.specs.Steps.{or_else, unless, not_there, on_id, on_header
 use Rattle.rbd_machine.specs.Wait as wait
 
 -- ---- places
-
-pub same_site_itself : (s : SiteId) → same_site s s ≡ true
-same_site_itself site.A = refl
-same_site_itself site.B = refl
-
-pub at_itself : (s : SiteId) (image : ℕ) → is_at s image s image ≡ true
-at_itself s image = rw (same_site_itself s) (go (eqb_tells image image))
-  where
-    go : ((eqb image image ≡ true) × (image ≡ image)) ⊎ ((eqb image image ≡ false) × (image ≢ image)) → eqb image image ≡ true
-    go (inl same) = same.0
-    go (inr other) = absurd (other.1 refl)
 
 -- what was told of an image's maps last is what is known of them
 pub told_first : (s : SiteId) (image : ℕ) (m : MapsKnown) (maps : List ImageMaps) → maps_of (maps_told s image m maps) s image ≡ m

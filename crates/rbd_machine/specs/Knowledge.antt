@@ -19,6 +19,7 @@ use Rattle.rbd_kinds.specs.declared.operation.Op.{Op}
 use Rattle.rbd_kinds.specs.declared.operation.Op.TheVariants as op
 pub use Rattle.rbd_kinds.specs.Images.{is_at, same_site}
 use Rattle.rbd_kinds.specs.declared.layout.Part.{Part}
+use Rattle.rbd_kinds.specs.Instances.{same_instance}
 use Rattle.rbd_header.specs.Header.{with_size, with_snap, without_snap}
 use Rattle.rbd_map.specs.States.{states_of}
 use Rattle.rbd_machine.specs.Wait.{Wait}
@@ -133,10 +134,6 @@ is_absent object [] = false
 is_absent object (x ∷ absent) = if x == object then true else is_absent object absent
 
 -- ---- who
-
--- one life of one session
-abbrev pub same_instance : Instance → Instance → Bool
-same_instance a b = (a.session == b.session) && (a.life == b.life)
 
 abbrev pub is_fence_of : SiteId → Instance → Fence → Bool
 is_fence_of site i f = same_site f.site site && same_instance f.instance i

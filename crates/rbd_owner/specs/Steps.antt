@@ -8,7 +8,7 @@ use Rattle.rbd_kinds.specs.declared.id.SiteId.{SiteId}
 use Rattle.rbd_kinds.specs.declared.notice.NoticeKind.TheVariants as notice
 use Rattle.rbd_kinds.specs.declared.operation.Op.{Op}
 use Rattle.rbd_kinds.specs.declared.operation.Op.TheVariants as op
-use Rattle.rbd_machine.specs.Knowledge.{same_instance}
+use Rattle.rbd_kinds.specs.Instances.{same_instance}
 use Rattle.rbd_machine.specs.Path.{Answered}
 
 -- ---- operations

@@ -11,6 +11,7 @@ use Rattle.std.proofs.lemmas.Bool.Decides.{eqb_tells}
 use Rattle.std.proofs.lemmas.Cmp.{ranked}
 use Rattle.std.proofs.lemmas.Map.Keys.{sorted_from_strictly_increasing, IsStrictlyIncreasing-from_sorted}
 use Rattle.std.specs.FinSet as finset
+use Rattle.rbd_kinds.proofs.Plain.{or_swapped}
 use Rattle.rbd_registry.specs.Children.{Entry, entry_cmp, AreChildren, is_child_of, placed, ascending, children_in}
 use Rattle.rbd_registry.proofs.Entries.{at, entry_exact, tied_child}
 
@@ -53,11 +54,6 @@ ascend : (xs : List ℕ) → Ascend (ascending xs)
 ascend [] = tt
 ascend (x ∷ xs) = ascend_placed x (ascending xs) (ascend xs)
 
-swap : (a b c : Bool) → (a || (b || c)) ≡ (b || (a || c))
-swap true true c = refl
-swap true false c = refl
-swap false b c = refl
-
 twice : (a b : Bool) → (a || b) ≡ (a || (a || b))
 twice true b = refl
 twice false b = refl
@@ -70,7 +66,7 @@ has_placed c x (y ∷ ys) = go (ltb x y) (eqb x y) refl (has_placed c x ys)
         → has c (cond l (x ∷ y ∷ ys) (cond e (y ∷ ys) (y ∷ placed x ys))) ≡ (eqb x c || (eqb y c || has c ys))
     go true e q rest = refl
     go false true q rest = twice (eqb y c) (has c ys) ∙ ap (λ n. eqb n c || (eqb y c || has c ys)) (sym (eqb-true x y q))
-    go false false q rest = ap (λ b. eqb y c || b) rest ∙ swap (eqb y c) (eqb x c) (has c ys)
+    go false false q rest = ap (λ b. eqb y c || b) rest ∙ or_swapped (eqb y c) (eqb x c) (has c ys)
 
 has_ascending : (c : ℕ) (xs : List ℕ) → has c (ascending xs) ≡ has c xs
 has_ascending c [] = refl

@@ -25,6 +25,7 @@ use Rattle.rbd_kinds.specs.declared.operation.Op.TheVariants as op
 use Rattle.rbd_kinds.specs.Form.{HasFewObjects}
 use Rattle.rbd_kinds.specs.Parts.{parts_len}
 use Rattle.rbd_kinds.specs.Striping.{IsLayout}
+use Rattle.rbd_kinds.specs.Instances.{same_instance}
 use Rattle.rbd_object.specs.Mapped.{looked}
 use Rattle.rbd_parts.specs.Parts.{AreWithin, parts_of}
 use Rattle.rbd_object.specs.Versioned.{view}
@@ -41,7 +42,7 @@ use Rattle.rbd_site.specs.DataStep.{finds, parts_read}
 use Rattle.rbd_site.specs.DataStep as step
 use Rattle.rbd_site.specs.DirectoryStep.{name_added, name_changed, image_found}
 use Rattle.rbd_site.specs.Found.{done_where}
-use Rattle.rbd_site.specs.HeaderStep.{MayDoOnHeader, header_answer, is_owner, lock_taken, same_instance}
+use Rattle.rbd_site.specs.HeaderStep.{MayDoOnHeader, header_answer, is_owner, lock_taken}
 use Rattle.rbd_site.specs.InForm.{AreInForm}
 use Rattle.rbd_site.specs.MapStep.{AreBits, MaySetState, states_told}
 use Rattle.rbd_site.specs.Records.{Records, object_at}

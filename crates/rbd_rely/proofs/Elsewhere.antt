@@ -17,8 +17,9 @@ use Rattle.rbd_kinds.specs.declared.map_op.MapOp.{MapOp}
 use Rattle.rbd_kinds.specs.declared.map_op.MapOp.TheVariants as states
 use Rattle.rbd_kinds.specs.declared.operation.Op.{Op}
 use Rattle.rbd_kinds.specs.declared.operation.Op.TheVariants as op
+use Rattle.rbd_kinds.specs.Instances.{same_instance}
 use Rattle.rbd_header.specs.Header.{with_size, with_snap, without_snap}
-use Rattle.rbd_machine.specs.Knowledge.{ImageMaps, Knowledge, MapsKnown, ObjectsKnown, Own, Place, first_told, header_told, is_at, is_drawn, is_fenced_by, is_gone, learned, learned_of_directory, learned_of_header, learned_of_listing, learned_of_map, learned_of_object, looked_behind, looked_by, looked_owning, maps_of, maps_told, objects_of, only_there, own_of, removed_header, same_instance, same_site, unmapped, with_drawn, without_drawn}
+use Rattle.rbd_machine.specs.Knowledge.{ImageMaps, Knowledge, MapsKnown, ObjectsKnown, Own, Place, first_told, header_told, is_at, is_drawn, is_fenced_by, is_gone, learned, learned_of_directory, learned_of_header, learned_of_listing, learned_of_map, learned_of_object, looked_behind, looked_by, looked_owning, maps_of, maps_told, objects_of, only_there, own_of, removed_header, same_site, unmapped, with_drawn, without_drawn}
 use Rattle.rbd_site.specs.Records.{Records}
 use Rattle.rbd_rely.specs.Beside.{AreBeside}
 use Rattle.rbd_rely.specs.Truth.{IsTrueAt}

@@ -19,11 +19,14 @@ use Rattle.rbd_kinds.specs.declared.map_op.MapOp.{MapOp}
 use Rattle.rbd_kinds.specs.declared.map_op.MapOp.TheVariants as states
 use Rattle.rbd_kinds.specs.declared.operation.Op.{Op}
 use Rattle.rbd_kinds.specs.declared.operation.Op.TheVariants as op
-use Rattle.rbd_machine.specs.Knowledge.{Knowledge, Own, Place, afresh, first_told, header_told, is_at, is_drawn, is_fence_of, is_fenced_by, is_gone, learned, learned_of_directory, learned_of_header, learned_of_listing, learned_of_map, learned_of_object, looked_by, looked_owning, maps_of, objects_of, only_there, own_of, removed_header, same_instance, same_site, unmapped, unmarked, with_drawn, with_fence, without_drawn, without_fence}
+use Rattle.rbd_machine.specs.Knowledge.{Knowledge, Own, Place, afresh, first_told, header_told, is_at, is_drawn, is_fence_of, is_fenced_by, is_gone, learned, learned_of_directory, learned_of_header, learned_of_listing, learned_of_map, learned_of_object, looked_by, looked_owning, maps_of, objects_of, only_there, own_of, removed_header, same_site, unmapped, unmarked, with_drawn, with_fence, without_drawn, without_fence}
 use Rattle.rbd_machine.specs.Permits.{Permits, PermitsOnHeader, OwnsBy, OwnsAlone, MayMake, MaySize, MayTake, MayRemove}
 use Rattle.rbd_kinds.specs.Header.{snap_named}
+use Rattle.rbd_kinds.specs.Instances.{same_instance}
+use Rattle.rbd_kinds.proofs.Images.{at_itself}
+use Rattle.rbd_kinds.proofs.Instances.{same_instance_is}
 use Rattle.rbd_header.specs.Header.{with_size, with_snap, without_snap, snap_in, is_full}
-use Rattle.rbd_machine.proofs.Lawful.{at_itself, left_here, told_first}
+use Rattle.rbd_machine.proofs.Lawful.{left_here, told_first}
 use Rattle.rbd_registry.specs.Directory.{added, id_of}
 use Rattle.rbd_registry.specs.Directory as listing
 use Rattle.rbd_flat.specs.Flat.{Flat}
@@ -35,7 +38,6 @@ use Rattle.rbd_site.specs.Records.{Records, object_at, with_directory}
 use Rattle.rbd_site.specs.Step.{is_fenced, after, after_served, answer_to, answer_served}
 use Rattle.rbd_site.proofs.GenerationLemmas.{looked_at}
 use Rattle.rbd_stands.specs.Site.{StandsFor}
-use Rattle.rbd_stands.proofs.Locks.{same_is}
 use Rattle.rbd_stands.proofs.ObjectSteps.{put_there, put_elsewhere}
 use Rattle.rbd_stands.proofs.Served.{where_either}
 use Rattle.rbd_stands.specs.Condition.{IsDrawn}
@@ -467,7 +469,7 @@ listed_true site r me k i t free =
     by : (other : Instance) (b : Bool) → is_fence_of site other (record { site = site; instance = i }) ≡ b → cond b true (is_fenced_by k.fenced site other) ≡ true
         → is_fenced (after_served r me (op.BlockAdd i)) other ≡ true
     by other true is known =
-        subst (λ j. is_fenced (after_served r me (op.BlockAdd i)) j ≡ true) (same_is i other (and_parts (same_site site site) (same_instance i other) is).1) (is_put_up r me i free)
+        subst (λ j. is_fenced (after_served r me (op.BlockAdd i)) j ≡ true) (same_instance_is i other (and_parts (same_site site site) (same_instance i other) is).1) (is_put_up r me i free)
     by other false is known = stays_put_up r me i free other (t.fenced other known)
 
 -- ---- headers, whether it is fenced or not

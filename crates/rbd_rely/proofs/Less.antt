@@ -7,8 +7,8 @@ use Rattle.std.proofs.lemmas.List.Elements.{All-nil}
 use Rattle.rbd_kinds.specs.declared.header.HeaderView.{HeaderView}
 use Rattle.rbd_kinds.specs.declared.id.Instance.{Instance}
 use Rattle.rbd_kinds.specs.declared.id.SiteId.{SiteId}
-use Rattle.rbd_kinds.specs.declared.id.SiteId.TheVariants as sites
 use Rattle.rbd_kinds.specs.declared.layout.Layout.{Layout}
+use Rattle.rbd_kinds.proofs.Images.{same_site_is}
 use Rattle.rbd_object.specs.Mapped.{Mapped}
 use Rattle.rbd_machine.specs.Knowledge.{Fence, ImageMaps, Knowledge, MapsKnown, ObjectsKnown, Own, afresh, held, is_absent, is_at, is_drawn, is_fence_of, is_fenced_by, is_gone, is_raised, left, maps_of, objects_of, own_of, passed, same_site, unfenced, unmapped, unmarked, untouched, without_fence}
 use Rattle.rbd_machine.specs.Wait.{Wait}
@@ -190,16 +190,10 @@ less_then site a b c first then_less = record {
 
 -- ---- places
 
-site_is : (a b : SiteId) → same_site a b ≡ true → a ≡ b
-site_is sites.A sites.A is = refl
-site_is sites.B sites.B is = refl
-site_is sites.A sites.B is = cc
-site_is sites.B sites.A is = cc
-
 pub place_of : (site there : SiteId) (image place : ℕ) → is_at site image there place ≡ true → (site ≡ there) × (image ≡ place)
 place_of site there image place is =
     let parts = and_parts (same_site there site) (place == image) is in
-    (sym (site_is there site parts.0), sym (eqb-true place image parts.1))
+    (sym (same_site_is there site parts.0), sym (eqb-true place image parts.1))
 
 -- the own that is left at another place is the one that was there
 pub left_there : (site there : SiteId) (image place : ℕ) → is_at there place site image ≡ false → (owns : List Own) → own_of (left site image owns) there place ≡ own_of owns there place

@@ -11,13 +11,15 @@ use Rattle.rbd_kinds.specs.declared.id.Instance.{Instance}
 use Rattle.rbd_kinds.specs.declared.id.SiteId.{SiteId}
 use Rattle.rbd_kinds.specs.declared.operation.Op.{Op}
 use Rattle.rbd_kinds.specs.declared.operation.Op.TheVariants as op
+use Rattle.rbd_kinds.specs.Instances.{same_instance}
+use Rattle.rbd_kinds.proofs.Instances.{same_instance_is}
 use Rattle.rbd_machine.specs.Knowledge.{Knowledge, is_drawn, is_gone}
 use Rattle.rbd_machine.specs.Permits.{Permits, PermitsOnHeader}
-use Rattle.rbd_site.specs.HeaderStep.{header_after, header_answer, lock_taken, same_instance}
+use Rattle.rbd_site.specs.HeaderStep.{header_after, header_answer, lock_taken}
 use Rattle.rbd_site.specs.Records.{Records}
 use Rattle.rbd_site.specs.Step.{is_fenced, after, after_served, answer_to}
 use Rattle.rbd_stands.specs.Owned.{HasLock}
-use Rattle.rbd_stands.proofs.Locks.{EndsLock, EndsIt, operation_keeps, same_is}
+use Rattle.rbd_stands.proofs.Locks.{EndsLock, EndsIt, operation_keeps}
 use Rattle.rbd_rely.specs.Beside.{AreBeside, AreFree, LeavesObject, SharesLock}
 use Rattle.rbd_rely.specs.Locks.{HasLockWhileFree, KnowsByLock, gives_up}
 use Rattle.rbd_rely.specs.Truth.{IsTrueAt}
@@ -63,7 +65,7 @@ changes_by_lock site r me you k j image object differ mine yours = λ free known
 -- the header names who took the lock
 taken_there : (me : Instance) (owner : Option Instance) → lock_taken me owner ≡ answer.Done → cond (is_some owner) owner (Some me) ≡ Some me
 taken_there me None done = refl
-taken_there me (Some owner) done = ap Some (same_is owner me (go (same_instance owner me) done))
+taken_there me (Some owner) done = ap Some (same_instance_is owner me (go (same_instance owner me) done))
   where
     held_is_not_done : (i : Instance) → answer.Held i ≡ answer.Done → ⊥
     held_is_not_done i e = cc

@@ -14,12 +14,12 @@ use Rattle.rbd_kinds.specs.declared.id.SiteId.{SiteId}
 use Rattle.rbd_kinds.specs.declared.layout.Part.{Part}
 use Rattle.rbd_kinds.specs.declared.operation.Op.TheVariants as op
 use Rattle.rbd_kinds.specs.Striping.{IsLayout}
+use Rattle.rbd_kinds.proofs.Images.{at_itself}
 use Rattle.rbd_layout.specs.Pieces.{IsPart}
 use Rattle.rbd_object.specs.Mapped.{Mapped, looked}
 use Rattle.rbd_object.specs.Versioned.{view}
 use Rattle.rbd_machine.specs.Knowledge.{ImageObjects, Knowledge, ObjectsKnown, blanked, forgotten, is_drawn, learned_of_object, objects_of, removed}
 use Rattle.rbd_machine.specs.Permits.{PermitsOnObject, LiesBelow, MayZero, OwnsBy}
-use Rattle.rbd_machine.proofs.Lawful.{at_itself}
 use Rattle.rbd_site.specs.DataStep.{data_after, data_answer, data_change, finds, parts_read, where_object_done}
 use Rattle.rbd_site.specs.Found.{done_where}
 use Rattle.rbd_site.specs.InForm.{AreInForm}

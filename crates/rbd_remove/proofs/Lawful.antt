@@ -16,6 +16,7 @@ use Rattle.rbd_kinds.specs.declared.map_op.MapOp.TheVariants as states
 use Rattle.rbd_kinds.specs.declared.operation.Op.{Op}
 use Rattle.rbd_kinds.specs.declared.operation.Op.TheVariants as op
 use Rattle.rbd_kinds.specs.declared.reply.Reply.TheVariants as reply
+use Rattle.rbd_kinds.proofs.Images.{at_itself}
 use Rattle.rbd_machine.specs.Knowledge.{Knowledge, MapsKnown, first_told, header_told, learned, looked_owning, maps_of, nothing_known, own_of, passed}
 use Rattle.rbd_machine.specs.Label.{Label}
 use Rattle.rbd_machine.specs.Lawful.{IsLawful}
@@ -25,7 +26,7 @@ use Rattle.rbd_machine.specs.Standalone.{IsStandalone}
 use Rattle.rbd_machine.specs.Steps.{on_bits, owned, own}
 use Rattle.rbd_machine.specs.Wait as wait
 use Rattle.rbd_machine.proofs.Gone.{gone_is_known, map_is_there}
-use Rattle.rbd_machine.proofs.Lawful.{at_itself, holding_known, lawful_not_there, lawful_on_header, lawful_on_id, lawful_unless, left_here, own_at, unlooked}
+use Rattle.rbd_machine.proofs.Lawful.{holding_known, lawful_not_there, lawful_on_header, lawful_on_id, lawful_unless, left_here, own_at, unlooked}
 use Rattle.rbd_meaning.specs.Removals.{first_link, image_removal_refuses, link_of, may_be_gone, parent_in, removal, removing_journal, removing_map_of, removing_object, unlinking, used_objects, watchers_refuse}
 use Rattle.rbd_meaning.proofs.Allowed.{no_snapshots_listed}
 use Rattle.rbd_remove.specs.Remove.{holding_it, joining_its_line, looked_at_it, on_gone, on_watchers, remove, remove_each, remove_image, remove_owned, remove_plan, unless_watched}

@@ -10,7 +10,7 @@ use Rattle.rbd_kinds.specs.declared.id.SiteId.TheVariants as site
 use Rattle.rbd_kinds.specs.declared.operation.Op.{Op}
 use Rattle.rbd_kinds.specs.declared.operation.Op.TheVariants as op
 use Rattle.rbd_kinds.specs.declared.reply.Reply.{Reply}
-use Rattle.rbd_machine.proofs.Lawful.{same_site_itself}
+use Rattle.rbd_kinds.proofs.Images.{same_site_itself, same_site_is}
 use Rattle.rbd_machine.specs.Knowledge.{same_site}
 use Rattle.rbd_rely.specs.Truth.{changed_by}
 use Rattle.rbd_site.proofs.FenceLemmas.{fence_stays, lists_it}
@@ -24,7 +24,6 @@ use Rattle.rbd_stands.specs.Effect.{effect_of}
 use Rattle.rbd_world.specs.Run.{Happening, Nothing, Waited, Began, Did, Refused, Trimmed, Expired, Heard, Stopped, Restarted, Operation, fence_of, flat_after, mail_of, records_after, records_behind}
 use Rattle.rbd_world.specs.Sound.{IsDone, IsRight}
 use Rattle.rbd_world.proofs.Runs.{done_of}
-use Rattle.rbd_world.proofs.Debts.{site_is}
 use Rattle.rbd_replies.specs.Fenced.{ChangesNothing}
 
 -- ---- what a fenced instance does
@@ -49,7 +48,7 @@ module _ (o : Operation) (reply : Option Reply) (run : List Happening) (is : IsD
       by : (b : Bool) → same_site o.site s ≡ b → cond b (after (records_after s run) o.instance o.op) (records_after s run) ≡ records_after s run
       by true here =
           fenced_after (records_after s run) o.instance o.op
-          (subst (λ t. is_fenced (records_after t run) o.instance ≡ true) (site_is o.site s here) fenced)
+          (subst (λ t. is_fenced (records_after t run) o.instance ≡ true) (same_site_is o.site s here) fenced)
       by false elsewhere = refl
 
   mail_stays : mail_of (Did o reply ∷ run) ≡ mail_of run

@@ -19,7 +19,8 @@ use Rattle.rbd_kinds.specs.declared.map_op.MapOp.{MapOp}
 use Rattle.rbd_kinds.specs.declared.map_op.MapOp.TheVariants as states
 use Rattle.rbd_kinds.specs.declared.operation.Op.{Op}
 use Rattle.rbd_kinds.specs.declared.operation.Op.TheVariants as op
-use Rattle.rbd_machine.proofs.Lawful.{at_itself, holding_known}
+use Rattle.rbd_kinds.proofs.Images.{at_itself}
+use Rattle.rbd_machine.proofs.Lawful.{holding_known}
 use Rattle.rbd_machine.proofs.Settled.{settled_goto}
 use Rattle.rbd_machine.specs.Knowledge.{Knowledge, Own, first_told, header_told, is_at, learned, learned_of_map, learned_of_object, looked_owning, nothing_known, own_of, passed, told_of, with_header}
 use Rattle.rbd_machine.specs.Path.{Answered, IsWalk, found, looked_at}

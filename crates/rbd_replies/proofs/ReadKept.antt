@@ -10,6 +10,7 @@ use Rattle.rbd_kinds.specs.declared.id.Instance.{Instance}
 use Rattle.rbd_kinds.specs.declared.id.SiteId.{SiteId}
 use Rattle.rbd_kinds.specs.declared.operation.Op.{Op}
 use Rattle.rbd_kinds.specs.declared.operation.Op.TheVariants as op
+use Rattle.rbd_kinds.proofs.Images.{same_site_is}
 use Rattle.rbd_machine.specs.Knowledge.{Knowledge, is_drawn, same_site}
 use Rattle.rbd_machine.specs.Permits.{Permits, PermitsOnHeader}
 use Rattle.rbd_rely.proofs.Headers.{IsThere}
@@ -24,7 +25,6 @@ use Rattle.rbd_world.specs.Run.{Happening, Nothing, Waited, Began, Did, Refused,
 use Rattle.rbd_world.specs.Past.{HadNoHeader}
 use Rattle.rbd_world.specs.Sound.{IsDone, IsDue, IsRight}
 use Rattle.rbd_world.proofs.Runs.{done_of}
-use Rattle.rbd_world.proofs.Debts.{site_is}
 use Rattle.rbd_replies.proofs.ReadOrder.{GoesOn}
 
 -- what is there later of a header
@@ -215,7 +215,7 @@ module _ (homes : ℕ → SiteId) (s : SiteId) (image : ℕ) where
           (sym (had_none s image since run (subst (λ t. HadNoHeader t image (since ++ run)) here (done.new image drawn))) ∙ was)
 
       by : (b : Bool) → same_site o.site s ≡ b → (cond b (after (records_after s (since ++ run)) o.instance o.op) (records_after s (since ++ run))).headers image ≡ None
-      by true here = none_on o.site (records_after s (since ++ run)) done.knows o.instance image none o.op done.permits (undrawn (site_is o.site s here))
+      by true here = none_on o.site (records_after s (since ++ run)) done.knows o.instance image none o.op done.permits (undrawn (same_site_is o.site s here))
       by false elsewhere = none
   none_behind (Trimmed t number other place) since run due old was none = by (same_site t s)
     where

@@ -19,7 +19,7 @@ use Rattle.rbd_kinds.specs.declared.map_op.MapOp.TheVariants as states
 use Rattle.rbd_kinds.specs.declared.operation.Op.{Op}
 use Rattle.rbd_kinds.specs.declared.operation.Op.TheVariants as op
 use Rattle.rbd_kinds.specs.declared.reply.Reply.{Reply}
-use Rattle.rbd_machine.proofs.Lawful.{same_site_itself}
+use Rattle.rbd_kinds.proofs.Images.{same_site_itself}
 use Rattle.rbd_machine.specs.Knowledge.{same_site}
 use Rattle.rbd_machine.specs.Path.{Answered, found, looked_at}
 use Rattle.rbd_meaning.specs.Removals.{AreRemovals, IsRemovedBy, RemovesImage, first_link, link_of, parent_in, removal, removing_journal, removing_map_of, removing_object, unlinking, used_objects, watchers_told}

@@ -16,11 +16,11 @@ use Rattle.rbd_kinds.specs.declared.operation.Op.{Op}
 use Rattle.rbd_kinds.specs.declared.operation.Op.TheVariants as op
 use Rattle.rbd_kinds.specs.declared.reply.Reply.TheVariants as reply
 use Rattle.rbd_kinds.specs.Header.{snap_named}
+use Rattle.rbd_kinds.proofs.Images.{at_itself}
 use Rattle.rbd_layout.specs.Pieces.{pieces_of}
 use Rattle.rbd_layout.specs.declared.types.Piece.{Piece}
 use Rattle.rbd_machine.specs.Plan.{Plan, Return}
 use Rattle.rbd_machine.specs.Steps.{applied, owned, refused}
-use Rattle.rbd_machine.proofs.Lawful.{at_itself}
 use Rattle.rbd_course.specs.Course.{Course, answered, beginning, looked}
 use Rattle.rbd_course.specs.Orderly.{IsOrderly}
 use Rattle.rbd_course.specs.declared.stage.Stage.TheVariants as stage

@@ -11,12 +11,13 @@ use Rattle.rbd_kinds.specs.declared.header.SnapContext.{SnapContext}
 use Rattle.rbd_kinds.specs.declared.id.SiteId.{SiteId}
 use Rattle.rbd_kinds.specs.declared.layout.Extent.{Extent}
 use Rattle.rbd_kinds.specs.Extents.{fits}
+use Rattle.rbd_kinds.proofs.Images.{at_itself}
 use Rattle.rbd_layout.specs.Pieces.{pieces_of}
 use Rattle.rbd_layout.specs.declared.types.Piece.{Piece}
 use Rattle.rbd_header.specs.Header.{context_of}
 use Rattle.rbd_machine.specs.Plan.{Plan}
 use Rattle.rbd_machine.specs.Steps.{applied, non_primary}
-use Rattle.rbd_machine.proofs.Lawful.{at_itself, or_else_none}
+use Rattle.rbd_machine.proofs.Lawful.{or_else_none}
 use Rattle.rbd_course.specs.Course.{Course, Place, behind, beginning, objects_of, objects_within}
 use Rattle.rbd_course.specs.Orderly.{BeginsWith, IsInLine, IsOrderly}
 use Rattle.rbd_course.specs.declared.stage.Stage.TheVariants as stage

@@ -4,11 +4,13 @@ use Rattle.std.proofs.lemmas.Bool.{cases_lt, false≢true, true≢false}
 use Rattle.std.proofs.lemmas.List.Elements.{All-cons, All-nil}
 use Rattle.std.proofs.lemmas.Option.{none-some}
 use Rattle.std.proofs.lemmas.List.Folds.{list_any-append}
+use Rattle.std.proofs.Math.Bool.{or-false}
 use Rattle.rbd_client.specs.Client.{ClientView}
 use Rattle.rbd_client.specs.Sound.{IsSoundClient}
 use Rattle.rbd_flat.specs.declared.entry.Entry.TheVariants as entry
 use Rattle.rbd_kinds.specs.declared.id.SiteId.{SiteId}
 use Rattle.rbd_kinds.specs.declared.reply.Reply.{Reply}
+use Rattle.rbd_kinds.proofs.Plain.{eqb_flip}
 use Rattle.rbd_machine.specs.Plan.{Standing}
 use Rattle.rbd_script.specs.declared.script.Declared.{Declared}
 use Rattle.rbd_script.specs.declared.script.Script.{Script}
@@ -20,7 +22,7 @@ use Rattle.rbd_world.specs.Run.{Asked, Doer, Itself, OnWay, House, AfterStop, Ha
 use Rattle.rbd_world.specs.Sound.{IsAtHome, IsInSlot, has_ended, held_of, line_at}
 use Rattle.rbd_world.specs.Step.{Does, IsStep, LivesOnIf, happening, is_begun, names_session}
 use Rattle.rbd_world.specs.World.{LivesView, WorldView, client_in, free_in, lives_in, running_of, session_of}
-use Rattle.rbd_world.proofs.Runs.{begun_is_asked, or_false}
+use Rattle.rbd_world.proofs.Runs.{begun_is_asked}
 use Rattle.rbd_session.proofs.Sound.{held_range}
 use Rattle.rbd_schedule.specs.declared.given.Given.{Given}
 use Rattle.rbd_schedule.specs.Deeds.{Deeds}
@@ -35,7 +37,7 @@ use Rattle.rbd_schedule.proofs.Idle.{IsStill}
 use Rattle.rbd_schedule.proofs.Kept.{kept_by_play}
 use Rattle.rbd_schedule.proofs.Quiet.{no_end, endings_end}
 use Rattle.rbd_schedule.proofs.Stuck.{stuck}
-use Rattle.rbd_site.proofs.OneChange.{eqb_swapped, none_from_test}
+use Rattle.rbd_site.proofs.OneChange.{none_from_test}
 
 -- ---- the end of a line in the history is one in the run
 
@@ -46,14 +48,14 @@ or_swap false true = refl
 or_swap false false = refl
 
 ended_entries : (line : ℕ) (by : Doer) (reply : Reply) → is_ended line (ending_entries by (Some reply)) ≡ (is_for line by || false)
-ended_entries line (Itself other) reply = ap (λ b. b || false) (eqb_swapped line other ∙ sym (or_false (other == line)))
-ended_entries line (OnWay other) reply = ap (λ b. b || false) (eqb_swapped line other)
+ended_entries line (Itself other) reply = ap (λ b. b || false) (eqb_flip line other ∙ sym (or-false (other == line)))
+ended_entries line (OnWay other) reply = ap (λ b. b || false) (eqb_flip line other)
 ended_entries line House reply = refl
 ended_entries line (AfterStop slot) reply = refl
 
 lost_entries : (line : ℕ) (lost : List ℕ) → is_ended line (map entry.Lost lost) ≡ is_among line lost
 lost_entries line [] = refl
-lost_entries line (other ∷ lost) = ap (λ b. b || is_ended line (map entry.Lost lost)) (eqb_swapped line other) ∙ ap (λ b. (other == line) || b) (lost_entries line lost)
+lost_entries line (other ∷ lost) = ap (λ b. b || is_ended line (map entry.Lost lost)) (eqb_flip line other) ∙ ap (λ b. (other == line) || b) (lost_entries line lost)
 
 ended_by : (line : ℕ) (h : Happening) → is_ended line (entries_of h) ≡ ends line h
 ended_by line Nothing = refl
@@ -62,7 +64,7 @@ ended_by line (Began asked slot) = refl
 ended_by line (Did o None) = ap (λ b. b || is_ended line (ending_entries o.by None)) (no_end line (cause_of o.instance o.by) o.site o.number (fence_of o.op o.answer) o.effect) ∙ endings_end line o.by
 ended_by line (Did o (Some reply)) =
     ap (λ b. b || is_ended line (ending_entries o.by (Some reply))) (no_end line (cause_of o.instance o.by) o.site o.number (fence_of o.op o.answer) o.effect) ∙ ended_entries line o.by reply
-ended_by line (Refused s other reply) = ap (λ b. b || false) (eqb_swapped line other)
+ended_by line (Refused s other reply) = ap (λ b. b || false) (eqb_flip line other)
 ended_by line (Trimmed s number image object) = refl
 ended_by line (Expired s number image who) = refl
 ended_by line (Heard notice) = refl

@@ -3,10 +3,11 @@ use Rattle.std.proofs.Common.{◌≡◌, ◌≢◌, ℕ, zero, suc, ◌&&◌, �
 use Rattle.std.proofs.lemmas.Bool.{ne_eqb}
 use Rattle.std.proofs.lemmas.List.Elements.{All-nil}
 use Rattle.std.proofs.lemmas.Option.{none-some, same_Some}
+use Rattle.std.proofs.Math.Bool.{or-false}
 use Rattle.rbd_client.specs.Client.{ClientView}
 use Rattle.rbd_commands.specs.declared.command.Command.{Command}
 use Rattle.rbd_kinds.specs.declared.notice.Notice.{Notice}
-use Rattle.rbd_machine.specs.Knowledge.{same_instance}
+use Rattle.rbd_kinds.specs.Instances.{same_instance}
 use Rattle.rbd_machine.specs.Plan.{Standing}
 use Rattle.rbd_requests.specs.declared.request.SessionRequest.{SessionRequest}
 use Rattle.rbd_watch.specs.Posting.{numbered}
@@ -16,7 +17,6 @@ use Rattle.rbd_world.specs.declared.sites.Sites.{Sites}
 use Rattle.rbd_world.specs.Run.{Nothing, Began, Heard}
 use Rattle.rbd_world.specs.Step.{BecomesOf, IsStep, begins_of, delivered, heard_by, is_begun, mail_then, submitted}
 use Rattle.rbd_world.specs.World.{LivesView, WorldView, client_in}
-use Rattle.rbd_world.proofs.Runs.{or_false}
 use Rattle.rbd_schedule.specs.declared.given.Given.{Given}
 use Rattle.rbd_schedule.specs.declared.queue.Queue.{Queue}
 use Rattle.rbd_schedule.specs.declared.runner.Runner.{Runner}
@@ -86,7 +86,7 @@ module _ {R : Type 0} (stands : R → Standing) where
       due_along lost session other old new (heard_life (client_in session old.lives) (client_in session new.lives) (delivery_leaves stands number old new result step session))
       (step.1.mail ∙ delivered_mail (numbered number old.sites.mail) old.lives old.sites)
       (heard_then stands (event.Deliver number) result old new step other
-      ∙ ap (λ b. was_heard other old.calls || (b && is_heard result)) (ne_eqb number other (λ same. away (sym same))) ∙ or_false (was_heard other old.calls))
+      ∙ ap (λ b. was_heard other old.calls || (b && is_heard result)) (ne_eqb number other (λ same. away (sym same))) ∙ or-false (was_heard other old.calls))
 
   -- ---- submissions
 
@@ -112,7 +112,7 @@ module _ {R : Type 0} (stands : R → Standing) where
   due_by_submission lost session number named line command old new result step =
       due_along lost session number old new (by (submitted_then stands named line command old new result step session))
       (step.1.mail ∙ submitted_mail (is_begun line old.history) line command (client_in named old.lives) old.sites)
-      (heard_then stands (event.Submit named line command) result old new step number ∙ or_false (was_heard number old.calls))
+      (heard_then stands (event.Submit named line command) result old new step number ∙ or-false (was_heard number old.calls))
     where
       by : (client_in session new.lives ≡ client_in session old.lives)
           ⊎ ((session ≡ named) × BecomesOf stands (event.Submit named line command) (submitted (is_begun line old.history) line command (client_in session old.lives)) (client_in session old.lives) (client_in session new.lives))

@@ -4,6 +4,7 @@ use Rattle.std.proofs.Math.Seq.{drop-append_seam}
 use Rattle.std.proofs.lemmas.Bool.{false≢true, or_left, or_right, eq-eqb}
 use Rattle.std.proofs.lemmas.Option.{none-some, same_Some}
 use Rattle.std.proofs.lemmas.List.Folds.{list_any-append}
+use Rattle.std.proofs.Math.Bool.{or-false}
 use Rattle.rbd_client.specs.Client.{ClientView}
 use Rattle.rbd_commands.specs.declared.command.Command.{Command}
 use Rattle.rbd_machine.specs.Plan.{Standing}
@@ -13,7 +14,6 @@ use Rattle.rbd_world.specs.declared.event.Outcome.{Outcome}
 use Rattle.rbd_world.specs.Run.{Happening, Nothing, Began, entries_of}
 use Rattle.rbd_world.specs.Step.{Does, IsStep, begins_of, is_begun, submitted}
 use Rattle.rbd_world.specs.World.{WorldView, client_in, free_in}
-use Rattle.rbd_world.proofs.Runs.{or_false}
 use Rattle.rbd_schedule.specs.declared.given.Given.{Given}
 use Rattle.rbd_schedule.specs.Starts.{earliest, is_ended, to_start}
 
@@ -55,7 +55,7 @@ module _ {R : Type 0} (stands : R → Standing) where
       → (line : ℕ) → is_ended line new.history ≡ is_ended line old.history
   submit_ends session number command old result new (is, does) line =
       ended_then stands (event.Submit session number command) _ old new does line
-      ∙ ap (λ b. is_ended line old.history || b) (submit_ends_none line _ number command (client_in session old.lives)) ∙ or_false (is_ended line old.history)
+      ∙ ap (λ b. is_ended line old.history || b) (submit_ends_none line _ number command (client_in session old.lives)) ∙ or-false (is_ended line old.history)
 
 -- ---- a command that may start begins
 

@@ -4,6 +4,7 @@ use Rattle.std.proofs.Common.{◌≡◌, ℕ, zero, suc, ◌+◌, ◌++◌, drop
 use Rattle.std.proofs.lemmas.Bool.{cases_eq, false≢true, or_left, or_parts}
 use Rattle.std.proofs.lemmas.List.Elements.{All-get_or, All-head, All-nil, All-same, All-tail}
 use Rattle.std.proofs.lemmas.Option.{IfSome_then, get_or_from_slice_get, none-some, same_Some, slice_get_past, slice_get_read, slice_get_within}
+use Rattle.std.proofs.Math.Bool.{or-false}
 use Rattle.rbd_flat.specs.declared.entry.Entry.{Entry}
 use Rattle.rbd_machine.specs.Plan.{Standing}
 use Rattle.rbd_requests.specs.declared.request.SessionRequest.{SessionRequest}
@@ -16,7 +17,6 @@ use Rattle.rbd_world.specs.declared.event.Outcome.{Outcome}
 use Rattle.rbd_world.specs.Sound.{IsNewWorld, IsSoundWorld, held_of}
 use Rattle.rbd_world.specs.Step.{IsStep, happening, is_begun}
 use Rattle.rbd_world.specs.World.{LivesView, WorldView, client_in, free_in, lives_in, running_of, session_of}
-use Rattle.rbd_world.proofs.Runs.{or_false}
 use Rattle.rbd_schedule.specs.declared.given.Given.{Given}
 use Rattle.rbd_schedule.specs.declared.queue.Queue.{Queue}
 use Rattle.rbd_schedule.specs.declared.runner.Runner.{Runner}
@@ -258,7 +258,7 @@ module _ {E : Type 0} where
       let step' : IsStep stands (event.Submit session c.line it.command) old.world result w = subst (λ e. IsStep stands e old.world result w) it.submission step in
       goes_by_step stands (event.Submit session c.line it.command) old (record old { world = w; highest = highest }) result step' sound refl refl refl
       (λ keeps line. keeps.over line ∙ sym (submit_ends stands session c.line it.command old.world result w step' line))
-      (λ keeps number. keeps.heard number ∙ sym (heard_then stands (event.Submit session c.line it.command) result old.world w step' number ∙ or_false (was_heard number old.world.calls)))
+      (λ keeps number. keeps.heard number ∙ sym (heard_then stands (event.Submit session c.line it.command) result old.world w step' number ∙ or-false (was_heard number old.world.calls)))
       (λ keeps due. absurd (none-some c (sym (keeps.quiet due session) ∙ may ∙ is)))
       (λ keeps. subst (λ n. n ≤ 64) (sym high) (submit_most stands session c.line it.command old.world result w old.highest step' keeps.most))
       (λ keeps s slot more. submit_above stands session c.line it.command old.world result w old.highest step' keeps.above s slot (subst (λ n. n < slot) high more))

@@ -1,6 +1,7 @@
 -- In a session with a request some request may go on.
 use Rattle.std.proofs.Common.{◌≡◌, inl, inr, ℕ, false, List, [], ◌∷◌, cond, Option, Some, None, refl, sym, ap, ◌∙◌}
 use Rattle.std.proofs.lemmas.Bool.{true≢false, eq-eqb}
+use Rattle.std.proofs.lemmas.Option.{none-some, same_Some}
 use Rattle.rbd_line.specs.Line.{Member, member_of}
 use Rattle.rbd_machine.specs.Plan.{Standing}
 use Rattle.rbd_kinds.specs.declared.image_at.ImageAt.{ImageAt}
@@ -14,7 +15,7 @@ use Rattle.rbd_session.specs.Session.{SessionView, IsSoundSession, held_in, runn
 use Rattle.rbd_session.specs.Track.{Lines}
 use Rattle.rbd_session.specs.Waits.{waits}
 use Rattle.rbd_session.proofs.Consequences.{first_goes, members_run_there}
-use Rattle.rbd_session.proofs.Sound.{held_range, no_some, some_same}
+use Rattle.rbd_session.proofs.Sound.{held_range}
 use Rattle.rbd_schedule.specs.Going.{MayGo}
 
 -- who is in no line doesn't wait
@@ -23,13 +24,13 @@ pub alone_goes : (slot : ℕ) (place : Option ImageAt) (turn : Option ℕ) (due 
     → waits slot (record { place = place; turn = turn; due = due; lines = lines }) ≡ false
 alone_goes slot None None due lines is next = refl
 alone_goes slot None (Some object) due lines is next = absurd (true≢false (sym (next object refl)))
-alone_goes slot (Some p) turn due lines is next = absurd (no_some p (sym is))
+alone_goes slot (Some p) turn due lines is next = absurd (none-some p (sym is))
 
 module _ {R : Type 0} where
   pub runs_there : (o : Option (Occupant R)) (r : Running R) → running_in o ≡ Some r → o ≡ Some (occupant.Running r)
-  runs_there None r is = absurd (no_some r is)
-  runs_there (Some (occupant.Refused line refusal)) r is = absurd (no_some r is)
-  runs_there (Some (occupant.Running q)) r is = ap (λ x. Some (occupant.Running x)) (some_same q r is)
+  runs_there None r is = absurd (none-some r is)
+  runs_there (Some (occupant.Refused line refusal)) r is = absurd (none-some r is)
+  runs_there (Some (occupant.Running q)) r is = ap (λ x. Some (occupant.Running x)) (same_Some q r is)
 
   module _ (stands : R → Standing) (s : SessionView R) (sound : IsSoundSession stands s) where
     may_go : (slot : ℕ) (r : Running R) → running_at slot s ≡ Some r → waits slot (track_of r s.lines) ≡ false → MayGo s
@@ -48,7 +49,7 @@ module _ {R : Type 0} where
     line_goes slot p m is = by (lines_of s.lines p.site p.image) refl is
       where
         by : (members : List Member) → lines_of s.lines p.site p.image ≡ members → member_of slot members ≡ Some m → MayGo s
-        by [] line is = absurd (no_some m is)
+        by [] line is = absurd (none-some m is)
         by (first ∷ members) line is =
             let found : member_of first.slot (lines_of s.lines p.site p.image) ≡ Some first
             = ap (member_of first.slot) line ∙ ap (λ b. cond b (Some first) (member_of first.slot members)) (eq-eqb first.slot first.slot refl) in

@@ -1,6 +1,6 @@
 -- Events of an idle round: a notice that is delivered, and a poll by which nothing goes on.
-use Rattle.std.proofs.Common.{◌≡◌, ◌≢◌, ℕ, ◌==◌, ◌||◌, ◌⊎◌, inl, inr, cond, not, Bool, true, false, List, is_some, Option, Some, None, refl, sym, ap, ◌∙◌, subst}
-use Rattle.std.proofs.lemmas.Bool.{cases_eq, eqb-true, false≢true, true≢false}
+use Rattle.std.proofs.Common.{◌≡◌, ◌≢◌, ℕ, ◌==◌, ◌||◌, ◌⊎◌, inl, inr, cond, Bool, true, false, List, is_some, Option, Some, None, refl, sym, ap, ◌∙◌, subst}
+use Rattle.std.proofs.lemmas.Bool.{cases_eq, eqb-true, false≢true, true≢false, not-false}
 use Rattle.std.proofs.lemmas.Option.{none-some, same_Some}
 use Rattle.rbd_client.specs.declared.actor.Actor.{Actor}
 use Rattle.rbd_client.specs.declared.actor.Actor.TheVariants as actor
@@ -21,12 +21,12 @@ use Rattle.rbd_kinds.specs.declared.notice.Notice.{Notice}
 use Rattle.rbd_kinds.specs.declared.notice.NoticeKind.{NoticeKind}
 use Rattle.rbd_kinds.specs.declared.notice.NoticeKind.TheVariants as notice
 use Rattle.rbd_kinds.specs.Images.{is_at}
+use Rattle.rbd_kinds.specs.Instances.{same_instance}
 use Rattle.rbd_locks.specs.declared.lock_state.LockState.{LockState}
 use Rattle.rbd_locks.specs.Comings.{ByAnswer, after_one}
 use Rattle.rbd_locks.specs.Locks.{LocksView, heard, state_at}
 use Rattle.rbd_locks.specs.States.{told}
 use Rattle.rbd_machine.specs.Label.{Label}
-use Rattle.rbd_machine.specs.Knowledge.{same_instance}
 use Rattle.rbd_machine.specs.Plan.{Plan, Ask, Await, Note, Return, Goto, IsAsking, Standing}
 use Rattle.rbd_owner.specs.Acquire.{asking, begun, fencing, op_at, op_of}
 use Rattle.rbd_owner.specs.Steps.{is_among}
@@ -110,10 +110,6 @@ not_taken : (at : Stage) (image : ℕ) (told : Answer) → asks_again (kind_of (
 not_taken at image told is taking done =
     false≢true (sym (ap (λ a. asks_again (kind_of (op_at stage.Taking image)) a) done) ∙ sym (ap (λ x. asks_again (kind_of (op_at x image)) told) taking) ∙ is)
 
-not_false : (b : Bool) → not b ≡ false → b ≡ true
-not_false true is = refl
-not_false false is = absurd (true≢false is)
-
 -- ---- a poll by which nothing goes on
 
 -- Where the way of a slot's request asks again, and that is all.
@@ -139,7 +135,7 @@ module _ {R : Type 0} (stands : R → Standing) where
   idle_way : (sites : Sites) (c : ClientView R) (slot line : ℕ) (a : Acquire) → actor_at stands slot c ≡ actor.Way a → goes_on (outcome_of (gone_by sites c.session.instance line a)) ≡ false
       → AsksAgain stands sites c slot (gone_by sites c.session.instance line a)
   idle_way sites c slot line a acts still =
-      let again = not_false (asks_again (kind_of (op_of a)) (answer_to (records_in a.site sites) c.session.instance (op_of a))) still in
+      let again = not-false (asks_again (kind_of (op_of a)) (answer_to (records_in a.site sites) c.session.instance (op_of a))) still in
       record {
         on = a;
         acts = acts;

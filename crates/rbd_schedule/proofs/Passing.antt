@@ -4,6 +4,7 @@ use Rattle.std.proofs.lemmas.Bool.{and_left, and_right, eq-eqb, eqb-true, false�
 use Rattle.std.proofs.lemmas.List.Folds.{find-append, list_any-append}
 use Rattle.std.proofs.lemmas.Option.{none-some, same_Some}
 use Rattle.std.specs.Option.{option_map, option_or}
+use Rattle.std.proofs.Math.Bool.{or-false}
 use Rattle.rbd_client.specs.Client.{ClientView}
 use Rattle.rbd_kinds.specs.declared.header_op.HeaderOp.{HeaderOp}
 use Rattle.rbd_kinds.specs.declared.header_op.HeaderOp.TheVariants as header
@@ -12,7 +13,7 @@ use Rattle.rbd_kinds.specs.declared.id.SiteId.{SiteId}
 use Rattle.rbd_kinds.specs.declared.notice.Notice.{Notice}
 use Rattle.rbd_kinds.specs.declared.operation.Op.{Op}
 use Rattle.rbd_kinds.specs.declared.operation.Op.TheVariants as op
-use Rattle.rbd_machine.specs.Knowledge.{same_instance}
+use Rattle.rbd_kinds.specs.Instances.{same_instance}
 use Rattle.rbd_machine.specs.Plan.{Standing}
 use Rattle.rbd_site.specs.Records.{Records}
 use Rattle.rbd_site.specs.Step.{is_fenced, mail_after, mail_served}
@@ -28,7 +29,6 @@ use Rattle.rbd_world.specs.Sound.{IsSoundWorld}
 use Rattle.rbd_world.specs.Step.{IsStep, LivesOnIf, happening, latest_behind, mail_then, names_session, next_life, restarted, restarted_of}
 use Rattle.rbd_world.specs.World.{LivesView, WorldView, client_in, lives_in, records_in, running_of}
 use Rattle.rbd_world.proofs.Carried.{of_event}
-use Rattle.rbd_world.proofs.Runs.{or_false}
 use Rattle.rbd_schedule.specs.Notices.{hears, is_due, is_to, was_heard}
 use Rattle.rbd_schedule.specs.Playing.{IsPassed, is_past, is_settled}
 
@@ -70,7 +70,7 @@ pub heard_then : {R : Type 0} (stands : R → Standing) (e : Event) (result : Ou
     → (number : ℕ) → was_heard number new.calls ≡ (was_heard number old.calls || hears number e result)
 heard_then stands e result old new (is, does) number =
     ap (was_heard number) does.calls ∙ list_any-append (λ (c : Call). hears number c.event c.outcome) old.calls _
-    ∙ ap (λ b. was_heard number old.calls || b) (or_false (hears number e (outcome_of (happening stands e old))) ∙ ap (hears number e) (sym is))
+    ∙ ap (λ b. was_heard number old.calls || b) (or-false (hears number e (outcome_of (happening stands e old))) ∙ ap (hears number e) (sym is))
 
 -- ---- lives follow one another
 

@@ -3,6 +3,7 @@ use mathlib.Core.Path.{fun_ext}
 use Rattle.std.proofs.Common.{◌≡◌, ℕ, ◌<◌, ◌≤◌, ◌||◌, ◌⊎◌, inl, inr, cond, true, false, List, is_some, Option, Some, None, refl, sym, ap, ◌∙◌, subst, arith}
 use Rattle.std.proofs.lemmas.Bool.{cases_eq, cases_lt, false≢true, true≢false}
 use Rattle.std.proofs.lemmas.List.Folds.{list_any-append}
+use Rattle.std.proofs.Math.Bool.{or-false}
 use Rattle.rbd_client.specs.declared.actor.Actor.{Actor}
 use Rattle.rbd_client.specs.declared.actor.Actor.TheVariants as actor
 use Rattle.rbd_client.specs.Actor.{actor_at}
@@ -27,7 +28,6 @@ use Rattle.rbd_world.specs.Run.{Doer, Itself, OnWay, House, AfterStop, Happening
 use Rattle.rbd_world.specs.Sound.{IsSoundWorld}
 use Rattle.rbd_world.specs.Step.{Becomes, BecomesOf, Does, IsStep, RunsOn, happening, is_begun}
 use Rattle.rbd_world.specs.World.{WorldView, client_in, free_in}
-use Rattle.rbd_world.proofs.Runs.{or_false}
 use Rattle.rbd_schedule.specs.declared.given.Given.{Given}
 use Rattle.rbd_schedule.specs.Playing.{IsNoStart, lets_start}
 use Rattle.rbd_schedule.specs.Starts.{IsQuiet, earliest, is_end_of, is_ended}
@@ -87,12 +87,12 @@ module _ {R : Type 0} (stands : R → Standing) where
   pub begun_then : (e : Event) (h : Happening) (old new : WorldView R) → Does stands e h old new → ((line : ℕ) → is_begun line (entries_of h) ≡ false)
       → (line : ℕ) → is_begun line new.history ≡ is_begun line old.history
   begun_then e h old new does none line =
-      ap (is_begun line) does.history ∙ list_any-append _ old.history (entries_of h) ∙ ap (λ b. is_begun line old.history || b) (none line) ∙ or_false (is_begun line old.history)
+      ap (is_begun line) does.history ∙ list_any-append _ old.history (entries_of h) ∙ ap (λ b. is_begun line old.history || b) (none line) ∙ or-false (is_begun line old.history)
 
   pub open_then : (e : Event) (h : Happening) (old new : WorldView R) → Does stands e h old new → ((line : ℕ) → is_ended line (entries_of h) ≡ false)
       → (line : ℕ) → is_ended line new.history ≡ is_ended line old.history
   open_then e h old new does none line =
-      ap (is_ended line) does.history ∙ list_any-append _ old.history (entries_of h) ∙ ap (λ b. is_ended line old.history || b) (none line) ∙ or_false (is_ended line old.history)
+      ap (is_ended line) does.history ∙ list_any-append _ old.history (entries_of h) ∙ ap (λ b. is_ended line old.history || b) (none line) ∙ or-false (is_ended line old.history)
 
   -- who has no reply holds its slot
   fed_held : (slot : ℕ) (before : LinesView) (f : Fed) (after : LinesView) (o n : Option (Occupant R)) → OfRunning (λ r. ComesToIn stands slot before f None r n after) o → is_some n ≡ is_some o

@@ -2,6 +2,7 @@
 -- a one.
 use Rattle.std.proofs.Common.{◌≡◌, ℕ, ◌≤◌, ◌==◌, ◌||◌, inl, inr, cond, Bool, true, false, List, [], ◌∷◌, Option, Some, None, refl, sym, ap, ◌∙◌, subst, arith}
 use Rattle.std.proofs.lemmas.Bool.{eq-eqb, false≢true, ne_eqb}
+use Rattle.std.proofs.lemmas.Option.{none-some}
 use Rattle.rbd_client.specs.declared.actor.Actor.{Actor}
 use Rattle.rbd_client.specs.declared.actor.Actor.TheVariants as actor
 use Rattle.rbd_client.specs.declared.slot_state.Way.{Way}
@@ -26,7 +27,7 @@ use Rattle.rbd_session.specs.OnTrack.{IsSomewhere}
 use Rattle.rbd_session.specs.Session.{held_in, own_look_at, running_at, running_in}
 use Rattle.rbd_session.specs.Waits.{waits}
 use Rattle.rbd_session.proofs.Consequences.{first_goes, members_run_there}
-use Rattle.rbd_session.proofs.Sound.{held_range, no_some}
+use Rattle.rbd_session.proofs.Sound.{held_range}
 use Rattle.rbd_schedule.specs.Ends.{IsHeldUp, IsLockedOut, IsStuckIn}
 use Rattle.rbd_schedule.proofs.Going.{alone_goes, runs_there}
 use Rattle.rbd_schedule.proofs.Idle.{IsStill, Stays, StaysIn}
@@ -122,7 +123,7 @@ module _ {R : Type 0} (stands : R → Standing) (c : ClientView R) (sound : IsSo
   behind slot p m is = by (lines_of c.session.lines p.site p.image) refl is
     where
       by : (members : List Member) → lines_of c.session.lines p.site p.image ≡ members → member_of slot members ≡ Some m → IsStuckIn stands c slot
-      by [] line is = absurd (no_some m is)
+      by [] line is = absurd (none-some m is)
       by (first ∷ members) line is =
           let found : member_of first.slot (lines_of c.session.lines p.site p.image) ≡ Some first
           = ap (member_of first.slot) line ∙ ap (λ b. cond b (Some first) (member_of first.slot members)) (eq-eqb first.slot first.slot refl) in

@@ -4,7 +4,7 @@ use Rattle.std.specs.Prelude.{codes, decimal, nat_eq, nat_lt, position}
 use Rattle.std.specs.List.{list_any, position_or_len}
 use Rattle.std.specs.Cmp.Lexicographic.{other_text, pointwise, same_text}
 use Rattle.std.proofs.Math.ListN.{get_or-map}
-use Rattle.std.proofs.lemmas.Bool.{and_parts, false_from_ne_true}
+use Rattle.std.proofs.lemmas.Bool.{and_parts, false_from_ne_true, not-true}
 use Rattle.std.proofs.lemmas.Bool.Decides.{nat_tests}
 use Rattle.std.proofs.lemmas.Cmp.{nat_list_eq_equiv}
 use Rattle.std.proofs.lemmas.List.Quantifiers.{position-Some}
@@ -129,10 +129,6 @@ neither false false is = (refl, refl)
 neither false true is = cc
 neither true b is = cc
 
-not_true : (b : Bool) → not b ≡ true → b ≡ false
-not_true false is = refl
-not_true true is = cc
-
 none_named : (sessions : List Declared) (t : List ℕ) → list_any (is_named t) sessions ≡ false → (k : ℕ) → k < length sessions → session_name sessions k ≢ t
 none_named [] t none k within = absurd (omega arith)
 none_named (d ∷ sessions) t none zero within = other_text d.name t (sym (neither (is_named t d) (list_any (is_named t) sessions) none).0)
@@ -163,7 +159,7 @@ new_session_told sessions t name is =
     let told = if_ok (is_session_name t && not any && nat_lt (length sessions) 32) t name BadName is in
     let outer = and_parts (is_session_name t && not any) (nat_lt (length sessions) 32) told.0 in
     let inner = and_parts (is_session_name t) (not any) outer.0 in
-    (told.1, (inner.0, none_named sessions t (not_true any inner.1), true_lt (length sessions) 32 outer.1))
+    (told.1, (inner.0, none_named sessions t (not-true any inner.1), true_lt (length sessions) 32 outer.1))
 
 pub new_session_said : (sessions : List Declared) (ts rest : Tokens) (name : List ℕ) → part_of (NewSession sessions) ts ≡ Ok (name, rest) → (ts ≡ name ∷ rest) × IsNew sessions name
 unfolding part_of

@@ -2,7 +2,7 @@
 use Rattle.std.proofs.Common.{◌≡◌, ◌≢◌, ℕ, ◌+◌, ◌<◌, ◌≤◌, ◌^◌, ◌&&◌, ◌||◌, not, cond, suc, zero, Bool, true, false, eqb, List, [], ◌∷◌, ◌++◌, length, get_or, drop, Option, Some, None, Result, Ok, Err, refl, sym, ap, ◌∙◌, subst, arith, length-drop}
 use Rattle.std.specs.Prelude.{nat_le, decimal, slice_index, IfSome}
 use Rattle.std.specs.List.{list_all, list_any, before_first, after_first, position_or_len}
-use Rattle.std.proofs.lemmas.Bool.{and_parts, eqb-true}
+use Rattle.std.proofs.lemmas.Bool.{and_parts, eqb-true, not-false}
 use Rattle.std.proofs.lemmas.Bool.Decides.{nat_tests}
 use Rattle.std.proofs.lemmas.Fmt.{decimal_nonempty, digits_decimal, digits_value-decimal, first_decimal, decimal_digit, decimal-digits_value}
 use Rattle.std.proofs.lemmas.List.Sums.{split_at_first, prefix_len_stops}
@@ -93,10 +93,6 @@ snap_read image snap i s =
     let halves = halves_of image snap i.name.bytes in
     rw (halves.0, halves.1, name_read image i, name_read snap s) refl
 
-not_false : (b : Bool) → not b ≡ false → b ≡ true
-not_false true is = refl
-not_false false is = cc
-
 pub snap_said : (t image snap : List ℕ) → snap_of t ≡ Ok (image, snap) → (t ≡ snap_token image snap) × IsAskedName image × IsAskedName snap
 unfolding snap_of
 snap_said t image snap is =
@@ -106,7 +102,7 @@ snap_said t image snap is =
     let place = position_or_len is_at t in
     let long : 0 < length (drop (place + 1) t) = rw s.0 s.1.name.some in
     let within : place < length t = omega (arith, long, length-drop (place + 1) t) in
-    let at : get_or t place 0 ≡ 64 = eqb-true (get_or t place 0) 64 (not_false (is_at (get_or t place 0)) (prefix_len_stops (λ x. not (is_at x)) t 0 within)) in (
+    let at : get_or t place 0 ≡ 64 = eqb-true (get_or t place 0) 64 (not-false (is_at (get_or t place 0)) (prefix_len_stops (λ x. not (is_at x)) t 0 within)) in (
       split_at_first is_at t 0 within ∙ ap (λ b. before_first is_at t ++ (b ∷ after_first is_at t)) at ∙ (λ j. i.0 j ++ 64 ∷ s.0 j),
       i.1,
       s.1,

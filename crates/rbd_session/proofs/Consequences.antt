@@ -1,6 +1,7 @@
 -- What follows for every session.
 use Rattle.std.proofs.Common.{◌≡◌, ◌≢◌, ℕ, ◌==◌, ◌&&◌, ◌||◌, not, cond, Bool, true, false, List, [], ◌∷◌, Option, Some, None, refl, sym, ap, subst, ◌∙◌}
 use Rattle.std.proofs.lemmas.Bool.{true≢false, eq-eqb, eqb-true, and_parts}
+use Rattle.std.proofs.lemmas.Option.{none-some, same_Some}
 use Rattle.rbd_course.specs.Course.{is_waiting}
 use Rattle.rbd_course.specs.declared.stage.Stage.TheVariants as stage
 use Rattle.rbd_kinds.specs.Sharing.{go_together, is_alone}
@@ -12,6 +13,7 @@ use Rattle.rbd_guard.specs.Order.{is_in}
 use Rattle.rbd_machine.specs.Knowledge.{same_site}
 use Rattle.rbd_machine.specs.Plan.{Standing}
 use Rattle.rbd_kinds.specs.declared.image_at.ImageAt.{ImageAt}
+use Rattle.rbd_kinds.proofs.Images.{same_site_is}
 use Rattle.rbd_session.specs.declared.running.Occupant.{Occupant}
 use Rattle.rbd_session.specs.declared.running.Occupant.TheVariants as occupant
 use Rattle.rbd_session.specs.declared.running.Running.{Running}
@@ -21,8 +23,6 @@ use Rattle.rbd_session.specs.OnTrack.{is_here}
 use Rattle.rbd_session.specs.Session.{SessionView, IsSoundSession, running_in, running_at, held_in, going_in, kind_asked, kind_at, of_going}
 use Rattle.rbd_session.specs.Track.{course_in, line_in, course_of, image_at}
 use Rattle.rbd_session.specs.Waits.{waits, awaits_line, awaits_turn, lacks_turn, is_at_own}
-use Rattle.rbd_session.proofs.Sound.{no_some, some_same}
-use Rattle.rbd_session.proofs.Track.{same_site_is}
 
 -- ---- who is alone
 
@@ -45,10 +45,10 @@ or_true false = refl
 module _ {R : Type 0} (stands : R → Standing) where
   held_up : (slot : ℕ) (o : Option (Occupant R)) (lines : LinesView) (r : Running R) → running_in o ≡ Some r → waits slot (track_of r lines) ≡ true
       → of_going stands kind_asked (going_in slot o lines) ≡ None
-  held_up slot None lines r runs waiting = absurd (no_some r runs)
-  held_up slot (Some (occupant.Refused line refusal)) lines r runs waiting = absurd (no_some r runs)
+  held_up slot None lines r runs waiting = absurd (none-some r runs)
+  held_up slot (Some (occupant.Refused line refusal)) lines r runs waiting = absurd (none-some r runs)
   held_up slot (Some (occupant.Running q)) lines r runs waiting =
-      ap (λ b. of_going stands kind_asked (cond b None (Some q))) (ap (λ r. waits slot (track_of r lines)) (some_same q r runs) ∙ waiting)
+      ap (λ b. of_going stands kind_asked (cond b None (Some q))) (ap (λ r. waits slot (track_of r lines)) (same_Some q r runs) ∙ waiting)
 
   pub piece_waits : (s : SessionView R) (slot object : ℕ) (r : Running R) (p : ImageAt) (one : Member) → running_at slot s ≡ Some r → r.place ≡ Some p → r.turn ≡ Some object
       → member_of one.slot (lines_of s.lines p.site p.image) ≡ Some one → is_member one.slot (ahead slot (lines_of s.lines p.site p.image)) ≡ true → holds object one ≡ true
@@ -93,14 +93,14 @@ module _ {R : Type 0} (stands : R → Standing) where
     where
       go : (b : Bool) → is_here r.place site image ≡ b → r.place ≡ Some (record { site = site; image = image })
       go true here = here_is r.place site image here
-      go false other = absurd (no_some m (sym ((sound.runs slot r runs).elsewhere site image other) ∙ is))
+      go false other = absurd (none-some m (sym ((sound.runs slot r runs).elsewhere site image other) ∙ is))
 
   pub members_run_there : (s : SessionView R) (slot : ℕ) (site : SiteId) (image : ℕ) (m : Member) → IsSoundSession stands s → member_of slot (lines_of s.lines site image) ≡ Some m
       → (r : Running R) × (running_at slot s ≡ Some r) × (r.place ≡ Some (record { site = site; image = image }))
   members_run_there s slot site image m sound is = go (running_at slot s) refl
     where
       go : (o : Option (Running R)) → running_at slot s ≡ o → (r : Running R) × (running_at slot s ≡ Some r) × (r.place ≡ Some (record { site = site; image = image }))
-      go None rests = absurd (no_some m (sym (sound.others slot rests site image) ∙ is))
+      go None rests = absurd (none-some m (sym (sound.others slot rests site image) ∙ is))
       go (Some r) runs = (r, runs, place_is s slot site image m sound is r runs)
 
   -- ---- the first of a line

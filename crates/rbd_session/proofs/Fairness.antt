@@ -15,12 +15,12 @@ use Rattle.rbd_line.specs.Line.{Member, LineView, changed, without, joined, held
 use Rattle.rbd_line.proofs.Fair.{joined_fair, held_fair, passed_fair, left_fair, entered_fair, next_fair}
 use Rattle.rbd_machine.specs.Knowledge.{is_at, same_site}
 use Rattle.rbd_kinds.specs.declared.image_at.ImageAt.{ImageAt}
+use Rattle.rbd_kinds.proofs.Images.{same_site_is}
 use Rattle.rbd_session.specs.Advance.{MayPass}
 use Rattle.rbd_session.specs.OnTrack.{MayTake, AreFair, is_here}
 use Rattle.rbd_session.specs.Track.{Track, Lines, changed_at, image_at, line_in, course_of, given, done_with, noted_by, looked_by, answered_by, passed_by, ended_by}
 use Rattle.rbd_session.proofs.Entering.{IsEntering, begins, takes_next, goes_on, ends, changed_none, given_none}
 use Rattle.rbd_session.proofs.Members.{not_found}
-use Rattle.rbd_session.proofs.Track.{same_site_is}
 
 -- the line that changes is this one
 at_here : (p : ImageAt) (lines : Lines) (site : SiteId) (image : ℕ) → is_here (Some p) site image ≡ true → lines p.site p.image ≡ lines site image

@@ -1,5 +1,6 @@
 -- A session without a request that was given up.
 use Rattle.std.proofs.Common.{◌≡◌, ℕ, ◌≤◌, List, slice_set, Option, Some, None, refl, sym, ap, ◌∙◌, subst}
+use Rattle.std.proofs.lemmas.Option.{none-some}
 use Rattle.rbd_kinds.specs.declared.id.SiteId.{SiteId}
 use Rattle.rbd_line.specs.Line.{member_of, without}
 use Rattle.rbd_machine.specs.Plan.{Standing}
@@ -13,7 +14,7 @@ use Rattle.rbd_session.specs.Session.{SessionView, IsSoundSession, IsLowest, hel
 use Rattle.rbd_session.specs.Track.{changed_at}
 use Rattle.rbd_session.proofs.Fairness.{ended_by_fair}
 use Rattle.rbd_session.proofs.Others.{ended_leaves, left_elsewhere}
-use Rattle.rbd_session.proofs.Sound.{no_some, held_range, set_sound}
+use Rattle.rbd_session.proofs.Sound.{held_range, set_sound}
 
 module _ {R : Type 0} (stands : R → Standing) (s : SessionView R) (sound : IsSoundSession stands s) (slot : ℕ) (r : Running R) (runs : running_at slot s ≡ Some r) where
   -- what it leaves of the lines
@@ -37,5 +38,5 @@ module _ {R : Type 0} (stands : R → Standing) (s : SessionView R) (sound : IsS
       where
         range : (o : Option (Occupant R)) → held_in slot s.slots ≡ o → running_in o ≡ Some r → (1 ≤ slot) × (slot ≤ 64)
         range (Some (occupant.Running q)) at is = held_range stands s sound slot (occupant.Running q) at
-        range (Some (occupant.Refused line refusal)) at is = absurd (no_some r is)
-        range None at is = absurd (no_some r is)
+        range (Some (occupant.Refused line refusal)) at is = absurd (none-some r is)
+        range None at is = absurd (none-some r is)

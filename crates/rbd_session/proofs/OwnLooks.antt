@@ -2,6 +2,7 @@
 use Rattle.std.proofs.Common.{◌≡◌, ◌≢◌, ◌⊎◌, inl, inr, ℕ, ◌==◌, ◌&&◌, ◌||◌, cond, not, Bool, true, false, List, [], ◌∷◌, ◌++◌, Option, Some, None, refl, sym, ap, ◌∙◌, subst}
 use Rattle.std.proofs.lemmas.Bool.{true≢false, cases_eq, and_parts}
 use Rattle.std.specs.Option.{option_map}
+use Rattle.std.proofs.lemmas.Option.{none-some, same_Some}
 use Rattle.rbd_kinds.specs.declared.sharing.Sharing.{Sharing}
 use Rattle.rbd_course.specs.Course.{is_own_at, is_waiting}
 use Rattle.rbd_course.specs.declared.stage.Stage.{Stage}
@@ -38,7 +39,6 @@ use Rattle.rbd_session.specs.Track.{Track, Lines, changed_at, image_at, line_in,
 use Rattle.rbd_session.specs.Waits.{waits, waits_at, awaits_turn, is_at_own}
 use Rattle.rbd_session.proofs.Behind.{KeepsPast}
 use Rattle.rbd_session.proofs.Consequences.{here_is}
-use Rattle.rbd_session.proofs.Sound.{no_some, some_same}
 use Rattle.rbd_session.proofs.Track.{done_steady, given_steady}
 use Rattle.rbd_session.proofs.Way.{held_past, done_past}
 
@@ -62,21 +62,21 @@ module _ {R : Type 0} (slot : ℕ) (s : SessionView R) (r : Running R) (q : Imag
       ∙ goes)
 
   staged : (p : ImageAt) (m : Member) → member_of slot (lines_of s.lines q.site q.image) ≡ Some m → (g : Stage) → m.stage ≡ g → cond (is_waiting g) (Some q) None ≡ Some p → IsAtOwnLook slot p s
-  staged p m found stage.Joined is at = absurd (no_some p at)
-  staged p m found stage.Past is at = absurd (no_some p at)
+  staged p m found stage.Joined is at = absurd (none-some p at)
+  staged p m found stage.Past is at = absurd (none-some p at)
   staged p m found stage.Waiting is at =
-      subst (λ x. IsAtOwnLook slot x s) (some_same q p at)
+      subst (λ x. IsAtOwnLook slot x s) (same_Some q p at)
       (record { running = r; member = m; runs = runs; place = place; found = found; awaits = is; goes = goes; may = may_go m found is })
 
   looking : (p : ImageAt) (o : Option Member) → member_of slot (lines_of s.lines q.site q.image) ≡ o → (looks : Bool) → cond (looks && waits_at (stage_of o)) (Some q) None ≡ Some p → IsAtOwnLook slot p s
-  looking p o found false at = absurd (no_some p at)
-  looking p None found true at = absurd (no_some p at)
+  looking p o found false at = absurd (none-some p at)
+  looking p None found true at = absurd (none-some p at)
   looking p (Some m) found true at = staged p m found m.stage refl at
 
 module _ {R : Type 0} (stands : R → Standing) where
   placed : (slot : ℕ) (s : SessionView R) (r : Running R) (p : ImageAt) → running_at slot s ≡ Some r → waits slot (track_of r s.lines) ≡ false → (q : Option ImageAt) → r.place ≡ q
       → own_look_of slot (kind_asked (stands r.request).plan) q s.lines ≡ Some p → IsAtOwnLook slot p s
-  placed slot s r p runs goes None place at = absurd (no_some p at)
+  placed slot s r p runs goes None place at = absurd (none-some p at)
   placed slot s r p runs goes (Some q) place at =
       looking slot s r q runs goes place p (member_of slot (lines_of s.lines q.site q.image)) refl (is_look_at q.site (kind_asked (stands r.request).plan)) at
 
@@ -84,12 +84,12 @@ module _ {R : Type 0} (stands : R → Standing) where
   at_own_look s slot p at = by (held_in slot s.slots) refl at
     where
       going : (r : Running R) → running_at slot s ≡ Some r → (b : Bool) → waits slot (track_of r s.lines) ≡ b → own_look_in stands slot s.lines (cond b None (Some r)) ≡ Some p → IsAtOwnLook slot p s
-      going r runs true waiting at = absurd (no_some p at)
+      going r runs true waiting at = absurd (none-some p at)
       going r runs false goes at = placed slot s r p runs goes r.place refl at
 
       by : (o : Option (Occupant R)) → held_in slot s.slots ≡ o → own_look_in stands slot s.lines (going_in slot o s.lines) ≡ Some p → IsAtOwnLook slot p s
-      by None is at = absurd (no_some p at)
-      by (Some (occupant.Refused line refusal)) is at = absurd (no_some p at)
+      by None is at = absurd (none-some p at)
+      by (Some (occupant.Refused line refusal)) is at = absurd (none-some p at)
       by (Some (occupant.Running r)) is at = going r (ap running_in is) (waits slot (track_of r s.lines)) refl at
 
 -- ---- who goes past own

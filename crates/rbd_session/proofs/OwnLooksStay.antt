@@ -2,6 +2,7 @@
 use Rattle.std.proofs.Common.{◌≡◌, ◌≢◌, ℕ, ◌&&◌, ◌||◌, cond, not, Bool, true, false, List, [], ◌∷◌, ◌++◌, Option, Some, None, refl, sym, ap, ◌∙◌}
 use Rattle.std.proofs.lemmas.Bool.{true≢false}
 use Rattle.std.specs.Option.{option_map}
+use Rattle.std.proofs.lemmas.Option.{none-some, same_Some}
 use Rattle.rbd_course.specs.Course.{is_own_at}
 use Rattle.rbd_kinds.specs.declared.answer.Answer.{Answer}
 use Rattle.rbd_kinds.specs.declared.answer.Answer.TheVariants as answer
@@ -38,7 +39,6 @@ use Rattle.rbd_session.proofs.Behind.{holds_none}
 use Rattle.rbd_session.proofs.Others.{ended_leaves}
 use Rattle.rbd_session.proofs.OwnLooks.{at_own_look}
 use Rattle.rbd_session.proofs.Readied.{same_track}
-use Rattle.rbd_session.proofs.Sound.{no_some, some_same}
 use Rattle.rbd_session.proofs.Track.{done_steady, given_steady}
 
 -- ---- where it stands
@@ -64,10 +64,10 @@ module _ {R : Type 0} (stands : R → Standing) where
       ap (λ o. own_look_in stands slot new.lines (running_in o)) held ∙ same_look_in slot (running_at slot s) s.lines new.lines (leaves slot differ)
 
   going_is : (slot : ℕ) (o : Option (Occupant R)) (lines : LinesView) (r : Running R) → running_in o ≡ Some r → waits slot (track_of r lines) ≡ false → going_in slot o lines ≡ Some r
-  going_is slot None lines r runs goes = absurd (no_some r runs)
-  going_is slot (Some (occupant.Refused line refusal)) lines r runs goes = absurd (no_some r runs)
+  going_is slot None lines r runs goes = absurd (none-some r runs)
+  going_is slot (Some (occupant.Refused line refusal)) lines r runs goes = absurd (none-some r runs)
   going_is slot (Some (occupant.Running q)) lines r runs goes =
-      let same = some_same q r runs in
+      let same = same_Some q r runs in
       ap (λ b. cond b None (Some q)) (ap (λ x. waits slot (track_of x lines)) same ∙ goes) ∙ ap (λ x. Some x) same
 
   -- what is made ready stands where it stood
@@ -86,8 +86,8 @@ module _ {R : Type 0} (stands : R → Standing) where
       by (Some (occupant.Running r)) (Some (occupant.Running q)) same =
           ap (λ t. own_look_in stands slot new.lines (cond (waits slot t) None (Some q))) (same_track stands r q s.lines new.lines same alike.lines)
           ∙ same_way slot r q s.lines new.lines same alike.lines (waits slot (track_of r s.lines))
-      by (Some (occupant.Running r)) (Some (occupant.Refused line refusal)) is = absurd (no_some r (ap running_in is))
-      by (Some (occupant.Running r)) None is = absurd (no_some r (ap running_in is))
+      by (Some (occupant.Running r)) (Some (occupant.Refused line refusal)) is = absurd (none-some r (ap running_in is))
+      by (Some (occupant.Running r)) None is = absurd (none-some r (ap running_in is))
       by (Some (occupant.Refused line refusal)) o is = ap (λ x. own_look_in stands slot new.lines (going_in slot x new.lines)) is
       by None o is = ap (λ x. own_look_in stands slot new.lines (going_in slot x new.lines)) is
 

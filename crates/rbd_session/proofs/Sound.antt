@@ -2,6 +2,7 @@
 use Rattle.std.proofs.Common.{◌≡◌, ◌≢◌, ◌⊎◌, inl, inr, ℕ, zero, suc, ◌+◌, ◌<◌, ◌≤◌, Bool, true, false, List, [], length, replicate, slice_index_or, slice_set, cond, nat_lt, Option, Some, None, IsSome, is_some, refl, sym, ap, ◌∙◌, subst, arith}
 use Rattle.std.proofs.lemmas.Bool.{true≢false, cases_eq, cases_lt, ltb-true, ltb-false}
 use Rattle.std.proofs.lemmas.List.{length-replicate, length-set, get_or-set_same, get_or-set_other, get_or_past, get_or_default}
+use Rattle.std.proofs.lemmas.Option.{none-some, same_Some}
 use Rattle.rbd_kinds.specs.declared.id.Instance.{Instance}
 use Rattle.rbd_kinds.specs.declared.id.SiteId.{SiteId}
 use Rattle.rbd_kinds.specs.declared.layout.Extent.{Extent}
@@ -29,16 +30,6 @@ use Rattle.rbd_session.specs.Session.{SessionView, IsSoundSession, IsLowest, IsN
 abbrev pub nothing : {T : Type 0} → Option T
 nothing = None
 
-pub no_some : {T : Type 0} (x : T) → None ≡ Some x → ⊥
-no_some x is = true≢false (ap is_some (sym is))
-
-pub some_same : {T : Type 0} (x y : T) → Some x ≡ Some y → x ≡ y
-some_same {T} x y is = ap (or_this x) is
-  where
-    or_this : T → Option T → T
-    or_this other None = other
-    or_this other (Some z) = z
-
 pub all_free : {T : Type 0} (n slot : ℕ) → held_in slot (replicate n (nothing {T = T})) ≡ None
 all_free zero zero = refl
 all_free zero (suc slot) = refl
@@ -57,8 +48,8 @@ new_sound {R} stands instance home slots lines are none =
       slots = ap length are ∙ length-replicate 65 (nothing {T = Occupant R});
       zero = free 0;
       lowest = record { some = omega arith; most = omega arith; below = λ slot from to. absurd (omega (arith, from, to)); free = free 1 };
-      runs = λ slot r is. absurd (no_some r (sym (ap running_in (free slot)) ∙ is));
-      asks = λ slot r is. absurd (no_some r (sym (ap running_in (free slot)) ∙ is));
+      runs = λ slot r is. absurd (none-some r (sym (ap running_in (free slot)) ∙ is));
+      asks = λ slot r is. absurd (none-some r (sym (ap running_in (free slot)) ∙ is));
       others = λ slot is site image. ap (member_of slot) (none site image);
       fair = λ site image. subst IsFairLine (sym (none site image)) fair_none;
     }
@@ -98,12 +89,12 @@ IsWell stands slot o lines = (site : SiteId) (image : ℕ) → member_of slot (l
 module _ {R : Type 0} (stands : R → Standing) where
   well_runs : (slot : ℕ) (o : Option (Occupant R)) (lines : LinesView) → IsWell stands slot o lines → (r : Running R) → running_in o ≡ Some r
       → IsOnTrack slot r.extent true (stands r.request) (track_of r lines) × IsAsking (stands r.request).plan
-  well_runs slot (Some (occupant.Running q)) lines well r is = subst (λ r. IsOnTrack slot r.extent true (stands r.request) (track_of r lines) × IsAsking (stands r.request).plan) (some_same q r is) well
-  well_runs slot (Some (occupant.Refused line refusal)) lines well r is = absurd (no_some r is)
-  well_runs slot None lines well r is = absurd (no_some r is)
+  well_runs slot (Some (occupant.Running q)) lines well r is = subst (λ r. IsOnTrack slot r.extent true (stands r.request) (track_of r lines) × IsAsking (stands r.request).plan) (same_Some q r is) well
+  well_runs slot (Some (occupant.Refused line refusal)) lines well r is = absurd (none-some r is)
+  well_runs slot None lines well r is = absurd (none-some r is)
 
   well_rests : (slot : ℕ) (o : Option (Occupant R)) (lines : LinesView) → IsWell stands slot o lines → running_in o ≡ None → (site : SiteId) (image : ℕ) → member_of slot (lines_of lines site image) ≡ None
-  well_rests slot (Some (occupant.Running q)) lines well is = absurd (no_some q (sym is))
+  well_rests slot (Some (occupant.Running q)) lines well is = absurd (none-some q (sym is))
   well_rests slot (Some (occupant.Refused line refusal)) lines well is = well
   well_rests slot None lines well is = well
 
@@ -177,7 +168,7 @@ module _ {R W : Type 0} (stands : R → Standing) (stands_for : Seat → W → S
           (sym (ap (λ p. course_in r.turn [] p (member_of slot (line_in p (lines_of lines)))) new.place ∙ ap (λ t. course_in t [] None None) new.turn))
           (orderly (stands r.request) new.stands_there new.asks));
       takes = inl refl;
-      turns = λ object is. absurd (no_some object (sym new.turn ∙ is));
+      turns = λ object is. absurd (none-some object (sym new.turn ∙ is));
     },
     new.asks,
   )
@@ -188,17 +179,17 @@ pub held_range : {R : Type 0} (stands : R → Standing) (s : SessionView R) → 
 held_range {R} stands s sound slot o is = (from slot is, to (cases_lt slot 65))
   where
     from : (k : ℕ) → held_in k s.slots ≡ Some o → 1 ≤ k
-    from zero at = absurd (no_some o (sym sound.zero ∙ at))
+    from zero at = absurd (none-some o (sym sound.zero ∙ at))
     from (suc k) at = omega arith
 
     to : (slot < 65) ⊎ (65 ≤ slot) → slot ≤ 64
     to (inl less) = omega (arith, less)
-    to (inr past) = absurd (no_some o (sym (get_or_past s.slots slot None (let len = sound.slots in omega (arith, len, past))) ∙ is))
+    to (inr past) = absurd (none-some o (sym (get_or_past s.slots slot None (let len = sound.slots in omega (arith, len, past))) ∙ is))
 
 refused_is : {R : Type 0} (o : Option (Occupant R)) (x : Refusal) → refusal_in o ≡ Some x → IsSome o × (running_in o ≡ None)
 refused_is (Some (occupant.Refused line refusal)) x is = (refl, refl)
-refused_is (Some (occupant.Running r)) x is = absurd (no_some x is)
-refused_is None x is = absurd (no_some x is)
+refused_is (Some (occupant.Running r)) x is = absurd (none-some x is)
+refused_is None x is = absurd (none-some x is)
 
 pub refused_goes : {R : Type 0} (stands : R → Standing) (s : SessionView R) → IsSoundSession stands s → (slot : ℕ) (x : Refusal) → refusal_in (held_in slot s.slots) ≡ Some x
     → (slots : List (Option (Occupant R))) (lowest : ℕ) → slots ≡ slice_set s.slots slot None → IsLowest lowest slots
@@ -210,7 +201,7 @@ refused_goes {R} stands s sound slot x is slots lowest are is_lowest =
   where
     range : (o : Option (Occupant R)) → held_in slot s.slots ≡ o → (1 ≤ slot) × (slot ≤ 64)
     range (Some o) at = held_range stands s sound slot o at
-    range None at = absurd (no_some x (sym (ap refusal_in at) ∙ is))
+    range None at = absurd (none-some x (sym (ap refusal_in at) ∙ is))
 
 -- what stands at a place within
 pub stands_at : {T : Type 0} (slots : List (Option T)) (slot : ℕ) (held : Option T) → slot < length slots → held ≡ slice_index_or slots slot held → held_in slot slots ≡ held
@@ -235,7 +226,7 @@ stays_lowest slots lowest slot before after old less is = record {
   some = old.some;
   most = old.most;
   below = λ n one low. go n one low (cases_eq n slot);
-  free = get_or-set_other slots slot lowest (Some after) None (λ same. no_some before (sym old.free ∙ ap (λ k. held_in k slots) same ∙ is)) ∙ old.free;
+  free = get_or-set_other slots slot lowest (Some after) None (λ same. none-some before (sym old.free ∙ ap (λ k. held_in k slots) same ∙ is)) ∙ old.free;
 }
   where
     go : (n : ℕ) → 1 ≤ n → n < lowest → (n ≡ slot) ⊎ (n ≢ slot) → IsSome (held_in n (slice_set slots slot (Some after)))
@@ -284,14 +275,14 @@ goes_well stands slot to t r q lines goes = (
 ended_well : {R : Type 0} (stands : R → Standing) (slot : ℕ) (labels : Label → Plan) (plan : Plan) (t : Track) (reply : Reply) (r q : Running R) (lines : LinesView)
     → ComesTo stands slot labels plan t (Some reply) r q lines → (site : SiteId) (image : ℕ) → member_of slot (lines_of lines site image) ≡ None
 ended_well stands slot labels (Return last) t reply r q lines comes site image = comes.nowhere site image refl
-ended_well stands slot labels (Ask site why o next) t reply r q lines comes site_at image_at = absurd (no_some reply (sym comes.none))
-ended_well stands slot labels (Await w next) t reply r q lines comes site_at image_at = absurd (no_some reply (sym comes.none))
-ended_well stands slot labels (Note site image event next) t reply r q lines comes site_at image_at = absurd (no_some reply (sym comes.none))
-ended_well stands slot labels (Goto label) t reply r q lines comes site_at image_at = absurd (no_some reply (sym comes.none))
+ended_well stands slot labels (Ask site why o next) t reply r q lines comes site_at image_at = absurd (none-some reply (sym comes.none))
+ended_well stands slot labels (Await w next) t reply r q lines comes site_at image_at = absurd (none-some reply (sym comes.none))
+ended_well stands slot labels (Note site image event next) t reply r q lines comes site_at image_at = absurd (none-some reply (sym comes.none))
+ended_well stands slot labels (Goto label) t reply r q lines comes site_at image_at = absurd (none-some reply (sym comes.none))
 
 module _ {R : Type 0} (stands : R → Standing) where
   further_well : (slot : ℕ) (labels : Label → Plan) (plan : Plan) (t : Track) (r q : Running R) (lines : LinesView) → ComesTo stands slot labels plan t None r q lines → IsWell stands slot (Some (occupant.Running q)) lines
-  further_well slot labels (Return reply) t r q lines comes = absurd (no_some reply comes.reply)
+  further_well slot labels (Return reply) t r q lines comes = absurd (none-some reply comes.reply)
   further_well slot labels (Ask site why o next) t r q lines comes = goes_well stands slot (record { labels = labels; plan = Ask site why o next }) t r q lines comes
   further_well slot labels (Await w next) t r q lines comes = goes_well stands slot (record { labels = labels; plan = Await w next }) t r q lines comes
   further_well slot labels (Note site image event next) t r q lines comes = goes_well stands slot (record { labels = labels; plan = Note site image event next }) t r q lines comes
@@ -301,7 +292,7 @@ module _ {R : Type 0} (stands : R → Standing) where
   comes_well slot f None r (Some (occupant.Running q)) lines after comes =
       further_well slot (stands r.request).labels (at_operation (stands r.request).labels (plan_after (stands r.request).plan f))
       (run slot (plan_after (stands r.request).plan f) (fed_by slot r.extent (track_of r lines) (stands r.request).plan f)) r q after comes.1
-  comes_well slot f (Some reply) r (Some (occupant.Running q)) lines after comes = absurd (no_some reply (sym comes.0))
+  comes_well slot f (Some reply) r (Some (occupant.Running q)) lines after comes = absurd (none-some reply (sym comes.0))
   comes_well slot f (Some reply) r None lines after comes =
       ended_well stands slot (stands r.request).labels (at_operation (stands r.request).labels (plan_after (stands r.request).plan f))
       (run slot (plan_after (stands r.request).plan f) (fed_by slot r.extent (track_of r lines) (stands r.request).plan f)) reply r r after comes.1
@@ -312,7 +303,7 @@ module _ {R : Type 0} (stands : R → Standing) where
       → IsLowest lowest slots → slot < length slots → 1 ≤ slot → slot ≤ 65 → held_in slot slots ≡ Some (occupant.Running r) → ComesToIn stands slot lines f result r o after
       → IsLowest (lowest_after lowest slot (is_some result)) (slice_set slots slot o)
   comes_lowest slots lowest slot f None r (Some (occupant.Running q)) lines after old less from to is comes = stays_lowest slots lowest slot (occupant.Running r) (occupant.Running q) old less is
-  comes_lowest slots lowest slot f (Some reply) r (Some (occupant.Running q)) lines after old less from to is comes = absurd (no_some reply (sym comes.0))
+  comes_lowest slots lowest slot f (Some reply) r (Some (occupant.Running q)) lines after old less from to is comes = absurd (none-some reply (sym comes.0))
   comes_lowest slots lowest slot f (Some reply) r None lines after old less from to is comes = gets_lowest slots lowest slot old less from to
   comes_lowest slots lowest slot f None r None lines after old less from to is comes = absurd (true≢false (sym comes.0))
   comes_lowest slots lowest slot f result r (Some (occupant.Refused line refusal)) lines after old less from to is comes = elim comes [ ]

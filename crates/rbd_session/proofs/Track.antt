@@ -1,6 +1,5 @@
 -- The course of a request goes as its track does, and the courses of others stay.
 use Rattle.std.proofs.Common.{◌≡◌, ℕ, inl, inr, cond, Bool, true, false, List, [], ◌∷◌, ◌++◌, drop, Option, Some, None, refl, sym, ap, ◌∙◌, subst}
-use Rattle.std.proofs.lemmas.Bool.{eq-eqb}
 use Rattle.std.specs.Option.{option_map}
 use Rattle.rbd_kinds.specs.declared.sharing.Sharing.{Sharing}
 use Rattle.rbd_course.specs.Course.{Course, waited, noted, answered, looked, behind, is_own_at, due_of, objects_asked}
@@ -14,9 +13,9 @@ use Rattle.rbd_kinds.specs.declared.id.SiteId.{SiteId}
 use Rattle.rbd_kinds.specs.declared.id.SiteId.TheVariants as site
 use Rattle.rbd_kinds.specs.declared.layout.Extent.{Extent}
 use Rattle.rbd_line.specs.Line.{Member, member_of, changed, joined, held, passed}
-use Rattle.rbd_machine.specs.Knowledge.{is_at, same_site}
 use Rattle.rbd_machine.specs.Wait as wait
 use Rattle.rbd_kinds.specs.declared.image_at.ImageAt.{ImageAt}
+use Rattle.rbd_kinds.proofs.Images.{at_itself}
 use Rattle.rbd_session.specs.Track.{Track, Lines, changed_at, image_at, line_in, course_in, course_of, given, done_with, waited_by, noted_by, looked_by, answered_by}
 use Rattle.rbd_session.specs.OnTrack.{IsThere, IsSomewhere}
 use Rattle.rbd_line.specs.Steady.{IsSteady}
@@ -24,19 +23,6 @@ use Rattle.rbd_line.proofs.Passing.{own_changed, joined_found, held_is_steady, p
 use Rattle.rbd_session.proofs.Members.{not_found}
 
 -- ---- where
-
-same_itself : (s : SiteId) → same_site s s ≡ true
-same_itself site.A = refl
-same_itself site.B = refl
-
-pub at_itself : (s : SiteId) (image : ℕ) → is_at s image s image ≡ true
-at_itself s image = rw (same_itself s) (eq-eqb image image refl)
-
-pub same_site_is : (s t : SiteId) → same_site t s ≡ true → t ≡ s
-same_site_is site.A site.A is = refl
-same_site_is site.B site.B is = refl
-same_site_is site.A site.B is = cc
-same_site_is site.B site.A is = cc
 
 -- the line of the image that changes is changed
 pub changed_here : (p : ImageAt) (change : List Member → List Member) (lines : Lines) → line_in (Some p) (changed_at (Some p) change lines) ≡ change (lines p.site p.image)

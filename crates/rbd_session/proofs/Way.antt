@@ -19,8 +19,9 @@ use Rattle.rbd_kinds.specs.declared.layout.Extent.{Extent}
 use Rattle.rbd_kinds.specs.declared.operation.Op.{Op}
 use Rattle.rbd_kinds.specs.declared.operation.Op.TheVariants as op
 use Rattle.rbd_line.specs.Line.{Member, member_of, changed, joined, held, passed, is_past, none_past_behind, comes_next, objects_of, objects_in}
-use Rattle.rbd_line.specs.Turns.{begins_with, or_zero}
+use Rattle.rbd_line.specs.Turns.{begins_with}
 use Rattle.std.proofs.lemmas.Bool.{eq-eqb, and_parts}
+use Rattle.std.proofs.lemmas.Option.{same_Some}
 use Rattle.rbd_machine.specs.Answers.{CanGive}
 use Rattle.rbd_machine.specs.Knowledge.{is_at}
 use Rattle.rbd_machine.specs.Label.{Label}
@@ -134,10 +135,7 @@ done_objects : (turn : Option ℕ) (m : Member) → (done_with turn m).objects �
 done_objects None m = refl
 done_objects (Some object) m = first_goes object m.objects
 
-some_is : (a b : ℕ) → Some a ≡ Some b → a ≡ b
-some_is a b same = ap (λ o. or_zero o) same
-
-waiting_not_past : (s : Stage) → is_waiting s ≡ true → is_past s ≡ false
+pub waiting_not_past : (s : Stage) → is_waiting s ≡ true → is_past s ≡ false
 waiting_not_past stage.Joined is = refl
 waiting_not_past stage.Waiting is = refl
 waiting_not_past stage.Past is = sym is
@@ -221,7 +219,7 @@ module _ (slot : ℕ) (e : Option Extent) (labels : Label → Plan) where
                 changed_on_track slot e false (at (settled labels next)) t (done_with t.turn) (done_steady t.turn) p m there on.elsewhere (Some object) t.due
                     (subst (λ c. IsOrderlyFrom e false c (at (settled labels next))) (sym (course_turned slot p m t there object)) orderly)
                     (takes_changed slot t (done_with t.turn) (done_steady t.turn) (done_past t.turn) (done_sharing t.turn) (done_none t.turn) (Some object) on.takes)
-                    (λ other is. begins other (done_with t.turn m).objects (subst (λ o. BeginsWith o (done_with t.turn m).objects) (some_is object other is) first)),
+                    (λ other is. begins other (done_with t.turn m).objects (subst (λ o. BeginsWith o (done_with t.turn m).objects) (same_Some object other is) first)),
               )
       go (wait.Leave site image) (may, orderly) = (
         may,

@@ -23,6 +23,7 @@ use Rattle.rbd_kinds.specs.declared.map_op.MapOp.TheVariants as states
 use Rattle.rbd_kinds.specs.declared.operation.Op.{Op}
 use Rattle.rbd_kinds.specs.declared.operation.Op.TheVariants as on
 use Rattle.rbd_kinds.specs.Header.{snap_named}
+use Rattle.rbd_kinds.specs.Instances.{same_instance}
 use Rattle.rbd_header.specs.Header.{is_full, snap_in}
 use Rattle.rbd_registry.specs.Directory.{Listing, id_of, is_full as is_full_directory, holds}
 use Rattle.rbd_object.specs.Mapped.{Mapped, looked}
@@ -31,7 +32,7 @@ use Rattle.rbd_site.specs.ChildrenStep.{Entries, entry, children_answer}
 use Rattle.rbd_site.specs.DataStep.{blank_answer, finds, parts_read}
 use Rattle.rbd_site.specs.DirectoryStep.{directory_answer, image_found, name_added, name_changed}
 use Rattle.rbd_site.specs.Found.{done_where}
-use Rattle.rbd_site.specs.HeaderStep.{header_answer, is_owner, lock_taken, same_instance, snap_added}
+use Rattle.rbd_site.specs.HeaderStep.{header_answer, is_owner, lock_taken, snap_added}
 use Rattle.rbd_site.specs.MapStep.{map_answer, view_of}
 use Rattle.rbd_site.specs.Records.{Records, or_blank}
 use Rattle.rbd_site.specs.Step.{is_fenced, answer_served, answer_to, after, after_served}

@@ -18,13 +18,14 @@ use Rattle.rbd_header.proofs.Changed.{cut_within}
 use Rattle.rbd_site.specs.HeaderStep.{MayDoOnHeader, header_then, header_after, is_owner, where_made}
 use Rattle.rbd_kinds.specs.declared.operation.Op.{Op}
 use Rattle.rbd_kinds.specs.declared.operation.Op.TheVariants as on
+use Rattle.rbd_kinds.specs.Instances.{same_instance}
 use Rattle.rbd_site.specs.Records.{Records, no_records, put}
 use Rattle.rbd_site.specs.InForm.{AreInForm, IsMapInForm}
 use Rattle.rbd_site.specs.MapStep.{map_after, view_of}
 use Rattle.rbd_site.specs.Log.{expired}
 use Rattle.rbd_site.specs.Step.{MayDo, MayServe, is_fenced, after, after_served}
 use Rattle.rbd_site.specs.WatchStep.{watchers_after}
-use Rattle.rbd_watch.specs.Watching.{same, without}
+use Rattle.rbd_watch.specs.Watching.{without}
 use Rattle.std.specs.List.{IsDistinct}
 use Rattle.rbd_site.proofs.MapLemmas.{map_form_after, put_map_each}
 use Rattle.rbd_site.proofs.WatchLemmas.{distinct_after, distinct_none, distinct_without, for_each, unwatched_after, watched_at}
@@ -203,7 +204,7 @@ form_served r me (on.Header image op) most held may =
           at_one (λ h. h.generation ≤ most + 1) r.headers image h
           (after_generation me (r.headers image) op most (held.generation image) may) (λ i h is. omega (arith, held.generation i h is));
       unwatched = for_each (λ h w. h ≡ None → w ≡ []) r.headers r.watchers image h w (unwatched_after me (r.headers image) (r.watchers image) op (held.unwatched image)) held.unwatched;
-      distinct = for_each (λ h w. IsDistinct same w) r.headers r.watchers image h w (distinct_after me (r.headers image) (r.watchers image) op (held.distinct image)) held.distinct;
+      distinct = for_each (λ h w. IsDistinct same_instance w) r.headers r.watchers image h w (distinct_after me (r.headers image) (r.watchers image) op (held.distinct image)) held.distinct;
       maps = held.maps;
     }
 form_served r me (on.Directory op) most held may = record { form = held.form; generation = λ i h is. omega (arith, held.generation i h is); unwatched = held.unwatched; distinct = held.distinct; maps = held.maps }
@@ -235,7 +236,7 @@ form_expired r image most i held = record {
   unwatched =
       λ j none. watched_at (λ w. w ≡ []) r.watchers image (without i (r.watchers image)) j (λ at. ap (without i) (held.unwatched image (ap r.headers (sym at) ∙ none))) (held.unwatched j none);
   distinct =
-      λ j. watched_at (IsDistinct same) r.watchers image (without i (r.watchers image)) j (λ at. distinct_without i (r.watchers image) (held.distinct image)) (held.distinct j);
+      λ j. watched_at (IsDistinct same_instance) r.watchers image (without i (r.watchers image)) j (λ at. distinct_without i (r.watchers image) (held.distinct image)) (held.distinct j);
   maps = held.maps;
 }
 

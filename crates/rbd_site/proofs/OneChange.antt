@@ -1,5 +1,5 @@
 -- A map that was changed at one key, as the function that a site's records have.
-use Rattle.std.proofs.Common.{◌≡◌, ℕ, Bool, true, false, cond, eqb, ◌&&◌, Option, Some, None, is_some, refl, sym, ap, ◌∙◌, arith}
+use Rattle.std.proofs.Common.{◌≡◌, ℕ, Bool, true, false, cond, eqb, ◌&&◌, Option, Some, None, is_some, refl, sym, ap, ◌∙◌}
 use Rattle.std.specs.Prelude.{IsFalse}
 use Rattle.std.specs.declared.cmp.Ordering.{Ordering}
 use Rattle.std.specs.declared.cmp.Ordering.TheVariants.{Less, Equal, Greater}
@@ -8,6 +8,7 @@ use Rattle.std.specs.Cmp.{unsigned_tied}
 use Rattle.std.specs.BTreeMap.{BTreeMap, get, is_at}
 use Rattle.std.proofs.lemmas.Bool.{and_parts, eqb-true}
 use Rattle.rbd_kinds.specs.declared.header.HeaderView.{HeaderView}
+use Rattle.rbd_kinds.proofs.Plain.{eqb_flip}
 use Rattle.rbd_object.specs.Mapped.{Mapped}
 use Rattle.rbd_site.specs.declared.object_key.ObjectKey.{ObjectKey}
 use Rattle.rbd_site.specs.Records.{put}
@@ -18,11 +19,8 @@ is_eq-then Less b = refl
 is_eq-then Equal b = refl
 is_eq-then Greater b = refl
 
-pub eqb_swapped : (a b : ℕ) → eqb a b ≡ eqb b a
-eqb_swapped a b = grind arith
-
 pub is_eq-nat_cmp : (a b : ℕ) → is_eq (nat_cmp a b) ≡ eqb b a
-is_eq-nat_cmp a b = unsigned_tied a b ∙ eqb_swapped a b
+is_eq-nat_cmp a b = unsigned_tied a b ∙ eqb_flip a b
 
 -- the key of an object is the key of one object
 same_object : (k : ObjectKey) (i n : ℕ) → is_at (key_cmp k) (key i n) ≡ (eqb i k.image && eqb n k.number)

@@ -15,7 +15,8 @@ use Rattle.rbd_kinds.specs.declared.id.Instance.{Instance}
 use Rattle.rbd_kinds.specs.declared.id.SiteId.{SiteId}
 use Rattle.rbd_kinds.specs.declared.notice.Notice.{Notice}
 use Rattle.rbd_kinds.specs.declared.notice.NoticeKind.{NoticeKind}
-use Rattle.rbd_watch.specs.Watching.{older, oldest_of, registered, same, watches, without}
+use Rattle.rbd_kinds.specs.Instances.{same_instance}
+use Rattle.rbd_watch.specs.Watching.{older, oldest_of, registered, watches, without}
 use Rattle.rbd_site.specs.HeaderStep.{header_after}
 use Rattle.rbd_site.specs.Maps.{watchers_in}
 use Rattle.rbd_site.specs.Records.{put}
@@ -23,7 +24,7 @@ use Rattle.rbd_site.specs.WatchStep.{notified, watchers_after}
 use Rattle.rbd_site.proofs.OneChange.{is_eq-nat_cmp}
 use Rattle.rbd_site.proofs.TrimLemmas.{put_same}
 
-same_equiv : IsEquivalence same
+same_equiv : IsEquivalence same_instance
 same_equiv = and_equiv (on_equiv (λ (i : Instance). i.session) nat_eq_equiv) (on_equiv (λ (i : Instance). i.life) nat_eq_equiv)
 
 all_filtered : {T : Type 0} (P : T → Type 0) (test : T → Bool) (items : List T) → AllByRecursion P items → AllByRecursion P (filter test items)
@@ -34,29 +35,29 @@ all_filtered {T} P test (x ∷ items) all = go (test x) (all_filtered P test ite
     go true rest = (all.0, rest)
     go false rest = rest
 
-pub distinct_none : IsDistinct same []
+pub distinct_none : IsDistinct same_instance []
 unfolding IsDistinct
 distinct_none = tt
 
-distinct_filtered : (test : Instance → Bool) (w : List Instance) → IsDistinct same w → IsDistinct same (filter test w)
+distinct_filtered : (test : Instance → Bool) (w : List Instance) → IsDistinct same_instance w → IsDistinct same_instance (filter test w)
 distinct_filtered test [] distinct = distinct
-distinct_filtered test (i ∷ w) distinct = go (test i) (distinct_filtered test w (IsDistinct-tail same i w distinct))
+distinct_filtered test (i ∷ w) distinct = go (test i) (distinct_filtered test w (IsDistinct-tail same_instance i w distinct))
   where
-    go : (b : Bool) → IsDistinct same (filter test w) → IsDistinct same (cond b (i ∷ filter test w) (filter test w))
-    go true rest = IsDistinct-cons same i (filter test w) (all_filtered (λ j. same i j ≡ false) test w (IsDistinct-head same i w distinct)) rest
+    go : (b : Bool) → IsDistinct same_instance (filter test w) → IsDistinct same_instance (cond b (i ∷ filter test w) (filter test w))
+    go true rest = IsDistinct-cons same_instance i (filter test w) (all_filtered (λ j. same_instance i j ≡ false) test w (IsDistinct-head same_instance i w distinct)) rest
     go false rest = rest
 
-pub distinct_without : (i : Instance) (w : List Instance) → IsDistinct same w → IsDistinct same (without i w)
-distinct_without i w distinct = distinct_filtered (λ j. not (same i j)) w distinct
+pub distinct_without : (i : Instance) (w : List Instance) → IsDistinct same_instance w → IsDistinct same_instance (without i w)
+distinct_without i w distinct = distinct_filtered (λ j. not (same_instance i j)) w distinct
 
-distinct_registered : (i : Instance) (w : List Instance) → IsDistinct same w → IsDistinct same (registered i w)
+distinct_registered : (i : Instance) (w : List Instance) → IsDistinct same_instance w → IsDistinct same_instance (registered i w)
 distinct_registered i w distinct = go (watches i w) refl
   where
-    go : (b : Bool) → watches i w ≡ b → IsDistinct same (cond b w (w ++ i ∷ []))
+    go : (b : Bool) → watches i w ≡ b → IsDistinct same_instance (cond b w (w ++ i ∷ []))
     go true is = distinct
     go false is = IsDistinct-push same_equiv w i distinct is
 
-pub distinct_after : (me : Instance) (header : Option HeaderView) (w : List Instance) (o : HeaderOp) → IsDistinct same w → IsDistinct same (watchers_after me header w o)
+pub distinct_after : (me : Instance) (header : Option HeaderView) (w : List Instance) (o : HeaderOp) → IsDistinct same_instance w → IsDistinct same_instance (watchers_after me header w o)
 distinct_after me None w o distinct = distinct
 distinct_after me (Some h) w Watch distinct = distinct_registered me w distinct
 distinct_after me (Some h) w Unwatch distinct = distinct_without me w distinct

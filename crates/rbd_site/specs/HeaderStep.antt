@@ -1,5 +1,5 @@
 -- Operations on the header of an image: the answer, and the header after it.
-use Rattle.std.specs.Prelude.{ℕ, ◌+◌, ◌==◌, ◌&&◌, List, Bool, false, if◌then◌else◌, Option, Some, None, is_some}
+use Rattle.std.specs.Prelude.{ℕ, ◌+◌, List, Bool, false, if◌then◌else◌, Option, Some, None, is_some}
 use Rattle.rbd_kinds.specs.declared.answer.Answer.{Answer}
 use Rattle.rbd_kinds.specs.declared.answer.Answer.TheVariants as answer
 use Rattle.rbd_kinds.specs.declared.header.HeaderView.{HeaderView}
@@ -8,11 +8,9 @@ use Rattle.rbd_kinds.specs.declared.header_op.HeaderOp.TheVariants.{Create, Get,
 use Rattle.rbd_kinds.specs.declared.id.Instance.{Instance}
 use Rattle.rbd_kinds.specs.Form.{HasFewObjects, IsNewHeader}
 use Rattle.rbd_kinds.specs.Header.{snap_named}
+use Rattle.rbd_kinds.specs.Instances.{same_instance}
 use Rattle.rbd_header.specs.Header.{snap_in, is_full, with_size, with_snap, with_status, without_snap, detached, with_role, in_step}
 use Rattle.rbd_site.specs.Found.{done_where}
-
-abbrev pub same_instance : Instance → Instance → Bool
-same_instance a b = (a.session == b.session) && (a.life == b.life)
 
 -- The operations that are built, and their conditions: a header is made in form, and a size has at
 -- most 2^20 objects.

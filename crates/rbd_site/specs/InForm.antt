@@ -2,8 +2,8 @@
 use Rattle.std.specs.Prelude.{◌≡◌, ℕ, ◌^◌, ◌≤◌, List, [], length, Option, Some, None}
 use Rattle.std.specs.List.{IsDistinct}
 use Rattle.rbd_kinds.specs.declared.header.HeaderView.{HeaderView}
-use Rattle.rbd_watch.specs.Watching.{same}
 use Rattle.rbd_kinds.specs.Form.{IsHeaderInForm}
+use Rattle.rbd_kinds.specs.Instances.{same_instance}
 use Rattle.rbd_map.specs.States.{AreStates}
 use Rattle.rbd_site.specs.Records.{Records}
 
@@ -18,5 +18,5 @@ pub record AreInForm (r : Records) (most : ℕ) : Type 0 where
   pub form : (image : ℕ) (h : HeaderView) → r.headers image ≡ Some h → IsHeaderInForm h
   pub generation : (image : ℕ) (h : HeaderView) → r.headers image ≡ Some h → h.generation ≤ most
   pub unwatched : (image : ℕ) → r.headers image ≡ None → r.watchers image ≡ []
-  pub distinct : (image : ℕ) → IsDistinct same (r.watchers image)
+  pub distinct : (image : ℕ) → IsDistinct same_instance (r.watchers image)
   pub maps : (image : ℕ) (view : Option ℕ) (states : List ℕ) → r.maps image view ≡ Some states → IsMapInForm states

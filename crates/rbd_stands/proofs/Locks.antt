@@ -1,6 +1,6 @@
 -- Who has the lock of an image keeps it, but for three operations.
-use Rattle.std.proofs.Common.{◌≡◌, ℕ, ◌==◌, ◌&&◌, ◌⊎◌, inl, inr, Bool, true, false, cond, List, Option, Some, None, is_some, refl, sym, ap, ◌∙◌}
-use Rattle.std.proofs.lemmas.Bool.{and_parts, eqb-true, eq-eqb}
+use Rattle.std.proofs.Common.{◌≡◌, ℕ, ◌==◌, ◌⊎◌, inl, inr, Bool, true, false, cond, List, Option, Some, None, is_some, refl, sym, ap, ◌∙◌}
+use Rattle.std.proofs.lemmas.Bool.{eqb-true}
 use Rattle.rbd_kinds.specs.declared.answer.Answer.{Answer}
 use Rattle.rbd_kinds.specs.declared.answer.Answer.TheVariants as answer
 use Rattle.rbd_kinds.specs.declared.header.HeaderView.{HeaderView}
@@ -10,11 +10,12 @@ use Rattle.rbd_kinds.specs.declared.id.Instance.{Instance}
 use Rattle.rbd_kinds.specs.declared.operation.Op.{Op}
 use Rattle.rbd_kinds.specs.declared.operation.Op.TheVariants as on
 use Rattle.rbd_kinds.specs.Header.{snap_named}
+use Rattle.rbd_kinds.proofs.Instances.{same_instance_is}
 use Rattle.rbd_header.specs.Header.{is_full, snap_in, with_snap, with_status, without_snap}
 use Rattle.rbd_site.specs.declared.done.Done.{Done}
 use Rattle.rbd_site.specs.declared.done.DoneOp.{DoneOp}
 use Rattle.rbd_site.specs.declared.done.DoneOp.TheVariants as done
-use Rattle.rbd_site.specs.HeaderStep.{header_answer, header_after, header_then, is_owner, same_instance, there_after, there_answer, where_made}
+use Rattle.rbd_site.specs.HeaderStep.{header_answer, header_after, header_then, is_owner, there_after, there_answer, where_made}
 use Rattle.rbd_site.specs.Log.{IsAnswer, after_op}
 use Rattle.rbd_site.specs.Records.{Records}
 use Rattle.rbd_site.specs.Step.{after, after_served, answer_served, answer_to}
@@ -25,14 +26,6 @@ use Rattle.rbd_stands.proofs.Served.{where_either}
 
 abbrev instance : (session life : ℕ) → Instance
 instance session life = record { session = session; life = life }
-
-pub same_is : (a b : Instance) → same_instance a b ≡ true → a ≡ b
-same_is a b e =
-    let parts = and_parts (a.session == b.session) (a.life == b.life) e in
-    ap (λ s. instance s a.life) (eqb-true a.session b.session parts.0) ∙ ap (instance b.session) (eqb-true a.life b.life parts.1)
-
-pub is_same : (a : Instance) → same_instance a a ≡ true
-is_same a = ap (λ b. b && (a.life == a.life)) (eq-eqb a.session a.session refl) ∙ eq-eqb a.life a.life refl
 
 -- ---- one header
 
@@ -70,7 +63,7 @@ module _ (who me : Instance) (h : HeaderView) (watchers : List Instance) (own : 
   cleared named o ends answers leaves = go (is_owner named h.owner) refl
     where
       go : (b : Bool) → is_owner named h.owner ≡ b → StaysOwner who me h o ⊎ EndsHere who me h watchers o
-      go true mine = inr (record { answered = answers true mine; ends = ends (sym (same_is me named (sym (ap (is_owner named) own) ∙ mine))) })
+      go true mine = inr (record { answered = answers true mine; ends = ends (sym (same_instance_is me named (sym (ap (is_owner named) own) ∙ mine))) })
       go false other = inl (record { then = h; is = leaves false other; owner = own })
 
   pub kept_or_ended : (o : HeaderOp) → StaysOwner who me h o ⊎ EndsHere who me h watchers o

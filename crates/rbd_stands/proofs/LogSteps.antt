@@ -16,10 +16,11 @@ use Rattle.rbd_kinds.specs.declared.map_op.MapOp.{MapOp}
 use Rattle.rbd_kinds.specs.declared.map_op.MapOp.TheVariants as states
 use Rattle.rbd_kinds.specs.declared.operation.Op.{Op}
 use Rattle.rbd_kinds.specs.declared.operation.Op.TheVariants as on
+use Rattle.rbd_kinds.specs.Instances.{same_instance}
+use Rattle.rbd_kinds.proofs.Instances.{same_instance_is, same_instance_itself}
 use Rattle.rbd_site.specs.declared.done.Done.{Done}
 use Rattle.rbd_site.specs.declared.done.DoneOp.{DoneOp}
 use Rattle.rbd_site.specs.declared.done.DoneOp.TheVariants as done
-use Rattle.rbd_site.specs.HeaderStep.{same_instance}
 use Rattle.rbd_site.specs.Laws.{is_look}
 use Rattle.rbd_site.specs.Log.{AreAnswered, IsAnswer, after_all, after_op}
 use Rattle.rbd_site.specs.Records.{Records, no_records}
@@ -28,7 +29,7 @@ use Rattle.rbd_site.proofs.FenceLemmas.{fence_stays, lists_no_other}
 use Rattle.rbd_site.proofs.StepLemmas.{other_blocklist}
 use Rattle.rbd_stands.specs.Effect.{effect_of}
 use Rattle.rbd_stands.specs.Owned.{AreOwned, DoesNothing, HasLock, IsDone, IsDoneBySome, IsLetGo, IsNothing, IsOwnedLine, IsOwnedStep, IsOwner, IsTakenAway, SomeLine, changes_image, was_done}
-use Rattle.rbd_stands.proofs.Locks.{EndsLock, IsLoss, is_same, line_keeps, same_is}
+use Rattle.rbd_stands.proofs.Locks.{EndsLock, IsLoss, line_keeps}
 use Rattle.rbd_stands.proofs.NoEffect.{fenced_none}
 use Rattle.rbd_stands.proofs.Served.{fenced_after, fenced_answer, free_answer}
 
@@ -157,12 +158,12 @@ line_added r d me answered listed = go d.instance d.op refl refl answered listed
       who = who;
       line = record {
         by = by;
-        what = what ∙ ap (λ j. done.Op (on.BlockAdd j)) (sym (same_is me i same));
+        what = what ∙ ap (λ j. done.Op (on.BlockAdd j)) (sym (same_instance_is me i same));
         answered = is ∙ sym (free_answer r who (on.BlockAdd i) free);
       };
     })
     added who i by what is now false free false other =
-        inl (sym (lists_no_other r who i me (λ e. true≢false (sym (is_same me) ∙ ap (same_instance me) e ∙ other))) ∙ now)
+        inl (sym (lists_no_other r who i me (λ e. true≢false (sym (same_instance_itself me) ∙ ap (same_instance me) e ∙ other))) ∙ now)
 
     operation : (who : Instance) (op : Op) → d.instance ≡ Some who → d.op ≡ done.Op op → d.answer ≡ answer_to r who op → is_fenced (after r who op) me ≡ true → IsListedBy r d me
     operation who (on.BlockAdd i) by what is now = added who i by what is now (is_fenced r who) refl (same_instance me i) refl

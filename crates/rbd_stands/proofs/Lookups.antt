@@ -4,6 +4,7 @@ use Rattle.std.proofs.lemmas.Bool.{eqb-true, eq-eqb, ne_eqb, true≢false}
 use Rattle.std.proofs.lemmas.Option.{none-some, same_Some}
 use Rattle.rbd_kinds.specs.declared.header.SnapView.{SnapView}
 use Rattle.rbd_kinds.specs.declared.header.SnapStatus.{SnapStatus}
+use Rattle.rbd_kinds.proofs.Plain.{cond_same}
 use Rattle.rbd_header.specs.Header.{snap_in, marked}
 use Rattle.rbd_header.proofs.Changed.{marked_id}
 use Rattle.rbd_flat.specs.Flat.{FlatSnap}
@@ -179,18 +180,14 @@ lines_marked t status hs fs same =
     ∙ ap (map (line_marked t status)) same
     ∙ sym (map_map line_of_flat (flat.with_status t status) (line_marked t status) (λ s. apart line_of_flat (eqb s.id t) (record s { status = status }) s) fs)
 
-either : {X : Type 0} (b : Bool) (x : X) → cond b x x ≡ x
-either true x = refl
-either false x = refl
-
 pub marked_shape : (t : ℕ) (status : SnapStatus) (s : SnapView) → shape_of_snap (marked t status s) ≡ shape_of_snap s
-marked_shape t status s = apart shape_of_snap (eqb s.id t) (record s { status = status }) s ∙ either (eqb s.id t) (shape_of_snap s)
+marked_shape t status s = apart shape_of_snap (eqb s.id t) (record s { status = status }) s ∙ cond_same (eqb s.id t) (shape_of_snap s)
 
 flat_marked_id : (t : ℕ) (status : SnapStatus) (s : FlatSnap) → (flat.with_status t status s).id ≡ s.id
-flat_marked_id t status s = apart (λ (u : FlatSnap). u.id) (eqb s.id t) (record s { status = status }) s ∙ either (eqb s.id t) s.id
+flat_marked_id t status s = apart (λ (u : FlatSnap). u.id) (eqb s.id t) (record s { status = status }) s ∙ cond_same (eqb s.id t) s.id
 
 flat_marked_bytes : (t : ℕ) (status : SnapStatus) (s : FlatSnap) → (flat.with_status t status s).bytes ≡ s.bytes
-flat_marked_bytes t status s = apart (λ (u : FlatSnap). u.bytes) (eqb s.id t) (record s { status = status }) s ∙ either (eqb s.id t) s.bytes
+flat_marked_bytes t status s = apart (λ (u : FlatSnap). u.bytes) (eqb s.id t) (record s { status = status }) s ∙ cond_same (eqb s.id t) s.bytes
 
 pub header_marked : (t : ℕ) (status : SnapStatus) (snaps : List SnapView) (u : ℕ) → snap_in (map (marked t status) snaps) u ≡ option_map (marked t status) (snap_in snaps u)
 header_marked t status [] u = refl

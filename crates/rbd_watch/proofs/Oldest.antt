@@ -4,10 +4,11 @@ use Rattle.std.specs.Prelude.{◌==◌, ◌≢◌, ◌⊎◌, ◌↔◌, nat_le}
 use Rattle.std.proofs.lemmas.Bool.{false≢true, cond-true, eq-eqb, eqb-true, leb-true, leb-false, and_from, or_left, or_right}
 use Rattle.std.proofs.lemmas.Option.{none-some, same_Some, cond_some}
 use Rattle.rbd_kinds.specs.declared.id.Instance.{Instance}
-use Rattle.rbd_watch.specs.Watching.{same, watches, older, oldest_of}
-use Rattle.rbd_watch.proofs.Removal.{same_equal}
+use Rattle.rbd_kinds.specs.Instances.{same_instance}
+use Rattle.rbd_kinds.proofs.Instances.{same_instance_is}
+use Rattle.rbd_watch.specs.Watching.{watches, older, oldest_of}
 
-same_itself : (i j : Instance) → j ≡ i → same i j ≡ true
+same_itself : (i j : Instance) → j ≡ i → same_instance i j ≡ true
 same_itself i j e =
     and_from (i.session == j.session) (i.life == j.life)
     (eq-eqb i.session j.session (ap (λ k. k.session) (sym e)))
@@ -50,12 +51,12 @@ named_second (Some one) other = by (nat_le one.life other.life) refl
 -- each one of the session that watches has at least the life of the one that is named
 named : (session : ℕ) (watchers : List Instance) (j : Instance) → watches j watchers ≡ true → j.session ≡ session → IsNamed (oldest_of session watchers) j.life
 named session [] j is of = absurd (false≢true is)
-named session (w ∷ watchers) j is of = by (same j w) refl is (λ rest. named session watchers j rest of)
+named session (w ∷ watchers) j is of = by (same_instance j w) refl is (λ rest. named session watchers j rest of)
   where
-    by : (b : Bool) → same j w ≡ b → (b || watches j watchers) ≡ true → (watches j watchers ≡ true → IsNamed (oldest_of session watchers) j.life)
+    by : (b : Bool) → same_instance j w ≡ b → (b || watches j watchers) ≡ true → (watches j watchers ≡ true → IsNamed (oldest_of session watchers) j.life)
         → IsNamed (older (of_session session w) (oldest_of session watchers)) j.life
     by true e h rest =
-        let that : j ≡ w = same_equal j w e in
+        let that : j ≡ w = same_instance_is j w e in
         let here : of_session session w ≡ Some w = cond-true (w.session == session) (Some w) None (eq-eqb w.session session (ap (λ k. k.session) (sym that) ∙ of)) in
         subst (λ a. IsNamed (older a (oldest_of session watchers)) j.life) (sym here)
         (subst (λ life. IsNamed (older (Some w) (oldest_of session watchers)) life) (ap (λ k. k.life) (sym that)) (named_first w (oldest_of session watchers)))
@@ -74,11 +75,11 @@ oldest_watches session (w ∷ watchers) i e =
   where
     by : (of_session session w ≡ Some i) ⊎ (oldest_of session watchers ≡ Some i)
         → (oldest_of session watchers ≡ Some i → (watches i watchers ≡ true) × (i.session ≡ session))
-        → ((same i w || watches i watchers) ≡ true) × (i.session ≡ session)
+        → ((same_instance i w || watches i watchers) ≡ true) × (i.session ≡ session)
     by (inl here) rest =
         let that : ((w.session == session) ≡ true) × (w ≡ i) = cond_some (w.session == session) w i here in
-        (or_left (same i w) (watches i watchers) (same_itself i w that.1), ap (λ k. k.session) (sym that.1) ∙ eqb-true w.session session that.0)
-    by (inr behind) rest = (or_right (same i w) (watches i watchers) (rest behind).0, (rest behind).1)
+        (or_left (same_instance i w) (watches i watchers) (same_itself i w that.1), ap (λ k. k.session) (sym that.1) ∙ eqb-true w.session session that.0)
+    by (inr behind) rest = (or_right (same_instance i w) (watches i watchers) (rest behind).0, (rest behind).1)
 
 pub oldest_is_least : (session : ℕ) (watchers : List Instance) (oldest other : Instance) → oldest_of session watchers ≡ Some oldest
     → watches other watchers ≡ true → other.session ≡ session → oldest.life ≤ other.life

@@ -1,14 +1,11 @@
 -- Who watches an image's header, in order of registration.
-use Rattle.std.specs.Prelude.{ℕ, Bool, not, ◌&&◌, ◌==◌, List, [], ◌∷◌, ◌++◌, if◌then◌else◌, Option, Some, None, nat_le}
+use Rattle.std.specs.Prelude.{ℕ, Bool, not, ◌==◌, List, [], ◌∷◌, ◌++◌, if◌then◌else◌, Option, Some, None, nat_le}
 use Rattle.std.specs.List.{filter, list_any}
 use Rattle.rbd_kinds.specs.declared.id.Instance.{Instance}
-
--- one life of one session
-abbrev pub same : Instance → Instance → Bool
-same a b = (a.session == b.session) && (a.life == b.life)
+use Rattle.rbd_kinds.specs.Instances.{same_instance}
 
 abbrev pub watches : Instance → List Instance → Bool
-watches instance watchers = list_any (same instance) watchers
+watches instance watchers = list_any (same_instance instance) watchers
 
 -- a new watcher stands at the end, and one that watches keeps its place
 abbrev pub registered : Instance → List Instance → List Instance
@@ -16,7 +13,7 @@ registered instance watchers = if watches instance watchers then watchers else w
 
 -- the others, in their order
 abbrev pub without : Instance → List Instance → List Instance
-without instance watchers = filter (λ w. not (same instance w)) watchers
+without instance watchers = filter (λ w. not (same_instance instance w)) watchers
 
 -- whether an instance of another session watches
 abbrev pub other_watches : (session : ℕ) → List Instance → Bool

@@ -1,7 +1,8 @@
 //! The watchers of one image.
 ghost use Rattle.std.specs.Prelude.{◌≡◌, [], Some, IfOk, OnOk, OnErr};
 ghost use Rattle.std.specs.List.{IsDistinct};
-ghost use Rattle.rbd_watch.specs.Watching.{older, oldest_of, other_watches, registered, same, watches, without};
+ghost use Rattle.rbd_kinds.specs.Instances.{same_instance};
+ghost use Rattle.rbd_watch.specs.Watching.{older, oldest_of, other_watches, registered, watches, without};
 
 use indexmap::IndexSet;
 use rbd_kinds::{Instance, Instances, NoMemory, SessionNo};
@@ -60,7 +61,7 @@ impl Watchers {
     /// The watchers, in order of registration.
     pub fn list(&self) -> Result<Instances, NoMemory>
         ensures list { IfOk result (λ list. list ≡ self.now) }
-        ensures distinct { IsDistinct same self.now }
+        ensures distinct { IsDistinct same_instance self.now }
     {
         let instances = self.instances.as_slice();
         Ok(Instances::from_vec(Vec::from_slice(self.alloc, instances)?))

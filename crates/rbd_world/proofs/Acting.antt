@@ -2,6 +2,7 @@
 use Rattle.std.proofs.Common.{◌≡◌, ◌≢◌, ◌⊎◌, inl, inr, ℕ, ◌<◌, cond, false, ◌∷◌, length, Option, Some, None, refl, sym, ap, ◌∙◌, subst, arith, ◌==◌, Bool, true}
 use Rattle.std.specs.Prelude.{IsSome}
 use Rattle.std.proofs.lemmas.Bool.{true≢false, eq-eqb, ne_eqb}
+use Rattle.std.proofs.lemmas.Option.{none-some, same_Some}
 use Rattle.rbd_client.specs.declared.actor.Actor.{Actor}
 use Rattle.rbd_client.specs.declared.actor.Actor.TheVariants as actor
 use Rattle.rbd_client.specs.Actor.{actor_at, op_by, op_wanted}
@@ -38,7 +39,6 @@ use Rattle.rbd_rely.proofs.Elsewhere.{beside_elsewhere}
 use Rattle.rbd_rely.proofs.Nothing.{nothing_is_beside}
 use Rattle.rbd_rely.proofs.Together.{beside_mutual, learned_beside}
 use Rattle.rbd_session.specs.Session.{held_in, running_at, running_in}
-use Rattle.rbd_session.proofs.Sound.{no_some, some_same}
 use Rattle.rbd_site.specs.Records.{Records}
 use Rattle.rbd_site.specs.Step.{answer_to}
 use Rattle.rbd_world.specs.Run.{Doer, Happening, Did, Sent, flat_after, sent_of, records_after}
@@ -119,18 +119,18 @@ module _ {R : Type 0} (stands : R → Standing) (old new : WorldView R) (w : IsS
   sent_differs m x y is = by (same_or_other m session)
     where
       late_is : (o : Option LateView) → sent_in x o ≡ Some y → (v : LateView) → o ≡ Some v → y.instance ≡ v.instance
-      late_is None is v at = absurd (no_some y is)
+      late_is None is v at = absurd (none-some y is)
       late_is (Some u) is v at = by (held_in x u.wanted) is
         where
           by : (h : Option (SiteId × Op)) → sent_of u.instance h ≡ Some y → y.instance ≡ v.instance
-          by None is = absurd (no_some y is)
-          by (Some wants) is = ap (λ (z : Sent). z.instance) (sym (some_same _ y is)) ∙ ap (λ (z : LateView). z.instance) (some_same u v at)
+          by None is = absurd (none-some y is)
+          by (Some wants) is = ap (λ (z : Sent). z.instance) (sym (same_Some _ y is)) ∙ ap (λ (z : LateView). z.instance) (same_Some u v at)
 
       older : (l : LivesView R) → lives_in session old.lives ≡ Some l → l.running ≡ Some c → sent_in x l.late ≡ Some y → me ≢ y.instance
       older l at runs sent same = by l.late refl sent
         where
           by : (o : Option LateView) → l.late ≡ o → sent_in x o ≡ Some y → ⊥
-          by None none sent = no_some y sent
+          by None none sent = none-some y sent
           by (Some v) late sent =
               let lives = w.lives session l at in
               let less : v.instance.life < l.latest.life = lives.older v late c runs in

@@ -2,9 +2,10 @@
 use Rattle.std.proofs.Common.{◌≡◌, ℕ, ◌==◌, ◌||◌, cond, not, Bool, true, false, List, [], ◌∷◌, ◌++◌, Option, Some, None, refl, sym, ap, ◌∙◌, subst}
 use Rattle.std.specs.Option.{option_map}
 use Rattle.std.proofs.lemmas.Bool.{true≢false, eq-eqb, eqb-true}
+use Rattle.std.proofs.lemmas.Option.{none-some, same_Some}
 use Rattle.rbd_line.specs.Line.{Member, member_of, is_member, ahead, holds, is_past, changed, without, EachPair}
 use Rattle.rbd_line.specs.Steady.{IsSteady}
-use Rattle.rbd_line.proofs.Keeping.{same_some, some_none, found_has}
+use Rattle.rbd_line.proofs.Keeping.{found_has}
 use Rattle.rbd_line.proofs.Passing.{own_changed, gone}
 use Rattle.rbd_world.specs.InLine.{IsPastWithout}
 
@@ -92,13 +93,13 @@ member_pushed x (m ∷ ms) n is differ = by (m.slot == x) is (λ there. member_p
 
 pub pair_ahead : (P : Member → Member → Type 0) (x y : ℕ) (one other : Member) (ms : List Member) → EachPair P ms → member_of x ms ≡ Some one → member_of y ms ≡ Some other
     → is_member x (ahead y ms) ≡ true → P one other
-pair_ahead P x y one other [] pairs here there is = absurd (some_none one here)
+pair_ahead P x y one other [] pairs here there is = absurd (none-some one here)
 pair_ahead P x y one other (m ∷ ms) pairs here there is = by (m.slot == y) (m.slot == x) refl here there is (pair_ahead P x y one other ms pairs.1)
   where
     by : (b c : Bool) → (m.slot == x) ≡ c → cond c (Some m) (member_of x ms) ≡ Some one → cond b (Some m) (member_of y ms) ≡ Some other → is_member x (cond b [] (m ∷ ahead y ms)) ≡ true
         → (member_of x ms ≡ Some one → member_of y ms ≡ Some other → is_member x (ahead y ms) ≡ true → P one other) → P one other
     by true c g here there is rest = absurd (true≢false (sym is))
-    by false true g here there is rest = subst (λ m. P m other) (same_some m one here) (found_has (P m) y ms pairs.0 other there).0
+    by false true g here there is rest = subst (λ m. P m other) (same_Some m one here) (found_has (P m) y ms pairs.0 other there).0
     by false false g here there is rest = rest here there (sym (ap (λ b. b || is_member x (ahead y ms)) g) ∙ is)
 
 -- ---- who holds no ticket for an object any more
@@ -111,10 +112,10 @@ pub without_changed : (slot object : ℕ) (f : Member → Member) → IsSteady f
 without_changed slot object f steady takes ms is m found = by (member_of slot ms) refl (sym (own_changed ms slot f steady) ∙ found)
   where
     by : (o : Option Member) → member_of slot ms ≡ o → option_map f o ≡ Some m → (is_past m.stage ≡ true) × (holds object m ≡ false)
-    by None here none = absurd (some_none m none)
+    by None here none = absurd (none-some m none)
     by (Some n) here some =
         let was = is n here in
-        subst (λ (k : Member). (is_past k.stage ≡ true) × (holds object k ≡ false)) (same_some (f n) m some) (takes n was.0 was.1)
+        subst (λ (k : Member). (is_past k.stage ≡ true) × (holds object k ≡ false)) (same_Some (f n) m some) (takes n was.0 was.1)
 
 pub without_gone : (slot object : ℕ) (ms : List Member) → IsPastWithout slot object (without slot ms)
-without_gone slot object ms m found = absurd (some_none m (sym (gone ms slot) ∙ found))
+without_gone slot object ms m found = absurd (none-some m (sym (gone ms slot) ∙ found))

@@ -1,11 +1,11 @@
 -- Who acts is a life that runs; a stopped one does no more than what it had sent, and that once.
 use Rattle.std.proofs.Common.{◌≡◌, ℕ, ◌==◌, ◌||◌, cond, Bool, true, false, List, [], ◌∷◌, ◌++◌, Option, Some, None, refl, sym, ap, ◌∙◌, subst}
 use Rattle.std.proofs.lemmas.Bool.{true≢false, and_parts, eqb-true, or_parts}
+use Rattle.std.proofs.lemmas.Option.{none-some, same_Some}
 use Rattle.rbd_kinds.specs.declared.id.Instance.{Instance}
 use Rattle.rbd_kinds.specs.declared.id.SiteId.{SiteId}
 use Rattle.rbd_kinds.specs.declared.reply.Reply.{Reply}
 use Rattle.rbd_session.specs.Session.{held_in}
-use Rattle.rbd_session.proofs.Sound.{no_some, some_same}
 use Rattle.rbd_world.specs.Late.{comes_among, comes_in, is_late, is_stopped_among, stops_in}
 use Rattle.rbd_world.specs.Run.{Asked, Doer, Itself, OnWay, House, AfterStop, Happening, Nothing, Waited, Began, Did, Refused, Trimmed, Expired, Heard, Stopped, Restarted, Life, Operation, Sent, asked_by, comes_of, ends, life_after, or_asked, sent_after, sent_behind, sent_of}
 use Rattle.rbd_world.specs.Sound.{EndsWith, GoesOnBehind, IsDue, IsOf, IsOpen, IsRight, IsRunning, has_ended}
@@ -26,7 +26,7 @@ module _ (homes : ℕ → SiteId) (line : ℕ) where
       ∙ ap (λ n. record { session = other.session; life = n }) (ap (λ (x : Life). x.number) (sym first ∙ second))
 
   pub open_is_running : (run : List Happening) → IsRight homes run → (begun : IsOpen line run) → IsRunning begun.asked.who run
-  open_is_running [] right begun = absurd (no_some begun.asked begun.is)
+  open_is_running [] right begun = absurd (none-some begun.asked begun.is)
   open_is_running (h ∷ run) (standing, due, right) begun = by h due (λ was. open_is_running run right was) begun
     where
       by : (h : Happening) → IsDue homes h run → ((was : IsOpen line run) → IsRunning was.asked.who run) → (begun : IsOpen line (h ∷ run)) → IsRunning begun.asked.who (h ∷ run)
@@ -40,7 +40,7 @@ module _ (homes : ℕ → SiteId) (line : ℕ) where
       by (Began asked slot) due before begun = go (asked.line == line) refl begun.is
         where
           go : (b : Bool) → (asked.line == line) ≡ b → cond b (Some asked) (asked_by line run) ≡ Some begun.asked → IsRunning begun.asked.who run
-          go true own is = subst (λ (a : Asked). IsRunning a.who run) (some_same asked begun.asked is) due.runs
+          go true own is = subst (λ (a : Asked). IsRunning a.who run) (same_Some asked begun.asked is) due.runs
           go false other is = before (record { asked = begun.asked; is = is; unended = (or_parts (ends line (Began asked slot)) (has_ended line run) begun.unended).1 })
       by (Stopped who wanted lost) due before begun = go (who.session == begun.asked.who.session) refl
         where
@@ -128,7 +128,7 @@ module _ (homes : ℕ → SiteId) (session slot : ℕ) where
       by House is comes = true≢false (sym comes)
       by (AfterStop at) is comes =
           let parts = and_parts (o.instance.session == session) (at == slot) comes in
-          no_some _ (sym none ∙ ap (λ x. sent_after session x run) (sym (eqb-true at slot parts.1)) ∙ ap (λ s. sent_after s at run) (sym (eqb-true o.instance.session session parts.0)) ∙ is)
+          none-some _ (sym none ∙ ap (λ x. sent_after session x run) (sym (eqb-true at slot parts.1)) ∙ ap (λ s. sent_after s at run) (sym (eqb-true o.instance.session session parts.0)) ∙ is)
 
   comes_not : (h : Happening) (run : List Happening) → IsDue homes h run → sent_after session slot run ≡ None → comes_in session slot h ≡ false
   comes_not (Did o reply) run due none = by (comes_of session slot o.instance o.by) refl (whose reply due)

@@ -1,6 +1,7 @@
 -- The request that was polled: it is under way at its next operation, or its reply is meant.
 use Rattle.std.proofs.Common.{◌≡◌, ℕ, cond, Bool, true, false, List, [], ◌∷◌, ◌++◌, Option, Some, None, refl, sym, ap, ◌∙◌, subst}
 use Rattle.std.proofs.lemmas.Bool.{eq-eqb}
+use Rattle.std.proofs.lemmas.Option.{none-some, same_Some}
 use Rattle.rbd_kinds.specs.declared.layout.Extent.{Extent}
 use Rattle.rbd_course.specs.Course.{is_own_at}
 use Rattle.rbd_flat.specs.declared.effect.Effect.{Effect}
@@ -32,7 +33,6 @@ use Rattle.rbd_session.specs.Advance.{ComesTo, fed_by, track_of}
 use Rattle.rbd_session.specs.Lines.{LinesView}
 use Rattle.rbd_session.specs.Session.{ComesToIn, script_line}
 use Rattle.rbd_session.specs.Track.{Track, answered_by, course_of, looked_by, run as run_on}
-use Rattle.rbd_session.proofs.Sound.{no_some, some_same}
 use Rattle.rbd_world.specs.Run.{Itself, Happening, Did, Operation, asked_by, steps_of}
 use Rattle.rbd_machine.specs.Standalone.{TellAllStandalone, TellsStandalone}
 use Rattle.rbd_world.specs.Seats.{seat_at}
@@ -70,7 +70,7 @@ module _ {R : Type 0} (stands : R → Standing) where
 
   pub went_on : (slot : ℕ) (labels : Label → Plan) (plan : Plan) (t : Track) (result : Option Reply) (r q : Running R) (lines : LinesView) → result ≡ None
       → ComesTo stands slot labels plan t result r q lines → WentOn labels plan t r q
-  went_on slot labels (Return reply) t result r q lines none comes = absurd (no_some reply (sym none ∙ comes.reply))
+  went_on slot labels (Return reply) t result r q lines none comes = absurd (none-some reply (sym none ∙ comes.reply))
   went_on slot labels (Ask s why o next) t result r q lines none comes = record { line = comes.line; stand = comes.request; place = ap (λ (x : Track). x.place) comes.track }
   went_on slot labels (Await w next) t result r q lines none comes = record { line = comes.line; stand = comes.request; place = ap (λ (x : Track). x.place) comes.track }
   went_on slot labels (Note s image event next) t result r q lines none comes = record { line = comes.line; stand = comes.request; place = ap (λ (x : Track). x.place) comes.track }
@@ -181,7 +181,7 @@ module _ {R : Type 0} (stands : R → Standing) where
         → IsHeldRightly stands (seat_at homes session) me (Did done result ∷ run) p
     answer_held result before after None comes = tt
     answer_held result before after (Some (occupant.Refused line refusal)) comes = absurd comes
-    answer_held (Some reply) before after (Some (occupant.Running q)) comes = absurd (no_some reply (sym comes.0))
+    answer_held (Some reply) before after (Some (occupant.Running q)) comes = absurd (none-some reply (sym comes.0))
     answer_held None before after (Some (occupant.Running q)) comes =
         further before q (
         subst (λ t. WentOn (stands r.request).labels to t r q) (track_is before)
@@ -237,7 +237,7 @@ module _ {R : Type 0} (stands : R → Standing) where
 
     pub answer_line : (result : Option Reply) (before after : LinesView) (p : Option (Occupant R)) → ComesToIn stands slot before (fed.Answer a) result r p after
         → (line : ℕ) → script_line p ≡ Some line → r.line ≡ line
-    answer_line result before after None comes line is = absurd (no_some line is)
+    answer_line result before after None comes line is = absurd (none-some line is)
     answer_line result before after (Some (occupant.Refused number refusal)) comes line is = absurd comes
     answer_line result before after (Some (occupant.Running q)) comes line is =
-        let on = went_on slot (stands r.request).labels to _ result r q after comes.0 comes.1 in sym on.line ∙ some_same q.line line is
+        let on = went_on slot (stands r.request).labels to _ result r q after comes.0 comes.1 in sym on.line ∙ same_Some q.line line is

@@ -1,5 +1,6 @@
 -- A world in which nothing happened is sound.
 use Rattle.std.proofs.Common.{◌≡◌, ℕ, true, List, [], length, is_some, Option, Some, None, refl, sym, ap, ◌∙◌, subst}
+use Rattle.std.proofs.lemmas.Option.{none-some, same_Some}
 use Rattle.rbd_client.specs.Client.{ClientView, state_in}
 use Rattle.rbd_exact.specs.Exact.{IsExactBut, IsOwed}
 use Rattle.rbd_exact.proofs.ExactlyKept.{none_exact}
@@ -15,7 +16,6 @@ use Rattle.rbd_rely.specs.Truth.{AreMapped, AreStandalone}
 use Rattle.rbd_rely.proofs.Maps.{none_mapped}
 use Rattle.rbd_rely.proofs.Nothing.{none_standalone, nothing_is_beside}
 use Rattle.rbd_session.specs.Session.{running_at, running_in, script_line}
-use Rattle.rbd_session.proofs.Sound.{no_some, some_same}
 use Rattle.rbd_site.specs.InForm.{AreInForm}
 use Rattle.rbd_site.specs.Log.{after_all}
 use Rattle.rbd_site.specs.Records.{Records, no_records}
@@ -76,7 +76,7 @@ module _ {R : Type 0} (stands : R → Standing) where
         record {
           lives = has.lives_are;
           there = has.there;
-          fresh = subst (IsFresh stands (first_life session) has.lives_are.home) (some_same first.client c (sym first.runs ∙ has.runs)) first.fresh;
+          fresh = subst (IsFresh stands (first_life session) has.lives_are.home) (same_Some first.client c (sym first.runs ∙ has.runs)) first.fresh;
         }
 
     no_line : (session slot : ℕ) → line_at session slot w.lives ≡ None
@@ -102,9 +102,9 @@ module _ {R : Type 0} (stands : R → Standing) where
           life =
               ap (λ (i : Instance). record { number = i.life; runs = true }) (sym first.latest)
               ∙ ap (λ o. record { number = l.latest.life; runs = is_some o }) (sym first.runs);
-          latest = λ c runs. ap (λ (v : ClientView R). v.session.instance) (some_same c first.client (sym runs ∙ first.runs)) ∙ first.fresh.instance ∙ sym first.latest;
-          most = λ v late. absurd (no_some v (sym first.late ∙ late));
-          older = λ v late. absurd (no_some v (sym first.late ∙ late));
+          latest = λ c runs. ap (λ (v : ClientView R). v.session.instance) (same_Some c first.client (sym runs ∙ first.runs)) ∙ first.fresh.instance ∙ sym first.latest;
+          most = λ v late. absurd (none-some v (sym first.late ∙ late));
+          older = λ v late. absurd (none-some v (sym first.late ∙ late));
         }
 
     first_living : (session : ℕ) (c : ClientView R) → client_in session w.lives ≡ Some c → IsLiving stands (home_of (lives_in session w.lives)) session [] (λ slot. nothing_known) c
@@ -133,13 +133,13 @@ module _ {R : Type 0} (stands : R → Standing) where
     clients = first_living w new;
     in_slots = λ session slot c is. sym (has_first w new session c is).fresh.instance;
     nobody = λ session none slot. refl;
-    apart = λ line session slot other there is also. absurd (no_some line (sym (no_line w new session slot) ∙ is));
-    slots = λ line begun. absurd (no_some begun.asked begun.is);
+    apart = λ line session slot other there is also. absurd (none-some line (sym (no_line w new session slot) ∙ is));
+    slots = λ line begun. absurd (none-some begun.asked begun.is);
     truth = λ session c is s. let has = has_first w new session c is in fresh_true (first_life session) has.lives.home c has.fresh s _ c.session.instance;
     late = none_late w new;
-    sending = λ session slot x is. absurd (no_some x (sym (none_late w new session slot) ∙ is));
+    sending = λ session slot x is. absurd (none-some x (sym (none_late w new session slot) ∙ is));
     unsent = λ session slot none. refl;
-    drops = λ session slot there x differ is. absurd (no_some x (sym (none_late w new session slot) ∙ is));
+    drops = λ session slot there x differ is. absurd (none-some x (sym (none_late w new session slot) ∙ is));
     new = λ h s image drawn. tt;
     beside = λ h g strangers s. nothing_is_beside s _ _ _ nothing_known;
     order = tt;

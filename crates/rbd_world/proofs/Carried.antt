@@ -1,6 +1,7 @@
 -- What has to be shown of a happening: calls, history, logs, mail and records go with any.
 use Rattle.std.proofs.Common.{◌≡◌, ◌≢◌, ℕ, ◌||◌, ◌==◌, nat_lt, cond, Bool, true, false, List, [], ◌∷◌, ◌++◌, length, ◌+◌, is_some, Option, Some, None, refl, sym, ap, ◌∙◌, subst}
 use Rattle.std.proofs.lemmas.Bool.{true≢false, eqb-true}
+use Rattle.std.proofs.lemmas.Option.{none-some, same_Some}
 use Rattle.rbd_client.specs.declared.actor.Actor.{Actor}
 use Rattle.rbd_client.specs.declared.actor.Actor.TheVariants as actor
 use Rattle.rbd_client.specs.Actor.{actor_at}
@@ -10,7 +11,8 @@ use Rattle.rbd_held.specs.Truth.{IsTrueOf}
 use Rattle.rbd_kinds.specs.declared.id.Instance.{Instance}
 use Rattle.rbd_kinds.specs.declared.id.SiteId.{SiteId}
 use Rattle.rbd_kinds.specs.declared.notice.Notice.{Notice}
-use Rattle.rbd_machine.specs.Knowledge.{Knowledge, is_drawn, nothing_known, same_instance}
+use Rattle.rbd_kinds.specs.Instances.{same_instance}
+use Rattle.rbd_machine.specs.Knowledge.{Knowledge, is_drawn, nothing_known}
 use Rattle.rbd_machine.specs.Label.{Label}
 use Rattle.rbd_machine.specs.Plan.{Plan, Ask, Await, Note, Return, Goto, Standing}
 use Rattle.rbd_rely.specs.Beside.{AreBeside, MayAct}
@@ -21,7 +23,6 @@ use Rattle.rbd_session.specs.declared.running.Running.{Running}
 use Rattle.rbd_session.specs.Advance.{track_of}
 use Rattle.rbd_session.specs.Session.{held_in}
 use Rattle.rbd_session.specs.Waits.{waits}
-use Rattle.rbd_session.proofs.Sound.{no_some, some_same}
 use Rattle.rbd_site.specs.InForm.{AreInForm}
 use Rattle.rbd_site.specs.Log.{SiteLog, records_of}
 use Rattle.rbd_site.specs.Records.{Records}
@@ -69,11 +70,11 @@ done_of session slot sites who line labels (Return reply) mine = tt
 done_of session slot sites who line labels (Goto label) mine = tt
 
 pub numbered_is : (number : ℕ) (mail : List Notice) (n : Notice) → numbered number mail ≡ Some n → n.number ≡ number
-numbered_is number [] n is = absurd (no_some n is)
+numbered_is number [] n is = absurd (none-some n is)
 numbered_is number (m ∷ mail) n is = by (m.number == number) refl (numbered_is number mail n) is
   where
     by : (b : Bool) → (m.number == number) ≡ b → (numbered number mail ≡ Some n → n.number ≡ number) → cond b (Some m) (numbered number mail) ≡ Some n → n.number ≡ number
-    by true at rest is = ap (λ (x : Notice). x.number) (sym (some_same m n is)) ∙ eqb-true m.number number at
+    by true at rest is = ap (λ (x : Notice). x.number) (sym (same_Some m n is)) ∙ eqb-true m.number number at
     by false at rest is = rest is
 
 module _ {R : Type 0} (stands : R → Standing) where

@@ -1,6 +1,7 @@
 -- Where the client of one session goes on: the other sessions stay, and so do all lives.
 use Rattle.std.proofs.Common.{◌≡◌, ◌≢◌, ◌⊎◌, inl, inr, ℕ, ◌==◌, ◌<◌, ◌≤◌, Bool, true, false, List, ◌∷◌, is_some, Option, Some, None, refl, sym, ap, ◌∙◌, subst}
 use Rattle.std.proofs.lemmas.Bool.{true≢false, eq-eqb, eqb-true, ne_eqb}
+use Rattle.std.proofs.lemmas.Option.{none-some, same_Some}
 use Rattle.rbd_client.specs.declared.slot_state.SlotState.{SlotState}
 use Rattle.rbd_client.specs.Client.{ClientView, state_in}
 use Rattle.rbd_client.specs.Sound.{IsSoundClient}
@@ -12,7 +13,6 @@ use Rattle.rbd_machine.specs.Plan.{Standing}
 use Rattle.rbd_session.specs.declared.running.Occupant.{Occupant}
 use Rattle.rbd_session.specs.declared.running.Occupant.TheVariants as occupant
 use Rattle.rbd_session.specs.Session.{SessionView, held_in, running_at, running_in, script_line}
-use Rattle.rbd_session.proofs.Sound.{no_some, some_same}
 use Rattle.rbd_world.specs.declared.event.Event.{Event}
 use Rattle.rbd_world.specs.Run.{Happening, Life, Sent, life_after, life_behind, sent_behind}
 use Rattle.rbd_world.specs.Seats.{seat_at, seat_of_home}
@@ -80,7 +80,7 @@ pub lives_there : {R : Type 0} (session : ℕ) (lives : List (LivesView R)) (c :
 lives_there {R} session lives c is = by (lives_in session lives) refl is
   where
     by : (o : Option (LivesView R)) → lives_in session lives ≡ o → running_of o ≡ Some c → HasLives session lives c
-    by None at is = absurd (no_some c is)
+    by None at is = absurd (none-some c is)
     by (Some l) at is = record { lives_are = l; there = at; runs = is }
 
 module _ {R : Type 0} (stands : R → Standing) where
@@ -214,7 +214,7 @@ module _ {R : Type 0} (old new : WorldView R) (session : ℕ) (c d : ClientView 
               mine.life ∙ ap (λ o. record { number = goes.before.latest.life; runs = is_some o }) (goes.ran)
               ∙ sym (ap (λ o. record { number = goes.before.latest.life; runs = is_some o }) (goes.runs))
               ∙ sym (ap (λ (i : Instance). record { number = i.life; runs = is_some goes.behind.running }) goes.latest);
-          latest = λ q runs. ap (λ (v : ClientView R). v.session.instance) (sym (some_same d q (sym goes.runs ∙ runs))) ∙ instance ∙ mine.latest c goes.ran ∙ sym goes.latest;
+          latest = λ q runs. ap (λ (v : ClientView R). v.session.instance) (sym (same_Some d q (sym goes.runs ∙ runs))) ∙ instance ∙ mine.latest c goes.ran ∙ sym goes.latest;
           most = λ v late. subst (λ (i : Instance). v.instance.life ≤ i.life) (sym goes.latest) (mine.most v (sym goes.late ∙ late));
           older = λ v late q runs. subst (λ (i : Instance). v.instance.life < i.life) (sym goes.latest) (mine.older v (sym goes.late ∙ late) c goes.ran);
         }
@@ -223,21 +223,21 @@ module _ {R : Type 0} (old new : WorldView R) (session : ℕ) (c d : ClientView 
         by (inr differ) = on m l (w.lives m l (sym (goes.others m differ) ∙ is))
         by (inl same) =
             subst (λ i. AreLivesOf (h ∷ w.run) (w.homes i) i l) (sym same)
-            (subst (AreLivesOf (h ∷ w.run) (w.homes session) session) (some_same goes.behind l (sym goes.is ∙ ap (λ i. lives_in i new.lives) (sym same) ∙ is)) (on session goes.behind there))
+            (subst (AreLivesOf (h ∷ w.run) (w.homes session) session) (same_Some goes.behind l (sym goes.is ∙ ap (λ i. lives_in i new.lives) (sym same) ∙ is)) (on session goes.behind there))
 
 -- ---- what is held is open
 
 module _ {R : Type 0} (stands : R → Standing) where
   held_open : (seat : Seat) (who : Instance) (run : List Happening) (o : Option (Occupant R)) (line : ℕ) → script_line o ≡ Some line → IsHeldRightly stands seat who run o → IsOpen line run
-  held_open seat who run None line is held = absurd (no_some line is)
-  held_open seat who run (Some (occupant.Refused number refusal)) line is held = subst (λ l. IsOpen l run) (some_same number line is) held.begun
-  held_open seat who run (Some (occupant.Running r)) line is held = subst (λ l. IsOpen l run) (some_same r.line line is) held.begun
+  held_open seat who run None line is held = absurd (none-some line is)
+  held_open seat who run (Some (occupant.Refused number refusal)) line is held = subst (λ l. IsOpen l run) (same_Some number line is) held.begun
+  held_open seat who run (Some (occupant.Running r)) line is held = subst (λ l. IsOpen l run) (same_Some r.line line is) held.begun
 
   pub open_there : (old : WorldView R) (w : IsSoundWorld stands old) (m x line : ℕ) → line_at m x old.lives ≡ Some line → IsOpen line w.run
   open_there old w m x line = by (client_in m old.lives) refl
     where
       by : (o : Option (ClientView R)) → client_in m old.lives ≡ o → script_line (held_of x (session_of o)) ≡ Some line → IsOpen line w.run
-      by None there is = absurd (no_some line is)
+      by None there is = absurd (none-some line is)
       by (Some c) there is = let living = w.clients m c there in held_open (seat_at w.homes m) c.session.instance w.run (held_in x c.session.slots) line is (living.held x)
 
   -- ---- a client that goes on

@@ -4,6 +4,7 @@ use Rattle.std.proofs.Common.{◌≡◌, ◌≢◌, ◌⊎◌, inl, inr, ℕ, �
 use Rattle.std.specs.Prelude.{IsFalse, IsSome}
 use Rattle.std.proofs.lemmas.Bool.{true≢false, cases_lt, eq-eqb, eqb-true, ne_eqb}
 use Rattle.std.proofs.lemmas.List.{length-set, get_or-set_same, get_or-set_other, get_or_past}
+use Rattle.std.proofs.lemmas.Option.{none-some, same_Some}
 use Rattle.rbd_client.specs.Client.{ClientView}
 use Rattle.rbd_held.specs.Truth.{IsTrueOf}
 use Rattle.rbd_held.proofs.Owned.{knows_by_lock}
@@ -24,7 +25,6 @@ use Rattle.rbd_rely.proofs.Locks.{changes_by_lock, shares_by_lock}
 use Rattle.rbd_rely.proofs.Nothing.{nothing_is_beside, nothing_is_true}
 use Rattle.rbd_rely.proofs.Together.{alone_knows, beside_mutual, nobody_knows}
 use Rattle.rbd_session.specs.Session.{held_in, script_line}
-use Rattle.rbd_session.proofs.Sound.{no_some, some_same}
 use Rattle.rbd_site.specs.Records.{Records}
 use Rattle.rbd_site.specs.Step.{is_fenced}
 use Rattle.rbd_world.specs.declared.event.Event.{Event}
@@ -62,8 +62,8 @@ sent_set_other slot x (Some v) differ = ap (sent_of v.instance) (get_or-set_othe
 
 -- a life that was stopped stays the one that it was
 without_is : (slot : ℕ) (late : Option LateView) (v : LateView) → without_sent slot late ≡ Some v → (P : Instance → Type 0) → ((u : LateView) → late ≡ Some u → P u.instance) → P v.instance
-without_is slot None v is P each = absurd (no_some v is)
-without_is slot (Some u) v is P each = subst (λ (z : LateView). P z.instance) (some_same _ v is) (each u refl)
+without_is slot None v is P each = absurd (none-some v is)
+without_is slot (Some u) v is P each = subst (λ (z : LateView). P z.instance) (same_Some _ v is) (each u refl)
 
 -- ---- who sent it
 
@@ -81,16 +81,16 @@ pub late_there : {R : Type 0} (session slot : ℕ) (lives : List (LivesView R)) 
 late_there {R} session slot lives x is = by (lives_in session lives) refl is
   where
     by : (o : Option (LivesView R)) → lives_in session lives ≡ o → sent_in slot (late_of o) ≡ Some x → HasLate session slot lives x
-    by None at is = absurd (no_some x is)
+    by None at is = absurd (none-some x is)
     by (Some l) at is = go l.late refl is
       where
         go : (o : Option LateView) → l.late ≡ o → sent_in slot o ≡ Some x → HasLate session slot lives x
-        go None late is = absurd (no_some x is)
+        go None late is = absurd (none-some x is)
         go (Some v) late is = of (held_in slot v.wanted) is
           where
             of : (h : Option (SiteId × Op)) → sent_of v.instance h ≡ Some x → HasLate session slot lives x
-            of None is = absurd (no_some x is)
-            of (Some p) is = record { lives_are = l; there = at; late = v; is = late; instance = ap (λ (z : Sent). z.instance) (some_same _ x is) }
+            of None is = absurd (none-some x is)
+            of (Some p) is = record { lives_are = l; there = at; late = v; is = late; instance = ap (λ (z : Sent). z.instance) (same_Some _ x is) }
 
 module _ {R : Type 0} (stands : R → Standing) (old : WorldView R) (w : IsSoundWorld stands old) (session slot : ℕ) (x : Sent) (sent : late_at session slot old.lives ≡ Some x) where
   whose : x.instance.session ≡ session
@@ -105,7 +105,7 @@ module _ {R : Type 0} (stands : R → Standing) (old : WorldView R) (w : IsSound
       by (inl here) =
           let has = late_there session slot old.lives x sent in
           let runs = lives_there session old.lives q (ap (λ i. client_in i old.lives) (sym here) ∙ is) in
-          let one : runs.lives_are ≡ has.lives_are = some_same runs.lives_are has.lives_are (sym runs.there ∙ has.there) in
+          let one : runs.lives_are ≡ has.lives_are = same_Some runs.lives_are has.lives_are (sym runs.there ∙ has.there) in
           let lives : AreLivesOf w.run (w.homes session) session has.lives_are = w.lives session has.lives_are has.there in
           let ran : has.lives_are.running ≡ Some q = ap (λ (l : LivesView R). l.running) (sym one) ∙ runs.runs in
           let less : has.late.instance.life < has.lives_are.latest.life = lives.older has.late has.is q ran in
@@ -274,7 +274,7 @@ module _ {R : Type 0} (stands : R → Standing) (old new : WorldView R) (w : IsS
       by (inr differ) = on (w.lives m v (sym (others m differ) ∙ is))
       by (inl same) =
           subst (λ i. AreLivesOf (h ∷ w.run) (w.homes i) i v) (sym same)
-          (subst (AreLivesOf (h ∷ w.run) (w.homes session) session) (some_same goes.behind v (sym goes.is ∙ ap (λ i. lives_in i new.lives) (sym same) ∙ is)) here)
+          (subst (AreLivesOf (h ∷ w.run) (w.homes session) session) (same_Some goes.behind v (sym goes.is ∙ ap (λ i. lives_in i new.lives) (sym same) ∙ is)) here)
 
   -- ---- what is known then
 
@@ -337,7 +337,7 @@ module _ {R : Type 0} (stands : R → Standing) (old new : WorldView R) (w : IsS
       by : ((m ≡ session) × (y ≡ slot)) ⊎ IsElsewhere session slot m y → IsElsewhere session slot m y
       by (inr apart) = apart
       by (inl (one, two)) =
-          absurd (no_some z (sym late_here ∙ sym (ap (λ i. late_at i y new.lives) one ∙ ap (λ i. late_at session i new.lives) two) ∙ is))
+          absurd (none-some z (sym late_here ∙ sym (ap (λ i. late_at i y new.lives) one ∙ ap (λ i. late_at session i new.lives) two) ∙ is))
 
   -- of the same life: it knows no header whose lock is dropped by it
   beside_own : (y : ℕ) (z : Sent) → y ≢ slot → late_at session y old.lives ≡ Some z → x.instance ≡ z.instance → MayStillCome session (λ s. records_in s new.sites) z (w.knows (Sending session y))
@@ -369,8 +369,8 @@ module _ {R : Type 0} (stands : R → Standing) (old new : WorldView R) (w : IsS
   same_life y z is =
       let one = late_there session slot old.lives x sent in
       let two = late_there session y old.lives z is in
-      let lives_same : one.lives_are ≡ two.lives_are = some_same one.lives_are two.lives_are (sym one.there ∙ two.there) in
-      sym one.instance ∙ ap (λ (v : LateView). v.instance) (some_same one.late two.late (sym one.is ∙ ap (λ (v : LivesView R). v.late) lives_same ∙ two.is)) ∙ two.instance
+      let lives_same : one.lives_are ≡ two.lives_are = same_Some one.lives_are two.lives_are (sym one.there ∙ two.there) in
+      sym one.instance ∙ ap (λ (v : LateView). v.instance) (same_Some one.late two.late (sym one.is ∙ ap (λ (v : LivesView R). v.late) lives_same ∙ two.is)) ∙ two.instance
 
   sending_before : (m y : ℕ) (z : Sent) → IsElsewhere session slot m y → late_at m y old.lives ≡ Some z → MayStillCome m (λ s. records_in s new.sites) z (w.knows (Sending m y))
   sending_before m y z apart is = by (same_or_other m session) apart
@@ -463,7 +463,7 @@ module _ {R : Type 0} (stands : R → Standing) (old new : WorldView R) (w : IsS
           beside_then stands old new w x.instance (AfterStop slot) x.site x.op None goes_by known permits locked at_sites (w.who a) (w.who g) (w.knows a) (w.knows g) (w.beside a g apart) s)
           each_is;
       none_yet = new_still w.who w.who w.knows knows_then (λ s image. HadNoHeader s image w.run) w.new each_is;
-      owes = λ calm. absurd (no_some x (sym (none_sent session slot w.run calm.1) ∙ sym (w.late session slot) ∙ sent));
+      owes = λ calm. absurd (none-some x (sym (none_sent session slot w.run calm.1) ∙ sym (w.late session slot) ∙ sent));
       turn = no_turn (operation_at (site_in x.site old.sites) x.instance (AfterStop slot) x.site x.op) None w.run (λ line. refl);
       in_order = λ m q is. order_on stands old new w h (due, tt) m q (was m q is) (λ y line at. quiet line) (λ other writer. refl);
     };

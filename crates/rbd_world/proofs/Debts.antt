@@ -4,6 +4,7 @@ use Rattle.std.specs.FinSet.{contains-empty}
 use Rattle.std.specs.FinSet as finset
 use Rattle.std.proofs.lemmas.Bool.{and_from, eq-eqb, eqb-true, or_right, true≢false}
 use Rattle.std.proofs.lemmas.List.{append-nil}
+use Rattle.std.proofs.lemmas.Option.{none-some, same_Some}
 use Rattle.rbd_commands.specs.declared.command.Command.{Command}
 use Rattle.rbd_exact.specs.Owed.{Due, PaysItsStates, Spot, due_behind, due_by, owed_after, owed_at, owed_behind, owed_by}
 use Rattle.rbd_exact.proofs.Pays.{request_pays}
@@ -21,13 +22,12 @@ use Rattle.rbd_kinds.specs.declared.operation.Op.{Op}
 use Rattle.rbd_kinds.specs.declared.operation.Op.TheVariants as op
 use Rattle.rbd_kinds.specs.declared.reply.Reply.{Reply}
 use Rattle.rbd_kinds.specs.OperationKind.{kind_of}
+use Rattle.rbd_kinds.proofs.Images.{same_site_itself, same_site_is}
 use Rattle.rbd_machine.specs.Knowledge.{same_site}
 use Rattle.rbd_machine.specs.Path.{Answered}
 use Rattle.rbd_machine.specs.Plan.{Plan, Ask, Await, Note, Return, Goto}
 use Rattle.rbd_machine.specs.declared.seat.Seat.{Seat}
-use Rattle.rbd_machine.proofs.Lawful.{same_site_itself}
 use Rattle.rbd_session.specs.Session.{is_look_at, kind_asked}
-use Rattle.rbd_session.proofs.Sound.{no_some, some_same}
 use Rattle.rbd_site.specs.Records.{Records}
 use Rattle.rbd_site.specs.Step.{after, answer_to, is_fenced}
 use Rattle.rbd_site.proofs.StepLemmas.{other_blocklist}
@@ -98,7 +98,7 @@ module _ (homes : ℕ → SiteId) (line : ℕ) (p : Spot) (run : List Happening)
       by false other = open_quiet (Began asked slot) (quiet_began line asked slot other) owes
       by true same =
           let begun = before (no_steps (Began asked slot) refl owes) in
-          absurd (no_some begun.asked (sym new ∙ ap (λ l. asked_by l run) (eqb-true asked.line line same) ∙ begun.is))
+          absurd (none-some begun.asked (sym new ∙ ap (λ l. asked_by l run) (eqb-true asked.line line same) ∙ begun.is))
 
   -- where it goes on
   abbrev goes_on : (o : Operation) → IsOpen line run → IsOpen line (Did o None ∷ run)
@@ -161,16 +161,16 @@ module _ (homes : ℕ → SiteId) (line : ℕ) (p : Spot) (run : List Happening)
   open_behind (Restarted who) due calm owes = open_quiet (Restarted who) (quiet_restarted line who) owes
 
 pub debt_open : (homes : ℕ → SiteId) (run : List Happening) → IsRight homes run → IsUnhindered run → (line : ℕ) (p : Spot) → owed_in run line ≡ Some p → IsOpen line run
-debt_open homes [] right calm line p owes = absurd (no_some p owes)
+debt_open homes [] right calm line p owes = absurd (none-some p owes)
 debt_open homes (h ∷ run) (standing, due, right) calm line p owes = open_behind homes line p run (debt_open homes run right calm.1 line p) h due calm owes
 
 -- ---- it has worked on the image
 
 -- what is owed is owed at the operation's image
 owes_at : (s : SiteId) (image number : ℕ) (due : Option Due) (p : Spot) → owed_at s image number due ≡ Some p → (s ≡ p.site) × (image ≡ p.image)
-owes_at s image number None p is = absurd (no_some p is)
+owes_at s image number None p is = absurd (none-some p is)
 owes_at s image number (Some due) p is =
-    let same = some_same (record { site = s; image = image; object = number; due = due }) p is in (ap (λ (q : Spot). q.site) same, ap (λ (q : Spot). q.image) same)
+    let same = same_Some (record { site = s; image = image; object = number; due = due }) p is in (ap (λ (q : Spot). q.site) same, ap (λ (q : Spot). q.image) same)
 
 owes_there : (owed : Option Spot) (b : Doer) (i : Instance) (s : SiteId) (n : ℕ) (o : Op) (a : Answer) (e : Option Effect) (p : Spot) → owed_by owed s o a ≡ Some p
     → is_of p.site p.image (record { by = b; instance = i; site = s; number = n; op = o; answer = a; effect = e }) ≡ true
@@ -178,19 +178,19 @@ owes_there owed b i s n (op.Map image (states.Set None number state)) answer.Don
   where
     here : (s ≡ p.site) × (image ≡ p.image) → (same_site s p.site && (image == p.image)) ≡ true
     here same = and_from (same_site s p.site) (image == p.image) (ap (same_site s) (sym same.0) ∙ same_site_itself s) (eq-eqb image p.image same.1)
-owes_there owed b i s n (op.Map image (states.Set None number state)) a e p is = absurd (no_some p is)
-owes_there owed b i s n (op.Map image (states.Set (Some v) number state)) a e p is = absurd (no_some p is)
-owes_there owed b i s n (op.Map image o) a e p is = absurd (no_some p is)
+owes_there owed b i s n (op.Map image (states.Set None number state)) a e p is = absurd (none-some p is)
+owes_there owed b i s n (op.Map image (states.Set (Some v) number state)) a e p is = absurd (none-some p is)
+owes_there owed b i s n (op.Map image o) a e p is = absurd (none-some p is)
 owes_there (Some q) b i s n (op.Data image number (object.Remove context)) answer.Done e p is = here (owes_at s image number (due_behind q.due) p is)
   where
     here : (s ≡ p.site) × (image ≡ p.image) → (same_site s p.site && (image == p.image)) ≡ true
     here same = and_from (same_site s p.site) (image == p.image) (ap (same_site s) (sym same.0) ∙ same_site_itself s) (eq-eqb image p.image same.1)
-owes_there (Some q) b i s n (op.Data image number (object.Remove context)) a e p is = absurd (no_some p is)
-owes_there owed b i s n (op.Data image number o) a e p is = absurd (no_some p is)
-owes_there owed b i s n o a e p is = absurd (no_some p is)
+owes_there (Some q) b i s n (op.Data image number (object.Remove context)) a e p is = absurd (none-some p is)
+owes_there owed b i s n (op.Data image number o) a e p is = absurd (none-some p is)
+owes_there owed b i s n o a e p is = absurd (none-some p is)
 
 pub worked : (run : List Happening) (line : ℕ) (p : Spot) → owed_in run line ≡ Some p → has_worked line p.site p.image run ≡ true
-worked [] line p owes = absurd (no_some p owes)
+worked [] line p owes = absurd (none-some p owes)
 worked (Did o reply ∷ run) line p owes = by (is_own line o.by) refl (worked run line p)
   where
     by : (b : Bool) → is_own line o.by ≡ b → (owed_in run line ≡ Some p → has_worked line p.site p.image run ≡ true)
@@ -210,12 +210,6 @@ worked (h ∷ run) line p owes = worked run line p (sym (ap owed_behind (append-
 unlisted : (r : Records) (me : Instance) (o : Op) (i : Instance) → is_fenced r me ≡ false → is_fenced r i ≡ false → is_some (fence_of o (answer_to r me o)) ≡ false → is_fenced (after r me o) i ≡ false
 unlisted r me (op.BlockAdd other) i free was none = absurd (true≢false (sym (ap (λ b. is_some (fence_of (op.BlockAdd other) (cond b answer.Fenced answer.Done))) free) ∙ none))
 unlisted r me o i free was none = subst (λ b. finset.contains b i ≡ false) (sym (other_blocklist r me o refl)) was
-
-pub site_is : (s t : SiteId) → same_site s t ≡ true → s ≡ t
-site_is site.A site.A same = refl
-site_is site.A site.B same = absurd (true≢false (sym same))
-site_is site.B site.A same = absurd (true≢false (sym same))
-site_is site.B site.B same = refl
 
 pub none_fenced : (homes : ℕ → SiteId) (run : List Happening) → IsRight homes run → IsUnhindered run → (s : SiteId) (i : Instance) → is_fenced (records_after s run) i ≡ false
 none_fenced homes [] right calm s i = contains-empty _ i
@@ -237,7 +231,7 @@ none_fenced homes (h ∷ run) (standing, due, right) calm s i = by h due calm.0 
             (sym (ap (λ a. is_some (fence_of o.op a)) done.answer) ∙ calm)
 
         go : (b : Bool) → same_site o.site s ≡ b → is_fenced (cond b (after (records_after s run) o.instance o.op) (records_after s run)) i ≡ false
-        go true same = subst (λ t. is_fenced (after (records_after t run) o.instance o.op) i ≡ false) (site_is o.site s same) there
+        go true same = subst (λ t. is_fenced (after (records_after t run) o.instance o.op) i ≡ false) (same_site_is o.site s same) there
         go false differ = before s i
     by (Trimmed site number image object) due calm before = if_free (same_site site s) _ _ (before s i) (before s i)
     by (Expired site number image who) due calm before = if_free (same_site site s) _ _ (before s i) (before s i)

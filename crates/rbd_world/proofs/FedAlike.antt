@@ -2,6 +2,7 @@
 use Rattle.std.proofs.Common.{◌≡◌, ◌≢◌, ℕ, true, List, Option, Some, None, refl, sym, ap, ◌∙◌, subst}
 use Rattle.std.proofs.lemmas.Bool.{true≢false}
 use Rattle.std.specs.Prelude.{IsSome, is_some}
+use Rattle.std.proofs.lemmas.Option.{none-some}
 use Rattle.rbd_client.specs.declared.actor.Actor.{Actor}
 use Rattle.rbd_client.specs.declared.actor.Actor.TheVariants as actor
 use Rattle.rbd_client.specs.declared.slot_state.SlotState.{SlotState}
@@ -33,7 +34,6 @@ use Rattle.rbd_session.specs.Lines.{LinesView, lines_of}
 use Rattle.rbd_session.specs.OnTrack.{LeavesOthers, IsOnTrack}
 use Rattle.rbd_session.specs.Session.{SessionView, IsAlike, IsAlikeIn, IsFed, ComesToIn, OfRunning, held_in, own_look_at, running_in}
 use Rattle.rbd_session.specs.Track.{Track, run}
-use Rattle.rbd_session.proofs.Sound.{no_some}
 use Rattle.rbd_session.proofs.Readied.{same_track}
 use Rattle.rbd_site.specs.Log.{SiteLog, records_of}
 use Rattle.rbd_site.specs.Step.{answer_to}
@@ -98,8 +98,8 @@ module _ {R : Type 0} (stands : R → Standing) where
     fed_in : (o m n : Option (Occupant R)) (old new : LinesView) → IsAlikeIn stands o m → lines_of new ≡ lines_of old
         → OfRunning (λ r. ComesToIn stands slot new f result r n after) m → OfRunning (λ r. ComesToIn stands slot old f result r n after) o
     fed_in (Some (occupant.Running r)) (Some (occupant.Running q)) n old new alike lines comes = comes_in r q n old new alike lines comes
-    fed_in (Some (occupant.Running r)) (Some (occupant.Refused line refusal)) n old new alike lines comes = absurd (no_some r (ap running_in alike))
-    fed_in (Some (occupant.Running r)) None n old new alike lines comes = absurd (no_some r (ap running_in alike))
+    fed_in (Some (occupant.Running r)) (Some (occupant.Refused line refusal)) n old new alike lines comes = absurd (none-some r (ap running_in alike))
+    fed_in (Some (occupant.Running r)) None n old new alike lines comes = absurd (none-some r (ap running_in alike))
     fed_in (Some (occupant.Refused line refusal)) m n old new alike lines comes = elim (subst (OfRunning (λ r. ComesToIn stands slot new f result r n after)) alike comes) [ ]
     fed_in None m n old new alike lines comes = elim (subst (OfRunning (λ r. ComesToIn stands slot new f result r n after)) alike comes) [ ]
 

@@ -3,8 +3,8 @@ use Rattle.std.proofs.Common.{◌≡◌, ℕ, ◌==◌, ◌&&◌, ◌||◌, not,
 use Rattle.std.proofs.lemmas.Bool.{true≢false, eqb-true, and_parts, or_parts}
 use Rattle.rbd_kinds.specs.declared.id.Instance.{Instance}
 use Rattle.rbd_kinds.specs.declared.id.SiteId.{SiteId}
+use Rattle.rbd_kinds.proofs.Images.{same_site_is}
 use Rattle.rbd_machine.specs.Knowledge.{same_site}
-use Rattle.rbd_session.proofs.Track.{same_site_is}
 use Rattle.rbd_world.specs.Run.{Happening, Nothing, Waited, Began, Did, Refused, Trimmed, Expired, Heard, Stopped, Restarted, Operation, asked_by, is_own, or_asked, step_of, steps_in, steps_of}
 use Rattle.rbd_world.specs.Sound.{IsDue, IsRight}
 use Rattle.rbd_world.specs.Order.{IsInTurn, IsWriterOf, KeepsOrder, finds_in, found_before, has_found, has_written, tells_image, writes_in, writes_object}
@@ -60,10 +60,6 @@ never_written line s image number (h ∷ run) none =
     ap (λ b. b || has_written line s image number run) (writes_nothing line s image number h parts.1) ∙ never_written line s image number run parts.0
 
 -- ---- who found it first
-
-not_true : (b : Bool) → not b ≡ true → b ≡ false
-not_true true is = absurd (true≢false (sym is))
-not_true false is = refl
 
 -- what it comes to at the latest happening, or before
 pub record FindsNow (one other : ℕ) (s : SiteId) (image : ℕ) (run : List Happening) : Type 0 where

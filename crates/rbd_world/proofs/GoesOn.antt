@@ -1,6 +1,7 @@
 -- What has to be shown where the client of one session goes on in its life, put together.
 use Rattle.std.proofs.Common.{◌≡◌, ◌≢◌, ◌⊎◌, inl, inr, ℕ, true, ◌==◌, cond, [], ◌∷◌, Some, None, refl, sym, ap, ◌∙◌, subst}
 use Rattle.std.proofs.lemmas.Bool.{eq-eqb, ne_eqb}
+use Rattle.std.proofs.lemmas.Option.{none-some, same_Some}
 use Rattle.rbd_client.specs.Client.{ClientView}
 use Rattle.rbd_held.specs.Truth.{IsTrueOf}
 use Rattle.rbd_kinds.specs.declared.id.SiteId.{SiteId}
@@ -9,7 +10,6 @@ use Rattle.rbd_machine.specs.Plan.{Standing}
 use Rattle.rbd_rely.specs.Beside.{AreBeside}
 use Rattle.rbd_rely.proofs.Together.{beside_mutual}
 use Rattle.rbd_session.specs.Session.{held_in, script_line}
-use Rattle.rbd_session.proofs.Sound.{no_some, some_same}
 use Rattle.rbd_world.specs.Order.{IsInOrder, IsInTurn, IsWriterOf}
 use Rattle.rbd_world.specs.Past.{HadNoHeader}
 use Rattle.rbd_world.specs.Run.{Happening, Sent, sent_after, steps_in}
@@ -115,7 +115,7 @@ module _ {R : Type 0} (stands : R → Standing) (old new : WorldView R) (w : IsS
         owes = owes;
         turn = turn;
         in_order = orders_of stands old new w h due session (clients_stay old new session c d goes) quiet foreign
-            (λ q is. subst (λ (v : ClientView R). IsInOrder stands (w.homes session) v.session.instance (h ∷ w.run) v.session) (some_same d q (sym here ∙ is)) order);
+            (λ q is. subst (λ (v : ClientView R). IsInOrder stands (w.homes session) v.session.instance (h ∷ w.run) v.session) (same_Some d q (sym here ∙ is)) order);
       };
     }
       where
@@ -134,7 +134,7 @@ module _ {R : Type 0} (stands : R → Standing) (old new : WorldView R) (w : IsS
         was m q differ is = sym (clients_stay old new session c d goes m differ) ∙ is
 
         mine : (m : ℕ) (q : ClientView R) → client_in m new.lives ≡ Some q → m ≡ session → d ≡ q
-        mine m q is same = some_same d q (sym here ∙ ap (λ i. client_in i new.lives) (sym same) ∙ is)
+        mine m q is same = same_Some d q (sym here ∙ ap (λ i. client_in i new.lives) (sym same) ∙ is)
 
         client_by : (m : ℕ) (q : ClientView R) → client_in m new.lives ≡ Some q → (m ≡ session) ⊎ (m ≢ session) → IsLiving stands (w.homes m) m (h ∷ w.run) (known_in knows_then m) q
         client_by m q is (inl same) =
@@ -152,7 +152,7 @@ module _ {R : Type 0} (stands : R → Standing) (old new : WorldView R) (w : IsS
         slot_by m x q is (inr differ) = w.in_slots m x q (was m q differ is)
 
         nobody_by : (m : ℕ) → client_in m new.lives ≡ None → (x : ℕ) → (m ≡ session) ⊎ (m ≢ session) → knows_then (InSlot m x) ≡ nothing_known
-        nobody_by m none x (inl same) = absurd (no_some d (sym none ∙ ap (λ i. client_in i new.lives) same ∙ here))
+        nobody_by m none x (inl same) = absurd (none-some d (sym none ∙ ap (λ i. client_in i new.lives) same ∙ here))
         nobody_by m none x (inr differ) =
             ap (λ (k : ℕ → Knowledge). k x) (known_there m differ) ∙ w.nobody m (sym (clients_stay old new session c d goes m differ) ∙ none) x
 

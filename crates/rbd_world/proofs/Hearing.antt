@@ -7,12 +7,13 @@ use Rattle.rbd_held.proofs.Calls.{heard_is_true}
 use Rattle.rbd_kinds.specs.declared.id.Instance.{Instance}
 use Rattle.rbd_kinds.specs.declared.id.SiteId.{SiteId}
 use Rattle.rbd_kinds.specs.declared.notice.Notice.{Notice}
+use Rattle.rbd_kinds.specs.Instances.{same_instance}
+use Rattle.rbd_kinds.proofs.Instances.{same_instance_is}
 use Rattle.rbd_known.specs.Knowing.{AllKnow}
-use Rattle.rbd_machine.specs.Knowledge.{Knowledge, same_instance}
+use Rattle.rbd_machine.specs.Knowledge.{Knowledge}
 use Rattle.rbd_machine.specs.Plan.{Standing}
 use Rattle.rbd_rely.specs.Beside.{AreBeside}
 use Rattle.rbd_session.specs.Session.{SessionView, held_in, running_at, script_line}
-use Rattle.rbd_stands.proofs.Locks.{same_is}
 use Rattle.rbd_watch.specs.Posting.{numbered}
 use Rattle.rbd_world.specs.declared.event.Event.TheVariants as event
 use Rattle.rbd_world.specs.Run.{Heard, mail_of}
@@ -47,7 +48,7 @@ module _ {R : Type 0} (stands : R → Standing) (old new : WorldView R) (w : IsS
   delivered : (number : ℕ) → numbered number old.sites.mail ≡ Some notice → same_instance c.session.instance notice.to ≡ true → IsDelivered notice w.run
   delivered number is same = record {
     posted = ap (λ n. numbered n (mail_of w.run)) (numbered_is number old.sites.mail notice is) ∙ ap (numbered number) (sym w.mail) ∙ is;
-    runs = subst (λ i. IsRunning i w.run) (same_is c.session.instance notice.to same) (w.clients session c there).runs;
+    runs = subst (λ i. IsRunning i w.run) (same_instance_is c.session.instance notice.to same) (w.clients session c there).runs;
   }
 
   -- ---- its requests stay

@@ -2,6 +2,7 @@
 -- look it takes no ticket any more.
 use Rattle.std.proofs.Common.{◌≡◌, ℕ, ◌&&◌, cond, Bool, true, false, List, [], Option, Some, None, refl, sym, ap, ◌∙◌, subst}
 use Rattle.std.proofs.lemmas.List.{append-nil}
+use Rattle.std.proofs.Math.Bool.{and-false}
 use Rattle.rbd_course.specs.Course.{is_own_at, is_waiting}
 use Rattle.rbd_course.specs.declared.stage.Stage.{Stage}
 use Rattle.rbd_course.specs.declared.stage.Stage.TheVariants as stage
@@ -26,7 +27,6 @@ use Rattle.rbd_world.specs.InLine.{IsPastWithout}
 use Rattle.rbd_requests.specs.InLine.{KeepsTo}
 use Rattle.rbd_world.proofs.Ahead.{TakesNone, ahead_changed, ahead_left, member_changed, member_left, without_changed}
 use Rattle.rbd_known.proofs.Firsts.{no_more_first}
-use Rattle.rbd_held.proofs.LocksHeld.{and_false}
 
 -- ---- the same members, in the same order
 
@@ -153,7 +153,7 @@ module _ (slot : ℕ) (p : ImageAt) where
       → is_own_at s i (course_of slot t).place ≡ false
   not_own t m there found past s i =
       subst (λ q. is_own_at s i (place_in q (member_of slot (line_in q t.lines))) ≡ false) (sym there)
-      (subst (λ o. is_own_at s i (place_in (Some p) o) ≡ false) (sym found) (ap (λ b. is_at s i p.site p.image && b) (not_waiting m.stage past) ∙ and_false (is_at s i p.site p.image)))
+      (subst (λ o. is_own_at s i (place_in (Some p) o) ≡ false) (sym found) (ap (λ b. is_at s i p.site p.image && b) (not_waiting m.stage past) ∙ and-false (is_at s i p.site p.image)))
 
   module _ (e : Option Extent) (t : Track) (there : t.place ≡ Some p) where
     past_answered : (m : Member) → member_of slot (t.lines p.site p.image) ≡ Some m → is_past m.stage ≡ true → (s : SiteId) (o : Op) (a : Answer) → answered_by slot e t s o a ≡ t

@@ -2,6 +2,7 @@
 use Rattle.std.proofs.Common.{◌≡◌, ℕ, ◌==◌, true, false, List, Option, Some, None, refl, sym, ap, ◌∙◌, subst}
 use Rattle.std.proofs.lemmas.Bool.{true≢false, eqb-true, and_parts}
 use Rattle.std.specs.Prelude.{IsSome}
+use Rattle.std.proofs.lemmas.Option.{none-some}
 use Rattle.rbd_kinds.specs.declared.sharing.Sharing.{Sharing}
 use Rattle.rbd_kinds.specs.declared.answer.Answer.{Answer}
 use Rattle.rbd_kinds.specs.declared.answer.Answer.TheVariants as answer
@@ -29,7 +30,6 @@ use Rattle.rbd_session.specs.Advance.{ComesTo, GoesFurther, fed_by, track_of}
 use Rattle.rbd_session.specs.Lines.{LinesView, lines_of}
 use Rattle.rbd_session.specs.Session.{SessionView, ComesToIn, held_in, running_at, running_in, script_line}
 use Rattle.rbd_session.specs.Track.{Track, answered_by, ended_by, run}
-use Rattle.rbd_session.proofs.Sound.{no_some}
 use Rattle.rbd_requests.specs.InLine.{IsAtTurn, KeepsTo}
 use Rattle.rbd_world.specs.Order.{tells_image, writes_object}
 use Rattle.rbd_requests.specs.InLine.{ChangesInLine}
@@ -41,7 +41,7 @@ module _ {R : Type 0} (stands : R → Standing) where
   -- it goes further, and has no reply
   came_further : (slot : ℕ) (labels : Label → Plan) (plan : Plan) (t : Track) (result : Option Reply) (r q : Running R) (lines : LinesView) → result ≡ None
       → ComesTo stands slot labels plan t result r q lines → GoesFurther stands slot (record { labels = labels; plan = plan }) t result r q lines
-  came_further slot labels (Return reply) t result r q lines none comes = absurd (no_some reply (sym none ∙ comes.reply))
+  came_further slot labels (Return reply) t result r q lines none comes = absurd (none-some reply (sym none ∙ comes.reply))
   came_further slot labels (Ask s why o next) t result r q lines none comes = comes
   came_further slot labels (Await w next) t result r q lines none comes = comes
   came_further slot labels (Note s image event next) t result r q lines none comes = comes

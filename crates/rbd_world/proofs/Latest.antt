@@ -1,10 +1,10 @@
 -- The operation that was logged last is the latest of the log.
 use Rattle.std.proofs.Common.{◌≡◌, ℕ, suc, ◌-◌, List, [], ◌∷◌, ◌++◌, length, slice_get, Some, refl, sym, ap, ◌∙◌, arith}
+use Rattle.std.proofs.lemmas.Option.{same_Some}
 use Rattle.rbd_kinds.specs.declared.answer.Answer.{Answer}
 use Rattle.rbd_kinds.specs.declared.id.Instance.{Instance}
 use Rattle.rbd_kinds.specs.declared.operation.Op.{Op}
 use Rattle.rbd_site.specs.declared.done.Done.{Done}
-use Rattle.rbd_session.proofs.Sound.{some_same}
 use Rattle.rbd_site.specs.Log.{SiteLog, line_of}
 use Rattle.rbd_world.specs.Sending.{latest_op, op_in}
 use Rattle.rbd_world.specs.Step.{with_lines}
@@ -30,5 +30,5 @@ latest_of log n who o a = ap op_in (last_of log (line_of n who o a))
 pub same_op : (before behind there : SiteLog) (n : ℕ) (who : Instance) (o : Op) (a : Answer) (log : List Done) (done : Op) → behind ≡ with_lines (line_of n who o a ∷ []) before → there ≡ behind
     → log ≡ there.log → Some done ≡ latest_op log → o ≡ done
 same_op before behind there n who o a log done logged at is read =
-    some_same o done
+    same_Some o done
     (sym (latest_of before.log n who o a) ∙ ap (λ (s : SiteLog). latest_op s.log) (sym logged) ∙ ap (λ (s : SiteLog). latest_op s.log) (sym at) ∙ ap latest_op (sym is) ∙ sym read)

@@ -3,6 +3,7 @@ use Rattle.std.proofs.Common.{◌≡◌, ◌≢◌, ◌⊎◌, inl, inr, ℕ, ze
 use Rattle.std.specs.List.{flat_map, range_with_len}
 use Rattle.std.specs.List.Sorted.{IsStrictlyIncreasing}
 use Rattle.std.proofs.lemmas.Bool.{true≢false, eq-eqb, eqb-true, ltb-true, ltb-false, or_parts, or_right}
+use Rattle.rbd_kinds.proofs.Plain.{or_swapped}
 use Rattle.rbd_world.specs.Run.{is_among}
 use Rattle.rbd_world.specs.Step.{ascending, insert_line, listed}
 use Rattle.rbd_world.proofs.Changed.{same_or_other}
@@ -74,19 +75,13 @@ are_distinct f apart from (suc count) = by (f from) refl (are_distinct f apart (
 
 -- ---- in their order
 
-swap : (p q r : Bool) → (p || (q || r)) ≡ (q || (p || r))
-swap true true r = refl
-swap true false r = refl
-swap false true r = refl
-swap false false r = refl
-
 among_inserted : (a line : ℕ) (xs : List ℕ) → is_among line (insert_line a xs) ≡ ((a == line) || is_among line xs)
 among_inserted a line [] = refl
 among_inserted a line (b ∷ xs) = by (nat_lt b a) (among_inserted a line xs)
   where
     by : (c : Bool) → is_among line (insert_line a xs) ≡ ((a == line) || is_among line xs)
         → is_among line (cond c (b ∷ insert_line a xs) (a ∷ b ∷ xs)) ≡ ((a == line) || ((b == line) || is_among line xs))
-    by true rest = ap (λ c. (b == line) || c) rest ∙ swap (b == line) (a == line) (is_among line xs)
+    by true rest = ap (λ c. (b == line) || c) rest ∙ or_swapped (b == line) (a == line) (is_among line xs)
     by false rest = refl
 
 pub among_ascending : (line : ℕ) (xs : List ℕ) → is_among line (ascending xs) ≡ is_among line xs

@@ -1,6 +1,7 @@
 -- A client begins a command whose line is new: its request stands where the command's plan begins.
 use Rattle.std.proofs.Common.{◌≡◌, ◌≢◌, ◌⊎◌, inl, inr, ℕ, ◌==◌, Bool, cond, true, false, [], ◌∷◌, ◌++◌, Option, Some, None, refl, sym, ap, ◌∙◌, subst}
 use Rattle.std.proofs.lemmas.Bool.{eq-eqb, eqb-true, ne_eqb}
+use Rattle.std.proofs.lemmas.Option.{none-some, same_Some}
 use Rattle.rbd_client.specs.declared.slot_state.SlotState.{SlotState}
 use Rattle.rbd_client.specs.declared.slot_state.Way.TheVariants as way
 use Rattle.rbd_client.specs.Client.{ClientView}
@@ -25,7 +26,6 @@ use Rattle.rbd_session.specs.declared.running.Occupant.{Occupant}
 use Rattle.rbd_session.specs.declared.running.Occupant.TheVariants as occupant
 use Rattle.rbd_session.specs.Lines.{LinesView}
 use Rattle.rbd_session.specs.Session.{IsNewcomer, held_in, running_at, running_in, script_line}
-use Rattle.rbd_session.proofs.Sound.{no_some, some_same}
 use Rattle.rbd_world.specs.declared.event.Event.TheVariants as event
 use Rattle.rbd_world.specs.Order.{IsInOrder}
 use Rattle.rbd_world.specs.Run.{Asked, Happening, Began, asked_by, steps_of, way_of}
@@ -91,7 +91,7 @@ module _ {R : Type 0} (stands : R → Standing) (old new : WorldView R) (w : IsS
   differs : (m x other : ℕ) → line_at m x old.lives ≡ Some other → line ≢ other
   differs m x other is same =
       let begun = open_there stands old w m x other is in
-      no_some begun.asked (sym unasked ∙ ap (λ l. asked_by l w.run) same ∙ begun.is)
+      none-some begun.asked (sym unasked ∙ ap (λ l. asked_by l w.run) same ∙ begun.is)
 
   -- ---- what its slot holds
 
@@ -162,8 +162,8 @@ module _ {R : Type 0} (stands : R → Standing) (old new : WorldView R) (w : IsS
 
   line_of_new : (o : Option (Occupant R)) (other : ℕ) → IsNew o → script_line o ≡ Some other → line ≡ other
   line_of_new None other is at_line = absurd is
-  line_of_new (Some (occupant.Refused number refusal)) other is at_line = sym is.0 ∙ some_same number other at_line
-  line_of_new (Some (occupant.Running r)) other begins at_line = sym begins.is_line ∙ some_same r.line other at_line
+  line_of_new (Some (occupant.Refused number refusal)) other is at_line = sym is.0 ∙ same_Some number other at_line
+  line_of_new (Some (occupant.Running r)) other begins at_line = sym begins.is_line ∙ same_Some r.line other at_line
 
   line_now : (o : Option (Occupant R)) → IsNew o → script_line o ≡ Some line
   line_now None is = absurd is
@@ -206,7 +206,7 @@ module _ {R : Type 0} (stands : R → Standing) (old new : WorldView R) (w : IsS
     slots_then l now true own =
         in_this_slot old new session c d goes lowest begins.slots l (line_now (held_in lowest d.session.slots) is_new ∙ ap Some (eqb-true line l own))
     slots_then l now false other =
-        other_slots old new session c d goes lowest begins.slots l (λ is. no_some l (sym (ap script_line living.sound.session.lowest.free) ∙ is))
+        other_slots old new session c d goes lowest begins.slots l (λ is. none-some l (sym (ap script_line living.sound.session.lowest.free) ∙ is))
         (w.slots l (open_back l does_begin w.run (quiet_began l is_asked lowest other) now))
 
     quiet : (x other : ℕ) → script_line (held_in x c.session.slots) ≡ Some other → IsQuiet other does_begin

@@ -3,6 +3,7 @@
 use Rattle.std.proofs.Common.{◌≡◌, ◌≢◌, inl, inr, ℕ, ◌==◌, ◌||◌, Bool, true, false, cond, [], ◌∷◌, ◌++◌, Option, Some, None, IsSome, refl, sym, ap, ◌∙◌, subst}
 use Rattle.std.proofs.lemmas.Bool.{true≢false, eq-eqb, eqb-true}
 use Rattle.std.proofs.lemmas.List.{append-nil}
+use Rattle.std.proofs.lemmas.Option.{none-some, same_Some}
 use Rattle.rbd_client.specs.declared.actor.Actor.TheVariants as actor
 use Rattle.rbd_client.specs.Actor.{actor_at, op_by, op_wanted}
 use Rattle.rbd_client.specs.Client.{ClientView, state_in}
@@ -24,7 +25,6 @@ use Rattle.rbd_owner.specs.declared.acquire.Acquire.{Acquire}
 use Rattle.rbd_session.specs.declared.running.Occupant.TheVariants as occupant
 use Rattle.rbd_session.specs.declared.running.Running.{Running}
 use Rattle.rbd_session.specs.Session.{SessionView, held_in, is_look_at, kind_asked, running_at, running_in, script_line}
-use Rattle.rbd_session.proofs.Sound.{no_some, some_same}
 use Rattle.rbd_site.specs.Step.{answer_to}
 use Rattle.rbd_world.specs.declared.event.Event.TheVariants as event
 use Rattle.rbd_world.specs.Order.{IsInOrder}
@@ -85,7 +85,7 @@ module _ {R : Type 0} (stands : R → Standing) (old new : WorldView R) (w : IsS
 
   -- its line is the instance's
   is_mine : (asked : Asked) → asked_by r.line w.run ≡ Some asked → asked.who ≡ me
-  is_mine asked is = ap (λ (x : Asked). x.who) (some_same asked way.begun.asked (sym is ∙ way.begun.is)) ∙ way.mine
+  is_mine asked is = ap (λ (x : Asked). x.who) (same_Some asked way.begun.asked (sym is ∙ way.begun.is)) ∙ way.mine
 
   module _ (d : ClientView R) (became : Goes stands slot operation result c d) (goes_on : GoesOnAs old new session c d) (at_sites : DoesAtSites does_it old.sites new.sites)
       (sound : (m : ℕ) → IsSoundIf stands (client_in m new.lives)) where
@@ -118,7 +118,7 @@ module _ {R : Type 0} (stands : R → Standing) (old new : WorldView R) (w : IsS
       led =
           subst (λ i. IsLedTo (seat_at w.homes i) way.begun.asked.command (steps_of r.line w.run) (stands r.request).plan) (sym (ap (λ (i : Instance). i.session) way.mine ∙ living.whose))
           (record { start = way.start; plan = way.plan; feds = way.feds; walk = way.walk; given = way.given; standalone = way.standalone });
-      wants = subst (λ (q : Running R). is_look_at a.site (kind_asked (stands q.request).plan) ≡ true) (some_same waiting.request r (sym waiting.runs ∙ runs)) waiting.wants;
+      wants = subst (λ (q : Running R). is_look_at a.site (kind_asked (stands q.request).plan) ≡ true) (same_Some waiting.request r (sym waiting.runs ∙ runs)) waiting.wants;
     }
       where
         waiting : WaitsForLook stands slot a.site a.image c.session
@@ -164,11 +164,11 @@ module _ {R : Type 0} (stands : R → Standing) (old new : WorldView R) (w : IsS
 
     line_stays : (x : Option Reply) → GoesItsWay slot x c.session d.session → x ≡ None → script_line (held_in slot d.session.slots) ≡ Some r.line
     line_stays None same none = ap (λ (s : SessionView R). script_line (held_in slot s.slots)) same ∙ ap script_line holds
-    line_stays (Some reply) gives_up none = absurd (no_some reply (sym none))
+    line_stays (Some reply) gives_up none = absurd (none-some reply (sym none))
 
     line_was : (x : Option Reply) → GoesItsWay slot x c.session d.session → (line : ℕ) → script_line (held_in slot d.session.slots) ≡ Some line → script_line (held_in slot c.session.slots) ≡ Some line
     line_was None same line is = ap (λ (s : SessionView R). script_line (held_in slot s.slots)) (sym same) ∙ is
-    line_was (Some reply) gives_up line is = absurd (no_some line (sym (ap script_line (gives_up.free (subst IsSome (sym runs) refl))) ∙ is))
+    line_was (Some reply) gives_up line is = absurd (none-some line (sym (ap script_line (gives_up.free (subst IsSome (sym runs) refl))) ∙ is))
 
     still_learned : (x : Option Reply) → result ≡ x → GoesItsWay slot x c.session d.session
         → HasLearnedIf stands (does_it ∷ w.run) (running_at slot d.session) (knows_now stands old new w session slot c there a.site (op_of a) wanted (OnWay r.line) result d became at_sites sound_then slot)
@@ -206,7 +206,7 @@ module _ {R : Type 0} (stands : R → Standing) (old new : WorldView R) (w : IsS
         unreplied (Some reply) is = absurd (not_open l does_it w.run (ap (λ x. ends l (Did operation x)) is ∙ ap (λ b. b || false) own) now)
     slots_then l now false other =
         other_slots old new session c d goes_on slot became.slots l
-        (λ is. true≢false (sym (eq-eqb r.line l (some_same r.line l (sym (ap script_line holds) ∙ is))) ∙ other))
+        (λ is. true≢false (sym (eq-eqb r.line l (same_Some r.line l (sym (ap script_line holds) ∙ is))) ∙ other))
         (w.slots l (open_back l does_it w.run (quiet_did l operation result other) now))
 
     order : (x : Option Reply) → GoesItsWay slot x c.session d.session → IsInOrder stands home d.session.instance (does_it ∷ w.run) d.session

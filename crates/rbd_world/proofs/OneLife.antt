@@ -1,12 +1,11 @@
 -- What becomes of the session that an event names becomes of all, as the others stay.
 use Rattle.std.proofs.Common.{◌≡◌, ◌≢◌, ℕ, Bool, zero, suc, ◌==◌, ◌<◌, ◌≤◌, true, false, List, [], ◌∷◌, length, Option, Some, None, OnErr, OnOk, Result, Ok, Err, slice_get, slice_index_or, slice_set, refl, sym, ap, ◌∙◌, subst, arith}
 use Rattle.std.proofs.lemmas.Bool.{true≢false, eqb-true, eq-eqb}
-use Rattle.std.proofs.lemmas.Option.{slice_get_past, slice_get_read, slice_get_within}
+use Rattle.std.proofs.lemmas.Option.{slice_get_past, slice_get_read, slice_get_within, none-some}
 use Rattle.rbd_client.specs.Client.{ClientView}
 use Rattle.rbd_client.specs.Feeding.{IsClientAlike}
 use Rattle.rbd_client.specs.Sound.{IsSoundClient}
 use Rattle.rbd_machine.specs.Plan.{Standing}
-use Rattle.rbd_session.proofs.Sound.{no_some}
 use Rattle.rbd_session.proofs.Readied.{alike_itself}
 use Rattle.rbd_world.specs.declared.event.Event.{Event}
 use Rattle.rbd_world.specs.Run.{Happening}
@@ -119,7 +118,7 @@ module _ {R : Type 0} (stands : R → Standing) where
         subst (λ o. LivesOnIf stands e h o o) (sym there) refl;
     others = λ session other. refl;
     sound = λ session c named is.
-        absurd (no_some c (sym (ap running_of none) ∙ ap (λ m. client_in m xs) (sym (is_named e h n session names named)) ∙ is));
+        absurd (none-some c (sym (ap running_of none) ∙ ap (λ m. client_in m xs) (sym (is_named e h n session names named)) ∙ is));
   }
 
   -- or it names nobody

@@ -2,6 +2,7 @@
 use Rattle.std.proofs.Common.{◌≡◌, ◌≢◌, ◌⊎◌, inl, inr, ℕ, true, false, List, [], Some, None, sym, ap, ◌∙◌, subst}
 use Rattle.std.proofs.lemmas.Bool.{true≢false}
 use Rattle.std.specs.Prelude.{IsSome}
+use Rattle.std.proofs.lemmas.Option.{same_Some}
 use Rattle.rbd_commands.specs.declared.command.Command.{Command}
 use Rattle.rbd_kinds.specs.declared.id.Instance.{Instance}
 use Rattle.rbd_kinds.specs.declared.id.SiteId.{SiteId}
@@ -15,7 +16,6 @@ use Rattle.rbd_session.specs.declared.running.Running.{Running}
 use Rattle.rbd_session.specs.Lines.{LinesView, lines_of}
 use Rattle.rbd_session.specs.Session.{SessionView, BeginsAt, IsSoundSession, running_at, running_in}
 use Rattle.rbd_session.proofs.Members.{not_found}
-use Rattle.rbd_session.proofs.Sound.{some_same}
 use Rattle.rbd_world.specs.InLine.{IsPastWithout}
 use Rattle.rbd_world.specs.Order.{IsBeforeFinding, IsBehindFinding, IsInOrder, IsWriterOf, found_before, has_found, has_written}
 use Rattle.rbd_world.specs.Run.{Asked, Happening, asked_by, steps_of}
@@ -35,7 +35,7 @@ module _ {R : Type 0} (stands : R → Standing) (seat : Seat) (who : Instance) (
   where_is x q is = by (same_or_other x slot)
     where
       by : (x ≡ slot) ⊎ (x ≢ slot) → Where x q
-      by (inl same) = Here same (some_same q r (sym is ∙ ap (λ i. running_at i d) same ∙ runs))
+      by (inl same) = Here same (same_Some q r (sym is ∙ ap (λ i. running_at i d) same ∙ runs))
       by (inr differ) = Other (sym (ap running_in (slots x differ)) ∙ is)
 
   unfound : (s : SiteId) (image : ℕ) → has_found r.line s image run ≡ false
@@ -66,7 +66,7 @@ module _ {R : Type 0} (stands : R → Standing) (seat : Seat) (who : Instance) (
       extents_of x q asked_then asks_then (Other there) = old.extents x q there asked_then asks_then
       extents_of x q asked_then asks_then (Here at same) =
           let same_asked : asked ≡ asked_then =
-          some_same asked asked_then (sym asks ∙ sym (ap (λ (p : Running R). asked_by p.line run) same ∙ ap (λ l. asked_by l run) begins.is_line) ∙ asks_then) in
+          same_Some asked asked_then (sym asks ∙ sym (ap (λ (p : Running R). asked_by p.line run) same ∙ ap (λ l. asked_by l run) begins.is_line) ∙ asks_then) in
           ap (λ (p : Running R). p.extent) same ∙ begins.extent ∙ ap extent_of (sym its ∙ ap (λ (a : Asked). a.command) same_asked)
 
       comes_of : (x : ℕ) (q : Running R) → IsSome q.extent → Where x q → (IsBeforeFinding stands seat.home run q) ⊎ (IsBehindFinding stands run q)

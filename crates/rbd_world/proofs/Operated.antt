@@ -2,6 +2,7 @@
 use Rattle.std.proofs.Common.{◌≡◌, ◌≢◌, inl, inr, ℕ, ◌==◌, ◌||◌, Bool, cond, true, false, List, [], ◌∷◌, ◌++◌, is_some, Option, Some, None, refl, sym, ap, ◌∙◌, subst}
 use Rattle.std.proofs.lemmas.Bool.{true≢false, eq-eqb, eqb-true, ne_eqb}
 use Rattle.std.proofs.lemmas.List.{append-nil}
+use Rattle.std.proofs.lemmas.Option.{same_Some}
 use Rattle.rbd_client.specs.declared.actor.Actor.TheVariants as actor
 use Rattle.rbd_client.specs.Actor.{actor_at, op_by, op_wanted}
 use Rattle.rbd_client.specs.declared.slot_state.SlotState.{SlotState}
@@ -27,7 +28,6 @@ use Rattle.rbd_session.specs.declared.running.Running.{Running}
 use Rattle.rbd_session.specs.Advance.{track_of}
 use Rattle.rbd_session.specs.Session.{ComesToIn, OfRunning, going_in, held_in, of_going, op_asked, own_look_at, running_at, running_in, script_line}
 use Rattle.rbd_session.specs.Waits.{waits}
-use Rattle.rbd_session.proofs.Sound.{some_same}
 use Rattle.rbd_site.specs.declared.done.DoneOp.TheVariants as done
 use Rattle.rbd_site.specs.Step.{answer_to}
 use Rattle.rbd_stands.specs.Effect.{effect_of}
@@ -93,7 +93,7 @@ module _ {R : Type 0} (stands : R → Standing) (old new : WorldView R) (w : IsS
 
   -- its line is the instance's
   is_mine : (asked : Asked) → asked_by r.line w.run ≡ Some asked → asked.who ≡ me
-  is_mine asked is = ap (λ (x : Asked). x.who) (some_same asked way.begun.asked (sym is ∙ way.begun.is)) ∙ way.mine
+  is_mine asked is = ap (λ (x : Asked). x.who) (same_Some asked way.begun.asked (sym is ∙ way.begun.is)) ∙ way.mine
 
   -- what it knows its command learned
   has : HasLearned stands w.run r (known_in w.knows session slot)
@@ -203,7 +203,7 @@ module _ {R : Type 0} (stands : R → Standing) (old new : WorldView R) (w : IsS
         unreplied (Some reply) is = absurd (not_open l does_it w.run (ap (λ x. replies_to l (Did operation x) || false) is ∙ ap (λ b. (b || false) || false) own) now)
     slots_then l now false other =
         other_slots old new session c d goes_on slot became.slots l
-        (λ is. true≢false (sym (eq-eqb r.line l (some_same r.line l (sym (ap script_line holds) ∙ is))) ∙ other))
+        (λ is. true≢false (sym (eq-eqb r.line l (same_Some r.line l (sym (ap script_line holds) ∙ is))) ∙ other))
         (w.slots l (open_back l does_it w.run (quiet_did l operation result (ap (λ b. b || false) other)) now))
 
     lines_apart : (x : ℕ) (q : Running R) → x ≢ slot → running_at x c.session ≡ Some q → (r.line == q.line) ≡ false

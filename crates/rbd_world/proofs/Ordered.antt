@@ -3,6 +3,8 @@ use Rattle.std.proofs.Common.{◌≡◌, ◌≢◌, ◌⊎◌, inl, inr, ℕ, �
 use Rattle.std.proofs.lemmas.Bool.{true≢false, eq-eqb, eqb-true}
 use Rattle.std.specs.Option.{is_some}
 use Rattle.std.specs.Prelude.{IsSome}
+use Rattle.std.proofs.lemmas.Option.{none-some, same_Some}
+use Rattle.std.proofs.Math.Bool.{or-false, and-false}
 use Rattle.rbd_flat.specs.declared.effect.Effect.{Effect}
 use Rattle.rbd_kinds.specs.declared.answer.Answer.{Answer}
 use Rattle.rbd_kinds.specs.declared.directory_op.DirectoryOp.TheVariants as directory
@@ -14,7 +16,6 @@ use Rattle.rbd_kinds.specs.declared.reply.Reply.{Reply}
 use Rattle.rbd_line.specs.Line.{Member, ahead, comes_next, has_turn, is_member, joined, member_of}
 use Rattle.rbd_line.proofs.Keeping.{is_found}
 use Rattle.rbd_machine.specs.Knowledge.{is_at, same_site}
-use Rattle.rbd_machine.proofs.Lawful.{same_site_itself}
 use Rattle.rbd_machine.specs.Path.{at_operation}
 use Rattle.rbd_machine.specs.Label.{Label}
 use Rattle.rbd_machine.specs.Plan.{Plan, Ask, IsAsking, Standing}
@@ -23,6 +24,7 @@ use Rattle.rbd_machine.specs.Wait as wait
 use Rattle.rbd_machine.specs.declared.reason.Reason.{Reason}
 use Rattle.rbd_requests.specs.Touched.{extent_of}
 use Rattle.rbd_kinds.specs.declared.image_at.ImageAt.{ImageAt}
+use Rattle.rbd_kinds.proofs.Images.{same_site_itself}
 use Rattle.rbd_session.specs.declared.running.Running.{Running}
 use Rattle.rbd_session.specs.Advance.{GoesFurther, track_of}
 use Rattle.rbd_session.specs.Lines.{lines_of}
@@ -32,7 +34,6 @@ use Rattle.rbd_session.specs.Track.{Track, answered_by, image_at, line_in, run, 
 use Rattle.rbd_session.specs.Waits.{waits}
 use Rattle.rbd_session.proofs.Consequences.{members_run_there}
 use Rattle.rbd_session.proofs.Members.{not_found}
-use Rattle.rbd_session.proofs.Sound.{no_some, some_same}
 use Rattle.rbd_world.specs.InLine.{IsPastWithout}
 use Rattle.rbd_requests.specs.InLine.{IsAtTurn, KeepsTo}
 use Rattle.rbd_world.specs.Order.{IsBeforeFinding, IsBehindFinding, IsFirstToWrite, IsInOrder, IsInTurn, IsWriterOf, KeepsOrder, finds_in, found_before, has_found, has_written, tells_image, writes_in, writes_object}
@@ -47,12 +48,7 @@ use Rattle.rbd_world.proofs.InOrder.{Came, Further, Ended, LooksUp, Told, after,
 use Rattle.rbd_world.proofs.KeptAhead.{member_left_alone}
 use Rattle.rbd_world.proofs.Orderly.{comes_still, written_before}
 use Rattle.rbd_world.proofs.Turned.{HasTicket, earlier_past, ticket_of, turn_of}
-use Rattle.rbd_world.proofs.Runs.{or_false}
 use Rattle.rbd_requests.proofs.InLine.{look_keeps}
-use Rattle.rbd_held.proofs.LocksHeld.{and_false}
-
-same_place : (a b : ImageAt) → Some a ≡ Some b → a ≡ b
-same_place a b is = some_same a b is
 
 -- ---- a session that is in order
 
@@ -67,9 +63,9 @@ module _ {R : Type 0} (stands : R → Standing) (c : SessionView R) (sound : IsS
   in_its_line x q runs s image place = by (sound.runs x q runs).somewhere
     where
       by : IsSomewhere x (track_of q c.lines) → IsInItsLine x s image
-      by (inl nowhere) = absurd (no_some (image_at s image) (sym nowhere ∙ place))
+      by (inl nowhere) = absurd (none-some (image_at s image) (sym nowhere ∙ place))
       by (inr (p, m, there)) =
-          let same = same_place p (image_at s image) (sym there.place ∙ place) in
+          let same = same_Some p (image_at s image) (sym there.place ∙ place) in
           let found : member_of x (lines_of c.lines s image) ≡ Some m = subst (λ (v : ImageAt). member_of x (lines_of c.lines v.site v.image) ≡ Some m) same there.member in
           record { member = m; found = found; is = sym (is_found x (lines_of c.lines s image)) ∙ ap is_some found }
 
@@ -104,7 +100,7 @@ module _ {R : Type 0} (stands : R → Standing) (homes : ℕ → SiteId) (home :
     finds_none : (line : ℕ) (t : SiteId) (i : ℕ) → finds_in line t i does ≡ false
     finds_none line t i =
         ap (λ f. (r.line == line) && (same_site s t && f)) (turn_tells_none b.site b.image r.turn s o a keeps_here.0 i)
-        ∙ ap (λ f. (r.line == line) && f) (and_false (same_site s t)) ∙ and_false (r.line == line)
+        ∙ ap (λ f. (r.line == line) && f) (and-false (same_site s t)) ∙ and-false (r.line == line)
 
     ticket : (n : ℕ) → r.turn ≡ Some n → HasTicket slot n (lines_of c.lines b.site b.image)
     ticket n turn =
@@ -172,8 +168,8 @@ module _ {R : Type 0} (stands : R → Standing) (homes : ℕ → SiteId) (home :
     where_is x q is = by (same_or_other x slot)
       where
         here : x ≡ slot → Came stands slot c d r s why o next a result asks → Where x q
-        here same (Further p at further) = Here same (subst IsFurther (some_same p q (sym at ∙ ap (λ i. running_at i d) (sym same) ∙ is)) further)
-        here same (Ended none left) = absurd (no_some q (sym none ∙ ap (λ i. running_at i d) (sym same) ∙ is))
+        here same (Further p at further) = Here same (subst IsFurther (same_Some p q (sym at ∙ ap (λ i. running_at i d) (sym same) ∙ is)) further)
+        here same (Ended none left) = absurd (none-some q (sym none ∙ ap (λ i. running_at i d) (sym same) ∙ is))
 
         by : (x ≡ slot) ⊎ (x ≢ slot) → Where x q
         by (inl same) = here same came
@@ -242,7 +238,7 @@ module _ {R : Type 0} (stands : R → Standing) (homes : ℕ → SiteId) (home :
 
         found_only : (t : SiteId) (i : ℕ) → has_found r.line t i (does ∷ rn) ≡ true → (t ≡ home) × (i ≡ image)
         found_only t i is =
-            let now : finds_in r.line t i does ≡ true = sym (ap (λ f. finds_in r.line t i does || f) (b.unfound t i) ∙ or_false (finds_in r.line t i does)) ∙ is in
+            let now : finds_in r.line t i does ≡ true = sym (ap (λ f. finds_in r.line t i does || f) (b.unfound t i) ∙ or-false (finds_in r.line t i does)) ∙ is in
             let by = done_by_line r.line t done (tells_image i o a) now in
             (sym by.site_is ∙ (up b).site_is, sym (eqb-true image i (sym (tells i) ∙ by.so)))
 
@@ -298,16 +294,16 @@ module _ {R : Type 0} (stands : R → Standing) (homes : ℕ → SiteId) (home :
           absurd (not_there unfound (member_was y y_other t i member))
         where
           placed : (IsBeforeFinding stands home rn p) ⊎ (IsBehindFinding stands rn p) → p.place ≡ Some (image_at t i) → has_found p.line t i rn ≡ true
-          placed (inl v) place = absurd (no_some (image_at t i) (sym v.place ∙ place))
+          placed (inl v) place = absurd (none-some (image_at t i) (sym v.place ∙ place))
           placed (inr v) place =
-              let at = same_place (image_at v.site v.image) (image_at t i) (sym v.place ∙ place) in
+              let at = same_Some (image_at v.site v.image) (image_at t i) (sym v.place ∙ place) in
               subst (λ (w : ImageAt). has_found p.line w.site w.image rn ≡ true) at v.found
 
           found_one : (m : Option Member) → member_of y (lines_of c.lines t i) ≡ m → is_some m ≡ true → p.place ≡ Some (image_at t i)
           found_one None at is = absurd (true≢false (sym is))
           found_one (Some m) at is =
               let held = members_run_there stands c y t i m sound at in
-              ap (λ (z : Running R). z.place) (some_same p held.0 (sym two ∙ held.1)) ∙ held.2
+              ap (λ (z : Running R). z.place) (same_Some p held.0 (sym two ∙ held.1)) ∙ held.2
 
           not_there : has_found p.line t i rn ≡ false → is_member y (lines_of c.lines t i) ≡ true → ⊥
           not_there unfound is =

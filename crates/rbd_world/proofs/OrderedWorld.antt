@@ -2,6 +2,7 @@
 use Rattle.std.proofs.Common.{◌≡◌, ◌≢◌, ◌⊎◌, inl, inr, ℕ, false, List, [], ◌∷◌, Option, Some, None, refl, sym, ap, ◌∙◌, subst}
 use Rattle.std.proofs.lemmas.Bool.{true≢false}
 use Rattle.std.specs.Prelude.{IsSome}
+use Rattle.std.proofs.lemmas.Option.{none-some, same_Some}
 use Rattle.rbd_client.specs.Client.{ClientView}
 use Rattle.rbd_client.specs.Feeding.{IsGivenUp}
 use Rattle.rbd_kinds.specs.declared.id.Instance.{Instance}
@@ -18,7 +19,6 @@ use Rattle.rbd_session.specs.OnTrack.{LeavesOthers}
 use Rattle.rbd_session.specs.Session.{SessionView, IsAlike, IsAlikeIn, held_in, running_at, running_in, script_line}
 use Rattle.rbd_session.specs.Track.{ended_by}
 use Rattle.rbd_session.proofs.Others.{ended_leaves}
-use Rattle.rbd_session.proofs.Sound.{no_some, some_same}
 use Rattle.rbd_world.specs.Order.{IsInOrder, IsInTurn, IsWriterOf}
 use Rattle.rbd_world.specs.Run.{Asked, Did, Happening, Operation, asked_by, is_own, or_asked, steps_in}
 use Rattle.rbd_world.specs.Seats.{seat_at}
@@ -38,9 +38,9 @@ no_turn o reply run none who line image number own writer writes = absurd (true�
 
 module _ {R : Type 0} (stands : R → Standing) where
   pub running_line : (o : Option (Occupant R)) (q : Running R) → running_in o ≡ Some q → script_line o ≡ Some q.line
-  running_line None q is = absurd (no_some q is)
-  running_line (Some (occupant.Refused line refusal)) q is = absurd (no_some q is)
-  running_line (Some (occupant.Running r)) q is = ap (λ (p : Running R). Some p.line) (some_same r q is)
+  running_line None q is = absurd (none-some q is)
+  running_line (Some (occupant.Refused line refusal)) q is = absurd (none-some q is)
+  running_line (Some (occupant.Running r)) q is = ap (λ (p : Running R). Some p.line) (same_Some r q is)
 
   same_itself : (r : Running R) → IsSameStand stands r r
   same_itself r = record { same = refl; line = refl; extent = refl; place = refl; turn = refl }
@@ -50,10 +50,10 @@ module _ {R : Type 0} (stands : R → Standing) where
 
     pub none_in_order : (c : SessionView R) → ((x : ℕ) → running_at x c ≡ None) → IsInOrder stands home who run c
     none_in_order c none = record {
-      extents = λ x r runs. absurd (no_some r (sym (none x) ∙ runs));
-      comes = λ x r runs. absurd (no_some r (sym (none x) ∙ runs));
-      in_line = λ x y r q runs. absurd (no_some r (sym (none x) ∙ runs));
-      past = λ x r runs. absurd (no_some r (sym (none x) ∙ runs));
+      extents = λ x r runs. absurd (none-some r (sym (none x) ∙ runs));
+      comes = λ x r runs. absurd (none-some r (sym (none x) ∙ runs));
+      in_line = λ x y r q runs. absurd (none-some r (sym (none x) ∙ runs));
+      past = λ x r runs. absurd (none-some r (sym (none x) ∙ runs));
     }
 
     -- ---- a slot whose request doesn't run any more
@@ -63,7 +63,7 @@ module _ {R : Type 0} (stands : R → Standing) where
     ran_elsewhere slot c d slots none x q runs = by (same_or_other x slot)
       where
         by : (x ≡ slot) ⊎ (x ≢ slot) → (x ≢ slot) × (running_at x c ≡ Some q)
-        by (inl same) = absurd (no_some q (sym none ∙ sym (ap (λ i. running_at i d) same) ∙ runs))
+        by (inl same) = absurd (none-some q (sym none ∙ sym (ap (λ i. running_at i d) same) ∙ runs))
         by (inr differ) = (differ, sym (ap running_in (slots x differ)) ∙ runs)
 
     pub freed_order : (slot : ℕ) (c d : SessionView R) → AreSlotsBut slot c d → d.lines ≡ c.lines → running_at slot d ≡ None → IsInOrder stands home who run c → IsInOrder stands home who run d
@@ -110,11 +110,11 @@ module _ {R : Type 0} (stands : R → Standing) where
       same : IsSameStand stands was q
 
     alike_in : (o p : Option (Occupant R)) (q : Running R) → IsAlikeIn stands o p → running_in p ≡ Some q → WasIn o q
-    alike_in (Some (occupant.Running r)) (Some (occupant.Running p)) q alike is = record { was = r; there = refl; same = subst (IsSameStand stands r) (some_same p q is) alike }
-    alike_in (Some (occupant.Running r)) (Some (occupant.Refused line refusal)) q alike is = absurd (no_some q is)
-    alike_in (Some (occupant.Running r)) None q alike is = absurd (no_some q is)
-    alike_in (Some (occupant.Refused line refusal)) p q alike is = absurd (no_some q (sym (ap running_in alike) ∙ is))
-    alike_in None p q alike is = absurd (no_some q (sym (ap running_in alike) ∙ is))
+    alike_in (Some (occupant.Running r)) (Some (occupant.Running p)) q alike is = record { was = r; there = refl; same = subst (IsSameStand stands r) (same_Some p q is) alike }
+    alike_in (Some (occupant.Running r)) (Some (occupant.Refused line refusal)) q alike is = absurd (none-some q is)
+    alike_in (Some (occupant.Running r)) None q alike is = absurd (none-some q is)
+    alike_in (Some (occupant.Refused line refusal)) p q alike is = absurd (none-some q (sym (ap running_in alike) ∙ is))
+    alike_in None p q alike is = absurd (none-some q (sym (ap running_in alike) ∙ is))
 
     pub alike_order : (c d : SessionView R) → IsAlike stands c d → IsInOrder stands home who run c → IsInOrder stands home who run d
     alike_order c d alike =
@@ -128,19 +128,19 @@ module _ {R : Type 0} (stands : R → Standing) where
   -- a client that is the same but for that
   pub alike_order_if : (home : SiteId) (run : List Happening) (o n : Option (ClientView R)) → IsClientAlikeIf stands o n
       → ((c : ClientView R) → o ≡ Some c → IsInOrder stands home c.session.instance run c.session) → (d : ClientView R) → n ≡ Some d → IsInOrder stands home d.session.instance run d.session
-  alike_order_if home run None n alike old d is = absurd (no_some d (sym alike ∙ is))
+  alike_order_if home run None n alike old d is = absurd (none-some d (sym alike ∙ is))
   alike_order_if home run (Some c) None alike old d is = elim alike [ ]
   alike_order_if home run (Some c) (Some e) alike old d is =
-      subst (λ (v : ClientView R). IsInOrder stands home v.session.instance run v.session) (some_same e d is)
+      subst (λ (v : ClientView R). IsInOrder stands home v.session.instance run v.session) (same_Some e d is)
       (subst (λ i. IsInOrder stands home i run e.session) (sym alike.session.instance)
       (alike_order home c.session.instance run c.session e.session alike.session (old c refl)))
 
   -- the request that a slot holds is under way
   held_under_way : (seat : Seat) (who : Instance) (run : List Happening) (o : Option (Occupant R)) (r : Running R) → running_in o ≡ Some r → IsHeldRightly stands seat who run o
       → IsUnderWay stands seat who run r
-  held_under_way seat who run None r is held = absurd (no_some r is)
-  held_under_way seat who run (Some (occupant.Refused line refusal)) r is held = absurd (no_some r is)
-  held_under_way seat who run (Some (occupant.Running q)) r is held = subst (IsUnderWay stands seat who run) (some_same q r is) held
+  held_under_way seat who run None r is held = absurd (none-some r is)
+  held_under_way seat who run (Some (occupant.Refused line refusal)) r is held = absurd (none-some r is)
+  held_under_way seat who run (Some (occupant.Running q)) r is held = subst (IsUnderWay stands seat who run) (same_Some q r is) held
 
   -- ---- a world where something happened
 
@@ -179,7 +179,7 @@ module _ {R : Type 0} (stands : R → Standing) where
         → running_at slot c ≡ None → ((other : ℕ) → IsWriterOf who other (h ∷ w.run) → steps_in other h ≡ []) → IsInOrder stands home who w.run c → IsInOrder stands home who (h ∷ w.run) c
     order_beside home who slot c quiet none foreign =
         quiet_order stands w.homes home who h w.run c due w.right foreign
-        (λ x r runs. quiet x r.line (λ same. no_some r (sym none ∙ sym (ap (λ i. running_at i c) same) ∙ runs)) (running_line (held_in x c.slots) r runs))
+        (λ x r runs. quiet x r.line (λ same. none-some r (sym none ∙ sym (ap (λ i. running_at i c) same) ∙ runs)) (running_line (held_in x c.slots) r runs))
 
     -- all clients, where all but one stay
     pub orders_of : (session : ℕ) → ((m : ℕ) → m ≢ session → client_in m new.lives ≡ client_in m old.lives)

@@ -3,6 +3,7 @@
 use Rattle.std.proofs.Common.{◌≡◌, ◌≢◌, ◌⊎◌, inl, inr, ℕ, zero, suc, ◌<◌, ◌==◌, ◌&&◌, Bool, true, false, List, ◌∷◌, Option, Some, None, is_some, refl, sym, ap, ◌∙◌, subst, arith}
 use Rattle.std.specs.Prelude.{IsSome}
 use Rattle.std.proofs.lemmas.Bool.{and_from, and_parts, eq-eqb, eqb-true, true≢false}
+use Rattle.std.proofs.lemmas.Option.{none-some, same_Some}
 use Rattle.rbd_client.specs.Client.{ClientView}
 use Rattle.rbd_exact.specs.Exact.{AreExact, IsOwed, makes_object, removes_object, sets_state, state_of, takes_snap}
 use Rattle.rbd_exact.specs.Owed.{Due, Made, Gone, Lowered, IsClearing, IsPayment, PaysItsStates, Spot, due_behind, due_by, is_due, makes, owed_at, owed_behind, owed_by, removes}
@@ -23,6 +24,7 @@ use Rattle.rbd_kinds.specs.declared.map_op.MapOp.TheVariants as states
 use Rattle.rbd_kinds.specs.declared.operation.Op.{Op}
 use Rattle.rbd_kinds.specs.declared.operation.Op.TheVariants as op
 use Rattle.rbd_kinds.specs.declared.reply.Reply.{Reply}
+use Rattle.rbd_kinds.proofs.Images.{same_site_itself}
 use Rattle.rbd_known.specs.Knowing.{KnowsBy, KnowsIn}
 use Rattle.rbd_machine.specs.Knowledge.{Knowledge, is_gone, learned, same_site}
 use Rattle.rbd_machine.specs.Label.{Label}
@@ -32,7 +34,6 @@ use Rattle.rbd_machine.specs.Plan.{Plan, Ask, Await, Note, Return, Goto, Standin
 use Rattle.rbd_machine.specs.Refused.{IsGiven}
 use Rattle.rbd_machine.specs.declared.reason.Reason.{Reason}
 use Rattle.rbd_machine.specs.declared.seat.Seat.{Seat}
-use Rattle.rbd_machine.proofs.Lawful.{same_site_itself}
 use Rattle.rbd_owner.specs.Acquire.{op_at, op_of}
 use Rattle.rbd_owner.specs.Release.{release_op, release_op_at}
 use Rattle.rbd_owner.specs.declared.acquire.Acquire.{Acquire}
@@ -48,7 +49,6 @@ use Rattle.rbd_session.specs.declared.running.Occupant.{Occupant}
 use Rattle.rbd_session.specs.declared.running.Occupant.TheVariants as occupant
 use Rattle.rbd_session.specs.declared.running.Running.{Running}
 use Rattle.rbd_session.specs.Session.{held_in, running_in, script_line}
-use Rattle.rbd_session.proofs.Sound.{no_some, some_same}
 use Rattle.rbd_site.specs.Records.{Records, object_at}
 use Rattle.rbd_site.specs.Step.{answer_to, is_fenced}
 use Rattle.rbd_site.proofs.FenceLemmas.{refused_is_fenced}
@@ -271,14 +271,14 @@ module _ {R : Type 0} (stands : R → Standing) (old : WorldView R) (w : IsSound
       at = w.slots is.who (debt_open w.homes w.run w.right calm is.who spot is.owes)
 
       holding : (c : ClientView R) → client_in at.session old.lives ≡ Some c → (o : Option (Occupant R)) → held_in at.slot c.session.slots ≡ o → script_line o ≡ Some is.who → IsOwing s image
-      holding c there None held line = absurd (no_some is.who line)
-      holding c there (Some (occupant.Refused other refusal)) held line = absurd (none_owes (some_same other is.who line))
+      holding c there None held line = absurd (none-some is.who line)
+      holding c there (Some (occupant.Refused other refusal)) held line = absurd (none_owes (same_Some other is.who line))
         where
           refused : IsRefusedAtOnce (seat_at w.homes at.session) c.session.instance w.run other refusal
           refused = subst (IsHeldRightly stands (seat_at w.homes at.session) c.session.instance w.run) held ((w.clients at.session c there).held at.slot)
 
           none_owes : other ≡ is.who → ⊥
-          none_owes same = no_some spot (sym (ap owed_behind refused.none) ∙ ap (λ l. owed_in w.run l) same ∙ is.owes)
+          none_owes same = none-some spot (sym (ap owed_behind refused.none) ∙ ap (λ l. owed_in w.run l) same ∙ is.owes)
       holding c there (Some (occupant.Running r)) held line = record {
         session = at.session;
         slot = at.slot;
@@ -296,12 +296,12 @@ module _ {R : Type 0} (stands : R → Standing) (old : WorldView R) (w : IsSound
 
           pays : PaysItsStates (Some spot) (stands r.request).plan
           pays =
-              subst (λ owed. PaysItsStates owed (stands r.request).plan) (ap (λ l. owed_in w.run l) (some_same r.line is.who line) ∙ is.owes)
+              subst (λ owed. PaysItsStates owed (stands r.request).plan) (ap (λ l. owed_in w.run l) (same_Some r.line is.who line) ∙ is.owes)
               (way_pays stands (seat_at w.homes at.session) c.session.instance w.run r
               (subst (IsHeldRightly stands (seat_at w.homes at.session) c.session.instance w.run) held ((w.clients at.session c there).held at.slot)))
 
       in_slot : (o : Option (ClientView R)) → client_in at.session old.lives ≡ o → script_line (held_of at.slot (session_of o)) ≡ Some is.who → IsOwing s image
-      in_slot None there line = absurd (no_some is.who line)
+      in_slot None there line = absurd (none-some is.who line)
       in_slot (Some c) there line = holding c there (held_in at.slot c.session.slots) refl line
 
   -- ---- an operation of a request itself
@@ -384,7 +384,7 @@ module _ {R : Type 0} (stands : R → Standing) (old : WorldView R) (w : IsSound
     gone given image number h removes is = by (removal_owes mine.known_at (w.knows (InSlot session slot)) (owed_in w.run r.line) s why o next a image number paid lawful given unfenced removes)
       where
         by : (is_gone (w.knows (InSlot session slot)).gone s image ≡ true) ⊎ (owed_by (owed_in w.run r.line) s o a ≡ Some (spot_at s image number Lowered)) → IsOwed (owed_in run_then) s image number 2
-        by (inl gone) = absurd (no_some h (sym (unheaded session slot image c there gone) ∙ ap (λ (q : Records). q.headers image) (w.records s) ∙ is))
+        by (inl gone) = absurd (none-some h (sym (unheaded session slot image c there gone) ∙ ap (λ (q : Records). q.headers image) (w.records s) ∙ is))
         by (inr owes) = owes_then image number 2 (record { due = Lowered; owes = owes; is = refl })
 
     -- nobody owes an object of an image of which it takes a snapshot
@@ -418,11 +418,11 @@ module _ {R : Type 0} (stands : R → Standing) (old : WorldView R) (w : IsSound
         by (inl same) (inl also) = payment_takes_none owes.spot s o image (subst (PaysItsStates (Some owes.spot)) (ap (λ q. (stands q.request).plan) one ∙ asks) owes.pays).0 takes
           where
             client : owes.c ≡ c
-            client = some_same owes.c c (sym owes.there ∙ ap (λ m. client_in m old.lives) same ∙ there)
+            client = same_Some owes.c c (sym owes.there ∙ ap (λ m. client_in m old.lives) same ∙ there)
 
             one : owes.r ≡ r
             one =
-                some_same owes.r r
+                same_Some owes.r r
                 (ap running_in (sym owes.holds ∙ ap (λ (v : ClientView R). held_in owes.slot v.session.slots) client ∙ ap (λ x. held_in x c.session.slots) also ∙ holds))
 
     pub own_owes : IsGiven o a → OwesAsItGoes operation result w.run

@@ -2,6 +2,7 @@
 -- each kind of event.
 use Rattle.std.proofs.Common.{◌≡◌, ℕ, ◌==◌, ◌||◌, Bool, true, false, cond, List, is_some, IfOk, OnOk, Option, Some, None, OnErr, Result, Ok, Err, refl, sym, ap, ◌∙◌, subst}
 use Rattle.std.specs.Prelude.{nat_lt}
+use Rattle.std.proofs.Math.Bool.{or-false}
 use Rattle.rbd_client.specs.declared.actor.Actor.{Actor}
 use Rattle.rbd_client.specs.declared.actor.Actor.TheVariants as actor
 use Rattle.rbd_client.specs.Actor.{actor_at}
@@ -11,7 +12,7 @@ use Rattle.rbd_flat.specs.declared.entry.Entry.{Entry}
 use Rattle.rbd_kinds.specs.declared.id.Instance.{Instance}
 use Rattle.rbd_kinds.specs.declared.id.SiteId.{SiteId}
 use Rattle.rbd_kinds.specs.declared.notice.Notice.{Notice}
-use Rattle.rbd_machine.specs.Knowledge.{same_instance}
+use Rattle.rbd_kinds.specs.Instances.{same_instance}
 use Rattle.rbd_machine.specs.Label.{Label}
 use Rattle.rbd_machine.specs.Plan.{Plan, Ask, Await, Note, Return, Goto, Standing}
 use Rattle.rbd_session.specs.declared.running.Occupant.{Occupant}
@@ -33,7 +34,7 @@ use Rattle.rbd_world.specs.Step.{AreSameSites, DoesAtSites, DoesToLives, DoesToP
 use Rattle.rbd_world.specs.World.{LivesView, client_in, late_at, lives_in, records_in, site_in}
 use Rattle.rbd_world.proofs.BothSites.{left_sites}
 use Rattle.rbd_world.proofs.OneLife.{does_to_nobody, leaves_all}
-use Rattle.rbd_world.proofs.Runs.{endings_begin_nothing, lost_begin_nothing, no_start, or_false}
+use Rattle.rbd_world.proofs.Runs.{endings_begin_nothing, lost_begin_nothing, no_start}
 
 -- ---- what a happening leaves
 
@@ -186,7 +187,7 @@ module _ {R : Type 0} (stands : R → Standing) where
 
   -- no line was begun
   lines_stay : (h : Happening) (b : LinesBegun) → BeginsNothing h → (line : ℕ) → has_line line b ≡ begun_behind (λ l. has_line l b) h line
-  lines_stay h b none line = sym (ap (λ f. has_line line b || f) (begins_no_line h none line) ∙ or_false (has_line line b))
+  lines_stay h b none line = sym (ap (λ f. has_line line b || f) (begins_no_line h none line) ∙ or-false (has_line line b))
 
   -- ---- what was done
 

@@ -1,6 +1,7 @@
 -- A poll did what is said of it, by who acts at the slot, and nothing at the other site.
 use Rattle.std.proofs.Common.{◌≡◌, ℕ, ◌==◌, cond, Bool, true, false, List, [], ◌∷◌, Option, Some, None, refl, sym, ap, ◌∙◌, subst}
 use Rattle.std.proofs.lemmas.Bool.{true≢false, eqb-true}
+use Rattle.std.proofs.lemmas.Option.{none-some, same_Some}
 use Rattle.rbd_client.specs.declared.actor.Actor.{Actor}
 use Rattle.rbd_client.specs.declared.actor.Actor.TheVariants as actor
 use Rattle.rbd_client.specs.declared.slot_state.Way.{Way}
@@ -19,12 +20,12 @@ use Rattle.rbd_kinds.specs.declared.machine.Fed.TheVariants as fed
 use Rattle.rbd_kinds.specs.declared.operation.Op.{Op}
 use Rattle.rbd_kinds.specs.declared.reply.Reply.{Reply}
 use Rattle.rbd_kinds.specs.declared.reply.Reply.TheVariants as reply_is
+use Rattle.rbd_kinds.proofs.Images.{same_site_itself}
 use Rattle.rbd_machine.specs.Knowledge.{same_site}
 use Rattle.rbd_machine.specs.Label.{Label, Lock}
 use Rattle.rbd_machine.specs.Path.{at_operation}
 use Rattle.rbd_machine.specs.Plan.{Plan, Ask, Await, Note, Return, Goto, Standing, IsAsking, IsLive, plan_after, settled}
 use Rattle.rbd_machine.specs.Steps.{IsGoing}
-use Rattle.rbd_machine.proofs.Lawful.{same_site_itself}
 use Rattle.rbd_owner.specs.Acquire.{lock_of, op_of, rest_at, rest_of_acquire, taking}
 use Rattle.rbd_owner.specs.declared.acquire.Acquire.{Acquire}
 use Rattle.rbd_owner.specs.declared.acquire.Stage.{Stage}
@@ -38,7 +39,6 @@ use Rattle.rbd_session.specs.Lines.{LinesView}
 use Rattle.rbd_session.specs.Session.{ComesToIn, OfRunning, going_in, held_in, of_going, op_asked, op_at, own_look_at, refusal_in, reply_of, running_in, script_line}
 use Rattle.rbd_session.specs.Track.{Track}
 use Rattle.rbd_session.specs.Waits.{waits}
-use Rattle.rbd_session.proofs.Sound.{no_some, some_same}
 use Rattle.rbd_site.specs.Log.{line_of}
 use Rattle.rbd_site.specs.Step.{after, answer_to}
 use Rattle.rbd_world.specs.declared.event.Event.TheVariants as event
@@ -220,10 +220,10 @@ module _ {R : Type 0} (stands : R → Standing) where
     polled_so line by place line_is unrefused by_is sound acts = go (held_in slot c.session.slots) refl line_is unrefused
       where
         go : (o : Option (Occupant R)) → held_in slot c.session.slots ≡ o → Some line ≡ script_line o → None ≡ reply_of (refusal_in o) → Polls (polled_in stands before c slot o)
-        go None is line_is unrefused = absurd (no_some line (sym line_is))
-        go (Some (occupant.Refused n x)) is line_is unrefused = absurd (no_some _ unrefused)
+        go None is line_is unrefused = absurd (none-some line (sym line_is))
+        go (Some (occupant.Refused n x)) is line_is unrefused = absurd (none-some _ unrefused)
         go (Some (occupant.Running r)) is line_is unrefused =
-            acts_by line r is (some_same line r.line line_is) place (actor_at stands slot c) refl (sound.session.asks slot r (ap running_in is))
+            acts_by line r is (same_Some line r.line line_is) place (actor_at stands slot c) refl (sound.session.asks slot r (ap running_in is))
             (subst (λ (d : Doer). Acts d (op_wanted stands slot c)) by_is acts)
 
     pub released_so : slot ≡ 0 → IsSoundClient stands c → Acts House (op_wanted stands slot c) → Polls (polled_in stands before c slot (held_in slot c.session.slots))

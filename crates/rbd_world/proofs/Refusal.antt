@@ -1,6 +1,7 @@
 -- A poll of a request that is refused before any operation: its reply is meant, and its slot free.
 use Rattle.std.proofs.Common.{◌≡◌, ◌≢◌, inl, inr, ℕ, ◌==◌, ◌||◌, Bool, true, false, [], ◌∷◌, ◌++◌, Some, refl, sym, ap, ◌∙◌, subst}
 use Rattle.std.proofs.lemmas.Bool.{true≢false, eq-eqb}
+use Rattle.std.proofs.lemmas.Option.{none-some, same_Some}
 use Rattle.rbd_client.specs.Client.{ClientView, state_in}
 use Rattle.rbd_commands.specs.declared.refusal.Refusal.{Refusal}
 use Rattle.rbd_held.specs.Truth.{IsTrueOf}
@@ -16,7 +17,6 @@ use Rattle.rbd_rely.specs.Beside.{AreBeside}
 use Rattle.rbd_requests.specs.CommandsMeant.{command_is_meant}
 use Rattle.rbd_session.specs.declared.running.Occupant.TheVariants as occupant
 use Rattle.rbd_session.specs.Session.{held_in, running_in, script_line}
-use Rattle.rbd_session.proofs.Sound.{no_some, some_same}
 use Rattle.rbd_world.specs.declared.event.Event.TheVariants as event
 use Rattle.rbd_world.specs.Order.{IsInOrder}
 use Rattle.rbd_world.specs.Run.{Happening, Refused, steps_of}
@@ -86,7 +86,7 @@ module _ {R : Type 0} (stands : R → Standing) (old new : WorldView R) (w : IsS
     slots_then l begun true own = absurd (not_open l does_refuse w.run (ap (λ b. b || false) own) begun)
     slots_then l begun false other =
         other_slots old new session c d goes slot serves.slots l
-        (λ is. true≢false (sym (eq-eqb line l (some_same line l (sym (ap script_line holds) ∙ is))) ∙ other))
+        (λ is. true≢false (sym (eq-eqb line l (same_Some line l (sym (ap script_line holds) ∙ is))) ∙ other))
         (w.slots l (open_back l does_refuse w.run (quiet_refused l c.session.home line (reply.Refused refusal) other) begun))
 
     serve_carries : DoesAtSites does_refuse old.sites new.sites → ((m : ℕ) → IsSoundIf stands (client_in m new.lives)) → IsCarried stands old new w does_refuse
@@ -104,7 +104,7 @@ module _ {R : Type 0} (stands : R → Standing) (old new : WorldView R) (w : IsS
         (subst (IsSoundIf stands) (client_is old new session c d goes) (sound session)) all (subst (IsHeldRightly stands (seat_at w.homes session) me (does_refuse ∷ w.run)) (sym serves.held) tt)
         (subst (λ o. KeepsToItsWay stands (does_refuse ∷ w.run) (state_in slot d.slots).way (running_in o)) (sym serves.held) tt)
         (λ x differ. refl) (subst (λ o. HasLearnedIf stands (does_refuse ∷ w.run) (running_in o) (knew slot)) (sym serves.held) tt))
-        quiet_others (apart_of old new session c d goes slot serves.slots w.apart (λ l is. absurd (no_some l (sym (ap script_line serves.held) ∙ is))))
+        quiet_others (apart_of old new session c d goes slot serves.slots w.apart (λ l is. absurd (none-some l (sym (ap script_line serves.held) ∙ is))))
         (λ l now. slots_then l now (line == l) refl)
         (λ s. (stays s).clients d.session.instance knew d
         (subst (λ i. IsTrueOf s (records_in s old.sites) i knew d) (sym serves.client.instance)

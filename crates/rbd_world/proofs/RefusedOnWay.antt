@@ -1,6 +1,7 @@
 -- A request that is refused on its way to the lock is refused as its own look would be.
 use Rattle.std.proofs.Common.{◌≡◌, ◌⊎◌, inl, inr, ℕ, Bool, true, false, cond, List, [], ◌∷◌, ◌++◌, Some, refl, sym, ap, ◌∙◌, subst}
 use Rattle.std.proofs.lemmas.Bool.{true≢false}
+use Rattle.std.proofs.lemmas.Option.{none-some, same_Some}
 use Rattle.rbd_client.specs.Sound.{WaitsForLook}
 use Rattle.rbd_commands.specs.declared.command.Command.{Command}
 use Rattle.rbd_kinds.specs.declared.answer.Answer.{Answer}
@@ -37,7 +38,6 @@ use Rattle.rbd_requests.specs.CommandsMeant.{command_is_meant}
 use Rattle.rbd_requests.proofs.Looks.{looks_refuse}
 use Rattle.rbd_session.specs.declared.running.Running.{Running}
 use Rattle.rbd_session.specs.Session.{SessionView, is_look_at, kind_asked, running_at}
-use Rattle.rbd_session.proofs.Sound.{no_some, some_same}
 use Rattle.rbd_world.specs.Run.{Happening, Operation, step_of, steps_of, way_of}
 use Rattle.rbd_world.specs.Seats.{seat_at}
 use Rattle.rbd_world.specs.Sound.{IsLedTo, IsRefusedOnWay, IsUnderWay, look_answered}
@@ -54,38 +54,38 @@ record EndsSo (told : Answer) (reply : Reply) : Type 0 where
   refuses : not_there told ≡ Return reply
 
 ends_so : (told : Answer) (reply : Reply) → EndsIt told → reply_at (not_there told) ≡ Some reply → EndsSo told reply
-ends_so answer.Absent reply tells is = record { tells = tt; refuses = ap Return (some_same _ reply is) }
-ends_so answer.Fenced reply tells is = record { tells = tt; refuses = ap Return (some_same _ reply is) }
+ends_so answer.Absent reply tells is = record { tells = tt; refuses = ap Return (same_Some _ reply is) }
+ends_so answer.Fenced reply tells is = record { tells = tt; refuses = ap Return (same_Some _ reply is) }
 ends_so _ reply tells is = absurd tells
 
 way_ends : (s : Stage) (site : SiteId) (image : ℕ) (told : Answer) (reply : Reply) → gives (op_at s image) told ≡ true
     → reply_at (plan_after (rest_at s site image (Goto Lock)) (fed.Answer told)) ≡ Some reply → EndsSo told reply
-way_ends stage.Watching site image answer.Done reply word is = absurd (no_some reply is)
+way_ends stage.Watching site image answer.Done reply word is = absurd (none-some reply is)
 way_ends stage.Watching site image answer.Absent reply word is = ends_so answer.Absent reply tt is
 way_ends stage.Watching site image answer.Fenced reply word is = ends_so answer.Fenced reply tt is
 way_ends stage.Watching site image _ reply word is = absurd (true≢false (sym word))
-way_ends stage.Taking site image answer.Done reply word is = absurd (no_some reply is)
-way_ends stage.Taking site image (answer.Held owner) reply word is = absurd (no_some reply is)
+way_ends stage.Taking site image answer.Done reply word is = absurd (none-some reply is)
+way_ends stage.Taking site image (answer.Held owner) reply word is = absurd (none-some reply is)
 way_ends stage.Taking site image answer.Absent reply word is = ends_so answer.Absent reply tt is
 way_ends stage.Taking site image answer.Fenced reply word is = ends_so answer.Fenced reply tt is
 way_ends stage.Taking site image _ reply word is = absurd (true≢false (sym word))
 way_ends (stage.Looking owner) site image (answer.Instances watchers) reply word is = by (is_among watchers owner) is
   where
     by : (b : Bool) → reply_at (cond b (asking site image) (fencing site image owner)) ≡ Some reply → EndsSo (answer.Instances watchers) reply
-    by true is = absurd (no_some reply is)
-    by false is = absurd (no_some reply is)
+    by true is = absurd (none-some reply is)
+    by false is = absurd (none-some reply is)
 way_ends (stage.Looking owner) site image answer.Absent reply word is = ends_so answer.Absent reply tt is
 way_ends (stage.Looking owner) site image answer.Fenced reply word is = ends_so answer.Fenced reply tt is
 way_ends (stage.Looking owner) site image _ reply word is = absurd (true≢false (sym word))
-way_ends stage.Asking site image answer.Done reply word is = absurd (no_some reply is)
+way_ends stage.Asking site image answer.Done reply word is = absurd (none-some reply is)
 way_ends stage.Asking site image answer.Absent reply word is = ends_so answer.Absent reply tt is
 way_ends stage.Asking site image answer.Fenced reply word is = ends_so answer.Fenced reply tt is
 way_ends stage.Asking site image _ reply word is = absurd (true≢false (sym word))
-way_ends (stage.Fencing owner) site image answer.Done reply word is = absurd (no_some reply is)
+way_ends (stage.Fencing owner) site image answer.Done reply word is = absurd (none-some reply is)
 way_ends (stage.Fencing owner) site image answer.Fenced reply word is = ends_so answer.Fenced reply tt is
 way_ends (stage.Fencing owner) site image _ reply word is = absurd (true≢false (sym word))
-way_ends (stage.Breaking owner) site image answer.Done reply word is = absurd (no_some reply is)
-way_ends (stage.Breaking owner) site image answer.Changed reply word is = absurd (no_some reply is)
+way_ends (stage.Breaking owner) site image answer.Done reply word is = absurd (none-some reply is)
+way_ends (stage.Breaking owner) site image answer.Changed reply word is = absurd (none-some reply is)
 way_ends (stage.Breaking owner) site image answer.Absent reply word is = ends_so answer.Absent reply tt is
 way_ends (stage.Breaking owner) site image answer.Fenced reply word is = ends_so answer.Fenced reply tt is
 way_ends (stage.Breaking owner) site image _ reply word is = absurd (true≢false (sym word))
@@ -143,7 +143,7 @@ module _ {R : Type 0} (stands : R → Standing) (homes : ℕ → SiteId) (sessio
   command_is = way.begun.asked.command
 
   same : waiting.request ≡ r
-  same = some_same waiting.request r (sym waiting.runs ∙ runs)
+  same = same_Some waiting.request r (sym waiting.runs ∙ runs)
 
   ended : EndsSo o.answer reply
   ended = way_ends a.stage a.site a.image o.answer reply can.word ends
@@ -159,7 +159,7 @@ module _ {R : Type 0} (stands : R → Standing) (homes : ℕ → SiteId) (sessio
     where
       by : (b : Bool) → is_change command_is ≡ b → is_read command_is ≡ false
       by true is = changes_are_no_reads command_is is
-      by false is = absurd (no_some _ (sym (way.calm is).1 ∙ ap (λ (q : Running R). q.place) (sym same) ∙ waiting.place))
+      by false is = absurd (none-some _ (sym (way.calm is).1 ∙ ap (λ (q : Running R). q.place) (sym same) ∙ waiting.place))
 
   session_is : way.begun.asked.who.session ≡ session
   session_is = ap (λ (i : Instance). i.session) way.mine ∙ whose

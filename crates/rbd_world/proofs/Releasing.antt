@@ -1,5 +1,6 @@
 -- A poll of slot 0 that has an operation of a release done keeps a world sound.
 use Rattle.std.proofs.Common.{◌≡◌, ℕ, ◌∷◌, Some, None, refl, sym, ap, ◌∙◌, subst}
+use Rattle.std.proofs.lemmas.Option.{none-some}
 use Rattle.rbd_client.specs.declared.actor.Actor.TheVariants as actor
 use Rattle.rbd_client.specs.Actor.{actor_at, op_by, op_wanted}
 use Rattle.rbd_client.specs.Client.{ClientView, state_in}
@@ -12,7 +13,6 @@ use Rattle.rbd_machine.specs.Plan.{Standing}
 use Rattle.rbd_owner.specs.Release.{release_op}
 use Rattle.rbd_owner.specs.declared.release.Release.{Release}
 use Rattle.rbd_session.specs.Session.{SessionView, held_in, running_in, script_line}
-use Rattle.rbd_session.proofs.Sound.{no_some}
 use Rattle.rbd_site.specs.Step.{answer_to}
 use Rattle.rbd_world.specs.declared.event.Event.TheVariants as event
 use Rattle.rbd_world.specs.Run.{House, Happening, Did, Operation}
@@ -90,8 +90,8 @@ module _ {R : Type 0} (stands : R → Standing) (old new : WorldView R) (w : IsS
         (standing stands old new w session slot c there x.site (release_op x) wanted House None d became at_sites sound_then) due
         (whole stands old new w session slot c there x.site (release_op x) wanted House None d became at_sites sound_then)
         living_then (λ m q apart at y line is. quiet line)
-        (apart_of old new session c d goes_on slot became.slots w.apart (λ line is. absurd (no_some line (sym (ap script_line still_free) ∙ is))))
-        (λ l now. other_slots old new session c d goes_on slot became.slots l (λ is. no_some l (sym (ap script_line free) ∙ is)) (w.slots l (open_back l does_it w.run (quiet l) now)))
+        (apart_of old new session c d goes_on slot became.slots w.apart (λ line is. absurd (none-some line (sym (ap script_line still_free) ∙ is))))
+        (λ l now. other_slots old new session c d goes_on slot became.slots l (λ is. none-some l (sym (ap script_line free) ∙ is)) (w.slots l (open_back l does_it w.run (quiet l) now)))
         (truth_now stands old new w session slot c there x.site (release_op x) wanted House None d became at_sites sound_then)
         (truth_of_others stands old new w session slot c there x.site (release_op x) wanted House None d became at_sites sound_then)
         (sending_now stands old new w session slot c there x.site (release_op x) wanted House None d became at_sites sound_then)

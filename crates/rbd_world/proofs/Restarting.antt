@@ -2,6 +2,7 @@
 -- another than any that was stopped.
 use Rattle.std.proofs.Common.{◌≡◌, ◌≢◌, ◌⊎◌, inl, inr, ℕ, ◌+◌, ◌≤◌, ◌<◌, ◌==◌, cond, true, ◌∷◌, is_some, Option, Some, None, refl, sym, ap, ◌∙◌, subst, arith}
 use Rattle.std.proofs.lemmas.Bool.{eq-eqb, ne_eqb}
+use Rattle.std.proofs.lemmas.Option.{same_Some}
 use Rattle.rbd_client.specs.Client.{ClientView}
 use Rattle.rbd_held.specs.Truth.{IsTrueOf}
 use Rattle.rbd_kinds.specs.declared.id.Instance.{Instance}
@@ -9,7 +10,6 @@ use Rattle.rbd_kinds.specs.declared.id.SiteId.{SiteId}
 use Rattle.rbd_machine.specs.Knowledge.{Knowledge, nothing_known}
 use Rattle.rbd_machine.specs.Plan.{Standing}
 use Rattle.rbd_session.specs.Session.{script_line}
-use Rattle.rbd_session.proofs.Sound.{some_same}
 use Rattle.rbd_world.specs.declared.event.Event.TheVariants as event
 use Rattle.rbd_world.specs.Order.{IsInOrder}
 use Rattle.rbd_world.specs.Run.{Happening, Life, Restarted, life_after, life_behind}
@@ -77,7 +77,7 @@ module _ {R : Type 0} (stands : R → Standing) (old new : WorldView R) (w : IsS
   client_here = ap running_of born.is ∙ born.runs
 
   is_it : (m : ℕ) (q : ClientView R) → m ≡ session → client_in m new.lives ≡ Some q → born.client ≡ q
-  is_it m q same is = some_same born.client q (sym client_here ∙ ap (λ i. client_in i new.lives) (sym same) ∙ is)
+  is_it m q same is = same_Some born.client q (sym client_here ∙ ap (λ i. client_in i new.lives) (sym same) ∙ is)
 
   was : (m : ℕ) (q : ClientView R) → m ≢ session → client_in m new.lives ≡ Some q → client_in m old.lives ≡ Some q
   was m q differ is = sym (ap running_of (others m differ)) ∙ is
@@ -110,7 +110,7 @@ module _ {R : Type 0} (stands : R → Standing) (old new : WorldView R) (w : IsS
         life =
             begun_here session mine.whose ∙ ap (λ (i : Instance). record { number = i.life; runs = true }) (sym born.latest)
             ∙ ap (λ o. record { number = born.behind.latest.life; runs = is_some o }) (sym born.runs);
-        latest = λ q runs. ap (λ (v : ClientView R). v.session.instance) (some_same q born.client (sym runs ∙ born.runs)) ∙ born.fresh.instance ∙ sym born.latest;
+        latest = λ q runs. ap (λ (v : ClientView R). v.session.instance) (same_Some q born.client (sym runs ∙ born.runs)) ∙ born.fresh.instance ∙ sym born.latest;
         most = λ v late. let less : v.instance.life < born.behind.latest.life = later v late in omega (arith, less);
         older = λ v late q runs. later v late;
       }
@@ -127,7 +127,7 @@ module _ {R : Type 0} (stands : R → Standing) (old new : WorldView R) (w : IsS
       by (inr differ) = lives_still stands (w.homes m) m h w.run (still_elsewhere m differ) k (w.lives m k (sym (others m differ) ∙ is))
       by (inl same) =
           subst (λ i. AreLivesOf (h ∷ w.run) (w.homes i) i k) (sym same)
-          (subst (AreLivesOf (h ∷ w.run) (w.homes session) session) (some_same born.behind k (sym born.is ∙ ap (λ i. lives_in i new.lives) (sym same) ∙ is)) here)
+          (subst (AreLivesOf (h ∷ w.run) (w.homes session) session) (same_Some born.behind k (sym born.is ∙ ap (λ i. lives_in i new.lives) (sym same) ∙ is)) here)
 
   -- ---- what is known then
 

@@ -3,6 +3,7 @@ use Rattle.std.proofs.Common.{◌≡◌, ℕ, ◌==◌, ◌||◌, cond, Bool, tr
 use Rattle.std.proofs.lemmas.Bool.{eqb-true}
 use Rattle.std.proofs.lemmas.Option.{none-some}
 use Rattle.std.proofs.lemmas.List.Folds.{list_any-append}
+use Rattle.std.proofs.Math.Bool.{or-false}
 use Rattle.rbd_flat.specs.declared.effect.Effect.{Effect}
 use Rattle.rbd_kinds.specs.declared.id.SiteId.{SiteId}
 use Rattle.rbd_kinds.specs.declared.reply.Reply.{Reply}
@@ -28,10 +29,6 @@ done_of homes o (Some reply) run due = due.0
 
 -- ---- lines that were begun
 
-pub or_false : (b : Bool) → (b || false) ≡ b
-or_false true = refl
-or_false false = refl
-
 unfenced_no_start : (line : ℕ) (c : Cause) (s : SiteId) (number : ℕ) (e : Option Effect) → is_start_of line (entry_unfenced c s number e) ≡ false
 unfenced_no_start line c s number None = refl
 unfenced_no_start line c s number (Some e) = refl
@@ -56,8 +53,8 @@ lost_begin_nothing line (other ∷ lost) = lost_begin_nothing line lost
 
 -- a line is begun by the one entry of its start
 begun_by : (line : ℕ) (h : Happening) (before : Option Asked) → (is_some before || is_begun line (entries_of h)) ≡ is_some (or_asked line h before)
-begun_by line Nothing before = or_false (is_some before)
-begun_by line Waited before = or_false (is_some before)
+begun_by line Nothing before = or-false (is_some before)
+begun_by line Waited before = or-false (is_some before)
 begun_by line (Began asked slot) before = go (asked.line == line) before
   where
     go : (b : Bool) (before : Option Asked) → (is_some before || (b || false)) ≡ is_some (cond b (Some asked) before)
@@ -67,13 +64,13 @@ begun_by line (Began asked slot) before = go (asked.line == line) before
     go false (Some other) = refl
 begun_by line (Did o reply) before =
     ap (λ b. is_some before || (b || is_begun line (ending_entries o.by reply))) (no_start line _ o.site o.number _ o.effect)
-    ∙ ap (λ b. is_some before || b) (endings_begin_nothing line o.by reply) ∙ or_false (is_some before)
-begun_by line (Refused s other reply) before = or_false (is_some before)
-begun_by line (Trimmed s number image object) before = or_false (is_some before)
-begun_by line (Expired s number image who) before = or_false (is_some before)
-begun_by line (Heard notice) before = or_false (is_some before)
-begun_by line (Stopped who wanted lost) before = ap (λ b. is_some before || b) (lost_begin_nothing line lost) ∙ or_false (is_some before)
-begun_by line (Restarted who) before = or_false (is_some before)
+    ∙ ap (λ b. is_some before || b) (endings_begin_nothing line o.by reply) ∙ or-false (is_some before)
+begun_by line (Refused s other reply) before = or-false (is_some before)
+begun_by line (Trimmed s number image object) before = or-false (is_some before)
+begun_by line (Expired s number image who) before = or-false (is_some before)
+begun_by line (Heard notice) before = or-false (is_some before)
+begun_by line (Stopped who wanted lost) before = ap (λ b. is_some before || b) (lost_begin_nothing line lost) ∙ or-false (is_some before)
+begun_by line (Restarted who) before = or-false (is_some before)
 
 pub begun_is_asked : (line : ℕ) (run : List Happening) → is_begun line (history_of run) ≡ is_some (asked_by line run)
 begun_is_asked line [] = refl

@@ -5,6 +5,7 @@ use Rattle.std.proofs.Common.{◌≡◌, ◌≢◌, ◌⊎◌, inl, inr, ℕ, �
 use Rattle.std.proofs.lemmas.Bool.{cases_lt, eq-eqb, true≢false, ne_eqb}
 use Rattle.std.proofs.lemmas.List.{get_or_past}
 use Rattle.std.proofs.lemmas.List.FromFn.{get_or-map-range_with_len, length-map-range_with_len}
+use Rattle.std.proofs.lemmas.Option.{none-some, same_Some}
 use Rattle.rbd_client.specs.declared.actor.Actor.{Actor}
 use Rattle.rbd_client.specs.declared.actor.Actor.TheVariants as actor
 use Rattle.rbd_client.specs.Actor.{actor_at, op_wanted}
@@ -29,7 +30,6 @@ use Rattle.rbd_rely.proofs.Together.{beside_mutual}
 use Rattle.rbd_session.specs.declared.running.Occupant.{Occupant}
 use Rattle.rbd_session.specs.declared.running.Occupant.TheVariants as occupant
 use Rattle.rbd_session.specs.Session.{held_in, script_line}
-use Rattle.rbd_session.proofs.Sound.{no_some, some_same}
 use Rattle.rbd_site.specs.Records.{Records}
 use Rattle.rbd_world.specs.declared.event.Event.TheVariants as event
 use Rattle.rbd_world.specs.Order.{IsInOrder}
@@ -61,7 +61,7 @@ wanted_at f count x p is = by (cases_lt x count)
     by (inl less) = sym (get_or-map-range_with_len f 0 count x x None less (omega arith)) ∙ is
     by (inr past) =
         let long = length-map-range_with_len f 0 count in
-        absurd (no_some p (sym (get_or_past (map f (range_with_len 0 count)) x None (omega (arith, long, past))) ∙ is))
+        absurd (none-some p (sym (get_or_past (map f (range_with_len 0 count)) x None (omega (arith, long, past))) ∙ is))
 
 -- who sends nothing goes by nothing
 abbrev sends_by : Option (SiteId × Op) → Knowledge → Knowledge
@@ -84,9 +84,9 @@ acting_beside s r me you k j beside (actor.Release x) = beside_mutual s r you me
 module _ {R : Type 0} (stands : R → Standing) where
   lost_of : (homes : ℕ → SiteId) (seat : Seat) (who : Instance) (run : List Happening) (o : Option (Occupant R)) (line : ℕ) → seat_at homes who.session ≡ seat → script_line o ≡ Some line
       → IsHeldRightly stands seat who run o → IsLostOf homes who line run
-  lost_of homes seat who run None line same is held = absurd (no_some line is)
+  lost_of homes seat who run None line same is held = absurd (none-some line is)
   lost_of homes seat who run (Some (occupant.Refused number refusal)) line same is held =
-      subst (λ n. IsLostOf homes who n run) (some_same number line is)
+      subst (λ n. IsLostOf homes who n run) (same_Some number line is)
       (record {
         begun = held.begun;
         mine = held.mine;
@@ -97,7 +97,7 @@ module _ {R : Type 0} (stands : R → Standing) where
             (record { start = held.start; plan = held.plan; feds = []; walk = (held.none, refl); given = subst AreGiven (sym held.none) tt; standalone = subst TellAllStandalone (sym held.none) tt }));
       })
   lost_of homes seat who run (Some (occupant.Running r)) line same is held =
-      subst (λ n. IsLostOf homes who n run) (some_same r.line line is)
+      subst (λ n. IsLostOf homes who n run) (same_Some r.line line is)
       (record {
         begun = held.begun;
         mine = held.mine;
@@ -156,7 +156,7 @@ module _ {R : Type 0} (stands : R → Standing) (old new : WorldView R) (w : IsS
       by (inl less) = among_ascending line (lines_in line_of (range_with_len 0 65)) ∙ is_found line_of 0 65 x line (omega arith) (omega (arith, less)) is
       by (inr past) =
           let long = living.sound.session.slots in
-          absurd (no_some line (sym (ap script_line (get_or_past c.session.slots x None (omega (arith, long, past)))) ∙ is))
+          absurd (none-some line (sym (ap script_line (get_or_past c.session.slots x None (omega (arith, long, past)))) ∙ is))
 
   in_slot : (line : ℕ) → is_among line lost ≡ true → (x : ℕ) × (line_of x ≡ Some line)
   in_slot line is =
@@ -172,10 +172,10 @@ module _ {R : Type 0} (stands : R → Standing) (old new : WorldView R) (w : IsS
   whose_line m x line asked at is = by (client_in m old.lives) refl at
     where
       by : (o : Option (ClientView R)) → client_in m old.lives ≡ o → script_line (held_of x (session_of o)) ≡ Some line → asked.who.session ≡ m
-      by None none at = absurd (no_some line at)
+      by None none at = absurd (none-some line at)
       by (Some q) runs at =
           let theirs = lost_in m x line q runs at in
-          ap (λ (a : Asked). a.who.session) (some_same asked theirs.begun.asked (sym is ∙ theirs.begun.is)) ∙ ap (λ (i : Instance). i.session) theirs.mine
+          ap (λ (a : Asked). a.who.session) (same_Some asked theirs.begun.asked (sym is ∙ theirs.begun.is)) ∙ ap (λ (i : Instance). i.session) theirs.mine
           ∙ (w.clients m q runs).whose
 
   due : IsStop w.homes who lost w.run
@@ -199,7 +199,7 @@ module _ {R : Type 0} (stands : R → Standing) (old new : WorldView R) (w : IsS
   was m q differ is = sym (ap running_of (others m differ)) ∙ is
 
   not_here : (m : ℕ) (q : ClientView R) → client_in m new.lives ≡ Some q → m ≡ session → ⊥
-  not_here m q is same = no_some q (sym client_gone ∙ ap (λ i. client_in i new.lives) (sym same) ∙ is)
+  not_here m q is same = none-some q (sym client_gone ∙ ap (λ i. client_in i new.lives) (sym same) ∙ is)
 
   elsewhere : (m : ℕ) (q : ClientView R) → client_in m new.lives ≡ Some q → m ≢ session
   elsewhere m q is same = not_here m q is same
@@ -213,7 +213,7 @@ module _ {R : Type 0} (stands : R → Standing) (old new : WorldView R) (w : IsS
       by : (m ≡ session) ⊎ (m ≢ session) → line_at m x old.lives ≡ Some line
       by (inr differ) = sym (line_elsewhere m x differ) ∙ is
       by (inl same) =
-          absurd (no_some line (sym (ap (λ i. line_at i x new.lives) same ∙ ap (λ o. script_line (held_of x (session_of o))) client_gone) ∙ is))
+          absurd (none-some line (sym (ap (λ i. line_at i x new.lives) same ∙ ap (λ o. script_line (held_of x (session_of o))) client_gone) ∙ is))
 
   quiet_at : (m x line : ℕ) → m ≢ session → line_at m x old.lives ≡ Some line → IsQuiet line h
   quiet_at m x line differ at = quiet_stopped line who (wanted_by stands c) lost (by (is_among line lost) refl)
@@ -257,19 +257,19 @@ module _ {R : Type 0} (stands : R → Standing) (old new : WorldView R) (w : IsS
             ap (λ b. cond b (record { number = (life_after session w.run).number; runs = false }) (life_after session w.run)) (eq-eqb who.session session living.whose)
             ∙ ap (λ (x : Life). record { number = x.number; runs = false }) mine.life ∙ ap (λ (i : Instance). record { number = i.life; runs = false }) (sym gone.latest)
             ∙ ap (λ o. record { number = gone.behind.latest.life; runs = is_some o }) (sym gone.runs);
-        latest = λ q runs. absurd (no_some q (sym gone.runs ∙ runs));
+        latest = λ q runs. absurd (none-some q (sym gone.runs ∙ runs));
         most = λ v late.
-            let same : v.instance ≡ gone.behind.latest = ap (λ (z : LateView). z.instance) (some_same v _ (sym late ∙ gone.sends)) ∙ mine.latest c ran ∙ sym gone.latest in
+            let same : v.instance ≡ gone.behind.latest = ap (λ (z : LateView). z.instance) (same_Some v _ (sym late ∙ gone.sends)) ∙ mine.latest c ran ∙ sym gone.latest in
             let life = ap (λ (i : Instance). i.life) same in
             omega (arith, life);
-        older = λ v late q runs. absurd (no_some q (sym gone.runs ∙ runs));
+        older = λ v late q runs. absurd (none-some q (sym gone.runs ∙ runs));
       }
 
       by : (m ≡ session) ⊎ (m ≢ session) → AreLivesOf (h ∷ w.run) (w.homes m) m k
       by (inr differ) = lives_still stands (w.homes m) m h w.run (still_elsewhere m differ) k (w.lives m k (sym (others m differ) ∙ is))
       by (inl same) =
           subst (λ i. AreLivesOf (h ∷ w.run) (w.homes i) i k) (sym same)
-          (subst (AreLivesOf (h ∷ w.run) (w.homes session) session) (some_same gone.behind k (sym gone.is ∙ ap (λ i. lives_in i new.lives) (sym same) ∙ is)) here)
+          (subst (AreLivesOf (h ∷ w.run) (w.homes session) session) (same_Some gone.behind k (sym gone.is ∙ ap (λ i. lives_in i new.lives) (sym same) ∙ is)) here)
 
   -- ---- what is known then
 
@@ -340,9 +340,9 @@ module _ {R : Type 0} (stands : R → Standing) (old new : WorldView R) (w : IsS
 
   sent_now : (x : ℕ) (y : Sent) (o : Option (SiteId × Op)) → wanted x ≡ o → sent_of who o ≡ Some y
       → (who ≡ y.instance) × MayStillCome session (λ s. records_in s new.sites) y (sends_by o (knew_at x))
-  sent_now x y None is sent = absurd (no_some y sent)
+  sent_now x y None is sent = absurd (none-some y sent)
   sent_now x y (Some p) is sent =
-      let same = some_same _ y sent in (
+      let same = same_Some _ y sent in (
         ap (λ (z : Sent). z.instance) same,
         subst (λ (z : Sent). MayStillCome session (λ s. records_in s new.sites) z (knew_at x)) same
             (still_may_come stands old new w (λ s. records_in s new.sites) stays session (record { instance = who; site = p.0; op = p.1 }) (knew_at x) (sent_before x p is)),
@@ -364,7 +364,7 @@ module _ {R : Type 0} (stands : R → Standing) (old new : WorldView R) (w : IsS
 
   none_sent : (o : Option (SiteId × Op)) (k : Knowledge) → sent_of who o ≡ None → sends_by o k ≡ nothing_known
   none_sent None k is = refl
-  none_sent (Some p) k is = absurd (no_some _ (sym is))
+  none_sent (Some p) k is = absurd (none-some _ (sym is))
 
   unsent_now : (m x : ℕ) → late_at m x new.lives ≡ None → (m ≡ session) ⊎ (m ≢ session) → knows_then (Sending m x) ≡ nothing_known
   unsent_now m x is (inl same) = knows_here m x same ∙ none_sent (wanted x) (knew_at x) (sym (late_at_it m x same) ∙ is)
@@ -380,9 +380,9 @@ module _ {R : Type 0} (stands : R → Standing) (old new : WorldView R) (w : IsS
 
   looks_sent : (x y : ℕ) → x ≢ y → (z : Sent) (o : Option (SiteId × Op)) → wanted x ≡ o → sent_of who o ≡ Some z → (r : Records)
       → MayAct z.site r who who (sends_by o (knew_at x)) (knows_sent y) z.op
-  looks_sent x y differ z None is sent r = absurd (no_some z sent)
+  looks_sent x y differ z None is sent r = absurd (none-some z sent)
   looks_sent x y differ z (Some p) is sent r =
-      subst (λ (v : Sent). MayAct v.site r who who (knew_at x) (knows_sent y) v.op) (some_same _ z sent)
+      subst (λ (v : Sent). MayAct v.site r who who (knew_at x) (knows_sent y) v.op) (same_Some _ z sent)
       (unless_sent (λ j. MayAct p.0 r who who (knew_at x) j p.1) (wanted y) (knew_at y) (unknown_looks p.0 r who who (knew_at x) nothing_known (λ image. refl) p.1)
       (looks_by x y p.0 p.1 differ (wanted_at (λ slot. op_wanted stands slot c) 65 x p is) r (actor_at stands y c)))
 

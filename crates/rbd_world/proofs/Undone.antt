@@ -1,5 +1,6 @@
 -- A step that is refused memory leaves a sound world sound.
 use Rattle.std.proofs.Common.{◌≡◌, ◌≤◌, ◌<◌, ℕ, List, length, is_some, Option, Some, None, refl, sym, ap, ◌∙◌, subst}
+use Rattle.std.proofs.lemmas.Option.{none-some, same_Some}
 use Rattle.rbd_client.specs.declared.slot_state.Way.{Way}
 use Rattle.rbd_client.specs.Client.{ClientView, state_in}
 use Rattle.rbd_client.specs.Feeding.{IsClientAlike}
@@ -22,7 +23,6 @@ use Rattle.rbd_session.specs.declared.running.Occupant.TheVariants as occupant
 use Rattle.rbd_session.specs.declared.running.Running.{Running}
 use Rattle.rbd_session.specs.Advance.{IsSameStand}
 use Rattle.rbd_session.specs.Session.{IsAlikeIn, held_in, running_at, running_in, script_line}
-use Rattle.rbd_session.proofs.Sound.{no_some, some_same}
 use Rattle.rbd_site.specs.InForm.{AreInForm}
 use Rattle.rbd_world.specs.declared.sites.Sites.{Sites}
 use Rattle.rbd_world.specs.Owing.{IsUnhindered, owed_in}
@@ -129,14 +129,14 @@ module _ {R : Type 0} (stands : R → Standing) where
   -- of one that is there, or of none
   alike_if : (P : ClientView R → Type 0) (o n : Option (ClientView R)) → IsClientAlikeIf stands o n → IsSoundIf stands n
       → ((c d : ClientView R) → o ≡ Some c → IsClientAlike stands c d → IsSoundClient stands d → P d) → (d : ClientView R) → n ≡ Some d → P d
-  alike_if P None n alike sound goes d is = absurd (no_some d (sym alike ∙ is))
+  alike_if P None n alike sound goes d is = absurd (none-some d (sym alike ∙ is))
   alike_if P (Some c) None alike sound goes d is = absurd alike
-  alike_if P (Some c) (Some e) alike sound goes d is = subst P (some_same e d is) (goes c e refl alike sound)
+  alike_if P (Some c) (Some e) alike sound goes d is = subst P (same_Some e d is) (goes c e refl alike sound)
 
   same_none : (o n : Option (ClientView R)) → IsClientAlikeIf stands o n → n ≡ None → o ≡ None
   same_none None n alike none = refl
   same_none (Some c) None alike none = absurd alike
-  same_none (Some c) (Some d) alike none = absurd (no_some d (sym none))
+  same_none (Some c) (Some d) alike none = absurd (none-some d (sym none))
 
   same_line : (slot : ℕ) (o n : Option (ClientView R)) → IsClientAlikeIf stands o n → script_line (held_of slot (session_of n)) ≡ script_line (held_of slot (session_of o))
   same_line slot None n alike = ap (λ c. script_line (held_of slot (session_of c))) alike
@@ -173,21 +173,21 @@ module _ {R : Type 0} (stands : R → Standing) where
   }
     where
       latest : (o n : Option (ClientView R)) → l.running ≡ o → IsClientAlikeIf stands o n → (d : ClientView R) → n ≡ Some d → d.session.instance ≡ m.latest
-      latest None n was same d is = absurd (no_some d (sym same ∙ is))
+      latest None n was same d is = absurd (none-some d (sym same ∙ is))
       latest (Some c) None was same d is = absurd same
       latest (Some c) (Some e) was same d is =
-          ap (λ (v : ClientView R). v.session.instance) (sym (some_same e d is)) ∙ same.session.instance ∙ lives.latest c was ∙ sym alike.latest
+          ap (λ (v : ClientView R). v.session.instance) (sym (same_Some e d is)) ∙ same.session.instance ∙ lives.latest c was ∙ sym alike.latest
 
       older : (v : LateView) → l.late ≡ Some v → (o n : Option (ClientView R)) → l.running ≡ o → IsClientAlikeIf stands o n → (d : ClientView R) → n ≡ Some d → v.instance.life < m.latest.life
-      older v late None n was same d is = absurd (no_some d (sym same ∙ is))
+      older v late None n was same d is = absurd (none-some d (sym same ∙ is))
       older v late (Some c) None was same d is = absurd same
       older v late (Some c) (Some e) was same d is = subst (λ (i : Instance). v.instance.life < i.life) (sym alike.latest) (lives.older v late c was)
 
   lives_if : (run : List Happening) (home : SiteId) (session : ℕ) (o n : Option (LivesView R)) → IsAlikeOf stands o n → ((l : LivesView R) → o ≡ Some l → AreLivesOf run home session l)
       → (m : LivesView R) → n ≡ Some m → AreLivesOf run home session m
-  lives_if run home session None n alike old m is = absurd (no_some m (sym alike ∙ is))
+  lives_if run home session None n alike old m is = absurd (none-some m (sym alike ∙ is))
   lives_if run home session (Some l) None alike old m is = absurd alike
-  lives_if run home session (Some l) (Some k) alike old m is = subst (AreLivesOf run home session) (some_same k m is) (alike_lives run home session l k alike (old l refl))
+  lives_if run home session (Some l) (Some k) alike old m is = subst (AreLivesOf run home session) (same_Some k m is) (alike_lives run home session l k alike (old l refl))
 
   -- ---- the world
 

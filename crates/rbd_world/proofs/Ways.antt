@@ -2,6 +2,7 @@
 -- is none of its own, where its way begins and goes on, and where it goes on itself.
 use Rattle.std.proofs.Common.{◌≡◌, ◌⊎◌, inl, inr, ℕ, ◌==◌, ◌||◌, cond, Bool, true, false, List, [], ◌∷◌, ◌++◌, Option, Some, None, is_some, refl, sym, ap, ◌∙◌, subst}
 use Rattle.std.proofs.lemmas.Bool.{true≢false}
+use Rattle.std.proofs.lemmas.Option.{none-some, same_Some}
 use Rattle.rbd_client.specs.declared.actor.Actor.TheVariants as actor
 use Rattle.rbd_client.specs.declared.slot_state.SlotState.{SlotState}
 use Rattle.rbd_client.specs.declared.slot_state.Way.{Way}
@@ -57,7 +58,6 @@ use Rattle.rbd_session.specs.OnTrack.{IsOnTrack}
 use Rattle.rbd_session.specs.Session.{OfRunning, held_in, is_look_at, kind_asked, own_look_at, running_at, running_in, script_line}
 use Rattle.rbd_session.specs.Track.{course_of, line_in, place_in}
 use Rattle.rbd_session.specs.Waits.{waits}
-use Rattle.rbd_session.proofs.Sound.{no_some, some_same}
 use Rattle.rbd_world.specs.Run.{Happening, steps_of}
 use Rattle.rbd_world.specs.Sound.{IsUnderWay, KeepsToItsWay}
 use Rattle.rbd_world.specs.Ways.{AsksNext, GoesWith, IsOfRelease, IsOver, IsWayThere, TookTheLock, WasRefused}
@@ -190,7 +190,7 @@ module _ {R : Type 0} (stands : R → Standing) (slot : ℕ) (c : ClientView R) 
       nothing_yet : (steps ≡ []) ⊎ (TookTheLock steps × LooksNoMore (stands r.request).plan) → steps ≡ []
       nothing_yet (inl none) = none
       nothing_yet (inr (took, none)) =
-          absurd (looks_still a.site (stands r.request).plan (subst (λ (q : Running R). is_look_at a.site (kind_asked (stands q.request).plan) ≡ true) (some_same waiting.request r (sym waiting.runs ∙ runs)) waiting.wants) none)
+          absurd (looks_still a.site (stands r.request).plan (subst (λ (q : Running R). is_look_at a.site (kind_asked (stands q.request).plan) ≡ true) (same_Some waiting.request r (sym waiting.runs ∙ runs)) waiting.wants) none)
 
       looking : (look : Option ImageAt) → steps ≡ [] → actor_at_look look c.locks ≡ actor.Way a → IsWayThere a.site a.image steps (rest_of_acquire a end)
       looking None none is = absurd (true≢false (sym (ap is_way is)))
@@ -245,7 +245,7 @@ module _ {R : Type 0} (stands : R → Standing) (slot : ℕ) (c : ClientView R) 
   -- at its own look it is answered, and looks at no header any more
   module _ (site : SiteId) (image : ℕ) (waiting : WaitsForLook stands slot site image c.session) where
     same : waiting.request ≡ r
-    same = some_same waiting.request r (sym waiting.runs ∙ runs)
+    same = same_Some waiting.request r (sym waiting.runs ∙ runs)
 
     place_is : r.place ≡ Some (record { site = site; image = image })
     place_is = sym (ap (λ (q : Running R). q.place) same) ∙ waiting.place
@@ -261,7 +261,7 @@ module _ {R : Type 0} (stands : R → Standing) (slot : ℕ) (c : ClientView R) 
       where
         by : (b : Bool) → is_change under.begun.asked.command ≡ b → is_read under.begun.asked.command ≡ false
         by true is = changes_are_no_reads under.begun.asked.command is
-        by false is = absurd (no_some _ (sym (under.calm is).1 ∙ place_is))
+        by false is = absurd (none-some _ (sym (under.calm is).1 ∙ place_is))
 
     waits_there : is_newcomer_at (course_of slot (track_of r c.session.lines)).place ≡ false
     waits_there =

@@ -20,10 +20,10 @@ use Rattle.rbd_kinds.specs.declared.notice.Notice.{Notice}
 use Rattle.rbd_kinds.specs.declared.operation.Op.{Op}
 use Rattle.rbd_kinds.specs.declared.reply.Reply.{Reply}
 use Rattle.rbd_kinds.specs.declared.reply.Reply.TheVariants as reply
+use Rattle.rbd_kinds.specs.Instances.{same_instance}
 use Rattle.rbd_locks.specs.Locks.{heard, state_at}
 use Rattle.rbd_locks.specs.States.{blank as unknown}
 use Rattle.rbd_machine.specs.Answers.{CanGive}
-use Rattle.rbd_machine.specs.Knowledge.{same_instance}
 use Rattle.rbd_machine.specs.Label.{Label, Lock}
 use Rattle.rbd_machine.specs.Path.{at_operation}
 use Rattle.rbd_machine.specs.Plan.{Plan, Ask, Return, Goto, Standing, plan_after}

@@ -1,7 +1,7 @@
 //! A notice comes to the instance that it is for.
 ghost use Rattle.std.specs.Prelude.{◌≡◌, ℕ, Some, IfOk, OnOk, OnErr};
+ghost use Rattle.rbd_kinds.specs.Instances.{same_instance};
 ghost use Rattle.rbd_client.specs.Sound.{IsSoundClient};
-ghost use Rattle.rbd_machine.specs.Knowledge.{same_instance};
 ghost use Rattle.rbd_watch.specs.Posting.{numbered};
 ghost use Rattle.rbd_world.specs.Run.{outcome_of};
 ghost use Rattle.rbd_world.specs.Step.{Becomes, DoesToLives, IsSoundIf, LivesOn, delivered, heard_by};

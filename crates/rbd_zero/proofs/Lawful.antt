@@ -9,6 +9,7 @@ use Rattle.rbd_kinds.specs.declared.id.SiteId.{SiteId}
 use Rattle.rbd_kinds.specs.declared.operation.Op.{Op}
 use Rattle.rbd_kinds.specs.Parts.{parts_len}
 use Rattle.rbd_kinds.specs.Striping.{IsLayout, byte_at, offset_of}
+use Rattle.rbd_kinds.proofs.Images.{at_itself}
 use Rattle.rbd_header.specs.Header.{context_of}
 use Rattle.rbd_layout.specs.declared.types.Piece.{Piece}
 use Rattle.rbd_machine.specs.Knowledge.{Knowledge, MapsKnown, ObjectsKnown, is_absent, is_raised, learned, maps_of, marked, objects_of, removed, states_set, with_maps, with_objects}
@@ -17,7 +18,7 @@ use Rattle.rbd_machine.specs.Lawful.{IsLawful}
 use Rattle.rbd_machine.specs.Permits.{HasState, HasTurn, IsOutside, Permits}
 use Rattle.rbd_machine.specs.Plan.{Plan}
 use Rattle.rbd_machine.specs.Steps.{on_done, own}
-use Rattle.rbd_machine.proofs.Lawful.{at_itself, lawful_on_done}
+use Rattle.rbd_machine.proofs.Lawful.{lawful_on_done}
 use Rattle.rbd_zero.specs.Full.{cut_bytes, full_by, full_piece, replaced, replaced_by, writing_full}
 use Rattle.rbd_zero.specs.Known.{IsOwn, IsPieceOf, OwnsObject, known_behind}
 use Rattle.rbd_zero.specs.Operations.{data_empty, data_remove, data_write_full, data_zero, map_set}

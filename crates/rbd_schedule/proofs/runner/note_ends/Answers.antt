@@ -1,17 +1,17 @@
 use Rattle.std.proofs.Common.{◌≡◌, ℕ, ◌||◌, Bool, true, false, take, refl, sym, ap, ◌∙◌}
 use Rattle.std.proofs.lemmas.List.{take_all}
 use Rattle.std.proofs.lemmas.List.Folds.{list_any_more}
+use Rattle.std.proofs.Math.Bool.{or-false}
+use Rattle.rbd_kinds.proofs.Plain.{eqb_flip}
 use Rattle.rbd_flat.specs.declared.entry.Entry.{Entry}
 use Rattle.rbd_flat.specs.declared.entry.Entry.TheVariants as entry
 use Rattle.rbd_schedule.specs.Playing.{ended_by, has_line, is_one_of}
 use Rattle.rbd_schedule.specs.Starts.{is_end_of, is_ended}
 use Rattle.rbd_schedule.proofs.runner.note_ends.Goals as goal
-use Rattle.rbd_world.proofs.Runs.{or_false}
-use Rattle.rbd_site.proofs.OneChange.{eqb_swapped}
 
 ends_it : (line : ℕ) (e : Entry) → is_one_of line (ended_by e) ≡ is_end_of line e
-ends_it line (entry.Reply other reply) = eqb_swapped other line
-ends_it line (entry.Lost other) = eqb_swapped other line
+ends_it line (entry.Reply other reply) = eqb_flip other line
+ends_it line (entry.Lost other) = eqb_flip other line
 ends_it line _ = refl
 
 or_more : (a b c : Bool) → ((a || b) || c) ≡ (a || (b || c))
@@ -19,7 +19,7 @@ or_more true b c = refl
 or_more false b c = refl
 
 pub loop-entry-init : goal.loop-entry-init
-loop-entry-init c = λ line. sym (or_false (has_line line c.args.over.now))
+loop-entry-init c = λ line. sym (or-false (has_line line c.args.over.now))
 
 pub loop-entry-preserved : goal.loop-entry-preserved
 loop-entry-preserved c = λ line.

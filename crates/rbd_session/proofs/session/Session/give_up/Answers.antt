@@ -1,5 +1,6 @@
 use Rattle.std.proofs.Common.{◌≡◌, Some, sym, ap, ◌∙◌}
 use Rattle.std.specs.Option.{option_map}
+use Rattle.std.proofs.lemmas.Option.{same_Some}
 use Rattle.rbd_line.specs.Line.{member_of, without}
 use Rattle.rbd_session.specs.declared.running.Running.{Running}
 use Rattle.rbd_session.specs.Lines.{lines_of}
@@ -7,7 +8,6 @@ use Rattle.rbd_session.specs.Session.{SessionView, held_in, running_in, running_
 use Rattle.rbd_session.specs.Track.{changed_at}
 use Rattle.rbd_session.proofs.Alike.{changes_lines}
 use Rattle.rbd_session.proofs.GivenUp.{leaves_others, given_up}
-use Rattle.rbd_session.proofs.Sound.{some_same}
 use Rattle.rbd_session.proofs.session.Session.give_up.Goals as goal
 
 -- the session before, the request that runs there, and the lines that it left
@@ -30,7 +30,7 @@ invariant_of-self g c =
 pub returns-clause-left : goal.returns-clause-left
 returns-clause-left g c = λ r is.
     left g c
-    ∙ ap (λ (q : Running _). changed_at q.place (without c.args.slot) (lines_of c.self.inside.lines)) (some_same c.in-Some.running.now r (sym (runs g c) ∙ ap (running_at c.args.slot) c.self.view_is ∙ is))
+    ∙ ap (λ (q : Running _). changed_at q.place (without c.args.slot) (lines_of c.self.inside.lines)) (same_Some c.in-Some.running.now r (sym (runs g c) ∙ ap (running_at c.args.slot) c.self.view_is ∙ is))
     ∙ ap (λ (v : SessionView _). changed_at r.place (without c.args.slot) (lines_of v.lines)) c.self.view_is
 
 pub returns-clause-lines : goal.returns-clause-lines
