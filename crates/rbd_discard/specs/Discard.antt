@@ -1,27 +1,28 @@
 -- `discard`: a change that goes beside writes, object by object.
-use Rattle.std.specs.Prelude.{◌≡◌, ℕ, List, [], ◌∷◌, Bool, true, false, Some, None}
+use Rattle.std.specs.Prelude.{ℕ, List, [], ◌∷◌, Bool, true, false, Option}
 use Rattle.rbd_kinds.specs.declared.sharing.Sharing.TheVariants as sharing
 use Rattle.rbd_kinds.specs.declared.answer.Answer.{Answer}
-use Rattle.rbd_kinds.specs.declared.answer.Answer.TheVariants as answer
 use Rattle.rbd_commands.specs.declared.command.Command.{Command}
 use Rattle.rbd_commands.specs.declared.command.Command.TheVariants as command
 use Rattle.rbd_kinds.specs.declared.header.HeaderView.{HeaderView}
 use Rattle.rbd_kinds.specs.declared.id.SiteId.{SiteId}
+use Rattle.rbd_kinds.specs.declared.journal.Event.{Event}
 use Rattle.rbd_kinds.specs.declared.journal.Event.TheVariants as event
 use Rattle.rbd_kinds.specs.declared.layout.Extent.{Extent}
+use Rattle.rbd_commands.specs.declared.refusal.Refusal.{Refusal}
 use Rattle.rbd_commands.specs.declared.refusal.Refusal.TheVariants as refusal
 use Rattle.rbd_layout.specs.Pieces.{pieces_of}
 use Rattle.rbd_layout.specs.declared.types.Piece.{Piece}
-use Rattle.rbd_machine.specs.Approach.{rest_of, owning_at}
 use Rattle.rbd_machine.specs.Plan.{Plan, Await, Note}
-use Rattle.rbd_machine.specs.Steps.{refused, change, applied}
+use Rattle.rbd_machine.specs.Steps.{TellsDone, refused, change, applied}
 use Rattle.rbd_machine.specs.Wait as wait
+use Rattle.rbd_change.specs.Extent as of_extent
+use Rattle.rbd_change.specs.Extent.{in_turn}
+use Rattle.rbd_change.specs.declared.extent_request.ExtentRequest.{ExtentRequest}
 use Rattle.rbd_meaning.specs.Writes.{write_refuses}
 use Rattle.rbd_zero.specs.Zero.{zero_piece, rest_of_zero}
-use Rattle.rbd_zero.specs.declared.zero_piece.ZeroPiece.{ZeroPiece}
-use Rattle.rbd_discard.specs.declared.discard.DiscardRequest.{DiscardRequest}
-use Rattle.rbd_discard.specs.declared.discard.Stage.{Stage}
-use Rattle.rbd_discard.specs.declared.discard.Stage.TheVariants as stage
+use Rattle.rbd_discard.specs.declared.discard.DiscardChange.{DiscardChange}
+use Rattle.rbd_discard.specs.declared.discard.DiscardTurn.{DiscardTurn}
 
 -- the commands that it serves
 abbrev pub is_discard : Command → Bool
@@ -44,32 +45,41 @@ abbrev pub discard_plan : SiteId → Command → Plan
 discard_plan site (command.Discard image at len) = discard site image (record { at = at; len = len })
 discard_plan site _ = refused refusal.NoImage
 
--- ---- where it stands
+-- ---- its change: what it refuses, its event, and what it does then
+
+abbrev pub refuses_of : DiscardChange → HeaderView → Option Refusal
+refuses_of d = write_refuses d.extent
+
+abbrev pub event_of : DiscardChange → Event
+event_of d = event.Discard d.extent.at d.extent.len
+
+abbrev pub does : DiscardChange → SiteId → (image : ℕ) → HeaderView → Plan
+does d site = zero site d.extent
+
+-- ---- its pieces
+
+abbrev pub rest_of_piece : DiscardTurn → (next : Plan) → Plan
+rest_of_piece t next = rest_of_zero t.piece next
+
+abbrev pub object_of : DiscardTurn → ℕ
+object_of t = t.piece.piece.object
+
+abbrev pub TellsPiece : DiscardTurn → Answer → Type 0
+TellsPiece t = TellsDone
+
+abbrev pub IsPieceReady : DiscardTurn → Answer → Type 0
+IsPieceReady t a = Unit {0}
 
 -- the pieces that are left
-abbrev pub rest_of_pieces : List ZeroPiece → (next : Plan) → Plan
-rest_of_pieces [] next = next
-rest_of_pieces (z ∷ pieces) next = Await (wait.Turn z.piece.object) (rest_of_zero z (rest_of_pieces pieces next))
+abbrev pub rest_of_pieces : List DiscardTurn → (next : Plan) → Plan
+rest_of_pieces pieces next = in_turn rest_of_piece object_of pieces next
 
-abbrev pub rest_at : Stage → DiscardRequest → Plan
-rest_at stage.Approaching d = rest_of d.approach (write_refuses d.extent) (zero d.site d.extent)
-rest_at (stage.Noting image) d = Note d.site image (event.Discard d.extent.at d.extent.len) (rest_of_pieces d.pieces.items (applied d.site image))
-rest_at (stage.Waiting image) d = rest_of_pieces d.pieces.items (applied d.site image)
-rest_at (stage.Zeroing image piece) d = rest_of_zero piece (rest_of_pieces d.pieces.items (applied d.site image))
+-- ---- the request
 
--- what is left of it
-abbrev pub rest_of_request : DiscardRequest → Plan
-rest_of_request d = rest_at d.stage d
+-- what is left of one
+abbrev pub rest_of_request : ExtentRequest DiscardChange DiscardTurn → Plan
+rest_of_request d = of_extent.rest_of_extent refuses_of event_of does rest_of_piece object_of d
 
--- ---- the memory that an answer needs: at the own look, the pieces
-
-abbrev pub HasPieces : DiscardRequest → HeaderView → Type 0
-HasPieces d h = (image : ℕ) → owning_at d.approach.stage ≡ Some image → write_refuses d.extent h ≡ None
-    → rest_of_pieces d.pieces.items (applied d.site image) ≡ zero_pieces d.site image h (pieces_of h.layout d.extent) (applied d.site image)
-
-abbrev pub IsReadyAt : Stage → DiscardRequest → Answer → Type 0
-IsReadyAt stage.Approaching d (answer.Header h) = HasPieces d h
-IsReadyAt _ d _ = Unit {0}
-
-abbrev pub IsReady : DiscardRequest → Answer → Type 0
-IsReady d a = IsReadyAt d.stage d a
+-- the memory that an answer needs
+abbrev pub IsReady : ExtentRequest DiscardChange DiscardTurn → Answer → Type 0
+IsReady d a = of_extent.IsReady refuses_of event_of does rest_of_piece object_of IsPieceReady d a

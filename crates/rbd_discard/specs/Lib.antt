@@ -1,2 +1,2 @@
 pub mod Discard
-pub mod Owning
+pub mod PieceLaws

@@ -3,7 +3,7 @@
 //!
 //! ```text
 //! // discard disk 4000 4192: the end of object 0, and all of object 1, of 4096 bytes each
-//! let mut request = DiscardRequest::new(alloc, SiteId::A, command);
+//! let mut request = discard_request(alloc, SiteId::A, command);
 //! loop {
 //!     request.wants()              // dir-find, to join the line, header-get, the lock,
 //!                                  // header-get, its event noted,
@@ -39,8 +39,8 @@
 //!
 //! The request meets the contract of `Machine` in `rbd_machine`: it says of each step that it is
 //! the next of a *plan*, a tree of steps. `specs/Discard.antt` has the plan: what a discard does at
-//! its own look (`zero`), the whole (`discard`), what is left of it at each stage (`rest_at`), and
-//! for which answers it has the memory (`IsReady`). What it refuses, and what its replies mean,
+//! its own look (`zero`), the whole (`discard`), what is left of it (`rest_of_request`), and for
+//! which answers it has the memory (`IsReady`). What it refuses, and what its replies mean,
 //! stands in `rbd_meaning`. [`laws`] says what such a plan comes to: a discard is done only when
 //! each of its pieces became zeros by its own look, its turns are those at the objects of its
 //! pieces, its replies are meant, and how many operations it has. Where it is refused behind its
@@ -56,18 +56,18 @@
 //! that it touches. The snapshot context is one for all pieces.
 //!
 //! Memory is taken by `next` and `ready`, and these may be refused it without a change.
-//! [`DiscardRequest::new`], `wants`, `event` and `feed` take none.
+//! [`discard_request`], `wants`, `event` and `feed` take none.
 //!
 //! # How it works
 //!
-//! A [`DiscardRequest`] goes through stages: the way to its own look is `Approach` of
-//! `rbd_machine`, its refusals are those of `Range` of `rbd_request`, and each piece is a
-//! `ZeroPiece` of `rbd_zero`, in a queue. The pieces are made ready in `ready` and put beside the
-//! stage, and `feed` takes them from there.
+//! A [`DiscardRequest`] is the machine `ExtentRequest` of `rbd_change`, with a [`DiscardChange`].
+//! That is refused as a write of its range is (`range_refusal` of `rbd_request`), and each of its
+//! pieces, a [`DiscardTurn`], is a `ZeroPiece` of `rbd_zero`. The pieces are made ready in `ready`
+//! and put beside the stage, and `feed` takes them from there.
 #![tactic(auto)]
 
 mod discard;
 pub mod laws;
 mod pieces;
 
-pub use discard::DiscardRequest;
+pub use discard::{DiscardChange, DiscardRequest, DiscardTurn, discard_request};

@@ -8,6 +8,7 @@ ghost use Rattle.rbd_meaning.specs.Range.{out_of_range};
 ghost use Rattle.rbd_zero.specs.Zero as of_zero;
 ghost use Rattle.rbd_discard.specs.Discard as of_discard;
 
+use crate::discard::DiscardTurn;
 use rbd_header::context_of;
 use rbd_kinds::{Extent, HeaderView, ImageAt, NoMemory, SnapContext, TryClone};
 use rbd_layout::{Piece, pieces};
@@ -21,7 +22,7 @@ pub fn zero_pieces(
     target: ImageAt,
     header: &HeaderView,
     extent: &Extent,
-) -> Result<VecDeque<ZeroPiece>, NoMemory>
+) -> Result<VecDeque<DiscardTurn>, NoMemory>
     requires form { IsHeaderInForm header.now }
     requires fits { out_of_range extent.now header.now.size ≡ None }
     ensures { IfOk result (λ made. (next : Plan) → of_discard.rest_of_pieces made.items next
@@ -43,13 +44,14 @@ fn zero_piece(
     header: &HeaderView,
     context: &SnapContext,
     piece: Piece,
-) -> Result<ZeroPiece, NoMemory>
+) -> Result<DiscardTurn, NoMemory>
     requires form { IsHeaderInForm header.now }
     requires head { of_zero.IsOfHead header.now piece.object }
     requires context { context.now ≡ of_header.context_of header.now }
-    ensures plan { IfOk result (λ z. (next : Plan) → of_zero.rest_of_zero z next ≡ of_zero.zero_piece target.site target.image header.now piece next) }
-    ensures object { IfOk result (λ z. z.piece.object ≡ piece.object) }
+    ensures plan { IfOk result (λ z. (next : Plan) → of_discard.rest_of_piece z next ≡ of_zero.zero_piece target.site target.image header.now piece next) }
+    ensures object { IfOk result (λ z. of_discard.object_of z ≡ piece.object) }
 {
     let context = context.try_clone()?;
-    ZeroPiece::under(alloc, target.site, target.image, header, context, piece)
+    let piece = ZeroPiece::under(alloc, target.site, target.image, header, context, piece)?;
+    Ok(DiscardTurn { piece })
 }

@@ -1,3 +1,4 @@
+pub mod PieceLaws
 pub mod Read
 pub mod Seen
 pub mod Write

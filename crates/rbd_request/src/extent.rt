@@ -4,21 +4,14 @@ ghost use Rattle.rbd_meaning.specs.Range.{out_of_range as is_out_of_range};
 ghost use Rattle.rbd_meaning.specs.Writes.{write_refuses};
 
 use rbd_kinds::{Extent, HeaderView, Refusal};
-use rbd_machine::{Refuses, non_primary};
+use rbd_machine::non_primary;
 
-/// A range of an image's bytes that a client changes. A header refuses it with NonPrimary, where
-/// the image is a secondary, and with BadRange, where the range doesn't fit into the size.
-#[derive(Debug, Drop)]
-pub struct Range {
-    pub extent: Extent,
-}
-
-impl Refuses for Range {
-    ghost refuses = { λ r. write_refuses r.extent };
-
-    fn refusal(&self, header: &HeaderView) -> Option<Refusal> {
-        non_primary(header.role).or(out_of_range(&self.extent, header.size))
-    }
+/// Why a header refuses that a client changes a range of an image's bytes: NonPrimary, where the
+/// image is a secondary, and BadRange, where the range doesn't fit into the size.
+pub fn range_refusal(extent: &Extent, header: &HeaderView) -> Option<Refusal>
+    ensures { result ≡ write_refuses extent.now header.now }
+{
+    non_primary(header.role).or(out_of_range(extent, header.size))
 }
 
 /// BadRange, where the extent doesn't fit into a size.

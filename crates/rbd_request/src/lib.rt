@@ -2,7 +2,7 @@
 //! nothing themselves: whoever holds one does what it wants, and feeds it what came of it.
 //!
 //! ```text
-//! let mut request = WriteRequest::new(alloc, SiteId::A, command)?;    // write disk 4094 hello
+//! let mut request = write_request(alloc, SiteId::A, command)?;        // write disk 4094 hello
 //! loop {
 //!     request.wants()              // dir-find, to join the line, header-get, the lock, header-get, its event noted,
 //!                                  // its turn at object 0, map-set, data-write,
@@ -40,9 +40,9 @@
 //! Both requests meet the contract of `Machine` in `rbd_machine`: it says of each step that it is
 //! the next of a *plan*, a tree of steps, and the definitions here are the plans. They are read in
 //! this order. `specs/Write.antt`: what a write does at its own look (`put`), the whole (`write`),
-//! and what is left of it at each stage (`rest_at`). `specs/Seen.antt`: what a read keeps of the
-//! header, and the bytes that it shows (`shown`). `specs/Read.antt`: a pass over the objects
-//! between two looks (`pass`), its closing look (`on_closing`), and where it stands (`rest_at`).
+//! and what is left of it (`rest_of_request`). `specs/Seen.antt`: what a read keeps of the header,
+//! and the bytes that it shows (`shown`). `specs/Read.antt`: a pass over the objects between two
+//! looks (`pass`), its closing look (`on_closing`), and where it stands (`rest_at`).
 //! What they refuse, and what their replies mean, stands in `rbd_meaning`. [`laws`] says what such
 //! plans come to: a write is done only when each of its pieces was written by its own look and
 //! behind its object's state, its turns are those at the objects of its pieces, ascending, a read
@@ -60,15 +60,15 @@
 //! snapshot context is one for all pieces. Those of a read are copied once from the answers to
 //! behind one another, and once into the reply, in the order of the image.
 //!
-//! Memory is taken by [`WriteRequest::new`], `next`, `event` and `ready`, and these may be refused
-//! it without a change. [`ReadRequest::new`], `wants` and `feed` take none.
+//! Memory is taken by [`write_request`], `next`, `event` and `ready`, and these may be refused it
+//! without a change. [`ReadRequest::new`], `wants` and `feed` take none.
 //!
 //! # How it works
 //!
-//! A [`WriteRequest`] goes through stages: the way to its own look is `Approach` of `rbd_machine`,
-//! and each piece a `WritePiece` of `rbd_piece`, in a queue. A [`ReadRequest`] goes through stages
-//! too, and its reading is a `Gather` of `rbd_piece`. What an answer needs is made ready in `ready`
-//! and put beside the stage, and `feed` takes it from there.
+//! A [`WriteRequest`] is the machine `ExtentRequest` of `rbd_change`, with a [`WriteChange`], and
+//! each of its pieces, a [`WriteTurn`], is a `WritePiece` of `rbd_piece`. A [`ReadRequest`] goes
+//! through stages of its own, and its reading is a `Gather` of `rbd_piece`. What an answer needs is
+//! made ready in `ready` and put beside the stage, and `feed` takes it from there.
 #![tactic(auto)]
 
 mod arrange;
@@ -79,6 +79,6 @@ mod pieces;
 mod read;
 mod write;
 
-pub use extent::Range;
+pub use extent::range_refusal;
 pub use read::ReadRequest;
-pub use write::WriteRequest;
+pub use write::{WriteChange, WriteRequest, WriteTurn, write_request};

@@ -7,9 +7,10 @@ ghost use Rattle.rbd_header.specs.Header.{context_of as told_context};
 ghost use Rattle.rbd_parts.specs.Parts.{AreBehind, bytes_for as bytes_of_parts};
 ghost use Rattle.rbd_machine.specs.Plan.{Plan};
 ghost use Rattle.rbd_meaning.specs.Range.{extent_at, out_of_range};
-ghost use Rattle.rbd_piece.specs.Write.{write_piece as piece_of_write, rest_of_write};
+ghost use Rattle.rbd_piece.specs.Write.{write_piece as piece_of_write};
 ghost use Rattle.rbd_request.specs.Write as of_write;
 
+use crate::write::WriteTurn;
 use rbd_header::context_of;
 use rbd_kinds::{Bytes, Extent, HeaderView, ImageAt, NoMemory, SnapContext, TryClone};
 use rbd_layout::{Piece, pieces};
@@ -25,7 +26,7 @@ pub fn write_pieces(
     header: &HeaderView,
     at: u64,
     bytes: &Bytes,
-) -> Result<VecDeque<WritePiece>, NoMemory>
+) -> Result<VecDeque<WriteTurn>, NoMemory>
     requires form { IsHeaderInForm header.now }
     requires fits { out_of_range (extent_at at bytes.now) header.now.size ≡ None }
     ensures { IfOk result (λ made. (next : Plan) → of_write.rest_of_pieces made.items next
@@ -52,18 +53,14 @@ fn write_piece(
     at: u64,
     bytes: &Bytes,
     piece: Piece,
-) -> Result<WritePiece, NoMemory>
+) -> Result<WriteTurn, NoMemory>
     requires { AreBehind at piece.parts }
     ensures plan { IfOk result (λ w. (header : of_header.HeaderView) (next : Plan) → context.now ≡ told_context header
-        → rest_of_write w next ≡ piece_of_write target.site target.image header piece (bytes_of_parts piece.parts at bytes.now) next) }
-    ensures object { IfOk result (λ w. w.piece.object ≡ piece.object) }
+        → of_write.rest_of_piece w next ≡ piece_of_write target.site target.image header piece (bytes_of_parts piece.parts at bytes.now) next) }
+    ensures object { IfOk result (λ w. of_write.object_of w ≡ piece.object) }
 {
     let bytes = bytes_for(alloc, bytes, at, piece.parts.as_slice())?;
-    Ok(WritePiece::new(
-        target.site,
-        target.image,
-        context.try_clone()?,
-        piece,
-        bytes,
-    ))
+    let context = context.try_clone()?;
+    let piece = WritePiece::new(target.site, target.image, context, piece, bytes);
+    Ok(WriteTurn { piece })
 }

@@ -15,7 +15,7 @@ use std::alloc::Global;
 /// does what the request in it does.
 ///
 /// ```text
-/// let request = WriteRequest::new(alloc, SiteId::A, command)?;
+/// let request = write_request(alloc, SiteId::A, command)?;
 /// let mut request: SessionRequest<Follower> = SessionRequest::Write(request);
 /// request.wants()       // what the write wants: an operation at site A, of the kind dir-find
 /// ```

@@ -12,11 +12,11 @@ use crate::request::SessionRequest;
 use rbd_admin::{CreateRequest, ListRequest, SnapRequest};
 use rbd_close::CloseRequest;
 use rbd_course::{Begun, Request};
-use rbd_discard::DiscardRequest;
+use rbd_discard::discard_request;
 use rbd_kinds::{Command, Extent, NoMemory};
 use rbd_machine::{Machine, Seat};
 use rbd_remove::RemoveRequest;
-use rbd_request::{ReadRequest, WriteRequest};
+use rbd_request::{ReadRequest, write_request};
 use rbd_resize::{ResizeRequest, RollbackRequest};
 use std::alloc::Global;
 
@@ -74,11 +74,11 @@ fn begin_plain<E: Machine + Drop>(
     let home = seat.home;
     match kind_of(&command) {
         Kind::Write => {
-            let request = WriteRequest::new(alloc, home, command)?;
+            let request = write_request(alloc, home, command)?;
             Ok(Begun::Asks(SessionRequest::Write(request)))
         }
         Kind::Discard => {
-            let request = DiscardRequest::new(alloc, home, command);
+            let request = discard_request(alloc, home, command);
             Ok(Begun::Asks(SessionRequest::Discard(request)))
         }
         Kind::Read => Ok(Begun::Asks(SessionRequest::Read(ReadRequest::new(home, command)))),

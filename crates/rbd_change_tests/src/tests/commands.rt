@@ -6,7 +6,7 @@ use super::drive::{Log, Scene, play};
 use super::looks::number;
 use super::removal::removing;
 use rbd_admin::ListRequest;
-use rbd_discard::DiscardRequest;
+use rbd_discard::discard_request;
 use rbd_kinds::{AskedName, Bytes, Command, NoMemory, Number, SessionNo, SiteId};
 use rbd_remove::RemoveRequest;
 use rbd_resize::{ResizeRequest, RollbackRequest};
@@ -35,7 +35,7 @@ fn play_discard(
     let (at, len) = extent.split_once(' ').unwrap_or((extent, ""));
     let (at, len) = (asked(rt, at), asked(rt, len));
     let image = name(rt, alloc, "disk")?;
-    let mut request = DiscardRequest::new(alloc, SiteId::A, Command::Discard { image, at, len });
+    let mut request = discard_request(alloc, SiteId::A, Command::Discard { image, at, len });
     let played = play(rt, alloc, &mut request, scene, log);
     drop(request);
     played

@@ -21,7 +21,7 @@ use rbd_kinds::{
     Refusal, Role, Sharing, SiteId,
 };
 use rbd_machine::Machine;
-use rbd_request::WriteRequest;
+use rbd_request::{WriteRequest, write_request};
 use std::alloc::Global;
 use std::process::Abort;
 use std::test::Fail;
@@ -42,7 +42,7 @@ fn hello(rt: &impl Abort, alloc: Global, image: AskedName) -> Result<WriteReques
 {
     let at = Number::new(4094).expect(rt, "a place");
     let bytes = Payload::new(Bytes::from_slice(alloc, b"hello")?).expect(rt, "some bytes");
-    WriteRequest::new(alloc, SiteId::A, Command::Write { image, at, bytes })
+    write_request(alloc, SiteId::A, Command::Write { image, at, bytes })
 }
 
 /// It has found its image and joined the line, not alone.
@@ -179,7 +179,7 @@ fn sevens(rt: &impl Abort, alloc: Global, image: AskedName) -> Result<WriteReque
         len: FillLength::new(3).expect(rt, "a length"),
         byte: 7,
     };
-    WriteRequest::new(alloc, SiteId::A, command)
+    write_request(alloc, SiteId::A, command)
 }
 
 /// The fill of the image of a name.

@@ -3,11 +3,11 @@ use Rattle.rbd_layout.proofs.Bounds.{few_bytes}
 use Rattle.rbd_layout.proofs.Listed.{pieces_of_alone}
 use Rattle.rbd_layout.specs.Pieces.{pieces_of}
 use Rattle.rbd_layout.specs.declared.types.Piece.{Piece}
+use Rattle.rbd_change.proofs.InTurn.{next_in_turn}
 use Rattle.rbd_request.proofs.Writes.{within_size}
-use Rattle.rbd_zero.specs.Zero.{IsOfHead}
+use Rattle.rbd_zero.specs.Zero.{IsOfHead, zero_piece}
 use Rattle.rbd_zero.proofs.Sizes.{first_of_head, pieces_of_head, rest_of_head}
-use Rattle.rbd_discard.specs.Discard.{rest_of_pieces, zero_pieces}
-use Rattle.rbd_discard.proofs.Discards.{next_made}
+use Rattle.rbd_discard.specs.Discard.{object_of, rest_of_piece, rest_of_pieces, zero_pieces}
 use Rattle.rbd_discard.proofs.pieces.zero_pieces.Goals as goal
 
 pub pieces-requires-clause-end : goal.pieces-requires-clause-end
@@ -42,7 +42,7 @@ loop-piece-preserved c =
     record {
       made = λ next.
           subst (λ made. rest_of_pieces made (zero_pieces t.site t.image h c.next.new.self.rest.items next) ≡ zero_pieces t.site t.image h (pieces_of h.layout c.args.extent.now) next) (sym c.in_ok-push_back.ensures.items)
-          (next_made t.site t.image h c.loop-piece.made.items c.in_ok-zero_piece.field-0 c.in-Some.piece c.next.new.self.rest.items next c.in_ok-zero_piece.ensures.plan c.in_ok-zero_piece.ensures.object
+          (next_in_turn rest_of_piece object_of c.loop-piece.made.items c.in_ok-zero_piece.field-0 c.in-Some.piece.object (zero_piece t.site t.image h c.in-Some.piece) (zero_pieces t.site t.image h c.next.new.self.rest.items next) c.in_ok-zero_piece.ensures.plan c.in_ok-zero_piece.ensures.object
           ∙ ap (λ pieces. rest_of_pieces c.loop-piece.made.items (zero_pieces t.site t.image h pieces next)) (sym c.in-Some.ensures.steps.0)
           ∙ c.loop-piece.invariant.made next);
       head = rest_of_head h c.in-Some.piece c.next.new.self.rest.items (subst (All (λ (p : Piece). IsOfHead h p.object)) c.in-Some.ensures.steps.0 c.loop-piece.invariant.head);

@@ -5,6 +5,6 @@ use Rattle.rbd_request.proofs.pieces.write_piece.Goals as goal
 
 pub returns-clause-plan : goal.returns-clause-plan
 returns-clause-plan c = λ header next told.
-    c.new.ensures.plan header next (c.in_ok-try_clone.ensures ∙ told)
+    c.new-piece.ensures.plan header next (c.in_ok-context.ensures ∙ told)
     ∙ ap (λ bytes. write_piece c.args.target.site c.args.target.image header c.args.piece bytes next)
     (c.in_ok-bytes.ensures ∙ ap (λ parts. bytes_for parts c.args.at c.args.bytes.now) c.as_slice.ensures)

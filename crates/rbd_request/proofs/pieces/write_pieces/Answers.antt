@@ -3,10 +3,12 @@ use Rattle.rbd_layout.proofs.Bounds.{few_bytes}
 use Rattle.rbd_layout.proofs.Listed.{pieces_of_alone}
 use Rattle.rbd_layout.specs.Pieces.{pieces_of, IsPieces}
 use Rattle.rbd_layout.specs.declared.types.Piece.{Piece}
-use Rattle.rbd_parts.specs.Parts.{AreBehind}
+use Rattle.rbd_parts.specs.Parts.{AreBehind, bytes_for}
+use Rattle.rbd_change.proofs.InTurn.{next_in_turn}
+use Rattle.rbd_piece.specs.Write.{write_piece}
 use Rattle.rbd_meaning.specs.Range.{extent_at}
-use Rattle.rbd_request.specs.Write.{rest_of_pieces, write_pieces}
-use Rattle.rbd_request.proofs.Writes.{within_size, pieces_behind, behind_first, behind_rest, next_made}
+use Rattle.rbd_request.specs.Write.{object_of, rest_of_piece, rest_of_pieces, write_pieces}
+use Rattle.rbd_request.proofs.Writes.{within_size, pieces_behind, behind_first, behind_rest}
 use Rattle.rbd_request.proofs.pieces.write_pieces.Goals as goal
 
 pub pieces-requires-clause-end : goal.pieces-requires-clause-end
@@ -35,7 +37,7 @@ loop-piece-preserved c =
     record {
       made = λ next.
           subst (λ made. rest_of_pieces made (write_pieces c.args.target.site c.args.target.image h c.args.at c.args.bytes.now c.next.new.self.rest.items next) ≡ write_pieces c.args.target.site c.args.target.image h c.args.at c.args.bytes.now (pieces_of h.layout (extent_at c.args.at c.args.bytes.now)) next) (sym c.in_ok-push_back.ensures.items)
-          (next_made c.args.target.site c.args.target.image h c.args.at c.args.bytes.now c.loop-piece.made.items c.in_ok-write_piece.field-0 c.in-Some.piece c.next.new.self.rest.items next (λ rest. c.in_ok-write_piece.ensures.plan h rest c.in_ok-context.ensures) c.in_ok-write_piece.ensures.object
+          (next_in_turn rest_of_piece object_of c.loop-piece.made.items c.in_ok-write_piece.field-0 c.in-Some.piece.object (write_piece c.args.target.site c.args.target.image h c.in-Some.piece (bytes_for c.in-Some.piece.parts c.args.at c.args.bytes.now)) (write_pieces c.args.target.site c.args.target.image h c.args.at c.args.bytes.now c.next.new.self.rest.items next) (λ rest. c.in_ok-write_piece.ensures.plan h rest c.in_ok-context.ensures) c.in_ok-write_piece.ensures.object
           ∙ ap (λ pieces. rest_of_pieces c.loop-piece.made.items (write_pieces c.args.target.site c.args.target.image h c.args.at c.args.bytes.now pieces next)) (sym c.in-Some.ensures.steps.0)
           ∙ c.loop-piece.invariant.made next);
       behind = behind_rest c.args.at c.in-Some.piece c.next.new.self.rest.items (subst (All (λ (p : Piece). AreBehind c.args.at p.parts)) c.in-Some.ensures.steps.0 c.loop-piece.invariant.behind);

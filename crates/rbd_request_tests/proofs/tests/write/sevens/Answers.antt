@@ -7,5 +7,5 @@ pub returns : goal.returns
 returns g c =
     let at : c.expect.result ≡ 0 = search rules in
     let len : c.expect-2.result ≡ 3 = search rules in
-    subst (λ n. IfOk c.new-3.result (λ w. of_write.rest_of_request w ≡ of_write.write site.A c.args.image n (replicate 3 7))) at
-    (subst (λ n. IfOk c.new-3.result (λ w. of_write.rest_of_request w ≡ of_write.write site.A c.args.image c.expect.result (replicate n 7))) len c.new-3.ensures)
+    subst (λ n. IfOk c.write_request.result (λ w. of_write.rest_of_request w ≡ of_write.write site.A c.args.image n (replicate 3 7))) at
+    (subst (λ n. IfOk c.write_request.result (λ w. of_write.rest_of_request w ≡ of_write.write site.A c.args.image c.expect.result (replicate n 7))) len c.write_request.ensures)

@@ -1,0 +1,234 @@
+//! A request that changes an image object by object beside others, and notes an event.
+ghost use Rattle.std.specs.Prelude.{◌≡◌, OnOk};
+ghost use Rattle.rbd_kinds.specs.declared.machine.Fed.TheVariants as fed_with;
+ghost use Rattle.rbd_machine.specs.Answers.{CanBeFed};
+ghost use Rattle.rbd_machine.specs.Plan.{GoesOn, Goto, plan_after, without_labels};
+ghost use Rattle.rbd_machine.specs.Ready.{IsReadyFor};
+ghost use Rattle.rbd_machine.specs.Steps as steps;
+ghost use Rattle.rbd_machine.specs.Steps.{applied};
+ghost use Rattle.rbd_change.specs.Extent.{in_turn, rest_of_extent, owning_in, IsApproaching, IsReady};
+
+use crate::extent::ExtentChange;
+use crate::part::Part;
+use crate::piece::Piece;
+use rbd_kinds::{
+    Answer, Event, Fed, ImageId, Name, NoMemory, Op, Reply, Sharing, SiteId, Turn, Want,
+};
+use rbd_machine::{Approach, Machine, Progress, Reason};
+use std::alloc::Global;
+use std::collections::VecDeque;
+use std::mem::replace;
+
+/// A request that changes an image object by object beside others, and notes an event.
+///
+/// ```text
+/// Approaching   to its own look, in the image's line   (see `Approach`)
+///    │             refused: by what the change refuses
+/// Noting        its event, in the image's journal
+///    │
+/// Acting ◀──┐   its turn at a piece's object, and then
+///    │──────┘   the piece, one operation after another
+///    │ no piece is left
+/// Applying      the event counts as applied
+///    │
+///    ▼
+/// Done
+/// ```
+///
+/// Each operation may be answered `fenced`, which ends the request with Fenced.
+#[derive(Debug, Drop)]
+pub struct ExtentRequest<C, P> {
+    site: SiteId,
+    change: C,
+    stage: Stage<P>,
+    /// The pieces that are left behind the one that it is at, once the own look told the header.
+    pieces: VecDeque<P>,
+}
+
+/// A stage of it, with its image once it is found.
+#[derive(Debug, Drop)]
+enum Stage<P> {
+    Approaching(Approach),
+    Noting(ImageId),
+    /// At a piece, and whether it has its turn at the piece's object.
+    Acting(ImageId, P, bool),
+    Applying(ImageId),
+}
+
+impl<C: ExtentChange> ExtentRequest<C, C::Piece> {
+    /// A change of the image of a name at a site, beside others in the image's line. It takes no
+    /// memory.
+    pub fn new(alloc: Global, home: SiteId, image: Name, sharing: Sharing, change: C) -> Self
+        ensures { rest_of_extent C.refuses C.noted C.does C.Piece.rest C.Piece.number result ≡ steps.change home image sharing (C.refuses change) (C.does change home) }
+    {
+        ExtentRequest {
+            site: home,
+            change,
+            stage: Stage::Approaching(Approach::new(home, image, sharing)),
+            pieces: VecDeque::new(alloc),
+        }
+    }
+
+    /// The image, where it approaches and is at its own look.
+    fn owning(&self) -> Option<ImageId>
+        ensures { result ≡ owning_in self.now.stage }
+    {
+        match &self.stage {
+            Stage::Approaching(way) => way.owning(),
+            _ => None,
+        }
+    }
+
+    /// Takes the memory for its own look: there its pieces are made.
+    fn ready_pieces(&mut self, alloc: Global, answer: &Answer) -> Result<(), NoMemory>
+        requires at { IsApproaching self.old.stage }
+        requires can { CanBeFed (rest_of_extent C.refuses C.noted C.does C.Piece.rest C.Piece.number self.old) (fed_with.Answer answer.now) }
+        ensures rest { rest_of_extent C.refuses C.noted C.does C.Piece.rest C.Piece.number self.new ≡ rest_of_extent C.refuses C.noted C.does C.Piece.rest C.Piece.number self.old }
+        ensures ready { OnOk result (IsReady C.refuses C.noted C.does C.Piece.rest C.Piece.number C.Piece.is_ready self.new answer.now) }
+    {
+        let Some(image) = self.owning() else {
+            return Ok(());
+        };
+        let Answer::Header(header) = answer else {
+            return Ok(());
+        };
+        if self.change.refusal(header).is_some() {
+            return Ok(());
+        }
+        let pieces = self.change.pieces(alloc, self.site, image, header)?;
+        self.keep(pieces);
+        Ok(())
+    }
+
+    /// Puts pieces beside the stage. What stood there is let go by a call, and not in place.
+    fn keep(&mut self, pieces: VecDeque<C::Piece>)
+        ensures { self.new ≡ record { site = self.old.site; change = self.old.change; stage = self.old.stage; pieces = pieces } }
+    {
+        drop(replace(&mut self.pieces, pieces));
+    }
+
+    /// Goes on to a stage, and lets the old one go.
+    fn go_to(&mut self, stage: Stage<C::Piece>)
+        ensures { self.new ≡ record { site = self.old.site; change = self.old.change; stage = stage; pieces = self.old.pieces } }
+    {
+        drop(replace(&mut self.stage, stage));
+    }
+
+    /// Goes on with its way to its own look, and from there.
+    fn approach(&mut self, fed: &Fed) -> Turn
+        requires at { IsApproaching self.old.stage }
+        requires can { CanBeFed (rest_of_extent C.refuses C.noted C.does C.Piece.rest C.Piece.number self.old) fed.now }
+        requires ready { IsReadyFor (IsReady C.refuses C.noted C.does C.Piece.rest C.Piece.number C.Piece.is_ready self.old) fed.now }
+        ensures { GoesOn Goto (plan_after (rest_of_extent C.refuses C.noted C.does C.Piece.rest C.Piece.number self.old) fed.now) result
+            (without_labels (rest_of_extent C.refuses C.noted C.does C.Piece.rest C.Piece.number self.new)) }
+    {
+        let Stage::Approaching(way) = &mut self.stage else {
+            unreachable!()
+        };
+        match way.feed(&self.change, fed) {
+            Progress::More => Turn::More,
+            Progress::Refused(refusal) => Turn::Done(Reply::Refused(refusal)),
+            Progress::Ended(image) => {
+                self.go_to(Stage::Noting(image));
+                Turn::More
+            }
+        }
+    }
+
+    /// Goes on with the next piece, whose turn comes first, or behind the last.
+    fn next_piece(&mut self, image: ImageId) -> Turn
+        ensures { GoesOn Goto (in_turn C.Piece.rest C.Piece.number self.old.pieces.items (applied self.old.site image)) result
+            (without_labels (rest_of_extent C.refuses C.noted C.does C.Piece.rest C.Piece.number self.new)) }
+    {
+        match self.pieces.pop_front() {
+            Some(piece) => self.go_to(Stage::Acting(image, piece, false)),
+            None => self.go_to(Stage::Applying(image)),
+        }
+        Turn::More
+    }
+}
+
+impl<C: ExtentChange> Machine for ExtentRequest<C, C::Piece> {
+    ghost stands = { λ r. without_labels (rest_of_extent C.refuses C.noted C.does C.Piece.rest C.Piece.number r) };
+
+    ghost is_ready = { IsReady C.refuses C.noted C.does C.Piece.rest C.Piece.number C.Piece.is_ready };
+
+    fn wants(&self) -> Want {
+        let site = self.site;
+        match &self.stage {
+            Stage::Approaching(way) => way.wants(),
+            Stage::Noting(image) => Want::Note {
+                site,
+                image: *image,
+            },
+            Stage::Acting(_, piece, false) => Want::Turn {
+                object: piece.object(),
+            },
+            Stage::Acting(_, piece, true) => piece.wants(),
+            Stage::Applying(image) => Want::Applied {
+                site,
+                image: *image,
+            },
+        }
+    }
+
+    fn next(&self, _alloc: Global) -> Result<Op, NoMemory> {
+        match &self.stage {
+            Stage::Approaching(way) => way.next(),
+            Stage::Noting(_) => unreachable!(),
+            Stage::Acting(_, _, false) => unreachable!(),
+            Stage::Acting(_, piece, true) => piece.next(),
+            Stage::Applying(_) => unreachable!(),
+        }
+    }
+
+    fn reason(&self) -> Reason {
+        Reason::Own
+    }
+
+    fn event(&self, _alloc: Global) -> Result<Option<Event>, NoMemory> {
+        match &self.stage {
+            Stage::Noting(_) => Ok(Some(self.change.event()?)),
+            _ => Ok(None),
+        }
+    }
+
+    fn ready(&mut self, alloc: Global, fed: &Fed) -> Result<(), NoMemory> {
+        let Fed::Answer(answer) = fed else {
+            return Ok(());
+        };
+        match &mut self.stage {
+            Stage::Approaching(_) => self.ready_pieces(alloc, answer),
+            Stage::Acting(_, piece, true) => piece.ready(alloc, answer),
+            _ => Ok(()),
+        }
+    }
+
+    fn feed(&mut self, fed: &Fed) -> Turn {
+        match &mut self.stage {
+            Stage::Approaching(_) => self.approach(fed),
+            Stage::Noting(image) => {
+                let image = *image;
+                self.next_piece(image)
+            }
+            Stage::Acting(image, piece, has_turn) => {
+                if !*has_turn {
+                    *has_turn = true;
+                    return Turn::More;
+                }
+                let Fed::Answer(answer) = fed else {
+                    unreachable!()
+                };
+                match piece.feed(answer) {
+                    Progress::More => Turn::More,
+                    Progress::Ended(()) => {
+                        let image = *image;
+                        self.next_piece(image)
+                    }
+                    Progress::Refused(refusal) => Turn::Done(Reply::Refused(refusal)),
+                }
+            }
+            Stage::Applying(_) => Turn::Done(Reply::Done),
+        }
+    }
+}
