@@ -20,41 +20,40 @@
 //! client's own.
 use crate::answers::told;
 use crate::commands::command;
+use crate::errors::RowError;
+use crate::player::Player;
 use crate::replies::is_of;
 use crate::slots::Slots;
-use crate::text::holds;
 use rbd_kinds::{Fed, ImageAt, ImageId, NoMemory, SiteId, Slot, Turn};
 use std::alloc::Global;
-use std::process::Abort;
 
-fn number(word: &str) -> u8 {
-    word.parse::<u8>().unwrap_or(0)
+/// The number that a word spells.
+fn number(word: &str) -> Result<u8, RowError> {
+    match word.parse::<u8>() {
+        Ok(number) => Ok(number),
+        Err(_) => Err(RowError::UnknownWord),
+    }
 }
 
 /// The image of this number at site A.
-fn image(word: &str) -> ImageAt {
-    ImageAt {
+fn image(word: &str) -> Result<ImageAt, RowError> {
+    let number = number(word)?;
+    Ok(ImageAt {
         site: SiteId::A,
-        image: ImageId(u32::from(number(word))),
-    }
+        image: ImageId(u32::from(number)),
+    })
 }
 
-fn is_free<S: Slots>(slots: &S, word: &str) -> bool {
-    match slots.free() {
-        Some(slot) => slot.0 == number(word),
-        None => word == "none",
+fn is_free<S: Slots>(slots: &S, word: &str) -> Result<bool, RowError> {
+    if word == "none" {
+        return Ok(slots.free().is_none());
     }
+    Ok(slots.free() == Some(Slot(number(word)?)))
 }
 
 /// Whether the command of a word takes a slot.
-fn takes<S: Slots>(
-    rt: &impl Abort,
-    alloc: Global,
-    slots: &mut S,
-    slot: Slot,
-    word: &str,
-) -> Result<bool, NoMemory> {
-    Ok(slots.take(alloc, command(rt, alloc, word)?)? == Some(slot))
+fn takes<S: Slots>(alloc: Global, slots: &mut S, slot: Slot, word: &str) -> Result<bool, RowError> {
+    Ok(slots.take(alloc, command(alloc, word)?)? == Some(slot))
 }
 
 /// Whether what a slot holds is refused before any operation, by the refusal of this word.
@@ -107,16 +106,15 @@ fn is_told<S: Slots>(
 
 /// Whether a slot does one thing, as a row says behind its number.
 fn slot_does<S: Slots>(
-    rt: &impl Abort,
     alloc: Global,
     slots: &mut S,
     slot: Slot,
     row: &str,
-) -> Result<bool, NoMemory> {
+) -> Result<bool, RowError> {
     let (word, rest) = row.split_once(' ').unwrap_or((row, ""));
     match word {
         "waits" => Ok(rest.is_empty() && slots.is_still(alloc, slot)?),
-        "takes" => takes(rt, alloc, slots, slot, rest),
+        "takes" => takes(alloc, slots, slot, rest),
         "refused" => Ok(is_refused(slots, slot, rest)),
         _ => match slots.own_row(alloc, slot, word, rest)? {
             Some(holds) => Ok(holds),
@@ -125,17 +123,26 @@ fn slot_does<S: Slots>(
     }
 }
 
+/// The first slot of a range, and the last: a range has one at least.
+fn ends_of(range: &str) -> Result<(u8, u8), RowError> {
+    let (first, last) = range.split_once('-').unwrap_or((range, range));
+    let (first, last) = (number(first)?, number(last)?);
+    if first > last {
+        return Err(RowError::UnknownWord);
+    }
+    Ok((first, last))
+}
+
 /// Whether each slot of a range does one thing, one after another.
 fn range_does<S: Slots>(
-    rt: &impl Abort,
     alloc: Global,
     slots: &mut S,
     range: &str,
     row: &str,
-) -> Result<bool, NoMemory> {
-    let (first, last) = range.split_once('-').unwrap_or((range, range));
-    for slot in number(first)..number(last).saturating_add(1) {
-        if !slot_does(rt, alloc, slots, Slot(slot), row)? {
+) -> Result<bool, RowError> {
+    let (first, last) = ends_of(range)?;
+    for slot in first..=last {
+        if !slot_does(alloc, slots, Slot(slot), row)? {
             return Ok(false);
         }
     }
@@ -144,14 +151,13 @@ fn range_does<S: Slots>(
 
 /// Whether each of some slots does one thing, one after another.
 fn list_does<S: Slots>(
-    rt: &impl Abort,
     alloc: Global,
     slots: &mut S,
     list: &str,
     row: &str,
-) -> Result<bool, NoMemory> {
+) -> Result<bool, RowError> {
     for range in list.split(',') {
-        if !range_does(rt, alloc, slots, range, row)? {
+        if !range_does(alloc, slots, range, row)? {
             return Ok(false);
         }
     }
@@ -160,88 +166,49 @@ fn list_does<S: Slots>(
 
 /// Whether some slots do several things, one after another.
 fn list_does_all<S: Slots>(
-    rt: &impl Abort,
     alloc: Global,
     slots: &mut S,
     list: &str,
     rows: &str,
-) -> Result<bool, NoMemory> {
+) -> Result<bool, RowError> {
     for row in rows.split(", ") {
-        if !list_does(rt, alloc, slots, list, row)? {
+        if !list_does(alloc, slots, list, row)? {
             return Ok(false);
         }
     }
     Ok(true)
 }
 
-fn row_holds<S: Slots>(
-    rt: &impl Abort,
-    alloc: Global,
-    slots: &mut S,
-    row: &str,
-) -> Result<bool, NoMemory> {
+/// Whether a row holds.
+fn slots_hold<S: Slots>(alloc: Global, slots: &mut S, row: &str) -> Result<bool, RowError> {
     let (word, rest) = row.split_once(' ').unwrap_or((row, ""));
     match word {
-        "free" => Ok(is_free(slots, rest)),
-        "rests" => Ok(slots.is_at_rest(&image(rest))),
-        "moves" => Ok(!slots.is_at_rest(&image(rest))),
+        "free" => is_free(slots, rest),
+        "rests" => Ok(slots.is_at_rest(&image(rest)?)),
+        "moves" => Ok(!slots.is_at_rest(&image(rest)?)),
         _ => match slots.own_row(alloc, Slot(0), word, rest)? {
             Some(holds) => Ok(holds),
-            None => list_does_all(rt, alloc, slots, word, rest),
+            None => list_does_all(alloc, slots, word, rest),
         },
     }
 }
 
-// ---- cases
+// ---- their player
 
-/// Each row of a case holds, one after another, if there is one.
-fn rows_hold<S: Slots>(rt: &impl Abort, alloc: Global, slots: &mut S, case: &str, rows: &str) {
-    if rows.is_empty() {
-        return;
-    }
-    for row in rows.split('\n') {
-        assert!(rt; holds(row_holds(rt, alloc, slots, row)), "{case}: {row}");
-    }
-}
+/// What has requests in slots plays rows. No clause says what a row means to it: rows that must not
+/// hold show that they are read.
+impl<S: Slots> Player for S {
+    ghost begun = { λ slots. Unit {0} };
 
-/// One that did what the rows of `before` say, and now does those of a case.
-fn case_holds<S: Slots + Drop>(
-    rt: &impl Abort,
-    alloc: Global,
-    before: &str,
-    case: &str,
-) -> Result<(), NoMemory> {
-    let (title, rows) = case.split_once('\n').unwrap_or((case, ""));
-    let mut slots = S::begin(alloc)?;
-    rows_hold(rt, alloc, &mut slots, title, before);
-    rows_hold(rt, alloc, &mut slots, title, rows);
-    Ok(())
-}
+    ghost holds = { λ old row new. Unit {0} };
 
-/// Each case of a text holds. Whoever plays it did before what the rows of `before` say.
-pub fn cases_hold<S: Slots + Drop>(
-    rt: &impl Abort,
-    alloc: Global,
-    before: &str,
-    cases: &str,
-) -> Result<(), NoMemory> {
-    for case in cases.split("\n\n") {
-        case_holds::<S>(rt, alloc, before, case)?;
-    }
-    Ok(())
-}
+    ghost fails = { λ old row new. Unit {0} };
 
-/// None of these rows holds, behind those of `before`.
-pub fn none_holds<S: Slots + Drop>(
-    rt: &impl Abort,
-    alloc: Global,
-    before: &str,
-    rows: &str,
-) -> Result<(), NoMemory> {
-    let mut slots = S::begin(alloc)?;
-    rows_hold(rt, alloc, &mut slots, "before", before);
-    for row in rows.split('\n') {
-        assert!(rt; !holds(row_holds(rt, alloc, &mut slots, row)), "{row}");
+    fn start(alloc: Global) -> Result<Self, NoMemory> {
+        S::begin(alloc)
     }
-    Ok(())
+
+    fn row_holds(&mut self, alloc: Global, row: &str) -> Result<bool, RowError> {
+        slots_hold(alloc, self, row)
+    }
 }

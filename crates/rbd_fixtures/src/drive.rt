@@ -2,7 +2,9 @@
 //! is fed that, up to its reply.
 //!
 //! What it may be fed is found out when a test runs, so that no proof has to know its plan.
-ghost use Rattle.std.specs.Prelude.{◌≡◌, true, false, IfOk, IfSome};
+ghost use Rattle.std.specs.Prelude.{◌≡◌, true, IfOk, IfSome};
+ghost use Rattle.rbd_fixtures.specs.declared.drive.Played.TheVariants as of_played;
+ghost use Rattle.rbd_fixtures.specs.Ends.{CameTo, Ends};
 ghost use Rattle.rbd_kinds.specs.declared.machine.Fed.TheVariants as of_fed;
 ghost use Rattle.rbd_machine.specs.Answers.{CanBeFed, CanGive};
 ghost use Rattle.rbd_machine.specs.Plan.{IsLive};
@@ -11,6 +13,17 @@ use crate::replies::reply_into;
 use rbd_kinds::{Answer, Event, Fed, NoMemory, Op, Turn, Want};
 use rbd_machine::{Machine, Reason};
 use std::alloc::Global;
+
+/// How far a machine came.
+#[derive(Clone, Copy, Debug, PartialEq, Eq)]
+pub enum Played {
+    /// It wants more.
+    More,
+    /// It ended, and its reply was written down.
+    Replied,
+    /// It wants what it can't have.
+    Stuck,
+}
 
 /// Who answers a machine.
 pub trait Answers {
@@ -79,23 +92,23 @@ fn passes<M: Machine, A: Answers>(
     }
 }
 
-/// Whether a machine has ended. Its reply is written down.
-#[tactic(auto, using(rbd_machine::proofs::Fed::fed_is_live))]
+/// Feeds a machine. Its reply is written down, where it ends by that.
+#[tactic(auto, using(crate::proofs::Ending::came_on, crate::proofs::Ending::came_to_end))]
 fn feed<M: Machine>(
     alloc: Global,
     machine: &mut M,
     fed: &Fed,
     reply: &mut String,
-) -> Result<bool, NoMemory>
+) -> Result<Played, NoMemory>
     requires { CanBeFed (M.stands machine.old).plan fed.now }
-    ensures { IfOk result (λ ended. ended ≡ false → IsLive (M.stands machine.new).plan) }
+    ensures { IfOk result (λ played. CameTo (M.stands machine.old) played (M.stands machine.new)) }
 {
     machine.ready(alloc, fed)?;
     match machine.feed(fed) {
-        Turn::More => Ok(false),
+        Turn::More => Ok(Played::More),
         Turn::Done(told) => {
             reply_into(reply, told)?;
-            Ok(true)
+            Ok(Played::Replied)
         }
     }
 }
@@ -106,25 +119,25 @@ fn answered<M: Machine>(
     machine: &mut M,
     answer: Answer,
     reply: &mut String,
-) -> Result<bool, NoMemory>
+) -> Result<Played, NoMemory>
     requires { CanBeFed (M.stands machine.old).plan (of_fed.Answer answer) }
-    ensures { IfOk result (λ ended. ended ≡ false → IsLive (M.stands machine.new).plan) }
+    ensures { IfOk result (λ played. CameTo (M.stands machine.old) played (M.stands machine.new)) }
 {
     let fed = Fed::Answer(answer);
-    let ended = feed(alloc, machine, &fed, reply);
+    let played = feed(alloc, machine, &fed, reply);
     drop(fed);
-    ended
+    played
 }
 
-/// One step of a machine, and whether it has ended, or wants what it can't have.
+/// One step of a machine. Where it wants what it can't have, `stuck` is written down.
 fn step<M: Machine, A: Answers>(
     alloc: Global,
     machine: &mut M,
     others: &mut A,
     reply: &mut String,
-) -> Result<bool, NoMemory>
+) -> Result<Played, NoMemory>
     requires { IsLive (M.stands machine.old).plan }
-    ensures { IfOk result (λ ended. ended ≡ false → IsLive (M.stands machine.new).plan) }
+    ensures { IfOk result (λ played. CameTo (M.stands machine.old) played (M.stands machine.new)) }
 {
     if passes(alloc, machine, others)? {
         return feed(alloc, machine, &Fed::Passed, reply);
@@ -133,7 +146,7 @@ fn step<M: Machine, A: Answers>(
         Some(answer) => answered(alloc, machine, answer, reply),
         None => {
             reply.push_str("stuck")?;
-            Ok(true)
+            Ok(Played::Stuck)
         }
     }
 }
@@ -146,13 +159,16 @@ pub fn play<M: Machine, A: Answers>(
     others: &mut A,
     most: u8,
     reply: &mut String,
-) -> Result<(), NoMemory>
+) -> Result<Played, NoMemory>
     requires { IsLive (M.stands machine.old).plan }
+    ensures { IfOk result (λ played. played ≡ of_played.Replied → Ends (M.stands machine.old)) }
 {
     for _ in 0..most {
-        if step(alloc, machine, others, reply)? {
-            return Ok(());
+        match step(alloc, machine, others, reply)? {
+            Played::More => {}
+            Played::Replied => return Ok(Played::Replied),
+            Played::Stuck => return Ok(Played::Stuck),
         }
     }
-    Ok(())
+    Ok(Played::More)
 }

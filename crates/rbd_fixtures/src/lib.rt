@@ -16,6 +16,8 @@
 //! | `scene` | what answers a machine by looks, and writes down what it wants |
 //! | `slots` | what has requests in slots, a session or a client |
 //! | `cases` | rows of a text for slots |
+//! | `player` | a text of cases, each of rows one after another, whoever plays them |
+//! | `errors` | why a row, or a text of rows, isn't so |
 //! | `text` | words and numbers of a row |
 #![tactic(auto)]
 
@@ -23,10 +25,12 @@ mod answers;
 mod cases;
 mod commands;
 mod drive;
+mod errors;
 mod giving;
 mod headers;
 mod looks;
 mod maps;
+mod player;
 mod replies;
 mod rows;
 mod scene;
@@ -34,13 +38,14 @@ mod slots;
 mod text;
 mod words;
 
-pub use cases::{cases_hold, none_holds};
-pub use commands::{asked, hello, name, payload};
-pub use drive::{Answers, play};
+pub use commands::{asked, fill_length, hello, name, payload, read_length};
+pub use drive::{Answers, Played, play};
+pub use errors::{CaseError, RowError};
 pub use giving::can_give;
 pub use headers::header;
+pub use player::{Player, cases_hold, none_holds};
 pub use rows::plays;
 pub use scene::Scene;
 pub use slots::Slots;
-pub use text::{behind, bytes, has, holds, number};
+pub use text::{behind, bytes, fails, has, holds, number};
 pub use words::{IMAGE, LATER, ME, OTHER, OWNER, client_into, operation_into, wait_into};

@@ -10,12 +10,13 @@
 //!
 //! An operation at the other site has `at-b` in front, one that isn't the machine's own
 //! `acquiring` or `replaying`. Behind a read or a write stands where in the image its parts lie.
-ghost use Rattle.std.specs.Prelude.{IfOk, IfSome};
+ghost use Rattle.std.specs.Prelude.{◌≡◌, true, IfOk, IfSome};
+ghost use Rattle.rbd_fixtures.specs.Ends.{Ends};
 ghost use Rattle.rbd_machine.specs.Answers.{CanGive};
 ghost use Rattle.rbd_machine.specs.Plan.{IsLive};
 
 use crate::answers::told;
-use crate::drive::{Answers, play};
+use crate::drive::{Answers, Played, play};
 use crate::giving::can_give;
 use crate::words::{event_into, operation_into, places_into, wait_into};
 use rbd_kinds::{Answer, Event, NoMemory, Op, SiteId, Want};
@@ -117,9 +118,12 @@ impl Answers for Rows<'_> {
 /// Whether a machine wants what rows say, one after another, and ends with the reply of the last.
 pub fn plays<M: Machine>(alloc: Global, machine: &mut M, rows: &str) -> Result<bool, NoMemory>
     requires { IsLive (M.stands machine.old).plan }
+    ensures { IfOk result (λ so. so ≡ true → Ends (M.stands machine.old)) }
 {
     let mut others = Rows { alloc, left: rows };
     let mut reply = String::new(alloc);
-    play(alloc, machine, &mut others, 64, &mut reply)?;
-    Ok(others.left == reply.as_str())
+    match play(alloc, machine, &mut others, 64, &mut reply)? {
+        Played::Replied => Ok(others.left == reply.as_str()),
+        _ => Ok(false),
+    }
 }

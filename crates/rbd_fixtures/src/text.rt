@@ -1,11 +1,28 @@
 //! Words and numbers of a row.
+ghost use Rattle.std.specs.Prelude.{◌≡◌, true, false, Ok};
+
 use rbd_kinds::NoMemory;
 use std::alloc::Global;
 
-/// Whether what is asked holds, and there was memory to find it out. A test asks once: each way out
-/// of a function that owns a request costs the proof seconds.
-pub fn holds(found_out: Result<bool, NoMemory>) -> bool {
-    found_out.unwrap_or(false)
+/// Whether what is asked holds, and could be found out. A test asks once: each way out of a function
+/// that owns a request costs the proof seconds.
+pub fn holds<E: Drop>(found_out: Result<bool, E>) -> bool
+    ensures { result ≡ true → found_out ≡ Ok true }
+{
+    match found_out {
+        Ok(so) => so,
+        Err(_) => false,
+    }
+}
+
+/// Whether what is asked could be found out, and doesn't hold.
+pub fn fails<E: Drop>(found_out: Result<bool, E>) -> bool
+    ensures { result ≡ true → found_out ≡ Ok false }
+{
+    match found_out {
+        Ok(so) => !so,
+        Err(_) => false,
+    }
 }
 
 /// The number that a word spells, and 0 where it spells none.

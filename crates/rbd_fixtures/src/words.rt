@@ -40,6 +40,7 @@ pub fn word_into(log: &mut String, word: &str) -> Result<(), NoMemory> {
     Ok(())
 }
 
+/// Writes a number behind a space.
 pub fn number_into(log: &mut String, number: u64) -> Result<(), NoMemory> {
     let text = format!(in *log.allocator(); " {number}")?;
     log.push_str(text.as_str())?;

@@ -6,13 +6,12 @@ ghost use Rattle.rbd_machine.specs.Plan.{IsLive};
 use super::removal::removing;
 use rbd_admin::ListRequest;
 use rbd_discard::DiscardRequest;
-use rbd_fixtures::{Scene, asked, name, play};
-use rbd_kinds::{Command, NoMemory, SessionNo, SiteId};
+use rbd_fixtures::{RowError, Scene, asked, name, play};
+use rbd_kinds::{Command, SessionNo, SiteId};
 use rbd_machine::Machine;
 use rbd_remove::RemoveRequest;
 use rbd_resize::{ResizeRequest, RollbackRequest};
 use std::alloc::Global;
-use std::process::Abort;
 
 /// Who removes.
 const ME: SessionNo = SessionNo(0);
@@ -23,65 +22,58 @@ fn played<M: Machine + Drop>(
     request: M,
     scene: &mut Scene<'_>,
     reply: &mut String,
-) -> Result<(), NoMemory>
+) -> Result<(), RowError>
     requires { IsLive (M.stands request).plan }
 {
     let mut request = request;
     let played = play(alloc, &mut request, scene, 40, reply);
     drop(request);
-    played
+    played?;
+    Ok(())
 }
 
 /// A `discard`: where it begins, and how many bytes.
 fn play_discard(
-    rt: &impl Abort,
     alloc: Global,
     extent: &str,
     scene: &mut Scene<'_>,
     reply: &mut String,
-) -> Result<(), NoMemory> {
+) -> Result<(), RowError> {
     let (at, len) = extent.split_once(' ').unwrap_or((extent, ""));
-    let (at, len) = (asked(rt, at), asked(rt, len));
-    let image = name(rt, alloc, "disk")?;
+    let (at, len) = (asked(at)?, asked(len)?);
+    let image = name(alloc, "disk")?;
     let request = DiscardRequest::new(alloc, SiteId::A, Command::Discard { image, at, len });
     played(alloc, request, scene, reply)
 }
 
 /// A `resize` to a size.
 fn play_resize(
-    rt: &impl Abort,
     alloc: Global,
     size: &str,
     scene: &mut Scene<'_>,
     reply: &mut String,
-) -> Result<(), NoMemory> {
-    let size = asked(rt, size);
-    let image = name(rt, alloc, "disk")?;
+) -> Result<(), RowError> {
+    let size = asked(size)?;
+    let image = name(alloc, "disk")?;
     let request = ResizeRequest::new(SiteId::A, Command::Resize { image, size });
     played(alloc, request, scene, reply)
 }
 
 /// A `snap rollback` to a snapshot of a name.
 fn play_rollback(
-    rt: &impl Abort,
     alloc: Global,
     snap: &str,
     scene: &mut Scene<'_>,
     reply: &mut String,
-) -> Result<(), NoMemory> {
-    let image = name(rt, alloc, "disk")?;
-    let snap = name(rt, alloc, snap)?;
+) -> Result<(), RowError> {
+    let image = name(alloc, "disk")?;
+    let snap = name(alloc, snap)?;
     let request = RollbackRequest::new(SiteId::A, Command::SnapRollback { image, snap });
     played(alloc, request, scene, reply)
 }
 
-fn play_remove(
-    rt: &impl Abort,
-    alloc: Global,
-    scene: &mut Scene<'_>,
-    reply: &mut String,
-) -> Result<(), NoMemory> {
-    let image = name(rt, alloc, "disk")?;
+fn play_remove(alloc: Global, scene: &mut Scene<'_>, reply: &mut String) -> Result<(), RowError> {
+    let image = name(alloc, "disk")?;
     let request = RemoveRequest::new(ME, SiteId::A, Command::Remove { image });
     played(alloc, request, scene, reply)
 }
@@ -92,33 +84,27 @@ fn play_listing(
     command: Command,
     scene: &mut Scene<'_>,
     reply: &mut String,
-) -> Result<(), NoMemory>
+) -> Result<(), RowError>
     requires { is_listing command ≡ true }
 {
     let request = ListRequest::new(SiteId::A, command);
     played(alloc, request, scene, reply)
 }
 
-fn play_used(
-    rt: &impl Abort,
-    alloc: Global,
-    scene: &mut Scene<'_>,
-    reply: &mut String,
-) -> Result<(), NoMemory> {
-    let image = name(rt, alloc, "disk")?;
+fn play_used(alloc: Global, scene: &mut Scene<'_>, reply: &mut String) -> Result<(), RowError> {
+    let image = name(alloc, "disk")?;
     play_listing(alloc, Command::Used { image }, scene, reply)
 }
 
 fn play_rename(
-    rt: &impl Abort,
     alloc: Global,
     names: &str,
     scene: &mut Scene<'_>,
     reply: &mut String,
-) -> Result<(), NoMemory> {
+) -> Result<(), RowError> {
     let (from, to) = names.split_once(' ').unwrap_or((names, ""));
-    let from = name(rt, alloc, from)?;
-    let to = name(rt, alloc, to)?;
+    let from = name(alloc, from)?;
+    let to = name(alloc, to)?;
     play_listing(alloc, Command::Rename { from, to }, scene, reply)
 }
 
@@ -128,7 +114,7 @@ fn play_removal(
     look: &str,
     scene: &mut Scene<'_>,
     reply: &mut String,
-) -> Result<(), NoMemory> {
+) -> Result<(), RowError> {
     let Some(request) = removing(alloc, look)? else {
         return Ok(());
     };
@@ -137,31 +123,30 @@ fn play_removal(
 
 /// Feeds the request of a command to its end. A removal alone goes by the header of a look.
 pub fn play_command(
-    rt: &impl Abort,
     alloc: Global,
     command: &str,
     look: &str,
     scene: &mut Scene<'_>,
     reply: &mut String,
-) -> Result<(), NoMemory> {
+) -> Result<(), RowError> {
     let (word, rest) = command.split_once(' ').unwrap_or((command, ""));
     if word == "discard" {
-        return play_discard(rt, alloc, rest, scene, reply);
+        return play_discard(alloc, rest, scene, reply);
     }
     if word == "resize" {
-        return play_resize(rt, alloc, rest, scene, reply);
+        return play_resize(alloc, rest, scene, reply);
     }
     if word == "rollback" {
-        return play_rollback(rt, alloc, rest, scene, reply);
+        return play_rollback(alloc, rest, scene, reply);
     }
     if word == "rm" {
-        return play_remove(rt, alloc, scene, reply);
+        return play_remove(alloc, scene, reply);
     }
     if word == "du" {
-        return play_used(rt, alloc, scene, reply);
+        return play_used(alloc, scene, reply);
     }
     if word == "rename" {
-        return play_rename(rt, alloc, rest, scene, reply);
+        return play_rename(alloc, rest, scene, reply);
     }
     play_removal(alloc, look, scene, reply)
 }

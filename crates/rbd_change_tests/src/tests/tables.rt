@@ -4,8 +4,7 @@ use super::rows::{
     ALONE, BESIDE, DISCARDS, IN_USE, PARTS, REFUSALS, REMOVALS, REMOVING, RENAMES, RESIZES,
     ROLLBACKS,
 };
-use rbd_fixtures::{Scene, holds};
-use rbd_kinds::NoMemory;
+use rbd_fixtures::{RowError, Scene, holds};
 use std::alloc::Global;
 use std::process::Abort;
 use std::test::Fail;
@@ -51,10 +50,10 @@ fn scene_of<'t>(alloc: Global, row: &Row<'t>, fenced: Option<usize>) -> Scene<'t
 // ---- what a request wants, and its reply
 
 /// Whether a request wants what a row says behind the way, and has its reply.
-fn row_holds(rt: &impl Abort, alloc: Global, way: &str, row: &Row<'_>) -> Result<bool, NoMemory> {
+fn row_holds(alloc: Global, way: &str, row: &Row<'_>) -> Result<bool, RowError> {
     let mut scene = scene_of(alloc, row, None);
     let mut reply = String::new(alloc);
-    play_command(rt, alloc, row.command, row.first, &mut scene, &mut reply)?;
+    play_command(alloc, row.command, row.first, &mut scene, &mut reply)?;
     Ok(scene.wants.as_str().strip_prefix(way) == Some(row.wants) && reply.as_str() == row.reply)
 }
 
@@ -63,15 +62,14 @@ fn row_holds(rt: &impl Abort, alloc: Global, way: &str, row: &Row<'_>) -> Result
 /// Whether a request asks for nothing behind the operation that is fenced, and asked for the same
 /// as else before: `None` where it has no such operation.
 fn is_fenced_at(
-    rt: &impl Abort,
     alloc: Global,
     row: &Row<'_>,
     at: usize,
     whole: &str,
-) -> Result<Option<bool>, NoMemory> {
+) -> Result<Option<bool>, RowError> {
     let mut scene = scene_of(alloc, row, Some(at));
     let mut reply = String::new(alloc);
-    play_command(rt, alloc, row.command, row.first, &mut scene, &mut reply)?;
+    play_command(alloc, row.command, row.first, &mut scene, &mut reply)?;
     if scene.operations <= at {
         return Ok(None);
     }
@@ -81,12 +79,12 @@ fn is_fenced_at(
 }
 
 /// Whether each operation of a row ends its request where it is fenced.
-fn fences_end_it(rt: &impl Abort, alloc: Global, row: &Row<'_>) -> Result<bool, NoMemory> {
+fn fences_end_it(alloc: Global, row: &Row<'_>) -> Result<bool, RowError> {
     let mut scene = scene_of(alloc, row, None);
     let mut reply = String::new(alloc);
-    play_command(rt, alloc, row.command, row.first, &mut scene, &mut reply)?;
+    play_command(alloc, row.command, row.first, &mut scene, &mut reply)?;
     for at in 0..scene.operations {
-        if is_fenced_at(rt, alloc, row, at, scene.wants.as_str())? != Some(true) {
+        if is_fenced_at(alloc, row, at, scene.wants.as_str())? != Some(true) {
             return Ok(false);
         }
     }
@@ -97,13 +95,13 @@ fn fences_end_it(rt: &impl Abort, alloc: Global, row: &Row<'_>) -> Result<bool, 
 
 fn table_holds(rt: &impl Abort, alloc: Global, way: &str, rows: &str) {
     for row in rows.split('\n') {
-        assert!(rt; holds(row_holds(rt, alloc, way, &row_of(row))), "{row}");
+        assert!(rt; holds(row_holds(alloc, way, &row_of(row))), "{row}");
     }
 }
 
 fn table_is_fenced(rt: &impl Abort, alloc: Global, rows: &str) {
     for row in rows.split('\n') {
-        assert!(rt; holds(fences_end_it(rt, alloc, &row_of(row))), "{row}");
+        assert!(rt; holds(fences_end_it(alloc, &row_of(row))), "{row}");
     }
 }
 

@@ -44,7 +44,7 @@ free 1";
 
 #[test]
 fn asked_before_it_owns(rt: HostRuntime) -> Result<(), Fail> {
-    cases_hold::<Tested>(&rt, rt.alloc(), "", NEW)?;
+    cases_hold::<Tested>(rt.alloc(), "", NEW)?;
     Ok(())
 }
 
@@ -227,6 +227,6 @@ free 1";
 
 #[test]
 fn a_lock_is_let_go_when_it_may_be(rt: HostRuntime) -> Result<(), Fail> {
-    cases_hold::<Tested>(&rt, rt.alloc(), OWNS, OWNERS)?;
+    cases_hold::<Tested>(rt.alloc(), OWNS, OWNERS)?;
     Ok(())
 }

@@ -27,7 +27,7 @@ free 1
 
 #[test]
 fn closes_without_the_lock(rt: HostRuntime) -> Result<(), Fail> {
-    cases_hold::<Tested>(&rt, rt.alloc(), "", NEW)?;
+    cases_hold::<Tested>(rt.alloc(), "", NEW)?;
     Ok(())
 }
 
@@ -107,6 +107,6 @@ free 1";
 
 #[test]
 fn an_owner_closes(rt: HostRuntime) -> Result<(), Fail> {
-    cases_hold::<Tested>(&rt, rt.alloc(), OWNS, OWNERS)?;
+    cases_hold::<Tested>(rt.alloc(), OWNS, OWNERS)?;
     Ok(())
 }

@@ -16,7 +16,7 @@ free 1";
 
 #[test]
 fn a_quiesce_takes_the_lock(rt: HostRuntime) -> Result<(), Fail> {
-    cases_hold::<Tested>(&rt, rt.alloc(), "", NEW)?;
+    cases_hold::<Tested>(rt.alloc(), "", NEW)?;
     Ok(())
 }
 
@@ -111,6 +111,6 @@ free 1";
 
 #[test]
 fn changes_are_held_back(rt: HostRuntime) -> Result<(), Fail> {
-    cases_hold::<Tested>(&rt, rt.alloc(), OWNS, OWNERS)?;
+    cases_hold::<Tested>(rt.alloc(), OWNS, OWNERS)?;
     Ok(())
 }

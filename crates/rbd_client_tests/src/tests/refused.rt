@@ -93,7 +93,7 @@ rests 7";
 
 #[test]
 fn a_way_ends(rt: HostRuntime) -> Result<(), Fail> {
-    cases_hold::<Tested>(&rt, rt.alloc(), "", NEW)?;
+    cases_hold::<Tested>(rt.alloc(), "", NEW)?;
     Ok(())
 }
 
@@ -125,6 +125,6 @@ free 1";
 
 #[test]
 fn what_was_taken_is_let_go(rt: HostRuntime) -> Result<(), Fail> {
-    cases_hold::<Tested>(&rt, rt.alloc(), OWNS, OWNERS)?;
+    cases_hold::<Tested>(rt.alloc(), OWNS, OWNERS)?;
     Ok(())
 }

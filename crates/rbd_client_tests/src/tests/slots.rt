@@ -40,7 +40,7 @@ free none";
 
 #[test]
 fn slots_are_taken_and_freed(rt: HostRuntime) -> Result<(), Fail> {
-    cases_hold::<Tested>(&rt, rt.alloc(), "", NEW)?;
+    cases_hold::<Tested>(rt.alloc(), "", NEW)?;
     Ok(())
 }
 
@@ -70,6 +70,6 @@ heard hello
 
 #[test]
 fn a_row_that_is_not_so_does_not_hold(rt: HostRuntime) -> Result<(), Fail> {
-    none_holds::<Tested>(&rt, rt.alloc(), "1 takes write-0", NOT_SO)?;
+    none_holds::<Tested>(rt.alloc(), "1 takes write-0", NOT_SO)?;
     Ok(())
 }

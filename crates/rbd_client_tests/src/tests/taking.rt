@@ -118,7 +118,7 @@ free 1
 
 #[test]
 fn ways_to_a_lock(rt: HostRuntime) -> Result<(), Fail> {
-    cases_hold::<Tested>(&rt, rt.alloc(), "", NEW)?;
+    cases_hold::<Tested>(rt.alloc(), "", NEW)?;
     Ok(())
 }
 
@@ -134,6 +134,6 @@ free 1
 
 #[test]
 fn an_owner_takes_it_no_more(rt: HostRuntime) -> Result<(), Fail> {
-    cases_hold::<Tested>(&rt, rt.alloc(), OWNS, OWNERS)?;
+    cases_hold::<Tested>(rt.alloc(), OWNS, OWNERS)?;
     Ok(())
 }

@@ -20,8 +20,8 @@ ghost use Rattle.rbd_machine.specs.Plan.{IsLive};
 
 use super::site::{HERE, Site, instance};
 use rbd_close::CloseRequest;
-use rbd_fixtures::{IMAGE, behind, has, hello, holds, name, number, play};
-use rbd_kinds::{Command, NoMemory};
+use rbd_fixtures::{IMAGE, RowError, behind, has, hello, holds, name, number, play};
+use rbd_kinds::Command;
 use rbd_machine::Reason;
 use rbd_owner::{Acquire, Release};
 use std::alloc::Global;
@@ -29,14 +29,16 @@ use std::process::Abort;
 
 // ---- requests
 
-fn take(alloc: Global, watched: bool, site: &mut Site, end: &mut String) -> Result<(), NoMemory> {
+fn take(alloc: Global, watched: bool, site: &mut Site, end: &mut String) -> Result<(), RowError> {
     let mut way = Acquire::new(HERE, IMAGE, watched);
-    play(alloc, &mut way, site, 20, end)
+    play(alloc, &mut way, site, 20, end)?;
+    Ok(())
 }
 
-fn release(alloc: Global, site: &mut Site, end: &mut String) -> Result<(), NoMemory> {
+fn release(alloc: Global, site: &mut Site, end: &mut String) -> Result<(), RowError> {
     let mut release = Release::new(HERE, IMAGE);
-    play(alloc, &mut release, site, 20, end)
+    play(alloc, &mut release, site, 20, end)?;
+    Ok(())
 }
 
 #[tactic(auto, using(crate::proofs::Live::close_is_live))]
@@ -52,53 +54,45 @@ fn command(
     command: Command,
     site: &mut Site,
     end: &mut String,
-) -> Result<(), NoMemory>
+) -> Result<(), RowError>
     requires { is_close command ≡ true }
 {
     let mut request = made(command);
     let played = play(alloc, &mut request, site, 20, end);
     drop(request);
-    played
+    played?;
+    Ok(())
 }
 
 /// A `tell` of `hello`.
-fn tell(rt: &impl Abort, alloc: Global, site: &mut Site, end: &mut String) -> Result<(), NoMemory> {
-    let bytes = hello(rt, alloc)?;
-    let image = name(rt, alloc, "disk")?;
+fn tell(alloc: Global, site: &mut Site, end: &mut String) -> Result<(), RowError> {
+    let bytes = hello(alloc)?;
+    let image = name(alloc, "disk")?;
     command(alloc, Command::Tell { image, bytes }, site, end)
 }
 
 /// The request of a command that has the image `disk` alone.
-fn of_name(
-    rt: &impl Abort,
-    alloc: Global,
-    word: &str,
-    site: &mut Site,
-    end: &mut String,
-) -> Result<(), NoMemory> {
-    let image = name(rt, alloc, "disk")?;
+fn of_name(alloc: Global, word: &str, site: &mut Site, end: &mut String) -> Result<(), RowError> {
+    let image = name(alloc, "disk")?;
     match word {
         "close" => command(alloc, Command::Close { image }, site, end),
         "quiesce" => command(alloc, Command::Quiesce { image }, site, end),
         "resume" => command(alloc, Command::Resume { image }, site, end),
-        _ => panic!(rt; "no request has the word {word}"),
+        _ => {
+            drop(image);
+            Err(RowError::UnknownWord)
+        }
     }
 }
 
 /// Plays the request of a word at a site, 20 steps at most, and writes down its reply.
-fn play_at(
-    rt: &impl Abort,
-    alloc: Global,
-    word: &str,
-    site: &mut Site,
-    end: &mut String,
-) -> Result<(), NoMemory> {
+fn play_at(alloc: Global, word: &str, site: &mut Site, end: &mut String) -> Result<(), RowError> {
     match word {
         "take" => take(alloc, false, site, end),
         "take-watching" => take(alloc, true, site, end),
         "release" => release(alloc, site, end),
-        "tell" => tell(rt, alloc, site, end),
-        _ => of_name(rt, alloc, word, site, end),
+        "tell" => tell(alloc, site, end),
+        _ => of_name(alloc, word, site, end),
     }
 }
 
@@ -144,15 +138,14 @@ fn reason_of(request: &str) -> Reason {
 }
 
 fn ends(
-    rt: &impl Abort,
     alloc: Global,
     request: &str,
     site: &mut Site,
     end: &str,
     did: &str,
-) -> Result<bool, NoMemory> {
+) -> Result<bool, RowError> {
     let mut reply = String::new(alloc);
-    play_at(rt, alloc, request, site, &mut reply)?;
+    play_at(alloc, request, site, &mut reply)?;
     let did_so = did.is_empty() || site.log.as_str() == did;
     Ok(did_so && has_ended(site, reply.as_str(), end))
 }
@@ -172,18 +165,18 @@ fn part<'t>(rest: &mut &'t str) -> &'t str {
     part
 }
 
-fn row_holds(rt: &impl Abort, alloc: Global, row: &str) -> Result<bool, NoMemory> {
+fn row_holds(alloc: Global, row: &str) -> Result<bool, RowError> {
     let mut rest = row;
     let request = part(&mut rest);
     let words = words_of(part(&mut rest));
     let end = part(&mut rest);
     let mut site = Site::new(alloc, reason_of(request), words);
-    ends(rt, alloc, request, &mut site, end, rest)
+    ends(alloc, request, &mut site, end, rest)
 }
 
 /// Each row of a table holds.
 pub fn table_holds(rt: &impl Abort, alloc: Global, rows: &str) {
     for row in rows.split('\n') {
-        assert!(rt; holds(row_holds(rt, alloc, row)), "{row}");
+        assert!(rt; holds(row_holds(alloc, row)), "{row}");
     }
 }

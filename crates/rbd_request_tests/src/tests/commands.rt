@@ -5,8 +5,10 @@
 ghost use Rattle.rbd_machine.specs.Plan.{IsLive};
 
 use rbd_admin::{CreateRequest, ListRequest, SnapRequest};
-use rbd_fixtures::{asked, holds, name, number, payload, plays};
-use rbd_kinds::{AskedName, Command, FillLength, NoMemory, Number, ReadLength, Shape, SiteId};
+use rbd_fixtures::{
+    RowError, asked, fails, fill_length, holds, name, number, payload, plays, read_length,
+};
+use rbd_kinds::{AskedName, Command, Number, Shape, SiteId};
 use rbd_machine::Machine;
 use rbd_request::{ReadRequest, WriteRequest};
 use std::alloc::Global;
@@ -18,34 +20,34 @@ fn parted(text: &str) -> (&str, &str) {
 }
 
 /// Whether a request wants what the rows say. It goes with the call.
-fn played<M: Machine + Drop>(alloc: Global, request: M, rows: &str) -> Result<bool, NoMemory>
+fn played<M: Machine + Drop>(alloc: Global, request: M, rows: &str) -> Result<bool, RowError>
     requires { IsLive (M.stands request).plan }
 {
     let mut request = request;
     let played = plays(alloc, &mut request, rows);
     drop(request);
-    played
+    Ok(played?)
 }
 
 // ---- bytes
 
 /// `write 4094 hello`
-fn write(rt: &impl Abort, alloc: Global, words: &str, rows: &str) -> Result<bool, NoMemory> {
+fn write(alloc: Global, words: &str, rows: &str) -> Result<bool, RowError> {
     let (at, text) = parted(words);
-    let at = asked(rt, at);
-    let image = name(rt, alloc, "disk")?;
-    let bytes = payload(rt, alloc, text)?;
+    let at = asked(at)?;
+    let image = name(alloc, "disk")?;
+    let bytes = payload(alloc, text)?;
     let request = WriteRequest::new(alloc, SiteId::A, Command::Write { image, at, bytes })?;
     played(alloc, request, rows)
 }
 
 /// `fill 0 3`: so many bytes of 7.
-fn fill(rt: &impl Abort, alloc: Global, words: &str, rows: &str) -> Result<bool, NoMemory> {
+fn fill(alloc: Global, words: &str, rows: &str) -> Result<bool, RowError> {
     let (at, len) = parted(words);
     let command = Command::Fill {
-        image: name(rt, alloc, "disk")?,
-        at: asked(rt, at),
-        len: FillLength::new(number(len)).expect(rt, "a length"),
+        image: name(alloc, "disk")?,
+        at: asked(at)?,
+        len: fill_length(number(len))?,
         byte: 7,
     };
     let request = WriteRequest::new(alloc, SiteId::A, command)?;
@@ -53,21 +55,21 @@ fn fill(rt: &impl Abort, alloc: Global, words: &str, rows: &str) -> Result<bool,
 }
 
 /// The snapshot of this name, and the head where there is none.
-fn snap_of(rt: &impl Abort, alloc: Global, text: &str) -> Result<Option<AskedName>, NoMemory> {
+fn snap_of(alloc: Global, text: &str) -> Result<Option<AskedName>, RowError> {
     if text.is_empty() {
         return Ok(None);
     }
-    Ok(Some(name(rt, alloc, text)?))
+    Ok(Some(name(alloc, text)?))
 }
 
 /// `read 4094 5`, and `read 4094 5 first` of a snapshot.
-fn read(rt: &impl Abort, alloc: Global, words: &str, rows: &str) -> Result<bool, NoMemory> {
+fn read(alloc: Global, words: &str, rows: &str) -> Result<bool, RowError> {
     let (at, rest) = parted(words);
     let (len, snap) = parted(rest);
-    let at = asked(rt, at);
-    let len = ReadLength::new(number(len)).expect(rt, "a length");
-    let image = name(rt, alloc, "disk")?;
-    let snap = snap_of(rt, alloc, snap)?;
+    let at = asked(at)?;
+    let len = read_length(number(len))?;
+    let image = name(alloc, "disk")?;
+    let snap = snap_of(alloc, snap)?;
     let command = Command::Read {
         image,
         snap,
@@ -82,11 +84,11 @@ fn read(rt: &impl Abort, alloc: Global, words: &str, rows: &str) -> Result<bool,
 
 /// `create 4096`, and `create 4096 4097` with objects of so many bytes. A request that is refused
 /// before any operation has its refusal as the only row.
-fn create(rt: &impl Abort, alloc: Global, words: &str, rows: &str) -> Result<bool, NoMemory> {
+fn create(alloc: Global, words: &str, rows: &str) -> Result<bool, RowError> {
     let (size, object) = parted(words);
     let command = Command::Create {
-        image: name(rt, alloc, "disk")?,
-        size: asked(rt, size),
+        image: name(alloc, "disk")?,
+        size: asked(size)?,
         shape: Shape {
             object: Number::new(number(object)).filter(|_| !object.is_empty()),
             unit: None,
@@ -105,30 +107,30 @@ fn create(rt: &impl Abort, alloc: Global, words: &str, rows: &str) -> Result<boo
 }
 
 /// `ls`
-fn list(alloc: Global, rows: &str) -> Result<bool, NoMemory> {
+fn list(alloc: Global, rows: &str) -> Result<bool, RowError> {
     let request = ListRequest::new(SiteId::A, Command::List);
     played(alloc, request, rows)
 }
 
 /// `info`
-fn info(rt: &impl Abort, alloc: Global, rows: &str) -> Result<bool, NoMemory> {
-    let image = name(rt, alloc, "disk")?;
+fn info(alloc: Global, rows: &str) -> Result<bool, RowError> {
+    let image = name(alloc, "disk")?;
     let request = ListRequest::new(SiteId::A, Command::Info { image });
     played(alloc, request, rows)
 }
 
 /// `snap-create first`
-fn snap_create(rt: &impl Abort, alloc: Global, snap: &str, rows: &str) -> Result<bool, NoMemory> {
-    let image = name(rt, alloc, "disk")?;
-    let snap = name(rt, alloc, snap)?;
+fn snap_create(alloc: Global, snap: &str, rows: &str) -> Result<bool, RowError> {
+    let image = name(alloc, "disk")?;
+    let snap = name(alloc, snap)?;
     let request = SnapRequest::new(SiteId::A, Command::SnapCreate { image, snap });
     played(alloc, request, rows)
 }
 
 /// `snap-rm first`
-fn snap_remove(rt: &impl Abort, alloc: Global, snap: &str, rows: &str) -> Result<bool, NoMemory> {
-    let image = name(rt, alloc, "disk")?;
-    let snap = name(rt, alloc, snap)?;
+fn snap_remove(alloc: Global, snap: &str, rows: &str) -> Result<bool, RowError> {
+    let image = name(alloc, "disk")?;
+    let snap = name(alloc, snap)?;
     let request = SnapRequest::new(SiteId::A, Command::SnapRemove { image, snap });
     played(alloc, request, rows)
 }
@@ -136,17 +138,17 @@ fn snap_remove(rt: &impl Abort, alloc: Global, snap: &str, rows: &str) -> Result
 // ---- cases
 
 /// Whether the request of a command, of the image `disk`, wants what the rows say.
-fn play(rt: &impl Abort, alloc: Global, command: &str, rows: &str) -> Result<bool, NoMemory> {
+fn play(alloc: Global, command: &str, rows: &str) -> Result<bool, RowError> {
     let (word, rest) = parted(command);
     match word {
-        "write" => write(rt, alloc, rest, rows),
-        "fill" => fill(rt, alloc, rest, rows),
-        "read" => read(rt, alloc, rest, rows),
-        "create" => create(rt, alloc, rest, rows),
+        "write" => write(alloc, rest, rows),
+        "fill" => fill(alloc, rest, rows),
+        "read" => read(alloc, rest, rows),
+        "create" => create(alloc, rest, rows),
         "ls" => list(alloc, rows),
-        "info" => info(rt, alloc, rows),
-        "snap-create" => snap_create(rt, alloc, rest, rows),
-        "snap-rm" => snap_remove(rt, alloc, rest, rows),
+        "info" => info(alloc, rows),
+        "snap-create" => snap_create(alloc, rest, rows),
+        "snap-rm" => snap_remove(alloc, rest, rows),
         _ => Ok(false),
     }
 }
@@ -161,7 +163,7 @@ pub fn cases_hold(rt: &impl Abort, alloc: Global, cases: &str) {
     for case in cases.split("\n\n") {
         let (title, rest) = first_row(case);
         let (command, rows) = first_row(rest);
-        assert!(rt; holds(play(rt, alloc, command, rows)), "{title}");
+        assert!(rt; holds(play(alloc, command, rows)), "{title}");
     }
 }
 
@@ -225,6 +227,6 @@ fn a_case_that_is_not_so_does_not_hold(rt: HostRuntime) {
     for case in NOT_SO.split("\n\n") {
         let (title, rest) = first_row(case);
         let (command, rows) = first_row(rest);
-        assert!(rt; !holds(play(&rt, rt.alloc(), command, rows)), "{title}");
+        assert!(rt; fails(play(rt.alloc(), command, rows)), "{title}");
     }
 }

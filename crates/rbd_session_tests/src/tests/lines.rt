@@ -220,6 +220,6 @@ free 1";
 
 #[test]
 fn who_waits_for_whom(rt: HostRuntime) -> Result<(), Fail> {
-    cases_hold::<Tested>(&rt, rt.alloc(), "", CASES)?;
+    cases_hold::<Tested>(rt.alloc(), "", CASES)?;
     Ok(())
 }

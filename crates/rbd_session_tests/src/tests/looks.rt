@@ -93,6 +93,6 @@ free 1";
 
 #[test]
 fn own_looks_and_rest(rt: HostRuntime) -> Result<(), Fail> {
-    cases_hold::<Tested>(&rt, rt.alloc(), "", CASES)?;
+    cases_hold::<Tested>(rt.alloc(), "", CASES)?;
     Ok(())
 }

@@ -4,7 +4,7 @@ ghost use Rattle.rbd_kinds.specs.Form.{IsHeaderInForm};
 ghost use Rattle.rbd_machine.specs.Plan.{IsLive};
 ghost use Rattle.rbd_zero.specs.Zero.{IsOfHead};
 
-use rbd_fixtures::{IMAGE, Scene, bytes, header, holds, number, play};
+use rbd_fixtures::{IMAGE, Played, Scene, bytes, header, holds, number, play};
 use rbd_kinds::{Bytes, Extent, HeaderView, NoMemory, SiteId};
 use rbd_layout::{Piece, keeps_limits, pieces, place};
 use rbd_machine::Machine;
@@ -37,8 +37,8 @@ fn is_done<M: Machine>(alloc: Global, part: &mut M, scene: &mut Scene<'_>) -> Re
     requires { IsLive (M.stands part.old).plan }
 {
     let mut reply = String::new(alloc);
-    play(alloc, part, scene, 20, &mut reply)?;
-    Ok(reply.as_str() == "done")
+    let played = play(alloc, part, scene, 20, &mut reply)?;
+    Ok(played == Played::Replied && reply.as_str() == "done")
 }
 
 /// Whether a piece is one of the head.
