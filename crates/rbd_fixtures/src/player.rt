@@ -1,8 +1,8 @@
 //! What plays a text of cases: a paragraph for each, with what is tested in its first line, and a
 //! row in each further one. Whoever plays a case is new, and did before what other rows say.
 //!
-//! What a row says, and to whom, is the player's own. That no row is passed over, and none behind
-//! one that doesn't hold is played, is proved here for any player.
+//! What a row says, and to whom, is the player's own. That no row of a text is passed over where
+//! the answer is that all of them hold, or that none does, is proved here for any player.
 ghost use Rattle.std.specs.Prelude.{◌≡◌, true, false, ℕ, List, IfOk};
 ghost use Rattle.std.specs.List.{FoldsTo};
 ghost use Rattle.rbd_fixtures.specs.Cases.{Cases, HoldsBehind, FailsBehind, all_rows, rows_behind, rows_of};
