@@ -3,8 +3,8 @@
 //!
 //! They stand apart from the crates that they test, since a crate that has tests is proved twice.
 //! The tables were worked out by hand, from the rules in words. A row has a command, what the two
-//! looks at the image tell, what the request wants, and its reply; `looks` says how a look is read,
-//! and `words` how a want is spelled.
+//! looks at the image tell, what the request wants, and its reply; `rbd_fixtures` reads a look and
+//! spells a want.
 #![tactic(auto)]
 
 #[cfg(test)]

@@ -2,9 +2,9 @@
 //! image, when a lock is let go, and who waits meanwhile. They stand apart from the crate that they
 //! test, since a crate that has tests is proved twice: once as it is, and once with its tests.
 //!
-//! Each test is a text with a row for each step, which `rows` reads and `drive` does. What a row
-//! wants was worked out from the rules in prose. The requests are those of all commands that change
-//! an image, and `close`, `quiesce`, `resume` and `tell`:
+//! Each test is a text with a paragraph for each case, which `rbd_fixtures` reads and `drive` does.
+//! What a row wants was worked out from the rules in prose. The requests are those of all commands
+//! that change an image, and `close`, `quiesce`, `resume` and `tell`:
 //!
 //! | file | subject |
 //! |---|---|

@@ -6,8 +6,5 @@ mod notices;
 mod operations;
 mod quiescing;
 mod refused;
-mod rows;
 mod slots;
 mod taking;
-mod told;
-mod work;

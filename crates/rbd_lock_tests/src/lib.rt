@@ -2,10 +2,10 @@
 //! its release (`rbd_owner`), `close`, `quiesce`, `resume` and `tell` (`rbd_close`), and what a
 //! session counts of its locks (`rbd_locks`).
 //!
-//! One site of the tests' own (`site`) answers, and writes down what it is asked (`log`). One
-//! driver (`drive`) takes each request (`asked`) from step to step, and looks whether its answers
-//! can be given. The tests are tables of what is written down then, by subject; what a session
-//! counts is told behind each step by its words (`steps`):
+//! One site of the tests' own (`site`) answers, and writes down what it is asked. The driver of
+//! `rbd_fixtures` takes each request (`asked`) from step to step, and the site looks whether its
+//! answers can be given. The tests are tables of what is written down then, by subject; what a
+//! session counts is told behind each step by its words (`steps`):
 //!
 //! | file | subject |
 //! |---|---|

@@ -1,8 +1,6 @@
 mod asked;
 mod closing;
 mod counting;
-mod drive;
-mod log;
 mod order;
 mod quiescing;
 mod releasing;

@@ -2,8 +2,9 @@
 //! requests (`piece`, `snaps`), and the requests of a client (`write`, `read`, `admin`).
 //!
 //! They stand apart from the crates that they test, since a crate that has tests is proved twice:
-//! once as it is, and once with its tests. Each request is fed by hand, by the calls of `drive`.
-//! What it has to want was worked out from its diagram, or from the rules in prose.
+//! once as it is, and once with its tests. Each request is fed rows of a text, which `rbd_fixtures`
+//! reads: all that it wants, one after another, and its reply. That was worked out from its
+//! diagram, or from the rules in prose.
 #![tactic(auto)]
 
 #[cfg(test)]

@@ -1,8 +1,6 @@
 mod admin;
-mod drive;
-mod header;
+mod commands;
 mod machine;
-mod order;
 mod piece;
 mod read;
 mod snaps;

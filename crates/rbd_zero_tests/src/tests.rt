@@ -1,3 +1,1 @@
-mod drive;
 mod tables;
-mod words;

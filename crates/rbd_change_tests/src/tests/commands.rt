@@ -1,169 +1,152 @@
 //! The requests of the commands that a row spells.
 ghost use Rattle.std.specs.Prelude.{◌≡◌, true};
 ghost use Rattle.rbd_admin.specs.Listing.{is_listing};
+ghost use Rattle.rbd_machine.specs.Plan.{IsLive};
 
-use super::drive::{Log, Scene, play};
-use super::looks::number;
 use super::removal::removing;
 use rbd_admin::ListRequest;
 use rbd_discard::discard_request;
-use rbd_kinds::{AskedName, Bytes, Command, NoMemory, Number, SessionNo, SiteId};
+use rbd_fixtures::{RowError, Scene, asked, name, play};
+use rbd_kinds::{Command, SessionNo, SiteId};
+use rbd_machine::Machine;
 use rbd_remove::RemoveRequest;
 use rbd_resize::{ResizeRequest, RollbackRequest};
 use std::alloc::Global;
-use std::process::Abort;
 
 /// Who removes.
 const ME: SessionNo = SessionNo(0);
 
-fn name(rt: &impl Abort, alloc: Global, text: &str) -> Result<AskedName, NoMemory> {
-    Ok(AskedName::parse(Bytes::from_slice(alloc, text.as_bytes())?).expect(rt, "a name"))
-}
-
-fn asked(rt: &impl Abort, word: &str) -> Number {
-    Number::new(number(word)).expect(rt, "a number")
+/// A request is fed to its end, forty steps at most. It goes with the call.
+fn played<M: Machine + Drop>(
+    alloc: Global,
+    request: M,
+    scene: &mut Scene<'_>,
+    reply: &mut String,
+) -> Result<(), RowError>
+    requires { IsLive (M.stands request).plan }
+{
+    let mut request = request;
+    let played = play(alloc, &mut request, scene, 40, reply);
+    drop(request);
+    played?;
+    Ok(())
 }
 
 /// A `discard`: where it begins, and how many bytes.
 fn play_discard(
-    rt: &impl Abort,
     alloc: Global,
     extent: &str,
-    scene: &Scene<'_>,
-    log: &mut Log,
-) -> Result<(), NoMemory> {
+    scene: &mut Scene<'_>,
+    reply: &mut String,
+) -> Result<(), RowError> {
     let (at, len) = extent.split_once(' ').unwrap_or((extent, ""));
-    let (at, len) = (asked(rt, at), asked(rt, len));
-    let image = name(rt, alloc, "disk")?;
-    let mut request = discard_request(alloc, SiteId::A, Command::Discard { image, at, len });
-    let played = play(rt, alloc, &mut request, scene, log);
-    drop(request);
-    played
+    let (at, len) = (asked(at)?, asked(len)?);
+    let image = name(alloc, "disk")?;
+    let request = discard_request(alloc, SiteId::A, Command::Discard { image, at, len });
+    played(alloc, request, scene, reply)
 }
 
 /// A `resize` to a size.
 fn play_resize(
-    rt: &impl Abort,
     alloc: Global,
     size: &str,
-    scene: &Scene<'_>,
-    log: &mut Log,
-) -> Result<(), NoMemory> {
-    let size = asked(rt, size);
-    let image = name(rt, alloc, "disk")?;
-    let mut request = ResizeRequest::new(SiteId::A, Command::Resize { image, size });
-    let played = play(rt, alloc, &mut request, scene, log);
-    drop(request);
-    played
+    scene: &mut Scene<'_>,
+    reply: &mut String,
+) -> Result<(), RowError> {
+    let size = asked(size)?;
+    let image = name(alloc, "disk")?;
+    let request = ResizeRequest::new(SiteId::A, Command::Resize { image, size });
+    played(alloc, request, scene, reply)
 }
 
 /// A `snap rollback` to a snapshot of a name.
 fn play_rollback(
-    rt: &impl Abort,
     alloc: Global,
     snap: &str,
-    scene: &Scene<'_>,
-    log: &mut Log,
-) -> Result<(), NoMemory> {
-    let image = name(rt, alloc, "disk")?;
-    let snap = name(rt, alloc, snap)?;
-    let mut request = RollbackRequest::new(SiteId::A, Command::SnapRollback { image, snap });
-    let played = play(rt, alloc, &mut request, scene, log);
-    drop(request);
-    played
+    scene: &mut Scene<'_>,
+    reply: &mut String,
+) -> Result<(), RowError> {
+    let image = name(alloc, "disk")?;
+    let snap = name(alloc, snap)?;
+    let request = RollbackRequest::new(SiteId::A, Command::SnapRollback { image, snap });
+    played(alloc, request, scene, reply)
 }
 
-fn play_remove(
-    rt: &impl Abort,
-    alloc: Global,
-    scene: &Scene<'_>,
-    log: &mut Log,
-) -> Result<(), NoMemory> {
-    let image = name(rt, alloc, "disk")?;
-    let mut request = RemoveRequest::new(ME, SiteId::A, Command::Remove { image });
-    let played = play(rt, alloc, &mut request, scene, log);
-    drop(request);
-    played
+fn play_remove(alloc: Global, scene: &mut Scene<'_>, reply: &mut String) -> Result<(), RowError> {
+    let image = name(alloc, "disk")?;
+    let request = RemoveRequest::new(ME, SiteId::A, Command::Remove { image });
+    played(alloc, request, scene, reply)
 }
 
 /// A `du`, or a `rename` from a name to another.
 fn play_listing(
-    rt: &impl Abort,
     alloc: Global,
     command: Command,
-    scene: &Scene<'_>,
-    log: &mut Log,
-) -> Result<(), NoMemory>
+    scene: &mut Scene<'_>,
+    reply: &mut String,
+) -> Result<(), RowError>
     requires { is_listing command ≡ true }
 {
-    let mut request = ListRequest::new(SiteId::A, command);
-    let played = play(rt, alloc, &mut request, scene, log);
-    drop(request);
-    played
+    let request = ListRequest::new(SiteId::A, command);
+    played(alloc, request, scene, reply)
 }
 
-fn play_used(
-    rt: &impl Abort,
-    alloc: Global,
-    scene: &Scene<'_>,
-    log: &mut Log,
-) -> Result<(), NoMemory> {
-    let image = name(rt, alloc, "disk")?;
-    play_listing(rt, alloc, Command::Used { image }, scene, log)
+fn play_used(alloc: Global, scene: &mut Scene<'_>, reply: &mut String) -> Result<(), RowError> {
+    let image = name(alloc, "disk")?;
+    play_listing(alloc, Command::Used { image }, scene, reply)
 }
 
 fn play_rename(
-    rt: &impl Abort,
     alloc: Global,
     names: &str,
-    scene: &Scene<'_>,
-    log: &mut Log,
-) -> Result<(), NoMemory> {
+    scene: &mut Scene<'_>,
+    reply: &mut String,
+) -> Result<(), RowError> {
     let (from, to) = names.split_once(' ').unwrap_or((names, ""));
-    let from = name(rt, alloc, from)?;
-    let to = name(rt, alloc, to)?;
-    play_listing(rt, alloc, Command::Rename { from, to }, scene, log)
+    let from = name(alloc, from)?;
+    let to = name(alloc, to)?;
+    play_listing(alloc, Command::Rename { from, to }, scene, reply)
 }
 
 /// The part alone, by the header of the first look.
 fn play_removal(
-    rt: &impl Abort,
     alloc: Global,
-    scene: &Scene<'_>,
-    log: &mut Log,
-) -> Result<(), NoMemory> {
-    let mut request = removing(rt, alloc, scene.first)?;
-    let played = play(rt, alloc, &mut request, scene, log);
-    drop(request);
-    played
+    look: &str,
+    scene: &mut Scene<'_>,
+    reply: &mut String,
+) -> Result<(), RowError> {
+    let Some(request) = removing(alloc, look)? else {
+        return Ok(());
+    };
+    played(alloc, request, scene, reply)
 }
 
-/// Feeds the request of a command to its end.
+/// Feeds the request of a command to its end. A removal alone goes by the header of a look.
 pub fn play_command(
-    rt: &impl Abort,
     alloc: Global,
     command: &str,
-    scene: &Scene<'_>,
-    log: &mut Log,
-) -> Result<(), NoMemory> {
+    look: &str,
+    scene: &mut Scene<'_>,
+    reply: &mut String,
+) -> Result<(), RowError> {
     let (word, rest) = command.split_once(' ').unwrap_or((command, ""));
     if word == "discard" {
-        return play_discard(rt, alloc, rest, scene, log);
+        return play_discard(alloc, rest, scene, reply);
     }
     if word == "resize" {
-        return play_resize(rt, alloc, rest, scene, log);
+        return play_resize(alloc, rest, scene, reply);
     }
     if word == "rollback" {
-        return play_rollback(rt, alloc, rest, scene, log);
+        return play_rollback(alloc, rest, scene, reply);
     }
     if word == "rm" {
-        return play_remove(rt, alloc, scene, log);
+        return play_remove(alloc, scene, reply);
     }
     if word == "du" {
-        return play_used(rt, alloc, scene, log);
+        return play_used(alloc, scene, reply);
     }
     if word == "rename" {
-        return play_rename(rt, alloc, rest, scene, log);
+        return play_rename(alloc, rest, scene, reply);
     }
-    play_removal(rt, alloc, scene, log)
+    play_removal(alloc, look, scene, reply)
 }

@@ -1,17 +1,15 @@
 //! The removal of an image alone, as a request: by a header that lists snapshots, which no `rm`
 //! removes.
-ghost use Rattle.std.specs.Prelude.{IfOk};
+ghost use Rattle.std.specs.Prelude.{IfOk, IfSome};
 ghost use Rattle.rbd_kinds.specs.declared.reply.Reply.TheVariants.{Done};
 ghost use Rattle.rbd_machine.specs.Plan.{IsLive, Return, without_labels};
 ghost use Rattle.rbd_remove.specs.Part.{rest_of_removal, IsReady};
 
-use super::looks::header;
-use super::words::IMAGE;
+use rbd_fixtures::{IMAGE, header};
 use rbd_kinds::{Event, Fed, NoMemory, Op, Reply, SiteId, Turn, Want};
 use rbd_machine::{Machine, Progress, Reason};
 use rbd_remove::Remove;
 use std::alloc::Global;
-use std::process::Abort;
 
 /// A removal, and nothing behind it.
 #[derive(Drop)]
@@ -20,12 +18,14 @@ pub struct Removal {
 }
 
 /// The removal by the header that a look tells.
-pub fn removing(rt: &impl Abort, alloc: Global, look: &str) -> Result<Removal, NoMemory>
-    ensures { IfOk result (λ r. IsLive (rest_of_removal r.part (Return Done))) }
+pub fn removing(alloc: Global, look: &str) -> Result<Option<Removal>, NoMemory>
+    ensures { IfOk result (λ made. IfSome made (λ r. IsLive (rest_of_removal r.part (Return Done)))) }
 {
-    let header = header(rt, alloc, look)?;
+    let Some(header) = header(alloc, look)? else {
+        return Ok(None);
+    };
     let part = Remove::new(alloc, SiteId::A, IMAGE, &header)?;
-    Ok(Removal { part })
+    Ok(Some(Removal { part }))
 }
 
 impl Machine for Removal {

@@ -1,11 +1,10 @@
 //! The tables of `rows`, played row by row.
 use super::commands::play_command;
-use super::drive::{Log, Scene};
 use super::rows::{
     ALONE, BESIDE, DISCARDS, IN_USE, PARTS, REFUSALS, REMOVALS, REMOVING, RENAMES, RESIZES,
     ROLLBACKS,
 };
-use rbd_kinds::NoMemory;
+use rbd_fixtures::{RowError, Scene, holds};
 use std::alloc::Global;
 use std::process::Abort;
 use std::test::Fail;
@@ -43,29 +42,19 @@ fn row_of(text: &str) -> Row<'_> {
     }
 }
 
-/// Plays a row, maybe with one of its operations fenced.
-fn play_row(
-    rt: &impl Abort,
-    alloc: Global,
-    row: &Row<'_>,
-    fenced: Option<usize>,
-    log: &mut Log,
-) -> Result<(), NoMemory> {
-    let scene = Scene {
-        first: row.first,
-        own: row.own,
-        fenced,
-    };
-    play_command(rt, alloc, row.command, &scene, log)
+/// What a row's request meets, maybe with one of its operations fenced.
+fn scene_of<'t>(alloc: Global, row: &Row<'t>, fenced: Option<usize>) -> Scene<'t> {
+    Scene::new(alloc, row.first, row.own, fenced)
 }
 
 // ---- what a request wants, and its reply
 
 /// Whether a request wants what a row says behind the way, and has its reply.
-fn row_holds(rt: &impl Abort, alloc: Global, way: &str, row: &Row<'_>) -> Result<bool, NoMemory> {
-    let mut log = Log::new(alloc);
-    play_row(rt, alloc, row, None, &mut log)?;
-    Ok(log.wants.as_str().strip_prefix(way) == Some(row.wants) && log.reply.as_str() == row.reply)
+fn row_holds(alloc: Global, way: &str, row: &Row<'_>) -> Result<bool, RowError> {
+    let mut scene = scene_of(alloc, row, None);
+    let mut reply = String::new(alloc);
+    play_command(alloc, row.command, row.first, &mut scene, &mut reply)?;
+    Ok(scene.wants.as_str().strip_prefix(way) == Some(row.wants) && reply.as_str() == row.reply)
 }
 
 // ---- fences
@@ -73,50 +62,46 @@ fn row_holds(rt: &impl Abort, alloc: Global, way: &str, row: &Row<'_>) -> Result
 /// Whether a request asks for nothing behind the operation that is fenced, and asked for the same
 /// as else before: `None` where it has no such operation.
 fn is_fenced_at(
-    rt: &impl Abort,
     alloc: Global,
     row: &Row<'_>,
     at: usize,
     whole: &str,
-) -> Result<Option<bool>, NoMemory> {
-    let mut log = Log::new(alloc);
-    play_row(rt, alloc, row, Some(at), &mut log)?;
-    if log.operations <= at {
+) -> Result<Option<bool>, RowError> {
+    let mut scene = scene_of(alloc, row, Some(at));
+    let mut reply = String::new(alloc);
+    play_command(alloc, row.command, row.first, &mut scene, &mut reply)?;
+    if scene.operations <= at {
         return Ok(None);
     }
-    let last = log.operations - 1;
-    let is_front = whole.starts_with(log.wants.as_str());
-    Ok(Some(last == at && is_front && log.reply.as_str() == "Fenced"))
+    let last = scene.operations - 1;
+    let is_front = whole.starts_with(scene.wants.as_str());
+    Ok(Some(last == at && is_front && reply.as_str() == "Fenced"))
 }
 
 /// Whether each operation of a row ends its request where it is fenced.
-fn fences_end_it(rt: &impl Abort, alloc: Global, row: &Row<'_>) -> Result<bool, NoMemory> {
-    let mut log = Log::new(alloc);
-    play_row(rt, alloc, row, None, &mut log)?;
-    for at in 0..log.operations {
-        if is_fenced_at(rt, alloc, row, at, log.wants.as_str())? != Some(true) {
+fn fences_end_it(alloc: Global, row: &Row<'_>) -> Result<bool, RowError> {
+    let mut scene = scene_of(alloc, row, None);
+    let mut reply = String::new(alloc);
+    play_command(alloc, row.command, row.first, &mut scene, &mut reply)?;
+    for at in 0..scene.operations {
+        if is_fenced_at(alloc, row, at, scene.wants.as_str())? != Some(true) {
             return Ok(false);
         }
     }
-    Ok(log.operations > 2)
+    Ok(scene.operations > 2)
 }
 
 // ---- tables
 
-/// Whether what is asked holds, and there was memory to find it out.
-fn holds(found_out: Result<bool, NoMemory>) -> bool {
-    found_out.unwrap_or(false)
-}
-
 fn table_holds(rt: &impl Abort, alloc: Global, way: &str, rows: &str) {
     for row in rows.split('\n') {
-        assert!(rt; holds(row_holds(rt, alloc, way, &row_of(row))), "{row}");
+        assert!(rt; holds(row_holds(alloc, way, &row_of(row))), "{row}");
     }
 }
 
 fn table_is_fenced(rt: &impl Abort, alloc: Global, rows: &str) {
     for row in rows.split('\n') {
-        assert!(rt; holds(fences_end_it(rt, alloc, &row_of(row))), "{row}");
+        assert!(rt; holds(fences_end_it(alloc, &row_of(row))), "{row}");
     }
 }
 

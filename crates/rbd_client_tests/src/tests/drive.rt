@@ -1,57 +1,76 @@
-//! What takes a client from step to step, and what is asked of it.
+//! A client as what has requests in slots. Its own rows, beside those of others that have slots:
+//!
+//! | row | it holds where |
+//! |---|---|
+//! | `1 line 1` | the request in slot 1 is that of line 1, which is the number of its slot |
+//! | `1 line none` | slot 1 is free |
+//! | `0 lock-drop@8 done` | at slot 0 the lock of the image 8 is dropped; other rows are of image 7 |
+//! | `hears RequestLock@8` | the client hears this notice of the image 8; other rows are of image 7 |
+//! | `heard hello there` | these words were told, one after another |
+//! | `heard nothing` | none were |
+//!
+//! That an image moves is that a request of it is past own, or has taken the lock itself.
 //!
 //! Whether who acts at a slot may go on, and wants an operation that can give an answer, is looked
 //! at when the test runs, so that no proof has to know where a request stands.
-ghost use Rattle.std.specs.Prelude.{◌≡◌, ◌≤◌, true, Some};
+ghost use Rattle.std.specs.Prelude.{◌≡◌, ◌≤◌, true, Some, IfSome};
 ghost use Rattle.rbd_client.specs.Actor.{actor_at, op_wanted};
 ghost use Rattle.rbd_client.specs.Feeding.{CanGet, IsAtRest};
+ghost use Rattle.rbd_fixtures.specs.Fit.{IsFit, IsFitFed};
 ghost use Rattle.rbd_kinds.specs.declared.machine.Fed.TheVariants as of_fed;
 ghost use Rattle.rbd_kinds.specs.declared.operation.Op.TheVariants as of_op;
-ghost use Rattle.rbd_machine.specs.Answers.{CanGive, IsHeaderToldInForm};
 
+use super::notices::{hears, was_told};
 use super::operations::is_operation;
-use super::told::BITS;
 use rbd_client::Client;
 use rbd_close::CloseRequest;
-use rbd_commands::Quiescing;
 use rbd_course::Request;
+use rbd_fixtures::{ME, Slots, can_give, number};
 use rbd_kinds::{
-    Answer, Command, Fed, HeaderOp, ImageAt, ImageId, Instance, MapOp, NoMemory, Op, Reply,
-    SessionNo, SiteId, Slot,
+    Answer, Command, Fed, HeaderOp, ImageAt, ImageId, Instance, NoMemory, Op, Reply, SiteId, Slot,
+    Turn,
 };
+use rbd_machine::Machine;
 use rbd_requests::{SessionRequest, Work, is_built};
 use std::alloc::Global;
-use std::process::Abort;
 
-/// A client of these tests. No machine is brought to it.
-pub type Tested = Client<SessionRequest<CloseRequest>>;
+/// What a client does that takes the lock of the image 7, and leaves it at rest.
+pub const OWNS: &str =
+    "1 takes write-0, dir-find id-7, header-get header, watch done, lock-take done, header-get header
+1 map-set done, data-write done done";
 
-/// Who it is.
-pub const ME: Instance = Instance {
-    session: SessionNo(1),
-    life: 0,
-};
-
-/// Another one, which has the lock where it is held, and wants it where the client is asked.
-pub const OWNER: Instance = Instance {
-    session: SessionNo(2),
-    life: 0,
-};
-
-/// A later life of that one.
-pub const LATER: Instance = Instance {
-    session: SessionNo(2),
-    life: 1,
-};
-
-/// A client at site A that has begun nothing.
-pub fn new_client(alloc: Global) -> Result<Tested, NoMemory> {
-    Client::new(alloc, ME, SiteId::A)
+/// A client. What is asked of it is proved once, for any requests: with the type of all requests
+/// in its place each function is dear.
+#[derive(Drop)]
+pub struct Played<R: Request> {
+    client: Client<R>,
 }
 
-/// Whether what is asked holds, and there was memory to find it out.
-pub fn holds(found_out: Result<bool, NoMemory>) -> bool {
-    found_out.unwrap_or(false)
+/// A client of these tests. No machine is brought to it.
+pub type Tested = Played<SessionRequest<CloseRequest>>;
+
+impl<R: Request> Played<R> {
+    /// Whether it is this instance, at this site.
+    pub fn is(&self, instance: Instance, site: SiteId) -> bool {
+        self.client.instance() == instance && self.client.home() == site
+    }
+}
+
+/// Requests that are made of commands.
+pub trait OfCommand: Request {
+    /// What the request of a command is made of, `None` where none serves it.
+    fn work(command: Command) -> Option<Self::Work>
+        ensures { IfSome result Self.serves };
+}
+
+impl<E: Machine + Drop> OfCommand for SessionRequest<E> {
+    fn work(command: Command) -> Option<Work<E>> {
+        if is_built(&command) {
+            return Some(Work::Plain(command));
+        }
+        drop(command);
+        None
+    }
 }
 
 fn has_room<R: Request>(client: &Client<R>) -> bool
@@ -60,18 +79,23 @@ fn has_room<R: Request>(client: &Client<R>) -> bool
     client.free().is_some()
 }
 
-/// The command of a line takes a slot.
-pub fn submit(
-    rt: &impl Abort,
+/// A command takes a slot, where one is free and a request serves it: that of the line of the
+/// slot's number.
+fn submit<R: OfCommand>(
     alloc: Global,
-    client: &mut Tested,
-    line: u32,
+    client: &mut Client<R>,
     command: Command,
-    quiescing: Quiescing,
-) -> Result<Slot, NoMemory> {
-    assert!(rt; has_room(client));
-    assert!(rt; is_built(&command));
-    client.submit(alloc, line, Work::Plain(command), quiescing)
+) -> Result<Option<Slot>, NoMemory> {
+    let line = u32::from(client.free().unwrap_or(Slot(0)).0);
+    if !has_room(client) {
+        drop(command);
+        return Ok(None);
+    }
+    let quiescing = command.quiescing();
+    match R::work(command) {
+        Some(work) => Ok(Some(client.submit(alloc, line, work, quiescing)?)),
+        None => Ok(None),
+    }
 }
 
 /// Whether an operation is the one of these words at the home site, and of the kind that is wanted
@@ -87,7 +111,7 @@ fn is_wanted<R: Request>(
 }
 
 /// Whether the operation of these words is wanted at a slot.
-pub fn wants<R: Request>(
+fn wants<R: Request>(
     alloc: Global,
     client: &Client<R>,
     slot: Slot,
@@ -101,16 +125,15 @@ pub fn wants<R: Request>(
     Ok(is)
 }
 
+/// Whether there is no operation. It goes with the call.
 fn is_none(op: Option<(SiteId, Op)>) -> bool {
-    op.is_none()
+    let is = op.is_none();
+    drop(op);
+    is
 }
 
 /// Whether no operation is wanted at a slot: it waits, or nothing runs in it.
-pub fn wants_none<R: Request>(
-    alloc: Global,
-    client: &Client<R>,
-    slot: Slot,
-) -> Result<bool, NoMemory> {
+fn wants_none<R: Request>(alloc: Global, client: &Client<R>, slot: Slot) -> Result<bool, NoMemory> {
     let has_none = is_none(client.next(alloc, slot)?);
     Ok(has_none && client.kind(slot).is_none())
 }
@@ -179,7 +202,7 @@ fn can_answer<R: Request>(
     op: &Op,
     answer: &Answer,
 ) -> bool
-    requires form { IsHeaderToldInForm answer.now }
+    requires form { IsFit answer.now }
     requires op { op_wanted R.stands slot client.now ≡ Some (site, op.now) }
     ensures { result ≡ true → CanGet R.stands slot client.now.session (of_fed.Answer answer.now)
         (actor_at R.stands slot client.now) }
@@ -187,57 +210,117 @@ fn can_answer<R: Request>(
     can_give(op, answer)
 }
 
-/// Whether an operation can give an answer: of a look at a map, the bits of these tests.
-fn can_give(op: &Op, answer: &Answer) -> bool
-    requires { IsHeaderToldInForm answer.now }
-    ensures { result ≡ true → CanGive op.now answer.now }
-{
-    match (op, answer) {
-        (
-            Op::Map {
-                image: _,
-                op: MapOp::Get { snap: _ },
-            },
-            Answer::Bits(bits),
-        ) => bits.as_slice() == BITS.as_slice(),
-        _ => rbd_machine::can_give(op, answer),
-    }
-}
-
-/// The operation that is wanted at a slot gives an answer. The reply of the slot's request, where
-/// that ends.
-fn give<R: Request>(
-    rt: &impl Abort,
-    alloc: Global,
-    client: &mut Client<R>,
+/// Whether what is wanted at a slot may be answered so.
+fn may_give<R: Request>(
+    client: &Client<R>,
     slot: Slot,
     site: SiteId,
     op: &Op,
-    answer: Answer,
-) -> Result<Option<Reply>, NoMemory>
-    requires form { IsHeaderToldInForm answer }
-    requires op { op_wanted R.stands slot client.old ≡ Some (site, op.now) }
+    answer: &Answer,
+) -> bool
+    requires form { IsFit answer.now }
+    requires op { op_wanted R.stands slot client.now ≡ Some (site, op.now) }
+    ensures can { result ≡ true → CanGet R.stands slot client.now.session (of_fed.Answer answer.now)
+        (actor_at R.stands slot client.now) }
+    ensures rest { result ≡ true → IsAtRest site op.now client.now }
 {
-    assert!(rt; can_answer(client, slot, site, op, &answer));
-    assert!(rt; is_at_rest(client, site, op));
-    let fed = Fed::Answer(answer);
-    feed(alloc, client, slot, site, op, &fed)
+    if !can_answer(client, slot, site, op, answer) {
+        return false;
+    }
+    is_at_rest(client, site, op)
 }
 
-/// What is wanted at a slot is answered so. The reply of the slot's request, where that ends.
-pub fn tell<R: Request>(
-    rt: &impl Abort,
+fn turn_of(reply: Option<Reply>) -> Turn {
+    match reply {
+        Some(reply) => Turn::Done(reply),
+        None => Turn::More,
+    }
+}
+
+/// What comes of an answer to what is wanted at a slot: `None` where it can't be answered so.
+fn tell<R: Request>(
     alloc: Global,
     client: &mut Client<R>,
     slot: Slot,
-    answer: Answer,
-) -> Result<Option<Reply>, NoMemory>
-    requires { IsHeaderToldInForm answer }
+    fed: &Fed,
+) -> Result<Option<Turn>, NoMemory>
+    requires { IsFitFed fed.now }
 {
-    let Some((site, op)) = client.next(alloc, slot)? else {
-        panic!(rt; "an operation is wanted")
+    let Fed::Answer(answer) = fed else {
+        return Ok(None);
     };
-    let reply = give(rt, alloc, client, slot, site, &op, answer);
+    let Some((site, op)) = client.next(alloc, slot)? else {
+        return Ok(None);
+    };
+    if !may_give(client, slot, site, &op, answer) {
+        drop(op);
+        return Ok(None);
+    }
+    let reply = feed(alloc, client, slot, site, &op, fed);
     drop(op);
-    reply
+    Ok(Some(turn_of(reply?)))
+}
+
+// ---- rows
+
+/// Whether the request in a slot is that of the line of this number.
+fn is_of_line<R: Request>(client: &Client<R>, slot: Slot, word: &str) -> bool {
+    match client.line(slot) {
+        Some(line) => u64::from(line) == number(word),
+        None => word == "none",
+    }
+}
+
+impl<R: OfCommand> Slots for Played<R> {
+    fn begin(alloc: Global) -> Result<Self, NoMemory> {
+        let client = Client::new(alloc, ME, SiteId::A)?;
+        Ok(Played { client })
+    }
+
+    fn free(&self) -> Option<Slot> {
+        self.client.free()
+    }
+
+    fn is_at_rest(&self, at: &ImageAt) -> bool {
+        self.client.is_at_rest(at)
+    }
+
+    fn wants(&self, alloc: Global, slot: Slot, words: &str) -> Result<bool, NoMemory> {
+        wants(alloc, &self.client, slot, words)
+    }
+
+    fn is_still(&self, alloc: Global, slot: Slot) -> Result<bool, NoMemory> {
+        wants_none(alloc, &self.client, slot)
+    }
+
+    fn is_left(&self, _alloc: Global, slot: Slot) -> Result<bool, NoMemory> {
+        Ok(self.client.line(slot).is_none())
+    }
+
+    fn take(&mut self, alloc: Global, command: Command) -> Result<Option<Slot>, NoMemory> {
+        submit(alloc, &mut self.client, command)
+    }
+
+    fn refuse(&mut self, slot: Slot) -> Option<Reply> {
+        self.client.refuse(slot)
+    }
+
+    fn tell(&mut self, alloc: Global, slot: Slot, fed: &Fed) -> Result<Option<Turn>, NoMemory> {
+        tell(alloc, &mut self.client, slot, fed)
+    }
+
+    fn own_row(
+        &mut self,
+        alloc: Global,
+        slot: Slot,
+        word: &str,
+        rest: &str,
+    ) -> Result<Option<bool>, NoMemory> {
+        match word {
+            "line" => Ok(Some(is_of_line(&self.client, slot, rest))),
+            "hears" => Ok(Some(hears(alloc, &mut self.client, rest)?)),
+            "heard" => Ok(Some(was_told(&self.client, rest))),
+            _ => Ok(None),
+        }
+    }
 }

@@ -1,6 +1,8 @@
 //! Notices that the client hears, and what it keeps of them.
-use super::drive::{ME, OWNER, Tested};
 use super::operations::image;
+use rbd_client::Client;
+use rbd_course::Request;
+use rbd_fixtures::{ME, OWNER};
 use rbd_kinds::{Bytes, NoMemory, Notice, NoticeKind, SiteId};
 use std::alloc::Global;
 
@@ -15,7 +17,11 @@ fn said(alloc: Global, word: &str) -> Result<NoticeKind, NoMemory> {
 
 /// The client hears a notice of the other one. Behind an `@` the number of its image, where that
 /// isn't 7.
-pub fn hears(alloc: Global, client: &mut Tested, words: &str) -> Result<bool, NoMemory> {
+pub fn hears<R: Request>(
+    alloc: Global,
+    client: &mut Client<R>,
+    words: &str,
+) -> Result<bool, NoMemory> {
     let (word, place) = words.split_once('@').unwrap_or((words, "7"));
     let notice = Notice {
         number: 1,
@@ -55,7 +61,7 @@ fn say(notices: &[Notice], words: &str) -> bool {
 }
 
 /// Whether the client was told these words, one after another, or nothing.
-pub fn was_told(client: &Tested, words: &str) -> bool {
+pub fn was_told<R: Request>(client: &Client<R>, words: &str) -> bool {
     let notices = client.heard();
     if words == "nothing" {
         return notices.is_empty();

@@ -1,11 +1,10 @@
 //! Operations by their words.
-use super::drive::OWNER;
-use super::rows::number;
+use rbd_fixtures::OWNER;
 use rbd_kinds::{DataOp, HeaderOp, ImageId, MapOp, NoticeKind, Op};
 
 /// The image of a number.
 pub fn image(word: &str) -> ImageId {
-    ImageId(u32::from(number(word)))
+    ImageId(word.parse::<u32>().unwrap_or(0))
 }
 
 /// Whether a notice that is posted has this word.

@@ -1,263 +1,116 @@
 //! `quiesce` holds changes back, and `resume` lets them go on. The image 7 has the objects 0 and 1,
 //! and so has the image 8. Most clients have the lock of the image 7 at first, and watch it.
-use super::rows::{goes_as, owner_goes_as};
+use super::drive::{OWNS, Tested};
+use rbd_fixtures::cases_hold;
 use std::test::Fail;
 
-const HELD: &str = "1 takes quiesce
-1 dir-find id-7
-1 header-get header
-1 header-get header done
-rests 7
-1 takes write-0
-1 dir-find id-7
-1 header-get header
-1 waits
-2 takes resume
-2 dir-find id-7 done
-1 header-get header
-1 map-set done
-1 data-write done done
-free 1";
-
-#[test]
-fn a_quiesce_holds_a_write_back_until_a_resume(rt: HostRuntime) -> Result<(), Fail> {
-    owner_goes_as(&rt, rt.alloc(), HELD)?;
-    Ok(())
-}
-
-const WITH_THE_LOCK: &str = "1 takes quiesce
-1 dir-find id-7
-1 header-get header
-1 watch done
-1 lock-take done
+const NEW: &str = "a quiesce takes the lock before its own look
+1 takes quiesce, dir-find id-7, header-get header, watch done, lock-take done
 moves 7
 1 header-get header done
 rests 7
-1 takes write-0
-1 dir-find id-7
-1 header-get header
-1 waits
-2 takes resume
-2 dir-find id-7 done
-1 header-get header
-1 map-set done
-1 data-write done done
+1 takes write-0, dir-find id-7, header-get header, waits
+2 takes resume, dir-find id-7 done
+1 header-get header, map-set done, data-write done done
 free 1";
 
 #[test]
-fn a_quiesce_takes_the_lock_before_its_own_look(rt: HostRuntime) -> Result<(), Fail> {
-    goes_as(&rt, rt.alloc(), WITH_THE_LOCK)?;
+fn a_quiesce_takes_the_lock(rt: HostRuntime) -> Result<(), Fail> {
+    cases_hold::<Tested>(rt.alloc(), "", NEW)?;
     Ok(())
 }
 
-const BEHIND: &str = "1 takes write-0
+const OWNERS: &str = "a quiesce holds a write back until a resume
+1 takes quiesce, dir-find id-7, header-get header, header-get header done
+rests 7
+1 takes write-0, dir-find id-7, header-get header, waits
+2 takes resume, dir-find id-7 done
+1 header-get header, map-set done, data-write done done
+free 1
+
+a quiesce waits for the writes ahead of it and holds back those behind
+1 takes write-0
 2 takes quiesce
 3 takes fill-1
-1 dir-find id-7
-2 dir-find id-7
-3 dir-find id-7
+1,2,3 dir-find id-7, header-get header
 1 header-get header
-2 header-get header
-3 header-get header
-1 header-get header
-2 waits
-3 waits
-1 map-set done
-1 data-write done done
+2,3 waits
+1 map-set done, data-write done done
 3 waits
 2 header-get header done
 3 waits
-1 takes resume
-1 dir-find id-7 done
-3 header-get header
-3 map-set done
-3 data-write done done
-free 1";
+1 takes resume, dir-find id-7 done
+3 header-get header, map-set done, data-write done done
+free 1
 
-#[test]
-fn a_quiesce_waits_for_the_writes_ahead_of_it_and_holds_back_those_behind(
-    rt: HostRuntime,
-) -> Result<(), Fail> {
-    owner_goes_as(&rt, rt.alloc(), BEHIND)?;
-    Ok(())
-}
-
-const KEPT: &str = "1 takes quiesce
-1 dir-find id-7
-1 header-get header
-1 header-get header done
+the lock of a quiesced image is kept until a resume
+1 takes quiesce, dir-find id-7, header-get header, header-get header done
 hears RequestLock
 0 waits
-1 takes write-0
-1 dir-find id-7
-1 header-get header
+1 takes write-0, dir-find id-7, header-get header, waits
+2 takes resume, dir-find id-7 done
 1 waits
-2 takes resume
-2 dir-find id-7 done
-1 waits
-0 lock-drop done
-0 notify-ReleasedLock done
-1 lock-take done
-1 header-get header
-1 map-set done
-1 data-write done done
+0 lock-drop done, notify-ReleasedLock done
+1 lock-take done, header-get header, map-set done, data-write done done
 0 waits
-free 1";
+free 1
 
-#[test]
-fn the_lock_of_a_quiesced_image_is_kept_until_a_resume(rt: HostRuntime) -> Result<(), Fail> {
-    owner_goes_as(&rt, rt.alloc(), KEPT)?;
-    Ok(())
-}
-
-const FIRST_LOOK: &str = "1 takes quiesce
-1 dir-find id-7
-1 header-get header
+no image is quiesced before the own look of a quiesce
+1 takes quiesce, dir-find id-7, header-get header
 hears RequestLock
 1 waits
-0 lock-drop done
-0 notify-ReleasedLock done
-1 lock-take done
-1 header-get header done
+0 lock-drop done, notify-ReleasedLock done
+1 lock-take done, header-get header done
 hears RequestLock
 0 waits
-free 1";
+free 1
 
-#[test]
-fn no_image_is_quiesced_before_the_own_look_of_a_quiesce(rt: HostRuntime) -> Result<(), Fail> {
-    owner_goes_as(&rt, rt.alloc(), FIRST_LOOK)?;
-    Ok(())
-}
-
-const ANOTHER_IMAGE: &str = "1 takes quiesce
-1 dir-find id-7
-1 header-get header
-1 header-get header done
-1 takes write-0
-1 dir-find id-8
-1 header-get@8 header
-1 watch@8 done
-1 lock-take@8 done
-1 header-get@8 header
-1 map-set@8 done
-1 data-write@8 done done
+a quiesce and a resume are of one image
+1 takes quiesce, dir-find id-7, header-get header, header-get header done, takes write-0
+1 dir-find id-8, header-get@8 header, watch@8 done, lock-take@8 done, header-get@8 header
+1 map-set@8 done, data-write@8 done done
 hears RequestLock
 hears RequestLock@8
-0 lock-drop@8 done
-0 notify-ReleasedLock@8 done
+0 lock-drop@8 done, notify-ReleasedLock@8 done, waits
+1 takes resume, dir-find id-8 done
 0 waits
-1 takes resume
-1 dir-find id-8 done
+1 takes write-0, dir-find id-7, header-get header, waits
+2 takes resume, dir-find id-7 done
+0 lock-drop done, notify-ReleasedLock done, waits
+
+a second quiesce waits for the end of the first
+1 takes quiesce, dir-find id-7, header-get header, header-get header done, takes quiesce
+1 dir-find id-7, header-get header, waits
+2 takes resume, dir-find id-7 done
+1 header-get header done, takes write-0, dir-find id-7, header-get header, waits
+2 takes resume, dir-find id-7 done
+1 header-get header, map-set done, data-write done done
+free 1
+
+a quiesce or a resume that finds no image changes nothing
+1 takes quiesce, dir-find id-7, header-get header, header-get none NoImage, takes write-0
+1 dir-find id-7, header-get header, header-get header, map-set done, data-write done done
+1 takes quiesce, dir-find id-7, header-get header, header-get header done, takes resume
+1 dir-find none NoImage, takes resume, dir-find fenced Fenced, takes write-0, dir-find id-7
+1 header-get header, waits
+2 takes resume, dir-find id-7 done
+1 header-get header, map-set done, data-write done done
+free 1
+
+a resume without a quiesce changes nothing
+1 takes write-0, dir-find id-7, header-get header
+2 takes resume, dir-find id-7 done
+1 header-get header, map-set done, data-write done done
 0 waits
-1 takes write-0
-1 dir-find id-7
-1 header-get header
-1 waits
-2 takes resume
-2 dir-find id-7 done
-0 lock-drop done
-0 notify-ReleasedLock done
-0 waits";
+free 1
 
-#[test]
-fn a_quiesce_and_a_resume_are_of_one_image(rt: HostRuntime) -> Result<(), Fail> {
-    owner_goes_as(&rt, rt.alloc(), ANOTHER_IMAGE)?;
-    Ok(())
-}
-
-const QUIESCED: &str = "1 takes quiesce
-1 dir-find id-7
-1 header-get header
-1 header-get header done
-1 takes quiesce
-1 dir-find id-7
-1 header-get header
-1 waits
-2 takes resume
-2 dir-find id-7 done
-1 header-get header done
-1 takes write-0
-1 dir-find id-7
-1 header-get header
-1 waits
-2 takes resume
-2 dir-find id-7 done
-1 header-get header
-1 map-set done
-1 data-write done done
+a read goes on in a quiesced image
+1 takes quiesce, dir-find id-7, header-get header, header-get header done, takes read
+1 dir-find id-7, header-get header, data-read none, header-get header bytes
 free 1";
 
 #[test]
-fn a_second_quiesce_waits_for_the_end_of_the_first(rt: HostRuntime) -> Result<(), Fail> {
-    owner_goes_as(&rt, rt.alloc(), QUIESCED)?;
-    Ok(())
-}
-
-const NOT_FOUND: &str = "1 takes quiesce
-1 dir-find id-7
-1 header-get header
-1 header-get none NoImage
-1 takes write-0
-1 dir-find id-7
-1 header-get header
-1 header-get header
-1 map-set done
-1 data-write done done
-1 takes quiesce
-1 dir-find id-7
-1 header-get header
-1 header-get header done
-1 takes resume
-1 dir-find none NoImage
-1 takes resume
-1 dir-find fenced Fenced
-1 takes write-0
-1 dir-find id-7
-1 header-get header
-1 waits
-2 takes resume
-2 dir-find id-7 done
-1 header-get header
-1 map-set done
-1 data-write done done
-free 1";
-
-#[test]
-fn a_quiesce_or_a_resume_that_finds_no_image_changes_nothing(rt: HostRuntime) -> Result<(), Fail> {
-    owner_goes_as(&rt, rt.alloc(), NOT_FOUND)?;
-    Ok(())
-}
-
-const NONE: &str = "1 takes write-0
-1 dir-find id-7
-1 header-get header
-2 takes resume
-2 dir-find id-7 done
-1 header-get header
-1 map-set done
-1 data-write done done
-0 waits
-free 1";
-
-#[test]
-fn a_resume_without_a_quiesce_changes_nothing(rt: HostRuntime) -> Result<(), Fail> {
-    owner_goes_as(&rt, rt.alloc(), NONE)?;
-    Ok(())
-}
-
-const READ: &str = "1 takes quiesce
-1 dir-find id-7
-1 header-get header
-1 header-get header done
-1 takes read
-1 dir-find id-7
-1 header-get header
-1 data-read none
-1 header-get header bytes
-free 1";
-
-#[test]
-fn a_read_goes_on_in_a_quiesced_image(rt: HostRuntime) -> Result<(), Fail> {
-    owner_goes_as(&rt, rt.alloc(), READ)?;
+fn changes_are_held_back(rt: HostRuntime) -> Result<(), Fail> {
+    cases_hold::<Tested>(rt.alloc(), OWNS, OWNERS)?;
     Ok(())
 }

@@ -1,10 +1,10 @@
 //! The way to a lock, and who goes it. The image 7 has the objects 0 and 1, and so has the image 8.
-use super::rows::{goes_as, owner_goes_as};
+use super::drive::{OWNS, Tested};
+use rbd_fixtures::cases_hold;
 use std::test::Fail;
 
-const FREE: &str = "1 takes write-0
-1 dir-find id-7
-1 header-get header
+const NEW: &str = "a write takes a free lock behind the watch and before its own look
+1 takes write-0, dir-find id-7, header-get header
 rests 7
 1 watch done
 rests 7
@@ -12,126 +12,37 @@ rests 7
 moves 7
 1 header-get header
 moves 7
-1 map-set done
-1 data-write done done
+1 map-set done, data-write done done
 rests 7
 free 1
-0 waits";
+0 waits
 
-#[test]
-fn a_write_takes_a_free_lock_behind_the_watch_and_before_its_own_look(
-    rt: HostRuntime,
-) -> Result<(), Fail> {
-    goes_as(&rt, rt.alloc(), FREE)?;
-    Ok(())
-}
-
-const SECOND: &str = "1 takes write-0
-2 takes fill-1
-1 dir-find id-7
-1 header-get header
-1 header-get header
-2 dir-find id-7
-2 header-get header
-2 header-get header
-2 map-set done
-2 data-write done done
-1 map-set done
-1 data-write done done
-1 takes snap-create
-1 dir-find id-7
-1 header-get header
-1 header-get header
-1 map-get bits
-1 map-put done
-1 header-snap-add snap done
-free 1
-0 waits";
-
-#[test]
-fn a_client_that_has_the_lock_takes_it_no_more(rt: HostRuntime) -> Result<(), Fail> {
-    owner_goes_as(&rt, rt.alloc(), SECOND)?;
-    Ok(())
-}
-
-const ASKED: &str = "1 takes write-0
-1 dir-find id-7
-1 header-get header
-1 watch done
-1 lock-take held
+an owner that watches is asked and the lock is asked for again
+1 takes write-0, dir-find id-7, header-get header, watch done, lock-take held
 rests 7
-1 watchers-get listed
-1 notify-RequestLock done
-1 lock-take held
-1 watchers-get listed
-1 notify-RequestLock done
-1 lock-take done
+1 watchers-get listed, notify-RequestLock done, lock-take held, watchers-get listed
+1 notify-RequestLock done, lock-take done
 moves 7
-1 header-get header
-1 map-set done
-1 data-write done done
-free 1";
+1 header-get header, map-set done, data-write done done
+free 1
 
-#[test]
-fn an_owner_that_watches_is_asked_and_the_lock_is_asked_for_again(
-    rt: HostRuntime,
-) -> Result<(), Fail> {
-    goes_as(&rt, rt.alloc(), ASKED)?;
-    Ok(())
-}
-
-const FENCED: &str = "1 takes write-0
-1 dir-find id-7
-1 header-get header
-1 watch done
-1 lock-take held
-1 watchers-get unlisted
-1 block-add done
-1 lock-break done
+an owner that does not watch is fenced and then loses the lock
+1 takes write-0, dir-find id-7, header-get header, watch done, lock-take held
+1 watchers-get unlisted, block-add done, lock-break done
 rests 7
-1 lock-take done
-1 header-get header
-1 map-set done
-1 data-write done done
-free 1";
+1 lock-take done, header-get header, map-set done, data-write done done
+free 1
 
-#[test]
-fn an_owner_that_does_not_watch_is_fenced_and_then_loses_the_lock(
-    rt: HostRuntime,
-) -> Result<(), Fail> {
-    goes_as(&rt, rt.alloc(), FENCED)?;
-    Ok(())
-}
+where another one was faster its owner is looked for anew
+1 takes write-0, dir-find id-7, header-get header, watch done, lock-take held
+1 watchers-get unlisted, block-add done, lock-break changed, lock-take held, watchers-get listed
+1 notify-RequestLock done, lock-take done, header-get header, map-set done, data-write done done
+free 1
 
-const FASTER: &str = "1 takes write-0
-1 dir-find id-7
-1 header-get header
-1 watch done
-1 lock-take held
-1 watchers-get unlisted
-1 block-add done
-1 lock-break changed
-1 lock-take held
-1 watchers-get listed
-1 notify-RequestLock done
-1 lock-take done
-1 header-get header
-1 map-set done
-1 data-write done done
-free 1";
-
-#[test]
-fn where_another_one_was_faster_its_owner_is_looked_for_anew(rt: HostRuntime) -> Result<(), Fail> {
-    goes_as(&rt, rt.alloc(), FASTER)?;
-    Ok(())
-}
-
-const BEHIND: &str = "1 takes write-0
+a second write waits for the way of the first and goes none
+1 takes write-0
 2 takes fill-1
-1 dir-find id-7
-2 dir-find id-7
-1 header-get header
-2 header-get header
+1,2 dir-find id-7, header-get header
 2 waits
 1 watch done
 2 waits
@@ -143,91 +54,51 @@ const BEHIND: &str = "1 takes write-0
 2 waits
 1 lock-take done
 2 waits
-1 header-get header
-2 header-get header
-2 map-set done
-2 data-write done done
-1 map-set done
-1 data-write done done
+1,2 header-get header
+2 map-set done, data-write done done
+1 map-set done, data-write done done
 rests 7
-free 1";
+free 1
 
-#[test]
-fn a_second_write_waits_for_the_way_of_the_first_and_goes_none(
-    rt: HostRuntime,
-) -> Result<(), Fail> {
-    goes_as(&rt, rt.alloc(), BEHIND)?;
-    Ok(())
-}
-
-const AHEAD: &str = "1 takes write-0
-2 takes write-0
-1 dir-find id-7
-2 dir-find id-7
-2 header-get header
-2 waits
+one that waits in its line begins no way though it looked first
+1,2 takes write-0, dir-find id-7
+2 header-get header, waits
 1 header-get header
 2 waits
-1 watch done
-1 lock-take done
-1 header-get header
-2 header-get header
+1 watch done, lock-take done
+1,2 header-get header
 2 waits
-1 map-set done
-1 data-write done done
-2 map-set done
-2 data-write done done
-free 1";
+1 map-set done, data-write done done
+2 map-set done, data-write done done
+free 1
 
-#[test]
-fn one_that_waits_in_its_line_begins_no_way_though_it_looked_first(
-    rt: HostRuntime,
-) -> Result<(), Fail> {
-    goes_as(&rt, rt.alloc(), AHEAD)?;
-    Ok(())
-}
-
-const APART: &str = "1 takes write-0
-2 takes write-0
+each image has a way to its own lock
+1,2 takes write-0
 1 dir-find id-7
 2 dir-find id-8
 1 header-get header
-2 header-get@8 header
-2 watch@8 done
-1 watch done
-1 lock-take done
+2 header-get@8 header, watch@8 done
+1 watch done, lock-take done
 moves 7
 rests 8
-2 lock-take@8 held
-2 watchers-get@8 listed
+2 lock-take@8 held, watchers-get@8 listed
 1 header-get header
-2 notify-RequestLock@8 done
-2 lock-take@8 done
+2 notify-RequestLock@8 done, lock-take@8 done
 moves 8
 2 header-get@8 header
-1 map-set done
-1 data-write done done
+1 map-set done, data-write done done
 rests 7
 moves 8
-2 map-set@8 done
-2 data-write@8 done done
+2 map-set@8 done, data-write@8 done done
 rests 8
-free 1";
+free 1
 
-#[test]
-fn each_image_has_a_way_to_its_own_lock(rt: HostRuntime) -> Result<(), Fail> {
-    goes_as(&rt, rt.alloc(), APART)?;
-    Ok(())
-}
-
-const ALONE: &str = "1 takes snap-create
+a snapshot takes the lock as a write does
+1 takes snap-create
 2 takes write-0
-1 dir-find id-7
-1 header-get header
-2 dir-find id-7
-2 header-get header
-1 watch done
-1 lock-take done
+1 dir-find id-7, header-get header
+2 dir-find id-7, header-get header
+1 watch done, lock-take done
 2 waits
 1 header-get header
 2 waits
@@ -236,28 +107,33 @@ moves 7
 1 map-put done
 2 waits
 1 header-snap-add snap done
-2 header-get header
-2 map-set done
-2 data-write done done
-free 1";
+2 header-get header, map-set done, data-write done done
+free 1
 
-#[test]
-fn a_snapshot_takes_the_lock_as_a_write_does(rt: HostRuntime) -> Result<(), Fail> {
-    goes_as(&rt, rt.alloc(), ALONE)?;
-    Ok(())
-}
-
-const READ: &str = "1 takes read
-1 dir-find id-7
-1 header-get header
-1 data-read none
-1 header-get header bytes
+a read takes no lock
+1 takes read, dir-find id-7, header-get header, data-read none, header-get header bytes
 rests 7
 free 1
 0 waits";
 
 #[test]
-fn a_read_takes_no_lock(rt: HostRuntime) -> Result<(), Fail> {
-    goes_as(&rt, rt.alloc(), READ)?;
+fn ways_to_a_lock(rt: HostRuntime) -> Result<(), Fail> {
+    cases_hold::<Tested>(rt.alloc(), "", NEW)?;
+    Ok(())
+}
+
+const OWNERS: &str = "a client that has the lock takes it no more
+1 takes write-0
+2 takes fill-1
+1 dir-find id-7, header-get header, header-get header
+2 dir-find id-7, header-get header, header-get header, map-set done, data-write done done
+1 map-set done, data-write done done, takes snap-create, dir-find id-7, header-get header
+1 header-get header, map-get bits, map-put done, header-snap-add snap done
+free 1
+0 waits";
+
+#[test]
+fn an_owner_takes_it_no_more(rt: HostRuntime) -> Result<(), Fail> {
+    cases_hold::<Tested>(rt.alloc(), OWNS, OWNERS)?;
     Ok(())
 }

@@ -1,86 +1,44 @@
-//! The requests of these tests, and where each ends at a site.
+//! The requests of these tests, and how each ends at a site, by the rows of a table:
+//! `REQUEST|SITE|END|WHAT IT DID`.
+//!
+//! The site is spelled by the words of `site`; `owned` is one of which the instance of these tests
+//! has the lock and watches, as another one does, and `lost` one of which that other one has it.
+//! The end is the reply, `more` where there is none within 20 steps, and words on what is there
+//! then:
+//!
+//! | words | what they say |
+//! |---|---|
+//! | `waits 3` | how many operations are marked as waiting |
+//! | `operations 20` | how many were done |
+//! | `owner c1`, `blocked c2` | who has the lock, or is fenced; `none` for nobody |
+//! | `watched`, `unwatched` | whether the instance of these tests watches |
+//!
+//! What it did is what the site wrote down, exactly. Where it is left out it isn't looked at.
 ghost use Rattle.std.specs.Prelude.{◌≡◌, true};
 ghost use Rattle.rbd_close.specs.Close.{is_close, rest_of_request};
 ghost use Rattle.rbd_machine.specs.Plan.{IsLive};
 
-use super::drive::{End, run};
-use super::site::{Fault, HERE, IMAGE, Site};
+use super::site::{HERE, Site, instance};
 use rbd_close::CloseRequest;
-use rbd_kinds::{AskedName, Bytes, Command, NoMemory, Payload, Refusal};
+use rbd_fixtures::{IMAGE, RowError, behind, has, hello, holds, name, number, play};
+use rbd_kinds::Command;
 use rbd_machine::Reason;
 use rbd_owner::{Acquire, Release};
 use std::alloc::Global;
 use std::process::Abort;
 
-/// A request of these tests.
-#[derive(Clone, Copy, Debug, PartialEq, Eq)]
-pub enum Asked {
-    /// The way to the lock of an instance that doesn't watch the image yet.
-    Take,
-    /// That of one that watches it.
-    TakeWatching,
-    Release,
-    /// The commands are about the image `disk`.
-    Close,
-    Quiesce,
-    Resume,
-    /// It tells `hello`.
-    Tell,
-}
-
 // ---- requests
 
-/// Where a request leads at a site within 20 steps.
-pub fn play(rt: &impl Abort, asked: Asked, site: &mut Site) -> Result<End, NoMemory> {
-    let alloc = site.alloc();
-    match asked {
-        Asked::Take => take(rt, alloc, false, site),
-        Asked::TakeWatching => take(rt, alloc, true, site),
-        Asked::Release => release(rt, alloc, site),
-        Asked::Close => close(rt, alloc, site),
-        Asked::Quiesce => quiesce(rt, alloc, site),
-        Asked::Resume => resume(rt, alloc, site),
-        Asked::Tell => tell(rt, alloc, site),
-    }
-}
-
-fn take(rt: &impl Abort, alloc: Global, watched: bool, site: &mut Site) -> Result<End, NoMemory> {
+fn take(alloc: Global, watched: bool, site: &mut Site, end: &mut String) -> Result<(), RowError> {
     let mut way = Acquire::new(HERE, IMAGE, watched);
-    run(rt, alloc, Reason::Acquiring, &mut way, site)
+    play(alloc, &mut way, site, 20, end)?;
+    Ok(())
 }
 
-fn release(rt: &impl Abort, alloc: Global, site: &mut Site) -> Result<End, NoMemory> {
+fn release(alloc: Global, site: &mut Site, end: &mut String) -> Result<(), RowError> {
     let mut release = Release::new(HERE, IMAGE);
-    run(rt, alloc, Reason::Own, &mut release, site)
-}
-
-fn close(rt: &impl Abort, alloc: Global, site: &mut Site) -> Result<End, NoMemory> {
-    let image = disk(rt, alloc)?;
-    command(rt, alloc, Command::Close { image }, site)
-}
-
-fn quiesce(rt: &impl Abort, alloc: Global, site: &mut Site) -> Result<End, NoMemory> {
-    let image = disk(rt, alloc)?;
-    command(rt, alloc, Command::Quiesce { image }, site)
-}
-
-fn resume(rt: &impl Abort, alloc: Global, site: &mut Site) -> Result<End, NoMemory> {
-    let image = disk(rt, alloc)?;
-    command(rt, alloc, Command::Resume { image }, site)
-}
-
-fn tell(rt: &impl Abort, alloc: Global, site: &mut Site) -> Result<End, NoMemory> {
-    let bytes = hello(rt, alloc)?;
-    let image = disk(rt, alloc)?;
-    command(rt, alloc, Command::Tell { image, bytes }, site)
-}
-
-fn hello(rt: &impl Abort, alloc: Global) -> Result<Payload, NoMemory> {
-    Ok(Payload::new(Bytes::from_slice(alloc, b"hello")?).expect(rt, "bytes"))
-}
-
-fn disk(rt: &impl Abort, alloc: Global) -> Result<AskedName, NoMemory> {
-    Ok(AskedName::parse(Bytes::from_slice(alloc, b"disk")?).expect(rt, "a name"))
+    play(alloc, &mut release, site, 20, end)?;
+    Ok(())
 }
 
 #[tactic(auto, using(crate::proofs::Live::close_is_live))]
@@ -92,39 +50,133 @@ fn made(command: Command) -> CloseRequest
 }
 
 fn command(
-    rt: &impl Abort,
     alloc: Global,
     command: Command,
     site: &mut Site,
-) -> Result<End, NoMemory>
+    end: &mut String,
+) -> Result<(), RowError>
     requires { is_close command ≡ true }
 {
     let mut request = made(command);
-    run(rt, alloc, Reason::Own, &mut request, site)
+    let played = play(alloc, &mut request, site, 20, end);
+    drop(request);
+    played?;
+    Ok(())
+}
+
+/// A `tell` of `hello`.
+fn tell(alloc: Global, site: &mut Site, end: &mut String) -> Result<(), RowError> {
+    let bytes = hello(alloc)?;
+    let image = name(alloc, "disk")?;
+    command(alloc, Command::Tell { image, bytes }, site, end)
+}
+
+/// The request of a command that has the image `disk` alone.
+fn of_name(alloc: Global, word: &str, site: &mut Site, end: &mut String) -> Result<(), RowError> {
+    let image = name(alloc, "disk")?;
+    match word {
+        "close" => command(alloc, Command::Close { image }, site, end),
+        "quiesce" => command(alloc, Command::Quiesce { image }, site, end),
+        "resume" => command(alloc, Command::Resume { image }, site, end),
+        _ => {
+            drop(image);
+            Err(RowError::UnknownWord)
+        }
+    }
+}
+
+/// Plays the request of a word at a site, 20 steps at most, and writes down its reply.
+fn play_at(alloc: Global, word: &str, site: &mut Site, end: &mut String) -> Result<(), RowError> {
+    match word {
+        "take" => take(alloc, false, site, end),
+        "take-watching" => take(alloc, true, site, end),
+        "release" => release(alloc, site, end),
+        "tell" => tell(alloc, site, end),
+        _ => of_name(alloc, word, site, end),
+    }
 }
 
 // ---- their ends
 
-/// Where a request ends at a site. What the site wrote down is exactly this.
-pub fn ends(rt: &impl Abort, asked: Asked, site: &mut Site, wanted: &str) -> Result<End, NoMemory> {
-    let reached = play(rt, asked, site)?;
-    assert_eq!(rt; site.log.as_str(), wanted);
-    Ok(reached)
+/// Whether a number is the one behind a word, where that is there.
+fn counts(words: &str, key: &str, count: u8) -> bool {
+    match behind(words, key) {
+        Some(word) => number(word) == u64::from(count),
+        None => true,
+    }
 }
 
-/// Whether a request is done by these steps, none of them marked as waiting.
-pub fn is_done(rt: &impl Abort, mut site: Site, asked: Asked, wanted: &str) -> bool {
-    ends(rt, asked, &mut site, wanted) == Ok(End::Done) && site.waits == 0
+/// Whether what is said of the site's clients is so.
+fn is_left(site: &Site, words: &str) -> bool {
+    let owner = behind(words, "owner");
+    if owner.is_some() && site.owner != instance(owner.unwrap_or("")) {
+        return false;
+    }
+    let blocked = behind(words, "blocked");
+    if blocked.is_some() && site.blocked != instance(blocked.unwrap_or("")) {
+        return false;
+    }
+    !(has(words, "watched") && !site.watched || has(words, "unwatched") && site.watched)
 }
 
-/// Whether an image that is gone at the operation of a number is NoImage there, by these steps.
-pub fn is_gone(rt: &impl Abort, mut site: Site, asked: Asked, number: u8, wanted: &str) -> bool {
-    site.fault = Some((number, Fault::Gone));
-    ends(rt, asked, &mut site, wanted) == Ok(End::Refused(Refusal::NoImage))
+/// Whether a request ended so at a site.
+fn has_ended(site: &Site, reply: &str, end: &str) -> bool {
+    let (wanted, words) = end.split_once(' ').unwrap_or((end, ""));
+    let reply = if reply.is_empty() { "more" } else { reply };
+    reply == wanted
+        && counts(words, "waits", site.waits)
+        && counts(words, "operations", site.done)
+        && is_left(site, words)
 }
 
-/// Whether an instance that is fenced at the operation of a number is Fenced there, by these steps.
-pub fn is_fenced(rt: &impl Abort, mut site: Site, asked: Asked, number: u8, wanted: &str) -> bool {
-    site.fault = Some((number, Fault::Fenced));
-    ends(rt, asked, &mut site, wanted) == Ok(End::Refused(Refusal::Fenced))
+fn reason_of(request: &str) -> Reason {
+    match request {
+        "take" => Reason::Acquiring,
+        "take-watching" => Reason::Acquiring,
+        _ => Reason::Own,
+    }
+}
+
+fn ends(
+    alloc: Global,
+    request: &str,
+    site: &mut Site,
+    end: &str,
+    did: &str,
+) -> Result<bool, RowError> {
+    let mut reply = String::new(alloc);
+    play_at(alloc, request, site, &mut reply)?;
+    let did_so = did.is_empty() || site.log.as_str() == did;
+    Ok(did_so && has_ended(site, reply.as_str(), end))
+}
+
+fn words_of(site: &str) -> &str {
+    match site {
+        "owned" => "owner c1 watcher c3 watched",
+        "lost" => "owner c3 watcher c3 watched",
+        _ => site,
+    }
+}
+
+/// The next part of a row.
+fn part<'t>(rest: &mut &'t str) -> &'t str {
+    let (part, left) = rest.split_once('|').unwrap_or((*rest, ""));
+    *rest = left;
+    part
+}
+
+fn row_holds(alloc: Global, row: &str) -> Result<bool, RowError> {
+    let mut rest = row;
+    let request = part(&mut rest);
+    let words = words_of(part(&mut rest));
+    let end = part(&mut rest);
+    let mut site = Site::new(alloc, reason_of(request), words);
+    ends(alloc, request, &mut site, end, rest)
+}
+
+/// Each row of a table holds.
+pub fn table_holds(rt: &impl Abort, alloc: Global, rows: &str) {
+    for row in rows.split('\n') {
+        assert!(rt; holds(row_holds(alloc, row)), "{row}");
+    }
 }

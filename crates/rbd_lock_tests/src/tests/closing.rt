@@ -1,63 +1,31 @@
 //! `close`: what it waits for, and what the site is asked, one after another, was written down by
 //! hand from the diagram.
-use super::asked::{Asked, ends, is_fenced, is_gone};
-use super::drive::End;
-use super::site::{ME, Site};
-use std::process::Abort;
+//!
+//! It gives up the lock and the watch, and without the lock the watch alone. An image that is gone,
+//! and the fence, end it at each operation.
+use super::asked::table_holds;
 
-/// Whether a close is done by these steps, and the instance then has no lock and doesn't watch.
-fn closes(rt: &impl Abort, mut site: Site, wanted: &str) -> bool {
-    let reached = ends(rt, Asked::Close, &mut site, wanted);
-    reached == Ok(End::Done) && site.owner != Some(ME) && !site.watched && site.waits == 0
-}
-
-#[test]
-fn a_close_gives_up_the_lock_and_the_watch(rt: HostRuntime) {
-    let wanted = "dir-find disk: id, join alone, hold, lock-drop: done, \
-        notify ReleasedLock: done, unwatch: done";
-    assert!(rt; closes(&rt, Site::owned(rt.alloc()), wanted));
-}
-
-#[test]
-fn a_close_without_the_lock_gives_up_the_watch_alone(rt: HostRuntime) {
-    let wanted = "dir-find disk: id, join alone, hold, lock-drop: changed, unwatch: done";
-    assert!(rt; closes(&rt, Site::lost(rt.alloc()), wanted));
-}
-
-#[test]
-fn an_image_that_is_gone_ends_a_close(rt: HostRuntime) {
-    for (number, wanted) in [
-        (1, "dir-find disk: none"),
-        (2, "dir-find disk: id, join alone, hold, lock-drop: none"),
-        (
-            3,
-            "dir-find disk: id, join alone, hold, lock-drop: done, notify ReleasedLock: none",
-        ),
-        (
-            4,
-            "dir-find disk: id, join alone, hold, lock-drop: done, \
-                notify ReleasedLock: done, unwatch: none",
-        ),
-    ] {
-        assert!(rt; is_gone(&rt, Site::owned(rt.alloc()), Asked::Close, number, wanted));
-    }
-}
+const ROWS: &str = "\
+close|owned|done waits 0 owner none unwatched|dir-find disk: id, join alone, hold, \
+    lock-drop: done, notify ReleasedLock: done, unwatch: done
+close|lost|done waits 0 owner c3 unwatched|dir-find disk: id, join alone, hold, \
+    lock-drop: changed, unwatch: done
+close|owner c1 watcher c3 watched gone 1|NoImage|dir-find disk: none
+close|owner c1 watcher c3 watched gone 2|NoImage|dir-find disk: id, join alone, hold, \
+    lock-drop: none
+close|owner c1 watcher c3 watched gone 3|NoImage|dir-find disk: id, join alone, hold, \
+    lock-drop: done, notify ReleasedLock: none
+close|owner c1 watcher c3 watched gone 4|NoImage|dir-find disk: id, join alone, hold, \
+    lock-drop: done, notify ReleasedLock: done, unwatch: none
+close|owner c1 watcher c3 watched fenced 1|Fenced|dir-find disk: fenced
+close|owner c1 watcher c3 watched fenced 2|Fenced|dir-find disk: id, join alone, hold, \
+    lock-drop: fenced
+close|owner c1 watcher c3 watched fenced 3|Fenced|dir-find disk: id, join alone, hold, \
+    lock-drop: done, notify ReleasedLock: fenced
+close|owner c1 watcher c3 watched fenced 4|Fenced|dir-find disk: id, join alone, hold, \
+    lock-drop: done, notify ReleasedLock: done, unwatch: fenced";
 
 #[test]
-fn the_fence_ends_a_close(rt: HostRuntime) {
-    for (number, wanted) in [
-        (1, "dir-find disk: fenced"),
-        (2, "dir-find disk: id, join alone, hold, lock-drop: fenced"),
-        (
-            3,
-            "dir-find disk: id, join alone, hold, lock-drop: done, notify ReleasedLock: fenced",
-        ),
-        (
-            4,
-            "dir-find disk: id, join alone, hold, lock-drop: done, \
-                notify ReleasedLock: done, unwatch: fenced",
-        ),
-    ] {
-        assert!(rt; is_fenced(&rt, Site::owned(rt.alloc()), Asked::Close, number, wanted));
-    }
+fn images_are_closed_so(rt: HostRuntime) {
+    table_holds(&rt, rt.alloc(), ROWS);
 }

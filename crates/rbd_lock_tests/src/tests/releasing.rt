@@ -1,46 +1,24 @@
 //! Each release: what the site is asked was written down by hand from the diagram. And what a
 //! session counts as its own.
-use super::asked::{Asked, is_done};
-use super::site::{Fault, IMAGE, OTHER, OWNER, Site};
+//!
+//! A lock is let go and told of; one that was broken isn't told of. No fault refuses a release.
+use super::asked::table_holds;
+use rbd_fixtures::{IMAGE, OWNER};
 use rbd_kinds::{Answer, HeaderOp, Op};
 use rbd_owner::owns_lock_after;
-use std::alloc::Global;
+
+const ROWS: &str = "\
+release|owned|done waits 0|lock-drop: done, notify ReleasedLock: done
+release|owner c2 watcher c3|done waits 0|lock-drop: changed
+release|owner c1 watcher c3 watched gone 1|done waits 0|lock-drop: none
+release|owner c1 watcher c3 watched fenced 1|done waits 0|lock-drop: fenced
+release|owner c1 watcher c3 watched gone 2|done waits 0|lock-drop: done, notify ReleasedLock: none
+release|owner c1 watcher c3 watched fenced 2|done waits 0|lock-drop: done, \
+    notify ReleasedLock: fenced";
 
 #[test]
-fn a_lock_is_let_go_and_told_of(rt: HostRuntime) {
-    let site = Site::owned(rt.alloc());
-    let wanted = "lock-drop: done, notify ReleasedLock: done";
-    assert!(rt; is_done(&rt, site, Asked::Release, wanted));
-}
-
-#[test]
-fn a_lock_that_was_broken_is_not_told_of(rt: HostRuntime) {
-    let site = Site::held_by(rt.alloc(), OWNER, OTHER);
-    assert!(rt; is_done(&rt, site, Asked::Release, "lock-drop: changed"));
-}
-
-/// A site of which the instance of these tests has the lock, with a fault.
-fn faulty(alloc: Global, number: u8, fault: Fault) -> Site {
-    let mut site = Site::owned(alloc);
-    site.fault = Some((number, fault));
-    site
-}
-
-#[test]
-fn no_fault_refuses_a_release(rt: HostRuntime) {
-    for (number, fault, wanted) in [
-        (1, Fault::Gone, "lock-drop: none"),
-        (1, Fault::Fenced, "lock-drop: fenced"),
-        (2, Fault::Gone, "lock-drop: done, notify ReleasedLock: none"),
-        (
-            2,
-            Fault::Fenced,
-            "lock-drop: done, notify ReleasedLock: fenced",
-        ),
-    ] {
-        let site = faulty(rt.alloc(), number, fault);
-        assert!(rt; is_done(&rt, site, Asked::Release, wanted));
-    }
+fn locks_are_let_go_so(rt: HostRuntime) {
+    table_holds(&rt, rt.alloc(), ROWS);
 }
 
 // ---- what a session counts as its own

@@ -1,60 +1,47 @@
 //! A site with one image, as far as its lock, its watchers and its header go. It writes down what
 //! it is asked and what it answers, and what a request waits for.
-ghost use Rattle.std.specs.Prelude.{IfOk};
-ghost use Rattle.rbd_kinds.specs.Form.{IsHeaderInForm};
-ghost use Rattle.rbd_machine.specs.Answers.{IsHeaderToldInForm};
+ghost use Rattle.std.specs.Prelude.{IfOk, IfSome};
+ghost use Rattle.rbd_fixtures.specs.Fit.{IsFit};
+ghost use Rattle.rbd_machine.specs.Answers.{CanGive};
 
-use super::log::{operation_into, wait_into};
-use rbd_header::new_header;
-use rbd_kinds::{
-    Answer, DirectoryOp, HeaderOp, HeaderView, ImageId, Instance, Instances, Layout, NoMemory,
-    NoticeKind, Op, Role, SessionNo, SiteId, Want,
+use rbd_fixtures::{
+    Answers, IMAGE, LATER, ME, OTHER, OWNER, behind, can_give, client_into, has, header,
+    operation_into, wait_into,
 };
+use rbd_kinds::{
+    Answer, DirectoryOp, Event, HeaderOp, Instance, Instances, NoMemory, NoticeKind, Op, SiteId,
+    Want,
+};
+use rbd_machine::Reason;
+use rbd_owner::is_waiting;
 use std::alloc::Global;
 
 /// The site of these tests.
 pub const HERE: SiteId = SiteId::B;
 
-/// The image of that site.
-pub const IMAGE: ImageId = ImageId(7);
-
-/// The instance whose requests these tests play.
-pub const ME: Instance = Instance {
-    session: SessionNo(1),
-    life: 0,
-};
-
-/// One that has the lock at first, in most tests of the way to it.
-pub const OWNER: Instance = Instance {
-    session: SessionNo(2),
-    life: 0,
-};
-
-/// Another one.
-pub const OTHER: Instance = Instance {
-    session: SessionNo(3),
-    life: 0,
-};
-
 /// What the site knows, and what its other clients will do.
-#[derive(Debug, Drop)]
+#[derive(Drop)]
 pub struct Site {
     alloc: Global,
+    /// Why its operations are asked for.
+    reason: Reason,
     pub owner: Option<Instance>,
     /// Whether the instance of these tests watches.
     pub watched: bool,
     /// Who else watches.
-    pub watcher: Option<Instance>,
+    watcher: Option<Instance>,
     /// Who is in the blocklist.
     pub blocked: Option<Instance>,
     /// How often the owner has to be asked before it lets go.
-    pub patience: u8,
+    patience: u8,
     /// Once the owner was asked, no watch is left.
-    pub expires: bool,
+    expires: bool,
     /// Who takes the lock while another's is being broken.
-    pub faster: Option<Instance>,
-    /// The operation of this number, from 1, is answered so.
-    pub fault: Option<(u8, Fault)>,
+    faster: Option<Instance>,
+    /// The operation of this number, from 1, is answered `none`.
+    gone: u8,
+    /// The operation of this number, from 1, is answered `fenced`.
+    fenced: u8,
     /// How many operations were done.
     pub done: u8,
     /// How many of them are marked as waiting.
@@ -63,90 +50,137 @@ pub struct Site {
     pub log: String,
 }
 
-/// What ends a request.
-#[derive(Clone, Copy, Debug, PartialEq, Eq)]
-pub enum Fault {
-    Gone,
-    Fenced,
-}
-
 // ---- sites
 
+/// The instance of a word, and none where there is no word for one.
+pub fn instance(word: &str) -> Option<Instance> {
+    match word {
+        "c1" => Some(ME),
+        "c2" => Some(OWNER),
+        "c2.1" => Some(LATER),
+        "c3" => Some(OTHER),
+        _ => None,
+    }
+}
+
+fn instance_behind(words: &str, key: &str) -> Option<Instance> {
+    instance(behind(words, key)?)
+}
+
+fn small_behind(words: &str, key: &str, usual: u8) -> u8 {
+    match behind(words, key) {
+        Some(word) => word.parse::<u8>().unwrap_or(0),
+        None => usual,
+    }
+}
+
 impl Site {
-    /// Nobody has the lock, watches, or is in the blocklist.
-    pub fn new(alloc: Global) -> Self {
+    /// The site of these words: `owner c2`, who has the lock; `watched`, where the instance of these
+    /// tests watches; `watcher c3`, who else does; `patience 2`, how often the owner has to be
+    /// asked; `expires`, where no watch is left then; `faster c3`, who takes the lock while
+    /// another's is being broken; `gone 3` and `fenced 3`, which operation is answered so. Without
+    /// words nobody has the lock, watches, or is in the blocklist.
+    pub fn new(alloc: Global, reason: Reason, words: &str) -> Self {
         Site {
             alloc,
-            owner: None,
-            watched: false,
-            watcher: None,
+            reason,
+            owner: instance_behind(words, "owner"),
+            watched: has(words, "watched"),
+            watcher: instance_behind(words, "watcher"),
             blocked: None,
-            patience: 1,
-            expires: false,
-            faster: None,
-            fault: None,
+            patience: small_behind(words, "patience", 1),
+            expires: has(words, "expires"),
+            faster: instance_behind(words, "faster"),
+            gone: small_behind(words, "gone", 0),
+            fenced: small_behind(words, "fenced", 0),
             done: 0,
             waits: 0,
             log: String::new(alloc),
         }
     }
-
-    /// An owner has the lock, and an instance watches.
-    pub fn held_by(alloc: Global, owner: Instance, watcher: Instance) -> Self {
-        let mut site = Site::new(alloc);
-        site.owner = Some(owner);
-        site.watcher = Some(watcher);
-        site
-    }
-
-    /// The instance of these tests has the lock and watches, as another one does.
-    pub fn owned(alloc: Global) -> Self {
-        let mut site = Site::held_by(alloc, ME, OTHER);
-        site.watched = true;
-        site
-    }
-
-    /// Another one has the lock, and both watch.
-    pub fn lost(alloc: Global) -> Self {
-        let mut site = Site::held_by(alloc, OTHER, OTHER);
-        site.watched = true;
-        site
-    }
-
-    /// The allocator that it was made with.
-    pub fn alloc(&self) -> Global {
-        self.alloc
-    }
 }
 
 // ---- what it is asked
 
-impl Site {
-    /// Does an operation of the instance of these tests, and writes it down.
-    pub fn ask(&mut self, op: &Op) -> Result<Answer, NoMemory>
-        ensures { IfOk result IsHeaderToldInForm }
-    {
+/// Writes an answer behind its operation, as `: held c2`.
+fn answer_into(log: &mut String, answer: &Answer) -> Result<(), NoMemory> {
+    log.push_str(": ")?;
+    log.push_str(answer.word())?;
+    if let Answer::Held(owner) = answer {
+        client_into(log, owner)?;
+    }
+    Ok(())
+}
+
+/// Whether it is this site of which something is wanted.
+fn is_here(want: &Want) -> bool {
+    match want {
+        Want::Join {
+            site,
+            image: _,
+            sharing: _,
+        } => *site == HERE,
+        Want::Hold { site, image: _ } => *site == HERE,
+        _ => false,
+    }
+}
+
+impl Answers for Site {
+    /// It does an operation of the instance of these tests, and writes it down.
+    fn ask(&mut self, want: &Want, reason: Reason, op: &Op) -> Result<Option<Answer>, NoMemory> {
         self.done = self.done.saturating_add(1);
         let answer = self.answer(op)?;
-        operation_into(&mut self.log, op, &answer)?;
-        Ok(answer)
+        self.note(want, reason, op, answer)
     }
 
-    /// Writes down what a request waits for.
-    pub fn wait(&mut self, want: &Want) -> Result<(), NoMemory> {
-        wait_into(&mut self.log, want)
+    /// It writes down what a request waits for.
+    fn pass(&mut self, want: &Want, event: &Option<Event>) -> Result<bool, NoMemory> {
+        let _event = event;
+        wait_into(&mut self.log, want)?;
+        Ok(is_here(want))
+    }
+}
+
+impl Site {
+    /// Writes an operation down with its answer, and tells that, where it is of the kind that was
+    /// told, at this site, for the reason of its request.
+    fn note(
+        &mut self,
+        want: &Want,
+        reason: Reason,
+        op: &Op,
+        answer: Answer,
+    ) -> Result<Option<Answer>, NoMemory>
+        requires { IsFit answer }
+        ensures { IfOk result (λ told. IfSome told (CanGive op.now)) }
+    {
+        let written = self.write(op, &answer);
+        let kind = op.kind();
+        if is_waiting(reason, kind, &answer) {
+            self.waits = self.waits.saturating_add(1);
+        }
+        let is_wanted = *want == (Want::Op { site: HERE, kind }) && reason == self.reason;
+        if written.is_ok() && is_wanted && can_give(op, &answer) {
+            Ok(Some(answer))
+        } else {
+            drop(answer);
+            Ok(None)
+        }
+    }
+
+    fn write(&mut self, op: &Op, answer: &Answer) -> Result<(), NoMemory> {
+        operation_into(&mut self.log, op)?;
+        answer_into(&mut self.log, answer)
     }
 
     fn answer(&mut self, op: &Op) -> Result<Answer, NoMemory>
-        ensures { IfOk result IsHeaderToldInForm }
+        ensures { IfOk result IsFit }
     {
-        if let Some((number, fault)) = &self.fault {
-            if *number == self.done {
-                return Ok(match fault {
-                    Fault::Gone => Answer::Absent,
-                    Fault::Fenced => Answer::Fenced,
-                });
-            }
+        if self.done == self.gone {
+            return Ok(Answer::Absent);
+        }
+        if self.done == self.fenced {
+            return Ok(Answer::Fenced);
         }
         match op {
             Op::Directory(DirectoryOp::Find { name: _ }) => Ok(Answer::Id(IMAGE)),
@@ -166,10 +200,10 @@ impl Site {
     }
 
     fn header(&mut self, op: &HeaderOp) -> Result<Answer, NoMemory>
-        ensures { IfOk result IsHeaderToldInForm }
+        ensures { IfOk result IsFit }
     {
         match op {
-            HeaderOp::Get => Ok(Answer::Header(secondary(self.alloc))),
+            HeaderOp::Get => secondary(self.alloc),
             HeaderOp::Watch => Ok(self.watch(true)),
             HeaderOp::Unwatch => Ok(self.watch(false)),
             HeaderOp::LockTake => Ok(self.take()),
@@ -182,7 +216,7 @@ impl Site {
     }
 
     fn watch(&mut self, watches: bool) -> Answer
-        ensures { IsHeaderToldInForm result }
+        ensures { IsFit result }
     {
         self.watched = watches;
         Answer::Done
@@ -190,7 +224,7 @@ impl Site {
 
     /// The watchers, the instance of these tests first.
     fn list(&self) -> Result<Answer, NoMemory>
-        ensures { IfOk result IsHeaderToldInForm }
+        ensures { IfOk result IsFit }
     {
         let mut list = Vec::new(self.alloc);
         if self.watched {
@@ -203,7 +237,7 @@ impl Site {
     }
 
     fn take(&mut self) -> Answer
-        ensures { IsHeaderToldInForm result }
+        ensures { IsFit result }
     {
         match &self.owner {
             Some(owner) => Answer::Held(*owner),
@@ -216,7 +250,7 @@ impl Site {
 
     /// The owner lets the lock go once it has lost its patience.
     fn hear(&mut self, kind: &NoticeKind) -> Answer
-        ensures { IsHeaderToldInForm result }
+        ensures { IsFit result }
     {
         if let NoticeKind::RequestLock = kind {
             self.patience = self.patience.saturating_sub(1);
@@ -231,7 +265,7 @@ impl Site {
     }
 
     fn break_lock(&mut self, owner: &Instance) -> Answer
-        ensures { IsHeaderToldInForm result }
+        ensures { IsFit result }
     {
         if let Some(faster) = self.faster.take() {
             self.owner = Some(faster);
@@ -244,7 +278,7 @@ impl Site {
     }
 
     fn drop_lock(&mut self) -> Answer
-        ensures { IsHeaderToldInForm result }
+        ensures { IsFit result }
     {
         if self.owner == Some(ME) {
             self.owner = None;
@@ -255,17 +289,11 @@ impl Site {
 }
 
 /// The header of a secondary, which clients don't change: of 4,096 bytes, without snapshots.
-fn secondary(alloc: Global) -> HeaderView
-    ensures { IsHeaderInForm result }
+fn secondary(alloc: Global) -> Result<Answer, NoMemory>
+    ensures { IfOk result IsFit }
 {
-    let layout = Layout {
-        object: 4096,
-        unit: 4096,
-        count: 1,
-    };
-    HeaderView {
-        generation: 1,
-        role: Role::Secondary,
-        ..new_header(alloc, layout, 4096)
+    match header(alloc, "size 4096 generation 1 secondary")? {
+        Some(header) => Ok(Answer::Header(header)),
+        None => Ok(Answer::Absent),
     }
 }

@@ -1,30 +1,15 @@
 //! `tell`: what the site is asked, one operation after another, was written down by hand from the
-//! diagram.
-use super::asked::{Asked, is_done, is_fenced, is_gone};
-use super::site::Site;
+//! diagram. It hands on its bytes; an image that is gone, and the fence, end it.
+use super::asked::table_holds;
+
+const ROWS: &str = "\
+tell|lost|done waits 0|dir-find disk: id, notify Custom hello: done
+tell|owner c3 watcher c3 watched gone 1|NoImage|dir-find disk: none
+tell|owner c3 watcher c3 watched gone 2|NoImage|dir-find disk: id, notify Custom hello: none
+tell|owner c3 watcher c3 watched fenced 1|Fenced|dir-find disk: fenced
+tell|owner c3 watcher c3 watched fenced 2|Fenced|dir-find disk: id, notify Custom hello: fenced";
 
 #[test]
-fn a_tell_hands_on_its_bytes(rt: HostRuntime) {
-    let wanted = "dir-find disk: id, notify Custom hello: done";
-    assert!(rt; is_done(&rt, Site::lost(rt.alloc()), Asked::Tell, wanted));
-}
-
-#[test]
-fn an_image_that_is_gone_ends_a_tell(rt: HostRuntime) {
-    for (number, wanted) in [
-        (1, "dir-find disk: none"),
-        (2, "dir-find disk: id, notify Custom hello: none"),
-    ] {
-        assert!(rt; is_gone(&rt, Site::owned(rt.alloc()), Asked::Tell, number, wanted));
-    }
-}
-
-#[test]
-fn the_fence_ends_a_tell(rt: HostRuntime) {
-    for (number, wanted) in [
-        (1, "dir-find disk: fenced"),
-        (2, "dir-find disk: id, notify Custom hello: fenced"),
-    ] {
-        assert!(rt; is_fenced(&rt, Site::owned(rt.alloc()), Asked::Tell, number, wanted));
-    }
+fn bytes_are_told_so(rt: HostRuntime) {
+    table_holds(&rt, rt.alloc(), ROWS);
 }

@@ -1,35 +1,23 @@
-//! The way of a change is fed by hand to its own look, and to a refusal at each look. What it has
-//! to want was worked out from its diagram.
-ghost use Rattle.std.specs.Prelude.{◌≡◌, None, Some, ◌==◌, if◌then◌else◌, [], ◌∷◌, IfOk};
-ghost use Rattle.rbd_kinds.specs.declared.id.SiteId.TheVariants as site;
+//! The way of a change, to its own look and to a refusal at each look. What it has to want was
+//! worked out from its diagram.
+ghost use Rattle.std.specs.Prelude.{None, Some, ◌==◌, if◌then◌else◌, IfOk, IfSome};
 ghost use Rattle.rbd_commands.specs.declared.refusal.Refusal.TheVariants.{BadRange};
 ghost use Rattle.rbd_kinds.specs.declared.reply.Reply.TheVariants.{Done};
 ghost use Rattle.rbd_machine.specs.Approach.{rest_of};
-ghost use Rattle.rbd_machine.specs.Plan.{Return, without_labels};
-ghost use Rattle.rbd_machine.specs.Steps.{TellsImage, TellsHeader, TellsDone, change as way_of, looking, owning};
+ghost use Rattle.rbd_machine.specs.Plan.{IsLive, Return, without_labels};
+ghost use Rattle.rbd_machine.specs.Steps.{TellsImage, TellsHeader, TellsDone};
 
-use super::drive::{HOLD, IMAGE, asks, end, go_on, is_done, is_refused, join};
-use super::header::disk;
+use super::commands::first_row;
+use rbd_fixtures::{IMAGE, holds, plays};
 use rbd_kinds::{
-    Answer, Bytes, Event, Fed, HeaderView, Name, NoMemory, Op, OpKind, Refusal, Reply, Role,
-    Sharing, SiteId, Turn, Want,
+    Answer, Bytes, Event, Fed, HeaderView, Name, NoMemory, Op, Refusal, Reply, Role, Sharing,
+    SiteId, Turn, Want,
 };
 use rbd_machine::{
     Approach, Machine, Progress, Reason, Refuses, non_primary, told_done, told_header, told_image,
 };
 use std::alloc::Global;
 use std::process::Abort;
-use std::test::Fail;
-
-const FIND: Want = Want::Op {
-    site: SiteId::A,
-    kind: OpKind::DirFind,
-};
-
-const LOOK: Want = Want::Op {
-    site: SiteId::A,
-    kind: OpKind::HeaderGet,
-};
 
 /// Refuses an image of any other size with BadRange.
 #[derive(Debug, Drop)]
@@ -54,6 +42,8 @@ const RULE: OnlySize = OnlySize { size: 4096 };
 #[derive(Debug, Drop)]
 struct Change {
     way: Approach,
+    /// Of each step whether the way was at its own look: `o`, and else `-`.
+    own: String,
 }
 
 impl Machine for Change {
@@ -78,6 +68,8 @@ impl Machine for Change {
     }
 
     fn ready(&mut self, _alloc: Global, _fed: &Fed) -> Result<(), NoMemory> {
+        let is_own = self.way.owning() == Some(IMAGE);
+        self.own.push(if is_own { 'o' } else { '-' })?;
         Ok(())
     }
 
@@ -91,88 +83,87 @@ impl Machine for Change {
 }
 
 /// A change of the image `disk`.
-fn made(rt: &impl Abort, alloc: Global, sharing: Sharing) -> Result<Change, NoMemory>
-    ensures { IfOk result (λ c. rest_of c.way (λ header. if header.size == 4096 then None else Some BadRange) (λ image header. Return Done) ≡ way_of site.A (100 ∷ 105 ∷ 115 ∷ 107 ∷ []) sharing (λ header. if header.size == 4096 then None else Some BadRange) (λ image header. Return Done)) }
+fn made(alloc: Global, sharing: Sharing) -> Result<Option<Change>, NoMemory>
+    ensures { IfOk result (λ made. IfSome made (λ c. IsLive (rest_of c.way (λ header. if header.size == 4096 then None else Some BadRange) (λ image header. Return Done)))) }
 {
-    let name = Name::parse(Bytes::from_slice(alloc, b"disk")?).expect(rt, "a name");
+    let Some(name) = Name::parse(Bytes::from_slice(alloc, b"disk")?) else {
+        return Ok(None);
+    };
     let way = Approach::new(SiteId::A, name, sharing);
-    Ok(Change { way })
+    let own = String::new(alloc);
+    Ok(Some(Change { way, own }))
 }
 
-/// It has found its image and joined the line.
-fn joined(rt: &impl Abort, alloc: Global, sharing: Sharing) -> Result<Change, NoMemory>
-    ensures { IfOk result (λ c. rest_of c.way (λ header. if header.size == 4096 then None else Some BadRange) (λ image header. Return Done) ≡ looking site.A (λ header. if header.size == 4096 then None else Some BadRange) (λ image header. Return Done) 7) }
-{
-    let mut change = made(rt, alloc, sharing)?;
-    let found = Fed::Answer(Answer::Id(IMAGE));
-    go_on(rt, alloc, &mut change, FIND, found)?;
-    go_on(rt, alloc, &mut change, join(sharing), Fed::Passed)?;
-    Ok(change)
+/// Whether a change wants these rows, and stands at its own look at these steps.
+fn goes(alloc: Global, sharing: Sharing, own: &str, rows: &str) -> Result<bool, NoMemory> {
+    let Some(mut change) = made(alloc, sharing)? else {
+        return Ok(false);
+    };
+    let played = plays(alloc, &mut change, rows);
+    let is_own = change.own.as_str() == own;
+    drop(change);
+    Ok(is_own && played?)
 }
 
-/// It has looked at a header that refuses nothing, and has the lock.
-fn held(rt: &impl Abort, alloc: Global) -> Result<Change, NoMemory>
-    ensures { IfOk result (λ c. rest_of c.way (λ header. if header.size == 4096 then None else Some BadRange) (λ image header. Return Done) ≡ owning site.A (λ header. if header.size == 4096 then None else Some BadRange) (λ image header. Return Done) 7) }
-{
-    let mut change = joined(rt, alloc, Sharing::Alone)?;
-    let looked = Fed::Answer(Answer::Header(disk(alloc, 4096, 0, Role::Plain)));
-    go_on(rt, alloc, &mut change, LOOK, looked)?;
-    go_on(rt, alloc, &mut change, HOLD, Fed::Passed)?;
-    Ok(change)
+/// The same of a row with `alone` or `beside`, and the steps.
+fn case_goes(alloc: Global, first: &str, rows: &str) -> Result<bool, NoMemory> {
+    match first.split_once(' ') {
+        Some(("alone", own)) => goes(alloc, Sharing::Alone, own, rows),
+        Some(("beside", own)) => goes(alloc, Sharing::Shared, own, rows),
+        _ => Ok(false),
+    }
 }
+
+fn cases_go(rt: &impl Abort, alloc: Global, cases: &str) {
+    for case in cases.split("\n\n") {
+        let (title, rest) = first_row(case);
+        let (first, rows) = first_row(rest);
+        assert!(rt; holds(case_goes(alloc, first, rows)), "{title}");
+    }
+}
+
+/// Whether a change is alone or beside others, and of each of its steps whether it is at its own
+/// look, stands in front of its rows.
+const CASES: &str = "a change looks before the lock and under it
+alone ----o
+dir-find disk => id-7
+join alone
+header-get => header size 4096
+hold
+header-get => header size 4096
+done
+
+the first look refuses
+beside ---
+dir-find disk => id-7
+join
+header-get => header size 8192
+BadRange
+
+the own look refuses
+alone ----o
+dir-find disk => id-7
+join alone
+header-get => header size 4096
+hold
+header-get => header size 8192
+BadRange
+
+no such name is no image
+alone -
+dir-find disk => none
+NoImage
+
+the fence ends a look
+alone ---
+dir-find disk => id-7
+join alone
+header-get => fenced
+Fenced";
 
 #[test]
-fn a_change_looks_before_the_lock_and_under_it(rt: HostRuntime) -> Result<(), Fail> {
-    let alloc = rt.alloc();
-    let mut change = held(&rt, alloc)?;
-    assert!(rt; change.way.owning() == Some(IMAGE));
-    assert!(rt; asks(alloc, &change, OpKind::HeaderGet)?);
-    let owned = Fed::Answer(Answer::Header(disk(alloc, 4096, 0, Role::Plain)));
-    let reply = end(&rt, alloc, &mut change, LOOK, owned)?;
-    assert!(rt; is_done(reply));
-    Ok(())
-}
-
-#[test]
-fn the_first_look_refuses(rt: HostRuntime) -> Result<(), Fail> {
-    let alloc = rt.alloc();
-    let mut change = joined(&rt, alloc, Sharing::Shared)?;
-    assert!(rt; change.way.owning().is_none());
-    let looked = Fed::Answer(Answer::Header(disk(alloc, 8192, 0, Role::Plain)));
-    let reply = end(&rt, alloc, &mut change, LOOK, looked)?;
-    assert!(rt; is_refused(reply, Refusal::BadRange));
-    Ok(())
-}
-
-#[test]
-fn the_own_look_refuses(rt: HostRuntime) -> Result<(), Fail> {
-    let alloc = rt.alloc();
-    let mut change = held(&rt, alloc)?;
-    let owned = Fed::Answer(Answer::Header(disk(alloc, 8192, 0, Role::Plain)));
-    let reply = end(&rt, alloc, &mut change, LOOK, owned)?;
-    assert!(rt; is_refused(reply, Refusal::BadRange));
-    Ok(())
-}
-
-#[test]
-fn no_such_name_is_no_image(rt: HostRuntime) -> Result<(), Fail> {
-    let alloc = rt.alloc();
-    let mut change = made(&rt, alloc, Sharing::Alone)?;
-    assert!(rt; asks(alloc, &change, OpKind::DirFind)?);
-    let absent = Fed::Answer(Answer::Absent);
-    let reply = end(&rt, alloc, &mut change, FIND, absent)?;
-    assert!(rt; is_refused(reply, Refusal::NoImage));
-    Ok(())
-}
-
-#[test]
-fn the_fence_ends_a_look(rt: HostRuntime) -> Result<(), Fail> {
-    let alloc = rt.alloc();
-    let mut change = joined(&rt, alloc, Sharing::Alone)?;
-    let fenced = Fed::Answer(Answer::Fenced);
-    let reply = end(&rt, alloc, &mut change, LOOK, fenced)?;
-    assert!(rt; is_refused(reply, Refusal::Fenced));
-    Ok(())
+fn changes_go_to_their_own_look(rt: HostRuntime) {
+    cases_go(&rt, rt.alloc(), CASES);
 }
 
 fn told_no_image(answer: Answer) -> Option<Refusal>

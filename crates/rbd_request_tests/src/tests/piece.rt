@@ -1,37 +1,19 @@
-//! A piece of a write and the pieces of a view are fed by hand to their end and to a refusal. What
-//! they have to want was worked out from their diagrams.
-ghost use Rattle.rbd_machine.specs.Answers.{CanBeFed};
+//! A piece of a write and the pieces of a view, to their end and to a refusal. What they have to
+//! want was worked out from their diagrams.
 ghost use Rattle.rbd_machine.specs.Steps.{TellsDone};
-ghost use Rattle.rbd_piece.specs.Gather.{TellsBytes};
 
-use super::drive::{IMAGE, go_on, holds};
-use super::header::disk;
+use super::commands::first_row;
+use rbd_fixtures::{IMAGE, header, holds, plays};
 use rbd_header::context_of;
 use rbd_kinds::{
-    Answer, Bytes, Fed, MapOp, NoMemory, Op, OpKind, Part, Parts, Refusal, Reply, Role, SiteId,
-    SnapId, Turn, Want,
+    Answer, Bytes, NoMemory, OpKind, Part, Parts, Refusal, SiteId, SnapContext, SnapId, Want,
 };
 use rbd_layout::Piece;
-use rbd_machine::{Machine, Progress};
+use rbd_machine::Progress;
 use rbd_piece::{Gather, WritePiece};
 use std::alloc::Global;
 use std::process::Abort;
 use std::test::Fail;
-
-const READ: Want = Want::Op {
-    site: SiteId::B,
-    kind: OpKind::DataRead,
-};
-
-const RAISE: Want = Want::Op {
-    site: SiteId::A,
-    kind: OpKind::MapSet,
-};
-
-const WRITE: Want = Want::Op {
-    site: SiteId::A,
-    kind: OpKind::DataWrite,
-};
 
 /// The first bytes of an object.
 fn piece(alloc: Global, object: u64, len: u64) -> Result<Piece, NoMemory> {
@@ -44,125 +26,98 @@ fn piece(alloc: Global, object: u64, len: u64) -> Result<Piece, NoMemory> {
     Ok(Piece { object, parts })
 }
 
-/// The number of the object that an operation is on.
-fn object_of(op: &Op) -> Option<u64> {
-    match op {
-        Op::Data { object, .. } => Some(*object),
+// ---- a piece of a write
+
+/// The bytes `new` for object 3.
+fn write_piece(alloc: Global) -> Result<Option<WritePiece>, NoMemory> {
+    let Some(header) = header(alloc, "size 4096")? else {
+        return Ok(None);
+    };
+    let context = context_of(alloc, &header);
+    drop(header);
+    Ok(Some(piece_in(alloc, context?)?))
+}
+
+fn piece_in(alloc: Global, context: SnapContext) -> Result<WritePiece, NoMemory> {
+    let bytes = Bytes::from_slice(alloc, b"new")?;
+    let piece = piece(alloc, 3, 3)?;
+    Ok(WritePiece::new(SiteId::A, IMAGE, context, piece, bytes))
+}
+
+/// Whether the piece wants these rows.
+#[tactic(auto, using(crate::proofs::Pieces::write_is_live))]
+fn writes(alloc: Global, rows: &str) -> Result<bool, NoMemory> {
+    let Some(mut write) = write_piece(alloc)? else {
+        return Ok(false);
+    };
+    let is_third = write.object() == 3;
+    let played = plays(alloc, &mut write, rows);
+    drop(write);
+    Ok(is_third && played?)
+}
+
+const WRITES: &str = "a piece is written behind the state of its object
+map-set 3 1 => done
+data-write 3 at 0 3 new of 0 => done
+done
+
+a state that nothing has is no image
+map-set 3 1 => none
+NoImage
+
+the fence ends a piece at the state of its object
+map-set 3 1 => fenced
+Fenced
+
+the fence ends a write
+map-set 3 1 => done
+data-write 3 at 0 3 new of 0 => fenced
+Fenced";
+
+#[test]
+fn pieces_of_a_write_want_these(rt: HostRuntime) {
+    for case in WRITES.split("\n\n") {
+        let (title, rows) = first_row(case);
+        assert!(rt; holds(writes(rt.alloc(), rows)), "{title}");
+    }
+}
+
+/// No site answers a write so; the piece takes it as a header that is gone.
+fn refusal_of(write: &mut WritePiece, answer: &Answer) -> Option<Refusal>
+    requires { TellsDone answer.now }
+{
+    match write.feed(answer) {
+        Progress::Refused(refusal) => Some(refusal),
         _ => None,
     }
 }
 
-/// Whether an operation is of a kind, on the object of a number.
-fn is_on(op: Op, kind: OpKind, object: u64) -> bool {
-    op.kind() == kind && object_of(&op) == Some(object)
-}
-
-/// Whether an operation sets a state in the map of the head of the image of these tests.
-fn is_set(op: &Op, number: u64, to: u8) -> bool {
-    match op {
-        Op::Map {
-            image,
-            op: MapOp::Set {
-                snap,
-                object,
-                state,
-            },
-        } => *image == IMAGE && snap.is_none() && *object == number && *state == to,
-        _ => false,
-    }
-}
-
-/// Whether an operation sets this state. It goes with the call.
-fn sets(op: Op, number: u64, to: u8) -> bool {
-    let sets = is_set(&op, number, to);
-    drop(op);
-    sets
-}
-
-/// The bytes `new` for object 3.
-fn write_piece(alloc: Global) -> Result<WritePiece, NoMemory> {
-    let header = disk(alloc, 4096, 0, Role::Plain);
-    let bytes = Bytes::from_slice(alloc, b"new")?;
-    let context = context_of(alloc, &header)?;
-    Ok(WritePiece::new(SiteId::A, IMAGE, context, piece(alloc, 3, 3)?, bytes))
-}
-
-/// The state of its object is raised.
-fn raise(rt: &impl Abort, write: &mut WritePiece) {
-    assert!(rt; write.wants() == RAISE);
-    assert!(rt; wants_more(write.feed(&Answer::Done)));
-}
-
-/// What ends a piece of a write that wants this and is answered so, `None` where the request goes
-/// on.
-fn write_ends(
-    rt: &impl Abort,
-    write: &mut WritePiece,
-    want: Want,
-    answer: Answer,
-) -> Option<Refusal>
-    requires { TellsDone answer }
-{
-    assert!(rt; write.wants() == want);
-    match write.feed(&answer) {
-        Progress::Ended(()) => None,
-        Progress::Refused(refusal) => Some(refusal),
-        Progress::More => panic!(rt; "it wants more"),
-    }
-}
-
-/// Whether it wants that object 3 exists.
-fn raises(write: &WritePiece) -> Result<bool, NoMemory> {
-    Ok(write.object() == 3 && sets(write.next()?, 3, 1))
-}
-
-/// Whether it wants to write to object 3.
-fn writes(write: &WritePiece) -> Result<bool, NoMemory> {
-    Ok(write.object() == 3 && is_on(write.next()?, OpKind::DataWrite, 3))
+/// Whether a write that is told that nothing is there is refused as one of no image.
+fn absent_is_no_image(alloc: Global) -> Result<bool, NoMemory> {
+    let Some(mut write) = write_piece(alloc)? else {
+        return Ok(false);
+    };
+    let raised = refusal_of(&mut write, &Answer::Done).is_none();
+    let kind = OpKind::DataWrite;
+    let wanted = write.wants()
+        == Want::Op {
+            site: SiteId::A,
+            kind,
+        };
+    let refusal = refusal_of(&mut write, &Answer::Absent);
+    drop(write);
+    Ok(raised && wanted && refusal == Some(Refusal::NoImage))
 }
 
 #[test]
-fn a_piece_is_written_behind_the_state_of_its_object(rt: HostRuntime) -> Result<(), Fail> {
-    let mut write = write_piece(rt.alloc())?;
-    assert!(rt; holds(raises(&write)));
-    raise(&rt, &mut write);
-    assert!(rt; holds(writes(&write)));
-    assert!(rt; write_ends(&rt, &mut write, WRITE, Answer::Done).is_none());
-    Ok(())
+fn a_write_where_nothing_is_there_is_no_image(rt: HostRuntime) {
+    assert!(rt; holds(absent_is_no_image(rt.alloc())));
 }
 
-#[test]
-fn a_state_that_nothing_has_is_no_image(rt: HostRuntime) -> Result<(), Fail> {
-    let mut write = write_piece(rt.alloc())?;
-    assert!(rt; write_ends(&rt, &mut write, RAISE, Answer::Absent) == Some(Refusal::NoImage));
-    Ok(())
-}
-
-#[test]
-fn a_write_where_nothing_is_there_is_no_image(rt: HostRuntime) -> Result<(), Fail> {
-    let mut write = write_piece(rt.alloc())?;
-    raise(&rt, &mut write);
-    assert!(rt; write_ends(&rt, &mut write, WRITE, Answer::Absent) == Some(Refusal::NoImage));
-    Ok(())
-}
-
-#[test]
-fn the_fence_ends_a_piece_at_the_state_of_its_object(rt: HostRuntime) -> Result<(), Fail> {
-    let mut write = write_piece(rt.alloc())?;
-    assert!(rt; write_ends(&rt, &mut write, RAISE, Answer::Fenced) == Some(Refusal::Fenced));
-    Ok(())
-}
-
-#[test]
-fn the_fence_ends_a_write(rt: HostRuntime) -> Result<(), Fail> {
-    let mut write = write_piece(rt.alloc())?;
-    raise(&rt, &mut write);
-    assert!(rt; write_ends(&rt, &mut write, WRITE, Answer::Fenced) == Some(Refusal::Fenced));
-    Ok(())
-}
+// ---- the pieces of a view
 
 /// Three bytes of object 1, and then two of object 4, at a snapshot.
-fn gather(alloc: Global) -> Result<Gather, NoMemory> {
+fn two_pieces(alloc: Global) -> Result<Gather, NoMemory> {
     let mut pieces = Vec::new(alloc);
     let second = piece(alloc, 4, 2)?;
     pieces.push(piece(alloc, 1, 3)?)?;
@@ -170,123 +125,55 @@ fn gather(alloc: Global) -> Result<Gather, NoMemory> {
     Ok(Gather::new(alloc, SiteId::B, IMAGE, Some(SnapId(1)), pieces))
 }
 
-/// Whether it wants a read of this object.
-fn asks_for(gather: &Gather, object: u64) -> Result<bool, NoMemory> {
-    Ok(gather.wants() == READ && is_on(gather.next()?, OpKind::DataRead, object))
+/// Three bytes of object 1, at the head.
+fn one_piece(alloc: Global) -> Result<Gather, NoMemory> {
+    let mut pieces = Vec::new(alloc);
+    pieces.push(piece(alloc, 1, 3)?)?;
+    Ok(Gather::new(alloc, SiteId::B, IMAGE, None, pieces))
 }
 
-/// What comes of an answer, for which there is memory.
-fn feed(gather: &mut Gather, answer: Answer) -> Result<Progress<()>, NoMemory>
-    requires { TellsBytes answer }
-{
-    gather.ready(&answer)?;
-    Ok(gather.feed(&answer))
-}
-
-fn wants_more(progress: Progress<()>) -> bool {
-    match progress {
-        Progress::More => true,
-        _ => false,
-    }
-}
-
-fn has_ended(progress: Progress<()>) -> bool {
-    match progress {
-        Progress::Ended(()) => true,
-        _ => false,
-    }
-}
-
-fn refusal_of(progress: Progress<()>) -> Option<Refusal> {
-    match progress {
-        Progress::Refused(refusal) => Some(refusal),
-        _ => None,
-    }
-}
-
-/// Whether it reads the bytes of its first piece, and goes on.
-fn reads_first(alloc: Global, gather: &mut Gather) -> Result<bool, NoMemory> {
-    if !asks_for(gather, 1)? {
+/// Whether the pieces want these rows, and then have these bytes, which are taken out of them.
+fn gathers(
+    alloc: Global,
+    gather: &mut Gather,
+    rows: &str,
+    expected: &[u8],
+) -> Result<bool, NoMemory> {
+    if !plays(alloc, gather, rows)? {
         return Ok(false);
     }
-    let bytes = Bytes::from_slice(alloc, b"abc")?;
-    Ok(wants_more(feed(gather, Answer::Bytes(bytes))?))
+    let shown = gather.bytes() == expected;
+    Ok(shown && gather.take_bytes().as_slice() == expected && gather.bytes().is_empty())
 }
 
-/// Whether it ends where there is no second object.
-fn ends_without_second(gather: &mut Gather) -> Result<bool, NoMemory> {
-    if !asks_for(gather, 4)? {
-        return Ok(false);
-    }
-    Ok(has_ended(feed(gather, Answer::Absent)?))
-}
+const ABSENT: &str = "at-b data-read 1 snap 1 at 0 3 of 0 => bytes abc
+at-b data-read 4 snap 1 at 0 2 of 0 => none
+done";
+
+const FENCED: &str = "at-b data-read 1 snap 1 at 0 3 of 0 => bytes abc
+at-b data-read 4 snap 1 at 0 2 of 0 => fenced
+Fenced";
+
+const AT_THE_HEAD: &str = "at-b data-read 1 at 0 3 of 0 => none
+done";
 
 #[test]
 fn an_absent_object_shows_zeros_behind_the_bytes_before(rt: HostRuntime) -> Result<(), Fail> {
-    let mut gather = gather(rt.alloc())?;
-    assert!(rt; holds(reads_first(rt.alloc(), &mut gather)));
-    assert!(rt; holds(ends_without_second(&mut gather)));
-    assert!(rt; gather.bytes() == b"abc\0\0".as_slice());
-    assert!(rt; gather.take_bytes().as_slice() == b"abc\0\0".as_slice());
+    let mut gather = two_pieces(rt.alloc())?;
+    assert!(rt; holds(gathers(rt.alloc(), &mut gather, ABSENT, b"abc\0\0")));
     Ok(())
-}
-
-fn is_fenced(gather: &mut Gather) -> Result<bool, NoMemory> {
-    Ok(refusal_of(feed(gather, Answer::Fenced)?) == Some(Refusal::Fenced))
 }
 
 #[test]
 fn the_fence_ends_a_gather(rt: HostRuntime) -> Result<(), Fail> {
-    let mut gather = gather(rt.alloc())?;
-    assert!(rt; holds(reads_first(rt.alloc(), &mut gather)));
-    assert!(rt; holds(is_fenced(&mut gather)));
-    Ok(())
-}
-
-/// Whether a request wants this, and one answer ends it with Done.
-#[tactic(auto, using(rbd_machine::proofs::Fed::fed_is_live))]
-fn one_answer_does<M: Machine>(
-    alloc: Global,
-    request: &mut M,
-    want: Want,
-    fed: &Fed,
-) -> Result<bool, NoMemory>
-    requires { CanBeFed (M.stands request.old).plan fed.now }
-{
-    let wanted = request.wants() == want;
-    request.ready(alloc, fed)?;
-    match request.feed(fed) {
-        Turn::Done(Reply::Done) => Ok(wanted),
-        _ => Ok(false),
-    }
-}
-
-/// Whether a piece goes on, as a machine, once the state of its object is raised.
-#[tactic(auto, using(crate::proofs::Pieces::done_can_be_fed))]
-fn goes_on_behind_its_state(
-    rt: &impl Abort,
-    alloc: Global,
-    write: &mut WritePiece,
-) -> Result<bool, NoMemory> {
-    let raised = Fed::Answer(Answer::Done);
-    go_on(rt, alloc, write, RAISE, raised)?;
-    let done = Fed::Answer(Answer::Done);
-    one_answer_does(alloc, write, WRITE, &done)
-}
-
-#[test]
-fn a_piece_of_a_write_is_a_machine(rt: HostRuntime) -> Result<(), Fail> {
-    let mut write = write_piece(rt.alloc())?;
-    assert!(rt; holds(goes_on_behind_its_state(&rt, rt.alloc(), &mut write)));
+    let mut gather = two_pieces(rt.alloc())?;
+    assert!(rt; holds(plays(rt.alloc(), &mut gather, FENCED)));
     Ok(())
 }
 
 #[test]
-fn a_gather_is_a_machine(rt: HostRuntime) -> Result<(), Fail> {
-    let mut pieces = Vec::new(rt.alloc());
-    pieces.push(piece(rt.alloc(), 1, 3)?)?;
-    let mut gather = Gather::new(rt.alloc(), SiteId::B, IMAGE, None, pieces);
-    let absent = Fed::Answer(Answer::Absent);
-    assert!(rt; holds(one_answer_does(rt.alloc(), &mut gather, READ, &absent)));
+fn an_absent_object_at_the_head_shows_zeros(rt: HostRuntime) -> Result<(), Fail> {
+    let mut gather = one_piece(rt.alloc())?;
+    assert!(rt; holds(gathers(rt.alloc(), &mut gather, AT_THE_HEAD, b"\0\0\0")));
     Ok(())
 }

@@ -1,38 +1,52 @@
-//! What takes a session from step to step, and what is asked of it.
+//! A session as what has requests in slots. Its own rows, beside those of others that have slots:
+//!
+//! | row | it holds where |
+//! |---|---|
+//! | `1 looks 7` | slot 1 stands at its own look of the image 7, and may go on |
+//! | `1 looks none` | it stands at no own look, or waits there |
+//! | `1 gives up` | what runs in slot 1 is given up, and the slot wants nothing more |
 //!
 //! Whether a request may go on, and wants an operation that can give an answer, is looked at when
 //! the test runs, so that no proof has to know where a request stands.
-ghost use Rattle.std.specs.Prelude.{◌≡◌, ◌≤◌, true, IfOk};
+ghost use Rattle.std.specs.Prelude.{◌≡◌, ◌≤◌, true, IfOk, IfSome};
+ghost use Rattle.rbd_fixtures.specs.Fit.{IsFit, IsFitFed};
 ghost use Rattle.rbd_kinds.specs.declared.machine.Fed.TheVariants as of_fed;
-ghost use Rattle.rbd_machine.specs.Answers.{CanGive, IsHeaderToldInForm};
 ghost use Rattle.rbd_session.specs.Session.{held_in, IsAnswered, OfRunning};
 
-use super::told::BITS;
 use rbd_admin::CreateRequest;
 use rbd_course::Request;
-use rbd_kinds::{
-    Answer, Command, Fed, Instance, MapOp, NoMemory, Op, Reply, SessionNo, SiteId, Slot,
-};
+use rbd_fixtures::{ME, Slots, can_give, number};
+use rbd_kinds::{Answer, Command, Fed, ImageAt, ImageId, NoMemory, Op, Reply, SiteId, Slot, Turn};
+use rbd_machine::Machine;
 use rbd_requests::{SessionRequest, Work, is_built};
 use rbd_session::Session;
 use std::alloc::Global;
-use std::process::Abort;
 
-/// A session of these tests. No machine is brought, so any type may stand where its type would.
-pub type Client = Session<SessionRequest<CreateRequest>>;
-
-/// A session at site A that has begun nothing.
-pub fn new_session(alloc: Global) -> Result<Client, NoMemory> {
-    let instance = Instance {
-        session: SessionNo(1),
-        life: 0,
-    };
-    Session::new(alloc, instance, SiteId::A)
+/// A session. What is asked of it is proved once, for any requests: with the type of all requests
+/// in its place each function is dear.
+#[derive(Drop)]
+pub struct Played<R: Request> {
+    session: Session<R>,
 }
 
-/// Whether what is asked holds, and there was memory to find it out.
-pub fn holds(found_out: Result<bool, NoMemory>) -> bool {
-    found_out.unwrap_or(false)
+/// A session of these tests. No machine is brought, so any type may stand where its type would.
+pub type Tested = Played<SessionRequest<CreateRequest>>;
+
+/// Requests that are made of commands.
+pub trait OfCommand: Request {
+    /// What the request of a command is made of, `None` where none serves it.
+    fn work(command: Command) -> Option<Self::Work>
+        ensures { IfSome result Self.serves };
+}
+
+impl<E: Machine + Drop> OfCommand for SessionRequest<E> {
+    fn work(command: Command) -> Option<Work<E>> {
+        if is_built(&command) {
+            return Some(Work::Plain(command));
+        }
+        drop(command);
+        None
+    }
 }
 
 fn has_room<R: Request>(session: &Session<R>) -> bool
@@ -41,52 +55,37 @@ fn has_room<R: Request>(session: &Session<R>) -> bool
     session.free().is_some()
 }
 
-/// A command takes a slot.
-pub fn submit(
-    rt: &impl Abort,
+/// A command takes a slot, where one is free and a request serves it.
+fn submit<R: OfCommand>(
     alloc: Global,
-    session: &mut Client,
+    session: &mut Session<R>,
     command: Command,
-) -> Result<Slot, NoMemory> {
-    assert!(rt; has_room(session));
-    assert!(rt; is_built(&command));
-    session.submit(alloc, 1, Work::Plain(command))
+) -> Result<Option<Slot>, NoMemory> {
+    if !has_room(session) {
+        drop(command);
+        return Ok(None);
+    }
+    match R::work(command) {
+        Some(work) => Ok(Some(session.submit(alloc, 1, work)?)),
+        None => Ok(None),
+    }
 }
 
-/// Whether the request in a slot may go on, and wants an operation of the home site, of the kind of
-/// this word.
-pub fn wants(session: &Client, slot: Slot, word: &str) -> bool {
-    match session.kind(slot) {
-        Some((SiteId::A, kind)) => kind.word() == word,
-        _ => false,
-    }
+/// Whether there is no operation. It goes with the call.
+fn is_none(op: Option<(SiteId, Op)>) -> bool {
+    let is = op.is_none();
+    drop(op);
+    is
 }
 
 /// Whether the request in a slot wants no operation: it waits, or there is none that runs.
-pub fn wants_none(alloc: Global, session: &Client, slot: Slot) -> Result<bool, NoMemory> {
+fn wants_none<R: Request>(
+    alloc: Global,
+    session: &Session<R>,
+    slot: Slot,
+) -> Result<bool, NoMemory> {
     let has_none = is_none(session.next(alloc, slot)?);
     Ok(has_none && session.kind(slot).is_none())
-}
-
-fn is_none(op: Option<(SiteId, Op)>) -> bool {
-    op.is_none()
-}
-
-/// Whether an operation can give an answer: of a look at a map, the bits of these tests.
-fn can_give(op: &Op, answer: &Answer) -> bool
-    requires { IsHeaderToldInForm answer.now }
-    ensures { result ≡ true → CanGive op.now answer.now }
-{
-    match (op, answer) {
-        (
-            Op::Map {
-                image: _,
-                op: MapOp::Get { snap: _ },
-            },
-            Answer::Bits(bits),
-        ) => bits.as_slice() == BITS.as_slice(),
-        _ => rbd_machine::can_give(op, answer),
-    }
 }
 
 /// Whether the request in a slot may go on, and wants an operation that can give this answer.
@@ -96,7 +95,7 @@ fn wants_it<R: Request>(
     slot: Slot,
     answer: &Answer,
 ) -> Result<bool, NoMemory>
-    requires { IsHeaderToldInForm answer.now }
+    requires { IsFit answer.now }
     ensures { IfOk result (λ wants. wants ≡ true
         → OfRunning (IsAnswered R.stands slot session.now.lines (of_fed.Answer answer.now))
         (held_in slot session.now.slots)) }
@@ -109,31 +108,111 @@ fn wants_it<R: Request>(
     Ok(can)
 }
 
-/// The request in a slot, which may go on, is fed an answer.
+/// What comes of what the request in a slot is fed, which may go on.
 fn feed<R: Request>(
     alloc: Global,
     session: &mut Session<R>,
     slot: Slot,
     fed: &Fed,
-) -> Result<Option<Reply>, NoMemory>
+) -> Result<Option<Turn>, NoMemory>
     requires { OfRunning (IsAnswered R.stands slot session.old.lines fed.now)
         (held_in slot session.old.slots) }
 {
     session.ready(alloc, slot, fed)?;
-    Ok(session.feed(slot, fed))
+    match session.feed(slot, fed) {
+        Some(reply) => Ok(Some(Turn::Done(reply))),
+        None => Ok(Some(Turn::More)),
+    }
 }
 
-/// The request in a slot is told the answer that it wants. Its reply, where it ends.
-pub fn tell(
-    rt: &impl Abort,
+/// The same, where the request wants what can give it.
+fn tell<R: Request>(
     alloc: Global,
-    session: &mut Client,
+    session: &mut Session<R>,
     slot: Slot,
-    answer: Answer,
-) -> Result<Option<Reply>, NoMemory>
-    requires { IsHeaderToldInForm answer }
+    fed: &Fed,
+) -> Result<Option<Turn>, NoMemory>
+    requires { IsFitFed fed.now }
 {
-    assert!(rt; wants_it(alloc, session, slot, &answer)?);
-    let fed = Fed::Answer(answer);
-    feed(alloc, session, slot, &fed)
+    let Fed::Answer(answer) = fed else {
+        return Ok(None);
+    };
+    if !wants_it(alloc, session, slot, answer)? {
+        return Ok(None);
+    }
+    feed(alloc, session, slot, fed)
+}
+
+/// Whether a slot stands at the own look of the image of this number, or at none.
+fn looks_at<R: Request>(session: &Session<R>, slot: Slot, word: &str) -> bool {
+    match session.own_look(slot) {
+        Some(at) => at.site == SiteId::A && u64::from(at.image.0) == number(word),
+        None => word == "none",
+    }
+}
+
+/// Whether a slot wants nothing once what runs in it was given up.
+fn is_given_up<R: Request>(
+    alloc: Global,
+    session: &mut Session<R>,
+    slot: Slot,
+) -> Result<bool, NoMemory> {
+    session.give_up(slot);
+    wants_none(alloc, session, slot)
+}
+
+impl<R: OfCommand> Slots for Played<R> {
+    fn begin(alloc: Global) -> Result<Self, NoMemory> {
+        let session = Session::new(alloc, ME, SiteId::A)?;
+        Ok(Played { session })
+    }
+
+    fn free(&self) -> Option<Slot> {
+        self.session.free()
+    }
+
+    fn is_at_rest(&self, at: &ImageAt) -> bool {
+        self.session.is_at_rest(at)
+    }
+
+    fn wants(&self, _alloc: Global, slot: Slot, words: &str) -> Result<bool, NoMemory> {
+        match self.session.kind(slot) {
+            Some((SiteId::A, kind)) => Ok(kind.word() == words),
+            _ => Ok(false),
+        }
+    }
+
+    fn is_still(&self, alloc: Global, slot: Slot) -> Result<bool, NoMemory> {
+        wants_none(alloc, &self.session, slot)
+    }
+
+    fn is_left(&self, alloc: Global, slot: Slot) -> Result<bool, NoMemory> {
+        wants_none(alloc, &self.session, slot)
+    }
+
+    fn take(&mut self, alloc: Global, command: Command) -> Result<Option<Slot>, NoMemory> {
+        submit(alloc, &mut self.session, command)
+    }
+
+    fn refuse(&mut self, slot: Slot) -> Option<Reply> {
+        self.session.refuse(slot)
+    }
+
+    fn tell(&mut self, alloc: Global, slot: Slot, fed: &Fed) -> Result<Option<Turn>, NoMemory> {
+        tell(alloc, &mut self.session, slot, fed)
+    }
+
+    fn own_row(
+        &mut self,
+        alloc: Global,
+        slot: Slot,
+        word: &str,
+        rest: &str,
+    ) -> Result<Option<bool>, NoMemory> {
+        match word {
+            "looks" => Ok(Some(looks_at(&self.session, slot, rest))),
+            "gives" => Ok(Some(rest == "up" && is_given_up(alloc, &mut self.session, slot)?)),
+            _ => Ok(None),
+        }
+    }
 }

@@ -1,38 +1,19 @@
 //! Tables of operations.
-ghost use Rattle.std.specs.Prelude.{◌≡◌, true, IfOk};
-ghost use Rattle.rbd_kinds.specs.Form.{IsHeaderInForm, IsOverlapWithin};
-ghost use Rattle.rbd_kinds.specs.States.{HoldStates};
+ghost use Rattle.std.specs.Prelude.{◌≡◌, true, IfOk, IfSome};
+ghost use Rattle.rbd_kinds.specs.Form.{IsHeaderInForm};
+ghost use Rattle.rbd_machine.specs.Plan.{IsLive};
 ghost use Rattle.rbd_zero.specs.Zero.{IsOfHead};
 
-use super::drive::is_done;
-use rbd_header::new_header;
-use rbd_kinds::{Bytes, Extent, HeaderView, ImageId, Layout, NoMemory, ParentLink, SiteId, SnapId};
+use rbd_fixtures::{IMAGE, Played, Scene, bytes, header, holds, number, play};
+use rbd_kinds::{Bytes, Extent, HeaderView, NoMemory, SiteId};
 use rbd_layout::{Piece, keeps_limits, pieces, place};
-use rbd_map::ObjectMap;
+use rbd_machine::Machine;
 use rbd_zero::{FullPiece, Size, ZeroPiece, is_whole};
 use std::alloc::Global;
 use std::process::Abort;
 use std::test::Fail;
 
-/// The image of these tests.
-const IMAGE: ImageId = ImageId(7);
-
-/// Whether what is asked holds, and there was memory to find it out.
-fn holds(found_out: Result<bool, NoMemory>) -> bool {
-    found_out.unwrap_or(false)
-}
-
-// ---- headers, states and bytes of words
-
-const LAYOUT: Layout = Layout {
-    object: 4096,
-    unit: 4096,
-    count: 1,
-};
-
-fn number(word: &str) -> u64 {
-    word.parse::<u64>().unwrap_or(0)
-}
+// ---- headers and bytes of words
 
 /// The next word of a row, as a number.
 fn next_number(words: &mut &str) -> u64 {
@@ -41,65 +22,23 @@ fn next_number(words: &mut &str) -> u64 {
     number(word)
 }
 
-/// The parent of a clone, and none where the overlap is 0.
-fn parent(rt: &impl Abort, size: u64, overlap: u64) -> Option<ParentLink>
-    ensures { IsOverlapWithin size result }
-{
-    if overlap == 0 {
-        return None;
-    }
-    assert!(rt; overlap <= size);
-    Some(ParentLink {
-        image: ImageId(1),
-        snap: SnapId(1),
-        overlap,
-    })
-}
-
 /// The header of an image by the next two words of a row: its size, and its overlap.
-fn header(rt: &impl Abort, alloc: Global, words: &mut &str) -> HeaderView
-    ensures { IsHeaderInForm result }
+fn header_of(alloc: Global, words: &mut &str) -> Result<Option<HeaderView>, NoMemory>
+    ensures { IfOk result (λ told. IfSome told IsHeaderInForm) }
 {
     let size = next_number(words);
     let overlap = next_number(words);
-    assert!(rt; size < 1_000_000);
-    assert!(rt; keeps_limits(&LAYOUT, size));
-    HeaderView {
-        parent: parent(rt, size, overlap),
-        ..new_header(alloc, LAYOUT, size)
-    }
+    let built = format!(in alloc; "size {size} parent {overlap}")?;
+    header(alloc, built.as_str())
 }
 
-/// The states of a map, a digit an object.
-fn states(alloc: Global, digits: &str) -> Result<Bytes, NoMemory>
-    ensures { IfOk result HoldStates }
+/// Whether a part is done after some operations, which the scene writes down.
+fn is_done<M: Machine>(alloc: Global, part: &mut M, scene: &mut Scene<'_>) -> Result<bool, NoMemory>
+    requires { IsLive (M.stands part.old).plan }
 {
-    let mut map = ObjectMap::new(alloc);
-    for digit in digits.bytes() {
-        let object = map.len();
-        let state = digit.wrapping_sub(b'0');
-        if object < 8 && state < 3 {
-            map.resize(object + 1)?;
-            set(&mut map, object, state);
-        }
-    }
-    let bits = map.bits()?;
-    Ok(bits)
-}
-
-fn set(map: &mut ObjectMap, object: u64, state: u8) {
-    if object < map.len() && state < 3 {
-        map.set(object, state);
-    }
-}
-
-/// Bytes as they stand, a dot for a zero.
-fn bytes(alloc: Global, text: &str) -> Result<Bytes, NoMemory> {
-    let mut bytes = Vec::new(alloc);
-    for byte in text.bytes() {
-        bytes.push(if byte == b'.' { 0 } else { byte })?;
-    }
-    Ok(Bytes::from_vec(bytes))
+    let mut reply = String::new(alloc);
+    let played = play(alloc, part, scene, 20, &mut reply)?;
+    Ok(played == Played::Replied && reply.as_str() == "done")
 }
 
 /// Whether a piece is one of the head.
@@ -123,7 +62,7 @@ fn zeros_into(
     alloc: Global,
     header: &HeaderView,
     piece: Piece,
-    log: &mut String,
+    scene: &mut Scene<'_>,
 ) -> Result<bool, NoMemory>
     requires { IsHeaderInForm header.now }
 {
@@ -131,22 +70,28 @@ fn zeros_into(
         return Ok(false);
     }
     let mut zeros = ZeroPiece::new(alloc, SiteId::A, IMAGE, header, piece)?;
-    zeros_done(alloc, &mut zeros, log)
+    zeros_done(alloc, &mut zeros, scene)
 }
 
 #[tactic(auto, using(rbd_zero::proofs::Sizes::piece_is_live))]
-fn zeros_done(alloc: Global, zeros: &mut ZeroPiece, log: &mut String) -> Result<bool, NoMemory> {
-    is_done(alloc, zeros, &states(alloc, "")?, log)
+fn zeros_done(
+    alloc: Global,
+    zeros: &mut ZeroPiece,
+    scene: &mut Scene<'_>,
+) -> Result<bool, NoMemory> {
+    is_done(alloc, zeros, scene)
 }
 
 /// The operations that zero an extent, of an image by a row: its size, its overlap, and where the
 /// extent begins and how long it is.
-fn zeroed(rt: &impl Abort, alloc: Global, row: &str, log: &mut String) -> Result<bool, NoMemory> {
+fn zeroed(alloc: Global, row: &str, scene: &mut Scene<'_>) -> Result<bool, NoMemory> {
     let mut words = row;
-    let header = header(rt, alloc, &mut words);
+    let Some(header) = header_of(alloc, &mut words)? else {
+        return Ok(false);
+    };
     let at = next_number(&mut words);
     let len = next_number(&mut words);
-    extent_zeroed(alloc, &header, at, len, log)
+    extent_zeroed(alloc, &header, at, len, scene)
 }
 
 fn extent_zeroed(
@@ -154,7 +99,7 @@ fn extent_zeroed(
     header: &HeaderView,
     at: u64,
     len: u64,
-    log: &mut String,
+    scene: &mut Scene<'_>,
 ) -> Result<bool, NoMemory>
     requires { IsHeaderInForm header.now }
 {
@@ -162,7 +107,7 @@ fn extent_zeroed(
         return Ok(false);
     }
     for piece in pieces(alloc, &header.layout, &Extent { at, len })? {
-        if !zeros_into(alloc, header, piece, log)? {
+        if !zeros_into(alloc, header, piece, scene)? {
             return Ok(false);
         }
     }
@@ -189,7 +134,7 @@ fn full_into(
     header: &HeaderView,
     piece: Piece,
     bytes: &Bytes,
-    log: &mut String,
+    scene: &mut Scene<'_>,
 ) -> Result<bool, NoMemory>
     requires { IsHeaderInForm header.now }
 {
@@ -197,28 +142,30 @@ fn full_into(
         return Ok(false);
     }
     let mut full = FullPiece::new(alloc, SiteId::A, IMAGE, header, piece, bytes)?;
-    full_done(alloc, &mut full, log)
+    full_done(alloc, &mut full, scene)
 }
 
 #[tactic(auto, using(rbd_zero::proofs::Sizes::full_is_live))]
-fn full_done(alloc: Global, full: &mut FullPiece, log: &mut String) -> Result<bool, NoMemory> {
-    is_done(alloc, full, &states(alloc, "")?, log)
+fn full_done(alloc: Global, full: &mut FullPiece, scene: &mut Scene<'_>) -> Result<bool, NoMemory> {
+    is_done(alloc, full, scene)
 }
 
 /// The operations that replace each object of an image by a row: its size, its overlap, and the
 /// bytes.
-fn replaced(rt: &impl Abort, alloc: Global, row: &str, log: &mut String) -> Result<bool, NoMemory> {
+fn replaced(alloc: Global, row: &str, scene: &mut Scene<'_>) -> Result<bool, NoMemory> {
     let mut words = row;
-    let header = header(rt, alloc, &mut words);
-    let bytes = bytes(alloc, words)?;
-    objects_replaced(alloc, &header, &bytes, log)
+    let Some(header) = header_of(alloc, &mut words)? else {
+        return Ok(false);
+    };
+    let bytes = Bytes::from_vec(bytes(alloc, words)?);
+    objects_replaced(alloc, &header, &bytes, scene)
 }
 
 fn objects_replaced(
     alloc: Global,
     header: &HeaderView,
     bytes: &Bytes,
-    log: &mut String,
+    scene: &mut Scene<'_>,
 ) -> Result<bool, NoMemory>
     requires { IsHeaderInForm header.now }
 {
@@ -230,7 +177,7 @@ fn objects_replaced(
         len: header.size,
     };
     for piece in pieces(alloc, &header.layout, &head)? {
-        if !full_into(alloc, header, piece, bytes, log)? {
+        if !full_into(alloc, header, piece, bytes, scene)? {
             return Ok(false);
         }
     }
@@ -238,52 +185,42 @@ fn objects_replaced(
 }
 
 const REPLACED: &str = "\
-4096 0 ab|map-set 0 1, data-write-full 0 2
-4096 0 ab..|map-set 0 1, data-write-full 0 2
-4096 0 .a.b.|map-set 0 1, data-write-full 0 4
+4096 0 ab|map-set 0 1, data-write-full 0 ab
+4096 0 ab..|map-set 0 1, data-write-full 0 ab
+4096 0 .a.b.|map-set 0 1, data-write-full 0 .a.b
 4096 0 ...|map-set 0 2, data-remove 0, map-set 0 0
-6000 1 a.|map-set 0 1, data-write-full 0 1, map-set 1 1, data-write-full 1 1
+6000 1 a.|map-set 0 1, data-write-full 0 a, map-set 1 1, data-write-full 1 a
 6000 1 .|map-set 0 1, data-empty 0, map-set 1 2, data-remove 1, map-set 1 0";
 
 // ---- sizes
 
 /// The operations that set a size of an image by a row: its size, its overlap, the new size, and
 /// the states of its head's map.
-fn resized(rt: &impl Abort, alloc: Global, row: &str, log: &mut String) -> Result<bool, NoMemory> {
+fn resized(alloc: Global, row: &str, scene: &mut Scene<'_>) -> Result<bool, NoMemory> {
     let mut words = row;
-    let header = header(rt, alloc, &mut words);
-    let to = next_number(&mut words);
-    let states = states(alloc, words)?;
-    resize(rt, alloc, &header, to, &states, log)
-}
-
-fn resize(
-    rt: &impl Abort,
-    alloc: Global,
-    header: &HeaderView,
-    to: u64,
-    states: &Bytes,
-    log: &mut String,
-) -> Result<bool, NoMemory>
-    requires form { IsHeaderInForm header.now }
-    requires states { HoldStates states.now }
-{
-    assert!(rt; to < 1_000_000);
-    assert!(rt; keeps_limits(&header.layout, to));
-    let mut size = Size::new(alloc, SiteId::A, IMAGE, header, to)?;
-    size_done(alloc, &mut size, states, log)
+    let Some(header) = header_of(alloc, &mut words)? else {
+        return Ok(false);
+    };
+    resize(alloc, &header, next_number(&mut words), scene)
 }
 
 #[tactic(auto, using(rbd_zero::proofs::Sizes::size_is_live))]
-fn size_done(
+fn resize(
     alloc: Global,
-    size: &mut Size,
-    states: &Bytes,
-    log: &mut String,
+    header: &HeaderView,
+    to: u64,
+    scene: &mut Scene<'_>,
 ) -> Result<bool, NoMemory>
-    requires { HoldStates states.now }
+    requires { IsHeaderInForm header.now }
 {
-    is_done(alloc, size, states, log)
+    if to >= 1_000_000 {
+        return Ok(false);
+    }
+    if !keeps_limits(&header.layout, to) {
+        return Ok(false);
+    }
+    let mut size = Size::new(alloc, SiteId::A, IMAGE, header, to)?;
+    is_done(alloc, &mut size, scene)
 }
 
 const RESIZED: &str = "\
@@ -310,20 +247,29 @@ enum Table {
     Resized,
 }
 
-fn row_holds(rt: &impl Abort, alloc: Global, table: &Table, row: &str) -> Result<bool, NoMemory> {
+/// The states of a map that a row gives as its last word: of one that sets a size the fourth.
+fn states_of<'t>(table: &Table, case: &'t str) -> &'t str {
+    match table {
+        Table::Resized => case.rsplit_once(' ').unwrap_or(("", "")).1,
+        _ => "",
+    }
+}
+
+fn row_holds(alloc: Global, table: &Table, row: &str) -> Result<bool, NoMemory> {
     let (case, operations) = row.split_once('|').unwrap_or((row, ""));
-    let mut log = String::new(alloc);
+    let look = format!(in alloc; "states {}", states_of(table, case))?;
+    let mut scene = Scene::new(alloc, look.as_str(), "", None);
     let done = match table {
-        Table::Zeroed => zeroed(rt, alloc, case, &mut log)?,
-        Table::Replaced => replaced(rt, alloc, case, &mut log)?,
-        Table::Resized => resized(rt, alloc, case, &mut log)?,
+        Table::Zeroed => zeroed(alloc, case, &mut scene)?,
+        Table::Replaced => replaced(alloc, case, &mut scene)?,
+        Table::Resized => resized(alloc, case, &mut scene)?,
     };
-    Ok(done && log.as_str() == operations)
+    Ok(done && scene.wants.as_str() == operations)
 }
 
 fn table_holds(rt: &impl Abort, alloc: Global, table: &Table, rows: &str) {
     for row in rows.split('\n') {
-        assert!(rt; holds(row_holds(rt, alloc, table, row)), "{row}");
+        assert!(rt; holds(row_holds(alloc, table, row)), "{row}");
     }
 }
 

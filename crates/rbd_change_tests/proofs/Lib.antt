@@ -1,3 +1,0 @@
-mod Bare
-mod Listed
-mod Passed

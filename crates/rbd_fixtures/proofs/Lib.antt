@@ -1,0 +1,5 @@
+mod Bare
+mod Cut
+mod Ending
+mod Listed
+mod Passed
