@@ -1,5 +1,5 @@
 -- Plain facts on tests, choices and ranges that std has under no name.
-use Rattle.std.proofs.Common.{◌≡◌, ℕ, zero, suc, ◌+◌, Bool, true, false, cond, ◌||◌, eqb, List, [], ◌∷◌, ◌++◌, refl, ap, arith}
+use Rattle.std.proofs.Common.{◌≡◌, ℕ, zero, suc, ◌+◌, Bool, true, false, cond, ◌||◌, eqb, List, ◌∷◌, ◌++◌, refl, ap, arith}
 use Rattle.std.specs.List.{range_with_len}
 
 pub eqb_flip : (a b : ℕ) → eqb a b ≡ eqb b a
