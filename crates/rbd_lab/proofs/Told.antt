@@ -1,10 +1,8 @@
 -- The text of a play's world tells the play.
-use Rattle.std.proofs.Common.{◌≡◌, ◌⊎◌, inl, inr, ℕ, List}
-use Rattle.rbd_ends.specs.OneChanger.{AreAllReplied, HasOneChanger}
+use Rattle.std.proofs.Common.{◌≡◌, ℕ, ◌<◌, ◌^◌, List, length}
 use Rattle.rbd_ends.proofs.Over.{changes_are_over}
 use Rattle.rbd_replies.proofs.AtPlaces.{fences_hold, locks_hold}
 use Rattle.rbd_replies.proofs.Worlds.{told_in_world}
-use Rattle.rbd_schedule.specs.Ends.{AreOver, IsSpent}
 use Rattle.rbd_schedule.specs.InOrder.{AreInOrder}
 use Rattle.rbd_schedule.specs.Playing.{IsPlay, IsPlayable}
 use Rattle.rbd_schedule.proofs.Calmed.{plays_rest}
@@ -14,24 +12,16 @@ use Rattle.rbd_world.specs.World.{WorldView}
 use Rattle.rbd_lab.specs.Output.{IsTold, Requests, stands, text_of}
 use Rattle.rbd_lab.specs.declared.mode.Mode.{Mode}
 
--- where one session alone changes images each command has its reply
-replied : (script : Script) (w : WorldView Requests) → IsPlayable script → (play : IsPlay stands script w) → HasOneChanger script → AreAllReplied script w ⊎ IsSpent stands script w play
-replied script w playable play one = by (changes_are_over stands script w playable one play)
-  where
-    by : (AreOver script w × AreAllReplied script w) ⊎ IsSpent stands script w play → AreAllReplied script w ⊎ IsSpent stands script w play
-    by (inl over) = inl over.1
-    by (inr spent) = inr spent
-
-pub told : (mode : Mode) (script : Script) (w : WorldView Requests) → IsPlayable script → AreInOrder script.lines → IsPlay stands script w
+pub told : (mode : Mode) (script : Script) (w : WorldView Requests) → IsPlayable script → AreInOrder script.lines → IsPlay stands script w → length w.calls < 2 ^ 59
     → (text : List ℕ) → text ≡ text_of mode script w → IsTold mode script text
-told mode script w playable in_order play text is = record {
+told mode script w playable in_order play few text is = record {
   world = w;
   play = play;
   replies = told_in_world stands w play.sound;
   fences = fences_hold play.sound.homes play.sound.run play.sound.right;
   locks = locks_hold play.sound.homes play.sound.run play.sound.right;
   turns = play_takes_turns stands script w play in_order;
-  ends = plays_rest stands script w play;
-  over = replied script w playable play;
+  ends = plays_rest stands script w play few;
+  over = λ one. (changes_are_over stands script w playable one play few).1;
   tells = is;
 }

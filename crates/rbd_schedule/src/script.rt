@@ -1,5 +1,5 @@
 //! Plays a script.
-ghost use Rattle.std.specs.Prelude.{◌≡◌, ◌↔◌, ℕ, [], false, length, IsTrue, IfOk, OnOk};
+ghost use Rattle.std.specs.Prelude.{◌≡◌, ◌↔◌, ℕ, ◌<◌, ◌^◌, [], false, length, IsTrue, IfOk, OnOk};
 ghost use Rattle.rbd_requests.specs.Session.{stands_of};
 ghost use Rattle.rbd_world.specs.Sound.{IsSoundWorld};
 ghost use Rattle.rbd_schedule.specs.Deeds.{Deeds};
@@ -21,11 +21,17 @@ const MOST_POLLS: u32 = 4096;
 /// makes.
 const CLOSING_ROUNDS: u128 = 1 << 60;
 
+/// A play with so many events isn't done. The calls of a world lie in memory, more than 32 bytes
+/// each, and an address has 64 bits: so no machine comes to so many, and no test can. It is asked
+/// because no contract of a vector speaks of its bytes.
+const TOO_MANY_EVENTS: usize = 1 << 59;
+
 /// Plays a script by its schedule, from a new world on to the end. It takes memory for the script's
 /// commands once more, and for what happens in the world.
 pub fn play<E: Machine + Drop>(alloc: Global, script: &Script) -> Result<World<E>, NoMemory>
     requires { IsPlayable script.now }
-    ensures { IfOk result (IsPlay (stands_of E.stands) script.now) }
+    ensures play { IfOk result (IsPlay (stands_of E.stands) script.now) }
+    ensures few { IfOk result (λ w. length w.calls < 2 ^ 59) }
 {
     let mut runner = Runner::new(alloc, script.sessions.as_slice())?;
     match runner.play_script(alloc, script) {
@@ -47,13 +53,26 @@ impl<E: Machine + Drop> Runner<E> {
         requires queues { length self.old.queues.items ≡ length script.now.sessions }
         ensures plays { OnOk result (PlaysScript (stands_of E.stands) script.now self.old.world self.new.world) }
         ensures sound { OnOk result (IsSoundWorld (stands_of E.stands) self.new.world) }
+        ensures few { OnOk result (length self.new.world.calls < 2 ^ 59) }
     {
         for line in script.lines.as_slice() {
             self.give(line)?;
             self.play_line(alloc, &line.said)?;
         }
         self.settle(alloc, closing_rounds(script.lines.as_slice()))?;
+        self.within_memory()?;
         Ok(())
+    }
+
+    /// Whether as few events came as a memory may hold.
+    fn within_memory(&self) -> Result<(), NoMemory>
+        ensures { OnOk result (length self.now.world.calls < 2 ^ 59) }
+    {
+        if self.world.calls().len() < TOO_MANY_EVENTS {
+            Ok(())
+        } else {
+            Err(NoMemory)
+        }
     }
 
     /// What a line does when it is reached.

@@ -7,12 +7,12 @@ use Rattle.rbd_lab.proofs.Told.{told}
 use Rattle.rbd_lab.proofs.play.output.Goals as goal
 
 pub tell_world-text-requires : goal.tell_world-text-requires
-tell_world-text-requires c = history_shown c.in_ok-world.world.history (world_in_form stands c.in_ok-world.world c.in_ok-world.ensures.sound)
+tell_world-text-requires c = history_shown c.in_ok-world.world.history (world_in_form stands c.in_ok-world.world c.in_ok-world.ensures.play.sound)
 
 pub returns : goal.returns
 returns c =
     IfOk-weaker c.tell_world-text.result
     (λ text. text.items ≡ text_of c.args.mode c.args.script.now c.in_ok-world.world)
     (λ text. IsTold c.args.mode c.args.script.now text.items)
-    (λ text. told c.args.mode c.args.script.now c.in_ok-world.world c.requires.playable c.requires.in_order c.in_ok-world.ensures text.items)
+    (λ text. told c.args.mode c.args.script.now c.in_ok-world.world c.requires.playable c.requires.in_order c.in_ok-world.ensures.play c.in_ok-world.ensures.few text.items)
     c.tell_world-text.ensures

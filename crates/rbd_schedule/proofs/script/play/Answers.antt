@@ -7,8 +7,8 @@ use Rattle.rbd_schedule.proofs.script.play.Goals as goal
 pub play_script-requires-clause-queues : goal.play_script-requires-clause-queues
 play_script-requires-clause-queues g c = c.in_ok-runner.ensures.queues ∙ ap length c.as_slice.ensures
 
-pub returns-in-Ok : goal.returns-in-Ok
-returns-in-Ok g c =
+pub returns-in-Ok-clause-play : goal.returns-in-Ok-clause-play
+returns-in-Ok-clause-play g c =
     let it : IsPlay (stands_of g.E.Machine.stands) c.args.script.now c.play_script.new.self.world = record {
       first = c.in_ok-runner.runner.world;
       new = c.in_ok-runner.ensures.new;

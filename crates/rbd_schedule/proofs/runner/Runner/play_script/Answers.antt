@@ -3,11 +3,10 @@ use Rattle.std.proofs.Common.{◌≡◌, ◌+◌, ◌≤◌, ◌<◌, ◌||◌, 
 use Rattle.std.proofs.lemmas.List.{take_all}
 use Rattle.std.proofs.lemmas.Option.{slice_get_read}
 use Rattle.rbd_requests.specs.Session.{stands_of}
-use Rattle.rbd_world.specs.Sound.{AreAtHome}
 use Rattle.rbd_schedule.specs.Deeds.{Deeds}
 use Rattle.rbd_schedule.specs.Given.{commands_of, given_in, is_lost_by, loses}
 use Rattle.rbd_schedule.specs.InOrder.{AreDeclared}
-use Rattle.rbd_schedule.specs.Playing.{IsPlay, given_to, homes_of, lost_in}
+use Rattle.rbd_schedule.specs.Playing.{given_to, lost_in}
 use Rattle.rbd_schedule.specs.Schedule.{PlaysLine, closing_rounds}
 use Rattle.rbd_schedule.proofs.Done.{none_done, one_more}
 use Rattle.rbd_schedule.proofs.Lines.{given_along, lost_more, played_at}
