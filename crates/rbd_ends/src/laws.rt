@@ -11,7 +11,7 @@ use rbd_course::Request;
 
 /// Where one session alone has commands that take locks, no image is quiesced and no session is
 /// stopped, nobody is held up at a lock: at the end of a play each command of the script has its
-/// reply. So it is with fewer than `2^59` events, and no other play is answered.
+/// reply. (A world in memory has had fewer than `2^59` events: `play` of `rbd_schedule` tells so.)
 pub fn plays_of_one_changer_are_over<R: Request>()
     ensures { (script : Script) (w : WorldView R) → IsPlayable script → HasOneChanger script → IsPlay R.stands script w
         → length w.calls < 2 ^ 59 → AreOver script w × AreAllReplied script w }

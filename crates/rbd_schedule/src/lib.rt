@@ -57,8 +57,7 @@
 //! that one of its requests may go on, as long as no lock holds it; and so of each play that at its
 //! end each command that was begun has its reply, or is lost, or is held up at a lock, or stands
 //! behind such a one in the line of its image. And of each play that a command without `&` begins
-//! when all before it of its session have ended. (A play with `2^59` events would be answered
-//! `NoMemory`: no memory holds so many.)
+//! when all before it of its session have ended.
 //!
 //! # Cost
 //!
