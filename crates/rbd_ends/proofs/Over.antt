@@ -1,5 +1,5 @@
 -- Where one session alone changes images, all is over at the end.
-use Rattle.std.proofs.Common.{◌≡◌, ◌⊎◌, inl, inr, ℕ, zero, suc, ◌+◌, ◌<◌, ◌≤◌, ◌==◌, ◌||◌, cond, Bool, true, false, List, [], ◌∷◌, ◌++◌, All, append-nil, length, is_some, slice_get, Option, Some, None, refl, sym, ap, ◌∙◌, subst, arith}
+use Rattle.std.proofs.Common.{◌≡◌, ◌⊎◌, inl, inr, ℕ, zero, suc, ◌+◌, ◌<◌, ◌≤◌, ◌^◌, ◌==◌, ◌||◌, cond, Bool, true, false, List, [], ◌∷◌, ◌++◌, All, append-nil, length, is_some, slice_get, Option, Some, None, refl, sym, ap, ◌∙◌, subst, arith}
 use Rattle.std.proofs.lemmas.Bool.{eq-eqb, false≢true, true≢false}
 use Rattle.std.proofs.lemmas.List.Elements.{All-cons, All-filter, All-head, All-nil, All-tail, All-weaker}
 use Rattle.std.proofs.lemmas.Option.{none-some, same_Some}
@@ -21,14 +21,15 @@ use Rattle.rbd_world.specs.declared.event.Event.TheVariants as event
 use Rattle.rbd_world.specs.Step.{is_begun}
 use Rattle.rbd_world.specs.World.{LivesView, WorldView, client_in, lives_in, running_of}
 use Rattle.rbd_schedule.specs.declared.given.Given.{Given}
-use Rattle.rbd_schedule.specs.Ends.{AreOver, HasCalmed, IsLockedOut, IsSpent, SomebodyIsHeldUp}
+use Rattle.rbd_schedule.specs.Ends.{AreOver, IsLockedOut, SomebodyIsHeldUp}
 use Rattle.rbd_schedule.specs.Given.{commands_of, given_by, given_in, is_lost_by, of_session}
 use Rattle.rbd_schedule.specs.InOrder.{AreDeclared, NamesDeclared}
 use Rattle.rbd_schedule.specs.Notices.{runs}
 use Rattle.rbd_schedule.specs.Playing.{IsPlay, IsPlayable}
-use Rattle.rbd_schedule.specs.Schedule.{Calm, Pace, Submits, closing_rounds, most_idle}
+use Rattle.rbd_schedule.specs.Schedule.{Calm, Pace, Submits, most_idle}
 use Rattle.rbd_schedule.specs.Starts.{is_ended}
 use Rattle.rbd_schedule.proofs.Calmed.{IsAtRest, IsLastRound, last_round, plays_rest, runs_below, sessions_there}
+use Rattle.rbd_schedule.proofs.Counted.{ends_idle}
 use Rattle.rbd_schedule.proofs.Ended.{holds_turns, none_still}
 use Rattle.rbd_schedule.proofs.Entries.{start_is_earliest}
 use Rattle.rbd_schedule.proofs.Kept.{MayComeBy, kept_by_deeds, kept_by_lines, kept_by_rounds, kept_to_closing}
@@ -224,17 +225,9 @@ module _ {R : Type 0} (stands : R → Standing) (script : Script) (w : WorldView
       (by_session (λ (c : Given). is_ended c.line w.history ≡ true) (λ s. s < count) (commands_of script.lines) (λ s below. over.given s (running_there s below))
       (commands_declared count script.lines playable.declared))
 
-  pub changes_are_over : (AreOver script w × AreAllReplied script w) ⊎ IsSpent stands script w play
-  changes_are_over = by play.plays.closing.ends
+  pub changes_are_over : length w.calls < 2 ^ 59 → AreOver script w × AreAllReplied script w
+  changes_are_over few = by (plays_rest stands script w play few).all
     where
-      calmed : (SomebodyIsHeldUp stands w → ⊥) → AreOver script w ⊎ SomebodyIsHeldUp stands w → (AreOver script w × AreAllReplied script w) ⊎ IsSpent stands script w play
-      calmed never (inl over) = inl (over, all_replied over)
-      calmed never (inr up) = absurd (never up)
-
-      rest : (SomebodyIsHeldUp stands w → ⊥) → HasCalmed stands script w ⊎ IsSpent stands script w play → (AreOver script w × AreAllReplied script w) ⊎ IsSpent stands script w play
-      rest never (inl calm) = calmed never calm.all
-      rest never (inr spent) = inr spent
-
-      by : (play.plays.closing.count ≡ closing_rounds (length (commands_of script.lines))) ⊎ (play.plays.closing.idle ≡ most_idle) → (AreOver script w × AreAllReplied script w) ⊎ IsSpent stands script w play
-      by (inl spent) = inr spent
-      by (inr eight) = rest (nobody_is_held_up eight) (plays_rest stands script w play)
+      by : AreOver script w ⊎ SomebodyIsHeldUp stands w → AreOver script w × AreAllReplied script w
+      by (inl over) = (over, all_replied over)
+      by (inr up) = absurd (nobody_is_held_up (ends_idle stands script w play few) up)

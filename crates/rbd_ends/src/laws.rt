@@ -1,8 +1,8 @@
 //! How a play ends in which nobody has to wait for a lock: each law is the contract of a function
 //! that does nothing.
-ghost use Rattle.std.specs.Prelude.{◌⊎◌};
+ghost use Rattle.std.specs.Prelude.{◌<◌, ◌^◌, length};
 ghost use Rattle.rbd_ends.specs.OneChanger.{AreAllReplied, HasOneChanger};
-ghost use Rattle.rbd_schedule.specs.Ends.{AreOver, IsSpent};
+ghost use Rattle.rbd_schedule.specs.Ends.{AreOver};
 ghost use Rattle.rbd_schedule.specs.Playing.{IsPlay, IsPlayable};
 ghost use Rattle.rbd_script.specs.declared.script.Script.{Script};
 ghost use Rattle.rbd_world.specs.World.{WorldView};
@@ -11,8 +11,8 @@ use rbd_course::Request;
 
 /// Where one session alone has commands that take locks, no image is quiesced and no session is
 /// stopped, nobody is held up at a lock: at the end of a play each command of the script has its
-/// reply, or all the rounds that close a script were played.
+/// reply. (A world in memory has had fewer than `2^59` events: `play` of `rbd_schedule` tells so.)
 pub fn plays_of_one_changer_are_over<R: Request>()
-    ensures { (script : Script) (w : WorldView R) → IsPlayable script → HasOneChanger script → (play : IsPlay R.stands script w)
-        → (AreOver script w × AreAllReplied script w) ⊎ IsSpent R.stands script w play }
+    ensures { (script : Script) (w : WorldView R) → IsPlayable script → HasOneChanger script → IsPlay R.stands script w
+        → length w.calls < 2 ^ 59 → AreOver script w × AreAllReplied script w }
 {}

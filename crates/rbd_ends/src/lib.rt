@@ -28,7 +28,7 @@
 //! | `specs/OneChanger.antt` | in which scripts one session alone changes images (`HasOneChanger`), and that each command has its reply (`AreAllReplied`) |
 //!
 //! [`laws`] says of each play of such a script that all is over at its end, and each command has
-//! its reply; or all the closing rounds were played.
+//! its reply.
 //!
 //! # How it is shown
 //!

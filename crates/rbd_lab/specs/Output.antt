@@ -1,5 +1,5 @@
 -- What is printed of a script.
-use Rattle.std.specs.Prelude.{◌≡◌, ◌⊎◌, ℕ, List, All}
+use Rattle.std.specs.Prelude.{◌≡◌, ℕ, List, All}
 use Rattle.rbd_admin.specs.Create.{rest_of_create}
 use Rattle.rbd_admin.specs.declared.create.CreateRequest.{CreateRequest}
 use Rattle.rbd_ends.specs.OneChanger.{AreAllReplied, HasOneChanger}
@@ -10,7 +10,7 @@ use Rattle.rbd_replies.specs.Fenced.{AtEachOperation, IsStoppedByTheFence, IsThe
 use Rattle.rbd_replies.specs.Worlds.{IsToldIn}
 use Rattle.rbd_requests.specs.Session.{stands_of}
 use Rattle.rbd_requests.specs.declared.request.SessionRequest.{SessionRequest}
-use Rattle.rbd_schedule.specs.Ends.{HasCalmed, IsSpent}
+use Rattle.rbd_schedule.specs.Ends.{HasCalmed}
 use Rattle.rbd_schedule.specs.Given.{given_in}
 use Rattle.rbd_schedule.specs.InTurn.{AreInTurn}
 use Rattle.rbd_schedule.specs.Playing.{IsPlay}
@@ -42,8 +42,7 @@ text_of mode script w = told_text mode script w.history (site_in A w.sites).log 
 -- lock, and no lock is broken whose owner isn't fenced. The commands of a session that wait for
 -- each other come one after another. At the end nothing goes on any more: each command that was
 -- begun has its reply, or is lost, or is held up at a lock, or stands behind such a one; and where
--- one session alone changes images (`HasOneChanger`), each command has its reply. Unless all the
--- rounds that close a script were played, more than any machine plays.
+-- one session alone changes images (`HasOneChanger`), each command has its reply.
 pub record IsTold (mode : Mode) (script : Script) (text : List ℕ) : Type 0 where
   pub world : WorldView Requests
   pub play : IsPlay stands script world
@@ -51,6 +50,6 @@ pub record IsTold (mode : Mode) (script : Script) (text : List ℕ) : Type 0 whe
   pub fences : AtEachOperation IsStoppedByTheFence play.sound.run
   pub locks : AtEachOperation IsTheOwners play.sound.run
   pub turns : (session : ℕ) → AreInTurn (given_in script.lines session) world.history
-  pub ends : HasCalmed stands script world ⊎ IsSpent stands script world play
-  pub over : HasOneChanger script → AreAllReplied script world ⊎ IsSpent stands script world play
+  pub ends : HasCalmed stands script world
+  pub over : HasOneChanger script → AreAllReplied script world
   pub tells : text ≡ text_of mode script world

@@ -3,7 +3,7 @@ ghost use Rattle.std.specs.Prelude.{◌≡◌, IfOk};
 ghost use Rattle.rbd_text.specs.Text.{AreShown};
 ghost use Rattle.rbd_schedule.specs.InOrder.{AreInOrder};
 ghost use Rattle.rbd_schedule.specs.Playing.{IsPlayable};
-ghost use Rattle.rbd_lab.specs.Output.{told_text, IsTold};
+ghost use Rattle.rbd_lab.specs.Output.{text_of, told_text, IsTold};
 
 use crate::mode::Mode;
 use rbd_admin::CreateRequest;
@@ -24,6 +24,21 @@ pub fn output(alloc: Global, mode: Mode, script: &Script) -> Result<Vec<u8>, NoM
 {
     // (no machine is brought, so any type may stand where its type would)
     let world: World<CreateRequest> = play(alloc, script)?;
+    let text = tell_world(alloc, mode, script, &world);
+    world.close();
+    text
+}
+
+/// The text of a world.
+fn tell_world(
+    alloc: Global,
+    mode: Mode,
+    script: &Script,
+    world: &World<CreateRequest>,
+) -> Result<Vec<u8>, NoMemory>
+    requires { AreShown world.now.history }
+    ensures { IfOk result (λ text. text.items ≡ text_of mode script.now world.now) }
+{
     let a = world.operations(SiteId::A);
     let b = world.operations(SiteId::B);
     tell(alloc, mode, script, world.history(), a, b)

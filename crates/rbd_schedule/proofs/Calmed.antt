@@ -1,5 +1,5 @@
 -- At the end of a play nothing goes on any more: who isn't over is held up at a lock.
-use Rattle.std.proofs.Common.{◌≡◌, ℕ, zero, suc, ◌+◌, ◌<◌, ◌≤◌, ◌==◌, ◌&&◌, ◌||◌, ◌⊎◌, inl, inr, cond, not, nat_lt, Bool, true, false, List, [], ◌∷◌, map, All, length, is_some, slice_get, Option, Some, None, refl, sym, ap, ◌∙◌, subst, arith}
+use Rattle.std.proofs.Common.{◌≡◌, ℕ, zero, suc, ◌+◌, ◌<◌, ◌≤◌, ◌^◌, ◌==◌, ◌&&◌, ◌||◌, ◌⊎◌, inl, inr, cond, not, nat_lt, Bool, true, false, List, [], ◌∷◌, map, All, length, is_some, slice_get, Option, Some, None, refl, sym, ap, ◌∙◌, subst, arith}
 use Rattle.std.proofs.lemmas.Bool.{cases_lt, false≢true, true≢false}
 use Rattle.std.proofs.lemmas.List.Elements.{All-cons, All-nil}
 use Rattle.std.proofs.lemmas.Option.{none-some}
@@ -26,12 +26,13 @@ use Rattle.rbd_world.proofs.Runs.{begun_is_asked}
 use Rattle.rbd_session.proofs.Sound.{held_range}
 use Rattle.rbd_schedule.specs.declared.given.Given.{Given}
 use Rattle.rbd_schedule.specs.Deeds.{Deeds}
-use Rattle.rbd_schedule.specs.Ends.{AreOver, HasCalmed, IsSpent, IsStuck, IsStuckIn, SomebodyIsHeldUp}
-use Rattle.rbd_schedule.specs.Given.{commands_of, given_in, is_lost_by}
+use Rattle.rbd_schedule.specs.Ends.{AreOver, HasCalmed, IsStuck, IsStuckIn, SomebodyIsHeldUp}
+use Rattle.rbd_schedule.specs.Given.{given_in, is_lost_by}
 use Rattle.rbd_schedule.specs.Notices.{runs}
 use Rattle.rbd_schedule.specs.Playing.{IsPlay, homes_of}
-use Rattle.rbd_schedule.specs.Schedule.{Calm, Pace, Round, RoundsOn, closing_rounds, most_idle}
+use Rattle.rbd_schedule.specs.Schedule.{Calm, Pace, Round, RoundsOn, most_idle}
 use Rattle.rbd_schedule.specs.Starts.{IsQuiet, earliest, is_end_of, is_ended}
+use Rattle.rbd_schedule.proofs.Counted.{ends_idle}
 use Rattle.rbd_schedule.proofs.Ended.{AreSoundSessions, HasRequestsOf, NoneRuns, free_there, keeps_turns, none_still, quiet_turns, requests_step, sound_again, still_turns}
 use Rattle.rbd_schedule.proofs.Idle.{IsStill}
 use Rattle.rbd_schedule.proofs.Kept.{kept_by_play}
@@ -379,9 +380,5 @@ module _ {R : Type 0} (stands : R → Standing) (script : Script) (w : WorldView
           go (inl quiet) = round_calms last.before.world last.round quiet
           go (inr none) = nobody_calms (none_still stands given lost count (record { world = last.before.world; went_on = false }) (record { world = w; went_on = false }) last.round none)
 
-  pub plays_rest : HasCalmed stands script w ⊎ IsSpent stands script w play
-  plays_rest = by play.plays.closing.ends
-    where
-      by : (play.plays.closing.count ≡ closing_rounds (length (commands_of script.lines))) ⊎ (play.plays.closing.idle ≡ most_idle) → HasCalmed stands script w ⊎ IsSpent stands script w play
-      by (inl spent) = inr spent
-      by (inr eight) = inl (ends_with eight)
+  pub plays_rest : length w.calls < 2 ^ 59 → HasCalmed stands script w
+  plays_rest few = ends_with (ends_idle stands script w play few)

@@ -12,11 +12,10 @@ use Rattle.rbd_world.specs.Step.{IsStep, call_of, happening}
 use Rattle.rbd_world.specs.World.{WorldView}
 use Rattle.rbd_schedule.specs.declared.given.Given.{Given}
 use Rattle.rbd_schedule.specs.Deeds.{Deeds}
-use Rattle.rbd_schedule.specs.Ends.{IsSpent}
 use Rattle.rbd_schedule.specs.Given.{commands_of, given_in, is_lost_by}
 use Rattle.rbd_schedule.specs.Notices.{is_due, runs}
 use Rattle.rbd_schedule.specs.Playing.{IsPlay}
-use Rattle.rbd_schedule.specs.Schedule.{Calm, DeliversWhere, Pace, PollsIn, PollsWhere, RoundsOn, Submits, Turn, TurnOf, TurnWhere, is_held, most_idle}
+use Rattle.rbd_schedule.specs.Schedule.{Calm, DeliversWhere, Pace, PollsIn, PollsWhere, RoundsOn, Submits, Turn, TurnOf, TurnWhere, closing_rounds, is_held, most_idle}
 use Rattle.rbd_schedule.proofs.Ended.{NoneRuns, skip_turns}
 use Rattle.rbd_schedule.proofs.Kept.{kept_by_deeds, kept_by_starts, kept_where, kept_where_due, kept_where_runs}
 
@@ -141,9 +140,14 @@ module _ {R : Type 0} (stands : R → Standing) (script : Script) (w : WorldView
       by (inl made) = omega (arith, made)
       by (inr (none, few)) = omega (arith, few, eight)
 
-  pub never_spent : length w.calls < 2 ^ 59 → IsSpent stands script w play → ⊥
-  never_spent few spent =
-      let least : 2 ^ 60 ≤ 2 ^ 60 * (length (commands_of script.lines) + 1) = omega arith in
-      let most = rounds_are_events in
-      let small : 2 ^ 59 + 8 < 2 ^ 60 = omega arith in
-      absurd (omega (arith, few, spent, least, most, small))
+  -- where fewer events came, never all the rounds that close a script
+  pub ends_idle : length w.calls < 2 ^ 59 → play.plays.closing.idle ≡ most_idle
+  ends_idle few = by play.plays.closing.ends
+    where
+      by : (play.plays.closing.count ≡ closing_rounds (length (commands_of script.lines))) ⊎ (play.plays.closing.idle ≡ most_idle) → play.plays.closing.idle ≡ most_idle
+      by (inl spent) =
+          let least : 2 ^ 60 ≤ 2 ^ 60 * (length (commands_of script.lines) + 1) = omega arith in
+          let most = rounds_are_events in
+          let small : 2 ^ 59 + 8 < 2 ^ 60 = omega arith in
+          absurd (omega (arith, few, spent, least, most, small))
+      by (inr eight) = eight

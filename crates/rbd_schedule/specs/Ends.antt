@@ -1,5 +1,5 @@
 -- How a play ends.
-use Rattle.std.specs.Prelude.{◌≡◌, ◌⊎◌, ℕ, true, List, ◌∷◌, All, length, Some}
+use Rattle.std.specs.Prelude.{◌≡◌, ◌⊎◌, ℕ, true, List, ◌∷◌, All, Some}
 use Rattle.rbd_client.specs.declared.actor.Actor.{Actor}
 use Rattle.rbd_client.specs.declared.actor.Actor.TheVariants as actor
 use Rattle.rbd_client.specs.Actor.{actor_at, is_acquiring}
@@ -16,10 +16,8 @@ use Rattle.rbd_world.specs.Sound.{line_at}
 use Rattle.rbd_world.specs.Step.{is_begun}
 use Rattle.rbd_world.specs.World.{WorldView, client_in}
 use Rattle.rbd_schedule.specs.declared.given.Given.{Given}
-use Rattle.rbd_schedule.specs.Given.{commands_of, given_in}
+use Rattle.rbd_schedule.specs.Given.{given_in}
 use Rattle.rbd_schedule.specs.Notices.{runs}
-use Rattle.rbd_schedule.specs.Playing.{IsPlay}
-use Rattle.rbd_schedule.specs.Schedule.{closing_rounds}
 use Rattle.rbd_schedule.specs.Starts.{is_ended}
 
 -- ---- all is over
@@ -85,7 +83,3 @@ pub record SomebodyIsHeldUp {R : Type 0} (stands : R → Standing) (w : WorldVie
 pub record HasCalmed {R : Type 0} (stands : R → Standing) (script : Script) (w : WorldView R) : Type 0 where
   pub each : (line : ℕ) → is_begun line w.history ≡ true → (is_ended line w.history ≡ true) ⊎ IsStuck stands w line
   pub all : AreOver script w ⊎ SomebodyIsHeldUp stands w
-
--- all the rounds that close a script were played, which are more than any machine plays
-abbrev pub IsSpent : {R : Type 0} → (stands : R → Standing) → (script : Script) → (w : WorldView R) → IsPlay stands script w → Type 0
-IsSpent stands script w play = play.plays.closing.count ≡ closing_rounds (length (commands_of script.lines))

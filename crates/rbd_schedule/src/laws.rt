@@ -1,17 +1,17 @@
 //! What holds of each script that was read, of each session, and of each play: each law is the
 //! contract of a function that does nothing.
-ghost use Rattle.std.specs.Prelude.{◌≡◌, ◌⊎◌, ℕ, ◌+◌, ◌^◌, ◌<◌, ◌≤◌, Bool, List, length, Ok, Some};
+ghost use Rattle.std.specs.Prelude.{◌≡◌, ℕ, ◌+◌, ◌^◌, ◌<◌, ◌≤◌, Bool, List, length, Ok, Some};
 ghost use Rattle.rbd_script.specs.Reading.{reading};
 ghost use Rattle.rbd_script.specs.declared.script.Script.{Script};
 ghost use Rattle.rbd_session.specs.Session.{SessionView, IsSoundSession, held_in};
 ghost use Rattle.rbd_session.specs.declared.running.Occupant.{Occupant};
 ghost use Rattle.rbd_world.specs.World.{WorldView};
-ghost use Rattle.rbd_schedule.specs.Ends.{HasCalmed, IsSpent};
+ghost use Rattle.rbd_schedule.specs.Ends.{HasCalmed};
 ghost use Rattle.rbd_schedule.specs.Given.{given_in};
 ghost use Rattle.rbd_schedule.specs.Going.{MayGo};
 ghost use Rattle.rbd_schedule.specs.InOrder.{AreDeclared, AreInOrder};
 ghost use Rattle.rbd_schedule.specs.InTurn.{AreInTurn};
-ghost use Rattle.rbd_schedule.specs.Playing.{IsPlay, IsPlayable};
+ghost use Rattle.rbd_schedule.specs.Playing.{IsPlay};
 
 use rbd_course::Request;
 
@@ -31,18 +31,19 @@ pub fn somebody_goes_on<R: Request>()
 
 /// At the end of a play nothing goes on any more: each command that was begun has its reply, or is
 /// lost, or is held up at a lock, or stands behind such a one in the line of its image; and where
-/// nobody is held up, each command of a session that runs is over. Or all the rounds that close a
-/// script were played, `2^60` for each command and once more, and never were eight in a row idle.
+/// nobody is held up, each command of a session that runs is over. (A world in memory has had fewer
+/// than `2^59` events: `play` tells so.)
 pub fn plays_come_to_rest<R: Request>()
-    ensures { (script : Script) (w : WorldView R) → IsPlayable script → (play : IsPlay R.stands script w) → HasCalmed R.stands script w ⊎ IsSpent R.stands script w play }
+    ensures { (script : Script) (w : WorldView R) → IsPlay R.stands script w → length w.calls < 2 ^ 59 → HasCalmed R.stands script w }
 {}
 
 /// The rounds that close a script are no more than the events of its play, and eight: in a round in
-/// which a session runs there is an event at least, and where none runs, eight rounds end it. So a
-/// play with fewer than `2^59` events never came to the end of its rounds: there are `2^60` and more.
+/// which a session runs there is an event at least, and where none runs, eight rounds end it. So in
+/// a play with fewer than `2^59` events they end with eight in a row that are idle: there are `2^60`
+/// and more.
 pub fn closing_rounds_suffice<R: Request>()
     ensures rounds { (script : Script) (w : WorldView R) → (play : IsPlay R.stands script w) → play.plays.closing.count ≤ length w.calls + 8 }
-    ensures unspent { (script : Script) (w : WorldView R) → (play : IsPlay R.stands script w) → length w.calls < 2 ^ 59 → IsSpent R.stands script w play → ⊥ }
+    ensures idle { (script : Script) (w : WorldView R) → (play : IsPlay R.stands script w) → length w.calls < 2 ^ 59 → play.plays.closing.idle ≡ 8 }
 {}
 
 /// In each play the commands of a session that wait for each other come one after another: one

@@ -49,16 +49,15 @@
 //! | `specs/InOrder.antt` | what holds of the lines of each script that was read |
 //! | `specs/InTurn.antt` | that commands that wait for each other come one after another (`AreInTurn`) |
 //! | `specs/Going.antt` | whether a request of a session may go on (`MayGo`) |
-//! | `specs/Ends.antt` | that at the end each command that was begun has its reply, is lost, or is held up at a lock (`HasCalmed`), or all closing rounds were played (`IsSpent`) |
+//! | `specs/Ends.antt` | that at the end each command that was begun has its reply, is lost, or is held up at a lock (`HasCalmed`) |
 //!
 //! [`play`] answers with a world to which the script's schedule led, from a new one on: each of its
 //! calls is the event that the rules name behind the calls before it. [`laws`] says of each script
 //! that was read that its lines ascend and name declared sessions; of each session with a request
 //! that one of its requests may go on, as long as no lock holds it; and so of each play that at its
 //! end each command that was begun has its reply, or is lost, or is held up at a lock, or stands
-//! behind such a one in the line of its image; or all the closing rounds were played, which comes
-//! in no play with fewer than `2^59` events. And of each play that a command without `&` begins when
-//! all before it of its session have ended.
+//! behind such a one in the line of its image. And of each play that a command without `&` begins
+//! when all before it of its session have ended.
 //!
 //! # Cost
 //!

@@ -24,8 +24,8 @@ use rbd_world::{Event, Outcome, World};
 use std::alloc::Global;
 use std::collections::HashSet;
 
-/// A world, and the commands of the script for each of its sessions.
-#[derive(Debug, Drop)]
+/// A world, and the commands of the script for each of its sessions. As a world it isn't `Drop`.
+#[derive(Debug)]
 pub struct Runner<E: Machine + Drop> {
     pub world: World<E>,
     /// The commands that each session was given so far.
@@ -93,6 +93,11 @@ impl<E: Machine + Drop> Runner<E> {
             passed: _,
         } = self;
         world
+    }
+
+    /// Lets the runner go, and its world.
+    pub fn close(self) {
+        self.into_world().close();
     }
 
     /// A line is reached: the command that it gives, where it gives one, waits behind the others of

@@ -1,10 +1,11 @@
 //! Plays a script.
-ghost use Rattle.std.specs.Prelude.{◌≡◌, ◌↔◌, length, IsTrue, IfOk, OnOk};
+ghost use Rattle.std.specs.Prelude.{◌≡◌, ◌↔◌, ℕ, ◌<◌, ◌^◌, [], false, length, IsTrue, IfOk, OnOk};
 ghost use Rattle.rbd_requests.specs.Session.{stands_of};
+ghost use Rattle.rbd_world.specs.Sound.{IsSoundWorld};
 ghost use Rattle.rbd_schedule.specs.Deeds.{Deeds};
 ghost use Rattle.rbd_schedule.specs.Given.{commands_of, given_by};
 ghost use Rattle.rbd_schedule.specs.Playing.{GoesOn, IsPlay, IsPlayable, KeepsUp, given_to, lost_in};
-ghost use Rattle.rbd_schedule.specs.Schedule.{IsOneEvent, IsOneEventAt, Plays, Polls, PollsUntil, Wants, closing_rounds as rounds_for};
+ghost use Rattle.rbd_schedule.specs.Schedule.{IsOneEvent, IsOneEventAt, Plays, PlaysScript, Polls, PollsUntil, Wants, closing_rounds as rounds_for};
 
 use crate::runner::Runner;
 use rbd_kinds::{NoMemory, OpKind, SessionNo, Slot};
@@ -24,18 +25,48 @@ const CLOSING_ROUNDS: u128 = 1 << 60;
 /// commands once more, and for what happens in the world.
 pub fn play<E: Machine + Drop>(alloc: Global, script: &Script) -> Result<World<E>, NoMemory>
     requires { IsPlayable script.now }
-    ensures { IfOk result (IsPlay (stands_of E.stands) script.now) }
+    ensures play { IfOk result (IsPlay (stands_of E.stands) script.now) }
+    ensures few { IfOk result (λ w. length w.calls < 2 ^ 59) }
 {
     let mut runner = Runner::new(alloc, script.sessions.as_slice())?;
-    for line in script.lines.as_slice() {
-        runner.give(line)?;
-        runner.play_line(alloc, &line.said)?;
+    match runner.play_script(alloc, script) {
+        Ok(()) => Ok(runner.into_world()),
+        Err(NoMemory) => {
+            runner.close();
+            Err(NoMemory)
+        }
     }
-    runner.settle(alloc, closing_rounds(script.lines.as_slice()))?;
-    Ok(runner.into_world())
 }
 
 impl<E: Machine + Drop> Runner<E> {
+    /// Plays the lines of a script, and the rounds that close it, where nothing was played so far.
+    fn play_script(&mut self, alloc: Global, script: &Script) -> Result<(), NoMemory>
+        requires playable { IsPlayable script.now }
+        requires keeps { KeepsUp (stands_of E.stands) self.old }
+        requires given { (session : ℕ) → given_to self.old session ≡ [] }
+        requires lost { (number : ℕ) → lost_in self.old number ≡ false }
+        requires queues { length self.old.queues.items ≡ length script.now.sessions }
+        ensures plays { OnOk result (PlaysScript (stands_of E.stands) script.now self.old.world self.new.world) }
+        ensures sound { OnOk result (IsSoundWorld (stands_of E.stands) self.new.world) }
+        ensures few { OnOk result (length self.new.world.calls < 2 ^ 59) }
+    {
+        for line in script.lines.as_slice() {
+            self.give(line)?;
+            self.play_line(alloc, &line.said)?;
+        }
+        self.settle(alloc, closing_rounds(script.lines.as_slice()))?;
+        self.few_events();
+        Ok(())
+    }
+
+    /// That no world has had as many events: its calls lie in memory, more than 32 bytes each, and no
+    /// slice has 2^63 bytes.
+    fn few_events(&self)
+        ensures { length self.now.world.calls < 2 ^ 59 }
+    {
+        let _calls = self.world.calls();
+    }
+
     /// What a line does when it is reached.
     fn play_line(&mut self, alloc: Global, said: &Said) -> Result<(), NoMemory>
         requires { KeepsUp (stands_of E.stands) self.old }

@@ -41,7 +41,9 @@ use std::marker::Model;
 ///  └────────────────────────────────────────┘
 ///      history: what was done, in order        calls: the events, and what came of each
 /// ```
-#[derive(Debug, Drop)]
+///
+/// It isn't `Drop`: [`World::close`] lets it go.
+#[derive(Debug)]
 pub struct World<E: Machine + Drop> {
     sites: Sites,
     lives: Vec<Lives<SessionRequest<E>>>,
@@ -83,6 +85,21 @@ impl<E: Machine + Drop> World<E> {
                 calls: Vec::new(alloc),
             },
         })
+    }
+
+    /// Lets the world go. Nothing else does: a crate in which a world is dropped would prove the
+    /// letting go of all its parts once more.
+    pub fn close(self) {
+        let World {
+            sites,
+            lives,
+            begun,
+            book,
+        } = self;
+        drop(sites);
+        drop(lives);
+        drop(begun);
+        drop(book);
     }
 
     /// One event. What it does, and what comes of it, is a function of the world (`happening`).

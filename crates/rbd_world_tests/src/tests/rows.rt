@@ -35,7 +35,6 @@ use super::told::is_told;
 use rbd_kinds::NoMemory;
 use rbd_script::Script;
 use std::alloc::Global;
-use std::mem::forget;
 use std::process::Abort;
 
 /// Stops the test where what a part or a word of a row says isn't so.
@@ -81,13 +80,12 @@ fn parts_hold(
 }
 
 /// A new world with the clients of a script goes by a row. No other function owns a world or a
-/// script, since each that does is dear to prove. The world isn't let go: each test is a process,
-/// which ends.
+/// script, since each that does is dear to prove.
 pub fn named_row_holds(rt: &impl Abort, alloc: Global, text: &str, name: &str, row: &str) {
     let script = script(rt, alloc, text.as_bytes());
     let mut world = new_world(rt, alloc);
     parts_hold(rt, alloc, &mut world, &script, name, row);
-    forget(world);
+    world.close();
     drop(script);
 }
 

@@ -5,15 +5,15 @@ use Rattle.rbd_schedule.specs.Given.{given_in, is_lost_by}
 use Rattle.rbd_schedule.specs.InOrder.{AreDeclared}
 use Rattle.rbd_schedule.specs.Playing.{IsPlayable, KeepsUp, given_to, lost_in}
 use Rattle.rbd_schedule.specs.Schedule.{PlaysLine}
-use Rattle.rbd_schedule.proofs.script.play.Given as goal
+use Rattle.rbd_schedule.proofs.runner.Runner.play_script.Given as goal
 
 -- the lines so far were played
 abbrev pub invariant-loop-line : goal.invariant-loop-line
 invariant-loop-line g l = record {
-  queues : length l.runner.queues.items ≡ length l.fn.script.sessions;
-  keeps : IsPlayable l.fn.script → KeepsUp (stands_of g.E.Machine.stands) l.runner;
-  lost : lost_in l.runner ≡ is_lost_by (take l.line-index l.fn.script.lines);
-  given : AreDeclared (length l.fn.script.sessions) l.fn.script.lines → given_to l.runner ≡ given_in (take l.line-index l.fn.script.lines);
+  queues : length l.self.queues.items ≡ length l.fn.script.sessions;
+  keeps : IsPlayable l.fn.script → KeepsUp (stands_of g.E.Machine.stands) l.self;
+  lost : lost_in l.self ≡ is_lost_by (take l.line-index l.fn.script.lines);
+  given : AreDeclared (length l.fn.script.sessions) l.fn.script.lines → given_to l.self ≡ given_in (take l.line-index l.fn.script.lines);
   lines : AreDeclared (length l.fn.script.sessions) l.fn.script.lines
-      → Deeds (PlaysLine (stands_of g.E.Machine.stands) l.fn.script) l.line-index l.initial.runner.world l.runner.world;
+      → Deeds (PlaysLine (stands_of g.E.Machine.stands) l.fn.script) l.line-index l.fn.self.world l.self.world;
 }
