@@ -93,7 +93,7 @@ pub fn wants<R: Request>(
     slot: Slot,
     words: &str,
 ) -> Result<bool, NoMemory> {
-    let Some((site, op)) = client.next(alloc, slot)? else {
+    let Some((site, op)) = client.next(alloc, slot, &client.actor(slot))? else {
         return Ok(false);
     };
     let is = is_wanted(client, slot, site, &op, words);
@@ -111,7 +111,7 @@ pub fn wants_none<R: Request>(
     client: &Client<R>,
     slot: Slot,
 ) -> Result<bool, NoMemory> {
-    let has_none = is_none(client.next(alloc, slot)?);
+    let has_none = is_none(client.next(alloc, slot, &client.actor(slot))?);
     Ok(has_none && client.kind(slot).is_none())
 }
 
@@ -166,8 +166,9 @@ fn feed<R: Request>(
     requires op { op_wanted R.stands slot client.old ≡ Some (site, op.now) }
     requires rest { IsAtRest site op.now client.old }
 {
-    client.ready(alloc, slot, fed)?;
-    Ok(client.feed(slot, site, op, fed))
+    let actor = client.actor(slot);
+    client.ready(alloc, slot, &actor, fed)?;
+    Ok(client.feed(slot, &actor, site, op, fed))
 }
 
 /// Whether the operation that is wanted at a slot can give an answer: who acts there is fed it
@@ -234,7 +235,7 @@ pub fn tell<R: Request>(
 ) -> Result<Option<Reply>, NoMemory>
     requires { IsHeaderToldInForm answer }
 {
-    let Some((site, op)) = client.next(alloc, slot)? else {
+    let Some((site, op)) = client.next(alloc, slot, &client.actor(slot))? else {
         panic!(rt; "an operation is wanted")
     };
     let reply = give(rt, alloc, client, slot, site, &op, answer);
