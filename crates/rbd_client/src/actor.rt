@@ -1,12 +1,12 @@
 //! Who acts where a slot is polled.
-ghost use Rattle.std.specs.Prelude.{◌≡◌};
+ghost use Rattle.std.specs.Prelude.{◌≡◌, Some};
 ghost use Rattle.rbd_kinds.specs.OperationKind.{kind_of};
 ghost use Rattle.rbd_owner.specs.Acquire.{op_of};
 ghost use Rattle.rbd_owner.specs.Release.{release_op};
-ghost use Rattle.rbd_client.specs.Actor.{actor_at_look, actor_by, actor_on, releasing};
+ghost use Rattle.rbd_client.specs.Actor.{actor_at_look, actor_by, actor_on, is_acquiring, releasing};
 
 use crate::slot_state::Way;
-use rbd_kinds::{ImageAt, OpKind, SiteId, Want};
+use rbd_kinds::{ImageAt, Op, OpKind, SiteId, Want};
 use rbd_locks::{LockState, Locks};
 use rbd_machine::Machine;
 use rbd_owner::{Acquire, Release};
@@ -22,6 +22,18 @@ pub enum Actor {
     Way(Acquire),
     /// The release of a lock, at slot 0.
     Release(Release),
+}
+
+impl Actor {
+    /// Whether the operation that is wanted is a step on its request's way to the lock.
+    pub fn is_acquiring(&self) -> bool
+        ensures { result ≡ is_acquiring self.now }
+    {
+        match self {
+            Actor::Way(_) => true,
+            _ => false,
+        }
+    }
 }
 
 /// Who acts for a request at its own look, by what is counted of the image's lock.
@@ -79,6 +91,13 @@ pub fn way_kind(way: &Acquire) -> (SiteId, OpKind)
     }
 }
 
+/// The operation that a way wants, and its site.
+pub fn way_op(way: &Acquire) -> Option<(SiteId, Op)>
+    ensures { result ≡ Some (way.now.site, op_of way.now) }
+{
+    Some((way.site(), way.next()))
+}
+
 /// The site and the kind of the operation that a release wants.
 pub fn release_kind(release: &Release) -> (SiteId, OpKind)
     ensures { result ≡ (release.now.site, kind_of (release_op release.now)) }
@@ -87,4 +106,11 @@ pub fn release_kind(release: &Release) -> (SiteId, OpKind)
         Want::Op { site, kind } => (site, kind),
         _ => unreachable!(),
     }
+}
+
+/// The operation that a release wants, and its site.
+pub fn release_op(release: &Release) -> Option<(SiteId, Op)>
+    ensures { result ≡ Some (release.now.site, release_op release.now) }
+{
+    Some((release.site(), release.next()))
 }

@@ -1,7 +1,7 @@
 //! A client and its calls.
 ghost use Rattle.std.specs.Prelude.{◌≡◌, ◌≢◌, ℕ, ◌≤◌, [], ◌∷◌, ◌++◌, None, Some, IsSome, IsNone, IfOk, OnErr, OnOk};
 ghost use Rattle.rbd_client.specs.declared.actor.Actor.TheVariants as actor;
-ghost use Rattle.rbd_client.specs.Actor.{actor_at, due_release, is_acquiring, is_at_rest, kind_wanted, may_release, op_wanted};
+ghost use Rattle.rbd_client.specs.Actor.{actor_at, due_release, is_at_rest, kind_wanted, may_release, op_wanted};
 ghost use Rattle.rbd_client.specs.Client.{heard_with, newcomer, state_in};
 ghost use Rattle.rbd_client.specs.Feeding.{CanGet, DropsAtRest, IsClientAlike, IsFedBy, IsReadiedFor, StaysUnlessRequest};
 ghost use Rattle.rbd_client.specs.Sound.{IsSoundClient};
@@ -12,7 +12,7 @@ ghost use Rattle.rbd_session.specs.Lines.{lines_of};
 ghost use Rattle.rbd_session.specs.OnTrack.{LeavesOthers};
 ghost use Rattle.rbd_session.specs.Session.{free_slot, held_in, op_at, refusal_in, reply_of, script_line, seat_of, IsNewcomer};
 
-use crate::actor::{Actor, for_release, for_request, release_kind, way_kind};
+use crate::actor::{Actor, for_release, for_request, release_kind, release_op, way_kind, way_op};
 use crate::counting::count;
 use crate::going::{go_on, let_go, settle};
 use crate::slot_state::{SlotState, Way};
@@ -143,9 +143,11 @@ impl<R: Request> Client<R> {
         ensures rest { (self.new.session.instance ≡ self.old.session.instance) × (self.new.session.home ≡ self.old.session.home) × (self.new.locks ≡ self.old.locks) × (self.new.release ≡ self.old.release) × (self.new.heard ≡ self.old.heard) }
         ensures sound { IsSoundClient R.stands self.new }
     {
-        let reply = self.session.refuse(slot)?;
-        set_state(&mut self.slots, slot, SlotState::blank());
-        Some(reply)
+        let reply = self.session.refuse(slot);
+        if reply.is_some() {
+            set_state(&mut self.slots, slot, SlotState::blank());
+        }
+        reply
     }
 
     /// The site and the kind of the operation that is wanted at a slot: `None` exactly where the
@@ -163,42 +165,59 @@ impl<R: Request> Client<R> {
         }
     }
 
-    /// The operation that is wanted at a slot, and its site: `None` as by [`Client::kind`].
-    pub fn next(&self, alloc: Global, slot: Slot) -> Result<Option<(SiteId, Op)>, NoMemory>
+    /// Who acts where a slot is polled: found once a poll, for the calls that it makes. It takes no
+    /// memory.
+    pub fn actor(&self, slot: Slot) -> Actor
+        ensures actor { result ≡ actor_at R.stands slot self.now }
+        ensures sound { IsSoundClient R.stands self.now }
+    {
+        if slot.0 == 0 {
+            return for_release(self.release, self.due());
+        }
+        for_request(
+            state_of(self.slots.as_slice(), slot).way,
+            self.session.own_look(slot),
+            &self.locks,
+        )
+    }
+
+    /// The operation that is wanted at a slot by who acts there, and its site: `None` as by
+    /// [`Client::kind`].
+    pub fn next(
+        &self,
+        alloc: Global,
+        slot: Slot,
+        actor: &Actor,
+    ) -> Result<Option<(SiteId, Op)>, NoMemory>
+        requires { actor.now ≡ actor_at R.stands slot self.now }
         ensures op { IfOk result (λ told. told ≡ op_wanted R.stands slot self.now) }
         ensures sound { IsSoundClient R.stands self.now }
     {
-        match self.actor(slot) {
+        match actor {
             Actor::Nobody => Ok(None),
             Actor::Request => self.session.next(alloc, slot),
-            Actor::Way(way) => Ok(Some((way.site(), way.next()))),
-            Actor::Release(release) => Ok(Some((release.site(), release.next()))),
-        }
-    }
-
-    /// Whether the operation that is wanted at a slot is a step on its request's way to the lock.
-    /// It takes no memory.
-    pub fn is_acquiring(&self, slot: Slot) -> bool
-        ensures acquiring { result ≡ is_acquiring (actor_at R.stands slot self.now) }
-        ensures sound { IsSoundClient R.stands self.now }
-    {
-        match self.actor(slot) {
-            Actor::Way(_) => true,
-            _ => false,
+            Actor::Way(way) => Ok(way_op(way)),
+            Actor::Release(release) => Ok(release_op(release)),
         }
     }
 
     /// Makes everything ready for an answer to the operation that is wanted at a slot: all memory
     /// that [`Client::feed`] needs. Nothing else changes, also where memory is refused.
-    pub fn ready(&mut self, alloc: Global, slot: Slot, fed: &Fed) -> Result<(), NoMemory>
-        requires { CanGet R.stands slot self.old.session fed.now (actor_at R.stands slot self.old) }
+    pub fn ready(
+        &mut self,
+        alloc: Global,
+        slot: Slot,
+        actor: &Actor,
+        fed: &Fed,
+    ) -> Result<(), NoMemory>
+        requires actor { actor.now ≡ actor_at R.stands slot self.old }
+        requires can { CanGet R.stands slot self.old.session fed.now (actor_at R.stands slot self.old) }
         ensures alike { IsClientAlike R.stands self.old self.new }
         ensures others { (other : ℕ) → other ≢ slot → held_in other self.new.session.slots ≡ held_in other self.old.session.slots }
         ensures ready { OnOk result (IsReadiedFor R.stands R.is_ready slot fed.now self.new) }
         ensures stays { StaysUnlessRequest (actor_at R.stands slot self.old) self.old.session self.new.session }
         ensures sound { IsSoundClient R.stands self.new }
     {
-        let actor = self.actor(slot);
         self.locks.reserve()?;
         if let Actor::Request = actor {
             return self.session.ready(alloc, slot, fed);
@@ -210,7 +229,15 @@ impl<R: Request> Client<R> {
     /// lock, or to the release. It goes on to its next operation, or ends. `None` exactly where no
     /// request has ended, and else the reply of the one in the slot, which is free. It takes no
     /// memory.
-    pub fn feed(&mut self, slot: Slot, site: SiteId, op: &Op, fed: &Fed) -> Option<Reply>
+    pub fn feed(
+        &mut self,
+        slot: Slot,
+        actor: &Actor,
+        site: SiteId,
+        op: &Op,
+        fed: &Fed,
+    ) -> Option<Reply>
+        requires actor { actor.now ≡ actor_at R.stands slot self.old }
         requires ready { IsReadiedFor R.stands R.is_ready slot fed.now self.old }
         requires op { op_wanted R.stands slot self.old ≡ Some (site, op.now) }
         requires rest { DropsAtRest (actor_at R.stands slot self.old) site op.now self.old }
@@ -220,12 +247,12 @@ impl<R: Request> Client<R> {
         ensures who { (self.new.session.instance ≡ self.old.session.instance) × (self.new.session.home ≡ self.old.session.home) × (self.new.heard ≡ self.old.heard) }
         ensures sound { IsSoundClient R.stands self.new }
     {
-        match self.actor(slot) {
+        match actor {
             Actor::Nobody => unreachable!(),
             Actor::Request => self.feed_request(slot, site, op, fed),
-            Actor::Way(way) => self.feed_way(slot, way, site, op, fed),
+            Actor::Way(way) => self.feed_way(slot, *way, site, op, fed),
             Actor::Release(release) => {
-                self.feed_release(release, site, op, fed);
+                self.feed_release(*release, site, op, fed);
                 None
             }
         }
@@ -260,21 +287,6 @@ impl<R: Request> Client<R> {
         ensures sound { IsSoundClient R.stands self.now }
     {
         self.session.is_at_rest(at) && !is_any_taken(self.slots.as_slice(), at)
-    }
-
-    /// Who acts where a slot is polled.
-    fn actor(&self, slot: Slot) -> Actor
-        ensures actor { result ≡ actor_at R.stands slot self.now }
-        ensures sound { IsSoundClient R.stands self.now }
-    {
-        if slot.0 == 0 {
-            return for_release(self.release, self.due());
-        }
-        for_request(
-            state_of(self.slots.as_slice(), slot).way,
-            self.session.own_look(slot),
-            &self.locks,
-        )
     }
 
     /// Of the images that were asked for, in order, the first whose lock may be let go.

@@ -6,8 +6,9 @@
 //! let one = client.submit(alloc, 3, write, Quiescing::Leaves)?;  // slot 1
 //! ..                                        // dir-find, header-get: it waits for its own look
 //! client.kind(one)                          // site A, watch: the lock isn't this client's yet
-//! client.ready(alloc, one, &done)?;
-//! client.feed(one, SiteId::A, &watch, &done)     // None
+//! let actor = client.actor(one);            // its way to the lock
+//! client.ready(alloc, one, &actor, &done)?;
+//! client.feed(one, &actor, SiteId::A, &watch, &done)     // None
 //! client.kind(one)                          // site A, lock-take
 //! ..                                        // done: the lock is taken
 //! client.kind(one)                          // site A, header-get: its own look
@@ -81,7 +82,8 @@
 //! A session knows no lock, and a lock no request. A client asks its session at whose own look a
 //! slot stands, its locks what is counted there, and lets one of three act: the request, its way,
 //! or the release. What acts is found anew at each look, so nothing has to be kept up to date but
-//! by the answers.
+//! by the answers. Within one poll nothing else acts: so a poll finds it once, and hands it to `next`,
+//! `ready` and `feed`.
 #![tactic(auto)]
 
 mod actor;
@@ -92,5 +94,6 @@ pub mod laws;
 mod slot_state;
 mod slots;
 
+pub use actor::Actor;
 pub use client::Client;
 pub use slot_state::{SlotState, Way};

@@ -11,7 +11,7 @@ use Rattle.rbd_kinds.specs.Images.{key_of}
 use Rattle.rbd_session.specs.Lines.{LinesView, members_or, members_in, members_at, lines_of}
 use Rattle.rbd_session.specs.Track.{changed_at}
 
-no_members : (members : List Member) → (length members == 0) ≡ true → members ≡ []
+pub no_members : (members : List Member) → (length members == 0) ≡ true → members ≡ []
 no_members [] is = refl
 no_members (m ∷ members) is =
     let none : length (m ∷ members) ≡ 0 = eqb-true (length (m ∷ members)) 0 is in absurd (omega (arith, none))

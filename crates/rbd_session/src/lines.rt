@@ -127,21 +127,27 @@ fn add(lines: &mut HashMap<u64, Line>, key: u64, line: Line)
     added.unwrap();
 }
 
-/// A line that nobody is in is let go.
-fn forget_empty(lines: &mut HashMap<u64, Line>, key: u64)
+/// A line that nobody is in is held no more: it is for the next image, with the memory that it has.
+fn forget_empty(lines: &mut HashMap<u64, Line>, unused: &mut Option<Line>, key: u64)
     ensures members { (k : ℕ) → members_in lines.new k ≡ members_in lines.old k }
     ensures spare { spare lines.old ≤ spare lines.new }
+    ensures unused { IsEmptyLine unused.old → IsEmptyLine unused.new }
 {
     if is_empty_in(lines, key) {
-        forget(lines, key);
+        forget(lines, unused, key);
     }
 }
 
-fn forget(lines: &mut HashMap<u64, Line>, key: u64)
+/// The line under a key is held no more, but kept for the next image, if it is there.
+fn forget(lines: &mut HashMap<u64, Line>, unused: &mut Option<Line>, key: u64)
+    requires { members_in lines.old key ≡ [] }
     ensures lines { (k : ℕ) → get nat_eq lines.new k ≡ cond (nat_eq key k) None (get nat_eq lines.old k) }
     ensures spare { spare lines.old ≤ spare lines.new }
+    ensures unused { IsEmptyLine unused.old → IsEmptyLine unused.new }
 {
-    lines.remove(&key);
+    if let Some(line) = lines.remove(&key) {
+        *unused = Some(line);
+    }
 }
 
 fn is_empty_in(lines: &HashMap<u64, Line>, key: u64) -> bool
@@ -304,7 +310,7 @@ impl Lines {
         };
         let key = place.key();
         leave_in(&mut self.lines, key, slot);
-        forget_empty(&mut self.lines, key);
+        forget_empty(&mut self.lines, &mut self.unused, key);
     }
 
     /// Whether a request may go past its own look.
@@ -380,6 +386,13 @@ fn make_unused(alloc: Global, unused: &mut Option<Line>) -> Result<(), NoMemory>
     if is_empty_line(unused) {
         return Ok(());
     }
+    renew(alloc, unused)
+}
+
+/// A new line. (By itself, since a line is rarely made, and takes room wherever it is.)
+fn renew(alloc: Global, unused: &mut Option<Line>) -> Result<(), NoMemory>
+    ensures { OnOk result (IsEmptyLine unused.new) }
+{
     *unused = Some(Line::new(alloc)?);
     Ok(())
 }

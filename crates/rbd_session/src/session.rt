@@ -12,7 +12,7 @@ ghost use Rattle.rbd_session.specs.declared.running.Running.{Running};
 use crate::feeding::{feed_in, prepare_in};
 use crate::lines::Lines;
 use crate::running::{Occupant, Running};
-use crate::slots::{empty_slots, free_up, held_at, next_free};
+use crate::slots::{empty_slots, free_up, held_at, hold, next_free};
 use crate::wanted::{going, own_look, running_in, wanted_kind, wanted_op};
 use rbd_course::{Begun, Request};
 use rbd_kinds::{Fed, ImageAt, Instance, NoMemory, Op, OpKind, Refusal, Reply, SiteId, Slot};
@@ -101,11 +101,15 @@ impl<R: Request> Session<R> {
             session: self.instance.session,
             home: self.home,
         };
-        let occupant = newcomer(alloc, &seat, line, work)?;
-        let slot = self.lowest;
-        self.slots[slot as usize] = Some(occupant);
-        self.lowest = next_free(self.slots.as_slice(), slot + 1);
-        Ok(Slot(slot))
+        match newcomer(alloc, &seat, line, work) {
+            Ok(occupant) => {
+                let slot = self.lowest;
+                hold(&mut self.slots, Slot(slot), occupant);
+                self.lowest = next_free(self.slots.as_slice(), slot + 1);
+                Ok(Slot(slot))
+            }
+            Err(fault) => Err(fault),
+        }
     }
 
     /// The script's line of the request in a slot: `None` exactly where the slot is free. It takes
@@ -253,7 +257,8 @@ fn refusal_at<R>(slots: &[Option<Occupant<R>>], slot: Slot) -> Option<Refusal>
     }
 }
 
-/// A request as it comes into a slot.
+/// A request as it comes into a slot. (Here and where it is put there no `?` is used: it would move
+/// the request, which is large, four times more.)
 fn newcomer<R: Request>(
     alloc: Global,
     seat: &Seat,
@@ -264,9 +269,9 @@ fn newcomer<R: Request>(
     ensures { IfOk result (λ o. IsNewcomer R.stands R.stands_for R.extent_for seat.now line work (Some o)) }
 {
     let extent = R::extent(&work);
-    match R::begin(alloc, seat, work)? {
-        Begun::Refused(refusal) => Ok(Occupant::Refused { line, refusal }),
-        Begun::Asks(request) => Ok(Occupant::Running(Running {
+    match R::begin(alloc, seat, work) {
+        Ok(Begun::Refused(refusal)) => Ok(Occupant::Refused { line, refusal }),
+        Ok(Begun::Asks(request)) => Ok(Occupant::Running(Running {
             line,
             request,
             extent,
@@ -274,5 +279,6 @@ fn newcomer<R: Request>(
             turn: None,
             looked: None,
         })),
+        Err(fault) => Err(fault),
     }
 }

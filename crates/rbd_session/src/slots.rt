@@ -1,5 +1,5 @@
 //! The slots of a session: 1 to 64, each free or held.
-ghost use Rattle.std.specs.Prelude.{◌≡◌, ℕ, ◌<◌, ◌≤◌, length, replicate, slice_set, None, IsSome, IfOk};
+ghost use Rattle.std.specs.Prelude.{◌≡◌, ℕ, ◌<◌, ◌≤◌, length, replicate, slice_set, None, Some, IsSome, IfOk};
 ghost use Rattle.std.specs.Option.{option_map};
 ghost use Rattle.rbd_session.specs.Session.{held_in, IsLowest};
 
@@ -42,6 +42,15 @@ pub fn held_at<T>(slots: &[Option<T>], slot: Slot) -> Option<&T>
         Some(held) => held.as_ref(),
         None => None,
     }
+}
+
+/// A slot is held from now on.
+pub fn hold<T: Drop>(slots: &mut Vec<Option<T>>, slot: Slot, held: T)
+    requires to { slot ≤ 64 }
+    requires length { length slots.old.items ≡ 65 }
+    ensures { slots.new.items ≡ slice_set slots.old.items slot (Some held) }
+{
+    slots[slot.0 as usize] = Some(held);
 }
 
 /// A slot that is held is free from now on.

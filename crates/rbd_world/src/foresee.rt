@@ -52,18 +52,43 @@ pub fn foresee(alloc: Global, at: &Site, due: &Due) -> Result<Foreseen, NoMemory
     ensures waiting { IfOk result (λ f. f.waiting ≡ waits (reason_of (doer_of due.now.by)) (kind_of due.now.op) (answer_to (records_of at.now) due.now.who due.now.op)) }
     ensures entry { IfOk result (λ f. f.entry ≡ entry_of (operation_at at.now due.now.who (doer_of due.now.by) due.now.site due.now.op)) }
 {
-    let answer = at.answer(due.who, &due.op)?;
-    let effect = effect_now(alloc, at, &due.op, &answer)?;
-    let number = at.log().len() as u64 + 1;
-    let waiting = is_waiting(due.by.reason(), due.op.kind(), &answer);
-    let fence = fence_of(&due.op, &answer);
-    let entry = entry_by(due.by.cause(&due.who), due.site, number, fence, effect);
-    Ok(Foreseen {
-        fed: Fed::Answer(answer),
-        number,
-        waiting,
-        entry,
-    })
+    match at.answer(due.who, &due.op) {
+        Ok(answer) => foresee_answered(alloc, at, due, answer),
+        Err(fault) => Err(fault),
+    }
+}
+
+/// The same, where its answer is known.
+fn foresee_answered(
+    alloc: Global,
+    at: &Site,
+    due: &Due,
+    answer: Answer,
+) -> Result<Foreseen, NoMemory>
+    requires { answer ≡ answer_to (records_of at.now) due.now.who due.now.op }
+    ensures fed { IfOk result (λ f. f.fed ≡ of_fed.Answer answer) }
+    ensures number { IfOk result (λ f. f.number ≡ next_number at.now) }
+    ensures waiting { IfOk result (λ f. f.waiting ≡ waits (reason_of (doer_of due.now.by)) (kind_of due.now.op) answer) }
+    ensures entry { IfOk result (λ f. f.entry ≡ entry_of (operation_at at.now due.now.who (doer_of due.now.by) due.now.site due.now.op)) }
+{
+    match effect_now(alloc, at, &due.op, &answer) {
+        Ok(effect) => {
+            let number = at.log().len() as u64 + 1;
+            let waiting = is_waiting(due.by.reason(), due.op.kind(), &answer);
+            let fence = fence_of(&due.op, &answer);
+            let entry = entry_by(due.by.cause(&due.who), due.site, number, fence, effect);
+            Ok(Foreseen {
+                fed: Fed::Answer(answer),
+                number,
+                waiting,
+                entry,
+            })
+        }
+        Err(fault) => {
+            drop(answer);
+            Err(fault)
+        }
+    }
 }
 
 /// The instance that an operation puts into its site's blocklist.

@@ -7,15 +7,17 @@
 //!   │          └ all memory that the answer needs
 //!   └ what the site would answer
 //! ```
-ghost use Rattle.std.specs.Prelude.{◌≡◌, ◌≢◌, ℕ, ◌+◌, ◌≤◌, Some, IfOk, OnErr};
+//!
+//! What is foreseen is large, so it is moved no further than it must: no `?` hands it on, and each
+//! way out lets it go by a call.
+ghost use Rattle.std.specs.Prelude.{◌≡◌, ◌+◌, ◌≤◌, Some, IfOk, OnErr};
 ghost use Rattle.std.specs.Vec.{vec_capacity, vec_len};
 ghost use Rattle.rbd_client.specs.Actor.{actor_at, op_wanted};
-ghost use Rattle.rbd_client.specs.Feeding.{DropsAtRest, IsClientAlike, IsReadiedFor, StaysUnlessRequest};
+ghost use Rattle.rbd_client.specs.Feeding.{DropsAtRest, IsClientAlike};
 ghost use Rattle.rbd_client.specs.Sound.{IsSoundClient};
 ghost use Rattle.rbd_kinds.specs.OperationKind.{kind_of};
 ghost use Rattle.rbd_kinds.specs.declared.machine.Fed.TheVariants as of_fed;
 ghost use Rattle.rbd_owner.specs.Waiting.{is_waiting};
-ghost use Rattle.rbd_session.specs.Session.{held_in};
 ghost use Rattle.rbd_site.specs.Step.{answer_to};
 ghost use Rattle.rbd_world.specs.Operate.{HasComeAt, IsOperatedAt};
 ghost use Rattle.rbd_world.specs.Run.{entry_of, reason_of};
@@ -27,7 +29,7 @@ use crate::event::Outcome;
 use crate::foresee::{Due, Foreseen, foresee};
 use crate::noting::note;
 use crate::sites::{Sites, apply, latest};
-use rbd_client::Client;
+use rbd_client::{Actor, Client};
 use rbd_course::Request;
 use rbd_flat::Entry;
 use rbd_kinds::{NoMemory, Slot};
@@ -41,9 +43,11 @@ pub fn operate<R: Request>(
     client: &mut Client<R>,
     history: &mut Vec<Entry>,
     slot: Slot,
+    actor: &Actor,
     due: Due,
 ) -> Result<Outcome, NoMemory>
     requires room { vec_len history.old + 2 ≤ vec_capacity history.old }
+    requires actor { actor.now ≡ actor_at R.stands slot client.old }
     requires whose { due.who ≡ client.old.session.instance }
     requires wants { op_wanted R.stands slot client.old ≡ Some (due.site, due.op) }
     requires permitted { IsPermitted sites.old due.who due.site due.op }
@@ -54,63 +58,46 @@ pub fn operate<R: Request>(
     ensures unnoted { OnErr result (history.new.items ≡ history.old.items) }
     ensures sound { IsSoundClient R.stands client.new }
 {
-    match prepare(alloc, sites, client, slot, &due) {
-        Ok(foreseen) => {
-            let Due { who, by, site, op } = due;
-            let Foreseen {
-                fed,
-                number,
-                waiting,
-                entry,
-            } = foreseen;
-            apply(sites, site, who, op, &fed)?;
-            let Some(done) = latest(sites.at(site).log()) else {
-                unreachable!()
-            };
-            let reply = client.feed(slot, site, done, &fed);
-            drop(fed);
-            let outcome = Outcome::Step {
-                site,
-                number,
-                waiting,
-                replied: reply.is_some(),
-            };
-            note(history, &by, entry, reply);
-            Ok(outcome)
-        }
-        Err(fault) => {
-            drop(due);
-            Err(fault)
-        }
-    }
+    // (it is asked for its clause that the client is sound)
+    let _free = client.free();
+    let Ok(foreseen) = foresee_at(alloc, sites, &due) else {
+        drop(due);
+        return Err(NoMemory);
+    };
+    let Ok(()) = client.ready(alloc, slot, actor, &foreseen.fed) else {
+        drop(due);
+        drop(foreseen);
+        return Err(NoMemory);
+    };
+    let Due { who, by, site, op } = due;
+    let Ok(()) = apply(sites, site, who, op, &foreseen.fed) else {
+        drop(foreseen);
+        return Err(NoMemory);
+    };
+    let Some(done) = latest(sites.at(site).log()) else {
+        unreachable!()
+    };
+    let reply = client.feed(slot, actor, site, done, &foreseen.fed);
+    let outcome = Outcome::Step {
+        site,
+        number: foreseen.number,
+        waiting: foreseen.waiting,
+        replied: reply.is_some(),
+    };
+    drop(foreseen.fed);
+    note(history, &by, foreseen.entry, reply);
+    Ok(outcome)
 }
 
-/// What the operation that is wanted at a slot will come to. The client is made ready for the
-/// answer; nothing else changes, also where memory is refused.
-fn prepare<R: Request>(
-    alloc: Global,
-    sites: &Sites,
-    client: &mut Client<R>,
-    slot: Slot,
-    due: &Due,
-) -> Result<Foreseen, NoMemory>
-    requires wants { op_wanted R.stands slot client.old ≡ Some (due.now.site, due.now.op) }
+/// What an operation will come to at its site. Nothing changes.
+fn foresee_at(alloc: Global, sites: &Sites, due: &Due) -> Result<Foreseen, NoMemory>
     requires permitted { IsPermitted sites.now due.now.who due.now.site due.now.op }
     ensures fed { IfOk result (λ f. f.fed ≡ of_fed.Answer (answer_to (records_in due.now.site sites.now) due.now.who due.now.op)) }
     ensures number { IfOk result (λ f. f.number ≡ next_number (site_in due.now.site sites.now)) }
     ensures waiting { IfOk result (λ f. f.waiting ≡ is_waiting (reason_of (doer_of due.now.by)) (kind_of due.now.op) (answer_to (records_in due.now.site sites.now) due.now.who due.now.op)) }
     ensures entry { IfOk result (λ f. f.entry ≡ entry_of (operation_at (site_in due.now.site sites.now) due.now.who (doer_of due.now.by) due.now.site due.now.op)) }
-    ensures alike { IsClientAlike R.stands client.old client.new }
-    ensures stays { StaysUnlessRequest (actor_at R.stands slot client.old) client.old.session client.new.session }
-    ensures others { (other : ℕ) → other ≢ slot → held_in other client.new.session.slots ≡ held_in other client.old.session.slots }
-    ensures ready { IfOk result (λ f. IsReadiedFor R.stands R.is_ready slot f.fed client.new) }
-    ensures sound { IsSoundClient R.stands client.new }
 {
-    // (it is asked for its clause that the client is sound)
-    let _free = client.free();
-    let foreseen = foresee(alloc, sites.at(due.site), due)?;
-    client.ready(alloc, slot, &foreseen.fed)?;
-    Ok(foreseen)
+    foresee(alloc, sites.at(due.site), due)
 }
 
 /// Does an operation of an instance that was stopped, which nobody is fed, and notes it in the
@@ -127,28 +114,22 @@ pub fn send(
     ensures err { OnErr result (AreSameSites sites.old sites.new) }
     ensures unnoted { OnErr result (history.new.items ≡ history.old.items) }
 {
-    match foresee(alloc, sites.at(due.site), &due) {
-        Ok(foreseen) => {
-            let Due { who, by, site, op } = due;
-            let Foreseen {
-                fed,
-                number,
-                waiting,
-                entry,
-            } = foreseen;
-            apply(sites, site, who, op, &fed)?;
-            drop(fed);
-            note(history, &by, entry, None);
-            Ok(Outcome::Step {
-                site,
-                number,
-                waiting,
-                replied: false,
-            })
-        }
-        Err(fault) => {
-            drop(due);
-            Err(fault)
-        }
-    }
+    let Ok(foreseen) = foresee_at(alloc, sites, &due) else {
+        drop(due);
+        return Err(NoMemory);
+    };
+    let Due { who, by, site, op } = due;
+    let Ok(()) = apply(sites, site, who, op, &foreseen.fed) else {
+        drop(foreseen);
+        return Err(NoMemory);
+    };
+    let outcome = Outcome::Step {
+        site,
+        number: foreseen.number,
+        waiting: foreseen.waiting,
+        replied: false,
+    };
+    drop(foreseen.fed);
+    note(history, &by, foreseen.entry, None);
+    Ok(outcome)
 }

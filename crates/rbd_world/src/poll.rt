@@ -19,7 +19,7 @@ use crate::lives::Lives;
 use crate::operate::operate;
 use crate::sender::Sender;
 use crate::sites::Sites;
-use rbd_client::Client;
+use rbd_client::{Actor, Client};
 use rbd_course::Request;
 use rbd_flat::Entry;
 use rbd_kinds::{NoMemory, Reply, SessionNo, SiteId, Slot};
@@ -99,7 +99,8 @@ fn poll_in<R: Request>(
     ensures unnoted { OnErr result (history.new.items ≡ history.old.items) }
 {
     if slot.0 == 0 {
-        return act(alloc, sites, client, history, slot, Sender::House);
+        let actor = client.actor(slot);
+        return act(alloc, sites, client, history, slot, Sender::House, &actor);
     }
     let Some(line) = client.line(slot) else {
         return Ok(Outcome::Nothing);
@@ -108,8 +109,9 @@ fn poll_in<R: Request>(
     if let Some(reply) = client.refuse(slot) {
         return Ok(refused(history, home, line, reply));
     }
-    let by = sender_at(client, slot, line);
-    act(alloc, sites, client, history, slot, by)
+    let actor = client.actor(slot);
+    let by = sender_of(&actor, line);
+    act(alloc, sites, client, history, slot, by, &actor)
 }
 
 /// Notes the reply of a request that was refused before any operation. It takes no memory.
@@ -128,17 +130,17 @@ fn refused(history: &mut Vec<Entry>, home: SiteId, line: u32, reply: Reply) -> O
 }
 
 /// Who acts for the command of a line, in its slot.
-fn sender_at<R: Request>(client: &Client<R>, slot: Slot, line: u32) -> Sender
-    ensures sender { doer_of result ≡ doer_at line (actor_at R.stands slot client.now) }
-    ensures sound { IsSoundClient R.stands client.now }
+fn sender_of(actor: &Actor, line: u32) -> Sender
+    ensures { doer_of result ≡ doer_at line actor.now }
 {
-    if client.is_acquiring(slot) {
+    if actor.is_acquiring() {
         return Sender::OnWay(line);
     }
     Sender::Itself(line)
 }
 
-/// Who acts at a slot does what is wanted there, if anything is.
+/// Who acts at a slot does what is wanted there, if anybody does. (Each second poll finds nobody: so
+/// the room that an operation needs is another function's.)
 fn act<R: Request>(
     alloc: Global,
     sites: &mut Sites,
@@ -146,24 +148,56 @@ fn act<R: Request>(
     history: &mut Vec<Entry>,
     slot: Slot,
     by: Sender,
+    actor: &Actor,
 ) -> Result<Outcome, NoMemory>
     requires room { vec_len history.old + 2 ≤ vec_capacity history.old }
     requires wants { WantsWhatItMay R.stands sites.old slot client.old }
     requires rest { DropsWhatItMay R.stands slot client.old }
+    requires actor { actor.now ≡ actor_at R.stands slot client.old }
+    requires sound { IsSoundClient R.stands client.old }
     ensures acts { IfOk result (ActsAt R.stands slot (doer_of by) (op_wanted R.stands slot client.old) sites.old sites.new client.old client.new history.old.items history.new.items) }
     ensures err { OnErr result (AreSameSites sites.old sites.new) }
     ensures alike { OnErr result (IsClientAlike R.stands client.old client.new) }
     ensures unnoted { OnErr result (history.new.items ≡ history.old.items) }
     ensures sound { IsSoundClient R.stands client.new }
 {
-    let Some((site, op)) = client.next(alloc, slot)? else {
-        return Ok(Outcome::Waits);
-    };
-    let due = Due {
-        who: client.instance(),
-        by,
-        site,
-        op,
-    };
-    operate(alloc, sites, client, history, slot, due)
+    match actor {
+        Actor::Nobody => Ok(Outcome::Waits),
+        _ => act_as(alloc, sites, client, history, slot, by, actor),
+    }
+}
+
+/// Somebody who acts at a slot does what is wanted there, if anything is.
+fn act_as<R: Request>(
+    alloc: Global,
+    sites: &mut Sites,
+    client: &mut Client<R>,
+    history: &mut Vec<Entry>,
+    slot: Slot,
+    by: Sender,
+    actor: &Actor,
+) -> Result<Outcome, NoMemory>
+    requires room { vec_len history.old + 2 ≤ vec_capacity history.old }
+    requires wants { WantsWhatItMay R.stands sites.old slot client.old }
+    requires rest { DropsWhatItMay R.stands slot client.old }
+    requires actor { actor.now ≡ actor_at R.stands slot client.old }
+    ensures acts { IfOk result (ActsAt R.stands slot (doer_of by) (op_wanted R.stands slot client.old) sites.old sites.new client.old client.new history.old.items history.new.items) }
+    ensures err { OnErr result (AreSameSites sites.old sites.new) }
+    ensures alike { OnErr result (IsClientAlike R.stands client.old client.new) }
+    ensures unnoted { OnErr result (history.new.items ≡ history.old.items) }
+    ensures sound { IsSoundClient R.stands client.new }
+{
+    match client.next(alloc, slot, actor) {
+        Ok(Some((site, op))) => {
+            let due = Due {
+                who: client.instance(),
+                by,
+                site,
+                op,
+            };
+            operate(alloc, sites, client, history, slot, actor, due)
+        }
+        Ok(None) => Ok(Outcome::Waits),
+        Err(fault) => Err(fault),
+    }
 }

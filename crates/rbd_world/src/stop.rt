@@ -86,7 +86,8 @@ fn wanted_by<R: Request>(
 {
     let mut wanted = Vec::with_capacity(alloc, 65)?;
     for slot in 0..65 {
-        wanted.push(client.next(alloc, Slot(slot))?)?;
+        let slot = Slot(slot);
+        wanted.push(client.next(alloc, slot, &client.actor(slot))?)?;
     }
     Ok(wanted)
 }

@@ -117,7 +117,7 @@ fn wants<R: Request>(
     slot: Slot,
     words: &str,
 ) -> Result<bool, NoMemory> {
-    let Some((site, op)) = client.next(alloc, slot)? else {
+    let Some((site, op)) = client.next(alloc, slot, &client.actor(slot))? else {
         return Ok(false);
     };
     let is = is_wanted(client, slot, site, &op, words);
@@ -134,7 +134,7 @@ fn is_none(op: Option<(SiteId, Op)>) -> bool {
 
 /// Whether no operation is wanted at a slot: it waits, or nothing runs in it.
 fn wants_none<R: Request>(alloc: Global, client: &Client<R>, slot: Slot) -> Result<bool, NoMemory> {
-    let has_none = is_none(client.next(alloc, slot)?);
+    let has_none = is_none(client.next(alloc, slot, &client.actor(slot))?);
     Ok(has_none && client.kind(slot).is_none())
 }
 
@@ -189,8 +189,9 @@ fn feed<R: Request>(
     requires op { op_wanted R.stands slot client.old ≡ Some (site, op.now) }
     requires rest { IsAtRest site op.now client.old }
 {
-    client.ready(alloc, slot, fed)?;
-    Ok(client.feed(slot, site, op, fed))
+    let actor = client.actor(slot);
+    client.ready(alloc, slot, &actor, fed)?;
+    Ok(client.feed(slot, &actor, site, op, fed))
 }
 
 /// Whether the operation that is wanted at a slot can give an answer: who acts there is fed it
@@ -249,7 +250,7 @@ fn tell<R: Request>(
     let Fed::Answer(answer) = fed else {
         return Ok(None);
     };
-    let Some((site, op)) = client.next(alloc, slot)? else {
+    let Some((site, op)) = client.next(alloc, slot, &client.actor(slot))? else {
         return Ok(None);
     };
     if !may_give(client, slot, site, &op, answer) {

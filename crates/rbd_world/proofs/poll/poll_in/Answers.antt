@@ -12,14 +12,14 @@ polled_there : (g : _) (c : goal.After-act-2 g)
     → IfOk c.act-2.result (IsPolled g.R.Machine.stands c.args.sites.now c.act-2.new.sites c.args.slot c.args.client.now c.act-2.new.client c.args.history.now.items c.act-2.new.history.items (polled_in g.R.Machine.stands c.args.sites.now c.args.client.now c.args.slot (held_in c.args.slot c.args.client.now.session.slots)))
 polled_there g c =
     let before = c.args.client.now in
-    let by = doer_of c.sender_at-by.result in
+    let by = doer_of c.sender_of-by.result in
     let stays : c.refuse.new.self ≡ before = search rules in
     let unrefused : None ≡ reply_of (refusal_in (held_in c.args.slot before.session.slots)) = search rules in
     let place : (c.args.slot == 0) ≡ false = not_zero c.args.slot (λ e. c.if-slot-eq0.false (c.slot.view_is ∙ e)) in
     IfOk-weaker c.act-2.result (ActsAt g.R.Machine.stands c.args.slot by (op_wanted g.R.Machine.stands c.args.slot before) c.args.sites.now c.act-2.new.sites before c.act-2.new.client c.args.history.now.items c.act-2.new.history.items) _
     (λ o acts. polled_so g.R.Machine.stands c.args.slot c.args.sites.now c.act-2.new.sites before c.act-2.new.client c.args.history.now.items c.act-2.new.history.items o
     c.in-Some.line by place c.in-Some.ensures.line unrefused
-    (c.sender_at-by.ensures.sender ∙ ap (λ (x : ClientView _). doer_at c.in-Some.line (actor_at g.R.Machine.stands c.args.slot x)) stays) c.in-Some.ensures.sound acts)
+    (c.sender_of-by.ensures ∙ ap (doer_at c.in-Some.line) c.actor-actor-2.ensures.actor ∙ ap (λ (x : ClientView _). doer_at c.in-Some.line (actor_at g.R.Machine.stands c.args.slot x)) stays) c.in-Some.ensures.sound acts)
     (subst (λ (x : ClientView _). IfOk c.act-2.result (ActsAt g.R.Machine.stands c.args.slot by (op_wanted g.R.Machine.stands c.args.slot x) c.args.sites.now c.act-2.new.sites x c.act-2.new.client c.args.history.now.items c.act-2.new.history.items)) stays c.act-2.ensures.acts)
 
 pub returns-clause-outcome : goal.returns-clause-outcome

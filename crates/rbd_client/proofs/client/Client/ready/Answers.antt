@@ -18,7 +18,7 @@ alike : (g : _) (c : goal.After-ready g) → IsClientAlike g.R.Machine.stands (b
 alike g c = record { session = c.ready.ensures.alike; locks = c.reserve.ensures.states; asked = c.reserve.ensures.asked; slots = refl; release = refl; heard = refl }
 
 acts : (g : _) (c : goal.After-ready g) → actor_at g.R.Machine.stands c.args.slot (before g c) ≡ actor.Request
-acts g c = ap (actor_at g.R.Machine.stands c.args.slot) c.self.view_is ∙ sym c.in-Request.ensures.actor
+acts g c = ap (actor_at g.R.Machine.stands c.args.slot) c.self.view_is ∙ sym c.requires.actor ∙ c.in-Request.is
 
 pub invariant_of-self-in-Request : goal.invariant_of-self-in-Request
 invariant_of-self-in-Request g c = sound_alike g.R.Machine.stands (before g c) (after g c) c.self.invariant c.ready.ensures.sound (alike g c)
@@ -44,10 +44,10 @@ returns g c = record {
   alike = subst (λ v. IsClientAlike g.R.Machine.stands v (then g c)) c.self.view_is (alike_then g c);
   others = λ other differ. ap (λ (v : ClientView _). held_in other v.session.slots) c.self.view_is;
   ready =
-      ready_without g.R.Machine.stands g.R.Machine.is_ready c.args.slot c.args.fed.now (was g c) (then g c) (alike_then g c) c.in_ok-reserve.ensures.room c.actor-actor.result
-      (ap (actor_at g.R.Machine.stands c.args.slot) c.self.view_is ∙ sym c.actor-actor.ensures.actor) c.in_default.not-Request
-      (subst (CanGet g.R.Machine.stands c.args.slot c.self.inside.session c.args.fed.now) (sym c.actor-actor.ensures.actor)
-      (subst (λ (v : ClientView _). CanGet g.R.Machine.stands c.args.slot v.session c.args.fed.now (actor_at g.R.Machine.stands c.args.slot c.args.self.now)) (sym c.self.view_is) c.requires));
+      ready_without g.R.Machine.stands g.R.Machine.is_ready c.args.slot c.args.fed.now (was g c) (then g c) (alike_then g c) c.in_ok-reserve.ensures.room c.args.actor.now
+      (ap (actor_at g.R.Machine.stands c.args.slot) c.self.view_is ∙ sym c.requires.actor) c.in_default.not-Request
+      (subst (CanGet g.R.Machine.stands c.args.slot c.self.inside.session c.args.fed.now) (sym c.requires.actor)
+      (subst (λ (v : ClientView _). CanGet g.R.Machine.stands c.args.slot v.session c.args.fed.now (actor_at g.R.Machine.stands c.args.slot c.args.self.now)) (sym c.self.view_is) c.requires.can));
   stays =
       stays_where_same (actor_at g.R.Machine.stands c.args.slot c.args.self.now) c.args.self.now.session c.self.inside.session (ap (λ (v : ClientView _). v.session) c.self.view_is);
   sound = sound_alike g.R.Machine.stands (was g c) (then g c) c.self.invariant c.self.invariant.session (alike_then g c);
