@@ -3,3 +3,4 @@ pub mod Digits
 pub mod Gone
 pub mod Last
 pub mod Spoken
+pub mod Unreplied

@@ -1,9 +1,8 @@
 -- What is kept of the commands while a history is gone over.
-use Rattle.std.specs.Prelude.{◌≡◌, ℕ, ◌||◌, List, None}
+use Rattle.std.specs.Prelude.{◌≡◌, ℕ, ◌||◌, nat_eq, List, None}
 use Rattle.std.specs.Option.{unwrap_or}
-use Rattle.std.specs.Ordering.{nat_cmp}
-use Rattle.std.specs.BTreeMap.{get}
-use Rattle.std.specs.BTreeSet.{contains}
+use Rattle.std.specs.HashMap.{get}
+use Rattle.std.specs.HashSet.{contains}
 use Rattle.rbd_flat.specs.declared.entry.Entry.{Entry}
 use Rattle.rbd_site.specs.declared.done.Done.{Done}
 use Rattle.rbd_text.specs.Unanswered.{progress_of, starts, answers, loses, found_in}
@@ -13,10 +12,10 @@ use Rattle.rbd_text.specs.declared.progress.Progresses.{Progresses}
 -- what is kept of the command of a line
 abbrev pub progress_at : Progresses → (line : ℕ) → Progress
 progress_at all line = record {
-  started = contains nat_cmp all.started line;
-  answered = contains nat_cmp all.answered line;
-  lost = contains nat_cmp all.lost line;
-  holder = unwrap_or (get nat_cmp all.holders line) None;
+  started = contains nat_eq all.started line;
+  answered = contains nat_eq all.answered line;
+  lost = contains nat_eq all.lost line;
+  holder = unwrap_or (get nat_eq all.holders line) None;
 }
 
 -- what one more entry tells of the command of a line

@@ -1,9 +1,8 @@
 //! How far each command of a script has come.
-ghost use Rattle.std.specs.Prelude.{◌≡◌, ◌==◌, ◌||◌, ℕ, Some, None, OnOk, IfOk, if◌then◌else◌, option_copied};
+ghost use Rattle.std.specs.Prelude.{nat_eq, ◌≡◌, ◌==◌, ◌||◌, ℕ, Some, None, OnOk, IfOk, if◌then◌else◌, option_copied};
 ghost use Rattle.std.specs.Option.{unwrap_or};
-ghost use Rattle.std.specs.Ordering.{nat_cmp};
-ghost use Rattle.std.specs.BTreeMap.{get};
-ghost use Rattle.std.specs.BTreeSet.{contains};
+ghost use Rattle.std.specs.HashMap.{get};
+ghost use Rattle.std.specs.HashSet.{contains};
 ghost use Rattle.rbd_text.specs.Unanswered.{line_of, log_of, logged, is_lock_take, held_by, found_by, where_for};
 ghost use Rattle.rbd_text.specs.Progress.{progress_at, heard, AreOf};
 
@@ -11,7 +10,7 @@ use rbd_flat::{Cause, Entry};
 use rbd_kinds::{Answer, HeaderOp, Instance, NoMemory, Op, SiteId};
 use rbd_site::{Done, DoneOp};
 use std::alloc::Global;
-use std::collections::{BTreeMap, BTreeSet};
+use std::collections::{HashMap, HashSet};
 
 /// What a history tells of one command.
 #[derive(Clone, Copy, Debug)]
@@ -29,11 +28,11 @@ pub struct Progress {
 /// What a history tells of all commands, by their lines.
 #[derive(Drop)]
 pub struct Progresses {
-    started: BTreeSet<u32>,
-    answered: BTreeSet<u32>,
-    lost: BTreeSet<u32>,
+    started: HashSet<u32>,
+    answered: HashSet<u32>,
+    lost: HashSet<u32>,
     /// Whom the last attempt of each line at a lock found to have it.
-    holders: BTreeMap<u32, Option<Instance>>,
+    holders: HashMap<u32, Option<Instance>>,
 }
 
 impl Progresses {
@@ -42,10 +41,10 @@ impl Progresses {
         ensures { IfOk result (λ all. AreOf a.now b.now history.now all) }
     {
         let mut all = Progresses {
-            started: BTreeSet::new(alloc),
-            answered: BTreeSet::new(alloc),
-            lost: BTreeSet::new(alloc),
-            holders: BTreeMap::new(alloc),
+            started: HashSet::new(alloc),
+            answered: HashSet::new(alloc),
+            lost: HashSet::new(alloc),
+            holders: HashMap::new(alloc),
         };
         for entry in history {
             all.hear(a, b, entry)?;
@@ -94,8 +93,8 @@ impl Progresses {
     }
 }
 
-fn note(lines: &mut BTreeSet<u32>, line: u32) -> Result<(), NoMemory>
-    ensures { OnOk result ((q : ℕ) → contains nat_cmp lines.new q ≡ ((line == q) || contains nat_cmp lines.old q)) }
+fn note(lines: &mut HashSet<u32>, line: u32) -> Result<(), NoMemory>
+    ensures { OnOk result ((q : ℕ) → contains nat_eq lines.new q ≡ ((line == q) || contains nat_eq lines.old q)) }
 {
     lines.insert(line)?;
     Ok(())
@@ -103,11 +102,11 @@ fn note(lines: &mut BTreeSet<u32>, line: u32) -> Result<(), NoMemory>
 
 /// Keeps whom an operation found to have the lock, where it was an attempt at one for a line.
 fn find(
-    holders: &mut BTreeMap<u32, Option<Instance>>,
+    holders: &mut HashMap<u32, Option<Instance>>,
     cause: Cause,
     done: Option<&Done>,
 ) -> Result<(), NoMemory>
-    ensures { OnOk result ((q : ℕ) → unwrap_or (get nat_cmp holders.new q) None ≡ unwrap_or (where_for q (line_of cause) (found_by (option_copied done.entry))) (unwrap_or (get nat_cmp holders.old q) None)) }
+    ensures { OnOk result ((q : ℕ) → unwrap_or (get nat_eq holders.new q) None ≡ unwrap_or (where_for q (line_of cause) (found_by (option_copied done.entry))) (unwrap_or (get nat_eq holders.old q) None)) }
 {
     let Some(line) = line(cause) else {
         return Ok(());
@@ -119,11 +118,11 @@ fn find(
 }
 
 fn keep(
-    holders: &mut BTreeMap<u32, Option<Instance>>,
+    holders: &mut HashMap<u32, Option<Instance>>,
     line: u32,
     holder: Option<Instance>,
 ) -> Result<(), NoMemory>
-    ensures { OnOk result ((q : ℕ) → get nat_cmp holders.new q ≡ (if line == q then Some holder else get nat_cmp holders.old q)) }
+    ensures { OnOk result ((q : ℕ) → get nat_eq holders.new q ≡ (if line == q then Some holder else get nat_eq holders.old q)) }
 {
     holders.insert(line, holder)?;
     Ok(())
