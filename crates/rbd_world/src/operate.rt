@@ -35,6 +35,13 @@ use rbd_flat::Entry;
 use rbd_kinds::{NoMemory, Slot};
 use std::alloc::Global;
 
+/// Who acts where a slot is polled, and which slot that is.
+#[derive(Clone, Copy, Debug)]
+pub struct Acting {
+    pub slot: Slot,
+    pub actor: Actor,
+}
+
 /// Does the operation that is wanted at a slot, at its site, feeds who acts there, and notes it in
 /// the history. Refused memory, nothing was done, and the client is where it was.
 pub fn operate<R: Request>(
@@ -42,17 +49,16 @@ pub fn operate<R: Request>(
     sites: &mut Sites,
     client: &mut Client<R>,
     history: &mut Vec<Entry>,
-    slot: Slot,
-    actor: &Actor,
+    acting: &Acting,
     due: Due,
 ) -> Result<Outcome, NoMemory>
     requires room { vec_len history.old + 2 ≤ vec_capacity history.old }
-    requires actor { actor.now ≡ actor_at R.stands slot client.old }
+    requires actor { acting.now.actor ≡ actor_at R.stands acting.now.slot client.old }
     requires whose { due.who ≡ client.old.session.instance }
-    requires wants { op_wanted R.stands slot client.old ≡ Some (due.site, due.op) }
+    requires wants { op_wanted R.stands acting.now.slot client.old ≡ Some (due.site, due.op) }
     requires permitted { IsPermitted sites.old due.who due.site due.op }
-    requires rest { DropsAtRest (actor_at R.stands slot client.old) due.site due.op client.old }
-    ensures done { IfOk result (IsOperatedAt R.stands slot (doer_of due.by) due.site due.op sites.old sites.new client.old client.new history.old.items history.new.items) }
+    requires rest { DropsAtRest (actor_at R.stands acting.now.slot client.old) due.site due.op client.old }
+    ensures done { IfOk result (IsOperatedAt R.stands acting.now.slot (doer_of due.by) due.site due.op sites.old sites.new client.old client.new history.old.items history.new.items) }
     ensures err { OnErr result (AreSameSites sites.old sites.new) }
     ensures alike { OnErr result (IsClientAlike R.stands client.old client.new) }
     ensures unnoted { OnErr result (history.new.items ≡ history.old.items) }
@@ -64,7 +70,7 @@ pub fn operate<R: Request>(
         drop(due);
         return Err(NoMemory);
     };
-    let Ok(()) = client.ready(alloc, slot, actor, &foreseen.fed) else {
+    let Ok(()) = client.ready(alloc, acting.slot, &acting.actor, &foreseen.fed) else {
         drop(due);
         drop(foreseen);
         return Err(NoMemory);
@@ -77,7 +83,7 @@ pub fn operate<R: Request>(
     let Some(done) = latest(sites.at(site).log()) else {
         unreachable!()
     };
-    let reply = client.feed(slot, actor, site, done, &foreseen.fed);
+    let reply = client.feed(acting.slot, &acting.actor, site, done, &foreseen.fed);
     let outcome = Outcome::Step {
         site,
         number: foreseen.number,

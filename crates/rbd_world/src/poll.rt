@@ -16,7 +16,7 @@ ghost use Rattle.rbd_world.specs.declared.event.Event.TheVariants as of_event;
 use crate::event::Outcome;
 use crate::foresee::Due;
 use crate::lives::Lives;
-use crate::operate::operate;
+use crate::operate::{Acting, operate};
 use crate::sender::Sender;
 use crate::sites::Sites;
 use rbd_client::{Actor, Client};
@@ -100,7 +100,8 @@ fn poll_in<R: Request>(
 {
     if slot.0 == 0 {
         let actor = client.actor(slot);
-        return act(alloc, sites, client, history, slot, Sender::House, &actor);
+        let acting = Acting { slot, actor };
+        return act(alloc, sites, client, history, &acting, Sender::House);
     }
     let Some(line) = client.line(slot) else {
         return Ok(Outcome::Nothing);
@@ -111,7 +112,8 @@ fn poll_in<R: Request>(
     }
     let actor = client.actor(slot);
     let by = sender_of(&actor, line);
-    act(alloc, sites, client, history, slot, by, &actor)
+    let acting = Acting { slot, actor };
+    act(alloc, sites, client, history, &acting, by)
 }
 
 /// Notes the reply of a request that was refused before any operation. It takes no memory.
@@ -146,24 +148,23 @@ fn act<R: Request>(
     sites: &mut Sites,
     client: &mut Client<R>,
     history: &mut Vec<Entry>,
-    slot: Slot,
+    acting: &Acting,
     by: Sender,
-    actor: &Actor,
 ) -> Result<Outcome, NoMemory>
     requires room { vec_len history.old + 2 ≤ vec_capacity history.old }
-    requires wants { WantsWhatItMay R.stands sites.old slot client.old }
-    requires rest { DropsWhatItMay R.stands slot client.old }
-    requires actor { actor.now ≡ actor_at R.stands slot client.old }
+    requires wants { WantsWhatItMay R.stands sites.old acting.now.slot client.old }
+    requires rest { DropsWhatItMay R.stands acting.now.slot client.old }
+    requires actor { acting.now.actor ≡ actor_at R.stands acting.now.slot client.old }
     requires sound { IsSoundClient R.stands client.old }
-    ensures acts { IfOk result (ActsAt R.stands slot (doer_of by) (op_wanted R.stands slot client.old) sites.old sites.new client.old client.new history.old.items history.new.items) }
+    ensures acts { IfOk result (ActsAt R.stands acting.now.slot (doer_of by) (op_wanted R.stands acting.now.slot client.old) sites.old sites.new client.old client.new history.old.items history.new.items) }
     ensures err { OnErr result (AreSameSites sites.old sites.new) }
     ensures alike { OnErr result (IsClientAlike R.stands client.old client.new) }
     ensures unnoted { OnErr result (history.new.items ≡ history.old.items) }
     ensures sound { IsSoundClient R.stands client.new }
 {
-    match actor {
+    match &acting.actor {
         Actor::Nobody => Ok(Outcome::Waits),
-        _ => act_as(alloc, sites, client, history, slot, by, actor),
+        _ => act_as(alloc, sites, client, history, acting, by),
     }
 }
 
@@ -173,21 +174,20 @@ fn act_as<R: Request>(
     sites: &mut Sites,
     client: &mut Client<R>,
     history: &mut Vec<Entry>,
-    slot: Slot,
+    acting: &Acting,
     by: Sender,
-    actor: &Actor,
 ) -> Result<Outcome, NoMemory>
     requires room { vec_len history.old + 2 ≤ vec_capacity history.old }
-    requires wants { WantsWhatItMay R.stands sites.old slot client.old }
-    requires rest { DropsWhatItMay R.stands slot client.old }
-    requires actor { actor.now ≡ actor_at R.stands slot client.old }
-    ensures acts { IfOk result (ActsAt R.stands slot (doer_of by) (op_wanted R.stands slot client.old) sites.old sites.new client.old client.new history.old.items history.new.items) }
+    requires wants { WantsWhatItMay R.stands sites.old acting.now.slot client.old }
+    requires rest { DropsWhatItMay R.stands acting.now.slot client.old }
+    requires actor { acting.now.actor ≡ actor_at R.stands acting.now.slot client.old }
+    ensures acts { IfOk result (ActsAt R.stands acting.now.slot (doer_of by) (op_wanted R.stands acting.now.slot client.old) sites.old sites.new client.old client.new history.old.items history.new.items) }
     ensures err { OnErr result (AreSameSites sites.old sites.new) }
     ensures alike { OnErr result (IsClientAlike R.stands client.old client.new) }
     ensures unnoted { OnErr result (history.new.items ≡ history.old.items) }
     ensures sound { IsSoundClient R.stands client.new }
 {
-    match client.next(alloc, slot, actor) {
+    match client.next(alloc, acting.slot, &acting.actor) {
         Ok(Some((site, op))) => {
             let due = Due {
                 who: client.instance(),
@@ -195,7 +195,7 @@ fn act_as<R: Request>(
                 site,
                 op,
             };
-            operate(alloc, sites, client, history, slot, actor, due)
+            operate(alloc, sites, client, history, acting, due)
         }
         Ok(None) => Ok(Outcome::Waits),
         Err(fault) => Err(fault),

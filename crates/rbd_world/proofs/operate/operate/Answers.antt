@@ -22,15 +22,15 @@ use Rattle.rbd_world.proofs.operate.operate.Goals as goal
 
 pub feed-reply-requires-clause-op : goal.feed-reply-requires-clause-op
 feed-reply-requires-clause-op g c =
-    wanted_alike g.R.Machine.stands c.args.slot c.args.client.now c.ready.new.self c.ready.ensures.alike
+    wanted_alike g.R.Machine.stands c.args.acting.now.slot c.args.client.now c.ready.new.self c.ready.ensures.alike
     ∙ c.requires.wants ∙ ap (λ (o : Op). Some (c.args.due.site, o)) (same_op (site_in c.args.due.site c.args.sites.now) (site_in c.args.due.site c.apply.new.sites) c.at.result.now (next_number (site_in c.args.due.site c.args.sites.now)) c.args.due.who c.args.due.op
     (answer_to (records_in c.args.due.site c.args.sites.now) c.args.due.who c.args.due.op) c.log.result.now c.in-Some.done.now c.in-Ok-apply.ensures.logged.log c.at.ensures c.log.ensures.log c.in-Some.ensures)
 
 pub feed-reply-requires-clause-rest : goal.feed-reply-requires-clause-rest
 feed-reply-requires-clause-rest g c =
-    subst (λ (o : Op). DropsAtRest (actor_at g.R.Machine.stands c.args.slot c.ready.new.self) c.args.due.site o c.ready.new.self) (same_op (site_in c.args.due.site c.args.sites.now) (site_in c.args.due.site c.apply.new.sites) c.at.result.now (next_number (site_in c.args.due.site c.args.sites.now)) c.args.due.who c.args.due.op
+    subst (λ (o : Op). DropsAtRest (actor_at g.R.Machine.stands c.args.acting.now.slot c.ready.new.self) c.args.due.site o c.ready.new.self) (same_op (site_in c.args.due.site c.args.sites.now) (site_in c.args.due.site c.apply.new.sites) c.at.result.now (next_number (site_in c.args.due.site c.args.sites.now)) c.args.due.who c.args.due.op
     (answer_to (records_in c.args.due.site c.args.sites.now) c.args.due.who c.args.due.op) c.log.result.now c.in-Some.done.now c.in-Ok-apply.ensures.logged.log c.at.ensures c.log.ensures.log c.in-Some.ensures)
-    (drops_still g.R.Machine.stands c.args.slot c.args.due.site c.args.due.op c.args.client.now c.ready.new.self c.ready.ensures.alike c.requires.rest)
+    (drops_still g.R.Machine.stands c.args.acting.now.slot c.args.due.site c.args.due.op c.args.client.now c.ready.new.self c.ready.ensures.alike c.requires.rest)
 
 pub returns-clause-done : goal.returns-clause-done
 returns-clause-done g c =
@@ -46,7 +46,7 @@ returns-clause-done g c =
         reply = reply;
         logged = subst (λ (who : Instance). IsLogged who due.op before (site_in due.site c.apply.new.sites) c.args.sites.now.mail c.apply.new.sites.mail) c.requires.whose c.in-Ok-apply.ensures.logged;
         goes =
-            goes_alike g.R.Machine.stands c.args.slot by due.site due.op c.in-Some.done.now before c.in-Ok.foreseen.fed reply c.args.client.now c.ready.new.self c.feed-reply.new.self (same_op (site_in c.args.due.site c.args.sites.now) (site_in c.args.due.site c.apply.new.sites) c.at.result.now (next_number (site_in c.args.due.site c.args.sites.now)) c.args.due.who c.args.due.op
+            goes_alike g.R.Machine.stands c.args.acting.now.slot by due.site due.op c.in-Some.done.now before c.in-Ok.foreseen.fed reply c.args.client.now c.ready.new.self c.feed-reply.new.self (same_op (site_in c.args.due.site c.args.sites.now) (site_in c.args.due.site c.apply.new.sites) c.at.result.now (next_number (site_in c.args.due.site c.args.sites.now)) c.args.due.who c.args.due.op
             (answer_to (records_in c.args.due.site c.args.sites.now) c.args.due.who c.args.due.op) c.log.result.now c.in-Some.done.now c.in-Ok-apply.ensures.logged.log c.at.ensures c.log.ensures.log c.in-Some.ensures)
             (foreseen.fed ∙ ap (λ (who : Instance). of_fed.Answer (answer_to (records_in due.site c.args.sites.now) who due.op)) c.requires.whose)
             readied.alike readied.stays readied.others c.feed-reply.ensures.fed c.feed-reply.ensures.slots c.feed-reply.ensures.others c.feed-reply.ensures.who;
@@ -67,8 +67,8 @@ returns-clause-done g c =
 pub ready-requires-clause-can : goal.ready-requires-clause-can
 ready-requires-clause-can g c =
     let due = c.args.due in
-    subst (λ f. CanGet g.R.Machine.stands c.args.slot c.args.client.now.session f (actor_at g.R.Machine.stands c.args.slot c.args.client.now)) (sym c.in-Ok.ensures.fed)
-    (can_get g.R.Machine.stands c.args.slot c.args.client.now due.site due.op (answer_to (records_in due.site c.args.sites.now) due.who due.op) c.requires.wants c.requires.permitted.gives)
+    subst (λ f. CanGet g.R.Machine.stands c.args.acting.now.slot c.args.client.now.session f (actor_at g.R.Machine.stands c.args.acting.now.slot c.args.client.now)) (sym c.in-Ok.ensures.fed)
+    (can_get g.R.Machine.stands c.args.acting.now.slot c.args.client.now due.site due.op (answer_to (records_in due.site c.args.sites.now) due.who due.op) c.requires.wants c.requires.permitted.gives)
 
 pub feed-reply-requires-clause-actor : goal.feed-reply-requires-clause-actor
-feed-reply-requires-clause-actor g c = c.requires.actor ∙ sym (actor_alike g.R.Machine.stands c.args.slot c.args.client.now c.ready.new.self c.ready.ensures.alike)
+feed-reply-requires-clause-actor g c = c.requires.actor ∙ sym (actor_alike g.R.Machine.stands c.args.acting.now.slot c.args.client.now c.ready.new.self c.ready.ensures.alike)
