@@ -84,7 +84,7 @@ pub here_is : (place : Option ImageAt) (site : SiteId) (image : ℕ) → is_here
 here_is None site image is = absurd (true≢false (sym is))
 here_is (Some p) site image is =
     let parts = and_parts (same_site site p.site) (image == p.image) is in
-    sym (ap (λ (i : ℕ). Some (image_at site i)) (eqb-true image p.image parts.1) ∙ ap (λ s. Some (image_at s p.image)) (same_site_is p.site site parts.0))
+    sym (ap (λ (i : ℕ). Some (image_at site i)) (eqb-true image p.image parts.1) ∙ ap (λ s. Some (image_at s p.image)) (same_site_is site p.site parts.0))
 
 module _ {R : Type 0} (stands : R → Standing) where
   place_is : (s : SessionView R) (slot : ℕ) (site : SiteId) (image : ℕ) (m : Member) → IsSoundSession stands s → member_of slot (lines_of s.lines site image) ≡ Some m

@@ -26,7 +26,7 @@ use Rattle.rbd_session.proofs.Members.{not_found}
 at_here : (p : ImageAt) (lines : Lines) (site : SiteId) (image : ℕ) → is_here (Some p) site image ≡ true → lines p.site p.image ≡ lines site image
 at_here p lines site image here =
     let parts = and_parts (same_site site p.site) (image == p.image) here in
-    ap (λ i. lines p.site i) (sym (eqb-true image p.image parts.1)) ∙ ap (λ s. lines s image) (sym (same_site_is p.site site parts.0))
+    ap (λ i. lines p.site i) (sym (eqb-true image p.image parts.1)) ∙ ap (λ s. lines s image) (sym (same_site_is site p.site parts.0))
 
 fair_at : (place : Option ImageAt) (change : List Member → List Member) (lines : Lines) → AreFair lines → ((p : ImageAt) → place ≡ Some p → IsFairLine (change (lines p.site p.image)))
     → AreFair (changed_at place change lines)

@@ -132,7 +132,7 @@ pub done_by_line : (line : ℕ) (s : SiteId) (o : Operation) (b : Bool) → (is_
 done_by_line line s o b is =
     let parts = and_parts (is_own line o.by) (same_site o.site s && b) is in
     let more = and_parts (same_site o.site s) b parts.1 in
-    record { own = parts.0; site_is = same_site_is s o.site more.0; so = more.1 }
+    record { own = parts.0; site_is = same_site_is o.site s more.0; so = more.1 }
 
 -- its command is asked for already, where it isn't the one that begins
 pub writer_same : (who : Instance) (line : ℕ) (h : Happening) (run : List Happening) → or_asked line h (asked_by line run) ≡ asked_by line run → IsWriterOf who line (h ∷ run) → IsWriterOf who line run
